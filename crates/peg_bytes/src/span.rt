@@ -1,0 +1,59 @@
+//! Spans of a file.
+ghost use Rattle.std.specs.Prelude.{◌≡◌, ◌-◌, ◌≤◌, ◌⊎◌, ◌↔◌, min, max, IsSome, IfSome};
+
+/// The bytes of a file from `start` up to `end`, without that one. Places are in bytes, from 0.
+#[derive(Clone, Copy, Debug, PartialEq, Eq)]
+pub struct Span {
+    pub start: u32,
+    pub end: u32,
+    pub ghost ordered: { start ≤ end },
+}
+
+impl Span {
+    /// The span from one place to another.
+    pub fn new(start: u32, end: u32) -> Span
+        requires { start ≤ end }
+        ensures start { result.start ≡ start }
+        ensures end { result.end ≡ end }
+    {
+        Span { start, end }
+    }
+
+    /// How many bytes it holds.
+    pub fn len(&self) -> u32
+        ensures { result ≡ self.now.end - self.now.start }
+    {
+        self.end - self.start
+    }
+
+    /// The span of both, where one ends at the other's start, whichever comes first; else `None`.
+    pub fn joins(&self, other: &Span) -> Option<Span>
+        ensures touching { IsSome result
+            ↔ ((self.now.end ≡ other.now.start) ⊎ (other.now.end ≡ self.now.start)) }
+        ensures both { IfSome result (λ span. (span.start ≡ min self.now.start other.now.start)
+            × (span.end ≡ max self.now.end other.now.end)) }
+    {
+        if self.end == other.start {
+            Some(Span::new(self.start, other.end))
+        } else if other.end == self.start {
+            Some(Span::new(other.start, self.end))
+        } else {
+            None
+        }
+    }
+}
+
+#[cfg(test)]
+mod tests {
+    use super::*;
+
+    #[test]
+    fn joins_neighbours_in_either_order(rt: HostRuntime) {
+        let left = Span::new(2, 5);
+        let right = Span::new(5, 9);
+        assert_eq!(rt; left.len(), 3);
+        assert_eq!(rt; left.joins(&right), Some(Span::new(2, 9)));
+        assert_eq!(rt; right.joins(&left), Some(Span::new(2, 9)));
+        assert_eq!(rt; left.joins(&Span::new(6, 9)), None);
+    }
+}

@@ -1,0 +1,15 @@
+pub use Rattle.peg_bytes.specs.ByteSet
+pub use Rattle.peg_bytes.specs.Extent
+pub use Rattle.peg_tree.specs.Trees
+pub mod Examples
+pub mod Form
+pub mod Furthest
+pub mod Grammar
+pub mod GrammarRules
+pub mod Names
+pub mod Plain
+pub mod Record
+pub mod Refusal
+pub mod Rules
+pub mod Verdict
+pub mod Written

@@ -1,0 +1,29 @@
+-- What the code's expressions and definitions stand for.
+use Rattle.std.specs.Prelude.{List, map, string_bytes}
+use Rattle.peg_bytes.specs.Extent.{extent}
+use Rattle.peg_grammar.specs.Form as form
+use Rattle.peg_grammar.specs.Form.{Form, forms}
+use Rattle.peg_grammar.specs.Rules.{Rule}
+use Rattle.peg_grammar.specs.declared.expr.Expr.{Expr}
+use Rattle.peg_grammar.specs.declared.expr.Expr.TheOpen.{Expr-F, Literal, Name, Seq, Choice}
+use Rattle.peg_grammar.specs.declared.expr.Expr.TheFolds.{fold-Expr}
+use Rattle.peg_grammar.specs.declared.expr.Definition.{Definition}
+
+-- one expression, with what its parts stand for in their places
+abbrev pub node_form : Expr-F Form → Form
+node_form (Literal bytes span) = form.Literal bytes.items (extent span)
+node_form (Name name span) = form.Name (string_bytes name) (extent span)
+node_form (Seq items span) = form.Seq (forms items.items) (extent span)
+node_form (Choice first rest span) = form.Choice first.value (forms rest.items) (extent span)
+
+-- the written expression that an `Expr` stands for
+abbrev pub form_of : Expr → Form
+form_of = fold-Expr Form node_form
+
+-- the rule that a `Definition` stands for
+abbrev pub rule_of : Definition → Rule
+rule_of definition = record { name = string_bytes definition.name; span = extent definition.span; body = form_of definition.body }
+
+-- the rules that definitions stand for
+abbrev pub rules_of : List Definition → List Rule
+rules_of definitions = map rule_of definitions

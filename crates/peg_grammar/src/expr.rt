@@ -1,0 +1,37 @@
+//! Expressions and definitions as they are written in a grammar file.
+use peg_bytes::Span;
+use std::alloc::Global;
+
+/// An expression as written, with the sugar kept (Ford 2004, section 3.1), and where it stands in the file.
+#[derive(Debug, Drop)]
+pub enum Expr {
+    /// These bytes, one after the other; no bytes match nothing, and succeed.
+    Literal {
+        bytes: Vec<u8>,
+        span: Span,
+    },
+    /// The use of a rule.
+    Name {
+        name: String,
+        span: Span,
+    },
+    /// All items in order; no items match nothing, and succeed.
+    Seq {
+        items: Vec<Expr>,
+        span: Span,
+    },
+    /// The first alternative that succeeds, each tried at the same place.
+    Choice {
+        first: Box<Expr>,
+        rest: Vec<Expr>,
+        span: Span,
+    },
+}
+
+/// A rule as written: a name, where the name stands in the file, and an expression.
+#[derive(Debug, Drop)]
+pub struct Definition {
+    pub name: String,
+    pub span: Span,
+    pub body: Expr,
+}

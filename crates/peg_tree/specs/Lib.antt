@@ -1,0 +1,2 @@
+pub use Rattle.peg_bytes.specs.Extent
+pub mod Trees
