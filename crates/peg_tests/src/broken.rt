@@ -1,0 +1,129 @@
+//! Runs whose input or output breaks in mid-stream.
+ghost use Rattle.std.specs.Prelude.{◌≡◌, None, false};
+
+use peg_tool::{DeviceFault, Sink, Source, ToolFault, run_joined};
+use std::alloc::Global;
+use std::test::Fail;
+
+const INPUT: &[u8] = b"S <- 'a' S / 'b'\n%%\naab";
+
+const LINE: &[u8] = b"{\"consumed\":3,\"result\":\"matched\"}\n";
+
+// Gives one byte a read, and fails after so many.
+#[derive(Drop)]
+struct Dripping {
+    at: usize,
+    breaks_at: usize,
+    broken: bool,
+}
+
+impl Dripping {
+    fn new(breaks_at: usize) -> Dripping
+        ensures { result.broken ≡ false }
+    {
+        Dripping {
+            at: 0,
+            breaks_at,
+            broken: false,
+        }
+    }
+}
+
+impl Source for Dripping {
+    ghost left = { λ _. None };
+
+    ghost failed = { λ source. source.broken };
+
+    fn read(&mut self, piece: &mut [u8]) -> Result<usize, DeviceFault> {
+        if self.at >= self.breaks_at {
+            self.broken = true;
+            return Err(DeviceFault);
+        }
+        if self.at >= INPUT.len() {
+            return Ok(0);
+        }
+        piece[0] = INPUT[self.at];
+        self.at += 1;
+        Ok(1)
+    }
+
+    fn failed(&self) -> bool {
+        self.broken
+    }
+}
+
+// Takes one byte a write, and fails after so many.
+#[derive(Drop)]
+struct Choking {
+    taken: Vec<u8>,
+    breaks_at: usize,
+    broken: bool,
+}
+
+impl Choking {
+    fn new(alloc: Global, breaks_at: usize) -> Choking
+        ensures { result.broken ≡ false }
+    {
+        Choking {
+            taken: Vec::new(alloc),
+            breaks_at,
+            broken: false,
+        }
+    }
+}
+
+impl Sink for Choking {
+    ghost written = { λ _. None };
+
+    ghost failed = { λ sink. sink.broken };
+
+    fn write(&mut self, piece: &[u8]) -> Result<usize, DeviceFault> {
+        if self.taken.len() >= self.breaks_at || self.taken.push(piece[0]).is_err() {
+            self.broken = true;
+            return Err(DeviceFault);
+        }
+        Ok(1)
+    }
+
+    fn failed(&self) -> bool {
+        self.broken
+    }
+}
+
+#[test]
+fn a_read_that_fails_leaves_nothing_written(rt: HostRuntime) -> Result<(), Fail> {
+    for breaks_at in 0..=INPUT.len() {
+        let mut input = Dripping::new(breaks_at);
+        let mut output = Choking::new(rt.alloc(), 1000);
+        let ended = run_joined(rt.alloc(), &mut input, &mut output);
+        assert_eq!(rt; ended, Err(ToolFault::ReadFault), "at {breaks_at}");
+        assert!(rt; input.failed() && !output.failed());
+        assert_eq!(rt; output.taken.len(), 0, "at {breaks_at}");
+    }
+    Ok(())
+}
+
+#[test]
+fn a_write_that_fails_leaves_a_front_of_the_line(rt: HostRuntime) -> Result<(), Fail> {
+    for breaks_at in 0..LINE.len() {
+        let mut input = Dripping::new(1000);
+        let mut output = Choking::new(rt.alloc(), breaks_at);
+        let ended = run_joined(rt.alloc(), &mut input, &mut output);
+        assert_eq!(rt; ended, Err(ToolFault::WriteFault), "at {breaks_at}");
+        assert!(rt; output.failed() && !input.failed());
+        assert!(rt;
+            output.taken.as_slice() == &LINE[..breaks_at],
+            "at {breaks_at}"
+        );
+    }
+    Ok(())
+}
+
+#[test]
+fn a_byte_at_a_time_is_enough(rt: HostRuntime) -> Result<(), Fail> {
+    let mut input = Dripping::new(1000);
+    let mut output = Choking::new(rt.alloc(), 1000);
+    assert_eq!(rt; run_joined(rt.alloc(), &mut input, &mut output), Ok(0));
+    assert!(rt; output.taken.as_slice() == LINE);
+    Ok(())
+}

@@ -1,0 +1,7 @@
+//! Tests that cross crates: whole runs of the tool, over inputs and outputs in memory.
+#![tactic(auto)]
+
+#[cfg(test)]
+mod broken;
+#[cfg(test)]
+mod joined;

@@ -1,0 +1,9 @@
+pub mod AnswerLemmas
+pub mod Fronts
+pub mod LineFiles
+pub mod LineLaws
+mod Pieces
+pub mod ReplyLemmas
+pub mod SplitLaws
+pub mod TransferLemmas
+pub mod Values

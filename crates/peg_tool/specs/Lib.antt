@@ -1,0 +1,16 @@
+pub use Rattle.peg_grammar.specs.ByteSet
+pub use Rattle.peg_grammar.specs.Extent
+pub use Rattle.peg_grammar.specs.Form
+pub use Rattle.peg_grammar.specs.Grammar
+pub use Rattle.peg_grammar.specs.Record
+pub use Rattle.peg_grammar.specs.Rules
+pub use Rattle.peg_grammar.specs.Trees
+pub mod Answers
+pub mod Device
+pub mod Joined
+pub mod LineCode
+pub mod LineForm
+pub mod LineReader
+pub mod Reply
+pub mod Split
+pub mod Transfer
