@@ -1,5 +1,8 @@
 -- A set of bytes, as definitions see it.
-use Rattle.std.specs.Prelude.{ℕ, Bool, false, List, slice_index_or}
+use Rattle.std.specs.Prelude.{ℕ, ◌/◌, ◌%◌, Bool, false, List, map, ◌==◌, bit_or, slice_index, slice_index_or}
+use Rattle.std.specs.Int.{bit_at}
+use Rattle.std.specs.List.{range_with_len}
+use Rattle.peg_bytes.specs.declared.byte_set.ByteSet.{ByteSet}
 
 -- for each byte from 0 on, whether it is in; a byte past the end of the list is not
 abbrev pub Bytes : Type 0
@@ -8,3 +11,16 @@ Bytes = List Bool
 -- whether a byte is in the set
 abbrev pub has : Bytes → ℕ → Bool
 has set byte = slice_index_or set byte false
+
+-- a byte's flag among words of 64 flags, the lowest bytes first
+abbrev pub flag_of : List ℕ → ℕ → Bool
+flag_of words byte = bit_at (slice_index words (byte / 64)) (byte % 64) == 1
+
+-- the set that a `ByteSet` holds: the flags of the 256 bytes
+unfoldable pub bytes_of : ByteSet → Bytes
+bytes_of set = map (flag_of set.words) (range_with_len 0 256)
+
+-- the flags of the four words in one word
+abbrev pub all_flags : List ℕ → ℕ
+all_flags words =
+    bit_or (bit_or (bit_or (slice_index words 0) (slice_index words 1)) (slice_index words 2)) (slice_index words 3)
