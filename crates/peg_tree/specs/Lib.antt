@@ -1,2 +1,10 @@
 pub use Rattle.peg_bytes.specs.Extent
+pub mod Built
+pub mod Json
+pub mod Levels
+pub mod Names
+pub mod Nodes
+pub mod Parts
+pub mod Rows
 pub mod Trees
+pub mod TreesOfRows

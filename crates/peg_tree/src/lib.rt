@@ -1,2 +1,25 @@
 //! Parse trees: what the recognition of a text by a grammar leaves.
 #![tactic(auto)]
+
+mod depth;
+mod json;
+mod levels;
+mod names;
+mod nested;
+mod outcome;
+mod part;
+mod row;
+mod rows;
+mod shape;
+mod tree;
+
+pub use json::rows_json;
+pub use names::Names;
+pub use nested::{JsonFault, MOST_LEVELS, nested_json};
+pub use outcome::{Outcome, Parsed};
+pub use row::TreeNode;
+pub use shape::one_tree;
+pub use tree::Tree;
+
+#[cfg(test)]
+mod tests;

@@ -1,0 +1,108 @@
+-- The JSON of a tree's rows.
+use Rattle.std.proofs.Common.{◌≡◌, ℕ, zero, suc, ◌+◌, ◌<◌, ◌≤◌, List, [], ◌∷◌, ◌++◌, length, drop, get_or, map, refl, subst, sym, ◌∙◌, ap, arith, append_assoc, append-nil}
+use Rattle.std.proofs.lemmas.List.{drop_all, drop_more, length-append, map_push}
+use Rattle.serde_json.specs.Data.{Data}
+use Rattle.serde_json.specs.View.{view}
+use Rattle.serde_json.specs.declared.value.Value.{Value}
+use Rattle.peg_tree.specs.declared.row.TreeNode.{TreeNode}
+use Rattle.peg_tree.specs.Json.{row_data, rows_data}
+use Rattle.peg_tree.specs.Levels.{levels_of}
+use Rattle.peg_tree.specs.Names.{name_at}
+use Rattle.peg_tree.specs.Nodes.{RulesBelow}
+use Rattle.peg_tree.specs.Rows.{Row, row_of, rows_of, IsOneTree}
+use Rattle.peg_tree.specs.Trees.{Trees, NoTrees, Tree, nodes}
+use Rattle.peg_tree.specs.TreesOfRows.{trees_of}
+use Rattle.peg_tree.proofs.Forests.{IsForest-from_one_tree, rows_from}
+
+-- what a list of values holds after one more
+pub map-view-push : (values more : List Value) (value : Value) → more ≡ values ++ value ∷ [] → map view more ≡ map view values ++ view value ∷ []
+map-view-push values more value added = ap (map view) added ∙ map_push view values value
+
+-- rows with their levels
+abbrev pub rows_with_levels : List (List ℕ) → List ℕ → List Row → List Data
+rows_with_levels names [] rows = []
+rows_with_levels names (level ∷ levels) [] = []
+rows_with_levels names (level ∷ levels) (row ∷ rows) = row_data level (name_at names row.rule) row.start row.end ∷ rows_with_levels names levels rows
+
+rows_with_levels-append : (names : List (List ℕ)) (level : ℕ) (trees : Trees) (levels : List ℕ) (rows : List Row)
+    → rows_with_levels names (levels_of level trees ++ levels) (rows_of trees ++ rows) ≡ rows_data names level trees ++ rows_with_levels names levels rows
+rows_with_levels-append names level NoTrees levels rows = refl
+rows_with_levels-append names level (Tree rule start end children rest) levels rows =
+    ap (λ l. row_data level (name_at names rule) start end ∷ l) (
+    ap (λ l. rows_with_levels names l ((rows_of children ++ rows_of rest) ++ rows)) (append_assoc (levels_of (1 + level) children) (levels_of level rest) levels)
+    ∙ ap (rows_with_levels names (levels_of (1 + level) children ++ (levels_of level rest ++ levels))) (append_assoc (rows_of children) (rows_of rest) rows)
+    ∙ rows_with_levels-append names (1 + level) children (levels_of level rest ++ levels) (rows_of rest ++ rows)
+    ∙ ap (λ l. rows_data names (1 + level) children ++ l) (rows_with_levels-append names level rest levels rows)
+    ∙ sym (append_assoc (rows_data names (1 + level) children) (rows_data names level rest) (rows_with_levels names levels rows)))
+
+-- the rows of trees with the levels of their nodes
+pub rows_with_levels-rows_of : (names : List (List ℕ)) (trees : Trees) → rows_with_levels names (levels_of 1 trees) (rows_of trees) ≡ rows_data names 1 trees
+rows_with_levels-rows_of names trees =
+    ap (λ l. rows_with_levels names l (rows_of trees)) (sym (append-nil (levels_of 1 trees)))
+    ∙ ap (rows_with_levels names (levels_of 1 trees ++ [])) (sym (append-nil (rows_of trees)))
+    ∙ rows_with_levels-append names 1 trees [] []
+    ∙ append-nil (rows_data names 1 trees)
+
+-- there is a level for each node
+pub length-levels_of : (level : ℕ) (trees : Trees) → length (levels_of level trees) ≡ nodes trees
+length-levels_of level NoTrees = refl
+length-levels_of level (Tree rule start end children rest) =
+    omega (arith, length-append (levels_of (1 + level) children) (levels_of level rest), length-levels_of (1 + level) children, length-levels_of level rest)
+
+-- one row more
+pub rows_with_levels-more : (names : List (List ℕ)) (levels : List ℕ) (rows : List TreeNode) (at level : ℕ) (node : TreeNode)
+    → at < length levels → at < length rows → level ≡ get_or levels at level → node ≡ get_or rows at node
+    → (done more whole : List Data) (new : Data)
+    → new ≡ row_data level (name_at names node.rule) node.span.start node.span.end → more ≡ done ++ new ∷ []
+    → done ++ rows_with_levels names (drop at levels) (map row_of (drop at rows)) ≡ whole
+    → more ++ rows_with_levels names (drop (at + 1) levels) (map row_of (drop (at + 1) rows)) ≡ whole
+rows_with_levels-more names levels rows at level node few within here is done more whole new made added same =
+    let rest = rows_with_levels names (drop (at + 1) levels) (map row_of (drop (at + 1) rows)) in
+    ap (λ l. l ++ rest) added
+    ∙ append_assoc done (new ∷ []) rest
+    ∙ ap (λ d. done ++ d ∷ rest) made
+    ∙ sym (
+    ap (λ l. done ++ rows_with_levels names l (map row_of (drop at rows))) (drop_more levels at level few ∙ ap (λ n. n ∷ drop (at + 1) levels) (sym here))
+    ∙ ap (λ l. done ++ rows_with_levels names (level ∷ drop (at + 1) levels) l) (rows_from rows at node within is))
+    ∙ same
+
+-- at the end all rows are made
+pub rows_with_levels-all : (names : List (List ℕ)) (levels : List ℕ) (rows : List TreeNode) (tree : Trees) (at : ℕ) (made : List Data)
+    → IsOneTree (map row_of rows) → trees_of (map row_of rows) ≡ tree → levels ≡ levels_of 1 (trees_of (map row_of rows)) → length levels ≤ at
+    → made ++ rows_with_levels names (drop at levels) (map row_of (drop at rows)) ≡ rows_with_levels names levels (map row_of rows)
+    → made ≡ rows_data names 1 tree
+rows_with_levels-all names levels rows tree at made one same are_levels done all =
+    sym (append-nil made)
+    ∙ ap (λ l. made ++ rows_with_levels names l (map row_of (drop at rows))) (sym (drop_all at levels done))
+    ∙ all
+    ∙ ap (λ l. rows_with_levels names l (map row_of rows)) are_levels
+    ∙ ap (rows_with_levels names (levels_of 1 (trees_of (map row_of rows)))) (sym (IsForest-from_one_tree (map row_of rows) one))
+    ∙ rows_with_levels-rows_of names (trees_of (map row_of rows))
+    ∙ ap (rows_data names 1) same
+
+-- each row of trees has a rule below their bound
+abbrev pub EachBelow : ℕ → List Row → Type 0
+EachBelow bound [] = Unit {0}
+EachBelow bound (row ∷ rows) = (row.rule < bound) × EachBelow bound rows
+
+EachBelow-append : (bound : ℕ) (rows more : List Row) → EachBelow bound rows → EachBelow bound more → EachBelow bound (rows ++ more)
+EachBelow-append bound [] more h k = k
+EachBelow-append bound (row ∷ rows) more h k = (h.0, EachBelow-append bound rows more h.1 k)
+
+EachBelow-rows_of : (bound : ℕ) (trees : Trees) → RulesBelow bound trees → EachBelow bound (rows_of trees)
+EachBelow-rows_of bound NoTrees h = tt
+EachBelow-rows_of bound (Tree rule start end children rest) h =
+    (h.0, EachBelow-append bound (rows_of children) (rows_of rest) (EachBelow-rows_of bound children h.1) (EachBelow-rows_of bound rest h.2))
+
+EachBelow-at : (bound : ℕ) (rows : List TreeNode) (at : ℕ) (node : TreeNode) → EachBelow bound (map row_of rows) → at < length rows → node ≡ get_or rows at node → node.rule < bound
+EachBelow-at bound [] at node h within is = absurd (omega arith)
+EachBelow-at bound (row ∷ rows) zero node h within is = subst (λ (n : TreeNode). n.rule < bound) (sym is) h.0
+EachBelow-at bound (row ∷ rows) (suc at) node h within is = EachBelow-at bound rows at node h.1 (omega arith) is
+
+-- a row of one tree has a rule below the tree's bound
+pub rule_below : (bound : ℕ) (rows : List TreeNode) (trees : Trees) → IsOneTree (map row_of rows) → trees_of (map row_of rows) ≡ trees → RulesBelow bound trees
+    → (at : ℕ) (node : TreeNode) → at < length rows → node ≡ get_or rows at node → node.rule < bound
+rule_below bound rows trees one same below at node within is =
+    EachBelow-at bound rows at node
+    (subst (EachBelow bound) (IsForest-from_one_tree (map row_of rows) one) (EachBelow-rows_of bound (trees_of (map row_of rows)) (subst (RulesBelow bound) (sym same) below)))
+    within is

@@ -1,0 +1,15 @@
+use Rattle.std.proofs.Common.{◌≡◌, ◌≤◌, drop, length, map}
+use Rattle.peg_tree.specs.Built.{parts_of, parts_of_trees}
+use Rattle.peg_tree.specs.Rows.{row_of}
+use Rattle.peg_tree.specs.TreesOfRows.{trees_of}
+use Rattle.peg_tree.proofs.nested.nested.Given as goal
+
+-- on the stack are the trees of the rows from here on
+abbrev pub invariant-loop-at : goal.invariant-loop-at
+invariant-loop-at g l = record {
+  within : l.at ≤ length l.rows;
+  built : parts_of l.stack.items ≡ parts_of_trees (g.N.Names.names l.names) (trees_of (map row_of (drop l.at l.rows)));
+}
+
+abbrev pub decreases-loop-at : goal.decreases-loop-at
+decreases-loop-at g l = l.at

@@ -1,0 +1,36 @@
+//! The levels of a tree's nodes.
+ghost use Rattle.std.specs.Prelude.{◌≡◌, ◌<◌, ◌≤◌, IfOk, map, length, reverse};
+ghost use Rattle.peg_tree.specs.Rows.{row_of, IsOneTree};
+ghost use Rattle.peg_tree.specs.TreesOfRows.{trees_of};
+ghost use Rattle.peg_tree.specs.Levels.{levels_of, open_at};
+
+use crate::TreeNode;
+use std::alloc::{AllocError, Global};
+
+// The level of each node; the root has level 1. One pass, with the ends of the nodes above a row, the innermost last.
+pub(crate) fn levels_in(alloc: Global, rows: &[TreeNode]) -> Result<Vec<usize>, AllocError>
+    requires { IsOneTree (map row_of rows.now) }
+    ensures { IfOk result (λ levels. levels.items ≡ levels_of 1 (trees_of (map row_of rows.now))) }
+{
+    let mut ends = Vec::new(alloc);
+    let mut levels = Vec::new(alloc);
+    for at in 0..rows.len() {
+        close_ended(&mut ends, at);
+        levels.push(1 + ends.len())?;
+        let row = rows[at];
+        ends.push(at + row.size as usize)?;
+    }
+    Ok(levels)
+}
+
+// Takes away the innermost ends that don't lie past a row's number.
+fn close_ended(ends: &mut Vec<usize>, at: usize)
+    ensures { reverse ends.new.items ≡ open_at at (reverse ends.old.items) }
+{
+    while let Some(end) = ends.last() {
+        if *end > at {
+            return;
+        }
+        let _ = ends.pop();
+    }
+}

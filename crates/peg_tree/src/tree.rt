@@ -1,0 +1,120 @@
+//! A parse tree, seen in contracts as a tree, and held as its rows.
+ghost use Rattle.std.specs.Prelude.{◌≡◌, ◌+◌, ◌<◌, ◌↔◌, map, IsTrue};
+ghost use Rattle.peg_tree.specs.Rows.{row_of, rows_of, IsOneTree};
+ghost use Rattle.peg_tree.specs.Trees.{nodes, levels};
+ghost use Rattle.peg_tree.specs.TreesOfRows.{trees_of};
+ghost use Rattle.peg_tree.specs.Nodes.{node_at, count_of, child_at, trees_from, first_root, RulesBelow};
+
+use crate::TreeNode;
+use crate::depth::depth_in;
+use crate::rows::{child_in, count_in, fit_in, node_in};
+use peg_bytes::Span;
+use std::marker::Model;
+
+/// A parse tree. Its nodes go by numbers: in preorder, from 0, which is the root.
+#[derive(Debug, Drop)]
+pub struct Tree {
+    rows: Vec<TreeNode>,
+}
+
+impl Model for Tree {
+    ghost use Rattle.std.specs.Prelude.{map};
+    ghost use Rattle.peg_tree.specs.Rows.{row_of, IsOneTree};
+    ghost use Rattle.peg_tree.specs.Trees.{Trees};
+    ghost use Rattle.peg_tree.specs.TreesOfRows.{trees_of, trees_code};
+
+    ghost Value = { Trees };
+
+    ghost coded = { trees_code };
+
+    ghost view = { λ tree. trees_of (map row_of tree.rows.items) };
+
+    ghost invariant = { λ tree. IsOneTree (map row_of tree.rows.items) };
+}
+
+impl Tree {
+    /// The tree whose rows these are; `one_tree` tells whether they are one.
+    pub fn from_rows(rows: Vec<TreeNode>) -> Tree
+        requires { IsOneTree (map row_of rows.items) }
+        ensures trees { result ≡ trees_of (map row_of rows.items) }
+        ensures rows { rows_of result ≡ map row_of rows.items }
+    {
+        Tree { rows }
+    }
+
+    /// How many nodes there are; at least the root.
+    pub fn len(&self) -> usize
+        ensures count { result ≡ nodes self.now }
+        ensures some { 0 < result }
+    {
+        self.rows.len()
+    }
+
+    /// The root's number.
+    pub fn root(&self) -> usize
+        ensures number { result ≡ 0 }
+        ensures within { result < nodes self.now }
+    {
+        let _ = &self.rows;
+        0
+    }
+
+    /// The number of a node's rule.
+    pub fn rule(&self, node: usize) -> u32
+        requires { node < nodes self.now }
+        ensures { result ≡ (node_at self.now node).rule }
+    {
+        node_in(&self.rows, node).rule
+    }
+
+    /// The bytes of the text that a node matched.
+    pub fn span(&self, node: usize) -> Span
+        requires { node < nodes self.now }
+        ensures start { result.start ≡ (node_at self.now node).start }
+        ensures end { result.end ≡ (node_at self.now node).end }
+    {
+        node_in(&self.rows, node).span
+    }
+
+    /// How many children a node has. It costs a step for each.
+    pub fn child_count(&self, node: usize) -> usize
+        requires { node < nodes self.now }
+        ensures { result ≡ count_of (node_at self.now node).children }
+    {
+        count_in(&self.rows, node)
+    }
+
+    /// The number of a node's child, by its place among the children. It costs a step for each child before it.
+    pub fn child(&self, node: usize, place: usize) -> usize
+        requires node { node < nodes self.now }
+        requires place { place < count_of (node_at self.now node).children }
+        ensures number { result ≡ child_at self.now node place }
+        ensures within { result < nodes self.now }
+        ensures node { node_at self.now result ≡ first_root (trees_from place (node_at self.now node).children) }
+    {
+        child_in(&self.rows, node, place)
+    }
+
+    /// How many levels there are; the root is level 1. It costs a step for each node.
+    pub fn depth(&self) -> usize
+        ensures levels { result ≡ levels self.now }
+        ensures some { 0 < result }
+    {
+        depth_in(&self.rows)
+    }
+
+    /// Whether each rule's number is below `rules`. It costs a step for each node.
+    pub fn fits(&self, rules: u32) -> bool
+        ensures { IsTrue result ↔ RulesBelow rules self.now }
+    {
+        fit_in(&self.rows, rules)
+    }
+
+    // The rows.
+    pub(crate) fn rows(&self) -> &[TreeNode]
+        ensures tree { IsOneTree (map row_of result.now) }
+        ensures same { trees_of (map row_of result.now) ≡ self.now }
+    {
+        self.rows.as_slice()
+    }
+}
