@@ -1,8 +1,12 @@
 pub mod FurthestLemmas
 pub mod GrammarLemmas
-pub mod LiteralLemmas
 pub mod NameLists
-pub mod PlainLemmas
+pub mod OutcomeLemmas
+pub mod LoopLemmas
 pub mod RecordLemmas
-pub mod RulesLemmas
+pub mod SeenLemmas
 pub mod WrittenForms
+pub mod RulesLemmas
+pub mod StepLemmas
+pub mod TerminalLemmas
+pub mod TreeRules

@@ -1,7 +1,8 @@
 -- What the plain evaluator takes its parts from.
-use Rattle.std.specs.Prelude.{ℕ, List}
+use Rattle.std.specs.Prelude.{ℕ, List, Option, option_map, option_and_then, slice_get, slice_index}
 use Rattle.peg_grammar.specs.GrammarRules.{rules_in}
-use Rattle.peg_grammar.specs.Record.{Taking, record_in, table}
+use Rattle.peg_grammar.specs.Record.{Record, Taking, as_use, record_in, table}
+use Rattle.peg_grammar.specs.Rules.{Rule}
 use Rattle.peg_grammar.specs.declared.plain.Plain.{Plain}
 
 -- the text that is looked at
@@ -15,3 +16,8 @@ taken_in plain depth = record_in (rules_in plain.grammar.now) (text_of plain) de
 -- the recognition table whose parts are taken in a depth
 abbrev pub table_in : Plain → ℕ → Taking
 table_in plain depth = table (rules_in plain.grammar.now) (text_of plain) (taken_in plain depth)
+
+-- what comes of a rule with this number at a place, as a use of it, where its expression is taken in a depth
+abbrev pub used_in : Plain → ℕ → (rule place : ℕ) → Option Record
+used_in plain depth rule place =
+    option_and_then (λ (r : Rule). option_map (as_use rule place) (taken_in plain depth r.body (slice_index plain.first.now rule) place)) (slice_get (rules_in plain.grammar.now) rule)

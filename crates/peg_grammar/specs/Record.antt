@@ -33,9 +33,13 @@ pub record Record : Type 0 where
 abbrev pub matched_at : ℕ → Record
 matched_at end = record { result = Matched end NoTrees; tests = []; uses = [] }
 
+-- the failed test of a terminal at a place
+abbrev pub test_of : (terminal place : ℕ) → Test
+test_of terminal place = record { place = place; terminal = terminal }
+
 -- failed by one test
 abbrev pub failed_at : (terminal place : ℕ) → Record
-failed_at terminal place = record { result = Failed; tests = record { place = place; terminal = terminal } ∷ []; uses = [] }
+failed_at terminal place = record { result = Failed; tests = test_of terminal place ∷ []; uses = [] }
 
 -- this result, after the part and what followed it
 abbrev pub after_both : Record → Record → Recognition → Record

@@ -1,20 +1,28 @@
 -- What the code's expressions and definitions stand for.
 use Rattle.std.specs.Prelude.{List, map, string_bytes}
+use Rattle.peg_bytes.specs.ByteSet.{bytes_of}
 use Rattle.peg_bytes.specs.Extent.{extent}
 use Rattle.peg_grammar.specs.Form as form
 use Rattle.peg_grammar.specs.Form.{Form, forms}
 use Rattle.peg_grammar.specs.Rules.{Rule}
 use Rattle.peg_grammar.specs.declared.expr.Expr.{Expr}
-use Rattle.peg_grammar.specs.declared.expr.Expr.TheOpen.{Expr-F, Literal, Name, Seq, Choice}
+use Rattle.peg_grammar.specs.declared.expr.Expr.TheOpen.{Expr-F, Literal, Class, Any, Name, Seq, Choice, Optional, Star, Plus, And, Not}
 use Rattle.peg_grammar.specs.declared.expr.Expr.TheFolds.{fold-Expr}
 use Rattle.peg_grammar.specs.declared.expr.Definition.{Definition}
 
 -- one expression, with what its parts stand for in their places
 abbrev pub node_form : Expr-F Form → Form
 node_form (Literal bytes span) = form.Literal bytes.items (extent span)
+node_form (Class set span) = form.Class (bytes_of set) (extent span)
+node_form (Any span) = form.Any (extent span)
 node_form (Name name span) = form.Name (string_bytes name) (extent span)
 node_form (Seq items span) = form.Seq (forms items.items) (extent span)
 node_form (Choice first rest span) = form.Choice first.value (forms rest.items) (extent span)
+node_form (Optional part span) = form.Optional part.value (extent span)
+node_form (Star part span) = form.Star part.value (extent span)
+node_form (Plus part span) = form.Plus part.value (extent span)
+node_form (And part span) = form.And part.value (extent span)
+node_form (Not part span) = form.Not part.value (extent span)
 
 -- the written expression that an `Expr` stands for
 abbrev pub form_of : Expr → Form

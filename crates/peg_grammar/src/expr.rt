@@ -1,5 +1,5 @@
 //! Expressions and definitions as they are written in a grammar file.
-use peg_bytes::Span;
+use peg_bytes::{ByteSet, Span};
 use std::alloc::Global;
 
 /// An expression as written, with the sugar kept (Ford 2004, section 3.1), and where it stands in the file.
@@ -8,6 +8,15 @@ pub enum Expr {
     /// These bytes, one after the other; no bytes match nothing, and succeed.
     Literal {
         bytes: Vec<u8>,
+        span: Span,
+    },
+    /// One byte of the set; none of the empty set.
+    Class {
+        set: ByteSet,
+        span: Span,
+    },
+    /// Any one byte.
+    Any {
         span: Span,
     },
     /// The use of a rule.
@@ -24,6 +33,31 @@ pub enum Expr {
     Choice {
         first: Box<Expr>,
         rest: Vec<Expr>,
+        span: Span,
+    },
+    /// The part, or nothing where it fails.
+    Optional {
+        part: Box<Expr>,
+        span: Span,
+    },
+    /// The part again and again, until it fails.
+    Star {
+        part: Box<Expr>,
+        span: Span,
+    },
+    /// The part, and then again and again until it fails.
+    Plus {
+        part: Box<Expr>,
+        span: Span,
+    },
+    /// Nothing, where the part matches.
+    And {
+        part: Box<Expr>,
+        span: Span,
+    },
+    /// Nothing, where the part fails.
+    Not {
+        part: Box<Expr>,
         span: Span,
     },
 }

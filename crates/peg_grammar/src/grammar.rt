@@ -76,12 +76,19 @@ impl Grammar {
     {
         &self.definitions[rule as usize].body
     }
+
+    // The definitions, in order.
+    pub(crate) fn definitions(&self) -> &[Definition]
+        ensures { rules_of result.now ≡ rules_in self.now }
+    {
+        self.definitions.as_slice()
+    }
 }
 
 #[cfg(test)]
 mod tests {
     use super::*;
-    use peg_bytes::Span;
+    use peg_bytes::{ByteSet, Span};
     use std::alloc::AllocError;
     use std::test::Fail;
 
@@ -97,6 +104,36 @@ mod tests {
             name: String::from_str(alloc, name)?,
             span,
         })
+    }
+
+    fn part(alloc: Global, expression: Expr) -> Result<Box<Expr>, AllocError> {
+        Box::new(alloc, expression).map_err(AllocError::from)
+    }
+
+    // S <- [a-z] . 'xy'? (!NAME)* [a-z]+ &S, where the name stands from 20 to 21.
+    fn signs(alloc: Global, name: &str) -> Result<Expr, AllocError> {
+        let span = Span::new(0, 0);
+        let set = ByteSet::range(b'a', b'z');
+        let not = Expr::Not {
+            part: part(alloc, use_of(alloc, name, Span::new(20, 21))?)?,
+            span,
+        };
+        let optional = part(alloc, literal(alloc, 2)?)?;
+        let star = part(alloc, not)?;
+        let plus = part(alloc, Expr::Class { set, span })?;
+        let and = part(alloc, use_of(alloc, "S", span)?)?;
+        let items = vec![in alloc;
+            Expr::Class { set, span },
+            Expr::Any { span },
+            Expr::Optional {
+                part: optional,
+                span
+            },
+            Expr::Star { part: star, span },
+            Expr::Plus { part: plus, span },
+            Expr::And { part: and, span },
+        ]?;
+        Ok(Expr::Seq { items, span })
     }
 
     fn rule(alloc: Global, name: &str, span: Span, body: Expr) -> Result<Definition, AllocError> {
@@ -179,6 +216,27 @@ mod tests {
             Err(GrammarFault::Undefined { name, span }) => {
                 assert_eq!(rt; name.as_str(), "T");
                 assert_eq!(rt; *span, Span::new(7, 8));
+            }
+            _ => assert!(rt; false),
+        }
+        Ok(())
+    }
+
+    // Rule 1, sequence 1, class 1, dot 1, optional 1 + 3, star 1 + 1 + 1, plus 1 + 1, and 1 + 1.
+    #[test]
+    fn all_forms_are_weighed_and_their_names_looked_up(rt: HostRuntime) -> Result<(), Fail> {
+        let alloc = rt.alloc();
+        let body = signs(alloc, "S")?;
+        let definitions = vec![in alloc; rule(alloc, "S", Span::new(0, 1), body)?]?;
+        assert_eq!(rt; weight(&definitions), 15);
+        assert_eq!(rt; Grammar::new(alloc, definitions)?.rules(), 1);
+        let body = signs(alloc, "T")?;
+        let definitions = vec![in alloc; rule(alloc, "S", Span::new(0, 1), body)?]?;
+        let refused = Grammar::new(alloc, definitions);
+        match &refused {
+            Err(GrammarFault::Undefined { name, span }) => {
+                assert_eq!(rt; name.as_str(), "T");
+                assert_eq!(rt; *span, Span::new(20, 21));
             }
             _ => assert!(rt; false),
         }

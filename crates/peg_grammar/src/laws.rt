@@ -1,12 +1,15 @@
 //! Laws of the definitions: what holds of records for every grammar and text. Each function does nothing; its contract
 //! is the law.
-ghost use Rattle.std.specs.Prelude.{◌≡◌, ◌≢◌, ◌↔◌, ℕ, suc, List, [], ◌∷◌, codes, None, Some};
+ghost use Rattle.std.specs.Prelude.{◌≡◌, ◌≢◌, ◌↔◌, ℕ, suc, ◌<◌, ◌≤◌, All, List, [], ◌∷◌, codes, length, None, Some};
 ghost use Rattle.peg_grammar.specs.Examples.{Gives, nested, nested_record, counted, counted_record, ordered, ordered_record, repeated_prefix, repeated_prefix_record};
 ghost use Rattle.peg_grammar.specs.Form.{Form};
-ghost use Rattle.peg_grammar.specs.Rules.{Rule};
+ghost use Rattle.peg_grammar.specs.Rules.{Rule, name_of};
 ghost use Rattle.peg_grammar.specs.Grammar.{IsGrammar, first_duplicate, first_undefined};
 ghost use Rattle.peg_grammar.specs.Furthest.{IsFurthest, furthest_of};
-ghost use Rattle.peg_grammar.specs.Record.{Record, IsRecord, Test, record_in};
+ghost use Rattle.peg_grammar.specs.Record.{Matched, Record, IsRecord, Test, record_in, start_record};
+ghost use Rattle.peg_grammar.specs.Terminals.{extents_of_terminals};
+ghost use Rattle.peg_tree.specs.Nodes.{RulesBelow};
+ghost use Rattle.peg_tree.specs.Trees.{Trees};
 
 /// What has a record in n has the same record in n + 1.
 pub fn a_record_stays()
@@ -39,4 +42,34 @@ pub fn the_definitions_agree_with_hand_worked_grammars()
 pub fn grammars_are_not_refused()
     ensures { (rules : List Rule) → IsGrammar rules
         ↔ ((rules ≢ []) × (first_duplicate rules ≡ None) × (first_undefined rules ≡ None)) }
+{}
+
+/// Every failed test is of a terminal that the rules write, and so is every terminal of a furthest failure: its number
+/// is that of one of their extents.
+pub fn every_failed_test_is_of_a_terminal()
+    ensures tests { (rules : List Rule) (text : List ℕ) (n start : ℕ) (r : Record)
+        → start_record rules text n (name_of rules start) ≡ Some r
+        → All (λ (test : Test). test.terminal < length (extents_of_terminals rules)) r.tests }
+    ensures furthest { (rules : List Rule) (text : List ℕ) (n start : ℕ) (r : Record) (far : ℕ) (expected : List ℕ)
+        → start_record rules text n (name_of rules start) ≡ Some r
+        → IsFurthest r.tests far expected
+        → All (λ terminal. terminal < length (extents_of_terminals rules)) expected }
+{}
+
+/// From a place of the text, every failed test is at a place of the text, and a match ends within it.
+pub fn records_stay_within_the_text()
+    ensures tests { (rules : List Rule) (text : List ℕ) (n : ℕ) (e : Form) (terminal place : ℕ) (r : Record)
+        → place ≤ length text → record_in rules text n e terminal place ≡ Some r
+        → All (λ (test : Test). test.place ≤ length text) r.tests }
+    ensures end { (rules : List Rule) (text : List ℕ) (n : ℕ) (e : Form) (terminal place end : ℕ) (trees : Trees)
+        (r : Record) → place ≤ length text → record_in rules text n e terminal place ≡ Some r
+        → r.result ≡ Matched end trees → end ≤ length text }
+{}
+
+/// Every node of the trees that a match from a start leaves is of a rule that there is: its rule's number is below how
+/// many rules there are.
+pub fn every_node_is_of_a_rule()
+    ensures { (rules : List Rule) (text : List ℕ) (n start : ℕ) (r : Record) (end : ℕ) (trees : Trees)
+        → start_record rules text n (name_of rules start) ≡ Some r → r.result ≡ Matched end trees
+        → RulesBelow (length rules) trees }
 {}

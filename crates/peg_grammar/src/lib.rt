@@ -3,16 +3,21 @@
 
 mod expr;
 mod fault;
+mod found;
 mod grammar;
 pub mod laws;
 mod names;
+mod names_of_grammar;
+mod numbers;
 mod plain;
-mod verdict;
+mod terminals;
+#[cfg(test)]
+mod tests;
 mod weights;
 
 pub use expr::{Definition, Expr};
 pub use fault::GrammarFault;
 pub use grammar::{Grammar, MOST_PARTS};
 pub use plain::{MOST_TEXT_BYTES, PlainFault, plain_match};
-pub use verdict::Verdict;
+pub use terminals::terminal_spans;
 pub use weights::weight;

@@ -103,7 +103,7 @@ fn unknown_in<'a>(names: &IndexSet<String>, expression: &'a Expr) -> Option<(&'a
         ≡ find (is_unknown (names_in names.now)) (names_used (form_of expression.now)) }
 {
     match expression {
-        Expr::Literal { .. } => None,
+        Expr::Literal { .. } | Expr::Class { .. } | Expr::Any { .. } => None,
         Expr::Name { name, span } => {
             if has_name(names, name.as_str()) {
                 return None;
@@ -115,6 +115,11 @@ fn unknown_in<'a>(names: &IndexSet<String>, expression: &'a Expr) -> Option<(&'a
             Some(unknown) => Some(unknown),
             None => unknown_among(names, rest),
         },
+        Expr::Optional { part, .. }
+        | Expr::Star { part, .. }
+        | Expr::Plus { part, .. }
+        | Expr::And { part, .. }
+        | Expr::Not { part, .. } => unknown_in(names, part),
     }
 }
 

@@ -1,236 +1,511 @@
 //! The plain evaluator: Ford's recognition relation as a recursion over written expressions, bounded by a depth. It is
 //! the slow definition in code.
-ghost use Rattle.std.specs.Prelude.{◌≡◌, ◌≢◌, ◌↔◌, ◌<◌, ◌≤◌, length, None, Some, Err, IfOk, IsErrOf};
+ghost use Rattle.std.specs.Prelude.{◌≡◌, ◌≤◌, ◌<◌, ◌↔◌, map, length, IfOk, IsErrOf, None};
+ghost use Rattle.peg_tree.specs.Rows.{row_of};
+ghost use Rattle.peg_grammar.specs.GrammarRules.{rules_in};
+ghost use Rattle.peg_grammar.specs.Numbers.{first_from};
+ghost use Rattle.peg_grammar.specs.Outcomes.{Answers, Leaves, IsParsed};
 ghost use Rattle.peg_grammar.specs.Record.{start_record};
 ghost use Rattle.peg_grammar.specs.Rules.{name_of};
-ghost use Rattle.peg_grammar.specs.GrammarRules.{rules_in};
-ghost use Rattle.peg_grammar.specs.Verdict.{verdict_in};
 
-use super::expr::Expr;
-use super::grammar::Grammar;
-use super::verdict::Verdict;
+use crate::found::{Found, Furthest, Stop, Verdict};
+use crate::numbers::{count_of, first_terminals};
+use crate::{Expr, Grammar};
+use peg_bytes::{ByteSet, Span};
+use peg_tree::{Outcome, Parsed, Tree, TreeNode};
+use std::alloc::{AllocError, Global};
 
 /// The most bytes that a text may have.
 pub const MOST_TEXT_BYTES: usize = 67_108_864;
 
-/// Why the plain evaluator has no answer.
+/// Why `plain_match` has no answer.
 #[derive(Clone, Copy, Debug, PartialEq, Eq)]
 pub enum PlainFault {
     /// The text has more than 67,108,864 bytes.
     TextTooLong,
     /// The cases of recognition nest deeper than was allowed.
     DepthUsed,
-    /// A growth was refused. Not answered yet: the evaluation takes no memory.
+    /// A growth was refused.
     Memory,
 }
 
-/// What an evaluation looks at, and never changes.
-#[derive(Clone, Copy)]
-struct Plain<'a> {
-    grammar: &'a Grammar,
-    text: &'a [u8],
-    ghost short: { length text.now ≤ 67108864 },
-}
+impl From<AllocError> for PlainFault {
+    ghost use Rattle.std.specs.Prelude.{◌≡◌};
+    ghost use Rattle.peg_grammar.specs.declared.plain.PlainFault.TheVariants.{Memory};
 
-impl<'a> Plain<'a> {
-    ghost use Rattle.std.specs.Prelude.{◌≡◌, ℕ, ◌<◌, ◌≤◌, map, length, drop, IfSome};
-    ghost use Rattle.peg_bytes.specs.Extent.{Extent};
-    ghost use Rattle.peg_grammar.specs.Form.{Name, forms};
-    ghost use Rattle.peg_grammar.specs.Plain.{text_of, taken_in, table_in};
-    ghost use Rattle.peg_grammar.specs.GrammarRules.{rules_in};
-    ghost use Rattle.peg_grammar.specs.Record.{take_items, take_first, literal_at, start_record};
-    ghost use Rattle.peg_grammar.specs.Rules.{name_of};
-    ghost use Rattle.peg_grammar.specs.Verdict.{verdict_of, verdict_in, EndsWithin};
-    ghost use Rattle.peg_grammar.specs.Written.{form_of};
+    ghost from_gives = { λ _ fault. fault ≡ Memory };
 
-    /// What a literal makes of the bytes from a place on.
-    fn literal(&self, bytes: &[u8], place: u32) -> Verdict
-        requires { place ≤ length (text_of self.now) }
-        ensures value { (terminal : ℕ) → result
-            ≡ verdict_of (literal_at terminal place bytes.now (drop place (text_of self.now))).result }
-        ensures within { EndsWithin (length (text_of self.now)) result }
-    {
-        let rest = &self.text[place as usize..];
-        if rest.starts_with(bytes) {
-            Verdict::Matched {
-                end: place + bytes.len() as u32,
-            }
-        } else {
-            Verdict::Failed
-        }
-    }
-
-    /// What an expression makes of the bytes from a place on; `None` where its recognition nests deeper than `depth`.
-    #[cycle(plain)]
-    fn expression(&self, expr: &Expr, place: u32, depth: u64) -> Option<Verdict>
-        requires { place ≤ length (text_of self.now) }
-        ensures value { (terminal : ℕ) → verdict_in (taken_in self.now depth (form_of expr.now) terminal place) ≡ result }
-        ensures within { IfSome result (EndsWithin (length (text_of self.now))) }
-    {
-        if depth == 0 {
-            return None;
-        }
-        self.case(expr, place, depth - 1)
-    }
-
-    /// One case of the recognition table, whose parts are taken in `depth`.
-    #[cycle(plain)]
-    fn case(&self, expr: &Expr, place: u32, depth: u64) -> Option<Verdict>
-        requires { place ≤ length (text_of self.now) }
-        ensures value { (terminal : ℕ) → verdict_in (table_in self.now depth (form_of expr.now) terminal place) ≡ result }
-        ensures within { IfSome result (EndsWithin (length (text_of self.now))) }
-    {
-        match expr {
-            Expr::Literal { bytes, .. } => Some(self.literal(bytes, place)),
-            Expr::Name { name, .. } => self.name(name.as_str(), place, depth),
-            Expr::Seq { items, .. } => self.items(items, place, depth),
-            Expr::Choice { first, rest, .. } => self.choice(first, rest, place, depth),
-        }
-    }
-
-    /// What a name means: its rule's expression at the place.
-    #[cycle(plain)]
-    fn name(&self, name: &str, place: u32, depth: u64) -> Option<Verdict>
-        requires { place ≤ length (text_of self.now) }
-        ensures value { (span : Extent) (terminal : ℕ)
-            → verdict_in (table_in self.now depth (Name name.now span) terminal place) ≡ result }
-        ensures within { IfSome result (EndsWithin (length (text_of self.now))) }
-    {
-        let rule = self.grammar.rule_number(name)?;
-        self.expression(self.grammar.body(rule), place, depth)
-    }
-
-    /// What the name of a rule means at the text's beginning.
-    fn start(&self, rule: u32, depth: u64) -> Option<Verdict>
-        requires { rule < length (rules_in self.now.grammar.now) }
-        ensures { verdict_in (start_record (rules_in self.now.grammar.now) (text_of self.now) depth
-            (name_of (rules_in self.now.grammar.now) rule)) ≡ result }
-    {
-        if depth == 0 {
-            return None;
-        }
-        self.name(self.grammar.rule_name(rule), 0, depth - 1)
-    }
-
-    /// Items in order, each from where the one before ended.
-    #[cycle(plain)]
-    fn items(&self, items: &[Expr], place: u32, depth: u64) -> Option<Verdict>
-        requires { place ≤ length (text_of self.now) }
-        ensures value { (terminal : ℕ) → verdict_in (take_items (taken_in self.now depth)
-            (forms (map form_of items.now)) terminal place) ≡ result }
-        ensures within { IfSome result (EndsWithin (length (text_of self.now))) }
-    {
-        let mut at = place;
-        for item in items {
-            match self.expression(item, at, depth)? {
-                Verdict::Failed => return Some(Verdict::Failed),
-                Verdict::Matched { end } => at = end,
-            }
-        }
-        Some(Verdict::Matched { end: at })
-    }
-
-    /// The first alternative that matches, each tried at the same place; it fails if all do.
-    #[cycle(plain)]
-    fn choice(&self, first: &Expr, rest: &[Expr], place: u32, depth: u64) -> Option<Verdict>
-        requires { place ≤ length (text_of self.now) }
-        ensures value { (terminal : ℕ) → verdict_in (take_first (taken_in self.now depth)
-            (form_of first.now) (forms (map form_of rest.now)) terminal place) ≡ result }
-        ensures within { IfSome result (EndsWithin (length (text_of self.now))) }
-    {
-        let mut verdict = self.expression(first, place, depth)?;
-        for next in rest {
-            match verdict {
-                Verdict::Matched { .. } => return Some(verdict),
-                Verdict::Failed => verdict = self.expression(next, place, depth)?,
-            }
-        }
-        Some(verdict)
+    fn from(_error: AllocError) -> PlainFault {
+        PlainFault::Memory
     }
 }
 
-/// Whether the rule with this number matches a front of the text (Ford 2004, section 3.3), by recursion over the
-/// grammar as written. `TextTooLong` comes over 67,108,864 bytes; `DepthUsed` where the cases of recognition nest deeper
-/// than `depth`, as they do for ever under left recursion, and always at depth 0. It may take time exponential in the
-/// text, and native stack in proportion to the depth.
+/// What a grammar's rule makes of the front of a text: whether it matches and up to which byte, the tree of the uses of
+/// rules, and the furthest failure, by the number of terminals (Ford 2004, section 3.3). The cases of recognition nest
+/// at most `depth` deep, else this is `DepthUsed`; it may take time exponential in that.
 pub fn plain_match(
+    alloc: Global,
     grammar: &Grammar,
     text: &[u8],
     start: u32,
     depth: u64,
-) -> Result<Verdict, PlainFault>
+) -> Result<Outcome, PlainFault>
     requires { start < length (rules_in grammar.now) }
     ensures long { IsErrOf result PlainFault.TextTooLong ↔ (67108864 < length text.now) }
-    ensures verdict { IfOk result (λ verdict. verdict_in
-        (start_record (rules_in grammar.now) text.now depth (name_of (rules_in grammar.now) start)) ≡ Some verdict) }
+    ensures outcome { IfOk result (Answers
+        (start_record (rules_in grammar.now) text.now depth (name_of (rules_in grammar.now) start))) }
     ensures deep { IsErrOf result PlainFault.DepthUsed → start_record (rules_in grammar.now) text.now depth
         (name_of (rules_in grammar.now) start) ≡ None }
-    ensures memory { result ≢ Err PlainFault.Memory }
 {
     if text.len() > MOST_TEXT_BYTES {
         return Err(PlainFault::TextTooLong);
     }
-    match (Plain { grammar, text }).start(start, depth) {
-        Some(verdict) => Ok(verdict),
-        None => Err(PlainFault::DepthUsed),
+    let first = first_terminals(alloc, grammar.definitions())?;
+    let plain = Plain {
+        grammar,
+        first: first.as_slice(),
+        text,
+    };
+    let mut found = Found {
+        furthest: Furthest {
+            far: 0,
+            expected: Vec::new(alloc),
+        },
+        rows: Vec::new(alloc),
+    };
+    match plain.start(&mut found, start, depth) {
+        Err(Stop::Depth) => Err(PlainFault::DepthUsed),
+        Err(Stop::Memory) => Err(PlainFault::Memory),
+        Ok(verdict) => Ok(outcome_of(verdict, found)),
     }
 }
 
-#[cfg(test)]
-mod tests {
-    use super::*;
-    use crate::Definition;
-    use peg_bytes::Span;
-    use std::alloc::{AllocError, Global};
-    use std::test::Fail;
+/// What an evaluation looks at, and never changes: a grammar, the number of each rule's first terminal, a text.
+#[derive(Clone, Copy)]
+struct Plain<'a> {
+    grammar: &'a Grammar,
+    first: &'a [u32],
+    text: &'a [u8],
+    ghost short: { length text.now ≤ 67108864 },
+    ghost numbered: { first.now ≡ first_from 0 (rules_in grammar.now) },
+}
 
-    fn literal(alloc: Global, bytes: &[u8], span: Span) -> Result<Expr, AllocError> {
-        let bytes = bytes.to_vec(alloc)?;
-        Ok(Expr::Literal { bytes, span })
-    }
+impl<'a> Plain<'a> {
+    ghost use Rattle.std.specs.Prelude.{◌≡◌, ℕ, ◌+◌, ◌<◌, ◌≤◌, map, length, drop, IfOk, Some, true, string_bytes};
+    ghost use Rattle.peg_bytes.specs.ByteSet.{has, bytes_of};
+    ghost use Rattle.peg_bytes.specs.Extent.{Extent};
+    ghost use Rattle.peg_grammar.specs.Form.{Name, Seq, Choice, Optional, Star, Plus, And, Not, forms, terminals, terminals_of_all};
+    ghost use Rattle.peg_grammar.specs.Found.{seen_in};
+    ghost use Rattle.peg_grammar.specs.Grammar.{most_parts};
+    ghost use Rattle.peg_grammar.specs.GrammarRules.{rules_in};
+    ghost use Rattle.peg_grammar.specs.Plain.{text_of, taken_in, table_in, used_in};
+    ghost use Rattle.peg_grammar.specs.Record.{literal_at, byte_at, start_record, take_items, take_first};
+    ghost use Rattle.peg_grammar.specs.Rules.{name_of};
+    ghost use Rattle.peg_grammar.specs.Seen.{Tells, EndsWithin};
+    ghost use Rattle.peg_grammar.specs.Written.{form_of};
 
-    // S <- 'a' S / 'b'
-    fn nested(alloc: Global) -> Result<Grammar, Fail> {
-        let again = Expr::Name {
-            name: String::from_str(alloc, "S")?,
-            span: Span::new(9, 10),
-        };
-        let first = Expr::Seq {
-            items: vec![in alloc; literal(alloc, b"a", Span::new(5, 8))?, again]?,
-            span: Span::new(5, 10),
-        };
-        let body = Expr::Choice {
-            first: Box::new(alloc, first).map_err(AllocError::from)?,
-            rest: vec![in alloc; literal(alloc, b"b", Span::new(13, 16))?]?,
-            span: Span::new(5, 16),
-        };
-        let rule = Definition {
-            name: String::from_str(alloc, "S")?,
-            span: Span::new(0, 1),
-            body,
-        };
-        Ok(Grammar::new(alloc, vec![in alloc; rule]?)?)
-    }
-
-    #[test]
-    fn nested_rules_match(rt: HostRuntime) -> Result<(), Fail> {
-        let grammar = nested(rt.alloc())?;
-        assert!(rt; grammar.rules() == 1);
-        let cases: [(&[u8], u64, Result<Verdict, PlainFault>); 6] = [
-            (b"aab", 1000, Ok(Verdict::Matched { end: 3 })),
-            (b"aabb", 1000, Ok(Verdict::Matched { end: 3 })),
-            (b"aa", 1000, Ok(Verdict::Failed)),
-            (b"aab", 0, Err(PlainFault::DepthUsed)),
-            (b"aab", 9, Err(PlainFault::DepthUsed)),
-            (b"aab", 10, Ok(Verdict::Matched { end: 3 })),
-        ];
-        for (text, depth, answer) in cases {
-            assert_eq!(rt;
-                plain_match(&grammar, text, 0, depth),
-                answer,
-                "depth {depth}"
-            );
+    /// What a literal makes of the bytes from a place on.
+    fn literal(
+        &self,
+        found: &mut Found,
+        bytes: &[u8],
+        terminal: u32,
+        place: u32,
+    ) -> Result<Verdict, Stop>
+        requires { place ≤ length (text_of self.now) }
+        ensures tells { Tells (Some (literal_at terminal place bytes.now (drop place (text_of self.now))))
+            (seen_in found.old) result (seen_in found.new) }
+        ensures within { IfOk result (EndsWithin place (length (text_of self.now))) }
+    {
+        let rest = &self.text[place as usize..];
+        for (at, byte) in bytes.iter().enumerate() {
+            if at >= rest.len() || rest[at] != *byte {
+                found.furthest.note(terminal, place + at as u32)?;
+                return Ok(Verdict::Failed);
+            }
         }
-        Ok(())
+        let end = place + bytes.len() as u32;
+        Ok(Verdict::Matched { end })
+    }
+
+    /// What a class makes of the byte at a place.
+    fn class(
+        &self,
+        found: &mut Found,
+        set: &ByteSet,
+        terminal: u32,
+        place: u32,
+    ) -> Result<Verdict, Stop>
+        requires { place ≤ length (text_of self.now) }
+        ensures tells { Tells (Some (byte_at (has (bytes_of set.now)) terminal place (drop place (text_of self.now))))
+            (seen_in found.old) result (seen_in found.new) }
+        ensures within { IfOk result (EndsWithin place (length (text_of self.now))) }
+    {
+        let at = place as usize;
+        if at < self.text.len() && set.contains(self.text[at]) {
+            return Ok(Verdict::Matched { end: place + 1 });
+        }
+        found.furthest.note(terminal, place)?;
+        Ok(Verdict::Failed)
+    }
+
+    /// What a dot makes of the byte at a place.
+    fn any(&self, found: &mut Found, terminal: u32, place: u32) -> Result<Verdict, Stop>
+        requires { place ≤ length (text_of self.now) }
+        ensures tells { Tells (Some (byte_at (λ byte. true) terminal place (drop place (text_of self.now))))
+            (seen_in found.old) result (seen_in found.new) }
+        ensures within { IfOk result (EndsWithin place (length (text_of self.now))) }
+    {
+        if (place as usize) < self.text.len() {
+            return Ok(Verdict::Matched { end: place + 1 });
+        }
+        found.furthest.note(terminal, place)?;
+        Ok(Verdict::Failed)
+    }
+
+    /// What an expression makes of the bytes from a place on, its first terminal having this number. A failed expression
+    /// leaves the rows as they were.
+    #[cycle(plain)]
+    fn expression(
+        &self,
+        found: &mut Found,
+        expr: &Expr,
+        terminal: u32,
+        place: u32,
+        depth: u64,
+    ) -> Result<Verdict, Stop>
+        requires place { place ≤ length (text_of self.now) }
+        requires few { terminal + terminals (form_of expr.now) ≤ most_parts }
+        ensures tells { Tells (taken_in self.now depth (form_of expr.now) terminal place)
+            (seen_in found.old) result (seen_in found.new) }
+        ensures within { IfOk result (EndsWithin place (length (text_of self.now))) }
+    {
+        if depth == 0 {
+            return Err(Stop::Depth);
+        }
+        self.case(found, expr, terminal, place, depth - 1)
+    }
+
+    /// One case of the recognition table, whose parts are taken in `depth`.
+    #[cycle(plain)]
+    fn case(
+        &self,
+        found: &mut Found,
+        expr: &Expr,
+        terminal: u32,
+        place: u32,
+        depth: u64,
+    ) -> Result<Verdict, Stop>
+        requires place { place ≤ length (text_of self.now) }
+        requires few { terminal + terminals (form_of expr.now) ≤ most_parts }
+        ensures tells { Tells (table_in self.now depth (form_of expr.now) terminal place)
+            (seen_in found.old) result (seen_in found.new) }
+        ensures within { IfOk result (EndsWithin place (length (text_of self.now))) }
+    {
+        match expr {
+            Expr::Literal { bytes, .. } => self.literal(found, bytes, terminal, place),
+            Expr::Class { set, .. } => self.class(found, set, terminal, place),
+            Expr::Any { .. } => self.any(found, terminal, place),
+            Expr::Name { name, .. } => self.name(found, name.as_str(), place, depth),
+            Expr::Seq { items, .. } => self.items(found, items, terminal, place, depth),
+            Expr::Choice { first, rest, .. } => {
+                self.choice(found, first, rest, terminal, place, depth)
+            }
+            Expr::Optional { part, .. } => self.optional(found, part, terminal, place, depth),
+            Expr::Star { part, .. } => self.rounds(found, part, terminal, place, depth),
+            Expr::Plus { part, .. } => self.plus(found, part, terminal, place, depth),
+            Expr::And { part, .. } => self.and(found, part, terminal, place, depth),
+            Expr::Not { part, .. } => self.not(found, part, terminal, place, depth),
+        }
+    }
+
+    /// Items in order, each from where the one before ended.
+    #[cycle(plain)]
+    fn items(
+        &self,
+        found: &mut Found,
+        items: &[Expr],
+        terminal: u32,
+        place: u32,
+        depth: u64,
+    ) -> Result<Verdict, Stop>
+        requires place { place ≤ length (text_of self.now) }
+        requires few { terminal + terminals_of_all (forms (map form_of items.now)) ≤ most_parts }
+        ensures tells { (span : Extent) → Tells (table_in self.now depth (Seq (forms (map form_of items.now)) span) terminal place)
+            (seen_in found.old) result (seen_in found.new) }
+        ensures within { IfOk result (EndsWithin place (length (text_of self.now))) }
+    {
+        let from = found.rows.len();
+        let mut at = place;
+        let mut terminal = terminal;
+        for item in items {
+            match self.expression(found, item, terminal, at, depth) {
+                Err(stop) => return Err(stop),
+                Ok(Verdict::Failed) => {
+                    found.rows.truncate(from);
+                    return Ok(Verdict::Failed);
+                }
+                Ok(Verdict::Matched { end }) => {
+                    at = end;
+                    terminal += count_of(item);
+                }
+            }
+        }
+        Ok(Verdict::Matched { end: at })
+    }
+
+    /// The first alternative that matches, each tried at the same place.
+    #[cycle(plain)]
+    fn choice(
+        &self,
+        found: &mut Found,
+        first: &Expr,
+        rest: &[Expr],
+        terminal: u32,
+        place: u32,
+        depth: u64,
+    ) -> Result<Verdict, Stop>
+        requires place { place ≤ length (text_of self.now) }
+        requires few { terminal + (terminals (form_of first.now) + terminals_of_all (forms (map form_of rest.now))) ≤ most_parts }
+        ensures tells { (span : Extent) → Tells (table_in self.now depth (Choice (form_of first.now) (forms (map form_of rest.now)) span) terminal place)
+            (seen_in found.old) result (seen_in found.new) }
+        ensures within { IfOk result (EndsWithin place (length (text_of self.now))) }
+    {
+        match self.expression(found, first, terminal, place, depth) {
+            Err(stop) => return Err(stop),
+            Ok(Verdict::Matched { end }) => return Ok(Verdict::Matched { end }),
+            Ok(Verdict::Failed) => {}
+        }
+        let mut terminal = terminal + count_of(first);
+        for next in rest {
+            match self.expression(found, next, terminal, place, depth) {
+                Err(stop) => return Err(stop),
+                Ok(Verdict::Matched { end }) => return Ok(Verdict::Matched { end }),
+                Ok(Verdict::Failed) => terminal += count_of(next),
+            }
+        }
+        Ok(Verdict::Failed)
+    }
+
+    /// The part, or nothing where it fails.
+    #[cycle(plain)]
+    fn optional(
+        &self,
+        found: &mut Found,
+        part: &Expr,
+        terminal: u32,
+        place: u32,
+        depth: u64,
+    ) -> Result<Verdict, Stop>
+        requires place { place ≤ length (text_of self.now) }
+        requires few { terminal + terminals (form_of part.now) ≤ most_parts }
+        ensures tells { (span : Extent) → Tells (table_in self.now depth (Optional (form_of part.now) span) terminal place)
+            (seen_in found.old) result (seen_in found.new) }
+        ensures within { IfOk result (EndsWithin place (length (text_of self.now))) }
+    {
+        match self.expression(found, part, terminal, place, depth) {
+            Err(stop) => Err(stop),
+            Ok(Verdict::Failed) => Ok(Verdict::Matched { end: place }),
+            Ok(Verdict::Matched { end }) => Ok(Verdict::Matched { end }),
+        }
+    }
+
+    /// The rounds of a star: the part, and where it matches the star again.
+    #[cycle(plain)]
+    fn rounds(
+        &self,
+        found: &mut Found,
+        part: &Expr,
+        terminal: u32,
+        place: u32,
+        depth: u64,
+    ) -> Result<Verdict, Stop>
+        requires place { place ≤ length (text_of self.now) }
+        requires few { terminal + terminals (form_of part.now) ≤ most_parts }
+        ensures tells { (span : Extent) → Tells (table_in self.now depth (Star (form_of part.now) span) terminal place)
+            (seen_in found.old) result (seen_in found.new) }
+        ensures within { IfOk result (EndsWithin place (length (text_of self.now))) }
+    {
+        match self.expression(found, part, terminal, place, depth) {
+            Err(stop) => Err(stop),
+            Ok(Verdict::Failed) => Ok(Verdict::Matched { end: place }),
+            Ok(Verdict::Matched { end }) => self.star(found, part, terminal, end, depth),
+        }
+    }
+
+    /// A star as a part: its rounds, one less deep.
+    #[cycle(plain)]
+    fn star(
+        &self,
+        found: &mut Found,
+        part: &Expr,
+        terminal: u32,
+        place: u32,
+        depth: u64,
+    ) -> Result<Verdict, Stop>
+        requires place { place ≤ length (text_of self.now) }
+        requires few { terminal + terminals (form_of part.now) ≤ most_parts }
+        ensures tells { (span : Extent) → Tells (taken_in self.now depth (Star (form_of part.now) span) terminal place)
+            (seen_in found.old) result (seen_in found.new) }
+        ensures within { IfOk result (EndsWithin place (length (text_of self.now))) }
+    {
+        if depth == 0 {
+            return Err(Stop::Depth);
+        }
+        self.rounds(found, part, terminal, place, depth - 1)
+    }
+
+    /// The part, and then the star of it.
+    #[cycle(plain)]
+    fn plus(
+        &self,
+        found: &mut Found,
+        part: &Expr,
+        terminal: u32,
+        place: u32,
+        depth: u64,
+    ) -> Result<Verdict, Stop>
+        requires place { place ≤ length (text_of self.now) }
+        requires few { terminal + terminals (form_of part.now) ≤ most_parts }
+        ensures tells { (span : Extent) → Tells (table_in self.now depth (Plus (form_of part.now) span) terminal place)
+            (seen_in found.old) result (seen_in found.new) }
+        ensures within { IfOk result (EndsWithin place (length (text_of self.now))) }
+    {
+        match self.expression(found, part, terminal, place, depth) {
+            Err(stop) => Err(stop),
+            Ok(Verdict::Failed) => Ok(Verdict::Failed),
+            Ok(Verdict::Matched { end }) => self.star(found, part, terminal, end, depth),
+        }
+    }
+
+    /// Nothing, where the part matches; what it left is dropped.
+    #[cycle(plain)]
+    fn and(
+        &self,
+        found: &mut Found,
+        part: &Expr,
+        terminal: u32,
+        place: u32,
+        depth: u64,
+    ) -> Result<Verdict, Stop>
+        requires place { place ≤ length (text_of self.now) }
+        requires few { terminal + terminals (form_of part.now) ≤ most_parts }
+        ensures tells { (span : Extent) → Tells (table_in self.now depth (And (form_of part.now) span) terminal place)
+            (seen_in found.old) result (seen_in found.new) }
+        ensures within { IfOk result (EndsWithin place (length (text_of self.now))) }
+    {
+        let from = found.rows.len();
+        match self.expression(found, part, terminal, place, depth) {
+            Err(stop) => Err(stop),
+            Ok(Verdict::Failed) => Ok(Verdict::Failed),
+            Ok(Verdict::Matched { .. }) => {
+                found.rows.truncate(from);
+                Ok(Verdict::Matched { end: place })
+            }
+        }
+    }
+
+    /// Nothing, where the part fails; what it left is dropped.
+    #[cycle(plain)]
+    fn not(
+        &self,
+        found: &mut Found,
+        part: &Expr,
+        terminal: u32,
+        place: u32,
+        depth: u64,
+    ) -> Result<Verdict, Stop>
+        requires place { place ≤ length (text_of self.now) }
+        requires few { terminal + terminals (form_of part.now) ≤ most_parts }
+        ensures tells { (span : Extent) → Tells (table_in self.now depth (Not (form_of part.now) span) terminal place)
+            (seen_in found.old) result (seen_in found.new) }
+        ensures within { IfOk result (EndsWithin place (length (text_of self.now))) }
+    {
+        let from = found.rows.len();
+        match self.expression(found, part, terminal, place, depth) {
+            Err(stop) => Err(stop),
+            Ok(Verdict::Failed) => Ok(Verdict::Matched { end: place }),
+            Ok(Verdict::Matched { .. }) => {
+                found.rows.truncate(from);
+                Ok(Verdict::Failed)
+            }
+        }
+    }
+
+    /// What a name means: its rule's expression at the place, as one tree.
+    #[cycle(plain)]
+    fn name(&self, found: &mut Found, name: &str, place: u32, depth: u64) -> Result<Verdict, Stop>
+        requires { place ≤ length (text_of self.now) }
+        ensures tells { (span : Extent) (terminal : ℕ) → Tells (table_in self.now depth (Name name.now span) terminal place)
+            (seen_in found.old) result (seen_in found.new) }
+        ensures within { IfOk result (EndsWithin place (length (text_of self.now))) }
+    {
+        match self.grammar.rule_number(name) {
+            None => Err(Stop::Depth),
+            Some(rule) => self.rule(found, rule, place, depth),
+        }
+    }
+
+    /// A rule's expression at a place; where it matches, its node stands before those of its parts.
+    #[cycle(plain)]
+    fn rule(&self, found: &mut Found, rule: u32, place: u32, depth: u64) -> Result<Verdict, Stop>
+        requires place { place ≤ length (text_of self.now) }
+        requires rule { rule < length (rules_in self.now.grammar.now) }
+        ensures tells { Tells (used_in self.now depth rule place) (seen_in found.old) result (seen_in found.new) }
+        ensures within { IfOk result (EndsWithin place (length (text_of self.now))) }
+    {
+        let from = found.rows.len();
+        let span = Span::new(place, place);
+        let size = 1;
+        found.rows.push(TreeNode { rule, span, size })?;
+        let terminal = self.first[rule as usize];
+        match self.expression(found, self.grammar.body(rule), terminal, place, depth) {
+            Err(stop) => Err(stop),
+            Ok(Verdict::Failed) => {
+                found.rows.truncate(from);
+                Ok(Verdict::Failed)
+            }
+            Ok(Verdict::Matched { end }) => {
+                let size = (found.rows.len() - from) as u64;
+                let span = Span::new(place, end);
+                found.rows[from] = TreeNode { rule, span, size };
+                Ok(Verdict::Matched { end })
+            }
+        }
+    }
+
+    /// What the use of a rule at the text's front makes of it.
+    fn start(&self, found: &mut Found, rule: u32, depth: u64) -> Result<Verdict, Stop>
+        requires { rule < length (rules_in self.now.grammar.now) }
+        ensures { Tells (start_record (rules_in self.now.grammar.now) (text_of self.now) depth
+            (name_of (rules_in self.now.grammar.now) rule)) (seen_in found.old) result (seen_in found.new) }
+    {
+        if depth == 0 {
+            return Err(Stop::Depth);
+        }
+        self.name(found, self.grammar.rule_name(rule), 0, depth - 1)
+    }
+}
+
+// The outcome of a verdict, and of what was found on the way to it.
+fn outcome_of(verdict: Verdict, found: Found) -> Outcome
+    requires { Leaves verdict (map row_of found.rows.items) }
+    ensures far { result.far ≡ found.furthest.far }
+    ensures expected { result.expected.items ≡ found.furthest.expected.items }
+    ensures parsed { IsParsed verdict (map row_of found.rows.items) result.result }
+{
+    let Found { furthest, rows } = found;
+    let Furthest { far, expected } = furthest;
+    let result = match verdict {
+        Verdict::Failed => Parsed::Failed,
+        Verdict::Matched { end } => Parsed::Matched {
+            end,
+            tree: Tree::from_rows(rows),
+        },
+    };
+    Outcome {
+        result,
+        far,
+        expected,
     }
 }

@@ -27,11 +27,16 @@ fn expression_weight(expression: &Expr) -> u64
 {
     let parts = match expression {
         Expr::Literal { bytes, .. } => bytes.len() as u64,
-        Expr::Name { .. } => 0,
+        Expr::Class { .. } | Expr::Any { .. } | Expr::Name { .. } => 0,
         Expr::Seq { items, .. } => items_weight(items),
         Expr::Choice { first, rest, .. } => {
             expression_weight(first).saturating_add(items_weight(rest))
         }
+        Expr::Optional { part, .. }
+        | Expr::Star { part, .. }
+        | Expr::Plus { part, .. }
+        | Expr::And { part, .. }
+        | Expr::Not { part, .. } => expression_weight(part),
     };
     parts.saturating_add(1)
 }

@@ -1,88 +1,292 @@
-use Rattle.std.proofs.Common.{map, length, drop, refl, sym, ap, ◌∙◌, subst, Some}
+use Rattle.std.proofs.Common.{rules, ◌+◌, ◌-◌, map, length, drop, append_assoc, refl, sym, ap, ◌∙◌, subst, Ok, arith, option_map, option_and_then, slice_get, ◌++◌, get_or}
+use Rattle.std.specs.Vec.{with_item}
 use Rattle.peg_bytes.specs.Extent.{extent}
-use Rattle.peg_grammar.specs.Form.{Name, forms}
+use Rattle.peg_tree.specs.Rows.{row_of, rows_of}
+use Rattle.peg_tree.specs.declared.row.TreeNode.{TreeNode}
+use Rattle.peg_grammar.specs.Form as form
+use Rattle.peg_grammar.specs.Form.{Form, forms, terminals, terminals_of_all, Then}
+use Rattle.peg_grammar.specs.Found.{seen_in}
 use Rattle.peg_grammar.specs.GrammarRules.{rules_in}
 use Rattle.peg_grammar.specs.Plain.{text_of, taken_in, table_in}
+use Rattle.peg_grammar.specs.Record.{take_first, as_use}
 use Rattle.peg_grammar.specs.Rules.{meant}
-use Rattle.peg_grammar.specs.Verdict.{verdict_in, EndsWithin}
+use Rattle.peg_grammar.specs.Seen.{Tells, EndsWithin, trees_left}
 use Rattle.peg_grammar.specs.Written.{form_of}
-use Rattle.peg_grammar.proofs.PlainLemmas.{SameChoice, take_first-none, record_in-positive, record_in-none, name-verdict, no_name-verdict, items-next, items-failed, items-none, items-end, choice-first, choice-matched, choice-next, choice-none, choice-end}
-use Rattle.peg_grammar.proofs.RulesLemmas.{body_of-position, body_of-no_position, position-within}
-use Rattle.peg_grammar.proofs.WrittenForms.{form_of-Name}
+use Rattle.peg_grammar.specs.declared.found.Verdict.TheVariants.{Matched, Failed}
+use Rattle.peg_grammar.proofs.LoopLemmas.{ItemsSoFar, FailedSoFar, forms-drop, forms-drop_all, items-start, items-matched, items-failed, items-stopped, items-end, choice-first_failed, choice-first_matched, choice-first_stopped, choice-next_failed, choice-next_matched, choice-next_stopped}
+use Rattle.peg_grammar.proofs.RulesLemmas.{meant-position, meant-no_position, named-used, length-first_from, first_from-within, terminals_of-weight}
+use Rattle.peg_grammar.proofs.SeenLemmas.{and-matched, not-matched, not-failed, optional-failed, record_in-none, record_in-positive}
+use Rattle.peg_grammar.proofs.StepLemmas.{cut_back, rounds-failed, rounds-tells, then-tells, star-matches, used-is, rule-failed, rule-matched}
+use Rattle.peg_grammar.proofs.WrittenForms.{form_of-Name, form_of-Seq, form_of-Choice, form_of-Optional, form_of-Plus, form_of-And, form_of-Not}
 use Rattle.peg_grammar.proofs.plain.Plain.+plain.Goals as goal
 
-pub expression-returns-then-depth-eq0-clause-value : goal.expression-returns-then-depth-eq0-clause-value
-expression-returns-then-depth-eq0-clause-value t c terminal =
-    ap verdict_in (record_in-none (rules_in c.args.self.now.grammar.now) (text_of c.args.self.now) c.args.depth (form_of c.args.expr.now) terminal c.args.place c.if-depth-eq0.true)
+-- ---- one level down
 
-pub expression-returns-clause-value : goal.expression-returns-clause-value
-expression-returns-clause-value t c terminal =
-    ap verdict_in (record_in-positive (rules_in c.args.self.now.grammar.now) (text_of c.args.self.now) c.args.depth (form_of c.args.expr.now) terminal c.args.place c.if-depth-eq0.false) ∙ c.case.ensures.value terminal
+pub expression-returns-then-depth-eq0-clause-tells : goal.expression-returns-then-depth-eq0-clause-tells
+expression-returns-then-depth-eq0-clause-tells t c =
+    record_in-none (rules_in c.args.self.now.grammar.now) (text_of c.args.self.now) c.args.depth (form_of c.args.expr.now) c.args.terminal c.args.place c.if-depth-eq0.true
 
-pub choice-returns-in_err-verdict-clause-value : goal.choice-returns-in_err-verdict-clause-value
-choice-returns-in_err-verdict-clause-value t c terminal =
-    take_first-none (taken_in c.args.self.now c.args.depth) (form_of c.args.first.now) (forms (map form_of c.args.rest.now)) terminal c.args.place (c.in_err-verdict.ensures.value terminal) ∙ sym c.from_residual.ensures
+pub expression-returns-clause-tells : goal.expression-returns-clause-tells
+expression-returns-clause-tells t c =
+    subst (λ o. Tells o (seen_in c.args.found.now) c.case.result (seen_in c.case.new.found)) (sym (record_in-positive (rules_in c.args.self.now.grammar.now) (text_of c.args.self.now) c.args.depth (form_of c.args.expr.now) c.args.terminal c.args.place c.if-depth-eq0.false)) c.case.ensures.tells
+
+pub star-returns-then-depth-eq0-clause-tells : goal.star-returns-then-depth-eq0-clause-tells
+star-returns-then-depth-eq0-clause-tells t c span =
+    record_in-none (rules_in c.args.self.now.grammar.now) (text_of c.args.self.now) c.args.depth (form.Star (form_of c.args.part.now) span) c.args.terminal c.args.place c.if-depth-eq0.true
+
+pub star-returns-clause-tells : goal.star-returns-clause-tells
+star-returns-clause-tells t c span =
+    subst (λ o. Tells o (seen_in c.args.found.now) c.rounds.result (seen_in c.rounds.new.found)) (sym (record_in-positive (rules_in c.args.self.now.grammar.now) (text_of c.args.self.now) c.args.depth (form.Star (form_of c.args.part.now) span) c.args.terminal c.args.place c.if-depth-eq0.false)) (c.rounds.ensures.tells span)
+
+-- ---- the table's cases
+
+pub case-returns-in-Name-clause-tells : goal.case-returns-in-Name-clause-tells
+case-returns-in-Name-clause-tells t c =
+    let same = ap form_of c.in-Name.is ∙ (form_of-Name c.in-Name.name c.in-Name.span ∙ ap (λ n. form.Name n (extent c.in-Name.span)) (sym c.as_str.ensures.value)) in
+    subst (λ e. Tells (table_in c.args.self.now c.args.depth e c.args.terminal c.args.place) (seen_in c.args.found.now) c.name.result (seen_in c.name.new.found)) (sym same) (c.name.ensures.tells (extent c.in-Name.span) c.args.terminal)
+
+pub case-returns-in-Seq-clause-tells : goal.case-returns-in-Seq-clause-tells
+case-returns-in-Seq-clause-tells t c =
+    let same = ap form_of c.in-Seq.is ∙ (form_of-Seq c.in-Seq.items c.in-Seq.span ∙ ap (λ l. form.Seq (forms (map form_of l)) (extent c.in-Seq.span)) (sym c.deref-in-Seq.ensures.value)) in
+    subst (λ e. Tells (table_in c.args.self.now c.args.depth e c.args.terminal c.args.place) (seen_in c.args.found.now) c.items.result (seen_in c.items.new.found)) (sym same) (c.items.ensures.tells (extent c.in-Seq.span))
+
+pub case-returns-in-Choice-clause-tells : goal.case-returns-in-Choice-clause-tells
+case-returns-in-Choice-clause-tells t c =
+    let same = ap form_of c.in-Choice.is ∙ (form_of-Choice c.in-Choice.first c.in-Choice.rest c.in-Choice.span ∙ sym (λ i. form.Choice (form_of (c.deref-in-Choice.ensures i)) (forms (map form_of (c.deref-in-Choice-2.ensures.value i))) (extent c.in-Choice.span))) in
+    subst (λ e. Tells (table_in c.args.self.now c.args.depth e c.args.terminal c.args.place) (seen_in c.args.found.now) c.choice.result (seen_in c.choice.new.found)) (sym same) (c.choice.ensures.tells (extent c.in-Choice.span))
+
+pub case-returns-in-Optional-clause-tells : goal.case-returns-in-Optional-clause-tells
+case-returns-in-Optional-clause-tells t c =
+    let same = ap form_of c.in-Optional.is ∙ (form_of-Optional c.in-Optional.part c.in-Optional.span ∙ ap (λ e. form.Optional (form_of e) (extent c.in-Optional.span)) (sym c.deref-in-Optional.ensures)) in
+    subst (λ e. Tells (table_in c.args.self.now c.args.depth e c.args.terminal c.args.place) (seen_in c.args.found.now) c.optional.result (seen_in c.optional.new.found)) (sym same) (c.optional.ensures.tells (extent c.in-Optional.span))
+
+pub case-returns-in-Plus-clause-tells : goal.case-returns-in-Plus-clause-tells
+case-returns-in-Plus-clause-tells t c =
+    let same = ap form_of c.in-Plus.is ∙ (form_of-Plus c.in-Plus.part c.in-Plus.span ∙ ap (λ e. form.Plus (form_of e) (extent c.in-Plus.span)) (sym c.deref-in-Plus.ensures)) in
+    subst (λ e. Tells (table_in c.args.self.now c.args.depth e c.args.terminal c.args.place) (seen_in c.args.found.now) c.plus.result (seen_in c.plus.new.found)) (sym same) (c.plus.ensures.tells (extent c.in-Plus.span))
+
+pub case-returns-in-And-clause-tells : goal.case-returns-in-And-clause-tells
+case-returns-in-And-clause-tells t c =
+    let same = ap form_of c.in-And.is ∙ (form_of-And c.in-And.part c.in-And.span ∙ ap (λ e. form.And (form_of e) (extent c.in-And.span)) (sym c.deref-in-And.ensures)) in
+    subst (λ e. Tells (table_in c.args.self.now c.args.depth e c.args.terminal c.args.place) (seen_in c.args.found.now) c.and.result (seen_in c.and.new.found)) (sym same) (c.and.ensures.tells (extent c.in-And.span))
+
+pub case-returns-in-Not-clause-tells : goal.case-returns-in-Not-clause-tells
+case-returns-in-Not-clause-tells t c =
+    let same = ap form_of c.in-Not.is ∙ (form_of-Not c.in-Not.part c.in-Not.span ∙ ap (λ e. form.Not (form_of e) (extent c.in-Not.span)) (sym c.deref-in-Not.ensures)) in
+    subst (λ e. Tells (table_in c.args.self.now c.args.depth e c.args.terminal c.args.place) (seen_in c.args.found.now) c.not.result (seen_in c.not.new.found)) (sym same) (c.not.ensures.tells (extent c.in-Not.span))
+
+-- ---- signs
+
+pub optional-returns-in-Ok-Failed-clause-tells : goal.optional-returns-in-Ok-Failed-clause-tells
+optional-returns-in-Ok-Failed-clause-tells t c span =
+    optional-failed (taken_in c.args.self.now c.args.depth (form_of c.args.part.now) c.args.terminal c.args.place) c.args.place (seen_in c.args.found.now) (seen_in c.expression.new.found) (subst (λ v. Tells (taken_in c.args.self.now c.args.depth (form_of c.args.part.now) c.args.terminal c.args.place) (seen_in c.args.found.now) (Ok v) (seen_in c.expression.new.found)) c.in-Ok-Failed.field-0-is c.in-Ok-Failed.ensures.tells)
+
+pub rounds-returns-in-Ok-Failed-clause-tells : goal.rounds-returns-in-Ok-Failed-clause-tells
+rounds-returns-in-Ok-Failed-clause-tells t c span =
+    rounds-failed (taken_in c.args.self.now c.args.depth (form_of c.args.part.now) c.args.terminal c.args.place) c.args.place (λ end. taken_in c.args.self.now c.args.depth (form.Star (form_of c.args.part.now) span) c.args.terminal end) (seen_in c.args.found.now) (seen_in c.expression.new.found) (subst (λ v. Tells (taken_in c.args.self.now c.args.depth (form_of c.args.part.now) c.args.terminal c.args.place) (seen_in c.args.found.now) (Ok v) (seen_in c.expression.new.found)) c.in-Ok-Failed.field-0-is c.in-Ok-Failed.ensures.tells)
+
+pub rounds-returns-in-Ok-Matched-clause-tells : goal.rounds-returns-in-Ok-Matched-clause-tells
+rounds-returns-in-Ok-Matched-clause-tells t c span =
+    rounds-tells (taken_in c.args.self.now c.args.depth (form_of c.args.part.now) c.args.terminal c.args.place) c.args.place (λ end. taken_in c.args.self.now c.args.depth (form.Star (form_of c.args.part.now) span) c.args.terminal end) c.in-Ok-Matched.end (seen_in c.args.found.now) (seen_in c.expression.new.found) (seen_in c.star.new.found) c.star.result (star-matches (rules_in c.args.self.now.grammar.now) (text_of c.args.self.now) c.args.depth (form_of c.args.part.now) span c.args.terminal c.in-Ok-Matched.end) (subst (λ v. Tells (taken_in c.args.self.now c.args.depth (form_of c.args.part.now) c.args.terminal c.args.place) (seen_in c.args.found.now) (Ok v) (seen_in c.expression.new.found)) c.in-Ok-Matched.field-0-is c.in-Ok-Matched.ensures.tells) (c.star.ensures.tells span)
+
+pub plus-returns-in-Ok-Matched-clause-tells : goal.plus-returns-in-Ok-Matched-clause-tells
+plus-returns-in-Ok-Matched-clause-tells t c span =
+    then-tells (taken_in c.args.self.now c.args.depth (form_of c.args.part.now) c.args.terminal c.args.place) (λ end. taken_in c.args.self.now c.args.depth (form.Star (form_of c.args.part.now) span) c.args.terminal end) c.in-Ok-Matched.end (seen_in c.args.found.now) (seen_in c.expression.new.found) (seen_in c.star.new.found) c.star.result (star-matches (rules_in c.args.self.now.grammar.now) (text_of c.args.self.now) c.args.depth (form_of c.args.part.now) span c.args.terminal c.in-Ok-Matched.end) (subst (λ v. Tells (taken_in c.args.self.now c.args.depth (form_of c.args.part.now) c.args.terminal c.args.place) (seen_in c.args.found.now) (Ok v) (seen_in c.expression.new.found)) c.in-Ok-Matched.field-0-is c.in-Ok-Matched.ensures.tells) (c.star.ensures.tells span)
+
+pub and-returns-in-Ok-Matched-clause-tells : goal.and-returns-in-Ok-Matched-clause-tells
+and-returns-in-Ok-Matched-clause-tells t c span =
+    let h = subst (λ v. Tells (taken_in c.args.self.now c.args.depth (form_of c.args.part.now) c.args.terminal c.args.place) (seen_in c.args.found.now) (Ok v) (seen_in c.expression.new.found)) c.in-Ok-Matched.field-0-is c.in-Ok-Matched.ensures.tells in
+    and-matched (taken_in c.args.self.now c.args.depth (form_of c.args.part.now) c.args.terminal c.args.place) c.args.place c.in-Ok-Matched.field-0-0 (seen_in c.args.found.now) (seen_in c.expression.new.found) (seen_in (record { furthest = c.expression.new.found.furthest; rows = c.truncate.new.self })) (cut_back c.args.found.now c.expression.new.found c.truncate.new.self c.len-from.result (rows_of (trees_left h.0.result)) (c.len-from.ensures ∙ c.args.found.now.rows.ok.0) c.truncate.ensures.items (λ i. (h.3 i).rows)) h
+
+pub not-returns-in-Ok-Failed-clause-tells : goal.not-returns-in-Ok-Failed-clause-tells
+not-returns-in-Ok-Failed-clause-tells t c span =
+    not-failed (taken_in c.args.self.now c.args.depth (form_of c.args.part.now) c.args.terminal c.args.place) c.args.place (seen_in c.args.found.now) (seen_in c.expression.new.found) (subst (λ v. Tells (taken_in c.args.self.now c.args.depth (form_of c.args.part.now) c.args.terminal c.args.place) (seen_in c.args.found.now) (Ok v) (seen_in c.expression.new.found)) c.in-Ok-Failed.field-0-is c.in-Ok-Failed.ensures.tells)
+
+pub not-returns-in-Ok-Matched-clause-tells : goal.not-returns-in-Ok-Matched-clause-tells
+not-returns-in-Ok-Matched-clause-tells t c span =
+    let h = subst (λ v. Tells (taken_in c.args.self.now c.args.depth (form_of c.args.part.now) c.args.terminal c.args.place) (seen_in c.args.found.now) (Ok v) (seen_in c.expression.new.found)) c.in-Ok-Matched.field-0-is c.in-Ok-Matched.ensures.tells in
+    not-matched (taken_in c.args.self.now c.args.depth (form_of c.args.part.now) c.args.terminal c.args.place) c.args.place c.in-Ok-Matched.field-0-0 (seen_in c.args.found.now) (seen_in c.expression.new.found) (seen_in (record { furthest = c.expression.new.found.furthest; rows = c.truncate.new.self })) (cut_back c.args.found.now c.expression.new.found c.truncate.new.self c.len-from.result (rows_of (trees_left h.0.result)) (c.len-from.ensures ∙ c.args.found.now.rows.ok.0) c.truncate.ensures.items (λ i. (h.3 i).rows)) h
+
+-- ---- names and rules
+
+pub name-returns-in-None-clause-tells : goal.name-returns-in-None-clause-tells
+name-returns-in-None-clause-tells t c span terminal =
+    ap (option_and_then (λ m. option_map (as_use m.rule c.args.place) (taken_in c.args.self.now c.args.depth m.body m.terminal c.args.place))) (meant-no_position (rules_in c.args.self.now.grammar.now) c.args.name.now (sym c.in-None.ensures))
+
+pub name-returns-in-Some-clause-tells : goal.name-returns-in-Some-clause-tells
+name-returns-in-Some-clause-tells t c span terminal =
+    let same = named-used (taken_in c.args.self.now c.args.depth) c.args.place c.in-Some.rule (rules_in c.args.self.now.grammar.now) (meant (rules_in c.args.self.now.grammar.now) c.args.name.now) (meant-position (rules_in c.args.self.now.grammar.now) c.args.name.now c.in-Some.rule (sym c.in-Some.ensures)) ∙ ap (λ l. option_and_then (λ r. option_map (as_use c.in-Some.rule c.args.place) (taken_in c.args.self.now c.args.depth r.body (get_or l c.in-Some.rule 0) c.args.place)) (slice_get (rules_in c.args.self.now.grammar.now) c.in-Some.rule)) (sym c.args.self.now.numbered) in
+    subst (λ o. Tells o (seen_in c.args.found.now) c.rule.result (seen_in c.rule.new.found)) (sym same) c.rule.ensures.tells
+
+-- ---- alternatives
+
+pub choice-returns-in-Err-clause-tells : goal.choice-returns-in-Err-clause-tells
+choice-returns-in-Err-clause-tells t c span =
+    choice-first_stopped (taken_in c.args.self.now c.args.depth) (form_of c.args.first.now) (forms (map form_of c.args.rest.now)) c.args.terminal c.args.place (seen_in c.args.found.now) (seen_in c.expression.new.found) c.in-Err.stop c.in-Err.ensures.tells
+
+pub choice-returns-in-Ok-Matched-clause-tells : goal.choice-returns-in-Ok-Matched-clause-tells
+choice-returns-in-Ok-Matched-clause-tells t c span =
+    choice-first_matched (taken_in c.args.self.now c.args.depth) (form_of c.args.first.now) (forms (map form_of c.args.rest.now)) c.args.terminal c.args.place (seen_in c.args.found.now) (seen_in c.expression.new.found) c.in-Ok-Matched.end
+    (subst (λ v. Tells (taken_in c.args.self.now c.args.depth (form_of c.args.first.now) c.args.terminal c.args.place) (seen_in c.args.found.now) (Ok v) (seen_in c.expression.new.found)) c.in-Ok-Matched.field-0-is c.in-Ok-Matched.ensures.tells)
 
 pub choice-loop-next-init : goal.choice-loop-next-init
 choice-loop-next-init t c = record {
-  within = c.in_ok-verdict.ensures.within;
-  same = choice-first (taken_in c.args.self.now c.args.depth) (form_of c.args.first.now) (forms (map form_of c.args.rest.now)) c.args.place c.in_ok-verdict.verdict c.in_ok-verdict.ensures.value;
+  few = omega (arith, c.requires.few, c.count_of.ensures);
+  so_far = subst (λ n. FailedSoFar (take_first (taken_in c.args.self.now c.args.depth) (form_of c.args.first.now) (forms (map form_of c.args.rest.now)) c.args.terminal c.args.place) (taken_in c.args.self.now c.args.depth) c.args.place (seen_in c.args.found.now) (forms (map form_of c.args.rest.now)) (c.args.terminal + n) (seen_in c.expression.new.found)) (sym c.count_of.ensures)
+      (choice-first_failed (taken_in c.args.self.now c.args.depth) (form_of c.args.first.now) (forms (map form_of c.args.rest.now)) c.args.terminal c.args.place (seen_in c.args.found.now) (seen_in c.expression.new.found)
+      (subst (λ v. Tells (taken_in c.args.self.now c.args.depth (form_of c.args.first.now) c.args.terminal c.args.place) (seen_in c.args.found.now) (Ok v) (seen_in c.expression.new.found)) c.in-Ok-Failed.field-0-is c.in-Ok-Failed.ensures.tells));
 }
 
-pub choice-returns-in-Matched-clause-value : goal.choice-returns-in-Matched-clause-value
-choice-returns-in-Matched-clause-value t c terminal =
-    choice-matched (taken_in c.args.self.now c.args.depth) (form_of c.args.first.now) (forms (map form_of c.args.rest.now)) c.args.place c.loop-next.verdict (forms (drop c.loop-next.next-index (map form_of c.args.rest.now))) c.in-Matched.end c.loop-next.invariant.same c.in-Matched.is terminal
+pub choice-expression-requires-in-loop-next : goal.choice-expression-requires-in-loop-next
+choice-expression-requires-in-loop-next t c =
+    let split = ap terminals_of_all (forms-drop form_of c.args.rest.now c.loop-next.next-index c.next-item.result c.loop-next-test.true c.next-item.is) in
+    (search rules, (c.requires.place, omega (arith, c.loop-next.invariant.few, split)))
 
-pub choice-returns-in_err-verdict-in-Failed-clause-value : goal.choice-returns-in_err-verdict-in-Failed-clause-value
-choice-returns-in_err-verdict-in-Failed-clause-value t c terminal =
-    let same = subst (λ v. SameChoice (taken_in c.args.self.now c.args.depth) (form_of c.args.first.now) (forms (map form_of c.args.rest.now)) c.args.place v (forms (drop c.loop-next.next-index (map form_of c.args.rest.now)))) c.in-Failed.is c.loop-next.invariant.same in
-    choice-none (taken_in c.args.self.now c.args.depth) form_of c.args.rest.now (form_of c.args.first.now) (forms (map form_of c.args.rest.now)) c.args.place c.loop-next.next-index c.next-item.result same c.loop-next-test.true c.next-item.is c.in_err-verdict-in-Failed.ensures.value terminal ∙ sym c.from_residual-in_err-verdict-in-Failed.ensures
+pub choice-count_of-terminal-requires : goal.choice-count_of-terminal-requires
+choice-count_of-terminal-requires t c =
+    let split = ap terminals_of_all (forms-drop form_of c.args.rest.now c.loop-next.next-index c.next-item.result c.loop-next-test.true c.next-item.is) in
+    omega (arith, c.loop-next.invariant.few, split)
+
+pub choice-overflow_add-terminal-in-Ok-Failed-expression : goal.choice-overflow_add-terminal-in-Ok-Failed-expression
+choice-overflow_add-terminal-in-Ok-Failed-expression t c =
+    let split = ap terminals_of_all (forms-drop form_of c.args.rest.now c.loop-next.next-index c.next-item.result c.loop-next-test.true c.next-item.is) in
+    omega (arith, c.loop-next.invariant.few, split, c.count_of-terminal.ensures)
+
+pub choice-returns-in-Err-expression-clause-tells : goal.choice-returns-in-Err-expression-clause-tells
+choice-returns-in-Err-expression-clause-tells t c span =
+    let taken = taken_in c.args.self.now c.args.depth in
+    let start = seen_in c.args.found.now in
+    let whole = take_first taken (form_of c.args.first.now) (forms (map form_of c.args.rest.now)) c.args.terminal c.args.place in
+    let so_far = subst (λ l. FailedSoFar whole taken c.args.place start l c.loop-next.terminal (seen_in c.loop-next.found)) (forms-drop form_of c.args.rest.now c.loop-next.next-index c.next-item.result c.loop-next-test.true c.next-item.is) c.loop-next.invariant.so_far in
+    choice-next_stopped whole taken (form_of c.next-item.result) (forms (drop (c.loop-next.next-index + 1) (map form_of c.args.rest.now))) c.loop-next.terminal c.args.place start (seen_in c.loop-next.found) (seen_in c.expression-in-loop-next.new.found) so_far c.in-Err-expression.stop c.in-Err-expression.ensures.tells
+
+pub choice-returns-in-Ok-Matched-expression-clause-tells : goal.choice-returns-in-Ok-Matched-expression-clause-tells
+choice-returns-in-Ok-Matched-expression-clause-tells t c span =
+    let taken = taken_in c.args.self.now c.args.depth in
+    let start = seen_in c.args.found.now in
+    let whole = take_first taken (form_of c.args.first.now) (forms (map form_of c.args.rest.now)) c.args.terminal c.args.place in
+    let so_far = subst (λ l. FailedSoFar whole taken c.args.place start l c.loop-next.terminal (seen_in c.loop-next.found)) (forms-drop form_of c.args.rest.now c.loop-next.next-index c.next-item.result c.loop-next-test.true c.next-item.is) c.loop-next.invariant.so_far in
+    choice-next_matched whole taken (form_of c.next-item.result) (forms (drop (c.loop-next.next-index + 1) (map form_of c.args.rest.now))) c.loop-next.terminal c.args.place start (seen_in c.loop-next.found) (seen_in c.expression-in-loop-next.new.found) so_far c.in-Ok-Matched-expression.end
+    (subst (λ v. Tells (taken (form_of c.next-item.result) c.loop-next.terminal c.args.place) (seen_in c.loop-next.found) (Ok v) (seen_in c.expression-in-loop-next.new.found)) c.in-Ok-Matched-expression.field-0-is c.in-Ok-Matched-expression.ensures.tells)
 
 pub choice-loop-next-preserved : goal.choice-loop-next-preserved
 choice-loop-next-preserved t c =
-    let same = subst (λ v. SameChoice (taken_in c.args.self.now c.args.depth) (form_of c.args.first.now) (forms (map form_of c.args.rest.now)) c.args.place v (forms (drop c.loop-next.next-index (map form_of c.args.rest.now)))) c.in-Failed.is c.loop-next.invariant.same in
+    let taken = taken_in c.args.self.now c.args.depth in
+    let start = seen_in c.args.found.now in
+    let whole = take_first taken (form_of c.args.first.now) (forms (map form_of c.args.rest.now)) c.args.terminal c.args.place in
+    let split = forms-drop form_of c.args.rest.now c.loop-next.next-index c.next-item.result c.loop-next-test.true c.next-item.is in
+    let rest = forms (drop (c.loop-next.next-index + 1) (map form_of c.args.rest.now)) in
+    let so_far = subst (λ l. FailedSoFar whole taken c.args.place start l c.loop-next.terminal (seen_in c.loop-next.found)) split c.loop-next.invariant.so_far in
     record {
-      within = c.in_ok-verdict-in-Failed.ensures.within;
-      same = choice-next (taken_in c.args.self.now c.args.depth) form_of c.args.rest.now (form_of c.args.first.now) (forms (map form_of c.args.rest.now)) c.args.place c.loop-next.next-index c.next-item.result c.in_ok-verdict-in-Failed.verdict same c.loop-next-test.true c.next-item.is c.in_ok-verdict-in-Failed.ensures.value;
+      few = (let counted = ap terminals_of_all split in omega (arith, c.loop-next.invariant.few, counted, c.count_of-terminal.ensures));
+      so_far = subst (λ n. FailedSoFar whole taken c.args.place start rest (c.loop-next.terminal + n) (seen_in c.expression-in-loop-next.new.found)) (sym c.count_of-terminal.ensures)
+          (choice-next_failed whole taken (form_of c.next-item.result) rest c.loop-next.terminal c.args.place start (seen_in c.loop-next.found) (seen_in c.expression-in-loop-next.new.found) so_far
+          (subst (λ v. Tells (taken (form_of c.next-item.result) c.loop-next.terminal c.args.place) (seen_in c.loop-next.found) (Ok v) (seen_in c.expression-in-loop-next.new.found)) c.in-Ok-Failed-expression.field-0-is c.in-Ok-Failed-expression.ensures.tells));
     }
 
-pub choice-returns-clause-value : goal.choice-returns-clause-value
-choice-returns-clause-value t c =
-    choice-end (taken_in c.args.self.now c.args.depth) form_of c.args.rest.now (form_of c.args.first.now) (forms (map form_of c.args.rest.now)) c.args.place c.loop-next.next-index c.loop-next.verdict c.loop-next.invariant.same c.loop-next-test.false
+-- ---- items
 
 pub items-loop-item-init : goal.items-loop-item-init
-items-loop-item-init t c = record { within = c.requires; same = λ terminal. (terminal, refl) }
-
-pub items-returns-in_err-expression-clause-value : goal.items-returns-in_err-expression-clause-value
-items-returns-in_err-expression-clause-value t c terminal =
-    items-none (taken_in c.args.self.now c.args.depth) form_of c.args.items.now (forms (map form_of c.args.items.now)) c.args.place c.loop-item.item-index c.loop-item.at c.item-item.result c.loop-item.invariant.same c.loop-item-test.true c.item-item.is c.in_err-expression.ensures.value terminal ∙ sym c.from_residual.ensures
-
-pub items-returns-in-Failed-clause-value : goal.items-returns-in-Failed-clause-value
-items-returns-in-Failed-clause-value t c =
-    items-failed (taken_in c.args.self.now c.args.depth) form_of c.args.items.now (forms (map form_of c.args.items.now)) c.args.place c.loop-item.item-index c.loop-item.at c.item-item.result c.loop-item.invariant.same c.loop-item-test.true c.item-item.is (λ terminal. c.in_ok-expression.ensures.value terminal ∙ ap Some c.in-Failed.is)
-
-pub items-loop-item-preserved : goal.items-loop-item-preserved
-items-loop-item-preserved t c = record {
-  within = subst (EndsWithin (length (text_of c.args.self.now))) c.in-Matched.is c.in_ok-expression.ensures.within;
-  same = items-next (taken_in c.args.self.now c.args.depth) form_of c.args.items.now (forms (map form_of c.args.items.now)) c.args.place c.loop-item.item-index c.loop-item.at c.item-item.result c.in-Matched.end c.loop-item.invariant.same c.loop-item-test.true c.item-item.is (λ terminal. c.in_ok-expression.ensures.value terminal ∙ ap Some c.in-Matched.is);
+items-loop-item-init t c = record {
+  after = search rules;
+  within = c.requires.place;
+  few = c.requires.few;
+  from = c.len-from.ensures ∙ c.args.found.now.rows.ok.0;
+  so_far = items-start (taken_in c.args.self.now c.args.depth) (forms (map form_of c.args.items.now)) c.args.terminal c.args.place (seen_in c.args.found.now);
 }
 
-pub items-returns-clause-value : goal.items-returns-clause-value
-items-returns-clause-value t c =
-    items-end (taken_in c.args.self.now c.args.depth) form_of c.args.items.now (forms (map form_of c.args.items.now)) c.args.place c.loop-item.item-index c.loop-item.at c.loop-item.invariant.same c.loop-item-test.false
+pub items-expression-requires : goal.items-expression-requires
+items-expression-requires t c =
+    let split = ap terminals_of_all (forms-drop form_of c.args.items.now c.loop-item.item-index c.item-item.result c.loop-item-test.true c.item-item.is) in
+    (search rules, (c.loop-item.invariant.within, omega (arith, c.loop-item.invariant.few, split)))
 
-pub name-body-requires : goal.name-body-requires
-name-body-requires t c =
-    position-within (rules_in c.args.self.now.grammar.now) c.args.name.now c.in_ok-rule.rule (sym c.in_ok-rule.ensures)
+pub items-count_of-terminal-requires : goal.items-count_of-terminal-requires
+items-count_of-terminal-requires t c =
+    let split = ap terminals_of_all (forms-drop form_of c.args.items.now c.loop-item.item-index c.item-item.result c.loop-item-test.true c.item-item.is) in
+    omega (arith, c.loop-item.invariant.few, split)
 
-pub name-returns-clause-value : goal.name-returns-clause-value
-name-returns-clause-value t c span terminal =
-    name-verdict (taken_in c.args.self.now c.args.depth) c.args.place (meant (rules_in c.args.self.now.grammar.now) c.args.name.now) (form_of c.body.result.now) c.expression.result (body_of-position (rules_in c.args.self.now.grammar.now) c.args.name.now c.in_ok-rule.rule (sym c.in_ok-rule.ensures) ∙ c.body.ensures) c.expression.ensures.value
+pub items-overflow_add-terminal : goal.items-overflow_add-terminal
+items-overflow_add-terminal t c =
+    let split = ap terminals_of_all (forms-drop form_of c.args.items.now c.loop-item.item-index c.item-item.result c.loop-item-test.true c.item-item.is) in
+    omega (arith, c.loop-item.invariant.few, split, c.count_of-terminal.ensures)
 
-pub name-returns-in_err-rule-clause-value : goal.name-returns-in_err-rule-clause-value
-name-returns-in_err-rule-clause-value t c span terminal =
-    no_name-verdict (taken_in c.args.self.now c.args.depth) c.args.place (meant (rules_in c.args.self.now.grammar.now) c.args.name.now) (body_of-no_position (rules_in c.args.self.now.grammar.now) c.args.name.now (sym c.in_err-rule.ensures)) ∙ sym c.from_residual.ensures
+pub items-returns-in-Err-clause-tells : goal.items-returns-in-Err-clause-tells
+items-returns-in-Err-clause-tells t c span =
+    let taken = taken_in c.args.self.now c.args.depth in
+    let all = forms (map form_of c.args.items.now) in
+    let start = seen_in c.args.found.now in
+    let rest = forms (drop (c.loop-item.item-index + 1) (map form_of c.args.items.now)) in
+    let so_far = subst (λ l. ItemsSoFar taken all c.args.terminal c.args.place start l c.loop-item.terminal c.loop-item.at (seen_in c.loop-item.found)) (forms-drop form_of c.args.items.now c.loop-item.item-index c.item-item.result c.loop-item-test.true c.item-item.is) c.loop-item.invariant.so_far in
+    items-stopped taken all c.args.terminal c.args.place start (form_of c.item-item.result) rest c.loop-item.terminal c.loop-item.at (seen_in c.loop-item.found) (seen_in c.expression.new.found) so_far c.in-Err.stop c.in-Err.ensures.tells
 
-pub case-returns-in-Name-clause-value : goal.case-returns-in-Name-clause-value
-case-returns-in-Name-clause-value t c terminal =
-    ap (λ e. verdict_in (table_in c.args.self.now c.args.depth (form_of e) terminal c.args.place)) c.in-Name.is ∙ (ap (λ f. verdict_in (table_in c.args.self.now c.args.depth f terminal c.args.place)) (form_of-Name c.in-Name.name c.in-Name.span) ∙ ap (λ n. verdict_in (table_in c.args.self.now c.args.depth (Name n (extent c.in-Name.span)) terminal c.args.place)) (sym c.as_str.ensures.value) ∙ c.name.ensures.value (extent c.in-Name.span) terminal)
+pub items-returns-in-Ok-Failed-clause-tells : goal.items-returns-in-Ok-Failed-clause-tells
+items-returns-in-Ok-Failed-clause-tells t c span =
+    let taken = taken_in c.args.self.now c.args.depth in
+    let all = forms (map form_of c.args.items.now) in
+    let start = seen_in c.args.found.now in
+    let rest = forms (drop (c.loop-item.item-index + 1) (map form_of c.args.items.now)) in
+    let so_far = subst (λ l. ItemsSoFar taken all c.args.terminal c.args.place start l c.loop-item.terminal c.loop-item.at (seen_in c.loop-item.found)) (forms-drop form_of c.args.items.now c.loop-item.item-index c.item-item.result c.loop-item-test.true c.item-item.is) c.loop-item.invariant.so_far in
+    let h = subst (λ v. Tells (taken (form_of c.item-item.result) c.loop-item.terminal c.loop-item.at) (seen_in c.loop-item.found) (Ok v) (seen_in c.expression.new.found)) c.in-Ok-Failed.field-0-is c.in-Ok-Failed.ensures.tells in
+    let cut = cut_back c.args.found.now c.expression.new.found c.truncate.new.self c.len-from.result (rows_of so_far.trees ++ rows_of (trees_left h.0.result)) c.loop-item.invariant.from c.truncate.ensures.items ((λ i. (h.3 i).rows) ∙ ((λ i. (so_far.noted_now i).rows ++ rows_of (trees_left h.0.result)) ∙ append_assoc (map row_of c.args.found.now.rows.items) (rows_of so_far.trees) (rows_of (trees_left h.0.result)))) in
+    items-failed taken all c.args.terminal c.args.place start (form_of c.item-item.result) rest c.loop-item.terminal c.loop-item.at (seen_in c.loop-item.found) (seen_in c.expression.new.found) so_far (seen_in (record { furthest = c.expression.new.found.furthest; rows = c.truncate.new.self })) cut h
+
+pub items-loop-item-preserved : goal.items-loop-item-preserved
+items-loop-item-preserved t c =
+    let taken = taken_in c.args.self.now c.args.depth in
+    let all = forms (map form_of c.args.items.now) in
+    let start = seen_in c.args.found.now in
+    let rest = forms (drop (c.loop-item.item-index + 1) (map form_of c.args.items.now)) in
+    let split = forms-drop form_of c.args.items.now c.loop-item.item-index c.item-item.result c.loop-item-test.true c.item-item.is in
+    let so_far = subst (λ l. ItemsSoFar taken all c.args.terminal c.args.place start l c.loop-item.terminal c.loop-item.at (seen_in c.loop-item.found)) split c.loop-item.invariant.so_far in
+    let h = subst (λ v. Tells (taken (form_of c.item-item.result) c.loop-item.terminal c.loop-item.at) (seen_in c.loop-item.found) (Ok v) (seen_in c.expression.new.found)) c.in-Ok-Matched.field-0-is c.in-Ok-Matched.ensures.tells in
+    let ends = subst (EndsWithin c.loop-item.at (length (text_of c.args.self.now))) c.in-Ok-Matched.field-0-is c.in-Ok-Matched.ensures.within in
+    record {
+      after = omega (arith, c.loop-item.invariant.after, ends.0);
+      within = ends.1;
+      few = (let counted = ap terminals_of_all split in omega (arith, c.loop-item.invariant.few, counted, c.count_of-terminal.ensures));
+      from = c.loop-item.invariant.from;
+      so_far = subst (λ n. ItemsSoFar taken all c.args.terminal c.args.place start rest (c.loop-item.terminal + n) c.in-Ok-Matched.end (seen_in c.expression.new.found)) (sym c.count_of-terminal.ensures)
+          (items-matched taken all c.args.terminal c.args.place start (form_of c.item-item.result) rest c.loop-item.terminal c.loop-item.at (seen_in c.loop-item.found) (seen_in c.expression.new.found) so_far c.in-Ok-Matched.end h);
+    }
+
+pub items-returns-clause-tells : goal.items-returns-clause-tells
+items-returns-clause-tells t c span =
+    let taken = taken_in c.args.self.now c.args.depth in
+    let all = forms (map form_of c.args.items.now) in
+    let so_far = subst (λ l. ItemsSoFar taken all c.args.terminal c.args.place (seen_in c.args.found.now) l c.loop-item.terminal c.loop-item.at (seen_in c.loop-item.found)) (forms-drop_all form_of c.args.items.now c.loop-item.item-index c.loop-item-test.false) c.loop-item.invariant.so_far in
+    items-end taken all c.args.terminal c.args.place (seen_in c.args.found.now) c.loop-item.terminal c.loop-item.at (seen_in c.loop-item.found) so_far
+
+-- ---- a rule
+
+pub rule-bounds-self-rule : goal.rule-bounds-self-rule
+rule-bounds-self-rule t c =
+    let numbered = ap length c.args.self.now.numbered in
+    omega (arith, c.requires.rule, numbered, length-first_from 0 (rules_in c.args.self.now.grammar.now))
+
+pub rule-expression-requires : goal.rule-expression-requires
+rule-expression-requires t c =
+    let numbered = ap (λ l. get_or l c.args.rule 0) c.args.self.now.numbered in
+    (search rules, (c.requires.place, omega (arith, numbered, first_from-within 0 (rules_in c.args.self.now.grammar.now) c.args.rule (form_of c.body.result.now) c.body.ensures, terminals_of-weight (rules_in c.args.self.now.grammar.now), c.args.self.now.grammar.now.light)))
+
+pub rule-returns-in-Ok-Failed-clause-tells : goal.rule-returns-in-Ok-Failed-clause-tells
+rule-returns-in-Ok-Failed-clause-tells t c =
+    let taken = taken_in c.args.self.now c.args.depth in
+    let first = get_or c.args.self.now.first.now c.args.rule 0 in
+    let tried = taken (form_of c.body.result.now) first c.args.place in
+    let used = used-is taken first c.args.rule c.args.place (slice_get (rules_in c.args.self.now.grammar.now) c.args.rule) (form_of c.body.result.now) c.body.ensures in
+    let pushed : TreeNode = record { rule = c.args.rule; span = c.new-span.result; size = 1 } in
+    let h = subst (λ v. Tells tried (seen_in (record { furthest = c.args.found.now.furthest; rows = c.push.new.self })) (Ok v) (seen_in c.expression.new.found)) c.in-Ok-Failed.field-0-is c.in-Ok-Failed.ensures.tells in
+    subst (λ o. Tells o (seen_in c.args.found.now) (Ok Failed) (seen_in (record { furthest = c.expression.new.found.furthest; rows = c.truncate.new.self }))) (sym used)
+    (rule-failed tried c.args.rule c.args.place c.args.found.now c.expression.new.found c.push.new.self pushed c.in_ok-push.ensures.items c.len-from.result (c.len-from.ensures ∙ c.args.found.now.rows.ok.0) c.truncate.new.self c.truncate.ensures.items h)
+
+pub rule-returns-in-Ok-Matched-clause-tells : goal.rule-returns-in-Ok-Matched-clause-tells
+rule-returns-in-Ok-Matched-clause-tells t c =
+    let taken = taken_in c.args.self.now c.args.depth in
+    let first = get_or c.args.self.now.first.now c.args.rule 0 in
+    let tried = taken (form_of c.body.result.now) first c.args.place in
+    let used = used-is taken first c.args.rule c.args.place (slice_get (rules_in c.args.self.now.grammar.now) c.args.rule) (form_of c.body.result.now) c.body.ensures in
+    let pushed : TreeNode = record { rule = c.args.rule; span = c.new-span.result; size = 1 } in
+    let h = subst (λ v. Tells tried (seen_in (record { furthest = c.args.found.now.furthest; rows = c.push.new.self })) (Ok v) (seen_in c.expression.new.found)) c.in-Ok-Matched.field-0-is c.in-Ok-Matched.ensures.tells in
+    let node : TreeNode = record { rule = c.args.rule; span = c.new-span-in-Ok-Matched.result; size = c.len.result - c.len-from.result } in
+    subst (λ o. Tells o (seen_in c.args.found.now) (Ok (Matched c.in-Ok-Matched.end)) (seen_in (record { furthest = c.expression.new.found.furthest; rows = with_item c.expression.new.found.rows c.len-from.result node }))) (sym used)
+    (rule-matched tried c.args.rule c.args.place c.args.found.now c.expression.new.found c.push.new.self pushed c.in_ok-push.ensures.items c.len-from.result (c.len-from.ensures ∙ c.args.found.now.rows.ok.0) c.in-Ok-Matched.end node (c.len.result - c.len-from.result) (λ i. record { rule = c.args.rule; start = c.new-span-in-Ok-Matched.ensures.start i; end = c.new-span-in-Ok-Matched.ensures.end i; size = c.len.result - c.len-from.result }) (ap (λ n. n - c.len-from.result) (c.len.ensures ∙ c.expression.new.found.rows.ok.0)) (with_item c.expression.new.found.rows c.len-from.result node) refl h)

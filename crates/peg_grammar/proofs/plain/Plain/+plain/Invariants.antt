@@ -1,34 +1,60 @@
-use Rattle.std.proofs.Common.{◌+◌, ◌*◌, ◌≤◌, map, length, drop}
-use Rattle.peg_grammar.specs.Form.{forms}
+use Rattle.std.proofs.Common.{◌≡◌, ◌+◌, ◌*◌, ◌≤◌, map, length, drop}
+use Rattle.peg_grammar.specs.Form.{forms, terminals_of_all}
+use Rattle.peg_grammar.specs.Found.{seen_in}
+use Rattle.peg_grammar.specs.Grammar.{most_parts}
 use Rattle.peg_grammar.specs.Plain.{text_of, taken_in}
-use Rattle.peg_grammar.specs.Verdict.{EndsWithin}
+use Rattle.peg_grammar.specs.Record.{take_first}
 use Rattle.peg_grammar.specs.Written.{form_of}
-use Rattle.peg_grammar.proofs.PlainLemmas.{SameItems, SameChoice}
+use Rattle.peg_grammar.proofs.LoopLemmas.{ItemsSoFar, FailedSoFar}
 use Rattle.peg_grammar.proofs.plain.Plain.+plain.Given as goal
 
 abbrev pub decreases-expression : goal.decreases-expression
-decreases-expression l = 3 * l.depth
+decreases-expression l = 6 * l.depth
 
 abbrev pub decreases-case : goal.decreases-case
-decreases-case l = 3 * l.depth + 2
+decreases-case l = 6 * l.depth + 5
 
 abbrev pub decreases-items : goal.decreases-items
-decreases-items l = 3 * l.depth + 1
+decreases-items l = 6 * l.depth + 4
 
 abbrev pub decreases-choice : goal.decreases-choice
-decreases-choice l = 3 * l.depth + 1
+decreases-choice l = 6 * l.depth + 4
 
-abbrev pub invariant-choice-loop-next : goal.invariant-choice-loop-next
-invariant-choice-loop-next l = record {
-  within : EndsWithin (length (text_of l.self)) l.verdict;
-  same : SameChoice (taken_in l.self l.depth) (form_of l.first) (forms (map form_of l.rest)) l.place l.verdict (forms (drop l.next-index (map form_of l.rest)));
-}
+abbrev pub decreases-optional : goal.decreases-optional
+decreases-optional l = 6 * l.depth + 4
+
+abbrev pub decreases-rounds : goal.decreases-rounds
+decreases-rounds l = 6 * l.depth + 4
+
+abbrev pub decreases-star : goal.decreases-star
+decreases-star l = 6 * l.depth + 1
+
+abbrev pub decreases-plus : goal.decreases-plus
+decreases-plus l = 6 * l.depth + 4
+
+abbrev pub decreases-and : goal.decreases-and
+decreases-and l = 6 * l.depth + 4
+
+abbrev pub decreases-not : goal.decreases-not
+decreases-not l = 6 * l.depth + 4
+
+abbrev pub decreases-name : goal.decreases-name
+decreases-name l = 6 * l.depth + 4
+
+abbrev pub decreases-rule : goal.decreases-rule
+decreases-rule l = 6 * l.depth + 3
 
 abbrev pub invariant-items-loop-item : goal.invariant-items-loop-item
 invariant-items-loop-item l = record {
+  after : l.place ≤ l.at;
   within : l.at ≤ length (text_of l.self);
-  same : SameItems (taken_in l.self l.depth) (forms (map form_of l.items)) l.place (forms (drop l.item-index (map form_of l.items))) l.at;
+  few : l.terminal + terminals_of_all (forms (drop l.item-index (map form_of l.items))) ≤ most_parts;
+  from : l.from ≡ length (l.fn.found.rows.items);
+  so_far : ItemsSoFar (taken_in l.self l.depth) (forms (map form_of l.items)) l.fn.terminal l.place (seen_in l.fn.found) (forms (drop l.item-index (map form_of l.items))) l.terminal l.at (seen_in l.found);
 }
 
-abbrev pub decreases-name : goal.decreases-name
-decreases-name l = 3 * l.depth + 1
+abbrev pub invariant-choice-loop-next : goal.invariant-choice-loop-next
+invariant-choice-loop-next l = record {
+  few : l.terminal + terminals_of_all (forms (drop l.next-index (map form_of l.rest))) ≤ most_parts;
+  so_far : FailedSoFar (take_first (taken_in l.self l.depth) (form_of l.first) (forms (map form_of l.rest)) l.fn.terminal l.place) (taken_in l.self l.depth) l.place (seen_in l.fn.found) (forms (drop l.next-index (map form_of l.rest))) l.terminal (seen_in l.found);
+}

@@ -1,0 +1,173 @@
+-- How what an evaluation notes goes together along the recognition table.
+use Rattle.std.proofs.Common.{◌≡◌, ◌≢◌, ℕ, zero, suc, ◌+◌, ◌-◌, List, [], ◌∷◌, ◌++◌, length, fold, Option, None, Some, Ok, Err, option_map, option_and_then, refl, sym, ap, ◌∙◌, append_assoc, append-nil, length-append, arith}
+use Rattle.std.proofs.lemmas.List.Sums.{fold-append}
+use Rattle.peg_tree.specs.Rows.{Row, rows_of}
+use Rattle.peg_tree.specs.Trees.{Trees, NoTrees, Tree, followed_by, nodes}
+use Rattle.peg_grammar.specs.Form.{Form}
+use Rattle.peg_grammar.specs.Furthest.{Furthest, noted}
+use Rattle.peg_grammar.specs.Record.{Recognition, Record, Test, Use, Taking, matched_at, after_both, behind, followed, then_at, replaced, or_else, repeated, if_matched, if_failed, with_result, as_tree, as_use, take_items, take_first, table, record_in}
+use Rattle.peg_grammar.specs.Record as recognition
+use Rattle.peg_grammar.specs.Rules.{Rule}
+use Rattle.peg_grammar.specs.Seen.{Seen, trees_left, verdict_of, with_record, Tells}
+use Rattle.peg_grammar.specs.declared.found.Stop.{Stop}
+use Rattle.peg_grammar.specs.declared.found.Stop.TheVariants.{Depth, Memory}
+use Rattle.peg_grammar.specs.declared.found.Verdict.{Verdict}
+use Rattle.peg_grammar.specs.declared.found.Verdict.TheVariants.{Matched, Failed}
+
+-- ---- rows and tests
+
+pub rows_of-followed_by : (a b : Trees) → rows_of (followed_by a b) ≡ rows_of a ++ rows_of b
+rows_of-followed_by NoTrees b = refl
+rows_of-followed_by (Tree rule start end children rest) b =
+    ap (λ l. record { rule = rule; start = start; end = end; size = 1 + nodes children } ∷ l) (ap (λ l. rows_of children ++ l) (rows_of-followed_by rest b) ∙ sym (append_assoc (rows_of children) (rows_of rest) (rows_of b)))
+
+pub length-rows_of : (t : Trees) → length (rows_of t) ≡ nodes t
+length-rows_of NoTrees = refl
+length-rows_of (Tree rule start end children rest) =
+    omega (arith, length-append (rows_of children) (rows_of rest), length-rows_of children, length-rows_of rest)
+
+-- what was seen, by its two parts
+abbrev pub seen : Furthest → List Row → Seen
+seen furthest rows = record { furthest = furthest; rows = rows }
+
+-- after more tests, and after more rows
+abbrev after_tests : Seen → List Test → Furthest
+after_tests s tests = fold noted s.furthest tests
+
+-- ---- the two verdicts
+
+pub result_of_failed : (result : Recognition) → verdict_of result ≡ Failed → result ≡ recognition.Failed
+result_of_failed recognition.Failed e = refl
+result_of_failed (recognition.Matched end trees) e = cc
+
+pub result_of_matched : (result : Recognition) (end : ℕ) → verdict_of result ≡ Matched end → (trees : Trees) × (result ≡ recognition.Matched end trees)
+result_of_matched recognition.Failed end e = cc
+result_of_matched (recognition.Matched there trees) end e =
+    let same : there ≡ end = cc in (trees, ap (λ n. recognition.Matched n trees) same)
+
+-- ---- a part that ended early ends the whole
+
+module _ {A : Type 0} (f : Record → Option A) where
+  pub and_then-none : (tried : Option Record) → tried ≡ None → option_and_then f tried ≡ None
+  and_then-none None e = refl
+  and_then-none (Some r) e = cc
+
+pub stopped-and_then : (f : Record → Option Record) (tried : Option Record) (s t u : Seen) (stop : Stop) → Tells tried s (Err stop) t → Tells (option_and_then f tried) s (Err stop) u
+stopped-and_then f tried s t u Depth h = and_then-none f tried h
+stopped-and_then f tried s t u Memory h = tt
+
+pub stopped-map : (f : Record → Record) (tried : Option Record) (s t u : Seen) (stop : Stop) → Tells tried s (Err stop) t → Tells (option_map f tried) s (Err stop) u
+stopped-map f None s t u Depth h = refl
+stopped-map f (Some r) s t u Depth h = cc
+stopped-map f None s t u Memory h = tt
+stopped-map f (Some r) s t u Memory h = tt
+
+-- ---- optional, predicates
+
+pub optional-matched : (tried : Option Record) (place end : ℕ) (s t : Seen) → Tells tried s (Ok (Matched end)) t → Tells (or_else tried (Some (matched_at place))) s (Ok (Matched end)) t
+optional-matched tried place end s t h =
+    let m = result_of_matched h.0.result end h.2 in
+    (h.0, ap (λ o. or_else o (Some (matched_at place))) h.1 ∙ ap (λ x. replaced x h.0 (Some (matched_at place))) m.1, h.2, h.3)
+
+-- a failed part, and then nothing: the tests stay noted
+pub after_failed : (r : Record) (s t : Seen) (place : ℕ) → r.result ≡ recognition.Failed → t ≡ with_record s r → t ≡ with_record s (after_both r (matched_at place) (recognition.Matched place NoTrees))
+after_failed r s t place is e =
+    e ∙ (λ i. seen (ap (after_tests s) (sym (append-nil r.tests)) i) (ap (λ x. s.rows ++ rows_of (trees_left x)) is i))
+
+pub optional-failed : (tried : Option Record) (place : ℕ) (s t : Seen) → Tells tried s (Ok Failed) t → Tells (or_else tried (Some (matched_at place))) s (Ok (Matched place)) t
+optional-failed tried place s t h =
+    let is = result_of_failed h.0.result h.2 in
+    (after_both h.0 (matched_at place) (recognition.Matched place NoTrees), ap (λ o. or_else o (Some (matched_at place))) h.1 ∙ ap (λ x. replaced x h.0 (Some (matched_at place))) is, refl, after_failed h.0 s t place is h.3)
+
+-- what a part left is dropped: the rows are those from before
+dropped : (r : Record) (s t : Seen) (result : Recognition) → trees_left result ≡ NoTrees → t ≡ with_record s r → (u : Seen) → u ≡ seen t.furthest s.rows → u ≡ with_record s (with_result r result)
+dropped r s t result none e u cut =
+    cut ∙ (λ i. seen ((e i).furthest) (sym (append-nil s.rows) i)) ∙ ap (λ l. seen (fold noted s.furthest r.tests) (s.rows ++ rows_of l)) (sym none)
+
+pub and-matched : (tried : Option Record) (place end : ℕ) (s t u : Seen) → u ≡ seen t.furthest s.rows → Tells tried s (Ok (Matched end)) t → Tells (option_map (λ r. with_result r (if_matched r.result place)) tried) s (Ok (Matched place)) u
+and-matched tried place end s t u cut h =
+    let m = result_of_matched h.0.result end h.2 in
+    (with_result h.0 (recognition.Matched place NoTrees), ap (option_map (λ r. with_result r (if_matched r.result place))) h.1 ∙ ap (λ x. Some (with_result h.0 (if_matched x place))) m.1, refl, dropped h.0 s t (recognition.Matched place NoTrees) refl h.3 u cut)
+
+pub and-failed : (tried : Option Record) (place : ℕ) (s t : Seen) → Tells tried s (Ok Failed) t → Tells (option_map (λ r. with_result r (if_matched r.result place)) tried) s (Ok Failed) t
+and-failed tried place s t h =
+    let is = result_of_failed h.0.result h.2 in
+    (with_result h.0 recognition.Failed, ap (option_map (λ r. with_result r (if_matched r.result place))) h.1 ∙ ap (λ x. Some (with_result h.0 (if_matched x place))) is, refl, h.3 ∙ ap (λ x. seen (fold noted s.furthest h.0.tests) (s.rows ++ rows_of (trees_left x))) is)
+
+pub not-matched : (tried : Option Record) (place end : ℕ) (s t u : Seen) → u ≡ seen t.furthest s.rows → Tells tried s (Ok (Matched end)) t → Tells (option_map (λ r. with_result r (if_failed r.result place)) tried) s (Ok Failed) u
+not-matched tried place end s t u cut h =
+    let m = result_of_matched h.0.result end h.2 in
+    (with_result h.0 recognition.Failed, ap (option_map (λ r. with_result r (if_failed r.result place))) h.1 ∙ ap (λ x. Some (with_result h.0 (if_failed x place))) m.1, refl, dropped h.0 s t recognition.Failed refl h.3 u cut)
+
+pub not-failed : (tried : Option Record) (place : ℕ) (s t : Seen) → Tells tried s (Ok Failed) t → Tells (option_map (λ r. with_result r (if_failed r.result place)) tried) s (Ok (Matched place)) t
+not-failed tried place s t h =
+    let is = result_of_failed h.0.result h.2 in
+    (with_result h.0 (recognition.Matched place NoTrees), ap (option_map (λ r. with_result r (if_failed r.result place))) h.1 ∙ ap (λ x. Some (with_result h.0 (if_failed x place))) is, refl, h.3 ∙ ap (λ x. seen (fold noted s.furthest h.0.tests) (s.rows ++ rows_of (trees_left x))) is)
+
+-- ---- one part after another
+
+-- a record behind tests, uses and trees that came before
+abbrev pub prefixed : List Test → List Use → Trees → Option Record → Option Record
+prefixed tests uses trees tried =
+    option_map (λ (more : Record). record { result = behind trees more.result; tests = tests ++ more.tests; uses = uses ++ more.uses }) tried
+
+behind-followed_by : (a b : Trees) (result : Recognition) → behind a (behind b result) ≡ behind (followed_by a b) result
+behind-followed_by a b recognition.Failed = refl
+behind-followed_by a b (recognition.Matched end more) = ap (recognition.Matched end) (assoc a)
+  where
+    assoc : (a : Trees) → followed_by a (followed_by b more) ≡ followed_by (followed_by a b) more
+    assoc NoTrees = refl
+    assoc (Tree rule start end children rest) = ap (Tree rule start end children) (assoc rest)
+
+pub prefixed-prefixed : (tests more_tests : List Test) (uses more_uses : List Use) (trees more_trees : Trees) (tried : Option Record)
+    → prefixed tests uses trees (prefixed more_tests more_uses more_trees tried) ≡ prefixed (tests ++ more_tests) (uses ++ more_uses) (followed_by trees more_trees) tried
+prefixed-prefixed tests more_tests uses more_uses trees more_trees None = refl
+prefixed-prefixed tests more_tests uses more_uses trees more_trees (Some r) =
+    λ i. Some (record { result = behind-followed_by trees more_trees r.result i; tests = sym (append_assoc tests more_tests r.tests) i; uses = sym (append_assoc uses more_uses r.uses) i })
+
+behind-none : (result : Recognition) → behind NoTrees result ≡ result
+behind-none recognition.Failed = refl
+behind-none (recognition.Matched end trees) = refl
+
+pub prefixed-none : (tried : Option Record) → prefixed [] [] NoTrees tried ≡ tried
+prefixed-none None = refl
+prefixed-none (Some r) = λ i. Some (record { result = behind-none r.result i; tests = r.tests; uses = r.uses })
+
+-- a part that matched, and then what is next
+pub followed-tells : (tried : Option Record) (next : ℕ → Option Record) (end : ℕ) (s t u : Seen) (verdict : Verdict) → Tells tried s (Ok (Matched end)) t → Tells (next end) t (Ok verdict) u → (verdict ≡ Failed → ⊥) → Tells (then_at tried next) s (Ok verdict) u
+followed-tells tried next end s t u Failed h k other = absurd (other refl)
+followed-tells tried next end s t u (Matched far) h k other =
+    let m = result_of_matched h.0.result end h.2 in
+    let n = result_of_matched k.0.result far k.2 in
+    (after_both h.0 k.0 (behind m.0 k.0.result), ap (λ o. then_at o next) h.1 ∙ (ap (λ x. followed x h.0 next) m.1 ∙ ap (option_map (λ more. after_both h.0 more (behind m.0 more.result))) k.1), ap (λ x. verdict_of (behind m.0 x)) n.1, k.3 ∙ (λ i. seen (fold noted ((h.3 i).furthest) k.0.tests) ((h.3 i).rows ++ rows_of (trees_left k.0.result))) ∙ (λ i. seen (sym (fold-append noted s.furthest h.0.tests k.0.tests) i) (rows_joined i)))
+  where
+    rows_joined : (s.rows ++ rows_of (trees_left h.0.result)) ++ rows_of (trees_left k.0.result) ≡ s.rows ++ rows_of (trees_left (behind (result_of_matched h.0.result end h.2).0 k.0.result))
+    rows_joined =
+        let m = result_of_matched h.0.result end h.2 in
+        let n = result_of_matched k.0.result far k.2 in
+        append_assoc s.rows (rows_of (trees_left h.0.result)) (rows_of (trees_left k.0.result)) ∙ ap (λ l. s.rows ++ l) (ap (λ x. rows_of (trees_left x) ++ rows_of (trees_left k.0.result)) m.1 ∙ (ap (λ x. rows_of m.0 ++ rows_of (trees_left x)) n.1 ∙ (sym (rows_of-followed_by m.0 n.0) ∙ ap (λ x. rows_of (trees_left (behind m.0 x))) (sym n.1))))
+
+-- the failed part of a sequence of two
+pub followed-failed : (tried : Option Record) (next : ℕ → Option Record) (s t : Seen) → Tells tried s (Ok Failed) t → Tells (then_at tried next) s (Ok Failed) t
+followed-failed tried next s t h =
+    let is = result_of_failed h.0.result h.2 in
+    (h.0, ap (λ o. then_at o next) h.1 ∙ ap (λ x. followed x h.0 next) is, h.2, h.3)
+
+pub followed-stopped : (tried : Option Record) (next : ℕ → Option Record) (end : ℕ) (s t u : Seen) (stop : Stop) → Tells tried s (Ok (Matched end)) t → Tells (next end) t (Err stop) u → Tells (then_at tried next) s (Err stop) u
+followed-stopped tried next end s t u Depth h k =
+    let m = result_of_matched h.0.result end h.2 in
+    ap (λ o. then_at o next) h.1 ∙ (ap (λ x. followed x h.0 next) m.1 ∙ ap (option_map (λ more. after_both h.0 more (behind m.0 more.result))) k)
+followed-stopped tried next end s t u Memory h k = tt
+
+-- ---- the depths of a record
+
+pub record_in-positive : (rules : List Rule) (text : List ℕ) (depth : ℕ) (e : Form) (terminal place : ℕ) → depth ≢ 0 → record_in rules text depth e terminal place ≡ table rules text (record_in rules text (depth - 1)) e terminal place
+unfolding record_in
+record_in-positive rules text zero e terminal place h = absurd (h refl)
+record_in-positive rules text (suc n) e terminal place h =
+    let same : n ≡ suc n - 1 = omega arith in ap (λ k. table rules text (record_in rules text k) e terminal place) same
+
+pub record_in-none : (rules : List Rule) (text : List ℕ) (depth : ℕ) (e : Form) (terminal place : ℕ) → depth ≡ 0 → record_in rules text depth e terminal place ≡ None
+unfolding record_in
+record_in-none rules text zero e terminal place h = refl
+record_in-none rules text (suc n) e terminal place h = cc

@@ -1,0 +1,14 @@
+use Rattle.std.proofs.Common.{◌≡◌, ◌+◌, ◌≤◌, length, drop}
+use Rattle.peg_grammar.specs.Found.{seen_in}
+use Rattle.peg_grammar.specs.Plain.{text_of}
+use Rattle.peg_grammar.specs.Record.{literal_at}
+use Rattle.peg_grammar.proofs.plain.Plain.literal.Given as goal
+
+-- the bytes so far are those of the text, and nothing has been noted
+abbrev pub invariant-loop-at : goal.invariant-loop-at
+invariant-loop-at l = record {
+  kept : seen_in l.found ≡ seen_in l.fn.found;
+  within : l.at ≤ length l.rest;
+  same : literal_at l.terminal l.place l.bytes (drop l.place (text_of l.self))
+      ≡ literal_at l.terminal (l.place + l.at) (drop l.at l.bytes) (drop l.at l.rest);
+}

@@ -1,0 +1,96 @@
+//! What the plain evaluator notes on its way.
+ghost use Rattle.std.specs.Prelude.{◌≡◌, OnOk};
+ghost use Rattle.peg_grammar.specs.Furthest.{insert_ascending};
+
+use peg_tree::TreeNode;
+use std::alloc::{AllocError, AllocFailed, Global};
+
+/// Whether an expression matched, and up to which place.
+#[derive(Clone, Copy, Debug, PartialEq, Eq)]
+pub(crate) enum Verdict {
+    Matched { end: u32 },
+    Failed,
+}
+
+/// Why an evaluation ended early.
+#[derive(Clone, Copy, Debug, PartialEq, Eq)]
+pub(crate) enum Stop {
+    Depth,
+    Memory,
+}
+
+impl From<AllocError> for Stop {
+    ghost use Rattle.std.specs.Prelude.{◌≡◌};
+    ghost use Rattle.peg_grammar.specs.declared.found.Stop.TheVariants.{Memory};
+
+    ghost from_gives = { λ _ stop. stop ≡ Memory };
+
+    fn from(_error: AllocError) -> Stop {
+        Stop::Memory
+    }
+}
+
+impl<T: Drop> From<AllocFailed<T>> for Stop {
+    ghost use Rattle.std.specs.Prelude.{◌≡◌};
+    ghost use Rattle.peg_grammar.specs.declared.found.Stop.TheVariants.{Memory};
+
+    ghost from_gives = { λ _ stop. stop ≡ Memory };
+
+    fn from(_error: AllocFailed<T>) -> Stop {
+        Stop::Memory
+    }
+}
+
+/// The furthest failure so far: a place, and the terminals that failed there, ascending.
+#[derive(Debug, Drop)]
+pub(crate) struct Furthest {
+    pub(crate) far: u32,
+    pub(crate) expected: Vec<u32>,
+}
+
+/// The furthest failure so far, and the rows of the trees so far.
+#[derive(Debug, Drop)]
+pub(crate) struct Found {
+    pub(crate) furthest: Furthest,
+    pub(crate) rows: Vec<TreeNode>,
+}
+
+impl Furthest {
+    ghost use Rattle.std.specs.Prelude.{◌≡◌, OnOk};
+    ghost use Rattle.peg_grammar.specs.Found.{furthest_in};
+    ghost use Rattle.peg_grammar.specs.Furthest.{noted};
+    ghost use Rattle.peg_grammar.specs.Record.{test_of};
+
+    /// Notes that the test of a terminal failed at a place.
+    pub(crate) fn note(&mut self, terminal: u32, place: u32) -> Result<(), AllocError>
+        ensures { OnOk result (furthest_in self.new ≡ noted (furthest_in self.old) (test_of terminal place)) }
+    {
+        if place < self.far {
+            return Ok(());
+        }
+        if self.far < place {
+            self.far = place;
+            self.expected.clear();
+            self.expected.push(terminal)?;
+            return Ok(());
+        }
+        insert_ascending(&mut self.expected, terminal)
+    }
+}
+
+// Puts a number in its place among ascending ones, if it isn't there.
+fn insert_ascending(numbers: &mut Vec<u32>, number: u32) -> Result<(), AllocError>
+    ensures { OnOk result (numbers.new.items ≡ insert_ascending number numbers.old.items) }
+{
+    for at in 0..numbers.len() {
+        if number < numbers[at] {
+            numbers.insert(at, number)?;
+            return Ok(());
+        }
+        if number == numbers[at] {
+            return Ok(());
+        }
+    }
+    numbers.push(number)?;
+    Ok(())
+}
