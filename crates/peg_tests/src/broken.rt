@@ -7,7 +7,8 @@ use std::test::Fail;
 
 const INPUT: &[u8] = b"S <- 'a' S / 'b'\n%%\naab";
 
-const LINE: &[u8] = b"{\"consumed\":3,\"result\":\"matched\"}\n";
+const LINE: &[u8] =
+    b"{\"consumed\":3,\"expected\":[[5,8]],\"far\":2,\"result\":\"matched\",\"tree\":{\"children\":[{\"children\":[{\"children\":[],\"end\":3,\"rule\":\"S\",\"start\":2}],\"end\":3,\"rule\":\"S\",\"start\":1}],\"end\":3,\"rule\":\"S\",\"start\":0}}\n";
 
 // Gives one byte a read, and fails after so many.
 #[derive(Drop)]

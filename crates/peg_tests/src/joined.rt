@@ -28,13 +28,17 @@ fn answers_have_their_lines(rt: HostRuntime) -> Result<(), Fail> {
     let cases: [(&[u8], &str, u8); 12] = [
         (
             b"S <- 'a' S / 'b'\n%%\naab",
-            "{\"consumed\":3,\"result\":\"matched\"}\n",
+            "{\"consumed\":3,\"expected\":[[5,8]],\"far\":2,\"result\":\"matched\",\"tree\":{\"children\":[{\"children\":[{\"children\":[],\"end\":3,\"rule\":\"S\",\"start\":2}],\"end\":3,\"rule\":\"S\",\"start\":1}],\"end\":3,\"rule\":\"S\",\"start\":0}}\n",
             0,
         ),
-        (b"S <- 'a' S / 'b'\n%%\n", "{\"result\":\"failed\"}\n", 1),
+        (
+            b"S <- 'a' S / 'b'\n%%\n",
+            "{\"expected\":[[5,8],[13,16]],\"far\":0,\"result\":\"failed\"}\n",
+            1,
+        ),
         (
             b"S <- 'a' / 'ab'\n%%\nab",
-            "{\"consumed\":1,\"result\":\"matched\"}\n",
+            "{\"consumed\":1,\"expected\":[],\"far\":0,\"result\":\"matched\",\"tree\":{\"children\":[],\"end\":1,\"rule\":\"S\",\"start\":0}}\n",
             0,
         ),
         (b"S <- S\n%%\nx", "{\"refusal\":\"DepthUsed\"}\n", 6),
@@ -48,18 +52,22 @@ fn answers_have_their_lines(rt: HostRuntime) -> Result<(), Fail> {
         (b"", "{\"refusal\":\"Syntax\"}\n", 2),
         (
             b"A <- '(' A ')' 'x' / '(' A ')' 'y' / 'a'\n%%\n(a)y",
-            "{\"consumed\":4,\"result\":\"matched\"}\n",
+            "{\"consumed\":4,\"expected\":[[15,18]],\"far\":3,\"result\":\"matched\",\"tree\":{\"children\":[{\"children\":[],\"end\":2,\"rule\":\"A\",\"start\":1}],\"end\":4,\"rule\":\"A\",\"start\":0}}\n",
             0,
         ),
-        (b"S <- ''\n", "{\"consumed\":0,\"result\":\"matched\"}\n", 0),
+        (
+            b"S <- ''\n",
+            "{\"consumed\":0,\"expected\":[],\"far\":0,\"result\":\"matched\",\"tree\":{\"children\":[],\"end\":0,\"rule\":\"S\",\"start\":0}}\n",
+            0,
+        ),
         (
             b"S <- T 'c'\nT <- 'a' / 'b'\n%%\nbc\n",
-            "{\"consumed\":2,\"result\":\"matched\"}\n",
+            "{\"consumed\":2,\"expected\":[[16,19]],\"far\":0,\"result\":\"matched\",\"tree\":{\"children\":[{\"children\":[],\"end\":1,\"rule\":\"T\",\"start\":0}],\"end\":2,\"rule\":\"S\",\"start\":0}}\n",
             0,
         ),
         (
             b"S <- 'a\xff'\n%%\na\xff",
-            "{\"consumed\":2,\"result\":\"matched\"}\n",
+            "{\"consumed\":2,\"expected\":[],\"far\":0,\"result\":\"matched\",\"tree\":{\"children\":[],\"end\":2,\"rule\":\"S\",\"start\":0}}\n",
             0,
         ),
     ];
@@ -84,7 +92,41 @@ fn a_text_over_its_limit_is_refused(rt: HostRuntime) -> Result<(), Fail> {
     let mut input = Vec::new(alloc);
     input.extend_from_slice(b"S <- 'b'\n%%\n")?;
     input.resize(67_108_864 + 12, b'a')?;
-    prints(&rt, alloc, &input, "{\"result\":\"failed\"}\n", 1)?;
+    prints(
+        &rt,
+        alloc,
+        &input,
+        "{\"expected\":[[5,8]],\"far\":0,\"result\":\"failed\"}\n",
+        1,
+    )?;
     input.push(b'a')?;
     prints(&rt, alloc, &input, "{\"refusal\":\"TextTooLong\"}\n", 6)
+}
+
+#[test]
+fn a_tree_of_more_levels_than_sixty_is_refused(rt: HostRuntime) -> Result<(), Fail> {
+    let alloc = rt.alloc();
+    let mut input = Vec::new(alloc);
+    input.extend_from_slice(b"S <- 'a' S / 'b'\n%%\n")?;
+    input.resize(20 + 60, b'a')?;
+    input.push(b'b')?;
+    prints(&rt, alloc, &input, "{\"refusal\":\"TooDeep\"}\n", 6)?;
+    let mut written = Vec::new(alloc);
+    let ended = run_joined(
+        alloc,
+        &mut Device::new(&input[..79]),
+        &mut Device::new(&mut written),
+    )?;
+    assert_eq!(rt; ended, 1);
+    input.truncate(79);
+    input.push(b'b')?;
+    written.clear();
+    let ended = run_joined(
+        alloc,
+        &mut Device::new(input.as_slice()),
+        &mut Device::new(&mut written),
+    )?;
+    assert_eq!(rt; ended, 0);
+    assert!(rt; written.starts_with(b"{\"consumed\":60,\"expected\":[[5,8]],\"far\":59,"));
+    Ok(())
 }

@@ -1,46 +1,50 @@
 -- What the parts of an answer give together.
-use Rattle.std.proofs.Common.{◌≡◌, ◌≢◌, ℕ, ◌+◌, ◌<◌, ◌≤◌, inl, inr, List, [], ◌∷◌, ◌++◌, length, Option, None, Some, IfSome, refl, sym, ap, ◌∙◌, subst, append-nil, length-append, arith}
+use Rattle.std.proofs.Common.{◌≡◌, ◌≢◌, ℕ, ◌+◌, ◌<◌, ◌≤◌, inl, inr, List, [], ◌∷◌, ◌++◌, length, map, All, Option, None, Some, IfSome, refl, sym, ap, ◌∙◌, subst, append-nil, length-append, arith}
 use Rattle.std.proofs.lemmas.Bool.{cases_lt}
+use Rattle.std.proofs.lemmas.List.{length-map}
 use Rattle.std.specs.Io.KnownBytes.{Consumes, IsAtEnd, Appends}
-use Rattle.peg_grammar.specs.Grammar.{IsGrammar, most_parts}
+use Rattle.peg_bytes.specs.Extent.{extent}
+use Rattle.peg_bytes.specs.declared.span.Span.{Span}
+use Rattle.peg_grammar.specs.Furthest.{IsFurthest}
+use Rattle.peg_grammar.specs.Outcomes.{parsed_of}
 use Rattle.peg_grammar.specs.Record.{Recognition, Record, start_record}
 use Rattle.peg_grammar.specs.Record as recognition
-use Rattle.peg_grammar.specs.Rules.{Rule, name_of, weight_of}
-use Rattle.peg_grammar.specs.Trees.{Trees}
-use Rattle.peg_grammar.specs.Verdict.{verdict_of, verdict_in}
-use Rattle.peg_grammar.specs.declared.verdict.Verdict.TheVariants as verdict
-use Rattle.peg_tool.specs.Answers.{AnswersBy, Answers, AnswersJoined, most_file_bytes, most_text_bytes, most_joined_bytes, most_depth, a_name_twice, a_name_missing, too_many_parts, text_too_long, too_deep, failed, matched, file_too_long, not_in_the_form, read}
+use Rattle.peg_grammar.specs.Rules.{Rule, name_of, names}
+use Rattle.peg_grammar.specs.Terminals.{extents_of_terminals}
+use Rattle.peg_grammar.proofs.TerminalLemmas.{expected-below, start_record-below}
+use Rattle.peg_grammar.proofs.TreeRules.{start_record-rules}
+use Rattle.peg_tree.specs.Nodes.{RulesBelow}
+use Rattle.peg_tree.specs.Trees.{Trees}
+use Rattle.peg_tree.specs.declared.outcome.Parsed.TheVariants as parsed
+use Rattle.peg_tool.specs.Answers.{AnswersBy, Answers, AnswersJoined, Recognizes, most_file_bytes, most_text_bytes, most_joined_bytes, most_depth, a_name_twice, a_name_missing, too_many_parts, text_too_long, too_deep, failed, too_many_levels, matched, file_too_long, not_in_the_form, read}
 use Rattle.peg_tool.specs.Joined.{IsPrinted, Tells, TellsInPart}
 use Rattle.peg_tool.specs.LineForm.{IsLineForm, Line, rules_at}
 use Rattle.peg_tool.specs.Transfer.{AppendsProperPrefix}
-use Rattle.peg_tool.specs.declared.reply.Reply.{Reply}
-use Rattle.peg_tool.specs.declared.reply.Reply.TheVariants as reply
+use Rattle.peg_tool.specs.Reply.{Answer}
 use Rattle.peg_tool.proofs.SplitLaws.{TellsSplit, separator_in_front, separator_further, front_split}
 
--- what comes of a rule that matched leaves trees
-matched_trees : (result : Recognition) (end : ℕ) → verdict_of result ≡ verdict.Matched end → (trees : Trees) × (result ≡ recognition.Matched end trees)
-matched_trees recognition.Failed end is = cc
-matched_trees (recognition.Matched there trees) end is =
-    let same : there ≡ end = cc in (trees, ap (λ n. recognition.Matched n trees) same)
+-- what an outcome's result tells of the record's
+pub parsed-failed : (result : Recognition) → parsed.Failed ≡ parsed_of result → result ≡ recognition.Failed
+parsed-failed recognition.Failed is = refl
+parsed-failed (recognition.Matched end tree) is = cc
 
-failed_result : (result : Recognition) → verdict_of result ≡ verdict.Failed → result ≡ recognition.Failed
-failed_result recognition.Failed is = refl
-failed_result (recognition.Matched there trees) is = cc
+pub parsed-matched : (result : Recognition) (end : ℕ) (tree : Trees) → parsed.Matched end tree ≡ parsed_of result → result ≡ recognition.Matched end tree
+parsed-matched recognition.Failed end tree is = cc
+parsed-matched (recognition.Matched there left) end tree is =
+    let same : end ≡ there = cc in
+    let same_tree : tree ≡ left = cc in
+    λ i. recognition.Matched (sym same i) (sym same_tree i)
 
--- the answers by a grammar's first rule
-module _ (rules : List Rule) (text : List ℕ) (grammar : IsGrammar rules) (light : weight_of rules ≤ most_parts) (short : length text ≤ most_text_bytes) where
-  pub answers-matched : (tried : Option Record) (end : ℕ) → start_record rules text most_depth (name_of rules 0) ≡ tried → verdict_in tried ≡ Some (verdict.Matched end) → AnswersBy rules text (reply.Matched end)
-  answers-matched None end is found = cc
-  answers-matched (Some r) end is found =
-      let at : verdict_of r.result ≡ verdict.Matched end = cc in
-      let left = matched_trees r.result end at in
-      matched grammar light short is left.1
+-- the terminals of a furthest failure have places in the grammar file
+pub furthest-below : (rules : List Rule) (text : List ℕ) (r : Record) (far : ℕ) (expected : List ℕ) (spans : List Span) → map extent spans ≡ extents_of_terminals rules → Recognizes rules text r → IsFurthest r.tests far expected → All (λ terminal. terminal < length spans) expected
+furthest-below rules text r far expected spans is found furthest =
+    let same : length (extents_of_terminals rules) ≡ length spans = sym (ap length is) ∙ length-map spans extent in
+    subst (λ n. All (λ terminal. terminal < n) expected) same (expected-below (length (extents_of_terminals rules)) r.tests far expected furthest (start_record-below rules text most_depth (name_of rules 0) r found))
 
-  pub answers-failed : (tried : Option Record) → start_record rules text most_depth (name_of rules 0) ≡ tried → verdict_in tried ≡ Some verdict.Failed → AnswersBy rules text reply.Failed
-  answers-failed None is found = cc
-  answers-failed (Some r) is found =
-      let at : verdict_of r.result ≡ verdict.Failed = cc in
-      failed grammar light short is (failed_result r.result at)
+-- the rules of a tree have names
+pub nodes-named : (rules : List Rule) (text : List ℕ) (r : Record) (end : ℕ) (tree : Trees) → Recognizes rules text r → r.result ≡ recognition.Matched end tree → RulesBelow (length (names rules)) tree
+nodes-named rules text r end tree found is =
+    subst (λ n. RulesBelow n tree) (sym (length-map rules (λ rule. rule.name))) (start_record-rules rules text most_depth (name_of rules 0) r end tree found is)
 
 -- a file of the line form spells some rule
 rules_at-some : (place : ℕ) (lines : List Line) → lines ≢ [] → rules_at place lines ≢ []
@@ -51,17 +55,18 @@ pub spelled_rules-some : (file : List ℕ) (rules : List Rule) → IsLineForm fi
 spelled_rules-some file rules form none = rules_at-some 0 form.lines form.some (sym form.meant ∙ none)
 
 -- an answer about a text over the limit is that about any other text over it
-AnswersBy-longer : (rules : List Rule) (text more : List ℕ) (told : Reply) → most_text_bytes < length text → most_text_bytes < length more → AnswersBy rules text told → AnswersBy rules more told
+AnswersBy-longer : (rules : List Rule) (text more : List ℕ) (told : Answer) → most_text_bytes < length text → most_text_bytes < length more → AnswersBy rules text told → AnswersBy rules more told
 AnswersBy-longer rules text more told long longer (a_name_twice is) = a_name_twice is
 AnswersBy-longer rules text more told long longer (a_name_missing distinct is) = a_name_missing distinct is
 AnswersBy-longer rules text more told long longer (too_many_parts grammar heavy) = too_many_parts grammar heavy
 AnswersBy-longer rules text more told long longer (text_too_long grammar light over) = text_too_long grammar light longer
 AnswersBy-longer rules text more told long longer (too_deep grammar light short is) = absurd (omega arith)
-AnswersBy-longer rules text more told long longer (failed grammar light short is at) = absurd (omega arith)
-AnswersBy-longer rules text more told long longer (matched grammar light short is at) = absurd (omega arith)
+AnswersBy-longer rules text more told long longer (failed grammar light short is at furthest) = absurd (omega arith)
+AnswersBy-longer rules text more told long longer (too_many_levels grammar light short is at deep) = absurd (omega arith)
+AnswersBy-longer rules text more told long longer (matched grammar light short is at shallow furthest) = absurd (omega arith)
 
 -- the answer where a front over both limits together was split behind a separator
-Answers-separated : (file text rest : List ℕ) (told : Reply) → most_joined_bytes ≤ length file + 3 + length text → Answers file text told → Answers file (text ++ rest) told
+Answers-separated : (file text rest : List ℕ) (told : Answer) → most_joined_bytes ≤ length file + 3 + length text → Answers file text told → Answers file (text ++ rest) told
 Answers-separated file text rest told long (file_too_long over) = file_too_long over
 Answers-separated file text rest told long (not_in_the_form within none) = not_in_the_form within none
 Answers-separated file text rest told long (read within form by) =
@@ -70,13 +75,13 @@ Answers-separated file text rest told long (read within form by) =
     read within form (AnswersBy-longer _ text (text ++ rest) told over more by)
 
 -- the answer where it wasn't: each file is over its limit
-Answers-unseparated : (file text other more : List ℕ) (told : Reply) → most_file_bytes < length file → most_file_bytes < length other → Answers file text told → Answers other more told
+Answers-unseparated : (file text other more : List ℕ) (told : Answer) → most_file_bytes < length file → most_file_bytes < length other → Answers file text told → Answers other more told
 Answers-unseparated file text other more told long longer (file_too_long over) = file_too_long longer
 Answers-unseparated file text other more told long longer (not_in_the_form within none) = absurd (omega arith)
 Answers-unseparated file text other more told long longer (read within form by) = absurd (omega arith)
 
 -- the answer to a front over both limits together is that to the whole
-AnswersJoined-front : (front rest : List ℕ) (told : Reply) → most_joined_bytes ≤ length front → AnswersJoined front told → AnswersJoined (front ++ rest) told
+AnswersJoined-front : (front rest : List ℕ) (told : Answer) → most_joined_bytes ≤ length front → AnswersJoined front told → AnswersJoined (front ++ rest) told
 AnswersJoined-front front rest told long given =
     let whole = front_split front rest given.0 given.1 given.2 in
     (whole.0, whole.1, whole.2, by whole.0 whole.1 whole.3)

@@ -2,12 +2,11 @@
 use Rattle.std.specs.Prelude.{◌≡◌, ◌⊎◌, ℕ, ◌<◌, List, Option, length, take, IfSome}
 use Rattle.std.specs.Io.KnownBytes.{Appends, Keeps}
 use Rattle.peg_tool.specs.Answers.{AnswersJoined}
-use Rattle.peg_tool.specs.Reply.{line_of, status_of}
-use Rattle.peg_tool.specs.declared.reply.Reply.{Reply}
+use Rattle.peg_tool.specs.Reply.{Answer, line_of, status_of}
 
 -- these bytes and this status are those of the input's answer
 abbrev pub IsPrinted : List ℕ → List ℕ → ℕ → Type 0
-IsPrinted input line status = (reply : Reply) × AnswersJoined input reply × (line ≡ line_of reply) × (status ≡ status_of reply)
+IsPrinted input line status = (told : Answer) × AnswersJoined input told × (line ≡ line_of told) × (status ≡ status_of told)
 
 -- the line of the input's answer is written, and this is its status; or memory ran out, and nothing is written
 abbrev pub Tells : Option (List ℕ) → (old new : Option (List ℕ)) → ℕ → Type 0

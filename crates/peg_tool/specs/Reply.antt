@@ -1,11 +1,21 @@
 -- The line and the status of what the tool answers.
-use Rattle.std.specs.Prelude.{ℕ, List, [], ◌∷◌, ◌++◌, codes}
-use Rattle.serde_json.specs.Data.{Data, unsigned, number, string, object, no_members, member}
+use Rattle.std.specs.Prelude.{◌≡◌, ℕ, List, [], ◌∷◌, ◌++◌, codes, map, slice_index_or}
+use Rattle.serde_json.specs.Data.{Data, unsigned, number, string, array, object, no_members, member, no_items, item, null}
+use Rattle.serde_json.specs.View.{view, items_of}
 use Rattle.serde_json.specs.Written.{compact_text}
+use Rattle.peg_bytes.specs.Extent.{Extent}
+use Rattle.peg_tree.specs.Trees.{Trees}
+use Rattle.peg_tree.specs.Json.{nested_data}
 use Rattle.peg_tool.specs.declared.reply.Reason.{Reason}
-use Rattle.peg_tool.specs.declared.reply.Reason.TheVariants.{FileTooLong, Syntax, Duplicate, Undefined, TooManyParts, TextTooLong, DepthUsed}
+use Rattle.peg_tool.specs.declared.reply.Reason.TheVariants.{FileTooLong, Syntax, Duplicate, Undefined, TooManyParts, TextTooLong, DepthUsed, TooDeep}
 use Rattle.peg_tool.specs.declared.reply.Reply.{Reply}
-use Rattle.peg_tool.specs.declared.reply.Reply.TheVariants.{Matched, Failed, Refused}
+
+-- What the tool answers: why it refuses; or the furthest failure, as a place of the text and the places of terminals in
+-- the grammar file; where the text matched also where the match ends, the rules' names, and the tree.
+pub data Answer : Type 0 where
+  Refused : Reason → Answer
+  Failed : (far : ℕ) → (expected : List Extent) → Answer
+  Matched : (end far : ℕ) → (expected : List Extent) → (names : List (List ℕ)) → (tree : Trees) → Answer
 
 -- the name of a reason
 abbrev pub reason_text : Reason → List ℕ
@@ -16,26 +26,55 @@ reason_text Undefined = codes "Undefined"
 reason_text TooManyParts = codes "TooManyParts"
 reason_text TextTooLong = codes "TextTooLong"
 reason_text DepthUsed = codes "DepthUsed"
+reason_text TooDeep = codes "TooDeep"
 
--- 0 matched, 1 failed, 2 the grammar is refused, 6 a limit of the parse
-abbrev pub status_of : Reply → ℕ
-status_of (Matched end) = 0
-status_of Failed = 1
-status_of (Refused FileTooLong) = 2
-status_of (Refused Syntax) = 2
-status_of (Refused Duplicate) = 2
-status_of (Refused Undefined) = 2
-status_of (Refused TooManyParts) = 2
-status_of (Refused TextTooLong) = 6
-status_of (Refused DepthUsed) = 6
+-- 2 the grammar is refused, 6 a limit of the parse
+abbrev pub reason_status : Reason → ℕ
+reason_status FileTooLong = 2
+reason_status Syntax = 2
+reason_status Duplicate = 2
+reason_status Undefined = 2
+reason_status TooManyParts = 2
+reason_status TextTooLong = 6
+reason_status DepthUsed = 6
+reason_status TooDeep = 6
+
+-- 0 matched, 1 failed
+abbrev pub status_of : Answer → ℕ
+status_of (Refused reason) = reason_status reason
+status_of (Failed far expected) = 1
+status_of (Matched end far expected names tree) = 0
+
+-- the printed places of terminals
+abbrev pub extent_data : Extent → Data
+extent_data extent = array (item (number (unsigned extent.start)) (item (number (unsigned extent.end)) no_items))
+
+abbrev pub expected_data : List Extent → Data
+expected_data expected = array (items_of (map extent_data expected))
+
+-- the printed tree: the nested object of the first of the trees
+abbrev pub tree_data : List (List ℕ) → Trees → Data
+tree_data names tree = slice_index_or (nested_data names tree) 0 null
+
+-- the printed object of a match
+abbrev pub matched_data : (end far : ℕ) → List Extent → (tree : Data) → Data
+matched_data end far expected tree =
+    object (member (codes "consumed") (number (unsigned end)) (member (codes "expected") (expected_data expected)
+    (member (codes "far") (number (unsigned far)) (member (codes "result") (string (codes "matched"))
+    (member (codes "tree") tree no_members)))))
 
 -- the printed object
-abbrev pub printed : Reply → Data
-printed (Matched end) =
-    object (member (codes "consumed") (number (unsigned end)) (member (codes "result") (string (codes "matched")) no_members))
-printed Failed = object (member (codes "result") (string (codes "failed")) no_members)
+abbrev pub printed : Answer → Data
 printed (Refused reason) = object (member (codes "refusal") (string (reason_text reason)) no_members)
+printed (Failed far expected) =
+    object (member (codes "expected") (expected_data expected) (member (codes "far") (number (unsigned far))
+    (member (codes "result") (string (codes "failed")) no_members)))
+printed (Matched end far expected names tree) = matched_data end far expected (tree_data names tree)
 
 -- the printed line, with its byte 10
-abbrev pub line_of : Reply → List ℕ
-line_of reply = compact_text (printed reply) ++ 10 ∷ []
+abbrev pub line_of : Answer → List ℕ
+line_of answer = compact_text (printed answer) ++ 10 ∷ []
+
+-- the reply prints the answer
+abbrev pub IsReply : Answer → Reply → Type 0
+IsReply answer reply = (view reply.value ≡ printed answer) × (reply.status ≡ status_of answer)

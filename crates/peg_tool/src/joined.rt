@@ -78,6 +78,8 @@ fn line_for(alloc: Global, input: &[u8]) -> Result<Printed, AllocError>
     let (file, text) = split(input);
     let reply = answer(alloc, file, text)?;
     let line = reply.line(alloc)?;
-    let status = reply.status();
-    Ok(Printed { line, status })
+    Ok(Printed {
+        line,
+        status: reply.status,
+    })
 }
