@@ -3,6 +3,7 @@
 # the stored line with status 0; the last one meets no refusal.
 set -u
 cd "$(dirname "$0")/../crates/pegtool"
+mkdir -p out
 want=$(cat stdout)
 for n in $(seq 1 1000); do
   got=$(rt try --fail-alloc "$n" < stdin 2> out/refused.log)
