@@ -1,1 +1,2 @@
 pub mod ByteSetLemmas
+pub mod PlaceLemmas

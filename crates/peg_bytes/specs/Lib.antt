@@ -1,2 +1,3 @@
 pub mod ByteSet
 pub mod Extent
+pub mod Place

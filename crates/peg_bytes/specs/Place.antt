@@ -1,0 +1,45 @@
+-- Lines and columns: where the line ends of a file end, and the line and column of a place.
+use Rattle.std.specs.Prelude.{ℕ, ◌+◌, ◌-◌, ◌==◌, nat_le, Bool, false, not, ◌&&◌, ◌||◌, if◌then◌else◌}
+use Rattle.std.specs.Prelude.{List, [], ◌∷◌, length, filter}
+
+-- the byte CR
+abbrev pub carriage_return : ℕ
+carriage_return = 13
+
+-- the byte LF
+abbrev pub line_feed : ℕ
+line_feed = 10
+
+-- Where the line ends end in bytes of which the first stands at this place, read greedily from the front: CR LF, else
+-- LF, else CR (Ford 2004, figure 1: EndOfLine).
+unfoldable pub line_ends : ℕ → List ℕ → List ℕ
+line_ends place [] = []
+line_ends place (first ∷ []) = if first == line_feed || first == carriage_return then (place + 1) ∷ [] else []
+line_ends place (first ∷ second ∷ rest) =
+    if first == carriage_return && second == line_feed then (place + 2) ∷ line_ends (place + 2) rest else
+    if first == line_feed || first == carriage_return then (place + 1) ∷ line_ends (place + 1) (second ∷ rest) else
+    line_ends (place + 1) (second ∷ rest)
+
+-- the line ends of a file that end at or before a place
+abbrev pub ends_up_to : List ℕ → ℕ → List ℕ
+ends_up_to file at = filter (λ end. nat_le end at) (line_ends 0 file)
+
+-- the last of these places, or this one where there is none
+abbrev pub last_or : ℕ → List ℕ → ℕ
+last_or place [] = place
+last_or place (end ∷ ends) = last_or end ends
+
+-- the line of a place, from 1
+abbrev pub line_of : List ℕ → ℕ → ℕ
+line_of file at = 1 + length (ends_up_to file at)
+
+-- its column, from 1
+abbrev pub column_of : List ℕ → ℕ → ℕ
+column_of file at = 1 + (at - last_or 0 (ends_up_to file at))
+
+-- whether a line end ends with the first of these bytes: LF, or CR that no LF follows
+abbrev pub ends_line : List ℕ → Bool
+ends_line [] = false
+ends_line (first ∷ []) = first == line_feed || first == carriage_return
+ends_line (first ∷ second ∷ rest) =
+    first == line_feed || (first == carriage_return && not (second == line_feed))
