@@ -1,3 +1,4 @@
+pub mod Derivations
 pub mod FurthestLemmas
 pub mod GrammarLemmas
 pub mod NameLists
@@ -6,6 +7,7 @@ pub mod LoopLemmas
 pub mod RecordLemmas
 pub mod SeenLemmas
 pub mod WrittenForms
+pub mod ResultSteps
 pub mod RulesLemmas
 pub mod StepLemmas
 pub mod TerminalLemmas

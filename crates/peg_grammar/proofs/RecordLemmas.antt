@@ -8,7 +8,7 @@ use Rattle.peg_grammar.specs.Record.{Recognition, Failed, Matched, Record, Takin
 abbrev pub Extends : {A : Type 0} → Option A → Option A → Type 0
 Extends {A} first second = (x : A) → first ≡ Some x → second ≡ Some x
 
-Extends-refl : {A : Type 0} (a : Option A) → Extends a a
+pub Extends-refl : {A : Type 0} (a : Option A) → Extends a a
 Extends-refl a x e = e
 
 Extends-none : {A : Type 0} (b : Option A) → Extends None b
@@ -45,12 +45,12 @@ Extends-repeated (Matched end trees) place part next more h = Extends-followed (
 
 -- where one way to take parts answers all that another does, so does the table over it
 module _ (take more : Taking) (h : (e : Form) (terminal place : ℕ) → Extends (take e terminal place) (more e terminal place)) where
-  Extends-take_items : (items : Forms) (terminal place : ℕ) → Extends (take_items take items terminal place) (take_items more items terminal place)
+  pub Extends-take_items : (items : Forms) (terminal place : ℕ) → Extends (take_items take items terminal place) (take_items more items terminal place)
   Extends-take_items End terminal place = Extends-refl (Some (matched_at place))
   Extends-take_items (Then e rest) terminal place =
       Extends-then_at (take e terminal place) (more e terminal place) (λ end. take_items take rest (terminal + terminals e) end) (λ end. take_items more rest (terminal + terminals e) end) (h e terminal place) (λ end. Extends-take_items rest (terminal + terminals e) end)
 
-  Extends-take_first : (e : Form) (rest : Forms) (terminal place : ℕ) → Extends (take_first take e rest terminal place) (take_first more e rest terminal place)
+  pub Extends-take_first : (e : Form) (rest : Forms) (terminal place : ℕ) → Extends (take_first take e rest terminal place) (take_first more e rest terminal place)
   Extends-take_first e End terminal place = h e terminal place
   Extends-take_first e (Then next rest) terminal place =
       Extends-or_else (take e terminal place) (more e terminal place) (take_first take next rest (terminal + terminals e) place) (take_first more next rest (terminal + terminals e) place) (h e terminal place) (Extends-take_first next rest (terminal + terminals e) place)
