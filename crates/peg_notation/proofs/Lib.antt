@@ -1,0 +1,10 @@
+pub mod Classes
+pub mod FigureNames
+pub mod Lexemes
+pub mod PieceLemmas
+pub mod PieceSizes
+pub mod SpacingRules
+pub mod Takes
+pub mod TextRules
+pub mod Texts
+pub mod TokenRules

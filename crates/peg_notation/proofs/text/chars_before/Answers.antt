@@ -1,0 +1,13 @@
+use Rattle.std.proofs.Common.{sym, ◌∙◌}
+use Rattle.peg_notation.specs.Lexical.{quoted_char}
+use Rattle.peg_notation.proofs.PieceLemmas.{Passed-one, Passed-all}
+use Rattle.peg_notation.proofs.text.chars_before.Goals as goal
+
+pub chars-preserved : goal.chars-preserved
+chars-preserved c =
+    Passed-one
+    (quoted_char c.args.quote) c.args.rest.now c.chars.at c.in-Some.length c.chars.invariant c.in-Some.ensures.value c.in-Some.ensures.some c.in-Some.ensures.fits
+
+pub returns-clause-value : goal.returns-clause-value
+returns-clause-value c = Passed-all (quoted_char c.args.quote) c.args.rest.now c.chars.at c.chars.invariant
+    (sym c.in_default.is ∙ c.quoted_char.ensures.value)

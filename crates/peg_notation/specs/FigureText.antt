@@ -1,0 +1,40 @@
+-- The text of Ford's figure 1 (Ford 2004, section 2.1): 29 lines, each ended by one byte 10.
+use Rattle.std.specs.Prelude.{ℕ, List, [], ◌∷◌, ◌++◌, flat_map, codes}
+
+-- the figure's lines
+unfoldable pub figure_lines : List (List ℕ)
+figure_lines =
+    codes "Grammar <- Spacing Definition+ EndOfFile" ∷
+    codes "Definition <- Identifier LEFTARROW Expression" ∷
+    codes "Expression <- Sequence (SLASH Sequence)*" ∷
+    codes "Sequence <- Prefix*" ∷
+    codes "Prefix <- (AND / NOT)? Suffix" ∷
+    codes "Suffix <- Primary (QUESTION / STAR / PLUS)?" ∷
+    codes "Primary <- Identifier !LEFTARROW / OPEN Expression CLOSE / Literal / Class / DOT" ∷
+    codes "Identifier <- IdentStart IdentCont* Spacing" ∷
+    codes "IdentStart <- [a-zA-Z_]" ∷
+    codes "IdentCont <- IdentStart / [0-9]" ∷
+    codes "Literal <- ['] (!['] Char)* ['] Spacing / [\"] (![\"] Char)* [\"] Spacing" ∷
+    codes "Class <- '[' (!']' Range)* ']' Spacing" ∷
+    codes "Range <- Char '-' Char / Char" ∷
+    codes "Char <- '\\\\' [nrt'\"\\[\\]\\\\] / '\\\\' [0-2][0-7][0-7] / '\\\\' [0-7][0-7]? / !'\\\\' ." ∷
+    codes "LEFTARROW <- '<-' Spacing" ∷
+    codes "SLASH <- '/' Spacing" ∷
+    codes "AND <- '&' Spacing" ∷
+    codes "NOT <- '!' Spacing" ∷
+    codes "QUESTION <- '?' Spacing" ∷
+    codes "STAR <- '*' Spacing" ∷
+    codes "PLUS <- '+' Spacing" ∷
+    codes "OPEN <- '(' Spacing" ∷
+    codes "CLOSE <- ')' Spacing" ∷
+    codes "DOT <- '.' Spacing" ∷
+    codes "Spacing <- (Space / Comment)*" ∷
+    codes "Comment <- '#' (!EndOfLine .)* EndOfLine" ∷
+    codes "Space <- ' ' / '\\t' / EndOfLine" ∷
+    codes "EndOfLine <- '\\r\\n' / '\\n' / '\\r'" ∷
+    codes "EndOfFile <- !." ∷
+    []
+
+-- the figure's text
+abbrev pub text_of_figure : List ℕ
+text_of_figure = flat_map (λ line. line ++ 10 ∷ []) figure_lines

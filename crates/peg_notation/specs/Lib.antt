@@ -1,0 +1,17 @@
+pub use Rattle.peg_grammar.specs.ByteSet
+pub use Rattle.peg_grammar.specs.Extent
+pub use Rattle.peg_grammar.specs.Form
+pub use Rattle.peg_grammar.specs.Grammar
+pub use Rattle.peg_grammar.specs.Record
+pub use Rattle.peg_grammar.specs.Rules
+pub use Rattle.peg_grammar.specs.Trees
+pub mod Figure
+pub mod FigureRules
+pub mod FigureText
+pub mod Lexical
+pub mod LexicalCode
+pub mod Notation
+pub mod Pieces
+pub mod Ranges
+pub mod Spelled
+pub mod Tokens
