@@ -1,3 +1,4 @@
+pub mod Ascending
 pub mod FurthestLemmas
 pub mod GrammarLemmas
 pub mod NameLists
