@@ -80,8 +80,8 @@ impl Furthest {
     }
 }
 
-// Puts a number in its place among ascending ones, if it isn't there. Constant time behind the last one; else the place is
-// found in logarithmic time, and the greater ones move.
+// Puts a number in its place among ascending ones, if it isn't there. Constant time behind the last one; else the place
+// is found in logarithmic time, and the greater ones move.
 fn insert_ascending(numbers: &mut Vec<u32>, number: u32) -> Result<(), AllocError>
     requires { IsStrictlyIncreasing numbers.old.items }
     ensures inserted { OnOk result (numbers.new.items ≡ insert_ascending number numbers.old.items) }

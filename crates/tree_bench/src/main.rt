@@ -1,5 +1,5 @@
-//! Makes a large tree, prints its rows as JSON and tells how many bytes those take, for the script in bench/. The first word
-//! is the number of rows, with no word 1,000: a root, below it a chain of half as many, and the others its children.
+//! Makes a large tree, prints its rows as JSON and tells how many bytes those take, for the script in bench/. The first
+//! word is the number of rows, with no word 1,000: a root, below it a chain of half as many, the others its children.
 #![tactic(auto)]
 
 ghost use Rattle.std.specs.Prelude.{◌∷◌, [], codes};
