@@ -6,6 +6,8 @@ mod front;
 pub mod laws;
 mod lexer;
 mod spacing;
+#[cfg(test)]
+mod tests;
 mod text;
 mod token;
 
