@@ -9,6 +9,8 @@ pub mod laws;
 mod lexer;
 mod ranges;
 mod spacing;
+#[cfg(test)]
+mod tests;
 mod text;
 mod text_of_figure;
 mod token;
