@@ -1,8 +1,13 @@
 -- What the figure's names mean.
 use Rattle.std.proofs.Common.{◌≡◌, ℕ, codes, Some, refl}
 use Rattle.peg_grammar.specs.Rules.{meant}
-use Rattle.peg_notation.specs.Figure.{figure, syntax_rules, text_rules, sign_rules, spacing_rules, definition_body, expression_body, sequence_body, prefix_body, suffix_body, primary_body, identifier_body, ident_start_body, ident_cont_body, literal_body, class_body, range_body, char_body, leftarrow_body, slash_body, and_sign_body, not_sign_body, question_body, star_body, plus_body, open_sign_body, close_body, dot_body, spacing_body, comment_body, space_body, end_of_line_body, end_of_file_body}
+use Rattle.peg_notation.specs.Figure.{figure, syntax_rules, text_rules, sign_rules, spacing_rules, grammar_body, definition_body, expression_body, sequence_body, prefix_body, suffix_body, primary_body, identifier_body, ident_start_body, ident_cont_body, literal_body, class_body, range_body, char_body, leftarrow_body, slash_body, and_sign_body, not_sign_body, question_body, star_body, plus_body, open_sign_body, close_body, dot_body, spacing_body, comment_body, space_body, end_of_line_body, end_of_file_body}
 use Rattle.peg_notation.specs.FigureRules as rule
+
+pub grammar-meant : (t : ℕ) × (meant figure (codes "Grammar")
+    ≡ Some (record { rule = rule.grammar; terminal = t; body = grammar_body }))
+unfolding figure syntax_rules text_rules sign_rules spacing_rules
+grammar-meant = (_, refl)
 
 pub definition-meant : (t : ℕ) × (meant figure (codes "Definition")
     ≡ Some (record { rule = rule.definition; terminal = t; body = definition_body }))

@@ -1,9 +1,16 @@
 pub mod Classes
+pub mod ExpressionRules
 pub mod FigureNames
+pub mod GrammarRules
 pub mod Lexemes
 pub mod PieceLemmas
 pub mod PieceSizes
+pub mod PrefixRules
+pub mod PrimaryRule
+pub mod Readings
+pub mod Repeats
 pub mod SpacingRules
+pub mod Streams
 pub mod Takes
 pub mod TextRules
 pub mod Texts

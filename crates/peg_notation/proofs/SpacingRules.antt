@@ -1,5 +1,5 @@
 -- The figure's rules from Spacing to EndOfLine, as functions on the bytes at the front.
-use Rattle.std.proofs.Common.{◌≡◌, ℕ, ◌+◌, true, List, [], length, drop, refl, ◌∙◌, codes, lit<, append-nil, arith}
+use Rattle.std.proofs.Common.{max, ◌≡◌, ℕ, ◌+◌, true, List, [], length, drop, refl, ap, ◌∙◌, codes, lit<, append-nil, arith}
 use Rattle.peg_bytes.specs.Extent.{Extent, between}
 use Rattle.peg_tree.specs.Trees.{Trees, NoTrees, Tree}
 use Rattle.peg_grammar.specs.Record.{Matched}
@@ -9,7 +9,7 @@ use Rattle.peg_notation.specs.Figure.{figure, end_of_line_body, space_body, comm
 use Rattle.peg_notation.specs.FigureRules as rule
 use Rattle.peg_notation.specs.Lexical.{end_of_line, space, comment, in_comment, space_or_comment, spacing}
 use Rattle.peg_notation.specs.Pieces.{Piece, followed, star, unless, many}
-use Rattle.peg_notation.specs.Spelled.{spelled, text_end}
+use Rattle.peg_notation.specs.Spelled.{spelled, text_end, nesting}
 use Rattle.peg_notation.proofs.FigureNames.{end_of_line-meant, space-meant, comment-meant, spacing-meant}
 use Rattle.peg_notation.proofs.PieceSizes.{Fits, HasBytes, is_long, fits-these, has-these, fits-one, has-one, fits-followed, has-first, has-next, fits-either, has-either, fits-unless, fits-star, IsBlank, blank-these, blank-one, blank-followed, blank-either, blank-unless, blank-many, blank-star}
 use Rattle.peg_notation.proofs.Takes.{Takes, IsLong, Nodes, takes-these, takes-any, takes-then, takes-last, takes-seq, takes-only, takes-or, takes-choice, takes-not, takes-star, takes-name}
@@ -28,7 +28,7 @@ end_of_line-some =
     (has-these (codes "\r") (lit< tt)))
 
 end_of_line-nodes : Nodes rule.end_of_line (λ text inner. inner)
-end_of_line-nodes = record { spells = λ file before start end last inner. refl; no_spacing = refl }
+end_of_line-nodes = record { spells = λ file before start end last inner. refl; no_spacing = refl; no_primary = refl }
 
 pub takes-end_of_line : (file : List ℕ) (start end : ℕ)
     → Takes file (Name (codes "EndOfLine") (between start end)) end_of_line
@@ -50,7 +50,7 @@ space-some =
     has-either (has-these (codes " ") (lit< tt)) (has-either (has-these (codes "\t") (lit< tt)) end_of_line-some)
 
 space-nodes : Nodes rule.space (λ text inner. inner)
-space-nodes = record { spells = λ file before start end last inner. refl; no_spacing = refl }
+space-nodes = record { spells = λ file before start end last inner. refl; no_spacing = refl; no_primary = refl }
 
 pub takes-space : (file : List ℕ) (start end : ℕ) → Takes file (Name (codes "Space") (between start end)) space
 unfolding space space_body
@@ -76,7 +76,7 @@ unfolding comment
 comment-some = has-first (followed (star in_comment) end_of_line) (has-these (codes "#") (lit< tt))
 
 comment-nodes : Nodes rule.comment (λ text inner. inner)
-comment-nodes = record { spells = λ file before start end last inner. refl; no_spacing = refl }
+comment-nodes = record { spells = λ file before start end last inner. refl; no_spacing = refl; no_primary = refl }
 
 pub takes-comment : (file : List ℕ) (start end : ℕ) → Takes file (Name (codes "Comment") (between start end)) comment
 unfolding comment comment_body
@@ -121,6 +121,7 @@ pub record FindsSpacing (file : List ℕ) (span : Extent) (p : ℕ) : Type 0 whe
   pub derives : Derives figure file (Name (codes "Spacing") span) p (Matched (p + (spacing (drop p file)).length) trees)
   pub spells : (before : ℕ) → spelled file before trees ≡ []
   pub ends : (before : ℕ) → text_end before trees ≡ p
+  pub flat : nesting trees ≡ 0
 
 pub finds-spacing : (file : List ℕ) (span : Extent) (p : ℕ) → FindsSpacing file span p
 unfolding spacing spacing_body
@@ -138,4 +139,5 @@ finds-spacing file span p =
           ∙ blank-many space_or_comment-long space_or_comment-blank (length (drop p file)) (drop p file) (omega arith)
           (space_or_comment (drop p file)) refl);
       ends = λ before. refl;
+      flat = ap (λ n. max (0 + n) 0) it.spelled.flat;
     }

@@ -1,6 +1,6 @@
 -- What the figure's rules say, by functions on the bytes at the front: a way to find pieces and an expression take the
 -- same at each place of a file.
-use Rattle.std.proofs.Common.{◌≡◌, ℕ, zero, suc, ◌+◌, ◌<◌, ◌≤◌, Bool, true, false, List, [], ◌∷◌, ◌++◌, length, take, drop, add_assoc}
+use Rattle.std.proofs.Common.{max, ◌≡◌, ℕ, zero, suc, ◌+◌, ◌<◌, ◌≤◌, Bool, true, false, List, [], ◌∷◌, ◌++◌, ◌&&◌, length, take, drop, add_assoc}
 use Rattle.std.proofs.Common.{Option, None, Some, option_map, option_and_then, if◌then◌else◌, ◌==◌, nat_eq, refl, sym, ap, ◌∙◌, subst, arith, append_assoc, append-nil, length-drop}
 use Rattle.std.proofs.lemmas.List.{drop-drop}
 use Rattle.std.specs.List.{starts_with}
@@ -16,7 +16,7 @@ use Rattle.peg_notation.specs.Figure.{figure}
 use Rattle.peg_notation.specs.FigureRules as rule
 use Rattle.peg_notation.specs.Pieces.{Piece, Finding, plain, both, these, one_that, followed, or_piece, either, none_of, unless, maybe, many, star}
 use Rattle.peg_notation.specs.Ranges.{Range, class_of}
-use Rattle.peg_notation.specs.Spelled.{Spelling, text_end, part, node_spelled, spelled}
+use Rattle.peg_notation.specs.Spelled.{Spelling, text_end, part, node_spelled, spelled, nesting, has_open}
 use Rattle.peg_notation.proofs.PieceLemmas.{many-none, many-some}
 
 -- ---- what trees spell
@@ -36,13 +36,20 @@ spelled-followed file before (Tree r start end children rest) b =
     ap (λ (more : List Spelling). node ++ more) (spelled-followed file after rest b)
     ∙ sym (append_assoc node (spelled file after rest) (spelled file (text_end after rest) b))
 
+pub nesting-followed : (a b : Trees) → nesting (followed_by a b) ≡ max (nesting a) (nesting b)
+nesting-followed NoTrees b = omega arith
+nesting-followed (Tree r start end children rest) b =
+    let own : ℕ = (if r == rule.primary && has_open children then 1 else 0) + nesting children in
+    omega (arith, nesting-followed rest b)
+
 -- trees without a token's end among them spell these pieces
 pub record SpellsAs (file : List ℕ) (trees : Trees) (pieces : List Spelling) : Type 0 where
   pub spells : (before : ℕ) → spelled file before trees ≡ pieces
   pub no_token : (before : ℕ) → text_end before trees ≡ before
+  pub flat : nesting trees ≡ 0
 
 pub SpellsAs-none : (file : List ℕ) → SpellsAs file NoTrees []
-SpellsAs-none file = record { spells = λ before. refl; no_token = λ before. refl }
+SpellsAs-none file = record { spells = λ before. refl; no_token = λ before. refl; flat = refl }
 
 pub SpellsAs-both : {file : List ℕ} {a b : Trees} {xs ys : List Spelling} → SpellsAs file a xs → SpellsAs file b ys
     → SpellsAs file (followed_by a b) (xs ++ ys)
@@ -51,6 +58,7 @@ SpellsAs-both {file} {a} {b} {xs} {ys} first next = record {
       (ap (λ (more : List Spelling). spelled file before a ++ more) (next.spells (text_end before a))
       ∙ ap (λ (pieces : List Spelling). pieces ++ ys) (first.spells before));
   no_token = λ before. text_end-followed before a b ∙ (next.no_token (text_end before a) ∙ first.no_token before);
+  flat = nesting-followed a b ∙ (ap (λ n. max n (nesting b)) first.flat ∙ ap (λ n. max 0 n) next.flat);
 }
 
 -- ---- an expression and a way to find pieces
@@ -364,6 +372,7 @@ pub record Nodes (number : ℕ) (spell : List ℕ → List Spelling → List Spe
   pub spells : (file : List ℕ) (before start end last : ℕ) (inner : List Spelling)
       → node_spelled file number before start end last inner ≡ spell (part file start end) inner
   pub no_spacing : (number == rule.spacing) ≡ false
+  pub no_primary : (number == rule.primary) ≡ false
 
 -- a way to find that finds the same
 pub takes-same : {file : List ℕ} {e : Form} {find other : Finding} → ((rest : List ℕ) → find rest ≡ other rest)
@@ -400,6 +409,9 @@ takes-node {file} {used} {find} {spell} span m known nodes a = record {
             ∙ ap (λ n. spell (take n (drop p file)) x.spells) (omega arith)));
         no_token = λ before.
             ap (λ (t : Bool). if t then p else text_end before it.trees) nodes.no_spacing ∙ it.spelled.no_token before;
+        flat =
+            ap (λ (t : Bool). max ((if t && has_open it.trees then 1 else 0) + nesting it.trees) 0) nodes.no_primary
+            ∙ ap (λ n. max (0 + n) 0) it.spelled.flat;
       };
     }
 

@@ -17,7 +17,7 @@ use Rattle.peg_notation.proofs.Takes.{Takes, IsLong, Nodes, takes-these, takes-c
 -- ---- names
 
 ident_start-nodes : Nodes rule.ident_start (λ text inner. inner)
-ident_start-nodes = record { spells = λ file before start end last inner. refl; no_spacing = refl }
+ident_start-nodes = record { spells = λ file before start end last inner. refl; no_spacing = refl; no_primary = refl }
 
 pub takes-ident_start : (file : List ℕ) (start end : ℕ)
     → Takes file (Name (codes "IdentStart") (between start end)) (one_that begins_name)
@@ -27,7 +27,7 @@ takes-ident_start file start end =
     (takes-class file _ _ begins_name has_name_start)
 
 ident_cont-nodes : Nodes rule.ident_cont (λ text inner. inner)
-ident_cont-nodes = record { spells = λ file before start end last inner. refl; no_spacing = refl }
+ident_cont-nodes = record { spells = λ file before start end last inner. refl; no_spacing = refl; no_primary = refl }
 
 pub takes-ident_cont : (file : List ℕ) (start end : ℕ) → Takes file
     (Name (codes "IdentCont") (between start end)) in_name
@@ -49,7 +49,7 @@ identifier-fits = fits-followed (fits-one begins_name) (fits-star in_name-long)
 -- ---- characters
 
 char-nodes : Nodes rule.char (λ text inner. Byte (byte_spelled text) ∷ [])
-char-nodes = record { spells = λ file before start end last inner. refl; no_spacing = refl }
+char-nodes = record { spells = λ file before start end last inner. refl; no_spacing = refl; no_primary = refl }
 
 -- an octal digit
 takes-octal : (file : List ℕ) (span : Extent) → Takes file (Class (class_of (ranges.range 48 55 ∷ [])) span) octal_digit
@@ -116,7 +116,7 @@ literal-fits = fits-either (quoted-fits 39) (quoted-fits 34)
 -- ---- classes
 
 range-nodes : Nodes rule.range (λ text inner. Bytes (range_spelled (bytes_in inner)) ∷ [])
-range-nodes = record { spells = λ file before start end last inner. refl; no_spacing = refl }
+range-nodes = record { spells = λ file before start end last inner. refl; no_spacing = refl; no_primary = refl }
 
 pub takes-range : (file : List ℕ) (start end : ℕ) → Takes file (Name (codes "Range") (between start end)) range
 unfolding range range_body

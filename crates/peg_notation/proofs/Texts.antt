@@ -1,5 +1,5 @@
 -- What the figure's rules with Spacing behind them say: a text, and how far the spacing behind it goes.
-use Rattle.std.proofs.Common.{◌≡◌, ℕ, ◌+◌, Bool, false, List, ◌++◌, drop, add_assoc, append-nil}
+use Rattle.std.proofs.Common.{◌≡◌, ℕ, max, ◌+◌, Bool, true, false, ◌&&◌, ◌||◌, List, ◌++◌, drop, add_assoc, append-nil}
 use Rattle.std.proofs.Common.{Option, None, Some, option_map, option_and_then, if◌then◌else◌, ◌==◌, codes, refl, sym, ap, ◌∙◌, subst}
 use Rattle.std.proofs.lemmas.List.{drop-drop}
 use Rattle.peg_bytes.specs.Extent.{Extent}
@@ -12,9 +12,9 @@ use Rattle.peg_notation.specs.Figure.{figure}
 use Rattle.peg_notation.specs.FigureRules as rule
 use Rattle.peg_notation.specs.Lexical.{spacing}
 use Rattle.peg_notation.specs.Pieces.{Piece, Finding, both, followed, or_piece, either}
-use Rattle.peg_notation.specs.Spelled.{Spelling, text_end, node_spelled, spelled}
+use Rattle.peg_notation.specs.Spelled.{Spelling, text_end, node_spelled, spelled, nesting, has_open}
 use Rattle.peg_notation.proofs.SpacingRules.{FindsSpacing, finds-spacing}
-use Rattle.peg_notation.proofs.Takes.{Takes, SpellsAs, spelled-followed, text_end-followed}
+use Rattle.peg_notation.proofs.Takes.{Takes, SpellsAs, spelled-followed, text_end-followed, nesting-followed}
 
 -- where the spacing behind a text of so many bytes ends
 abbrev pub behind_text : List ℕ → (p size : ℕ) → ℕ
@@ -24,6 +24,7 @@ behind_text file p size = p + size + (spacing (drop (p + size) file)).length
 pub record Spells (file : List ℕ) (trees : Trees) (pieces : List Spelling) (last : ℕ) : Type 0 where
   pub spells : (before : ℕ) → spelled file before trees ≡ pieces
   pub ends : (before : ℕ) → text_end before trees ≡ last
+  pub flat : nesting trees ≡ 0
 
 -- items whose last is Spacing
 pub record FindsItems (file : List ℕ) (items : Forms) (p : ℕ) (piece : Piece) : Type 0 where
@@ -68,6 +69,10 @@ text-last {file} {e} {find} span a = record {
           ends = λ before.
               text_end-followed before it.trees (followed_by gap.trees NoTrees)
               ∙ (text_end-followed (text_end before it.trees) gap.trees NoTrees ∙ gap.ends (text_end before it.trees));
+          flat =
+              nesting-followed it.trees (followed_by gap.trees NoTrees)
+              ∙ (ap (λ n. max n (nesting (followed_by gap.trees NoTrees))) it.spelled.flat
+              ∙ ap (λ n. max 0 n) (nesting-followed gap.trees NoTrees ∙ ap (λ n. max n 0) gap.flat));
         };
       };
 }
@@ -92,6 +97,9 @@ both_items {file} {e} {rest} {p} first next a b =
             ∙ ap (λ (pieces : List Spelling). pieces ++ next.spells) (a.spelled.spells before));
         ends = λ before.
             text_end-followed before a.trees b.trees ∙ (b.spelled.ends (text_end before a.trees) ∙ assoc);
+        flat =
+            nesting-followed a.trees b.trees
+            ∙ (ap (λ n. max n (nesting b.trees)) a.spelled.flat ∙ ap (λ n. max 0 n) b.spelled.flat);
       };
     }
 
@@ -176,6 +184,10 @@ text-either {file} {e} {f} {first} {other} span a b = record {
 
 -- ---- tokens
 
+or_false : (t : Bool) → (t || false) ≡ t
+or_false true = refl
+or_false false = refl
+
 -- a token's rule at a place: its tree, where its text ends, and what it spells
 pub record FindsToken (file : List ℕ) (number : ℕ) (used : List ℕ) (span : Extent) (p : ℕ)
     (piece : Piece) : Type 0 where
@@ -184,6 +196,8 @@ pub record FindsToken (file : List ℕ) (number : ℕ) (used : List ℕ) (span :
   pub ends : (before : ℕ) → text_end before trees ≡ p + piece.length
   pub spells : (before : ℕ) → spelled file before trees
       ≡ node_spelled file number before p (behind_text file p piece.length) (p + piece.length) piece.spells
+  pub flat : nesting trees ≡ 0
+  pub opens : has_open trees ≡ (number == rule.open_sign)
 
 pub record TakesToken (file : List ℕ) (number : ℕ) (used : List ℕ) (find : Finding) : Type 0 where
   pub none : (span : Extent) (p : ℕ) → find (drop p file) ≡ None → Derives figure file (Name used span) p Failed
@@ -191,8 +205,9 @@ pub record TakesToken (file : List ℕ) (number : ℕ) (used : List ℕ) (find :
       → FindsToken file number used span p piece
 
 pub takes-token : {file used : List ℕ} {find : Finding} (m : Meaning) → meant figure used ≡ Some m
-    → (m.rule == rule.spacing) ≡ false → TakesText file m.body find → TakesToken file m.rule used find
-takes-token {file} {used} {find} m known no_spacing a = record {
+    → (m.rule == rule.spacing) ≡ false → (m.rule == rule.primary) ≡ false → TakesText file m.body find
+    → TakesToken file m.rule used find
+takes-token {file} {used} {find} m known no_spacing no_primary a = record {
   none = λ span p none. Derives.name_failed known (a.none p none);
   some = λ span p piece found.
       let it = a.some p piece found in
@@ -208,5 +223,9 @@ takes-token {file} {used} {find} m known no_spacing a = record {
             (spelled file before it.trees)) (it.spelled.ends before)
             ∙ ap (node_spelled file m.rule before p (behind_text file p piece.length) (p + piece.length))
             (it.spelled.spells before));
+        flat =
+            ap (λ (t : Bool). max ((if t && has_open it.trees then 1 else 0) + nesting it.trees) 0) no_primary
+            ∙ ap (λ n. max (0 + n) 0) it.spelled.flat;
+        opens = or_false (m.rule == rule.open_sign);
       };
 }

@@ -13,14 +13,14 @@ use Rattle.peg_notation.proofs.Texts.{TakesToken, text-last, text-then, text-seq
 pub takes-identifier : (file : List ℕ) → TakesToken file rule.identifier (codes "Identifier") identifier
 unfolding identifier identifier_body
 takes-identifier file =
-    takes-token _ identifier-meant.1 refl
+    takes-token _ identifier-meant.1 refl refl
     (text-seq _ (text-then (takes-ident_start file _ _) (text-last _
     (takes-star _ (takes-ident_cont file _ _) in_name-long))))
 
 pub takes-literal : (file : List ℕ) → TakesToken file rule.literal (codes "Literal") literal
 unfolding literal quoted literal_body
 takes-literal file =
-    takes-token _ literal-meant.1 refl
+    takes-token _ literal-meant.1 refl refl
     (text-either _
     (text-seq _ (text-then (takes-class file _ _ (is_quote 39) (has_one 39 (lit< tt)))
     (text-then (takes-star _ (takes-seq _ (takes-then
@@ -34,7 +34,7 @@ takes-literal file =
 pub takes-class_token : (file : List ℕ) → TakesToken file rule.class (codes "Class") class
 unfolding class class_body
 takes-class_token file =
-    takes-token _ class-meant.1 refl
+    takes-token _ class-meant.1 refl refl
     (text-seq _ (text-then (takes-these file _ _) (text-then (takes-star _
     (takes-seq _ (takes-then (takes-not _ (takes-these file _ _))
     (takes-last (takes-range file _ _)))) classed_range-long) (text-last _ (takes-these file _ _)))))
@@ -42,49 +42,49 @@ takes-class_token file =
 pub takes-leftarrow : (file : List ℕ) → TakesToken file rule.leftarrow (codes "LEFTARROW") (these (codes "<-"))
 unfolding leftarrow_body
 takes-leftarrow file =
-    takes-token _ leftarrow-meant.1 refl (text-seq _ (text-last _ (takes-these file _ _)))
+    takes-token _ leftarrow-meant.1 refl refl (text-seq _ (text-last _ (takes-these file _ _)))
 
 pub takes-slash : (file : List ℕ) → TakesToken file rule.slash (codes "SLASH") (these (codes "/"))
 unfolding slash_body
 takes-slash file =
-    takes-token _ slash-meant.1 refl (text-seq _ (text-last _ (takes-these file _ _)))
+    takes-token _ slash-meant.1 refl refl (text-seq _ (text-last _ (takes-these file _ _)))
 
 pub takes-and_sign : (file : List ℕ) → TakesToken file rule.and_sign (codes "AND") (these (codes "&"))
 unfolding and_sign_body
 takes-and_sign file =
-    takes-token _ and_sign-meant.1 refl (text-seq _ (text-last _ (takes-these file _ _)))
+    takes-token _ and_sign-meant.1 refl refl (text-seq _ (text-last _ (takes-these file _ _)))
 
 pub takes-not_sign : (file : List ℕ) → TakesToken file rule.not_sign (codes "NOT") (these (codes "!"))
 unfolding not_sign_body
 takes-not_sign file =
-    takes-token _ not_sign-meant.1 refl (text-seq _ (text-last _ (takes-these file _ _)))
+    takes-token _ not_sign-meant.1 refl refl (text-seq _ (text-last _ (takes-these file _ _)))
 
 pub takes-question : (file : List ℕ) → TakesToken file rule.question (codes "QUESTION") (these (codes "?"))
 unfolding question_body
 takes-question file =
-    takes-token _ question-meant.1 refl (text-seq _ (text-last _ (takes-these file _ _)))
+    takes-token _ question-meant.1 refl refl (text-seq _ (text-last _ (takes-these file _ _)))
 
 pub takes-star_sign : (file : List ℕ) → TakesToken file rule.star (codes "STAR") (these (codes "*"))
 unfolding star_body
 takes-star_sign file =
-    takes-token _ star-meant.1 refl (text-seq _ (text-last _ (takes-these file _ _)))
+    takes-token _ star-meant.1 refl refl (text-seq _ (text-last _ (takes-these file _ _)))
 
 pub takes-plus : (file : List ℕ) → TakesToken file rule.plus (codes "PLUS") (these (codes "+"))
 unfolding plus_body
 takes-plus file =
-    takes-token _ plus-meant.1 refl (text-seq _ (text-last _ (takes-these file _ _)))
+    takes-token _ plus-meant.1 refl refl (text-seq _ (text-last _ (takes-these file _ _)))
 
 pub takes-open_sign : (file : List ℕ) → TakesToken file rule.open_sign (codes "OPEN") (these (codes "("))
 unfolding open_sign_body
 takes-open_sign file =
-    takes-token _ open_sign-meant.1 refl (text-seq _ (text-last _ (takes-these file _ _)))
+    takes-token _ open_sign-meant.1 refl refl (text-seq _ (text-last _ (takes-these file _ _)))
 
 pub takes-close : (file : List ℕ) → TakesToken file rule.close (codes "CLOSE") (these (codes ")"))
 unfolding close_body
 takes-close file =
-    takes-token _ close-meant.1 refl (text-seq _ (text-last _ (takes-these file _ _)))
+    takes-token _ close-meant.1 refl refl (text-seq _ (text-last _ (takes-these file _ _)))
 
 pub takes-dot : (file : List ℕ) → TakesToken file rule.dot (codes "DOT") (these (codes "."))
 unfolding dot_body
 takes-dot file =
-    takes-token _ dot-meant.1 refl (text-seq _ (text-last _ (takes-these file _ _)))
+    takes-token _ dot-meant.1 refl refl (text-seq _ (text-last _ (takes-these file _ _)))

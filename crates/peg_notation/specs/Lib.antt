@@ -14,5 +14,6 @@ pub mod Notation
 pub mod Pieces
 pub mod Ranges
 pub mod RangesCode
+pub mod Reader
 pub mod Spelled
 pub mod Tokens

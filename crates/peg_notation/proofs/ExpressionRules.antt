@@ -1,0 +1,347 @@
+-- The reader's `sequence` and `expression` say what the figure's Sequence and Expression say.
+use Rattle.std.proofs.Common.{◌≡◌, ◌≢◌, ℕ, zero, suc, max, ◌+◌, ◌<◌, ◌≤◌, Bool, true, false, List, [], ◌∷◌, ◌++◌, map, length, drop, length-drop, codes, inl, inr}
+use Rattle.std.proofs.Common.{Option, None, Some, Result, Ok, Err, refl, sym, ap, ◌∙◌, subst, arith, append-nil}
+use Rattle.std.proofs.lemmas.List.{drop-drop}
+use Rattle.peg_bytes.specs.Extent.{Extent, between}
+use Rattle.peg_tree.specs.Trees.{Trees, NoTrees, Tree, followed_by}
+use Rattle.peg_grammar.specs.Form as form
+use Rattle.peg_grammar.specs.Form.{Form, Name}
+use Rattle.peg_grammar.specs.Record.{Failed, Matched}
+use Rattle.peg_grammar.proofs.Derivations.{Derives, DerivesItems}
+use Rattle.peg_notation.specs.Figure.{figure, sequence_body, expression_body}
+use Rattle.peg_notation.specs.FigureRules as rule
+use Rattle.peg_notation.specs.Lexical.{text_of}
+use Rattle.peg_notation.specs.Pieces.{Piece}
+use Rattle.peg_notation.specs.Reader.{Halt, Unexpected, TooDeep, Part, Parts, Reading, place_of, starts_with_arrow, kind_begins, begins_prefix, and_read, many, primary, suffix, prefix, sequence_part, sequence, is_slash, starts_with_slash, behind, alternative, choice_part, expression, expression_in}
+use Rattle.peg_notation.specs.Spelled.{Spelling, Expression, text_end, spelled, expressions_in, sequence_spelled, choice_spelled, nesting}
+use Rattle.peg_notation.specs.Tokens.{Lexeme}
+use Rattle.peg_notation.specs.declared.token.TokenKind.{TokenKind}
+use Rattle.peg_notation.specs.declared.token.TokenKind.TheVariants as kind
+use Rattle.peg_notation.proofs.FigureNames.{sequence-meant, expression-meant}
+use Rattle.peg_notation.proofs.Lexemes.{lexeme_at}
+use Rattle.peg_notation.proofs.PieceSizes.{blank-these}
+use Rattle.peg_notation.proofs.PrefixRules.{prefix-exact}
+use Rattle.peg_notation.proofs.Readings.{followed-none, ReadsAny, ExactAny, ReadsAt, ExactAt, Stops, IsStuck, Good, node_at, place-is}
+use Rattle.peg_notation.proofs.Repeats.{ReadsRound, StarStops, ExactRound, Rounds, ReadsMany, ExactMany, rounds}
+use Rattle.peg_notation.proofs.Streams.{Stream, here, not_here, none_here}
+use Rattle.peg_notation.proofs.Takes.{spelled-followed, text_end-followed, nesting-followed}
+use Rattle.peg_notation.proofs.Texts.{FindsToken, behind_text}
+
+-- ---- where a prefix begins
+
+-- where none begins, none is read
+none_begins : (file : List ℕ) (inner : Option Reading) (p : ℕ) (lexemes : List Lexeme) → Stream file p lexemes
+    → begins_prefix lexemes ≡ false → (at : ℕ) × (prefix file inner lexemes ≡ Err (Unexpected at))
+unfolding prefix suffix primary
+none_begins file inner p [] stream none = (length file, refl)
+none_begins file inner p (_ ∷ more) (Stream.next k piece lexeme found is rest) none =
+    subst (λ (l : Lexeme). (at : ℕ) × (prefix file inner (l ∷ more) ≡ Err (Unexpected at))) (sym is)
+        (by k (ap (λ (l : Lexeme). kind_begins l.kind (starts_with_arrow more)) (sym is) ∙ none))
+  where
+    name : (t : Bool) → starts_with_arrow more ≡ t → kind_begins kind.Ident t ≡ false → (at : ℕ)
+        × (prefix file inner (lexeme_at kind.Ident p piece.length ∷ more) ≡ Err (Unexpected at))
+    name true arrow begins = (place_of (length file) more, rw arrow refl)
+    name false arrow begins = cc
+
+    by : (k : TokenKind) → kind_begins k (starts_with_arrow more) ≡ false → (at : ℕ)
+        × (prefix file inner (lexeme_at k p piece.length ∷ more) ≡ Err (Unexpected at))
+    by kind.Ident begins = name (starts_with_arrow more) refl begins
+    by kind.Literal begins = cc
+    by kind.Class begins = cc
+    by kind.And begins = cc
+    by kind.Not begins = cc
+    by kind.Open begins = cc
+    by kind.Dot begins = cc
+    by kind.Arrow begins = (p, refl)
+    by kind.Slash begins = (p, refl)
+    by kind.Question begins = (p, refl)
+    by kind.Star begins = (p, refl)
+    by kind.Plus begins = (p, refl)
+    by kind.Close begins = (p, refl)
+
+-- where one begins and none is read, a sign or a parenthesis stands
+begun_stuck : (file : List ℕ) (inner : Option Reading) (p at : ℕ) (lexemes : List Lexeme) → Stream file p lexemes
+    → begins_prefix lexemes ≡ true → prefix file inner lexemes ≡ Err (Unexpected at) → IsStuck file p
+unfolding prefix suffix primary
+begun_stuck file inner p at [] stream begins none = cc
+begun_stuck file inner p at (_ ∷ more) (Stream.next k piece lexeme found is rest) begins none =
+    by k found (ap (λ (l : Lexeme). kind_begins l.kind (starts_with_arrow more)) (sym is) ∙ begins)
+        (ap (λ (l : Lexeme). prefix file inner (l ∷ more)) (sym is) ∙ none)
+  where
+    name : (t : Bool) → starts_with_arrow more ≡ t → kind_begins kind.Ident t ≡ true
+        → prefix file inner (lexeme_at kind.Ident p piece.length ∷ more) ≡ Err (Unexpected at) → IsStuck file p
+    name true arrow yes_begins e = cc
+    name false arrow yes_begins e = absurd (let bad = rw arrow at e in cc)
+
+    by : (k : TokenKind) → text_of k (drop p file) ≡ Some piece → kind_begins k (starts_with_arrow more) ≡ true
+        → prefix file inner (lexeme_at k p piece.length ∷ more) ≡ Err (Unexpected at) → IsStuck file p
+    by kind.And there yes_begins e = record { kind = kind.And; piece = piece; found = there; opens = inl refl }
+    by kind.Not there yes_begins e = record { kind = kind.Not; piece = piece; found = there; opens = inr (inl refl) }
+    by kind.Open there yes_begins e = record { kind = kind.Open; piece = piece; found = there; opens = inr (inr refl) }
+    by kind.Ident there yes_begins e = name (starts_with_arrow more) refl yes_begins e
+    by kind.Literal there yes_begins e = cc
+    by kind.Class there yes_begins e = cc
+    by kind.Dot there yes_begins e = cc
+    by kind.Arrow there yes_begins e = cc
+    by kind.Slash there yes_begins e = cc
+    by kind.Question there yes_begins e = cc
+    by kind.Star there yes_begins e = cc
+    by kind.Plus there yes_begins e = cc
+    by kind.Close there yes_begins e = cc
+
+-- ---- Sequence
+
+prefix_rounds : (file : List ℕ) (most : ℕ) (inner : Option Reading) → Good file most inner
+    → Rounds file (Name (codes "Prefix") (between 140 146)) (between 140 147) begins_prefix
+    (λ before. prefix file inner) most
+prefix_rounds file most inner good = record {
+  none = λ p lexemes stream few none.
+      let it = none_begins file inner p lexemes stream none in
+      subst (λ (x : Result Part Halt). ExactAny file (codes "Prefix") p lexemes x) it.1
+          (prefix-exact file most inner good p lexemes stream few) (between 140 146);
+  one = λ before p lexemes stream few begins.
+      by p lexemes stream begins (prefix file inner lexemes) refl
+          (prefix-exact file most inner good p lexemes stream few);
+}
+  where
+    by : (p : ℕ) (lexemes : List Lexeme) → Stream file p lexemes → begins_prefix lexemes ≡ true → (x : Result Part Halt)
+        → prefix file inner lexemes ≡ x → ExactAny file (codes "Prefix") p lexemes x
+        → ExactRound file (Name (codes "Prefix") (between 140 146)) (between 140 147) p lexemes x
+    by p lexemes stream begins (Ok part) is e = record {
+      end = e.end;
+      trees = e.trees;
+      left = e.left;
+      derives = e.derives (between 140 146);
+      spells = e.spells;
+      ends = e.ends;
+      nests = e.nests;
+      some = e.some;
+    }
+    by p lexemes stream begins (Err (Unexpected at)) is fails = record {
+      end = p;
+      trees = NoTrees;
+      derives = Derives.star_none (fails (between 140 146));
+      stuck = begun_stuck file inner p at lexemes stream begins is;
+    }
+    by p lexemes stream begins (Err (TooDeep at)) is e = absurd e
+
+-- the expressions among spelled expressions
+expressions-all : (forms : List Form) → expressions_in (map Expression forms) ≡ forms
+expressions-all [] = refl
+expressions-all (e ∷ forms) = ap (λ (more : List Form). e ∷ more) (expressions-all forms)
+
+-- Sequence is what is read
+pub sequence-exact : (file : List ℕ) (most : ℕ) (inner : Option Reading) → Good file most inner
+    → (before p : ℕ) (lexemes : List Lexeme) → Stream file p lexemes → length lexemes ≤ most
+    → ExactAt file (codes "Sequence") before p lexemes (sequence file inner before lexemes)
+unfolding sequence sequence_body
+sequence-exact file most inner good before p lexemes stream few =
+    by (many begins_prefix (λ b. prefix file inner) before lexemes)
+        (rounds (prefix_rounds file most inner good) (length lexemes) before p lexemes (omega arith) stream few refl)
+  where
+    by : (x : Result Parts Halt) → ExactMany file (Name (codes "Prefix") (between 140 146))
+        (between 140 147) before p lexemes x → ExactAt file (codes "Sequence") before p lexemes
+        (and_read x (λ (parts : Parts). Ok (sequence_part before (place_of (length file) lexemes) parts)))
+    by (Ok parts) m =
+        subst (λ start. ReadsAt file (codes "Sequence") before p lexemes (sequence_part before start parts))
+            (sym (place-is stream))
+        (node_at before _ sequence-meant.1 refl refl m.derives (sequence_part before p parts)
+        (ap (λ (forms : List Form). Expression (sequence_spelled before (between p parts.last) forms) ∷ [])
+            (ap expressions_in (m.spells before) ∙ expressions-all parts.forms))
+        m.ends m.nests m.left)
+    by (Err (Unexpected at)) stops = record {
+      end = stops.end;
+      trees = Tree rule.sequence p stops.end stops.trees NoTrees;
+      derives = λ span. Derives.name_matched sequence-meant.1 stops.derives refl;
+      stuck = stops.stuck;
+    }
+    by (Err (TooDeep at)) m = absurd m
+
+-- ---- alternatives
+
+-- a slash and a sequence
+abbrev slash_sequence : Form
+slash_sequence =
+    form.Seq (form.Then (Name (codes "SLASH") (between 111 116)) (form.Then
+        (Name (codes "Sequence") (between 117 125)) form.End)) (between 111 125)
+
+no_slash : {file : List ℕ} {p : ℕ} → ((span : Extent) → Derives figure file (Name (codes "SLASH") span) p Failed)
+    → Derives figure file slash_sequence p Failed
+no_slash fails = Derives.sequence (DerivesItems.items_failed (fails _))
+
+-- nothing that can't be followed is a slash
+stuck_slash : (file : List ℕ) (q : ℕ) → IsStuck file q → (span : Extent)
+    → Derives figure file (Name (codes "SLASH") span) q Failed
+stuck_slash file q stuck span =
+    elim stuck.opens [
+      inl is ↦ not_here stuck.kind stuck.piece kind.Slash span stuck.found
+          (λ x. let bad : kind.Slash ≡ kind.And = x ∙ is in cc)
+    | inr other ↦ elim other [
+        inl is ↦ not_here stuck.kind stuck.piece kind.Slash span stuck.found
+            (λ x. let bad : kind.Slash ≡ kind.Not = x ∙ is in cc)
+      | inr is ↦ not_here stuck.kind stuck.piece kind.Slash span stuck.found
+          (λ x. let bad : kind.Slash ≡ kind.Open = x ∙ is in cc)
+      ]
+    ]
+
+one_alternative : (file : List ℕ) (p : ℕ) (piece : Piece) (rest : List Lexeme) → text_of kind.Slash (drop p file)
+    ≡ Some piece → (x : Result Part Halt) → ExactAt file (codes "Sequence") (p + piece.length)
+    (behind_text file p piece.length) rest x → ExactRound file slash_sequence (between 110 127) p
+    (lexeme_at kind.Slash p piece.length ∷ rest) (and_read x (λ (part : Part). Ok (behind 1 part)))
+one_alternative file p piece rest found (Ok part) e =
+    let s : FindsToken file rule.slash (codes "SLASH") (between 111 116) p piece = here kind.Slash piece
+        (between 111 116) found in
+    let blank : piece.spells ≡ [] = (blank-these (codes "/")).blank (drop p file) piece found in
+    record {
+      end = e.end;
+      trees = followed_by s.trees e.trees;
+      left =
+          let one : 1 + part.taken ≡ suc part.taken = omega arith in
+          subst (λ n. Stream file e.end (drop n (lexeme_at kind.Slash p piece.length ∷ rest))) (sym one) e.left;
+      derives =
+          Derives.sequence (DerivesItems.items_then s.derives (DerivesItems.items_then
+              (e.derives (between 117 125)) DerivesItems.items_none refl)
+          (ap (λ (t : Trees). Matched e.end (followed_by s.trees t)) (sym (followed-none e.trees))));
+      spells = λ b.
+          spelled-followed file b s.trees e.trees
+          ∙ (ap (λ (pieces : List Spelling). pieces ++ spelled file (text_end b s.trees) e.trees) (s.spells b ∙ blank)
+          ∙ (ap (λ k. spelled file k e.trees) (s.ends b) ∙ e.spells));
+      ends = λ b. text_end-followed b s.trees e.trees ∙ (ap (λ k. text_end k e.trees) (s.ends b) ∙ e.ends);
+      nests = omega (arith, nesting-followed s.trees e.trees, s.flat, e.nests);
+      some = omega arith;
+    }
+one_alternative file p piece rest found (Err (Unexpected at)) stops =
+    let s : FindsToken file rule.slash (codes "SLASH") (between 111 116) p piece = here kind.Slash piece
+        (between 111 116) found in
+    record {
+      end = stops.end;
+      trees = followed_by (followed_by s.trees (followed_by stops.trees NoTrees)) NoTrees;
+      derives =
+          Derives.star_more (Derives.sequence (DerivesItems.items_then s.derives
+              (DerivesItems.items_then (stops.derives (between 117 125)) DerivesItems.items_none refl) refl))
+          (Derives.star_none (no_slash (stuck_slash file stops.end stops.stuck))) refl;
+      stuck = stops.stuck;
+    }
+one_alternative file p piece rest found (Err (TooDeep at)) e = absurd e
+
+alternative_rounds : (file : List ℕ) (most : ℕ) (inner : Option Reading) → Good file most inner
+    → Rounds file slash_sequence (between 110 127) starts_with_slash (alternative file inner) most
+unfolding alternative
+alternative_rounds file most inner good = record {
+  none = λ p lexemes stream few none. fails p lexemes stream none;
+  one = λ before p lexemes stream few begins. reads before p lexemes stream few begins;
+}
+  where
+    fails : (p : ℕ) (lexemes : List Lexeme) → Stream file p lexemes → starts_with_slash lexemes ≡ false
+        → Derives figure file slash_sequence p Failed
+    fails p [] (Stream.ended last) none = no_slash (λ span. none_here kind.Slash span last)
+    fails p (_ ∷ more) (Stream.next k piece lexeme found is rest) none =
+        no_slash (λ span. not_here k piece kind.Slash span found (λ same. let bad : true
+            ≡ false = ap (λ (x : TokenKind). is_slash x) same
+            ∙ (ap (λ (l : Lexeme). is_slash l.kind) (sym is) ∙ none) in cc))
+
+    reads : (before p : ℕ) (lexemes : List Lexeme) → Stream file p lexemes → length lexemes ≤ most
+        → starts_with_slash lexemes ≡ true → ExactRound file slash_sequence (between 110 127) p lexemes
+        (alternative file inner before lexemes)
+    reads before p [] stream few begins = cc
+    reads before p (_ ∷ more) (Stream.next k piece lexeme found is rest) few begins =
+        subst (λ (l : Lexeme). ExactRound file slash_sequence (between 110 127) p (l ∷
+            more) (and_read (sequence file inner l.text.end more) (λ (part : Part). Ok (behind 1 part)))) (sym is)
+            (by k found (ap (λ (l : Lexeme). is_slash l.kind) (sym is) ∙ begins))
+      where
+        by : (k : TokenKind) → text_of k (drop p file) ≡ Some piece → is_slash k ≡ true
+            → ExactRound file slash_sequence (between 110 127) p (lexeme_at k p piece.length ∷
+            more) (and_read (sequence file inner (p + piece.length) more) (λ (part : Part). Ok (behind 1 part)))
+        by kind.Slash there slash =
+            one_alternative file p piece more there (sequence file inner (p + piece.length) more)
+                (sequence-exact file most inner good (p + piece.length) (behind_text file p piece.length) more rest
+                (omega arith))
+        by kind.Ident there slash = cc
+        by kind.Literal there slash = cc
+        by kind.Class there slash = cc
+        by kind.Arrow there slash = cc
+        by kind.And there slash = cc
+        by kind.Not there slash = cc
+        by kind.Question there slash = cc
+        by kind.Star there slash = cc
+        by kind.Plus there slash = cc
+        by kind.Open there slash = cc
+        by kind.Close there slash = cc
+        by kind.Dot there slash = cc
+
+-- ---- Expression
+
+-- a sequence and alternatives behind it
+both_parts : (file : List ℕ) (before p : ℕ) (lexemes : List Lexeme) (first : Part)
+    → (e : ReadsAt file (codes "Sequence") before p lexemes first) → (x : Result Parts Halt)
+    → ExactMany file slash_sequence (between 110 127) first.last e.end (drop first.taken lexemes) x
+    → ExactAt file (codes "Expression") before p lexemes (and_read x (λ (more : Parts). Ok (choice_part p first more)))
+unfolding expression_body
+both_parts file before p lexemes first e (Ok more) m =
+    node_at before _ expression-meant.1 refl refl
+    (Derives.sequence
+        (DerivesItems.items_then (e.derives _) (DerivesItems.items_then m.derives DerivesItems.items_none refl)
+    (ap (λ (t : Trees). Matched m.end (followed_by e.trees t)) (sym (followed-none m.trees)))))
+    (choice_part p first more)
+    (ap (λ (forms : List Form). Expression (choice_spelled (between p more.last) forms) ∷ [])
+    (ap expressions_in
+    (spelled-followed file before e.trees m.trees
+    ∙ (ap (λ (pieces : List Spelling). spelled file before e.trees ++ pieces) (m.spells (text_end before e.trees))
+    ∙ ap (λ (pieces : List Spelling). pieces ++ map Expression more.forms) e.spells))
+    ∙ ap (λ (forms : List Form). first.form ∷ forms) (expressions-all more.forms)))
+    (text_end-followed before e.trees m.trees ∙ (ap (λ b. text_end b m.trees) e.ends ∙ m.ends))
+    (omega (arith, nesting-followed e.trees m.trees, e.nests, m.nests))
+    (subst (λ (l : List Lexeme). Stream file m.end l) (drop-drop more.taken first.taken lexemes) m.left)
+both_parts file before p lexemes first e (Err (Unexpected at)) stops = record {
+  end = stops.end;
+  trees = Tree rule.expression p stops.end (followed_by e.trees (followed_by stops.trees NoTrees)) NoTrees;
+  derives = λ span. Derives.name_matched expression-meant.1
+      (Derives.sequence
+          (DerivesItems.items_then (e.derives _)
+          (DerivesItems.items_then stops.derives DerivesItems.items_none refl) refl)) refl;
+  stuck = stops.stuck;
+}
+both_parts file before p lexemes first e (Err (TooDeep at)) m = absurd m
+
+-- Expression is what is read
+expression-exact : (file : List ℕ) (most : ℕ) (inner : Option Reading) → Good file most inner
+    → (before p : ℕ) (lexemes : List Lexeme) → Stream file p lexemes → length lexemes ≤ most
+    → ExactAt file (codes "Expression") before p lexemes (expression file inner before lexemes)
+unfolding expression_body
+expression-exact file most inner good before p lexemes stream few =
+    by (sequence file inner before lexemes) (sequence-exact file most inner good before p lexemes stream few)
+  where
+    by : (x : Result Part Halt) → ExactAt file (codes "Sequence") before p lexemes x
+        → ExactAt file (codes "Expression") before p lexemes
+        (and_read x (λ (first : Part). and_read (many starts_with_slash (alternative file inner) first.last
+        (drop first.taken lexemes)) (λ (more : Parts). Ok (choice_part (place_of (length file) lexemes) first more))))
+    by (Ok first) e =
+        let fewer : length (drop first.taken lexemes) ≤ most = omega (arith, length-drop first.taken lexemes) in
+        let m = rounds (alternative_rounds file most inner good) (length (drop first.taken lexemes)) first.last e.end
+            (drop first.taken lexemes) (omega arith) e.left fewer refl in
+        subst (λ start. ExactAt file (codes "Expression") before p lexemes
+            (and_read (many starts_with_slash (alternative file inner) first.last (drop first.taken lexemes))
+            (λ (more : Parts). Ok (choice_part start first more)))) (sym (place-is stream))
+        (both_parts file before p lexemes first e (many starts_with_slash (alternative file inner) first.last
+            (drop first.taken lexemes)) m)
+    by (Err (Unexpected at)) stops = record {
+      end = stops.end;
+      trees = Tree rule.expression p stops.end (followed_by stops.trees NoTrees) NoTrees;
+      derives = λ span. Derives.name_matched expression-meant.1
+          (Derives.sequence (DerivesItems.items_then (stops.derives _)
+              (DerivesItems.items_then (Derives.star_none
+              (no_slash (stuck_slash file stops.end stops.stuck))) DerivesItems.items_none refl) refl)) refl;
+      stuck = stops.stuck;
+    }
+    by (Err (TooDeep at)) e = absurd e
+
+-- In as many parentheses as there are tokens, Expression is what is read, and none is one too many.
+pub expression_in-exact : (file : List ℕ) (most before p : ℕ) (lexemes : List Lexeme) → Stream file p lexemes
+    → length lexemes ≤ most → ExactAt file (codes "Expression") before p lexemes
+    (expression_in file most before lexemes)
+unfolding expression_in
+expression_in-exact file zero before p lexemes stream few =
+    expression-exact file zero None refl before p lexemes stream few
+expression_in-exact file (suc n) before p lexemes stream few =
+    expression-exact file (suc n) (Some (expression_in file n))
+    (λ b q more there less. expression_in-exact file n b q more there (omega arith)) before p lexemes stream few

@@ -1,0 +1,455 @@
+-- The reader's `definition` and `grammar` say what the figure's Definition and Grammar say.
+use Rattle.std.proofs.Common.{◌≡◌, ◌≢◌, ℕ, zero, suc, max, ◌+◌, ◌-◌, ◌<◌, ◌≤◌, Bool, true, false, List, [], ◌∷◌, ◌++◌, map, length, drop, length-drop, codes, ◌⊎◌, inl, inr}
+use Rattle.std.proofs.Common.{Option, None, Some, Result, Ok, Err, refl, sym, ap, ◌∙◌, subst, arith, append-nil}
+use Rattle.std.proofs.lemmas.List.{drop-drop, drop_all}
+use Rattle.peg_bytes.specs.Extent.{Extent, between}
+use Rattle.peg_tree.specs.Trees.{Trees, NoTrees, Tree, followed_by}
+use Rattle.peg_grammar.specs.Form as form
+use Rattle.peg_grammar.specs.Form.{Form, Name, Star}
+use Rattle.peg_grammar.specs.Record.{Failed, Matched}
+use Rattle.peg_grammar.specs.Rules.{Rule}
+use Rattle.peg_grammar.proofs.Derivations.{Derives, DerivesItems, any_here, any_at_end}
+use Rattle.peg_notation.specs.Figure.{figure, definition_body, grammar_body, end_of_file_body}
+use Rattle.peg_notation.specs.FigureRules as rule
+use Rattle.peg_notation.specs.Lexical.{text_of, spacing}
+use Rattle.peg_notation.specs.Pieces.{Piece}
+use Rattle.peg_notation.specs.Reader.{Halt, Unexpected, TooDeep, Part, place_of, starts_with_arrow, is_arrow, and_read, expression_in, RulePart, Rules, and_rules, rule_of, definition_behind, definition_of, definition, definitions_behind, grammar}
+use Rattle.peg_notation.specs.Spelled.{Spelling, Definition, Word, Expression, text_end, part, spelled, definition_spelled, rules_in, rules_spelled, nesting}
+use Rattle.peg_notation.specs.Tokens.{Lexeme}
+use Rattle.peg_notation.specs.declared.token.TokenKind.{TokenKind}
+use Rattle.peg_notation.specs.declared.token.TokenKind.TheVariants as kind
+use Rattle.peg_notation.proofs.ExpressionRules.{expression_in-exact}
+use Rattle.peg_notation.proofs.FigureNames.{grammar-meant, definition-meant, end_of_file-meant}
+use Rattle.peg_notation.proofs.Lexemes.{lexeme_at}
+use Rattle.peg_notation.proofs.PieceSizes.{blank-these}
+use Rattle.peg_notation.proofs.Readings.{followed-none, ReadsAt, ExactAt, Stops, IsStuck}
+use Rattle.peg_notation.proofs.SpacingRules.{FindsSpacing, finds-spacing}
+use Rattle.peg_notation.proofs.Streams.{Stream, here, not_here, none_here, nothing_left}
+use Rattle.peg_notation.proofs.Takes.{spelled-followed, text_end-followed, nesting-followed}
+use Rattle.peg_notation.proofs.Texts.{FindsToken, behind_text}
+
+-- ---- the end of the file
+
+-- where a token stands the file doesn't end
+pub not_ended : {file : List ℕ} {p : ℕ} (k : TokenKind) (piece : Piece) → text_of k (drop p file) ≡ Some piece
+    → (span : Extent) → Derives figure file (Name (codes "EndOfFile") span) p Failed
+unfolding end_of_file_body
+not_ended {file} {p} k piece found span = by (drop p file) refl
+  where
+    by : (rest : List ℕ) → drop p file ≡ rest → Derives figure file (Name (codes "EndOfFile") span) p Failed
+    by [] is =
+        absurd (let bad : None ≡ Some piece = sym (nothing_left k) ∙ (ap (text_of k) (sym is) ∙ found) in cc)
+    by (byte ∷ rest) is = Derives.name_failed end_of_file-meant.1 (Derives.not_failed (any_here is))
+
+-- at the end it does
+pub ended_here : {file : List ℕ} {p : ℕ} → p ≡ length file → (span : Extent)
+    → Derives figure file (Name (codes "EndOfFile") span) p (Matched p (Tree rule.end_of_file p p NoTrees NoTrees))
+unfolding end_of_file_body
+ended_here {file} {p} last span =
+    Derives.name_matched end_of_file-meant.1 (Derives.not_matched (any_at_end (drop_all p file (omega arith)))) refl
+
+-- ---- Definition
+
+-- a definition at a place
+pub record ReadsRule (file : List ℕ) (p : ℕ) (lexemes : List Lexeme) (part_read : RulePart) : Type 0 where
+  pub end : ℕ
+  pub trees : Trees
+  pub left : Stream file end (drop part_read.taken lexemes)
+  pub derives : (span : Extent) → Derives figure file (Name (codes "Definition") span) p (Matched end trees)
+  pub spells : (before : ℕ) → spelled file before trees ≡ Definition part_read.rule ∷ []
+  pub nests : nesting trees ≡ part_read.depth
+  pub some : 0 < part_read.taken
+
+-- what is read is matched; where none is read the rule fails, or goes no further than a token that nothing can follow
+abbrev pub ExactRule : (file : List ℕ) (p : ℕ) (lexemes : List Lexeme) → Result RulePart Halt → Type 0
+ExactRule file p lexemes (Ok part_read) = ReadsRule file p lexemes part_read
+ExactRule file p lexemes (Err (Unexpected at)) =
+    ((span : Extent) → Derives figure file (Name (codes "Definition") span) p Failed) ⊎ Stops file
+        (codes "Definition") p
+ExactRule file p lexemes (Err (TooDeep at)) = ⊥
+
+-- no definition begins without a name
+no_name : {file : List ℕ} {p : ℕ} → ((span : Extent) → Derives figure file (Name (codes "Identifier") span) p Failed)
+    → (span : Extent) → Derives figure file (Name (codes "Definition") span) p Failed
+unfolding definition_body
+no_name fails span =
+    Derives.name_failed definition-meant.1 (Derives.sequence (DerivesItems.items_failed (fails _)))
+
+-- a name without an arrow
+no_arrow : {file : List ℕ} {p : ℕ} (piece : Piece) → text_of kind.Ident (drop p file) ≡ Some piece
+    → ((span : Extent) → Derives figure file (Name (codes "LEFTARROW") span) (behind_text file p piece.length) Failed)
+    → (span : Extent) → Derives figure file (Name (codes "Definition") span) p Failed
+unfolding definition_body
+no_arrow piece found fails span =
+    Derives.name_failed definition-meant.1
+    (Derives.sequence (DerivesItems.items_then ((here kind.Ident piece _ found).derives)
+        (DerivesItems.items_failed (fails _)) refl))
+
+-- a name, an arrow and an expression
+definition_read : (file : List ℕ) (p : ℕ) (piece : Piece) → text_of kind.Ident (drop p file) ≡ Some piece
+    → (arrow : Piece) → text_of kind.Arrow (drop (behind_text file p piece.length) file) ≡ Some arrow
+    → (rest : List Lexeme) → let q : ℕ = behind_text file p piece.length in (x : Result Part Halt)
+    → ExactAt file (codes "Expression") (q + arrow.length) (behind_text file q arrow.length) rest x
+    → ExactRule file p (lexeme_at kind.Ident p piece.length ∷ lexeme_at kind.Arrow q arrow.length ∷
+    rest) (and_read x (λ (body : Part). Ok (rule_of file (lexeme_at kind.Ident p piece.length) body)))
+unfolding definition_body
+definition_read file p piece found arrow there rest (Ok body) e =
+    let q : ℕ = behind_text file p piece.length in
+    let i : FindsToken file rule.identifier (codes "Identifier") (between 55 65) p piece = here kind.Ident piece
+        (between 55 65) found in
+    let a : FindsToken file rule.leftarrow (codes "LEFTARROW") (between 66 75) q arrow = here kind.Arrow arrow
+        (between 66 75) there in
+    let blank : arrow.spells ≡ [] = (blank-these (codes "<-")).blank (drop q file) arrow there in
+    let inside : Trees = followed_by i.trees (followed_by a.trees e.trees) in
+    let spelling : (b : ℕ) → spelled file b inside ≡ Word (part file p (p + piece.length))
+        (between p (p + piece.length)) ∷ Expression body.form ∷ [] =
+        λ b. spelled-followed file b i.trees (followed_by a.trees e.trees)
+        ∙ (ap (λ (pieces : List Spelling). spelled file b i.trees ++ pieces)
+        (spelled-followed file (text_end b i.trees) a.trees e.trees
+        ∙ (ap (λ (pieces : List Spelling). pieces ++ spelled file (text_end (text_end b i.trees) a.trees) e.trees)
+            (a.spells (text_end b i.trees) ∙ blank)
+        ∙ (ap (λ k. spelled file k e.trees) (a.ends (text_end b i.trees)) ∙ e.spells)))
+        ∙ ap (λ (pieces : List Spelling). pieces ++ Expression body.form ∷ []) (i.spells b)) in
+    record {
+      end = e.end;
+      trees = Tree rule.definition p e.end inside NoTrees;
+      left =
+          let two : 2 + body.taken ≡ suc (suc body.taken) = omega arith in
+          subst (λ n. Stream file e.end (drop n (lexeme_at kind.Ident p piece.length ∷
+              lexeme_at kind.Arrow q arrow.length ∷ rest))) (sym two) e.left;
+      derives = λ span. Derives.name_matched definition-meant.1
+          (Derives.sequence (DerivesItems.items_then i.derives (DerivesItems.items_then a.derives
+              (DerivesItems.items_then (e.derives (between 76 86)) DerivesItems.items_none refl) refl)
+          (ap (λ (t : Trees). Matched e.end (followed_by i.trees (followed_by a.trees t)))
+              (sym (followed-none e.trees))))) refl;
+      spells = λ b. append-nil (definition_spelled (spelled file b inside)) ∙ ap definition_spelled (spelling b);
+      nests =
+          omega
+              (arith, nesting-followed i.trees
+              (followed_by a.trees e.trees), nesting-followed a.trees e.trees, i.flat, a.flat, e.nests);
+      some = omega arith;
+    }
+definition_read file p piece found arrow there rest (Err (Unexpected at)) stops =
+    inr (record {
+      end = stops.end;
+      trees = Tree rule.definition p stops.end (followed_by ((here kind.Ident piece (between 55 65) found).trees)
+          (followed_by ((here kind.Arrow arrow (between 66 75) there).trees)
+          (followed_by stops.trees NoTrees))) NoTrees;
+      derives = λ span. Derives.name_matched definition-meant.1
+          (Derives.sequence (DerivesItems.items_then ((here kind.Ident piece (between 55 65) found).derives)
+              (DerivesItems.items_then ((here kind.Arrow arrow (between 66 75) there).derives)
+              (DerivesItems.items_then (stops.derives (between 76 86)) DerivesItems.items_none refl) refl) refl)) refl;
+      stuck = stops.stuck;
+    })
+definition_read file p piece found arrow there rest (Err (TooDeep at)) e = absurd e
+
+-- what stands behind a name
+behind_name : (file : List ℕ) (most p : ℕ) (piece : Piece) (more : List Lexeme) → text_of kind.Ident (drop p file)
+    ≡ Some piece → Stream file (behind_text file p piece.length) more → length more ≤ most
+    → ExactRule file p (lexeme_at kind.Ident p piece.length ∷
+    more) (definition_behind file most (lexeme_at kind.Ident p piece.length) more (starts_with_arrow more))
+behind_name file most p piece [] found (Stream.ended last) few =
+    inl (no_arrow piece found (λ span. none_here kind.Arrow span last))
+behind_name file most p piece (_ ∷ rest) found (Stream.next k arrow lexeme there is left) few =
+    subst (λ (l : Lexeme). ExactRule file p (lexeme_at kind.Ident p piece.length ∷ l ∷
+        rest) (definition_behind file most (lexeme_at kind.Ident p piece.length) (l ∷
+        rest) (is_arrow l.kind))) (sym is) (by k there)
+  where
+    q : ℕ
+    q = behind_text file p piece.length
+
+    none : (k : TokenKind) → text_of k (drop (behind_text file p piece.length) file) ≡ Some arrow → kind.Arrow ≢ k
+        → ((span : Extent) → Derives figure file (Name (codes "Definition") span) p Failed) ⊎ Stops file
+        (codes "Definition") p
+    none k at_end a = inl (no_arrow piece found (λ span. not_here k arrow kind.Arrow span at_end a))
+
+    by : (k : TokenKind) → text_of k (drop (behind_text file p piece.length) file) ≡ Some arrow
+        → ExactRule file p (lexeme_at kind.Ident p piece.length ∷
+        lexeme_at k (behind_text file p piece.length) arrow.length ∷
+        rest) (definition_behind file most (lexeme_at kind.Ident p piece.length)
+        (lexeme_at k (behind_text file p piece.length) arrow.length ∷ rest) (is_arrow k))
+    by kind.Arrow at_end =
+        definition_read file p piece found arrow at_end rest
+            (expression_in file most (behind_text file p piece.length + arrow.length) rest)
+            (expression_in-exact file most (behind_text file p piece.length + arrow.length)
+            (behind_text file (behind_text file p piece.length) arrow.length) rest left (omega arith))
+    by kind.Ident at_end = none kind.Ident at_end (λ e. cc)
+    by kind.Literal at_end = none kind.Literal at_end (λ e. cc)
+    by kind.Class at_end = none kind.Class at_end (λ e. cc)
+    by kind.Slash at_end = none kind.Slash at_end (λ e. cc)
+    by kind.And at_end = none kind.And at_end (λ e. cc)
+    by kind.Not at_end = none kind.Not at_end (λ e. cc)
+    by kind.Question at_end = none kind.Question at_end (λ e. cc)
+    by kind.Star at_end = none kind.Star at_end (λ e. cc)
+    by kind.Plus at_end = none kind.Plus at_end (λ e. cc)
+    by kind.Open at_end = none kind.Open at_end (λ e. cc)
+    by kind.Close at_end = none kind.Close at_end (λ e. cc)
+    by kind.Dot at_end = none kind.Dot at_end (λ e. cc)
+
+-- Definition is what is read
+pub definition-exact : (file : List ℕ) (most p : ℕ) (lexemes : List Lexeme) → Stream file p lexemes
+    → length lexemes ≤ most → ExactRule file p lexemes (definition file most lexemes)
+unfolding definition
+definition-exact file most p [] (Stream.ended last) few = inl (no_name (λ span. none_here kind.Ident span last))
+definition-exact file most p (_ ∷ more) (Stream.next k piece lexeme found is rest) few =
+    subst (λ (l : Lexeme). ExactRule file p (l ∷ more) (definition_of file most l more l.kind)) (sym is) (by k found)
+  where
+    none : (k : TokenKind) → text_of k (drop p file) ≡ Some piece → kind.Ident ≢ k
+        → ((span : Extent) → Derives figure file (Name (codes "Definition") span) p Failed) ⊎ Stops file
+        (codes "Definition") p
+    none k there a = inl (no_name (λ span. not_here k piece kind.Ident span there a))
+
+    by : (k : TokenKind) → text_of k (drop p file) ≡ Some piece
+        → ExactRule file p (lexeme_at k p piece.length ∷ more)
+        (definition_of file most (lexeme_at k p piece.length) more k)
+    by kind.Ident there = behind_name file most p piece more there rest (omega arith)
+    by kind.Literal there = none kind.Literal there (λ e. cc)
+    by kind.Class there = none kind.Class there (λ e. cc)
+    by kind.Arrow there = none kind.Arrow there (λ e. cc)
+    by kind.Slash there = none kind.Slash there (λ e. cc)
+    by kind.And there = none kind.And there (λ e. cc)
+    by kind.Not there = none kind.Not there (λ e. cc)
+    by kind.Question there = none kind.Question there (λ e. cc)
+    by kind.Star there = none kind.Star there (λ e. cc)
+    by kind.Plus there = none kind.Plus there (λ e. cc)
+    by kind.Open there = none kind.Open there (λ e. cc)
+    by kind.Close there = none kind.Close there (λ e. cc)
+    by kind.Dot there = none kind.Dot there (λ e. cc)
+
+-- ---- definitions, one behind the other
+
+-- what can't be followed is no name
+stuck_name : (file : List ℕ) (q : ℕ) → IsStuck file q → (span : Extent)
+    → Derives figure file (Name (codes "Identifier") span) q Failed
+stuck_name file q stuck span =
+    elim stuck.opens [
+      inl is ↦ not_here stuck.kind stuck.piece kind.Ident span stuck.found
+          (λ x. let bad : kind.Ident ≡ kind.And = x ∙ is in cc)
+    | inr other ↦ elim other [
+        inl is ↦ not_here stuck.kind stuck.piece kind.Ident span stuck.found
+            (λ x. let bad : kind.Ident ≡ kind.Not = x ∙ is in cc)
+      | inr is ↦ not_here stuck.kind stuck.piece kind.Ident span stuck.found
+          (λ x. let bad : kind.Ident ≡ kind.Open = x ∙ is in cc)
+      ]
+    ]
+
+-- definitions up to the end of the file
+pub record ReadsRules (file : List ℕ) (p : ℕ) (read : Rules) : Type 0 where
+  pub trees : Trees
+  pub derives : Derives figure file (Star (Name (codes "Definition") (between 19 29)) (between 19 30)) p
+      (Matched (length file) trees)
+  pub spells : (before : ℕ) → spelled file before trees ≡ map Definition read.rules
+  pub nests : nesting trees ≡ read.depth
+
+-- definitions that go no further than a place before the end
+pub record StopsEarly (file : List ℕ) (p : ℕ) : Type 0 where
+  pub end : ℕ
+  pub trees : Trees
+  pub derives : Derives figure file (Star (Name (codes "Definition") (between 19 29)) (between 19 30)) p
+      (Matched end trees)
+  pub more : (span : Extent) → Derives figure file (Name (codes "EndOfFile") span) end Failed
+
+abbrev pub ExactRules : (file : List ℕ) (p : ℕ) → Result Rules Halt → Type 0
+ExactRules file p (Ok read) = ReadsRules file p read
+ExactRules file p (Err (Unexpected at)) = StopsEarly file p
+ExactRules file p (Err (TooDeep at)) = ⊥
+
+-- skipping tokens is dropping them
+definitions_behind-drop : (file : List ℕ) (most : ℕ) (lexemes : List Lexeme) (skipped : ℕ)
+    → definitions_behind file most lexemes skipped ≡ definitions_behind file most (drop skipped lexemes) 0
+unfolding definitions_behind
+definitions_behind-drop file most [] zero = refl
+definitions_behind-drop file most [] (suc skipped) = refl
+definitions_behind-drop file most (l ∷ rest) zero = refl
+definitions_behind-drop file most (l ∷ rest) (suc skipped) = definitions_behind-drop file most rest skipped
+
+-- one definition and those behind it
+more_rules : (file : List ℕ) (p : ℕ) (lexemes : List Lexeme) (first : RulePart) → (e : ReadsRule file p lexemes first)
+    → (x : Result Rules Halt) → ExactRules file e.end x
+    → ExactRules file p (and_read x (λ (more : Rules). Ok (and_rules first more)))
+more_rules file p lexemes first e (Ok more) m = record {
+  trees = followed_by e.trees m.trees;
+  derives = Derives.star_more (e.derives (between 19 29)) m.derives refl;
+  spells = λ b.
+      spelled-followed file b e.trees m.trees
+      ∙ (ap (λ (pieces : List Spelling). spelled file b e.trees ++ pieces) (m.spells (text_end b e.trees))
+      ∙ ap (λ (pieces : List Spelling). pieces ++ map Definition more.rules) (e.spells b));
+  nests = omega (arith, nesting-followed e.trees m.trees, e.nests, m.nests);
+}
+more_rules file p lexemes first e (Err (Unexpected at)) stops = record {
+  end = stops.end;
+  trees = followed_by e.trees stops.trees;
+  derives = Derives.star_more (e.derives (between 19 29)) stops.derives refl;
+  more = stops.more;
+}
+more_rules file p lexemes first e (Err (TooDeep at)) m = absurd m
+
+-- where a definition goes no further than a token that nothing can follow, the star ends there
+rules_stop : (file : List ℕ) (p : ℕ) → Stops file (codes "Definition") p → StopsEarly file p
+rules_stop file p stops = record {
+  end = stops.end;
+  trees = followed_by stops.trees NoTrees;
+  derives = Derives.star_more (stops.derives (between 19 29))
+      (Derives.star_none (no_name (stuck_name file stops.end stops.stuck) (between 19 29))) refl;
+  more = not_ended stops.stuck.kind stops.stuck.piece stops.stuck.found;
+}
+
+-- the definitions up to the end are what is read
+definitions : (file : List ℕ) (most n p : ℕ) (lexemes : List Lexeme) → length lexemes ≤ n → Stream file p lexemes
+    → length lexemes ≤ most → ExactRules file p (definitions_behind file most lexemes 0)
+unfolding definitions_behind
+definitions file most n p [] few (Stream.ended last) within = record {
+  trees = NoTrees;
+  derives =
+      subst (λ end. Derives figure file (Star (Name (codes "Definition") (between 19 29)) (between 19 30)) p
+          (Matched end NoTrees)) last (Derives.star_none
+          (no_name (λ span. none_here kind.Ident span last) (between 19 29)));
+  spells = λ b. refl;
+  nests = refl;
+}
+definitions file most zero p (l ∷ rest) few stream within = absurd (omega arith)
+definitions file most (suc n) p (l ∷ rest) few stream within =
+    step (definition file most (l ∷ rest)) (definition-exact file most p (l ∷ rest) stream within)
+    (λ part_read e.
+    let one : part_read.taken ≡ suc (part_read.taken - 1) = omega (arith, e.some) in
+    let same : drop part_read.taken (l ∷ rest) ≡ drop (part_read.taken - 1) rest = ap (λ k. drop k (l ∷ rest)) one in
+    subst (λ (x : Result Rules Halt). ExactRules file e.end x)
+    (ap (λ ls. definitions_behind file most ls 0) same ∙ sym
+        (definitions_behind-drop file most rest (part_read.taken - 1)))
+    (definitions file most n e.end (drop part_read.taken (l ∷ rest))
+        (omega (arith, length-drop part_read.taken (l ∷ rest), e.some)) e.left
+        (omega (arith, length-drop part_read.taken (l ∷ rest), e.some))))
+  where
+    stops_here : (k : TokenKind) (piece : Piece) → text_of k (drop p file) ≡ Some piece
+        → ((span : Extent) → Derives figure file (Name (codes "Definition") span) p Failed) → StopsEarly file p
+    stops_here k piece found fails = record {
+      end = p;
+      trees = NoTrees;
+      derives = Derives.star_none (fails (between 19 29));
+      more = not_ended k piece found;
+    }
+
+    a_token : Stream file p (l ∷ rest) → (k : TokenKind) × (piece : Piece) × (text_of k (drop p file) ≡ Some piece)
+    a_token (Stream.next k piece lexeme found is more) = (k, piece, found)
+
+    step : (x : Result RulePart Halt) → ExactRule file p (l ∷ rest) x
+        → ((part_read : RulePart) → (e : ReadsRule file p (l ∷ rest) part_read)
+        → ExactRules file e.end (definitions_behind file most rest (part_read.taken - 1)))
+        → ExactRules file p (and_read x (λ (first : RulePart). and_read
+        (definitions_behind file most rest (first.taken - 1)) (λ (more : Rules). Ok (and_rules first more))))
+    step (Ok part_read) e later =
+        more_rules file p (l ∷ rest) part_read e (definitions_behind file most rest (part_read.taken - 1))
+            (later part_read e)
+    step (Err (Unexpected at)) (inl fails) later =
+        let token = a_token stream in stops_here token.0 token.1 token.2 fails
+    step (Err (Unexpected at)) (inr stops) later = rules_stop file p stops
+    step (Err (TooDeep at)) e later = absurd e
+
+-- ---- Grammar
+
+-- the rules among spelled definitions
+rules-all : (rules : List Rule) → rules_in (map Definition rules) ≡ rules
+rules-all [] = refl
+rules-all (r ∷ rules) = ap (λ (more : List Rule). r ∷ more) (rules-all rules)
+
+-- the figure matches a file, and its tree spells these rules
+pub record ReadsFile (file : List ℕ) (read : Rules) : Type 0 where
+  pub end : ℕ
+  pub trees : Trees
+  pub derives : (span : Extent) → Derives figure file (Name (codes "Grammar") span) 0 (Matched end trees)
+  pub spells : read.rules ≡ rules_spelled file trees
+  pub nests : nesting trees ≡ read.depth
+
+-- what is read is matched, and where nothing is read the figure doesn't match
+abbrev pub ExactFile : List ℕ → Result Rules Halt → Type 0
+ExactFile file (Ok read) = ReadsFile file read
+ExactFile file (Err (Unexpected at)) = (span : Extent) → Derives figure file (Name (codes "Grammar") span) 0 Failed
+ExactFile file (Err (TooDeep at)) = ⊥
+
+-- where the first spacing ends
+abbrev pub first_place : List ℕ → ℕ
+first_place file = 0 + (spacing (drop 0 file)).length
+
+-- no definition, or something else behind the last one
+grammar_fails : (file : List ℕ) → DerivesItems figure file
+    (form.Then (form.Plus (Name (codes "Definition") (between 19 29)) (between 19 30))
+    (form.Then (Name (codes "EndOfFile") (between 31 40)) form.End)) (first_place file) Failed → (span : Extent)
+    → Derives figure file (Name (codes "Grammar") span) 0 Failed
+unfolding grammar_body
+grammar_fails file items span =
+    let gap : FindsSpacing file (between 11 18) 0 = finds-spacing file (between 11 18) 0 in
+    Derives.name_failed grammar-meant.1 (Derives.sequence (DerivesItems.items_then gap.derives items refl))
+
+-- one definition and those behind it, up to the end
+grammar_read : (file : List ℕ) (lexemes : List Lexeme) (first : RulePart)
+    → (e : ReadsRule file (first_place file) lexemes first) → (x : Result Rules Halt) → ExactRules file e.end x
+    → ExactFile file (and_read x (λ (more : Rules). Ok (and_rules first more)))
+unfolding grammar_body
+grammar_read file lexemes first e (Ok more) m =
+    let gap : FindsSpacing file (between 11 18) 0 = finds-spacing file (between 11 18) 0 in
+    let all : Trees = followed_by e.trees m.trees in
+    let last : Trees = Tree rule.end_of_file (length file) (length file) NoTrees NoTrees in
+    let inside : Trees = followed_by gap.trees (followed_by all last) in
+    let spelling : spelled file 0 inside ≡ map Definition (first.rule ∷ more.rules) =
+        spelled-followed file 0 gap.trees (followed_by all last)
+        ∙ (ap (λ (pieces : List Spelling). pieces ++ spelled file (text_end 0 gap.trees) (followed_by all last))
+            (gap.spells 0)
+        ∙ (spelled-followed file (text_end 0 gap.trees) all last
+        ∙ (append-nil (spelled file (text_end 0 gap.trees) all)
+        ∙ (spelled-followed file (text_end 0 gap.trees) e.trees m.trees
+        ∙ (ap (λ (pieces : List Spelling). spelled file (text_end 0 gap.trees) e.trees ++ pieces)
+            (m.spells (text_end (text_end 0 gap.trees) e.trees))
+        ∙ ap (λ (pieces : List Spelling). pieces ++ map Definition more.rules) (e.spells (text_end 0 gap.trees))))))) in
+    record {
+      end = length file;
+      trees = Tree rule.grammar 0 (length file) inside NoTrees;
+      derives = λ span. Derives.name_matched grammar-meant.1
+          (Derives.sequence (DerivesItems.items_then gap.derives (DerivesItems.items_then
+              (Derives.plus_matched (e.derives (between 19 29)) m.derives refl)
+              (DerivesItems.items_then (ended_here refl
+              (between 31 40)) DerivesItems.items_none refl) refl) refl)) refl;
+      spells = sym (ap rules_in (append-nil (spelled file 0 inside) ∙ spelling) ∙ rules-all (first.rule ∷ more.rules));
+      nests =
+          omega
+              (arith, nesting-followed gap.trees
+              (followed_by all last), nesting-followed all last, nesting-followed e.trees m.trees, gap.flat, e.nests, m.nests);
+    }
+grammar_read file lexemes first e (Err (Unexpected at)) stops =
+    grammar_fails file (DerivesItems.items_then (Derives.plus_matched (e.derives (between 19 29)) stops.derives refl)
+        (DerivesItems.items_failed (stops.more (between 31 40))) refl)
+grammar_read file lexemes first e (Err (TooDeep at)) m = absurd m
+
+-- Grammar is what is read, where as many parentheses may be open as there are tokens.
+pub grammar-exact : (file : List ℕ) (most : ℕ) (lexemes : List Lexeme) → Stream file (first_place file) lexemes
+    → length lexemes ≤ most → ExactFile file (grammar file most lexemes)
+unfolding grammar definitions_behind
+grammar-exact file most [] (Stream.ended last) few =
+    grammar_fails file (DerivesItems.items_failed (Derives.plus_failed
+        (no_name (λ span. none_here kind.Ident span last) (between 19 29))))
+grammar-exact file most (l ∷ rest) stream few =
+    step (definition file most (l ∷ rest)) (definition-exact file most (first_place file) (l ∷ rest) stream few)
+    (λ part_read e.
+    let one : part_read.taken ≡ suc (part_read.taken - 1) = omega (arith, e.some) in
+    let same : drop part_read.taken (l ∷ rest) ≡ drop (part_read.taken - 1) rest = ap (λ k. drop k (l ∷ rest)) one in
+    subst (λ (x : Result Rules Halt). ExactRules file e.end x)
+    (ap (λ ls. definitions_behind file most ls 0) same ∙ sym
+        (definitions_behind-drop file most rest (part_read.taken - 1)))
+    (definitions file most (length (drop part_read.taken (l ∷ rest))) e.end (drop part_read.taken (l ∷ rest))
+        (omega arith) e.left (omega (arith, length-drop part_read.taken (l ∷ rest)))))
+  where
+    step : (x : Result RulePart Halt) → ExactRule file (first_place file) (l ∷ rest) x
+        → ((part_read : RulePart) → (e : ReadsRule file (first_place file) (l ∷ rest) part_read)
+        → ExactRules file e.end (definitions_behind file most rest (part_read.taken - 1)))
+        → ExactFile file (and_read x (λ (first : RulePart). and_read
+        (definitions_behind file most rest (first.taken - 1)) (λ (more : Rules). Ok (and_rules first more))))
+    step (Ok part_read) e later =
+        grammar_read file (l ∷ rest) part_read e (definitions_behind file most rest (part_read.taken - 1))
+            (later part_read e)
+    step (Err (Unexpected at)) (inl fails) later =
+        grammar_fails file (DerivesItems.items_failed (Derives.plus_failed (fails (between 19 29))))
+    step (Err (Unexpected at)) (inr stops) later =
+        grammar_fails file (DerivesItems.items_then (Derives.plus_matched (stops.derives (between 19 29))
+            (Derives.star_none (no_name (stuck_name file stops.end stops.stuck) (between 19 29))) refl)
+            (DerivesItems.items_failed (not_ended stops.stuck.kind stops.stuck.piece stops.stuck.found
+            (between 31 40))) refl)
+    step (Err (TooDeep at)) e later = absurd e

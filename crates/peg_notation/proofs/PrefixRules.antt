@@ -1,0 +1,260 @@
+-- The reader's `suffix` and `prefix` say what the figure's Suffix and Prefix say.
+use Rattle.std.proofs.Common.{◌≡◌, ◌≢◌, ℕ, suc, max, ◌+◌, ◌<◌, ◌≤◌, List, [], ◌∷◌, ◌++◌, length, drop, codes}
+use Rattle.std.proofs.Common.{Option, None, Some, Result, Ok, Err, refl, sym, ap, ◌∙◌, subst, arith, append-nil}
+use Rattle.std.proofs.lemmas.List.{drop-drop}
+use Rattle.peg_bytes.specs.Extent.{Extent, between}
+use Rattle.peg_tree.specs.Trees.{Trees, NoTrees, Tree, followed_by}
+use Rattle.peg_grammar.specs.Form as form
+use Rattle.peg_grammar.specs.Form.{Form, Name}
+use Rattle.peg_grammar.specs.Record.{Failed, Matched}
+use Rattle.peg_grammar.proofs.Derivations.{Derives, DerivesItems, DerivesFirst}
+use Rattle.peg_notation.specs.Figure.{figure, suffix_body, prefix_body}
+use Rattle.peg_notation.specs.FigureRules as rule
+use Rattle.peg_notation.specs.Lexical.{text_of}
+use Rattle.peg_notation.specs.Pieces.{Piece}
+use Rattle.peg_notation.specs.Reader.{Halt, Unexpected, TooDeep, Part, Reading, place_of, and_read, primary, then_suffix, suffix, with_prefix, prefix_of, prefix_sign, prefix}
+use Rattle.peg_notation.specs.Spelled.{Spelling, Expression, Sign, text_end, spelled, signed, nesting}
+use Rattle.peg_notation.specs.Tokens.{Lexeme}
+use Rattle.peg_notation.specs.declared.token.TokenKind.{TokenKind}
+use Rattle.peg_notation.specs.declared.token.TokenKind.TheVariants as kind
+use Rattle.peg_notation.proofs.FigureNames.{suffix-meant, prefix-meant}
+use Rattle.peg_notation.proofs.Lexemes.{lexeme_at}
+use Rattle.peg_notation.proofs.PrimaryRule.{primary-exact}
+use Rattle.peg_notation.proofs.Readings.{followed-none, ReadsAny, ExactAny, Good, node_any, place-is}
+use Rattle.peg_notation.proofs.Streams.{Stream, here, not_here, none_here}
+use Rattle.peg_notation.proofs.Takes.{spelled-followed, text_end-followed, nesting-followed}
+use Rattle.peg_notation.proofs.Texts.{FindsToken, behind_text}
+
+-- ---- Suffix
+
+-- one more token
+after_one : (lexemes : List Lexeme) (taken : ℕ) → drop (taken + 1) lexemes ≡ drop 1 (drop taken lexemes)
+after_one lexemes taken = sym (drop-drop 1 taken lexemes)
+
+-- no sign behind the primary
+no_suffix : (file : List ℕ) (p : ℕ) (lexemes : List Lexeme) (part : Part)
+    → (e : ReadsAny file (codes "Primary") p lexemes part)
+    → ((span : Extent) → Derives figure file (Name (codes "QUESTION") span) e.end Failed)
+    → ((span : Extent) → Derives figure file (Name (codes "STAR") span) e.end Failed)
+    → ((span : Extent) → Derives figure file (Name (codes "PLUS") span) e.end Failed)
+    → ReadsAny file (codes "Suffix") p lexemes part
+unfolding suffix_body
+no_suffix file p lexemes part e question star plus =
+    node_any _ suffix-meant.1 refl refl
+    (Derives.sequence (DerivesItems.items_then (e.derives _)
+    (DerivesItems.items_then (Derives.optional_none (Derives.choice
+        (DerivesFirst.alternative_failed (question _) (DerivesFirst.alternative_failed (star _)
+        (DerivesFirst.alternative_last (plus _)))))) DerivesItems.items_none refl)
+    (ap (λ (t : Trees). Matched e.end t) (sym (followed-none e.trees)))))
+    part (λ before. ap (signed (between p part.last)) (e.spells before)) e.ends e.nests e.some e.left
+
+-- a sign behind the primary
+one_suffix : (file : List ℕ) (p : ℕ) (lexemes : List Lexeme) (part : Part)
+    → (e : ReadsAny file (codes "Primary") p lexemes part)
+    → {number : ℕ} {used : List ℕ} {span : Extent} {piece : Piece} (sign : Form → Extent → Form) (rest : List Lexeme)
+    → (it : FindsToken file number used span e.end piece)
+    → ((before : ℕ) → spelled file before it.trees ≡ Sign sign ∷ [])
+    → Derives figure file suffix_body p (Matched (behind_text file e.end piece.length) (followed_by e.trees it.trees))
+    → Stream file (behind_text file e.end piece.length) (drop (part.taken + 1) lexemes)
+    → ReadsAny file (codes "Suffix") p lexemes (record { form = sign part.form
+    (between p (e.end + piece.length)); taken = part.taken + 1; last = e.end + piece.length; depth = part.depth })
+one_suffix file p lexemes part e {number} {used} {span} {piece} sign rest it spells d left =
+    node_any _ suffix-meant.1 refl refl d
+    (record { form = sign part.form
+        (between p (e.end + piece.length)); taken = part.taken + 1; last = e.end + piece.length; depth = part.depth })
+    (λ before. ap (signed (between p (e.end + piece.length)))
+    (spelled-followed file before e.trees it.trees
+    ∙ (ap (λ (pieces : List Spelling). spelled file before e.trees ++ pieces) (spells (text_end before e.trees))
+    ∙ ap (λ (pieces : List Spelling). pieces ++ Sign sign ∷ []) (e.spells before))))
+    (λ before. text_end-followed before e.trees it.trees ∙ it.ends (text_end before e.trees))
+    (omega (arith, nesting-followed e.trees it.trees, e.nests, it.flat)) (omega arith)
+    left
+
+suffix_read : (file : List ℕ) (p : ℕ) (lexemes : List Lexeme) (part : Part)
+    → (e : ReadsAny file (codes "Primary") p lexemes part) → (left : List Lexeme) → drop part.taken lexemes ≡ left
+    → Stream file e.end left → ReadsAny file (codes "Suffix") p lexemes (then_suffix p part left)
+unfolding suffix_body
+suffix_read file p lexemes part e [] same (Stream.ended last) =
+    no_suffix file p lexemes part e (λ span. none_here kind.Question span last) (λ span. none_here kind.Star span last)
+        (λ span. none_here kind.Plus span last)
+suffix_read file p lexemes part e (_ ∷ rest) same (Stream.next k piece lexeme there is left) =
+    subst (λ (l : Lexeme). ReadsAny file (codes "Suffix") p lexemes (then_suffix p part (l ∷ rest))) (sym is)
+        (by k there (same ∙ ap (λ (l : Lexeme). l ∷ rest) is))
+  where
+    next_left : (k : TokenKind) → drop part.taken lexemes ≡ lexeme_at k e.end piece.length ∷ rest
+        → Stream file (behind_text file e.end piece.length) (drop (part.taken + 1) lexemes)
+    next_left k left_is =
+        subst (λ (l : List Lexeme). Stream file (behind_text file e.end piece.length) l)
+            (sym (after_one lexemes part.taken ∙ ap (drop 1) left_is)) left
+
+    none : (k : TokenKind) → text_of k (drop e.end file) ≡ Some piece → kind.Question ≢ k → kind.Star ≢ k
+        → kind.Plus ≢ k → ReadsAny file (codes "Suffix") p lexemes part
+    none k at_end a b c =
+        no_suffix file p lexemes part e (λ span. not_here k piece kind.Question span at_end a)
+            (λ span. not_here k piece kind.Star span at_end b) (λ span. not_here k piece kind.Plus span at_end c)
+
+    by : (k : TokenKind) → text_of k (drop e.end file) ≡ Some piece → drop part.taken lexemes
+        ≡ lexeme_at k e.end piece.length ∷ rest → ReadsAny file (codes "Suffix") p lexemes
+        (then_suffix p part (lexeme_at k e.end piece.length ∷ rest))
+    by kind.Question at_end left_is =
+        let it : FindsToken file rule.question (codes "QUESTION")
+            (between 197 205) e.end piece = here kind.Question piece (between 197 205) at_end in
+        one_suffix file p lexemes part e form.Optional rest it it.spells
+        (Derives.sequence (DerivesItems.items_then (e.derives _)
+        (DerivesItems.items_then (Derives.optional_some (Derives.choice
+            (DerivesFirst.alternative_matched it.derives))) DerivesItems.items_none refl)
+        (ap (λ (t : Trees). Matched (behind_text file e.end piece.length) (followed_by e.trees t))
+            (sym (followed-none it.trees)))))
+        (next_left kind.Question left_is)
+    by kind.Star at_end left_is =
+        let it : FindsToken file rule.star (codes "STAR") (between 208 212) e.end piece = here kind.Star piece
+            (between 208 212) at_end in
+        one_suffix file p lexemes part e form.Star rest it it.spells
+        (Derives.sequence (DerivesItems.items_then (e.derives _)
+        (DerivesItems.items_then (Derives.optional_some (Derives.choice
+            (DerivesFirst.alternative_failed (not_here kind.Star piece kind.Question _ at_end (λ x. cc))
+            (DerivesFirst.alternative_matched it.derives)))) DerivesItems.items_none refl)
+        (ap (λ (t : Trees). Matched (behind_text file e.end piece.length) (followed_by e.trees t))
+            (sym (followed-none it.trees)))))
+        (next_left kind.Star left_is)
+    by kind.Plus at_end left_is =
+        let it : FindsToken file rule.plus (codes "PLUS") (between 215 219) e.end piece = here kind.Plus piece
+            (between 215 219) at_end in
+        one_suffix file p lexemes part e form.Plus rest it it.spells
+        (Derives.sequence (DerivesItems.items_then (e.derives _)
+        (DerivesItems.items_then (Derives.optional_some (Derives.choice
+            (DerivesFirst.alternative_failed (not_here kind.Plus piece kind.Question _ at_end (λ x. cc))
+            (DerivesFirst.alternative_failed (not_here kind.Plus piece kind.Star _ at_end (λ x. cc))
+            (DerivesFirst.alternative_last it.derives))))) DerivesItems.items_none refl)
+        (ap (λ (t : Trees). Matched (behind_text file e.end piece.length) (followed_by e.trees t))
+            (sym (followed-none it.trees)))))
+        (next_left kind.Plus left_is)
+    by kind.Ident at_end left_is = none kind.Ident at_end (λ x. cc) (λ x. cc) (λ x. cc)
+    by kind.Literal at_end left_is = none kind.Literal at_end (λ x. cc) (λ x. cc) (λ x. cc)
+    by kind.Class at_end left_is = none kind.Class at_end (λ x. cc) (λ x. cc) (λ x. cc)
+    by kind.Arrow at_end left_is = none kind.Arrow at_end (λ x. cc) (λ x. cc) (λ x. cc)
+    by kind.Slash at_end left_is = none kind.Slash at_end (λ x. cc) (λ x. cc) (λ x. cc)
+    by kind.And at_end left_is = none kind.And at_end (λ x. cc) (λ x. cc) (λ x. cc)
+    by kind.Not at_end left_is = none kind.Not at_end (λ x. cc) (λ x. cc) (λ x. cc)
+    by kind.Open at_end left_is = none kind.Open at_end (λ x. cc) (λ x. cc) (λ x. cc)
+    by kind.Close at_end left_is = none kind.Close at_end (λ x. cc) (λ x. cc) (λ x. cc)
+    by kind.Dot at_end left_is = none kind.Dot at_end (λ x. cc) (λ x. cc) (λ x. cc)
+
+-- Suffix is what is read
+pub suffix-exact : (file : List ℕ) (most : ℕ) (inner : Option Reading) → Good file most inner
+    → (p : ℕ) (lexemes : List Lexeme) → Stream file p lexemes → length lexemes ≤ most
+    → ExactAny file (codes "Suffix") p lexemes (suffix file inner lexemes)
+unfolding suffix suffix_body
+suffix-exact file most inner good p lexemes stream few =
+    by (primary file inner lexemes) (primary-exact file most inner good p lexemes stream few)
+  where
+    by : (x : Result Part Halt) → ExactAny file (codes "Primary") p lexemes x
+        → ExactAny file (codes "Suffix") p lexemes (and_read x
+        (λ (part : Part). Ok (then_suffix (place_of (length file) lexemes) part (drop part.taken lexemes))))
+    by (Ok part) e =
+        subst (λ start. ReadsAny file (codes "Suffix") p lexemes (then_suffix start part (drop part.taken lexemes)))
+            (sym (place-is stream)) (suffix_read file p lexemes part e (drop part.taken lexemes) refl e.left)
+    by (Err (Unexpected at)) fails =
+        λ span. Derives.name_failed suffix-meant.1 (Derives.sequence (DerivesItems.items_failed (fails _)))
+    by (Err (TooDeep at)) e = absurd e
+
+-- ---- Prefix
+
+-- no sign before the suffix
+no_prefix : (file : List ℕ) (p : ℕ) (lexemes : List Lexeme)
+    → ((span : Extent) → Derives figure file (Name (codes "AND") span) p Failed)
+    → ((span : Extent) → Derives figure file (Name (codes "NOT") span) p Failed) → (x : Result Part Halt)
+    → ExactAny file (codes "Suffix") p lexemes x → ExactAny file (codes "Prefix") p lexemes x
+unfolding prefix_body
+no_prefix file p lexemes ands nots (Ok part) e =
+    node_any _ prefix-meant.1 refl refl
+    (Derives.sequence (DerivesItems.items_then (Derives.optional_none
+        (Derives.choice (DerivesFirst.alternative_failed (ands _) (DerivesFirst.alternative_last (nots _)))))
+    (DerivesItems.items_then (e.derives _) DerivesItems.items_none refl)
+    (ap (λ (t : Trees). Matched e.end t) (sym (followed-none e.trees)))))
+    part (λ before. ap (signed (between p part.last)) (e.spells before)) e.ends e.nests e.some e.left
+no_prefix file p lexemes ands nots (Err (Unexpected at)) fails =
+    λ span. Derives.name_failed prefix-meant.1
+    (Derives.sequence (DerivesItems.items_then (Derives.optional_none
+        (Derives.choice (DerivesFirst.alternative_failed (ands _) (DerivesFirst.alternative_last (nots _)))))
+        (DerivesItems.items_failed (fails _)) refl))
+no_prefix file p lexemes ands nots (Err (TooDeep at)) e = absurd e
+
+-- a sign before the suffix
+one_prefix : (file : List ℕ) (p : ℕ) (lexeme : Lexeme)
+    (more : List Lexeme) {number : ℕ} {used : List ℕ} {span : Extent} {piece : Piece} (sign : Form → Extent → Form)
+    → (it : FindsToken file number used span p piece) → ((before : ℕ) → spelled file before it.trees ≡ Sign sign ∷ [])
+    → Derives figure file (form.Optional (form.Choice (Name (codes "AND") (between 159 162))
+    (form.Then (Name (codes "NOT") (between 165 168)) form.End) (between 159 168)) (between 158 170)) p
+    (Matched (behind_text file p piece.length) it.trees) → (x : Result Part Halt)
+    → ExactAny file (codes "Suffix") (behind_text file p piece.length) more x
+    → ExactAny file (codes "Prefix") p (lexeme ∷ more) (and_read x (λ (part : Part). Ok (with_prefix p sign part)))
+unfolding prefix_body
+one_prefix file p lexeme more {number} {used} {span} {piece} sign it spells d (Ok part) e =
+    node_any _ prefix-meant.1 refl refl
+    (Derives.sequence (DerivesItems.items_then d (DerivesItems.items_then (e.derives _) DerivesItems.items_none refl)
+    (ap (λ (t : Trees). Matched e.end (followed_by it.trees t)) (sym (followed-none e.trees)))))
+    (with_prefix p sign part)
+    (λ before. ap (signed (between p part.last))
+    (spelled-followed file before it.trees e.trees
+    ∙ (ap (λ (pieces : List Spelling). spelled file before it.trees ++ pieces) (e.spells (text_end before it.trees))
+    ∙ ap (λ (pieces : List Spelling). pieces ++ Expression part.form ∷ []) (spells before))))
+    (λ before. text_end-followed before it.trees e.trees ∙ e.ends (text_end before it.trees))
+    (omega (arith, nesting-followed it.trees e.trees, e.nests, it.flat)) (omega arith)
+    (let one : 1 + part.taken ≡ suc part.taken = omega arith in
+    subst (λ n. Stream file e.end (drop n (lexeme ∷ more))) (sym one) e.left)
+one_prefix file p lexeme more sign it spells d (Err (Unexpected at)) fails =
+    λ span. Derives.name_failed prefix-meant.1
+    (Derives.sequence (DerivesItems.items_then d (DerivesItems.items_failed (fails _)) refl))
+one_prefix file p lexeme more sign it spells d (Err (TooDeep at)) e = absurd e
+
+-- Prefix is what is read
+pub prefix-exact : (file : List ℕ) (most : ℕ) (inner : Option Reading) → Good file most inner
+    → (p : ℕ) (lexemes : List Lexeme) → Stream file p lexemes → length lexemes ≤ most
+    → ExactAny file (codes "Prefix") p lexemes (prefix file inner lexemes)
+unfolding prefix
+prefix-exact file most inner good p [] (Stream.ended last) few =
+    no_prefix file p [] (λ span. none_here kind.And span last) (λ span. none_here kind.Not span last)
+        (suffix file inner []) (suffix-exact file most inner good p [] (Stream.ended last) few)
+prefix-exact file most inner good p (_ ∷ more) (Stream.next k piece lexeme found is rest) few =
+    subst (λ (l : Lexeme). ExactAny file (codes "Prefix") p (l ∷ more)
+        (prefix_of file inner l more (prefix_sign l.kind))) (sym is) (by k found)
+  where
+    plain : (k : TokenKind) → text_of k (drop p file) ≡ Some piece → kind.And ≢ k → kind.Not ≢ k
+        → ExactAny file (codes "Prefix") p (lexeme_at k p piece.length ∷
+        more) (suffix file inner (lexeme_at k p piece.length ∷ more))
+    plain k there a b =
+        no_prefix file p (lexeme_at k p piece.length ∷ more) (λ span. not_here k piece kind.And span there a)
+            (λ span. not_here k piece kind.Not span there b) (suffix file inner (lexeme_at k p piece.length ∷
+            more)) (suffix-exact file most inner good p (lexeme_at k p piece.length ∷
+            more) (Stream.next k piece (lexeme_at k p piece.length) there refl rest) few)
+
+    by : (k : TokenKind) → text_of k (drop p file) ≡ Some piece
+        → ExactAny file (codes "Prefix") p (lexeme_at k p piece.length ∷
+        more) (prefix_of file inner (lexeme_at k p piece.length) more (prefix_sign k))
+    by kind.And there =
+        let it : FindsToken file rule.and_sign (codes "AND") (between 159 162) p piece = here kind.And piece
+            (between 159 162) there in
+        one_prefix file p (lexeme_at kind.And p piece.length) more form.And it it.spells
+        (Derives.optional_some (Derives.choice (DerivesFirst.alternative_matched it.derives)))
+        (suffix file inner more) (suffix-exact file most inner good (behind_text file p piece.length) more rest
+            (omega arith))
+    by kind.Not there =
+        let it : FindsToken file rule.not_sign (codes "NOT") (between 165 168) p piece = here kind.Not piece
+            (between 165 168) there in
+        one_prefix file p (lexeme_at kind.Not p piece.length) more form.Not it it.spells
+        (Derives.optional_some (Derives.choice (DerivesFirst.alternative_failed
+            (not_here kind.Not piece kind.And _ there (λ x. cc)) (DerivesFirst.alternative_last it.derives))))
+        (suffix file inner more) (suffix-exact file most inner good (behind_text file p piece.length) more rest
+            (omega arith))
+    by kind.Question there = plain kind.Question there (λ x. cc) (λ x. cc)
+    by kind.Star there = plain kind.Star there (λ x. cc) (λ x. cc)
+    by kind.Plus there = plain kind.Plus there (λ x. cc) (λ x. cc)
+    by kind.Ident there = plain kind.Ident there (λ x. cc) (λ x. cc)
+    by kind.Literal there = plain kind.Literal there (λ x. cc) (λ x. cc)
+    by kind.Class there = plain kind.Class there (λ x. cc) (λ x. cc)
+    by kind.Arrow there = plain kind.Arrow there (λ x. cc) (λ x. cc)
+    by kind.Slash there = plain kind.Slash there (λ x. cc) (λ x. cc)
+    by kind.Open there = plain kind.Open there (λ x. cc) (λ x. cc)
+    by kind.Close there = plain kind.Close there (λ x. cc) (λ x. cc)
+    by kind.Dot there = plain kind.Dot there (λ x. cc) (λ x. cc)

@@ -1,0 +1,155 @@
+-- A star of the figure and the reader's `many`: expressions, one behind the other, as long as one begins.
+use Rattle.std.proofs.Common.{◌≡◌, ℕ, zero, suc, max, ◌+◌, ◌-◌, ◌<◌, ◌≤◌, Bool, true, false, List, [], ◌∷◌, ◌++◌, map, length, drop, length-drop}
+use Rattle.std.proofs.Common.{Result, Ok, Err, if◌then◌else◌, refl, sym, ap, ◌∙◌, subst, arith}
+use Rattle.std.proofs.lemmas.List.{drop-drop}
+use Rattle.peg_bytes.specs.Extent.{Extent}
+use Rattle.peg_tree.specs.Trees.{Trees, NoTrees, followed_by}
+use Rattle.peg_grammar.specs.Form.{Form, Star}
+use Rattle.peg_grammar.specs.Record.{Failed, Matched}
+use Rattle.peg_grammar.proofs.Derivations.{Derives}
+use Rattle.peg_notation.specs.Figure.{figure}
+use Rattle.peg_notation.specs.Reader.{Halt, Unexpected, TooDeep, Part, Parts, Reading, and_read, no_more, and_parts, many_behind, many}
+use Rattle.peg_notation.specs.Spelled.{Spelling, Expression, text_end, spelled, nesting}
+use Rattle.peg_notation.specs.Tokens.{Lexeme}
+use Rattle.peg_notation.proofs.Readings.{IsStuck}
+use Rattle.peg_notation.proofs.Streams.{Stream}
+use Rattle.peg_notation.proofs.Takes.{spelled-followed, text_end-followed, nesting-followed}
+
+-- skipping tokens is dropping them
+pub many_behind-drop : (begins : List Lexeme → Bool) (read : Reading) (before : ℕ) (lexemes : List Lexeme) (skipped : ℕ)
+    → many_behind begins read before lexemes skipped ≡ many begins read before (drop skipped lexemes)
+unfolding many_behind
+many_behind-drop begins read before [] zero = refl
+many_behind-drop begins read before [] (suc skipped) = refl
+many_behind-drop begins read before (l ∷ rest) zero = refl
+many_behind-drop begins read before (l ∷ rest) (suc skipped) = many_behind-drop begins read before rest skipped
+
+-- one round: an expression, whatever stands before it
+pub record ReadsRound (file : List ℕ) (element : Form) (p : ℕ) (lexemes : List Lexeme) (part : Part) : Type 0 where
+  pub end : ℕ
+  pub trees : Trees
+  pub left : Stream file end (drop part.taken lexemes)
+  pub derives : Derives figure file element p (Matched end trees)
+  pub spells : (before : ℕ) → spelled file before trees ≡ Expression part.form ∷ []
+  pub ends : (before : ℕ) → text_end before trees ≡ part.last
+  pub nests : nesting trees ≡ part.depth
+  pub some : 0 < part.taken
+
+-- the star goes no further than a token that nothing can follow
+pub record StarStops (file : List ℕ) (element : Form) (span : Extent) (p : ℕ) : Type 0 where
+  pub end : ℕ
+  pub trees : Trees
+  pub derives : Derives figure file (Star element span) p (Matched end trees)
+  pub stuck : IsStuck file end
+
+abbrev pub ExactRound : (file : List ℕ) (element : Form) (span : Extent) (p : ℕ) (lexemes : List Lexeme)
+    → Result Part Halt → Type 0
+ExactRound file element span p lexemes (Ok part) = ReadsRound file element p lexemes part
+ExactRound file element span p lexemes (Err (Unexpected at)) = StarStops file element span p
+ExactRound file element span p lexemes (Err (TooDeep at)) = ⊥
+
+-- where one begins, it is what is read; elsewhere it fails
+pub record Rounds (file : List ℕ) (element : Form) (span : Extent) (begins : List Lexeme → Bool) (read : Reading)
+    (most : ℕ) : Type 0 where
+  pub none : (p : ℕ) (lexemes : List Lexeme) → Stream file p lexemes → length lexemes ≤ most → begins lexemes ≡ false
+      → Derives figure file element p Failed
+  pub one : (before p : ℕ) (lexemes : List Lexeme) → Stream file p lexemes → length lexemes ≤ most → begins lexemes
+      ≡ true → ExactRound file element span p lexemes (read before lexemes)
+
+-- all rounds: expressions behind a token whose text ends at a place
+pub record ReadsMany (file : List ℕ) (element : Form) (span : Extent) (before p : ℕ) (lexemes : List Lexeme)
+    (parts : Parts) : Type 0 where
+  pub end : ℕ
+  pub trees : Trees
+  pub left : Stream file end (drop parts.taken lexemes)
+  pub derives : Derives figure file (Star element span) p (Matched end trees)
+  pub spells : (b : ℕ) → spelled file b trees ≡ map Expression parts.forms
+  pub ends : text_end before trees ≡ parts.last
+  pub nests : nesting trees ≡ parts.depth
+
+abbrev pub ExactMany : (file : List ℕ) (element : Form) (span : Extent) (before p : ℕ) (lexemes : List Lexeme)
+    → Result Parts Halt → Type 0
+ExactMany file element span before p lexemes (Ok parts) = ReadsMany file element span before p lexemes parts
+ExactMany file element span before p lexemes (Err (Unexpected at)) = StarStops file element span p
+ExactMany file element span before p lexemes (Err (TooDeep at)) = ⊥
+
+no_round : {file : List ℕ} {element : Form} {span : Extent} {p : ℕ} (before : ℕ) (lexemes : List Lexeme)
+    → Stream file p lexemes → Derives figure file element p Failed
+    → ReadsMany file element span before p lexemes (no_more before)
+no_round {file} {element} {span} {p} before lexemes stream fails = record {
+  end = p;
+  trees = NoTrees;
+  left = stream;
+  derives = Derives.star_none fails;
+  spells = λ b. refl;
+  ends = refl;
+  nests = refl;
+}
+
+-- one round and those behind it
+more_rounds : {file : List ℕ} {element : Form} (span : Extent) {p : ℕ} (before : ℕ) (lexemes : List Lexeme)
+    (part : Part) → (e : ReadsRound file element p lexemes part) → (x : Result Parts Halt)
+    → ExactMany file element span part.last e.end (drop part.taken lexemes) x
+    → ExactMany file element span before p lexemes (and_read x (λ (parts : Parts). Ok (and_parts part parts)))
+more_rounds {file} {element} span {p} before lexemes part e (Ok parts) m = record {
+  end = m.end;
+  trees = followed_by e.trees m.trees;
+  left = subst (λ (l : List Lexeme). Stream file m.end l) (drop-drop parts.taken part.taken lexemes) m.left;
+  derives = Derives.star_more e.derives m.derives refl;
+  spells = λ b.
+      spelled-followed file b e.trees m.trees
+      ∙ (ap (λ (pieces : List Spelling). spelled file b e.trees ++ pieces) (m.spells (text_end b e.trees))
+      ∙ ap (λ (pieces : List Spelling). pieces ++ map Expression parts.forms) (e.spells b));
+  ends =
+      text_end-followed before e.trees m.trees ∙ (ap (λ b. text_end b m.trees) (e.ends before) ∙ m.ends);
+  nests = omega (arith, nesting-followed e.trees m.trees, e.nests, m.nests);
+}
+more_rounds span before lexemes part e (Err (Unexpected at)) stops = record {
+  end = stops.end;
+  trees = followed_by e.trees stops.trees;
+  derives = Derives.star_more e.derives stops.derives refl;
+  stuck = stops.stuck;
+}
+more_rounds span before lexemes part e (Err (TooDeep at)) m = absurd m
+
+-- the star is what is read
+pub rounds : {file : List ℕ} {element : Form} {span : Extent} {begins : List Lexeme → Bool} {read : Reading} {most : ℕ}
+    → Rounds file element span begins read most → (n before p : ℕ) (lexemes : List Lexeme) → length lexemes ≤ n
+    → Stream file p lexemes → length lexemes ≤ most → begins [] ≡ false
+    → ExactMany file element span before p lexemes (many begins read before lexemes)
+unfolding many_behind
+rounds {file} {element} {span} {begins} {read} {most} r n before p [] few stream within empty =
+    no_round before [] stream (r.none p [] stream within empty)
+rounds r zero before p (l ∷ rest) few stream within empty = absurd (omega arith)
+rounds {file} {element} {span} {begins} {read} {most} r (suc n) before p (l ∷ rest) few stream within empty =
+    by (begins (l ∷ rest)) refl
+    (λ part e.
+    let one : part.taken ≡ suc (part.taken - 1) = omega (arith, e.some) in
+    let same : drop part.taken (l ∷ rest) ≡ drop (part.taken - 1) rest = ap (λ k. drop k (l ∷ rest)) one in
+    let fewer : length (drop part.taken (l ∷ rest)) ≤ n = omega (arith, length-drop part.taken (l ∷ rest), e.some) in
+    let still : length (drop part.taken (l ∷ rest)) ≤ most = omega (arith, length-drop part.taken (l ∷ rest), e.some) in
+    subst (λ (x : Result Parts Halt). ExactMany file element span part.last e.end (drop part.taken (l ∷ rest)) x)
+    (ap (many begins read part.last) same ∙ sym (many_behind-drop begins read part.last rest (part.taken - 1)))
+    (rounds r n part.last e.end (drop part.taken (l ∷ rest)) fewer e.left still empty))
+  where
+    step : (x : Result Part Halt) → ExactRound file element span p (l ∷ rest) x
+        → ((part : Part) → (e : ReadsRound file element p (l ∷ rest) part)
+        → ExactMany file element span part.last e.end (drop part.taken (l ∷
+        rest)) (many_behind begins read part.last rest (part.taken - 1)))
+        → ExactMany file element span before p (l ∷ rest)
+        (and_read x (λ (part : Part). and_read (many_behind begins read part.last rest (part.taken - 1))
+        (λ (parts : Parts). Ok (and_parts part parts))))
+    step (Ok part) e later =
+        more_rounds span before (l ∷ rest) part e (many_behind begins read part.last rest (part.taken - 1))
+            (later part e)
+    step (Err (Unexpected at)) stops later = stops
+    step (Err (TooDeep at)) e later = absurd e
+
+    by : (t : Bool) → begins (l ∷ rest) ≡ t → ((part : Part) → (e : ReadsRound file element p (l ∷ rest) part)
+        → ExactMany file element span part.last e.end (drop part.taken (l ∷
+        rest)) (many_behind begins read part.last rest (part.taken - 1)))
+        → ExactMany file element span before p (l ∷ rest) (if t then and_read (read before (l ∷
+        rest)) (λ (part : Part). and_read (many_behind begins read part.last rest (part.taken - 1))
+        (λ (parts : Parts). Ok (and_parts part parts))) else Ok (no_more before))
+    by true is later = step (read before (l ∷ rest)) (r.one before p (l ∷ rest) stream within is) later
+    by false is later = no_round before (l ∷ rest) stream (r.none p (l ∷ rest) stream within is)

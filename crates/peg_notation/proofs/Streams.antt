@@ -1,0 +1,154 @@
+-- The tokens of a file from a place on, each with the text that stands there.
+use Rattle.std.proofs.Common.{◌≡◌, ◌≢◌, ℕ, zero, suc, ◌+◌, ◌<◌, ◌≤◌, List, [], ◌∷◌, length, drop, codes, ◌⊎◌, inl, inr}
+use Rattle.std.proofs.Common.{Option, None, Some, refl, sym, ap, ◌∙◌, subst, arith, get_or, drop-cons}
+use Rattle.std.proofs.lemmas.List.{drop_all}
+use Rattle.peg_bytes.specs.Extent.{Extent, between}
+use Rattle.peg_tree.specs.Trees.{Trees, NoTrees, Tree}
+use Rattle.peg_grammar.specs.Form.{Name}
+use Rattle.peg_grammar.specs.Record.{Recognition, Record, Failed, Matched, IsRecord}
+use Rattle.peg_grammar.proofs.Derivations.{Derives, derived, one_result}
+use Rattle.peg_notation.specs.Figure.{figure}
+use Rattle.peg_notation.specs.FigureRules as rule
+use Rattle.peg_notation.specs.Lexical.{text_of, kind_of, identifier, literal, quoted, class}
+use Rattle.peg_notation.specs.Notation.{Matches}
+use Rattle.peg_notation.specs.Pieces.{Piece}
+use Rattle.peg_notation.specs.Spelled.{text_end}
+use Rattle.peg_notation.specs.Tokens.{rule_of_kind, Lexeme, IsLexeme, Lexemes}
+use Rattle.peg_notation.specs.declared.token.TokenKind.{TokenKind}
+use Rattle.peg_notation.specs.declared.token.TokenKind.TheVariants.{Ident, Literal, Class, Arrow, Slash, And, Not, Question, Star, Plus, Open, Close, Dot}
+use Rattle.peg_notation.proofs.Lexemes.{lexeme_at, kinds_apart}
+use Rattle.peg_notation.proofs.Texts.{TakesToken, FindsToken, behind_text}
+use Rattle.peg_notation.proofs.TokenRules as rules
+
+-- the number of the figure's rule of a kind
+abbrev pub number_of : TokenKind → ℕ
+number_of Ident = rule.identifier
+number_of Literal = rule.literal
+number_of Class = rule.class
+number_of Arrow = rule.leftarrow
+number_of Slash = rule.slash
+number_of And = rule.and_sign
+number_of Not = rule.not_sign
+number_of Question = rule.question
+number_of Star = rule.star
+number_of Plus = rule.plus
+number_of Open = rule.open_sign
+number_of Close = rule.close
+number_of Dot = rule.dot
+
+-- each kind's rule, as a function on the bytes at the front
+pub takes-kind : (file : List ℕ) (kind : TokenKind) → TakesToken file (number_of kind) (rule_of_kind kind)
+    (text_of kind)
+takes-kind file Ident = rules.takes-identifier file
+takes-kind file Literal = rules.takes-literal file
+takes-kind file Class = rules.takes-class_token file
+takes-kind file Arrow = rules.takes-leftarrow file
+takes-kind file Slash = rules.takes-slash file
+takes-kind file And = rules.takes-and_sign file
+takes-kind file Not = rules.takes-not_sign file
+takes-kind file Question = rules.takes-question file
+takes-kind file Star = rules.takes-star_sign file
+takes-kind file Plus = rules.takes-plus file
+takes-kind file Open = rules.takes-open_sign file
+takes-kind file Close = rules.takes-close file
+takes-kind file Dot = rules.takes-dot file
+
+-- no kind of token is at the end
+pub nothing_left : (kind : TokenKind) → text_of kind [] ≡ None
+unfolding identifier literal quoted class
+nothing_left Ident = refl
+nothing_left Literal = refl
+nothing_left Class = refl
+nothing_left Arrow = refl
+nothing_left Slash = refl
+nothing_left And = refl
+nothing_left Not = refl
+nothing_left Question = refl
+nothing_left Star = refl
+nothing_left Plus = refl
+nothing_left Open = refl
+nothing_left Close = refl
+nothing_left Dot = refl
+
+-- from a place up to the end of the file stand these tokens
+pub data Stream (file : List ℕ) : ℕ → List Lexeme → Type 0 where
+  ended : {p : ℕ} → p ≡ length file → Stream file p []
+  next : {p : ℕ} {more : List Lexeme} (kind : TokenKind) (piece : Piece) (lexeme : Lexeme) → text_of kind (drop p file)
+      ≡ Some piece → lexeme ≡ lexeme_at kind p piece.length → Stream file (behind_text file p piece.length) more
+      → Stream file p (lexeme ∷ more)
+
+-- a text at a place is that of one kind alone
+one_kind : (rest : List ℕ) (kind other : TokenKind) (piece : Piece) → text_of kind rest ≡ Some piece
+    → (other ≡ kind) ⊎ (text_of other rest ≡ None)
+one_kind [] kind other piece found = inr (nothing_left other)
+one_kind (byte ∷ rest) kind other piece found = by (kinds_apart kind byte rest) (kinds_apart other byte rest)
+  where
+    by : ((kind_of byte ≡ Some kind) ⊎ (text_of kind (byte ∷ rest) ≡ None))
+        → ((kind_of byte ≡ Some other) ⊎ (text_of other (byte ∷ rest) ≡ None))
+        → (other ≡ kind) ⊎ (text_of other (byte ∷ rest) ≡ None)
+    by here (inr none) = inr none
+    by (inr none) (inl is) = absurd (let same : Some piece ≡ None = sym found ∙ none in cc)
+    by (inl is) (inl also) = inl (let same : Some other ≡ Some kind = sym also ∙ is in cc)
+
+-- ---- what is next
+
+-- a token of this kind is next
+pub here : {file : List ℕ} {p : ℕ} (kind : TokenKind) (piece : Piece) (span : Extent) → text_of kind (drop p file)
+    ≡ Some piece → FindsToken file (number_of kind) (rule_of_kind kind) span p piece
+here {file} {p} kind piece span found = (takes-kind file kind).some span p piece found
+
+-- a token of another kind is next
+pub not_here : {file : List ℕ} {p : ℕ} (kind : TokenKind) (piece : Piece) (other : TokenKind) (span : Extent)
+    → text_of kind (drop p file) ≡ Some piece → other ≢ kind
+    → Derives figure file (Name (rule_of_kind other) span) p Failed
+not_here {file} {p} kind piece other span found apart =
+    elim (one_kind (drop p file) kind other piece found) [
+      inl same ↦ absurd (apart same)
+    | inr none ↦ (takes-kind file other).none span p none
+    ]
+
+-- no token is next
+pub none_here : {file : List ℕ} {p : ℕ} (other : TokenKind) (span : Extent) → p ≡ length file
+    → Derives figure file (Name (rule_of_kind other) span) p Failed
+none_here {file} {p} other span last =
+    (takes-kind file other).none span p (ap (text_of other) (drop_end p file last) ∙ nothing_left other)
+  where
+    drop_end : (p : ℕ) (file : List ℕ) → p ≡ length file → drop p file ≡ []
+    drop_end p file last = drop_all p file (omega arith)
+
+-- ---- streams of tokens
+
+-- a token that the figure has at a place, by its text
+lexeme_text : (file : List ℕ) (p end : ℕ) (lexeme : Lexeme) → IsLexeme file p end lexeme → (piece : Piece)
+    × (text_of lexeme.kind (drop p file) ≡ Some piece) × (lexeme ≡ lexeme_at lexeme.kind p piece.length)
+    × (end ≡ behind_text file p piece.length)
+lexeme_text file p end lexeme is = by (text_of lexeme.kind (drop p file)) refl
+  where
+    known : Derives figure file (Name (rule_of_kind lexeme.kind) (between 0 0)) p (Matched end is.0)
+    known =
+        subst (λ (x : Recognition). Derives figure file (Name (rule_of_kind lexeme.kind) (between 0 0)) p x) is.1.2
+        (derived figure file is.1.1.0 (Name (rule_of_kind lexeme.kind) (between 0 0)) 0 p is.1.0 is.1.1.1)
+
+    by : (text : Option Piece) → text_of lexeme.kind (drop p file) ≡ text → (piece : Piece)
+        × (text_of lexeme.kind (drop p file) ≡ Some piece) × (lexeme ≡ lexeme_at lexeme.kind p piece.length)
+        × (end ≡ behind_text file p piece.length)
+    by None none =
+        absurd (let bad : Matched end is.0 ≡ Failed = one_result known
+            ((takes-kind file lexeme.kind).none (between 0 0) p none) in cc)
+    by (Some piece) found =
+        let it : FindsToken file (number_of lexeme.kind) (rule_of_kind lexeme.kind)
+            (between 0 0) p piece = here lexeme.kind piece (between 0 0) found in
+        let same : Matched end is.0 ≡ Matched
+            (behind_text file p piece.length) it.trees = one_result known it.derives in
+        let trees : is.0 ≡ it.trees = cc in
+        let text : lexeme.text ≡ between p (p + piece.length) =
+            is.2 ∙ (ap (λ (t : Trees). between p (text_end p t)) trees ∙ ap (between p) (it.ends p)) in
+        (piece, found, ap (λ (t : Extent). record { kind = lexeme.kind; text = t }) text, cc)
+
+-- tokens up to the end are a stream
+pub stream : {file : List ℕ} {p end : ℕ} {lexemes : List Lexeme} → Lexemes file p lexemes end → end ≡ length file
+    → Stream file p lexemes
+stream {file} Lexemes.none last = Stream.ended last
+stream {file} {p} (Lexemes.one {mid = mid} {lexeme = lexeme} {more = more} first rest) last =
+    let it = lexeme_text file p mid lexeme first in
+    Stream.next lexeme.kind it.0 lexeme it.1 it.2 (subst (λ q. Stream file q more) it.3 (stream rest last))
