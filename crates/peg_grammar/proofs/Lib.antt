@@ -4,6 +4,7 @@ pub mod NameLists
 pub mod OutcomeLemmas
 pub mod LoopLemmas
 pub mod RecordLemmas
+pub mod RoundsLemmas
 pub mod SeenLemmas
 pub mod WrittenForms
 pub mod RulesLemmas
