@@ -1,0 +1,32 @@
+//! Laws of the definitions: what holds for every grammar and text. Each function does nothing; its contract is the law.
+ghost use Rattle.std.specs.Prelude.{◌≡◌, ℕ, suc, List, Some};
+ghost use Rattle.peg_core.specs.CoreForm.{CoreForm};
+ghost use Rattle.peg_core.specs.CoreOutcomes.{core_can_in, IsCoreWellFormedIn};
+ghost use Rattle.peg_core.specs.CoreRecord.{core_record_in, IsCoreRecord};
+ghost use Rattle.peg_grammar.specs.AbstractOutcomes.{CanAll};
+ghost use Rattle.peg_grammar.specs.Record.{Record};
+
+/// What has a record in n has the same record in n + 1.
+pub fn a_core_record_stays()
+    ensures { (bodies : List CoreForm) (text : List ℕ) (n : ℕ) (form : CoreForm) (place : ℕ) (r : Record)
+        → core_record_in bodies text n form place ≡ Some r
+        → core_record_in bodies text (suc n) form place ≡ Some r }
+{}
+
+/// Two records of one form at one place are the same.
+pub fn a_core_record_is_the_only_one()
+    ensures { (bodies : List CoreForm) (text : List ℕ) (form : CoreForm) (place : ℕ) (r s : Record)
+        → IsCoreRecord bodies text form place r → IsCoreRecord bodies text form place s → r ≡ s }
+{}
+
+/// What a form can do in n rounds, by Ford's abstract outcomes, it can do in n + 1.
+pub fn core_outcomes_stay()
+    ensures { (bodies : List CoreForm) (n : ℕ) (form : CoreForm)
+        → CanAll (core_can_in bodies n form) (core_can_in bodies (suc n) form) }
+{}
+
+/// What is well-formed in n rounds is well-formed in n + 1.
+pub fn well_formed_core_forms_stay()
+    ensures { (bodies : List CoreForm) (n : ℕ) (form : CoreForm)
+        → IsCoreWellFormedIn bodies n form → IsCoreWellFormedIn bodies (suc n) form }
+{}
