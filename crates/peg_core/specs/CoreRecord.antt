@@ -1,8 +1,12 @@
 -- Ford's recognition relation on core forms (Ford 2004, section 3.3), with the same records as on written expressions.
-use Rattle.std.specs.Prelude.{◌≡◌, ℕ, zero, suc, List, drop, slice_get, Option, None, Some, option_map, option_and_then}
+use Rattle.std.specs.Prelude.{◌≡◌, ℕ, zero, suc, ◌<◌, List, All, drop, slice_get, Option, None, Some, option_map, option_and_then}
 use Rattle.peg_bytes.specs.ByteSet.{has}
 use Rattle.peg_grammar.specs.Record.{Record, matched_at, then_at, or_else, repeated, if_failed, with_result, byte_at, as_use}
 use Rattle.peg_core.specs.CoreForm.{CoreForm, Empty, Test, Rule, Seq, Choice, Star, Not}
+
+-- a text as a file has it: each number is a byte
+abbrev pub AreBytes : List ℕ → Type 0
+AreBytes text = All (λ byte. byte < 256) text
 
 -- a way to take a part: what comes of a form at a place, if anything does
 abbrev pub CoreTaking : Type 0

@@ -1,10 +1,12 @@
 //! Laws of the definitions: what holds for every grammar and text. Each function does nothing; its contract is the law.
-ghost use Rattle.std.specs.Prelude.{◌≡◌, ℕ, suc, List, Some};
-ghost use Rattle.peg_core.specs.CoreForm.{CoreForm};
+ghost use Rattle.std.specs.Prelude.{◌≡◌, ◌↔◌, ℕ, suc, List, Some};
+ghost use Rattle.peg_core.specs.CoreForm.{CoreForm, core_bodies, core_form};
 ghost use Rattle.peg_core.specs.CoreOutcomes.{core_can_in, IsCoreWellFormedIn};
-ghost use Rattle.peg_core.specs.CoreRecord.{core_record_in, IsCoreRecord};
+ghost use Rattle.peg_core.specs.CoreRecord.{AreBytes, core_record_in, IsCoreRecord};
 ghost use Rattle.peg_grammar.specs.AbstractOutcomes.{CanAll};
-ghost use Rattle.peg_grammar.specs.Record.{Record};
+ghost use Rattle.peg_grammar.specs.Form.{Form};
+ghost use Rattle.peg_grammar.specs.Record.{Record, IsRecord};
+ghost use Rattle.peg_grammar.specs.Rules.{Rule};
 
 /// What has a record in n has the same record in n + 1.
 pub fn a_core_record_stays()
@@ -29,4 +31,11 @@ pub fn core_outcomes_stay()
 pub fn well_formed_core_forms_stay()
     ensures { (bodies : List CoreForm) (n : ℕ) (form : CoreForm)
         → IsCoreWellFormedIn bodies n form → IsCoreWellFormedIn bodies (suc n) form }
+{}
+
+/// A written expression and its core form have the same record at each place of a text, or neither has one.
+pub fn core_forms_have_the_same_records()
+    ensures { (rules : List Rule) (text : List ℕ) (e : Form) (terminal place : ℕ) (r : Record) → AreBytes text
+        → (IsRecord rules text e terminal place r
+        ↔ IsCoreRecord (core_bodies rules) text (core_form rules terminal e) place r) }
 {}
