@@ -2,4 +2,6 @@ pub mod CoreRounds
 pub mod Meanings
 pub mod Reaches
 pub mod Sets
+pub mod SugarOutcomes
 pub mod SugarRecords
+pub mod SugarWellFormed

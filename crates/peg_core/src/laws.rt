@@ -1,12 +1,13 @@
 //! Laws of the definitions: what holds for every grammar and text. Each function does nothing; its contract is the law.
 ghost use Rattle.std.specs.Prelude.{◌≡◌, ◌↔◌, ℕ, suc, List, Some};
 ghost use Rattle.peg_core.specs.CoreForm.{CoreForm, core_bodies, core_form};
-ghost use Rattle.peg_core.specs.CoreOutcomes.{core_can_in, IsCoreWellFormedIn};
+ghost use Rattle.peg_core.specs.CoreOutcomes.{core_can_in, CoreGivesNothing, CoreGivesSomething, CoreCanFail, IsCoreWellFormedIn, IsCoreWellFormed};
 ghost use Rattle.peg_core.specs.CoreRecord.{AreBytes, core_record_in, IsCoreRecord};
-ghost use Rattle.peg_grammar.specs.AbstractOutcomes.{CanAll};
+ghost use Rattle.peg_grammar.specs.AbstractOutcomes.{CanAll, GivesNothing, GivesSomething, CanFail};
 ghost use Rattle.peg_grammar.specs.Form.{Form};
 ghost use Rattle.peg_grammar.specs.Record.{Record, IsRecord};
 ghost use Rattle.peg_grammar.specs.Rules.{Rule};
+ghost use Rattle.peg_grammar.specs.WellFormed.{IsWellFormed};
 
 /// What has a record in n has the same record in n + 1.
 pub fn a_core_record_stays()
@@ -38,4 +39,20 @@ pub fn core_forms_have_the_same_records()
     ensures { (rules : List Rule) (text : List ℕ) (e : Form) (terminal place : ℕ) (r : Record) → AreBytes text
         → (IsRecord rules text e terminal place r
         ↔ IsCoreRecord (core_bodies rules) text (core_form rules terminal e) place r) }
+{}
+
+/// A written expression and its core form have the same abstract outcomes: 0, 1 and f.
+pub fn core_forms_have_the_same_outcomes()
+    ensures nothing { (rules : List Rule) (e : Form) (terminal : ℕ)
+        → (GivesNothing rules e ↔ CoreGivesNothing (core_bodies rules) (core_form rules terminal e)) }
+    ensures something { (rules : List Rule) (e : Form) (terminal : ℕ)
+        → (GivesSomething rules e ↔ CoreGivesSomething (core_bodies rules) (core_form rules terminal e)) }
+    ensures fails { (rules : List Rule) (e : Form) (terminal : ℕ)
+        → (CanFail rules e ↔ CoreCanFail (core_bodies rules) (core_form rules terminal e)) }
+{}
+
+/// A written expression is well-formed exactly where its core form is.
+pub fn core_forms_are_well_formed_alike()
+    ensures { (rules : List Rule) (e : Form) (terminal : ℕ)
+        → (IsWellFormed rules e ↔ IsCoreWellFormed (core_bodies rules) (core_form rules terminal e)) }
 {}

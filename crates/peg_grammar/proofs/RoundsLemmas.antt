@@ -86,21 +86,21 @@ CanAll-not_ahead a c h = record { nothing = h.fails; something = λ e. e; fails 
 
 -- where one way to judge parts gives all that another does, so does the table over it
 module _ (judge more : Judging) (h : (e : Form) → CanAll (judge e) (more e)) where
-  CanAll-items : (items : Forms) → CanAll (judge_items judge items) (judge_items more items)
+  pub CanAll-items : (items : Forms) → CanAll (judge_items judge items) (judge_items more items)
   CanAll-items End = CanAll-refl (judge_items judge End)
   CanAll-items (Then e rest) =
       CanAll-both (judge e) (judge_items judge rest) (more e) (judge_items more rest) (h e) (CanAll-items rest)
 
-  CanAll-first : (e : Form) (rest : Forms) → CanAll (judge_first judge e rest) (judge_first more e rest)
+  pub CanAll-first : (e : Form) (rest : Forms) → CanAll (judge_first judge e rest) (judge_first more e rest)
   CanAll-first e End = h e
   CanAll-first e (Then next rest) =
       CanAll-either (judge e) (judge_first judge next rest) (more e) (judge_first more next rest) (h e) (CanAll-first next rest)
 
-  CanAll-meaning : (meaning : Option Meaning) → CanAll (judge_meaning judge meaning) (judge_meaning more meaning)
+  pub CanAll-meaning : (meaning : Option Meaning) → CanAll (judge_meaning judge meaning) (judge_meaning more meaning)
   CanAll-meaning None = CanAll-refl cannot
   CanAll-meaning (Some m) = h m.body
 
-  CanAll-table : (rules : List Rule) (e : Form) → CanAll (can_table rules judge e) (can_table rules more e)
+  pub CanAll-table : (rules : List Rule) (e : Form) → CanAll (can_table rules judge e) (can_table rules more e)
   CanAll-table rules (Literal [] span) = CanAll-refl (can_table rules judge (Literal [] span))
   CanAll-table rules (Literal (b ∷ bs) span) = CanAll-refl (can_table rules judge (Literal (b ∷ bs) span))
   CanAll-table rules (Class set span) = CanAll-refl (can_table rules judge (Class set span))
@@ -130,19 +130,19 @@ can_in-later rules (suc more) n e =
 
 -- where one way to ask of parts is met wherever another is, so is the table over it
 module _ (rules : List Rule) (Is More : Asking) (h : (e : Form) → Is e → More e) where
-  ItemsAre-more : (items : Forms) → ItemsAre rules Is items → ItemsAre rules More items
+  pub ItemsAre-more : (items : Forms) → ItemsAre rules Is items → ItemsAre rules More items
   ItemsAre-more End are = are
   ItemsAre-more (Then e rest) are = (h e are.0, λ gives. ItemsAre-more rest (are.1 gives))
 
-  AllAre-more : (items : Forms) → AllAre Is items → AllAre More items
+  pub AllAre-more : (items : Forms) → AllAre Is items → AllAre More items
   AllAre-more End are = are
   AllAre-more (Then e rest) are = (h e are.0, AllAre-more rest are.1)
 
-  MeaningIs-more : (meaning : Option Meaning) → MeaningIs Is meaning → MeaningIs More meaning
+  pub MeaningIs-more : (meaning : Option Meaning) → MeaningIs Is meaning → MeaningIs More meaning
   MeaningIs-more None is = is
   MeaningIs-more (Some m) is = h m.body is
 
-  WellFormedTable-more : (e : Form) → WellFormedTable rules Is e → WellFormedTable rules More e
+  pub WellFormedTable-more : (e : Form) → WellFormedTable rules Is e → WellFormedTable rules More e
   WellFormedTable-more (Literal bytes span) is = is
   WellFormedTable-more (Class set span) is = is
   WellFormedTable-more (Any span) is = is
