@@ -1,4 +1,5 @@
 pub mod CoreRounds
+pub mod FlatLemmas
 pub mod Meanings
 pub mod Reaches
 pub mod Sets

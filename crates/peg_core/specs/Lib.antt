@@ -3,6 +3,11 @@ pub use Rattle.peg_grammar.specs.Form
 pub use Rattle.peg_grammar.specs.Record
 pub use Rattle.peg_grammar.specs.Rules
 pub use Rattle.peg_grammar.specs.WellFormed
+pub mod CoreCode
 pub mod CoreForm
 pub mod CoreOutcomes
 pub mod CoreRecord
+pub mod Cores
+pub mod FlatForms
+pub mod Layout
+pub mod Nodes

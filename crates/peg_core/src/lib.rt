@@ -1,4 +1,10 @@
 //! Ford's core forms of written grammars: the sugar taken away, with the same meaning.
 #![tactic(auto)]
 
+mod cores;
+mod flat;
 pub mod laws;
+mod node;
+
+pub use cores::Core;
+pub use node::Node;
