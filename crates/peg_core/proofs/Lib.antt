@@ -1,5 +1,6 @@
 pub mod CoreRounds
 pub mod FlatLemmas
+pub mod LaidLemmas
 pub mod Meanings
 pub mod Reaches
 pub mod Sets

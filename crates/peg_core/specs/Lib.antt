@@ -6,8 +6,10 @@ pub use Rattle.peg_grammar.specs.WellFormed
 pub mod CoreCode
 pub mod CoreForm
 pub mod CoreOutcomes
+pub mod CoreParts
 pub mod CoreRecord
 pub mod Cores
 pub mod FlatForms
+pub mod Laid
 pub mod Layout
 pub mod Nodes

@@ -4,7 +4,9 @@
 mod cores;
 mod flat;
 pub mod laws;
+mod nest;
 mod node;
+mod signs;
 
 pub use cores::Core;
 pub use node::Node;
