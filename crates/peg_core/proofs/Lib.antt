@@ -1,3 +1,4 @@
+pub mod AddLemmas
 pub mod CoreRounds
 pub mod FlatLemmas
 pub mod LaidLemmas

@@ -7,6 +7,7 @@ pub mod laws;
 mod nest;
 mod node;
 mod signs;
+mod sugar;
 
 pub use cores::Core;
 pub use node::Node;

@@ -1,6 +1,6 @@
 //! Core forms that are put together from others.
 ghost use Rattle.std.specs.Prelude.{◌+◌, ◌<◌, ◌≤◌, [], ◌∷◌, length, IfOk};
-ghost use Rattle.peg_bytes.specs.ByteSet.{bytes_of};
+ghost use Rattle.peg_bytes.specs.ByteSet.{all_bytes, bytes_of};
 ghost use Rattle.peg_bytes.specs.Extent.{extent};
 ghost use Rattle.peg_core.specs.CoreForm.{Empty, Rule, Seq, Choice, Star, Not, Test};
 ghost use Rattle.peg_core.specs.CoreParts.{optional_parts, plus_parts, and_parts};
@@ -89,4 +89,14 @@ pub(crate) fn add_class(flat: &mut Flat, set: ByteSet, span: Span) -> Result<u32
 {
     let terminal = flat.terminal(span)?;
     flat.push(Node::Test { set, terminal }, nowhere())
+}
+
+/// A dot: one test of any byte, of the next terminal.
+pub(crate) fn add_any(flat: &mut Flat, span: Span) -> Result<u32, AllocError>
+    requires room { length flat.old.forms + 1 ≤ most_forms }
+    requires few { length flat.old.spans + 1 ≤ most_parts }
+    ensures { IfOk result (λ number. Lays flat.old (Test all_bytes (length flat.old.spans) ∷ [])
+        (extent span ∷ []) (Test all_bytes (length flat.old.spans)) number flat.new) }
+{
+    add_class(flat, ByteSet::full(), span)
 }
