@@ -4,6 +4,7 @@ pub mod FlatLemmas
 pub mod LaidLemmas
 pub mod Meanings
 pub mod Reaches
+pub mod RuleLemmas
 pub mod Sets
 pub mod SugarOutcomes
 pub mod SugarRecords

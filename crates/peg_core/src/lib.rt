@@ -11,3 +11,4 @@ mod sugar;
 
 pub use cores::Core;
 pub use node::Node;
+pub use sugar::desugar;

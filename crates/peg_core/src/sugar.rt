@@ -1,16 +1,18 @@
 //! The sugar taken away (Ford 2004, section 3.2): `e?` is `e / ''`, `e+` is `e e*`, `&e` is `!(!e)`, a literal is the
 //! sequence of its bytes, a class and `.` are one test of a byte.
 ghost use Rattle.std.specs.Prelude.{◌≡◌, ◌+◌, ◌*◌, ◌≤◌, ◌<◌, true, [], ◌∷◌, length, map, IfOk};
-ghost use Rattle.peg_core.specs.CoreForm.{Rule, number_of};
-ghost use Rattle.peg_core.specs.CoreParts.{are_defined};
+ghost use Rattle.peg_core.specs.CoreForm.{Rule, core_bodies, number_of};
+ghost use Rattle.peg_core.specs.CoreParts.{all_core_parts, are_defined};
 ghost use Rattle.peg_core.specs.Laid.{Lays, LaysForm, LaysForms};
-ghost use Rattle.peg_core.specs.Layout.{most_forms};
+ghost use Rattle.peg_core.specs.Layout.{form_at, most_forms};
 ghost use Rattle.peg_grammar.specs.Form.{form_weight, forms, forms_weight, names_used, names_used_by_all};
 ghost use Rattle.peg_grammar.specs.Grammar.{most_parts};
 ghost use Rattle.peg_grammar.specs.GrammarRules.{rules_in};
-ghost use Rattle.peg_grammar.specs.Rules.{is_defined};
+ghost use Rattle.peg_grammar.specs.Rules.{is_defined, weight_of};
+ghost use Rattle.peg_grammar.specs.Terminals.{extents_of_terminals};
 ghost use Rattle.peg_grammar.specs.Written.{form_of};
 
+use crate::Core;
 use crate::flat::Flat;
 use crate::nest::{add_choices, add_literal, add_sequence};
 use crate::signs::{
@@ -18,6 +20,25 @@ use crate::signs::{
 };
 use peg_grammar::{Expr, Grammar};
 use std::alloc::{AllocError, Global};
+
+/// The core forms of a grammar (Ford 2004, section 3.2): for each written expression, those of its parts and then its
+/// own, rule by rule and in written order; the part of a plus stands once and is named twice. There are at most two for
+/// each part of the grammar's weight, and it takes time and memory linear in that, but for hashing. It recurses as deep
+/// as expressions nest.
+pub fn desugar(alloc: Global, grammar: &Grammar) -> Result<Core, AllocError>
+    ensures forms { IfOk result (λ core. core.forms ≡ all_core_parts (rules_in grammar.now)) }
+    ensures bodies { IfOk result (λ core. map (form_at core.forms) core.bodies ≡ core_bodies (rules_in grammar.now)) }
+    ensures spans { IfOk result (λ core. core.spans ≡ extents_of_terminals (rules_in grammar.now)) }
+    ensures few { IfOk result (λ core. length core.forms ≤ 2 * weight_of (rules_in grammar.now)) }
+{
+    let mut flat = Flat::new(alloc, grammar.rules());
+    let mut bodies = Vec::new(alloc);
+    for rule in 0..grammar.rules() {
+        let body = add(alloc, &mut flat, grammar, grammar.body(rule))?;
+        bodies.push(body)?;
+    }
+    Ok(Core::new(flat, bodies))
+}
 
 // The core forms of an expression, and the number of its own. It recurses as deep as expressions nest.
 #[cycle(sugar)]
