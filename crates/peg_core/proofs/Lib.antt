@@ -3,6 +3,7 @@ pub mod CoreRounds
 pub mod FlatLemmas
 pub mod LaidLemmas
 pub mod Meanings
+pub mod PartsLemmas
 pub mod Reaches
 pub mod RuleLemmas
 pub mod Sets

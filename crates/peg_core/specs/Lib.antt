@@ -13,3 +13,4 @@ pub mod FlatForms
 pub mod Laid
 pub mod Layout
 pub mod Nodes
+pub mod Subexpressions

@@ -1,13 +1,15 @@
 //! Laws of the definitions: what holds for every grammar and text. Each function does nothing; its contract is the law.
-ghost use Rattle.std.specs.Prelude.{◌≡◌, ◌↔◌, ℕ, suc, List, Some};
+ghost use Rattle.std.specs.Prelude.{◌≡◌, ◌↔◌, All, Contains, filter, flat_map, map, ℕ, suc, List, Some};
 ghost use Rattle.peg_core.specs.CoreForm.{CoreForm, core_bodies, core_form};
 ghost use Rattle.peg_core.specs.CoreOutcomes.{core_can_in, CoreGivesNothing, CoreGivesSomething, CoreCanFail, IsCoreWellFormedIn, IsCoreWellFormed};
+ghost use Rattle.peg_core.specs.CoreParts.{all_core_parts};
+ghost use Rattle.peg_core.specs.Subexpressions.{Numbered, numbered_subexpressions, all_core_stars, is_star};
 ghost use Rattle.peg_core.specs.CoreRecord.{AreBytes, core_record_in, IsCoreRecord};
 ghost use Rattle.peg_grammar.specs.AbstractOutcomes.{CanAll, GivesNothing, GivesSomething, CanFail};
 ghost use Rattle.peg_grammar.specs.Form.{Form};
 ghost use Rattle.peg_grammar.specs.Record.{Record, IsRecord};
 ghost use Rattle.peg_grammar.specs.Rules.{Rule};
-ghost use Rattle.peg_grammar.specs.WellFormed.{IsWellFormed};
+ghost use Rattle.peg_grammar.specs.WellFormed.{IsWellFormed, IsWellFormedGrammar, subexpressions};
 
 /// What has a record in n has the same record in n + 1.
 pub fn a_core_record_stays()
@@ -55,4 +57,17 @@ pub fn core_forms_have_the_same_outcomes()
 pub fn core_forms_are_well_formed_alike()
     ensures { (rules : List Rule) (e : Form) (terminal : ℕ)
         → (IsWellFormed rules e ↔ IsCoreWellFormed (core_bodies rules) (core_form rules terminal e)) }
+{}
+
+/// Among a grammar's core forms stands that of each written subexpression; the stars are exactly those of its written
+/// stars and pluses; and the grammar is well-formed exactly where all its core forms are.
+pub fn a_grammars_core_forms_are_those_of_its_expressions()
+    ensures subexpressions { (rules : List Rule)
+        → All (λ (e : Numbered). Contains (all_core_parts rules) (core_form rules e.terminal e.form))
+        (numbered_subexpressions rules) }
+    ensures all { (rules : List Rule) → map (λ (e : Numbered). e.form) (numbered_subexpressions rules)
+        ≡ flat_map (λ (rule : Rule). subexpressions rule.body) rules }
+    ensures stars { (rules : List Rule) → filter is_star (all_core_parts rules) ≡ all_core_stars rules }
+    ensures well_formed { (rules : List Rule) → (IsWellFormedGrammar rules
+        ↔ All (IsCoreWellFormed (core_bodies rules)) (all_core_parts rules)) }
 {}

@@ -1,15 +1,18 @@
 //! The sugar taken away (Ford 2004, section 3.2): `e?` is `e / ''`, `e+` is `e e*`, `&e` is `!(!e)`, a literal is the
 //! sequence of its bytes, a class and `.` are one test of a byte.
-ghost use Rattle.std.specs.Prelude.{◌≡◌, ◌+◌, ◌*◌, ◌≤◌, ◌<◌, true, [], ◌∷◌, length, map, IfOk};
-ghost use Rattle.peg_core.specs.CoreForm.{Rule, core_bodies, number_of};
+ghost use Rattle.std.specs.Prelude.{◌≡◌, ◌↔◌, All, Contains, filter, ◌+◌, ◌*◌, ◌≤◌, ◌<◌, true, [], ◌∷◌, length, map, IfOk};
+ghost use Rattle.peg_core.specs.CoreForm.{Rule, core_bodies, core_form, number_of};
+ghost use Rattle.peg_core.specs.CoreOutcomes.{IsCoreWellFormed};
 ghost use Rattle.peg_core.specs.CoreParts.{all_core_parts, are_defined};
 ghost use Rattle.peg_core.specs.Laid.{Lays, LaysForm, LaysForms};
 ghost use Rattle.peg_core.specs.Layout.{form_at, most_forms};
+ghost use Rattle.peg_core.specs.Subexpressions.{numbered_subexpressions, all_core_stars, is_star};
 ghost use Rattle.peg_grammar.specs.Form.{form_weight, forms, forms_weight, names_used, names_used_by_all};
 ghost use Rattle.peg_grammar.specs.Grammar.{most_parts};
 ghost use Rattle.peg_grammar.specs.GrammarRules.{rules_in};
 ghost use Rattle.peg_grammar.specs.Rules.{is_defined, weight_of};
 ghost use Rattle.peg_grammar.specs.Terminals.{extents_of_terminals};
+ghost use Rattle.peg_grammar.specs.WellFormed.{IsWellFormedGrammar};
 ghost use Rattle.peg_grammar.specs.Written.{form_of};
 
 use crate::Core;
@@ -30,6 +33,14 @@ pub fn desugar(alloc: Global, grammar: &Grammar) -> Result<Core, AllocError>
     ensures bodies { IfOk result (λ core. map (form_at core.forms) core.bodies ≡ core_bodies (rules_in grammar.now)) }
     ensures spans { IfOk result (λ core. core.spans ≡ extents_of_terminals (rules_in grammar.now)) }
     ensures few { IfOk result (λ core. length core.forms ≤ 2 * weight_of (rules_in grammar.now)) }
+
+    // So what is asked of written expressions can be asked of the core forms.
+    ensures subexpressions { IfOk result (λ core.
+        All (λ e. Contains core.forms (core_form (rules_in grammar.now) e.terminal e.form))
+        (numbered_subexpressions (rules_in grammar.now))) }
+    ensures stars { IfOk result (λ core. filter is_star core.forms ≡ all_core_stars (rules_in grammar.now)) }
+    ensures well_formed { IfOk result (λ core. IsWellFormedGrammar (rules_in grammar.now)
+        ↔ All (IsCoreWellFormed (core_bodies (rules_in grammar.now))) core.forms) }
 {
     let mut flat = Flat::new(alloc, grammar.rules());
     let mut bodies = Vec::new(alloc);

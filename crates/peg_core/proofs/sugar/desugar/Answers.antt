@@ -1,4 +1,5 @@
-use Rattle.std.proofs.Common.{◌≡◌, ◌+◌, ◌*◌, ◌≤◌, ◌∷◌, ◌++◌, [], true, length, drop, sym, ap, ◌∙◌, subst, arith, length-append}
+use Rattle.std.proofs.Common.{◌≡◌, ◌+◌, ◌*◌, ◌≤◌, ◌∷◌, ◌++◌, ◌↔◌, [], All, Contains, filter, true, length, drop, sym, ap, ◌∙◌, subst, arith, length-append, append-nil}
+use Rattle.std.proofs.lemmas.List.{drop_all}
 use Rattle.std.proofs.Math.Logic.{∥∥₁_elim}
 use mathlib.Core.Bool.{Bool-set}
 use Rattle.std.proofs.lemmas.List.Sums.{sum_by-cons}
@@ -6,12 +7,18 @@ use Rattle.peg_grammar.specs.Form.{form_weight, names_used}
 use Rattle.peg_grammar.specs.GrammarRules.{rules_in}
 use Rattle.peg_grammar.specs.Rules.{Rule, uses, weight_of}
 use Rattle.peg_grammar.specs.Written.{form_of}
-use Rattle.peg_core.specs.CoreParts.{are_defined, core_parts_from}
+use Rattle.peg_core.specs.CoreForm.{core_form, core_bodies}
+use Rattle.peg_core.specs.CoreOutcomes.{IsCoreWellFormed}
+use Rattle.peg_core.specs.CoreParts.{are_defined, all_core_parts, core_parts_from}
+use Rattle.peg_core.specs.Subexpressions.{Numbered, numbered_subexpressions, is_star}
+use Rattle.peg_grammar.specs.WellFormed.{IsWellFormedGrammar}
 use Rattle.peg_core.specs.Laid.{LaysForm}
 use Rattle.peg_core.specs.Layout.{Layout, Desugared}
 use Rattle.peg_core.proofs.AddLemmas.{LaysForm-room, LaysForm-few, are_defined-left, are_defined-right}
 use Rattle.peg_core.proofs.RuleLemmas.{body_weights, rules-drop, grammar-defined, length-all_core_parts, RulesSoFar, RulesSoFar-start, RulesSoFar-more}
+use Rattle.peg_core.proofs.PartsLemmas.{subexpressions-stand, stars-stand, grammar-right, grammar-fine}
 use Rattle.peg_core.proofs.sugar.desugar.Goals as goal
+use Rattle.peg_core.proofs.sugar.desugar.Goals.{After-new}
 
 pub loop-rule-init : goal.loop-rule-init
 loop-rule-init c =
@@ -80,3 +87,31 @@ returns-clause-few c =
     let flat = c.loop-rule.flat in
     let rest = core_parts_from rules (length flat.spans) (drop c.loop-rule.rule rules) in
     omega (arith, ap (λ (d : Desugared). length d.forms) c.new.ensures, ap length c.loop-rule.invariant.so_far.forms, length-append flat.forms rest, length-all_core_parts rules)
+
+-- ---- what stands among the core forms
+
+-- they are those of the grammar
+are_parts : (c : After-new) → c.new.result.forms ≡ all_core_parts (rules_in c.args.grammar.now)
+are_parts c =
+    let rules = rules_in c.args.grammar.now in
+    let flat = c.loop-rule.flat in
+    let t = length flat.spans in
+    let none : drop c.loop-rule.rule rules ≡ [] = drop_all c.loop-rule.rule rules (omega (arith, c.loop-rule-test.false, c.rules-rule-end.ensures.count)) in
+    ap (λ (d : Desugared). d.forms) c.new.ensures
+    ∙ (sym (append-nil flat.forms)
+    ∙ (ap (λ rest. flat.forms ++ core_parts_from rules t rest) (sym none) ∙ c.loop-rule.invariant.so_far.forms))
+
+pub returns-clause-subexpressions : goal.returns-clause-subexpressions
+returns-clause-subexpressions c =
+    let rules = rules_in c.args.grammar.now in
+    subst (λ forms. All (λ (e : Numbered). Contains forms (core_form rules e.terminal e.form)) (numbered_subexpressions rules))
+    (sym (are_parts c)) (subexpressions-stand rules)
+
+pub returns-clause-stars : goal.returns-clause-stars
+returns-clause-stars c = ap (filter is_star) (are_parts c) ∙ stars-stand (rules_in c.args.grammar.now)
+
+pub returns-clause-well_formed : goal.returns-clause-well_formed
+returns-clause-well_formed c =
+    let rules = rules_in c.args.grammar.now in
+    subst (λ forms. IsWellFormedGrammar rules ↔ All (IsCoreWellFormed (core_bodies rules)) forms) (sym (are_parts c))
+    (grammar-right rules, grammar-fine rules)
