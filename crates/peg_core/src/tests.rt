@@ -168,3 +168,119 @@ fn nested_pluses_stay_few(rt: HostRuntime) -> Result<(), Fail> {
     assert_eq!(rt; core.terminals(), 1);
     Ok(())
 }
+
+// Where the stars of a core came from, by number.
+fn origins(alloc: Global, core: &Core) -> Result<Vec<Span>, AllocError> {
+    let mut spans = Vec::new(alloc);
+    for number in 0..core.len() {
+        if let Node::Star(_) = core.node(number) {
+            spans.push(core.origin(number))?;
+        }
+    }
+    Ok(spans)
+}
+
+fn places(alloc: Global, core: &Core) -> Result<Vec<Span>, AllocError> {
+    let mut spans = Vec::new(alloc);
+    for terminal in 0..core.terminals() {
+        spans.push(core.terminal_span(terminal))?;
+    }
+    Ok(spans)
+}
+
+fn bodies(alloc: Global, core: &Core) -> Result<Vec<u32>, AllocError> {
+    let mut numbers = Vec::new(alloc);
+    for rule in 0..core.rules() {
+        numbers.push(core.body(rule))?;
+    }
+    Ok(numbers)
+}
+
+// A <- B 'x'* and, in the next line, B <- [a-c]+ !A
+#[test]
+fn rules_follow_one_another(rt: HostRuntime) -> Result<(), Fail> {
+    let alloc = rt.alloc();
+    let first = Expr::Seq {
+        items: vec![in alloc;
+            use_of(alloc, "B", Span::new(5, 6))?,
+            Expr::Star {
+                part: boxed(alloc, literal(alloc, b"x", Span::new(7, 10))?)?,
+                span: Span::new(7, 11),
+            },
+        ]?,
+        span: Span::new(5, 11),
+    };
+    let set = ByteSet::range(b'a', b'c');
+    let class = Expr::Class {
+        set,
+        span: Span::new(17, 22),
+    };
+    let second = Expr::Seq {
+        items: vec![in alloc;
+            Expr::Plus {
+                part: boxed(alloc, class)?,
+                span: Span::new(17, 23),
+            },
+            Expr::Not {
+                part: boxed(alloc, use_of(alloc, "A", Span::new(25, 26))?)?,
+                span: Span::new(24, 26),
+            },
+        ]?,
+        span: Span::new(17, 26),
+    };
+    let definitions = vec![in alloc; rule(alloc, "A", first)?, rule(alloc, "B", second)?]?;
+    let core = desugar(alloc, &Grammar::new(alloc, definitions)?)?;
+    let expected = [
+        Node::Rule(1),
+        byte(b'x', 0),
+        Node::Star(1),
+        Node::Seq(0, 2),
+        Node::Test { set, terminal: 1 },
+        Node::Star(4),
+        Node::Seq(4, 5),
+        Node::Rule(0),
+        Node::Not(7),
+        Node::Seq(6, 8),
+    ];
+    assert_eq!(rt; nodes_of(alloc, &core)?.as_slice(), expected.as_slice());
+    assert_eq!(rt; bodies(alloc, &core)?.as_slice(), [3, 9].as_slice());
+    let stars = [Span::new(7, 11), Span::new(17, 23)];
+    assert_eq!(rt; origins(alloc, &core)?.as_slice(), stars.as_slice());
+    let terminals = [Span::new(7, 10), Span::new(17, 22)];
+    assert_eq!(rt; places(alloc, &core)?.as_slice(), terminals.as_slice());
+    Ok(())
+}
+
+// A <- '' and an empty sequence: each is the empty form, and the literal is a terminal.
+#[test]
+fn what_matches_nothing_is_empty(rt: HostRuntime) -> Result<(), Fail> {
+    let alloc = rt.alloc();
+    let empty = Expr::Seq {
+        items: Vec::new(alloc),
+        span: Span::new(10, 10),
+    };
+    let body = Expr::Choice {
+        first: boxed(alloc, literal(alloc, b"", Span::new(5, 7))?)?,
+        rest: vec![in alloc; empty]?,
+        span: Span::new(5, 10),
+    };
+    let core = desugar(alloc, &grammar(alloc, body)?)?;
+    let expected = [Node::Empty, Node::Empty, Node::Choice(0, 1)];
+    assert_eq!(rt; nodes_of(alloc, &core)?.as_slice(), expected.as_slice());
+    assert_eq!(rt; core.terminals(), 1);
+    Ok(())
+}
+
+// A literal of 100,000 bytes is as many tests, and one sequence less.
+#[test]
+fn a_long_literal_is_linear(rt: HostRuntime) -> Result<(), Fail> {
+    let alloc = rt.alloc();
+    let body = Expr::Literal {
+        bytes: vec![in alloc; b'a'; 100_000]?,
+        span: Span::new(5, 100_007),
+    };
+    let core = desugar(alloc, &grammar(alloc, body)?)?;
+    assert_eq!(rt; core.len(), 199_999);
+    assert_eq!(rt; core.terminals(), 1);
+    Ok(())
+}
