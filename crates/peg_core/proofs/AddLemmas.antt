@@ -1,5 +1,5 @@
 -- What the forms of parts make of the forms of the whole, form by form.
-use Rattle.std.proofs.Common.{◌≡◌, ℕ, zero, suc, ◌+◌, ◌*◌, ◌<◌, ◌≤◌, Bool, true, false, ◌&&◌, List, [], ◌∷◌, ◌++◌, All, length, map, get_or, nat_lt, slice_get, position, bytes_eq, cond, not, ◌||◌, Option, None, Some, option_map, refl, sym, ap, ◌∙◌, subst, arith, length-append, append_assoc, append-nil}
+use Rattle.std.proofs.Common.{◌≡◌, ℕ, zero, suc, ◌+◌, ◌*◌, ◌<◌, ◌≤◌, Bool, true, false, ◌&&◌, List, [], ◌∷◌, ◌++◌, All, length, map, get_or, nat_lt, slice_get, position, bytes_eq, cond, not, ◌||◌, None, Some, option_map, refl, sym, ap, ◌∙◌, subst, arith, length-append, append_assoc, append-nil}
 use Rattle.std.proofs.lemmas.Bool.{lt-ltb}
 use Rattle.std.specs.List.{list_any, position_or_len}
 use Rattle.std.proofs.lemmas.List.{length-map, map-append}
@@ -16,11 +16,11 @@ use Rattle.peg_grammar.specs.Terminals.{terminal_extents, terminal_extents_of_al
 use Rattle.peg_grammar.specs.Numbers.{first_from}
 use Rattle.peg_grammar.proofs.RulesLemmas.{terminals-weight, position-within, meant-position, meaning}
 use Rattle.peg_grammar.proofs.TerminalLemmas.{length-terminal_extents}
-use Rattle.peg_core.specs.CoreForm.{CoreForm, Test, Seq, Choice, Star, Not, all_in_order, one_of, in_order, tests_of, core_form, core_forms, number_of}
+use Rattle.peg_core.specs.CoreForm.{CoreForm, Test, Choice, Star, Not, all_in_order, one_of, tests_of, core_form, core_forms, number_of}
 use Rattle.peg_core.specs.CoreParts.{sequences_of, choices_of, optional_parts, plus_parts, and_parts, core_parts, core_parts_of_all, are_defined}
 use Rattle.peg_core.specs.Laid.{Lays, LaysAll, LaysForm, LaysForms}
 use Rattle.peg_core.specs.Layout.{Layout, form_at}
-use Rattle.peg_core.proofs.LaidLemmas.{Lays-then, form_at-kept, within-grown, forms-kept, all_within-grown, length-sequences_of}
+use Rattle.peg_core.proofs.LaidLemmas.{Lays-then, form_at-kept, forms-kept, all_within-grown, length-sequences_of}
 use Rattle.peg_core.proofs.Meanings.{number_of-meant}
 use Rattle.peg_core.proofs.Sets.{bytes_of-all}
 

@@ -1,6 +1,6 @@
 -- What stands among the core forms of a grammar: the core form of each written subexpression, exactly the stars of written
 -- stars and pluses, and well-formed forms alone where the grammar is well-formed.
-use Rattle.std.proofs.Common.{◌≡◌, ℕ, zero, suc, ◌+◌, ◌<◌, Bool, true, false, List, [], ◌∷◌, ◌++◌, All, Contains, length, map, filter, flat_map, cond, add_comm, refl, sym, ap, ◌∙◌, subst, append_assoc, append-nil, arith}
+use Rattle.std.proofs.Common.{◌≡◌, ℕ, zero, suc, ◌+◌, List, [], ◌∷◌, ◌++◌, All, Contains, map, filter, flat_map, add_comm, refl, ap, ◌∙◌, subst, append-nil}
 use Rattle.std.proofs.lemmas.List.{map-append}
 use Rattle.std.proofs.lemmas.List.Elements.{All-nil, All-cons, All-head, All-tail, All-append, All-contains, All-weaker, All-push, All-map, Contains-append_left, Contains-append_right, Contains-push, filter-append}
 use Rattle.peg_bytes.specs.ByteSet.{only}
@@ -9,8 +9,8 @@ use Rattle.peg_grammar.specs.Form.{Form, Forms, Literal, Class, Any, Name, Optio
 use Rattle.peg_grammar.specs.Form as written
 use Rattle.peg_grammar.specs.Rules as grammar
 use Rattle.peg_grammar.specs.WellFormed.{IsWellFormedIn, IsWellFormed, IsWellFormedGrammar, below, below_all, subexpressions}
-use Rattle.peg_core.specs.CoreForm.{CoreForm, Empty, Test, Rule, Seq, Choice, Star, Not, in_order, all_in_order, one_of, tests_of, core_form, core_forms, core_bodies}
-use Rattle.peg_core.specs.CoreOutcomes.{CoreGivesNothing, IsCoreWellFormedIn, IsCoreWellFormed}
+use Rattle.peg_core.specs.CoreForm.{CoreForm, Empty, Test, Seq, Choice, Star, Not, in_order, all_in_order, one_of, tests_of, core_form, core_forms, core_bodies}
+use Rattle.peg_core.specs.CoreOutcomes.{IsCoreWellFormedIn, IsCoreWellFormed}
 use Rattle.peg_core.specs.CoreParts.{sequences_from, sequences_of, choices_of, optional_parts, plus_parts, and_parts, core_parts, core_parts_of_all, core_parts_from, all_core_parts}
 use Rattle.peg_core.specs.Subexpressions.{Numbered, numbered_as, numbered_below, numbered_below_all, numbered_in, numbered_from, numbered_subexpressions, core_stars, core_stars_of_all, core_stars_from, all_core_stars, is_star}
 use Rattle.peg_core.proofs.CoreRounds.{IsCoreWellFormedIn-later}

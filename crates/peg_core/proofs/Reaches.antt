@@ -1,10 +1,10 @@
 -- How records of parts that are reached in some n make records of the whole that are reached in some n: one rule for each
 -- combinator of the recognition table, for written expressions and core forms alike.
-use Rattle.std.proofs.Common.{◌≡◌, ℕ, zero, suc, ◌+◌, List, [], ◌++◌, Option, None, Some, refl, sym, ap, ◌∙◌, subst, option_map, option_and_then, append-nil, zero-add, suc-add, add_comm}
-use Rattle.peg_tree.specs.Trees.{Trees, NoTrees}
+use Rattle.std.proofs.Common.{◌≡◌, ℕ, zero, suc, ◌+◌, Option, None, Some, refl, sym, ap, ◌∙◌, subst, option_map, option_and_then, append-nil, zero-add, suc-add, add_comm}
+use Rattle.peg_tree.specs.Trees.{NoTrees}
 use Rattle.peg_tree.specs.TreesOfRows.{followed_by-none}
 use Rattle.peg_grammar.specs.Record.{Recognition, Failed, Matched, Record, after_both, behind, followed, then_at, replaced, or_else, repeated, matched_at, if_matched, if_failed, with_result}
-use Rattle.peg_grammar.proofs.RecordLemmas.{Extends, Extends-refl}
+use Rattle.peg_grammar.proofs.RecordLemmas.{Extends}
 
 -- answers, one for each n, that stay
 abbrev pub Grows : (ℕ → Option Record) → Type 0

@@ -1,15 +1,15 @@
 -- The core forms of rules, one rule after the other.
-use Rattle.std.proofs.Common.{◌≡◌, ℕ, zero, suc, ◌+◌, ◌*◌, ◌<◌, ◌≤◌, Bool, true, false, ◌&&◌, not, cond, List, [], ◌∷◌, ◌++◌, All, length, map, drop, find, sum_by, slice_get, Option, None, Some, option_map, refl, sym, ap, ◌∙◌, subst, suc-add, arith, length-append, append_assoc, append-nil}
+use Rattle.std.proofs.Common.{◌≡◌, ℕ, zero, suc, ◌+◌, ◌*◌, ◌<◌, ◌≤◌, Bool, true, false, ◌&&◌, not, cond, List, [], ◌∷◌, ◌++◌, All, length, map, drop, find, sum_by, slice_get, None, Some, option_map, refl, ap, ◌∙◌, suc-add, arith, length-append, append_assoc}
 use Rattle.std.specs.List.{list_all}
 use Rattle.std.proofs.lemmas.List.{map-append}
 use Rattle.std.proofs.lemmas.List.Elements.{All-nil, All-push}
 use Rattle.std.proofs.lemmas.List.Sums.{sum_by-cons}
-use Rattle.peg_grammar.specs.Form.{Form, Reference, terminals, form_weight, names_used}
-use Rattle.peg_grammar.specs.Grammar.{IsGrammar, first_undefined}
+use Rattle.peg_grammar.specs.Form.{Form, Reference, terminals, form_weight}
+use Rattle.peg_grammar.specs.Grammar.{IsGrammar}
 use Rattle.peg_grammar.specs.Rules.{Rule, uses, is_defined, weight_of}
 use Rattle.peg_grammar.specs.Terminals.{terminal_extents, extents_of_terminals}
 use Rattle.peg_grammar.proofs.GrammarLemmas.{searches_from_IsGrammar}
-use Rattle.peg_core.specs.CoreForm.{CoreForm, core_form, core_bodies_from, core_bodies}
+use Rattle.peg_core.specs.CoreForm.{core_form, core_bodies_from, core_bodies}
 use Rattle.peg_core.specs.CoreParts.{core_parts, core_parts_from, all_core_parts, are_defined}
 use Rattle.peg_core.specs.Laid.{LaysForm}
 use Rattle.peg_core.specs.Layout.{Layout, form_at}

@@ -1,13 +1,13 @@
 -- What the set of one byte and that of all bytes have.
-use Rattle.std.proofs.Common.{◌≡◌, ℕ, ◌+◌, ◌<◌, ◌≤◌, ◌==◌, max, Bool, true, false, length, replicate, ◌⊎◌, inl, inr, refl, sym, ◌∙◌, arith}
-use Rattle.std.proofs.lemmas.Bool.{cases_lt, eqb-false, ne_eqb}
+use Rattle.std.proofs.Common.{◌≡◌, ℕ, ◌+◌, ◌<◌, ◌==◌, max, Bool, true, false, length, inl, inr, refl, sym, ◌∙◌, arith}
+use Rattle.std.proofs.lemmas.Bool.{cases_lt, ne_eqb}
 use Rattle.std.proofs.lemmas.Bool.Decides.{eqb_tells}
 use Rattle.std.proofs.lemmas.List.{get_or_past, get_or-replicate, ext_get_or}
 use Rattle.std.proofs.lemmas.List.Folds.{list_any_at}
 use Rattle.std.proofs.lemmas.List.FromFn.{length-map-range_with_len, get_or-map-range_with_len}
-use Rattle.peg_bytes.specs.ByteSet.{Bytes, has, has_some, only, all_bytes, bytes_of}
+use Rattle.peg_bytes.specs.ByteSet.{has, has_some, only, all_bytes, bytes_of}
 use Rattle.peg_bytes.specs.declared.byte_set.ByteSet.{ByteSet}
-use Rattle.peg_bytes.proofs.ByteSetLemmas.{length-bytes_of, has-past}
+use Rattle.peg_bytes.proofs.ByteSetLemmas.{length-bytes_of}
 
 length-only : (byte : ℕ) → length (only byte) ≡ max 256 (byte + 1)
 unfolding only

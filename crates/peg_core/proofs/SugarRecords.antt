@@ -3,7 +3,7 @@ use Rattle.std.proofs.Common.{◌≡◌, ℕ, zero, suc, ◌+◌, ◌<◌, Bool,
 use Rattle.std.proofs.lemmas.Bool.{ne_eqb}
 use Rattle.std.proofs.lemmas.Bool.Decides.{eqb_tells}
 use Rattle.std.proofs.lemmas.List.{drop-drop}
-use Rattle.std.proofs.lemmas.List.Elements.{All-drop, All-rest, All-head}
+use Rattle.std.proofs.lemmas.List.Elements.{All-drop, All-head}
 use Rattle.peg_bytes.specs.ByteSet.{Bytes, has, only, all_bytes}
 use Rattle.peg_bytes.specs.Extent.{Extent}
 use Rattle.peg_grammar.specs.Form.{Form, Forms, Literal, Class, Any, Name, Optional, Plus, And, End, Then, terminals}
@@ -16,7 +16,7 @@ use Rattle.peg_core.specs.CoreForm.{CoreForm, Empty, Test, Rule, Seq, Choice, St
 use Rattle.peg_core.specs.CoreRecord.{AreBytes, core_table, core_record_in, IsCoreRecord}
 use Rattle.peg_core.proofs.CoreRounds.{core_record_in-more, one_core_record}
 use Rattle.peg_core.proofs.Meanings.{number_of-meant, body-meant, body-unmeant}
-use Rattle.peg_core.proofs.Reaches.{Grows, InSome, Reaches, Reaches-some, Reaches-shift, Reaches-unshift, Reaches-same, Reaches-from, Reaches-none, Reaches-map, Reaches-then_at, Reaches-rounds, Reaches-or_else, then_at-nothing, after_both-nothing, unless, provided, unless-unless}
+use Rattle.peg_core.proofs.Reaches.{Grows, Reaches, Reaches-some, Reaches-shift, Reaches-unshift, Reaches-same, Reaches-from, Reaches-none, Reaches-map, Reaches-then_at, Reaches-rounds, Reaches-or_else, then_at-nothing, after_both-nothing, unless, provided, unless-unless}
 use Rattle.peg_core.proofs.Sets.{has-only, has-all_bytes}
 
 same_test : (a b : ℕ) → (a == b) ≡ (b == a)

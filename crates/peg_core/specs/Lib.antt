@@ -1,9 +1,16 @@
+pub use Rattle.peg_bytes.specs.ByteSet
+pub use Rattle.peg_bytes.specs.Extent
 pub use Rattle.peg_grammar.specs.AbstractOutcomes
+pub use Rattle.peg_grammar.specs.Examples
 pub use Rattle.peg_grammar.specs.Form
+pub use Rattle.peg_grammar.specs.Grammar
+pub use Rattle.peg_grammar.specs.GrammarRules
 pub use Rattle.peg_grammar.specs.Record
 pub use Rattle.peg_grammar.specs.Rules
+pub use Rattle.peg_grammar.specs.Terminals
 pub use Rattle.peg_grammar.specs.WellFormed
 pub mod CoreCode
+pub mod CoreExamples
 pub mod CoreForm
 pub mod CoreOutcomes
 pub mod CoreParts

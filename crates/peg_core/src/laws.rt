@@ -1,11 +1,14 @@
 //! Laws of the definitions: what holds for every grammar and text. Each function does nothing; its contract is the law.
-ghost use Rattle.std.specs.Prelude.{◌≡◌, ◌↔◌, All, Contains, filter, flat_map, map, ℕ, suc, List, Some};
+ghost use Rattle.std.specs.Prelude.{◌≡◌, ◌↔◌, codes, All, Contains, filter, flat_map, map, ℕ, suc, List, Some};
+ghost use Rattle.peg_core.specs.CoreExamples.{nested_core, signs_core, all_core_can_in};
+ghost use Rattle.peg_core.specs.CoreForm.{Rule as use_of};
 ghost use Rattle.peg_core.specs.CoreForm.{CoreForm, core_bodies, core_form};
 ghost use Rattle.peg_core.specs.CoreOutcomes.{core_can_in, CoreGivesNothing, CoreGivesSomething, CoreCanFail, IsCoreWellFormedIn, IsCoreWellFormed};
 ghost use Rattle.peg_core.specs.CoreParts.{all_core_parts};
 ghost use Rattle.peg_core.specs.Subexpressions.{Numbered, numbered_subexpressions, all_core_stars, is_star};
 ghost use Rattle.peg_core.specs.CoreRecord.{AreBytes, core_record_in, IsCoreRecord};
 ghost use Rattle.peg_grammar.specs.AbstractOutcomes.{CanAll, GivesNothing, GivesSomething, CanFail};
+ghost use Rattle.peg_grammar.specs.Examples.{nested, nested_record, signs, signs_can};
 ghost use Rattle.peg_grammar.specs.Form.{Form};
 ghost use Rattle.peg_grammar.specs.Record.{Record, IsRecord};
 ghost use Rattle.peg_grammar.specs.Rules.{Rule};
@@ -70,4 +73,12 @@ pub fn a_grammars_core_forms_are_those_of_its_expressions()
     ensures stars { (rules : List Rule) → filter is_star (all_core_parts rules) ≡ all_core_stars rules }
     ensures well_formed { (rules : List Rule) → (IsWellFormedGrammar rules
         ↔ All (IsCoreWellFormed (core_bodies rules)) (all_core_parts rules)) }
+{}
+
+/// The definitions on grammars that were worked by hand: core forms, the record of a first rule, and outcomes.
+pub fn the_core_forms_agree_with_hand_worked_grammars()
+    ensures nested { core_bodies nested ≡ nested_core }
+    ensures signs { core_bodies signs ≡ signs_core }
+    ensures recognized { IsCoreRecord nested_core (codes "aab") (use_of 0) 0 nested_record }
+    ensures outcomes { all_core_can_in signs_core 8 ≡ signs_can }
 {}

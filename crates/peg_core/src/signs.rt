@@ -19,7 +19,7 @@ fn nowhere() -> Span {
 }
 
 /// The part, or else the empty form.
-pub(crate) fn add_optional(flat: &mut Flat, part: u32) -> Result<u32, AllocError>
+pub(crate) fn add_optional(part: u32, flat: &mut Flat) -> Result<u32, AllocError>
     requires room { length flat.old.forms + 2 ≤ most_forms }
     requires part { part < length flat.old.forms }
     ensures { IfOk result (λ number. Lays flat.old (optional_parts (form_at flat.old.forms part)) []
@@ -30,7 +30,7 @@ pub(crate) fn add_optional(flat: &mut Flat, part: u32) -> Result<u32, AllocError
 }
 
 /// The part again and again.
-pub(crate) fn add_star(flat: &mut Flat, part: u32, origin: Span) -> Result<u32, AllocError>
+pub(crate) fn add_star(part: u32, flat: &mut Flat, origin: Span) -> Result<u32, AllocError>
     requires room { length flat.old.forms + 1 ≤ most_forms }
     requires part { part < length flat.old.forms }
     ensures { IfOk result (λ number. Lays flat.old (Star (form_at flat.old.forms part) (extent origin) ∷ []) []
@@ -40,7 +40,7 @@ pub(crate) fn add_star(flat: &mut Flat, part: u32, origin: Span) -> Result<u32, 
 }
 
 /// The part, and then again and again.
-pub(crate) fn add_plus(flat: &mut Flat, part: u32, origin: Span) -> Result<u32, AllocError>
+pub(crate) fn add_plus(part: u32, flat: &mut Flat, origin: Span) -> Result<u32, AllocError>
     requires room { length flat.old.forms + 2 ≤ most_forms }
     requires part { part < length flat.old.forms }
     ensures { IfOk result (λ number. Lays flat.old (plus_parts (form_at flat.old.forms part) (extent origin)) []
@@ -51,7 +51,7 @@ pub(crate) fn add_plus(flat: &mut Flat, part: u32, origin: Span) -> Result<u32, 
 }
 
 /// Nothing, where not even the part's failing comes.
-pub(crate) fn add_and(flat: &mut Flat, part: u32) -> Result<u32, AllocError>
+pub(crate) fn add_and(part: u32, flat: &mut Flat) -> Result<u32, AllocError>
     requires room { length flat.old.forms + 2 ≤ most_forms }
     requires part { part < length flat.old.forms }
     ensures { IfOk result (λ number. Lays flat.old (and_parts (form_at flat.old.forms part)) []
@@ -62,7 +62,7 @@ pub(crate) fn add_and(flat: &mut Flat, part: u32) -> Result<u32, AllocError>
 }
 
 /// Nothing, where the part fails.
-pub(crate) fn add_not(flat: &mut Flat, part: u32) -> Result<u32, AllocError>
+pub(crate) fn add_not(part: u32, flat: &mut Flat) -> Result<u32, AllocError>
     requires room { length flat.old.forms + 1 ≤ most_forms }
     requires part { part < length flat.old.forms }
     ensures { IfOk result (λ number. Lays flat.old (Not (form_at flat.old.forms part) ∷ []) []

@@ -74,26 +74,11 @@ fn add(alloc: Global, flat: &mut Flat, grammar: &Grammar, expr: &Expr) -> Result
             let others = add_all(alloc, flat, grammar, rest)?;
             add_choices(flat, first, &others)
         }
-        Expr::Optional { part, .. } => {
-            let part = add(alloc, flat, grammar, part)?;
-            add_optional(flat, part)
-        }
-        Expr::Star { part, span } => {
-            let part = add(alloc, flat, grammar, part)?;
-            add_star(flat, part, *span)
-        }
-        Expr::Plus { part, span } => {
-            let part = add(alloc, flat, grammar, part)?;
-            add_plus(flat, part, *span)
-        }
-        Expr::And { part, .. } => {
-            let part = add(alloc, flat, grammar, part)?;
-            add_and(flat, part)
-        }
-        Expr::Not { part, .. } => {
-            let part = add(alloc, flat, grammar, part)?;
-            add_not(flat, part)
-        }
+        Expr::Optional { part, .. } => add_optional(add(alloc, flat, grammar, part)?, flat),
+        Expr::Star { part, span } => add_star(add(alloc, flat, grammar, part)?, flat, *span),
+        Expr::Plus { part, span } => add_plus(add(alloc, flat, grammar, part)?, flat, *span),
+        Expr::And { part, .. } => add_and(add(alloc, flat, grammar, part)?, flat),
+        Expr::Not { part, .. } => add_not(add(alloc, flat, grammar, part)?, flat),
     }
 }
 

@@ -1,4 +1,4 @@
-use Rattle.std.proofs.Common.{◌≡◌, ◌+◌, ◌≤◌, ◌<◌, [], length}
+use Rattle.std.proofs.Common.{◌+◌, ◌≤◌, ◌<◌, [], length}
 use Rattle.peg_core.specs.Laid.{Lays}
 use Rattle.peg_core.specs.Layout.{most_forms}
 use Rattle.peg_core.proofs.LaidLemmas.{forms_from, choices_in, any_of}

@@ -1,8 +1,7 @@
 use Rattle.std.proofs.Common.{◌≡◌, ◌+◌, ◌-◌, [], sym, subst, arith}
-use Rattle.peg_core.specs.CoreForm.{Seq, all_in_order}
+use Rattle.peg_core.specs.CoreForm.{all_in_order}
 use Rattle.peg_core.specs.CoreParts.{sequences_of}
 use Rattle.peg_core.specs.Laid.{Lays}
-use Rattle.peg_core.specs.Layout.{form_at}
 use Rattle.peg_core.proofs.LaidLemmas.{forms_from, sequence-more, length-pushed}
 use Rattle.peg_core.proofs.nest.add_sequence.Goals as goal
 

@@ -1,4 +1,4 @@
-use Rattle.std.proofs.Common.{◌≡◌, ◌+◌, ◌≤◌, ◌<◌, [], length}
+use Rattle.std.proofs.Common.{◌+◌, ◌≤◌, ◌<◌, [], length}
 use Rattle.peg_core.specs.CoreForm.{all_in_order}
 use Rattle.peg_core.specs.CoreParts.{sequences_of}
 use Rattle.peg_core.specs.Laid.{Lays}

@@ -1,4 +1,4 @@
-use Rattle.std.proofs.Common.{◌≡◌, ◌+◌, ◌-◌, ◌≤◌, [], length, take}
+use Rattle.std.proofs.Common.{◌+◌, ◌-◌, ◌≤◌, [], length, take}
 use Rattle.peg_core.specs.CoreForm.{tests_of}
 use Rattle.peg_core.specs.Laid.{LaysAll}
 use Rattle.peg_core.specs.Layout.{most_forms}

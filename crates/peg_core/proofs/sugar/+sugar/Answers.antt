@@ -1,4 +1,4 @@
-use Rattle.std.proofs.Common.{rules as search_rules, ◌≡◌, ℕ, ◌+◌, ◌*◌, ◌<◌, ◌≤◌, List, [], ◌∷◌, length, map, get_or, drop, IfOk, true, refl, sym, ap, ◌∙◌, subst, arith}
+use Rattle.std.proofs.Common.{rules as search_rules, ◌≡◌, ℕ, ◌+◌, ◌<◌, ◌≤◌, List, [], ◌∷◌, length, map, get_or, drop, IfOk, true, sym, ap, ◌∙◌, subst, arith}
 use denote.Param.Weighed.{most, at_most}
 use Rattle.peg_bytes.specs.Extent.{extent}
 use Rattle.peg_grammar.specs.Form as form
@@ -7,14 +7,14 @@ use Rattle.peg_grammar.specs.GrammarRules.{rules_in}
 use Rattle.peg_grammar.specs.Written.{form_of}
 use Rattle.peg_grammar.specs.declared.expr.Expr.{Expr}
 use Rattle.peg_grammar.specs.declared.expr.Expr.TheFolds.{the_lemmas}
-use Rattle.peg_grammar.proofs.LoopLemmas.{forms-drop, forms-drop_all}
+use Rattle.peg_grammar.proofs.LoopLemmas.{forms-drop}
 use Rattle.peg_grammar.proofs.WrittenForms.{form_of-Seq, form_of-Choice, form_of-Optional, form_of-Star, form_of-Plus, form_of-And, form_of-Not}
 use Rattle.peg_grammar.proofs.expr.Expr.TheLaws.{the_size}
 use Rattle.peg_core.specs.CoreForm.{CoreForm, Empty, Seq, Choice, Star, Not, all_in_order, one_of}
 use Rattle.peg_core.specs.CoreParts.{are_defined, optional_parts, plus_parts, and_parts, sequences_of, choices_of}
-use Rattle.peg_core.specs.Laid.{Lays, LaysForm, LaysForms}
-use Rattle.peg_core.specs.Layout.{form_at, most_forms}
-use Rattle.peg_core.proofs.AddLemmas.{SoFar, SoFar-more, SoFar-end, LaysForm-room, LaysForm-few, LaysForms-room, Lays-sign, Lays-sequence, Lays-choice, are_defined-left, are_defined-right}
+use Rattle.peg_core.specs.Laid.{Lays, LaysForm}
+use Rattle.peg_core.specs.Layout.{form_at}
+use Rattle.peg_core.proofs.AddLemmas.{SoFar, SoFar-more, LaysForm-room, LaysForm-few, LaysForms-room, Lays-sign, Lays-sequence, Lays-choice, are_defined-left, are_defined-right}
 use Rattle.peg_core.proofs.LaidLemmas.{if_ok}
 use Rattle.peg_core.proofs.sugar.+sugar.Goals as goal
 
@@ -23,111 +23,111 @@ use Rattle.peg_core.proofs.sugar.+sugar.Goals as goal
 pub add-add_optional-requires-clause-room : goal.add-add_optional-requires-clause-room
 add-add_optional-requires-clause-room t c =
     let same : form_of c.args.expr.now ≡ form.Optional (form_of c.deref-in-Optional.result.now) (extent c.in-Optional.span) = ap form_of c.in-Optional.is ∙ (form_of-Optional c.in-Optional.part c.in-Optional.span ∙ ap (λ e. form.Optional (form_of e) (extent c.in-Optional.span)) (sym c.deref-in-Optional.ensures)) in
-    omega (arith, c.requires.room, ap form_weight same, LaysForm-room (rules_in c.args.grammar.now) (form_of c.deref-in-Optional.result.now) c.args.flat.now c.add-in-Optional.new.flat c.in_ok-part-in-Optional.part c.in_ok-part-in-Optional.ensures)
+    omega (arith, c.requires.room, ap form_weight same, LaysForm-room (rules_in c.args.grammar.now) (form_of c.deref-in-Optional.result.now) c.args.flat.now c.add-in-Optional.new.flat c.in_ok-add-in-Optional.field-0 c.in_ok-add-in-Optional.ensures)
 
-pub add-returns-in_ok-part-in-Optional : goal.add-returns-in_ok-part-in-Optional
-add-returns-in_ok-part-in-Optional t c =
+pub add-returns-in_ok-add-in-Optional : goal.add-returns-in_ok-add-in-Optional
+add-returns-in_ok-add-in-Optional t c =
     let same : form_of c.args.expr.now ≡ form.Optional (form_of c.deref-in-Optional.result.now) (extent c.in-Optional.span) = ap form_of c.in-Optional.is ∙ (form_of-Optional c.in-Optional.part c.in-Optional.span ∙ ap (λ e. form.Optional (form_of e) (extent c.in-Optional.span)) (sym c.deref-in-Optional.ensures)) in
     let e = form_of c.deref-in-Optional.result.now in
     let rules = rules_in c.args.grammar.now in
     let old = c.args.flat.now in
     let mid = c.add-in-Optional.new.flat in
     let new = c.add_optional.new.flat in
-    let part = c.in_ok-part-in-Optional.part in
+    let part = c.in_ok-add-in-Optional.field-0 in
     let parts : CoreForm → List CoreForm = optional_parts in
     let whole : CoreForm → CoreForm = λ f. Choice f Empty in
     subst (λ f. IfOk c.add_optional.result (λ number. LaysForm rules f old number new)) (sym same)
     (if_ok (λ number. Lays mid (parts (form_at mid.forms part)) [] (whole (form_at mid.forms part)) number new)
     (λ number. LaysForm rules (form.Optional e (extent c.in-Optional.span)) old number new) c.add_optional.result
-    (λ number lays. Lays-sign rules e old mid new part number parts whole c.in_ok-part-in-Optional.ensures lays)
+    (λ number lays. Lays-sign rules e old mid new part number parts whole c.in_ok-add-in-Optional.ensures lays)
     c.add_optional.ensures)
 
 pub add-add_star-requires-clause-room : goal.add-add_star-requires-clause-room
 add-add_star-requires-clause-room t c =
     let same : form_of c.args.expr.now ≡ form.Star (form_of c.deref-in-Star.result.now) (extent c.in-Star.span) = ap form_of c.in-Star.is ∙ (form_of-Star c.in-Star.part c.in-Star.span ∙ ap (λ e. form.Star (form_of e) (extent c.in-Star.span)) (sym c.deref-in-Star.ensures)) in
-    omega (arith, c.requires.room, ap form_weight same, LaysForm-room (rules_in c.args.grammar.now) (form_of c.deref-in-Star.result.now) c.args.flat.now c.add-in-Star.new.flat c.in_ok-part-in-Star.part c.in_ok-part-in-Star.ensures)
+    omega (arith, c.requires.room, ap form_weight same, LaysForm-room (rules_in c.args.grammar.now) (form_of c.deref-in-Star.result.now) c.args.flat.now c.add-in-Star.new.flat c.in_ok-add-in-Star.field-0 c.in_ok-add-in-Star.ensures)
 
-pub add-returns-in_ok-part-in-Star : goal.add-returns-in_ok-part-in-Star
-add-returns-in_ok-part-in-Star t c =
+pub add-returns-in_ok-add-in-Star : goal.add-returns-in_ok-add-in-Star
+add-returns-in_ok-add-in-Star t c =
     let same : form_of c.args.expr.now ≡ form.Star (form_of c.deref-in-Star.result.now) (extent c.in-Star.span) = ap form_of c.in-Star.is ∙ (form_of-Star c.in-Star.part c.in-Star.span ∙ ap (λ e. form.Star (form_of e) (extent c.in-Star.span)) (sym c.deref-in-Star.ensures)) in
     let e = form_of c.deref-in-Star.result.now in
     let rules = rules_in c.args.grammar.now in
     let old = c.args.flat.now in
     let mid = c.add-in-Star.new.flat in
     let new = c.add_star.new.flat in
-    let part = c.in_ok-part-in-Star.part in
+    let part = c.in_ok-add-in-Star.field-0 in
     let parts : CoreForm → List CoreForm = λ f. Star f (extent c.in-Star.span) ∷ [] in
     let whole : CoreForm → CoreForm = λ f. Star f (extent c.in-Star.span) in
     subst (λ f. IfOk c.add_star.result (λ number. LaysForm rules f old number new)) (sym same)
     (if_ok (λ number. Lays mid (parts (form_at mid.forms part)) [] (whole (form_at mid.forms part)) number new)
     (λ number. LaysForm rules (form.Star e (extent c.in-Star.span)) old number new) c.add_star.result
-    (λ number lays. Lays-sign rules e old mid new part number parts whole c.in_ok-part-in-Star.ensures lays)
+    (λ number lays. Lays-sign rules e old mid new part number parts whole c.in_ok-add-in-Star.ensures lays)
     c.add_star.ensures)
 
 pub add-add_plus-requires-clause-room : goal.add-add_plus-requires-clause-room
 add-add_plus-requires-clause-room t c =
     let same : form_of c.args.expr.now ≡ form.Plus (form_of c.deref-in-Plus.result.now) (extent c.in-Plus.span) = ap form_of c.in-Plus.is ∙ (form_of-Plus c.in-Plus.part c.in-Plus.span ∙ ap (λ e. form.Plus (form_of e) (extent c.in-Plus.span)) (sym c.deref-in-Plus.ensures)) in
-    omega (arith, c.requires.room, ap form_weight same, LaysForm-room (rules_in c.args.grammar.now) (form_of c.deref-in-Plus.result.now) c.args.flat.now c.add-in-Plus.new.flat c.in_ok-part-in-Plus.part c.in_ok-part-in-Plus.ensures)
+    omega (arith, c.requires.room, ap form_weight same, LaysForm-room (rules_in c.args.grammar.now) (form_of c.deref-in-Plus.result.now) c.args.flat.now c.add-in-Plus.new.flat c.in_ok-add-in-Plus.field-0 c.in_ok-add-in-Plus.ensures)
 
-pub add-returns-in_ok-part-in-Plus : goal.add-returns-in_ok-part-in-Plus
-add-returns-in_ok-part-in-Plus t c =
+pub add-returns-in_ok-add-in-Plus : goal.add-returns-in_ok-add-in-Plus
+add-returns-in_ok-add-in-Plus t c =
     let same : form_of c.args.expr.now ≡ form.Plus (form_of c.deref-in-Plus.result.now) (extent c.in-Plus.span) = ap form_of c.in-Plus.is ∙ (form_of-Plus c.in-Plus.part c.in-Plus.span ∙ ap (λ e. form.Plus (form_of e) (extent c.in-Plus.span)) (sym c.deref-in-Plus.ensures)) in
     let e = form_of c.deref-in-Plus.result.now in
     let rules = rules_in c.args.grammar.now in
     let old = c.args.flat.now in
     let mid = c.add-in-Plus.new.flat in
     let new = c.add_plus.new.flat in
-    let part = c.in_ok-part-in-Plus.part in
+    let part = c.in_ok-add-in-Plus.field-0 in
     let parts : CoreForm → List CoreForm = λ f. plus_parts f (extent c.in-Plus.span) in
     let whole : CoreForm → CoreForm = λ f. Seq f (Star f (extent c.in-Plus.span)) in
     subst (λ f. IfOk c.add_plus.result (λ number. LaysForm rules f old number new)) (sym same)
     (if_ok (λ number. Lays mid (parts (form_at mid.forms part)) [] (whole (form_at mid.forms part)) number new)
     (λ number. LaysForm rules (form.Plus e (extent c.in-Plus.span)) old number new) c.add_plus.result
-    (λ number lays. Lays-sign rules e old mid new part number parts whole c.in_ok-part-in-Plus.ensures lays)
+    (λ number lays. Lays-sign rules e old mid new part number parts whole c.in_ok-add-in-Plus.ensures lays)
     c.add_plus.ensures)
 
 pub add-add_and-requires-clause-room : goal.add-add_and-requires-clause-room
 add-add_and-requires-clause-room t c =
     let same : form_of c.args.expr.now ≡ form.And (form_of c.deref-in-And.result.now) (extent c.in-And.span) = ap form_of c.in-And.is ∙ (form_of-And c.in-And.part c.in-And.span ∙ ap (λ e. form.And (form_of e) (extent c.in-And.span)) (sym c.deref-in-And.ensures)) in
-    omega (arith, c.requires.room, ap form_weight same, LaysForm-room (rules_in c.args.grammar.now) (form_of c.deref-in-And.result.now) c.args.flat.now c.add-in-And.new.flat c.in_ok-part-in-And.part c.in_ok-part-in-And.ensures)
+    omega (arith, c.requires.room, ap form_weight same, LaysForm-room (rules_in c.args.grammar.now) (form_of c.deref-in-And.result.now) c.args.flat.now c.add-in-And.new.flat c.in_ok-add-in-And.field-0 c.in_ok-add-in-And.ensures)
 
-pub add-returns-in_ok-part-in-And : goal.add-returns-in_ok-part-in-And
-add-returns-in_ok-part-in-And t c =
+pub add-returns-in_ok-add-in-And : goal.add-returns-in_ok-add-in-And
+add-returns-in_ok-add-in-And t c =
     let same : form_of c.args.expr.now ≡ form.And (form_of c.deref-in-And.result.now) (extent c.in-And.span) = ap form_of c.in-And.is ∙ (form_of-And c.in-And.part c.in-And.span ∙ ap (λ e. form.And (form_of e) (extent c.in-And.span)) (sym c.deref-in-And.ensures)) in
     let e = form_of c.deref-in-And.result.now in
     let rules = rules_in c.args.grammar.now in
     let old = c.args.flat.now in
     let mid = c.add-in-And.new.flat in
     let new = c.add_and.new.flat in
-    let part = c.in_ok-part-in-And.part in
+    let part = c.in_ok-add-in-And.field-0 in
     let parts : CoreForm → List CoreForm = and_parts in
     let whole : CoreForm → CoreForm = λ f. Not (Not f) in
     subst (λ f. IfOk c.add_and.result (λ number. LaysForm rules f old number new)) (sym same)
     (if_ok (λ number. Lays mid (parts (form_at mid.forms part)) [] (whole (form_at mid.forms part)) number new)
     (λ number. LaysForm rules (form.And e (extent c.in-And.span)) old number new) c.add_and.result
-    (λ number lays. Lays-sign rules e old mid new part number parts whole c.in_ok-part-in-And.ensures lays)
+    (λ number lays. Lays-sign rules e old mid new part number parts whole c.in_ok-add-in-And.ensures lays)
     c.add_and.ensures)
 
 pub add-add_not-requires-clause-room : goal.add-add_not-requires-clause-room
 add-add_not-requires-clause-room t c =
     let same : form_of c.args.expr.now ≡ form.Not (form_of c.deref-in-Not.result.now) (extent c.in-Not.span) = ap form_of c.in-Not.is ∙ (form_of-Not c.in-Not.part c.in-Not.span ∙ ap (λ e. form.Not (form_of e) (extent c.in-Not.span)) (sym c.deref-in-Not.ensures)) in
-    omega (arith, c.requires.room, ap form_weight same, LaysForm-room (rules_in c.args.grammar.now) (form_of c.deref-in-Not.result.now) c.args.flat.now c.add-in-Not.new.flat c.in_ok-part-in-Not.part c.in_ok-part-in-Not.ensures)
+    omega (arith, c.requires.room, ap form_weight same, LaysForm-room (rules_in c.args.grammar.now) (form_of c.deref-in-Not.result.now) c.args.flat.now c.add-in-Not.new.flat c.in_ok-add-in-Not.field-0 c.in_ok-add-in-Not.ensures)
 
-pub add-returns-in_ok-part-in-Not : goal.add-returns-in_ok-part-in-Not
-add-returns-in_ok-part-in-Not t c =
+pub add-returns-in_ok-add-in-Not : goal.add-returns-in_ok-add-in-Not
+add-returns-in_ok-add-in-Not t c =
     let same : form_of c.args.expr.now ≡ form.Not (form_of c.deref-in-Not.result.now) (extent c.in-Not.span) = ap form_of c.in-Not.is ∙ (form_of-Not c.in-Not.part c.in-Not.span ∙ ap (λ e. form.Not (form_of e) (extent c.in-Not.span)) (sym c.deref-in-Not.ensures)) in
     let e = form_of c.deref-in-Not.result.now in
     let rules = rules_in c.args.grammar.now in
     let old = c.args.flat.now in
     let mid = c.add-in-Not.new.flat in
     let new = c.add_not.new.flat in
-    let part = c.in_ok-part-in-Not.part in
+    let part = c.in_ok-add-in-Not.field-0 in
     let parts : CoreForm → List CoreForm = λ f. Not f ∷ [] in
     let whole : CoreForm → CoreForm = λ f. Not f in
     subst (λ f. IfOk c.add_not.result (λ number. LaysForm rules f old number new)) (sym same)
     (if_ok (λ number. Lays mid (parts (form_at mid.forms part)) [] (whole (form_at mid.forms part)) number new)
     (λ number. LaysForm rules (form.Not e (extent c.in-Not.span)) old number new) c.add_not.result
-    (λ number lays. Lays-sign rules e old mid new part number parts whole c.in_ok-part-in-Not.ensures lays)
+    (λ number lays. Lays-sign rules e old mid new part number parts whole c.in_ok-add-in-Not.ensures lays)
     c.add_not.ensures)
 
 -- ---- sequences and choices

@@ -1,11 +1,11 @@
-use Rattle.std.proofs.Common.{◌≡◌, ◌+◌, ◌*◌, ◌≤◌, ◌∷◌, ◌++◌, ◌↔◌, [], All, Contains, filter, true, length, drop, sym, ap, ◌∙◌, subst, arith, length-append, append-nil}
+use Rattle.std.proofs.Common.{◌≡◌, ◌+◌, ◌∷◌, ◌++◌, ◌↔◌, [], All, Contains, filter, true, length, drop, sym, ap, ◌∙◌, subst, arith, length-append, append-nil}
 use Rattle.std.proofs.lemmas.List.{drop_all}
 use Rattle.std.proofs.Math.Logic.{∥∥₁_elim}
 use mathlib.Core.Bool.{Bool-set}
 use Rattle.std.proofs.lemmas.List.Sums.{sum_by-cons}
 use Rattle.peg_grammar.specs.Form.{form_weight, names_used}
 use Rattle.peg_grammar.specs.GrammarRules.{rules_in}
-use Rattle.peg_grammar.specs.Rules.{Rule, uses, weight_of}
+use Rattle.peg_grammar.specs.Rules.{Rule, uses}
 use Rattle.peg_grammar.specs.Written.{form_of}
 use Rattle.peg_core.specs.CoreForm.{core_form, core_bodies}
 use Rattle.peg_core.specs.CoreOutcomes.{IsCoreWellFormed}

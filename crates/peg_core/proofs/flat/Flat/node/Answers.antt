@@ -1,8 +1,8 @@
-use Rattle.std.proofs.Common.{◌≡◌, ◌<◌, length, sym, ap, ◌∙◌, subst, arith}
+use Rattle.std.proofs.Common.{◌<◌, length, sym, ap, subst, arith}
 use Rattle.std.proofs.lemmas.List.{length-map}
-use Rattle.peg_bytes.specs.Extent.{Extent, extent}
-use Rattle.peg_core.specs.Layout.{Layout, form_at}
-use Rattle.peg_core.specs.Nodes.{NodeFits, Spells, shape}
+use Rattle.peg_bytes.specs.Extent.{extent}
+use Rattle.peg_core.specs.Layout.{Layout}
+use Rattle.peg_core.specs.Nodes.{NodeFits, Spells}
 use Rattle.peg_core.proofs.FlatLemmas.{length-forms_of, form_at-node, fits-at}
 use Rattle.peg_core.proofs.flat.Flat.node.Goals as goal
 

@@ -1,5 +1,5 @@
-use Rattle.std.proofs.Common.{◌≡◌, ◌<◌, length, sym, ap, ◌∙◌, subst, arith}
-use Rattle.peg_bytes.specs.Extent.{Extent, extent}
+use Rattle.std.proofs.Common.{◌≡◌, ◌<◌, length, ap, subst, arith}
+use Rattle.peg_bytes.specs.Extent.{extent}
 use Rattle.peg_core.specs.Layout.{Layout, form_at}
 use Rattle.peg_core.specs.Nodes.{shape}
 use Rattle.peg_core.proofs.FlatLemmas.{length-forms_of, form_at-node, star-node}

@@ -1,6 +1,6 @@
-use Rattle.std.proofs.Common.{◌≡◌, ◌<◌, ◌≤◌, ◌+◌, ◌++◌, ◌∷◌, [], length, map, sym, ap, ◌∙◌, subst, arith, length-append}
+use Rattle.std.proofs.Common.{◌≡◌, ◌+◌, ◌∷◌, [], length, map, sym, ap, ◌∙◌, subst, arith, length-append}
 use Rattle.std.proofs.lemmas.List.{length-map}
-use Rattle.peg_bytes.specs.Extent.{Extent, extent}
+use Rattle.peg_bytes.specs.Extent.{extent}
 use Rattle.peg_core.specs.Layout.{Layout}
 use Rattle.peg_core.specs.Nodes.{NodeFits, AllFit, forms_of}
 use Rattle.peg_core.specs.declared.node.Part.{Part}
