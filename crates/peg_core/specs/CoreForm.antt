@@ -7,8 +7,8 @@ use Rattle.peg_grammar.specs.Form as written
 use Rattle.peg_grammar.specs.Rules.{Meaning, meant}
 use Rattle.peg_grammar.specs.Rules as grammar
 
--- the empty expression, a byte of a set, a rule by its number, a sequence, a choice, a star, a not-predicate; a test keeps
--- its terminal's number, and a star where the star or plus that it came from stands
+-- the empty expression, a byte of a set, a rule by its number, a sequence, a choice, a star, a not-predicate; a test
+-- keeps its terminal's number, and a star where the star or plus that it came from stands
 pub data CoreForm : Type 0 where
   Empty : CoreForm
   Test : (set : Bytes) → (terminal : ℕ) → CoreForm

@@ -23,8 +23,8 @@ core_can_table bodies judge (Choice first rest) = either (judge first) (judge re
 core_can_table bodies judge (Star part origin) = again (judge part)
 core_can_table bodies judge (Not part) = not_ahead (judge part)
 
--- The outcomes of a form in n rounds: in 0 there are none; above 0 they are those of the rules, whose parts are judged in
--- n - 1.
+-- The outcomes of a form in n rounds: in 0 there are none; above 0 they are those of the rules, whose parts are judged
+-- in n - 1.
 unfoldable pub core_can_in : List CoreForm → ℕ → CoreJudging
 core_can_in bodies zero form = cannot
 core_can_in bodies (suc n) form = core_can_table bodies (core_can_in bodies n) form

@@ -1,4 +1,5 @@
--- The written subexpressions of rules, each with the number of its first terminal; and the core stars that come of them.
+-- The written subexpressions of rules, each with the number of its first terminal; and the core stars that come of
+-- them.
 use Rattle.std.specs.Prelude.{ℕ, ◌+◌, Bool, true, false, List, [], ◌∷◌, ◌++◌}
 use Rattle.peg_grammar.specs.Form.{Form, Forms, End, Then, terminals}
 use Rattle.peg_grammar.specs.Form as written
@@ -49,8 +50,8 @@ numbered_from terminal (rule ∷ more) =
 abbrev pub numbered_subexpressions : List grammar.Rule → List Numbered
 numbered_subexpressions rules = numbered_from 0 rules
 
--- The stars that come of the written stars and pluses in an expression, those of its parts first: each with the core form
--- of its part, and where the star or plus stands.
+-- The stars that come of the written stars and pluses in an expression, those of its parts first: each with the core
+-- form of its part, and where the star or plus stands.
 abbrev mutual
   pub core_stars : List grammar.Rule → (terminal : ℕ) → Form → List CoreForm
   core_stars rules terminal (written.Literal bytes span) = []

@@ -10,8 +10,8 @@ use crate::flat::Flat;
 use peg_bytes::Span;
 use std::marker::Model;
 
-/// The core forms of a grammar (Ford 2004, section 3.1). Each has a number, and its parts have smaller numbers; each rule
-/// has a body among them.
+/// The core forms of a grammar (Ford 2004, section 3.1). Each has a number, and its parts have smaller numbers; each
+/// rule has a body among them.
 #[derive(Debug, Drop)]
 pub struct Core {
     flat: Flat,

@@ -61,7 +61,8 @@ impl Flat {
         requires room { length self.old.forms < most_forms }
         requires fits { NodeFits (length self.old.forms) self.old.rules (length self.old.spans) node }
         ensures number { IfOk result (λ number. number ≡ length self.old.forms) }
-        ensures put { OnOk result (self.new ≡ record self.old { forms = self.old.forms ++ shape self.old.forms (extent origin) node ∷ [] }) }
+        ensures put { OnOk result (self.new
+            ≡ record self.old { forms = self.old.forms ++ shape self.old.forms (extent origin) node ∷ [] }) }
     {
         let number = self.parts.len() as u32;
         self.parts.push(Part { node, origin })?;
