@@ -1,7 +1,7 @@
 -- A set of bytes, as definitions see it.
-use Rattle.std.specs.Prelude.{ℕ, ◌/◌, ◌%◌, Bool, false, List, map, ◌==◌, bit_or, slice_index, slice_index_or}
+use Rattle.std.specs.Prelude.{ℕ, ◌+◌, ◌/◌, ◌%◌, Bool, true, false, List, map, max, replicate, ◌==◌, bit_or, slice_index, slice_index_or}
 use Rattle.std.specs.Int.{bit_at}
-use Rattle.std.specs.List.{range_with_len}
+use Rattle.std.specs.List.{list_any, range_with_len}
 use Rattle.peg_bytes.specs.declared.byte_set.ByteSet.{ByteSet}
 
 -- for each byte from 0 on, whether it is in; a byte past the end of the list is not
@@ -24,3 +24,14 @@ bytes_of set = map (flag_of set.words) (range_with_len 0 256)
 abbrev pub all_flags : List ℕ → ℕ
 all_flags words =
     bit_or (bit_or (bit_or (slice_index words 0) (slice_index words 1)) (slice_index words 2)) (slice_index words 3)
+
+-- whether a set has any byte
+abbrev pub has_some : Bytes → Bool
+has_some set = list_any (λ (flag : Bool). flag) set
+
+-- the set of one byte, and that of all 256 bytes
+unfoldable pub only : ℕ → Bytes
+only byte = map (λ other. other == byte) (range_with_len 0 (max 256 (byte + 1)))
+
+unfoldable pub all_bytes : Bytes
+all_bytes = replicate 256 true

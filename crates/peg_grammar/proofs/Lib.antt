@@ -7,6 +7,7 @@ pub mod NameLists
 pub mod OutcomeLemmas
 pub mod RecordLemmas
 pub mod ResultSteps
+pub mod RoundsLemmas
 pub mod RulesLemmas
 pub mod SeenLemmas
 pub mod StepLemmas

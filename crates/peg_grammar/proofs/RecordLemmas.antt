@@ -11,35 +11,35 @@ Extends {A} first second = (x : A) → first ≡ Some x → second ≡ Some x
 pub Extends-refl : {A : Type 0} (a : Option A) → Extends a a
 Extends-refl a x e = e
 
-Extends-none : {A : Type 0} (b : Option A) → Extends None b
+pub Extends-none : {A : Type 0} (b : Option A) → Extends None b
 Extends-none b x e = cc
 
-Extends-map : {A B : Type 0} (f : A → B) (a b : Option A) → Extends a b → Extends (option_map f a) (option_map f b)
+pub Extends-map : {A B : Type 0} (f : A → B) (a b : Option A) → Extends a b → Extends (option_map f a) (option_map f b)
 Extends-map f None b h y e = cc
 Extends-map f (Some x) b h y e = ap (option_map f) (h x refl) ∙ e
 
-Extends-and_then : {A B : Type 0} (f g : A → Option B) (a b : Option A) → ((x : A) → Extends (f x) (g x)) → Extends a b → Extends (option_and_then f a) (option_and_then g b)
+pub Extends-and_then : {A B : Type 0} (f g : A → Option B) (a b : Option A) → ((x : A) → Extends (f x) (g x)) → Extends a b → Extends (option_and_then f a) (option_and_then g b)
 Extends-and_then f g None b k h y e = cc
 Extends-and_then f g (Some x) b k h y e = ap (option_and_then g) (h x refl) ∙ k x y e
 
-Extends-followed : (result : Recognition) (part : Record) (next more : ℕ → Option Record) → ((end : ℕ) → Extends (next end) (more end)) → Extends (followed result part next) (followed result part more)
+pub Extends-followed : (result : Recognition) (part : Record) (next more : ℕ → Option Record) → ((end : ℕ) → Extends (next end) (more end)) → Extends (followed result part next) (followed result part more)
 Extends-followed Failed part next more h = Extends-refl (Some part)
 Extends-followed (Matched end trees) part next more h =
     Extends-map (λ r. after_both part r (behind trees r.result)) (next end) (more end) (h end)
 
-Extends-then_at : (a b : Option Record) (next more : ℕ → Option Record) → Extends a b → ((end : ℕ) → Extends (next end) (more end)) → Extends (then_at a next) (then_at b more)
+pub Extends-then_at : (a b : Option Record) (next more : ℕ → Option Record) → Extends a b → ((end : ℕ) → Extends (next end) (more end)) → Extends (then_at a next) (then_at b more)
 Extends-then_at a b next more h k =
     Extends-and_then (λ part. followed part.result part next) (λ part. followed part.result part more) a b (λ part. Extends-followed part.result part next more k) h
 
-Extends-replaced : (result : Recognition) (part : Record) (other more : Option Record) → Extends other more → Extends (replaced result part other) (replaced result part more)
+pub Extends-replaced : (result : Recognition) (part : Record) (other more : Option Record) → Extends other more → Extends (replaced result part other) (replaced result part more)
 Extends-replaced Failed part other more h = Extends-map (λ r. after_both part r r.result) other more h
 Extends-replaced (Matched end trees) part other more h = Extends-refl (Some part)
 
-Extends-or_else : (a b other more : Option Record) → Extends a b → Extends other more → Extends (or_else a other) (or_else b more)
+pub Extends-or_else : (a b other more : Option Record) → Extends a b → Extends other more → Extends (or_else a other) (or_else b more)
 Extends-or_else a b other more h k =
     Extends-and_then (λ part. replaced part.result part other) (λ part. replaced part.result part more) a b (λ part. Extends-replaced part.result part other more k) h
 
-Extends-repeated : (result : Recognition) (place : ℕ) (part : Record) (next more : ℕ → Option Record) → ((end : ℕ) → Extends (next end) (more end)) → Extends (repeated result place part next) (repeated result place part more)
+pub Extends-repeated : (result : Recognition) (place : ℕ) (part : Record) (next more : ℕ → Option Record) → ((end : ℕ) → Extends (next end) (more end)) → Extends (repeated result place part next) (repeated result place part more)
 Extends-repeated Failed place part next more h = Extends-refl (replaced Failed part (Some (matched_at place)))
 Extends-repeated (Matched end trees) place part next more h = Extends-followed (Matched end trees) part next more h
 
@@ -55,7 +55,7 @@ module _ (take more : Taking) (h : (e : Form) (terminal place : ℕ) → Extends
   Extends-take_first e (Then next rest) terminal place =
       Extends-or_else (take e terminal place) (more e terminal place) (take_first take next rest (terminal + terminals e) place) (take_first more next rest (terminal + terminals e) place) (h e terminal place) (Extends-take_first next rest (terminal + terminals e) place)
 
-  Extends-table : (rules : List Rule) (text : List ℕ) (e : Form) (terminal place : ℕ) → Extends (table rules text take e terminal place) (table rules text more e terminal place)
+  pub Extends-table : (rules : List Rule) (text : List ℕ) (e : Form) (terminal place : ℕ) → Extends (table rules text take e terminal place) (table rules text more e terminal place)
   Extends-table rules text (Literal bytes span) terminal place = Extends-refl (table rules text take (Literal bytes span) terminal place)
   Extends-table rules text (Class set span) terminal place = Extends-refl (table rules text take (Class set span) terminal place)
   Extends-table rules text (Any span) terminal place = Extends-refl (table rules text take (Any span) terminal place)

@@ -1,8 +1,10 @@
--- Four grammars worked by hand, with the records of their first rule on a text, to compare the definitions with.
-use Rattle.std.specs.Prelude.{ℕ, List, [], ◌∷◌, codes}
+-- Grammars worked by hand, with the records of their first rule on a text, or with what their rules can do, to compare
+-- the definitions with.
+use Rattle.std.specs.Prelude.{ℕ, Bool, true, false, List, [], ◌∷◌, map, codes}
 use Rattle.peg_bytes.specs.Extent.{between}
 use Rattle.peg_tree.specs.Trees.{Trees, NoTrees, Tree}
-use Rattle.peg_grammar.specs.Form.{Literal, Any, Name, Seq, Choice, Star, And, Not, End, Then}
+use Rattle.peg_grammar.specs.AbstractOutcomes.{Can, cannot, can_in}
+use Rattle.peg_grammar.specs.Form.{Form, Literal, Class, Any, Name, Seq, Choice, Optional, Star, Plus, And, Not, End, Then}
 use Rattle.peg_grammar.specs.Furthest.{IsFurthest}
 use Rattle.peg_grammar.specs.Record.{Record, Matched, Test, Use, IsRecord}
 use Rattle.peg_grammar.specs.Rules.{Rule}
@@ -133,3 +135,65 @@ repeated_prefix_record = record {
   tests = test 1 0 ∷ test 1 3 ∷ test 3 2 ∷ test 1 0 ∷ test 1 3 ∷ [];
   uses = use_of 0 0 ∷ use_of 0 1 ∷ use_of 0 1 ∷ [];
 }
+
+-- whether it can succeed on nothing, succeed on something, fail
+abbrev can : (nothing something fails : Bool) → Can
+can nothing something fails = record { nothing = nothing; something = something; fails = fails }
+
+-- what the expression of each rule can do in n rounds
+abbrev pub all_can_in : List Rule → ℕ → List Can
+all_can_in rules n = map (λ (rule : Rule). can_in rules n rule.body) rules
+
+-- A and B take the empty literal where nothing else matches, so they never fail; D's predicates fail
+abbrev pub counted_can : List Can
+counted_can = can true true true ∷ can true true false ∷ can true true false ∷ []
+
+-- S <- 'a' S / 'b' takes a byte, or fails
+abbrev pub nested_can : List Can
+nested_can = can false true true ∷ []
+
+-- T <- T
+abbrev pub itself : List Rule
+itself = record { name = codes "T"; span = between 0 1; body = Name (codes "T") (between 5 6) } ∷ []
+
+-- its least outcomes are none
+abbrev pub itself_can : List Can
+itself_can = cannot ∷ []
+
+-- expressions with signs: 'x'?  .+  ''*  &[]  !''  'x'* .  !'x' / [] 'x'
+abbrev pub signs : List Rule
+signs = map
+    (λ (body : Form). record { name = codes "A"; span = between 0 1; body = body })
+    (Optional (Literal (codes "x") (between 0 3)) (between 0 4)
+    ∷ Plus (Any (between 0 1)) (between 0 2)
+    ∷ Star (Literal [] (between 0 2)) (between 0 3)
+    ∷ And (Class [] (between 1 3)) (between 0 3)
+    ∷ Not (Literal [] (between 1 3)) (between 0 3)
+    ∷ Seq (Then (Star (Literal (codes "x") (between 0 3)) (between 0 4)) (Then (Any (between 5 6)) End)) (between 0 6)
+    ∷ Choice
+    (Not (Literal (codes "x") (between 1 4)) (between 0 4))
+    (Then (Seq (Then (Class [] (between 7 9)) (Then (Literal (codes "x") (between 10 13)) End)) (between 7 13)) End)
+    (between 0 13)
+    ∷ [])
+
+-- by Ford's table, form by form: the star of '' has no outcome
+abbrev pub signs_can : List Can
+signs_can =
+    can true true false
+    ∷ can false true true
+    ∷ can false false false
+    ∷ can false false true
+    ∷ can false false true
+    ∷ can false true true
+    ∷ can true false true
+    ∷ []
+
+-- expressions with a loop that takes nothing: ('a'*)*, ('')+ and (('')?)*
+abbrev pub star_of_star : Form
+star_of_star = Star (Star (Literal (codes "a") (between 6 9)) (between 6 10)) (between 5 12)
+
+abbrev pub plus_of_empty : Form
+plus_of_empty = Plus (Literal [] (between 6 8)) (between 5 10)
+
+abbrev pub star_of_optional : Form
+star_of_optional = Star (Optional (Literal [] (between 7 9)) (between 6 11)) (between 5 13)

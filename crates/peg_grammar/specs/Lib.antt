@@ -3,6 +3,7 @@ pub use Rattle.peg_bytes.specs.Extent
 pub use Rattle.peg_tree.specs.Nodes
 pub use Rattle.peg_tree.specs.Rows
 pub use Rattle.peg_tree.specs.Trees
+pub mod AbstractOutcomes
 pub mod Examples
 pub mod Form
 pub mod Found
@@ -18,4 +19,5 @@ pub mod Refusal
 pub mod Rules
 pub mod Seen
 pub mod Terminals
+pub mod WellFormed
 pub mod Written

@@ -1,13 +1,16 @@
 //! Laws of the definitions: what holds of records for every grammar and text. Each function does nothing; its contract
 //! is the law.
 ghost use Rattle.std.specs.Prelude.{◌≡◌, ◌≢◌, ◌↔◌, ℕ, suc, ◌<◌, ◌≤◌, All, List, [], ◌∷◌, codes, length, None, Some};
+ghost use Rattle.peg_grammar.specs.AbstractOutcomes.{CanAll, can_in};
 ghost use Rattle.peg_grammar.specs.Examples.{Gives, nested, nested_record, counted, counted_record, ordered, ordered_record, repeated_prefix, repeated_prefix_record};
+ghost use Rattle.peg_grammar.specs.Examples.{all_can_in, nested_can, counted_can, itself, itself_can, signs, signs_can, star_of_star, plus_of_empty, star_of_optional};
 ghost use Rattle.peg_grammar.specs.Form.{Form};
 ghost use Rattle.peg_grammar.specs.Rules.{Rule, name_of};
 ghost use Rattle.peg_grammar.specs.Grammar.{IsGrammar, first_duplicate, first_undefined};
 ghost use Rattle.peg_grammar.specs.Furthest.{IsFurthest, furthest_of};
 ghost use Rattle.peg_grammar.specs.Record.{Matched, Record, IsRecord, Test, record_in, start_record};
 ghost use Rattle.peg_grammar.specs.Terminals.{extents_of_terminals};
+ghost use Rattle.peg_grammar.specs.WellFormed.{IsWellFormedIn, IsWellFormed, IsWellFormedGrammar};
 ghost use Rattle.peg_tree.specs.Nodes.{RulesBelow};
 ghost use Rattle.peg_tree.specs.Trees.{Trees};
 
@@ -35,6 +38,19 @@ pub fn the_definitions_agree_with_hand_worked_grammars()
     ensures counted { Gives counted (codes "D") (codes "aabbcc") counted_record 6 (2 ∷ []) }
     ensures ordered { Gives ordered (codes "S") (codes "ab") ordered_record 0 [] }
     ensures repeated_prefix { Gives repeated_prefix (codes "A") (codes "(a)y") repeated_prefix_record 3 (2 ∷ []) }
+{}
+
+/// What expressions can do, by hand: a rule that is only itself can do nothing, in any number of rounds, and a star or a
+/// plus round what may take nothing is not well-formed.
+pub fn the_outcomes_agree_with_hand_worked_grammars()
+    ensures nested { all_can_in nested 8 ≡ nested_can }
+    ensures counted { all_can_in counted 8 ≡ counted_can }
+    ensures signs { all_can_in signs 8 ≡ signs_can }
+    ensures itself { (n : ℕ) → all_can_in itself n ≡ itself_can }
+    ensures star_of_star { ¬ IsWellFormed [] star_of_star }
+    ensures plus_of_empty { ¬ IsWellFormed [] plus_of_empty }
+    ensures star_of_optional { ¬ IsWellFormed [] star_of_optional }
+    ensures well_formed { IsWellFormedGrammar nested }
 {}
 
 /// Rules are a grammar exactly where there is one, none has the name of an earlier one, and no name is used that none
@@ -72,4 +88,14 @@ pub fn every_node_is_of_a_rule()
     ensures { (rules : List Rule) (text : List ℕ) (n start : ℕ) (r : Record) (end : ℕ) (trees : Trees)
         → start_record rules text n (name_of rules start) ≡ Some r → r.result ≡ Matched end trees
         → RulesBelow (length rules) trees }
+{}
+
+/// What an expression can do in n rounds, by Ford's abstract outcomes, it can do in n + 1.
+pub fn abstract_outcomes_stay()
+    ensures { (rules : List Rule) (n : ℕ) (e : Form) → CanAll (can_in rules n e) (can_in rules (suc n) e) }
+{}
+
+/// What is well-formed in n rounds is well-formed in n + 1.
+pub fn well_formed_expressions_stay()
+    ensures { (rules : List Rule) (n : ℕ) (e : Form) → IsWellFormedIn rules n e → IsWellFormedIn rules (suc n) e }
 {}

@@ -1,0 +1,277 @@
+-- What the forms of parts make of the forms of the whole, form by form.
+use Rattle.std.proofs.Common.{◌≡◌, ℕ, zero, suc, ◌+◌, ◌*◌, ◌<◌, ◌≤◌, Bool, true, false, ◌&&◌, List, [], ◌∷◌, ◌++◌, All, length, map, get_or, nat_lt, slice_get, position, bytes_eq, cond, not, ◌||◌, None, Some, option_map, refl, sym, ap, ◌∙◌, subst, arith, length-append, append_assoc, append-nil}
+use Rattle.std.proofs.lemmas.Bool.{lt-ltb}
+use Rattle.std.specs.List.{list_any, position_or_len}
+use Rattle.std.proofs.lemmas.List.{length-map, map-append}
+use Rattle.std.proofs.lemmas.List.Elements.{All-nil, All-push}
+use Rattle.std.proofs.lemmas.List.Folds.{list_all-append}
+use Rattle.peg_bytes.specs.ByteSet.{all_bytes, bytes_of, has, only}
+use Rattle.peg_bytes.specs.Extent.{Extent}
+use Rattle.peg_bytes.specs.declared.byte_set.ByteSet.{ByteSet}
+use Rattle.peg_grammar.specs.Form.{Form, Forms, Literal, Class, Any, Name, Optional, Plus, And, End, Then, Reference, terminals, form_weight, forms_weight, names_used, names_used_by_all}
+use Rattle.peg_grammar.specs.Form as written
+use Rattle.peg_grammar.specs.Rules.{is_defined, names, meant}
+use Rattle.peg_grammar.specs.Rules as grammar
+use Rattle.peg_grammar.specs.Terminals.{terminal_extents, terminal_extents_of_all}
+use Rattle.peg_grammar.specs.Numbers.{first_from}
+use Rattle.peg_grammar.proofs.RulesLemmas.{terminals-weight, position-within, meant-position, meaning}
+use Rattle.peg_grammar.proofs.TerminalLemmas.{length-terminal_extents}
+use Rattle.peg_core.specs.CoreForm.{CoreForm, Test, Choice, Star, Not, all_in_order, one_of, tests_of, core_form, core_forms, number_of}
+use Rattle.peg_core.specs.CoreParts.{sequences_of, choices_of, optional_parts, plus_parts, and_parts, core_parts, core_parts_of_all, are_defined}
+use Rattle.peg_core.specs.Laid.{Lays, LaysAll, LaysForm, LaysForms}
+use Rattle.peg_core.specs.Layout.{Layout, form_at}
+use Rattle.peg_core.proofs.LaidLemmas.{Lays-then, form_at-kept, forms-kept, all_within-grown, length-sequences_of}
+use Rattle.peg_core.proofs.Meanings.{number_of-meant}
+use Rattle.peg_core.proofs.Sets.{bytes_of-all}
+
+-- ---- how many core forms there are: fewer than two for each part of the weight
+
+length-tests_of : (terminal : ℕ) (bytes : List ℕ) → length (tests_of terminal bytes) ≡ length bytes
+length-tests_of terminal bytes = length-map bytes (λ byte. Test (only byte) terminal)
+
+length-choices_of : (first : CoreForm) (rest : List CoreForm) → length (choices_of first rest) ≡ length rest
+length-choices_of first [] = refl
+length-choices_of first (next ∷ rest) =
+    omega (arith, length-append (choices_of next rest) (Choice first (one_of next rest) ∷ []), length-choices_of next rest)
+
+module _ (rules : List grammar.Rule) where
+  mutual
+    pub length-core_parts : (e : Form) (terminal : ℕ) → length (core_parts rules terminal e) + 1 ≤ 2 * form_weight e
+    length-core_parts (Literal bytes span) terminal =
+        omega (arith, length-append (tests_of terminal bytes) (sequences_of (tests_of terminal bytes)), length-sequences_of (tests_of terminal bytes), length-tests_of terminal bytes)
+    length-core_parts (Class set span) terminal = omega arith
+    length-core_parts (Any span) terminal = omega arith
+    length-core_parts (Name name span) terminal = omega arith
+    length-core_parts (written.Seq items span) terminal =
+        omega (arith, length-core_parts_of_all items terminal, length-sequences_of (core_forms rules terminal items), length-append (core_parts_of_all rules terminal items) (sequences_of (core_forms rules terminal items)))
+    length-core_parts (written.Choice first rest span) terminal =
+        let later = terminal + terminals first in
+        let parts = core_parts rules terminal first in
+        let more = core_parts_of_all rules later rest in
+        let choices = choices_of (core_form rules terminal first) (core_forms rules later rest) in
+        omega (arith, length-core_parts first terminal, length-core_parts_of_all rest later, length-choices_of (core_form rules terminal first) (core_forms rules later rest), length-append (parts ++ more) choices, length-append parts more)
+    length-core_parts (Optional part span) terminal =
+        omega (arith, length-core_parts part terminal, length-append (core_parts rules terminal part) (optional_parts (core_form rules terminal part)))
+    length-core_parts (written.Star part span) terminal =
+        omega (arith, length-core_parts part terminal, length-append (core_parts rules terminal part) (Star (core_form rules terminal part) span ∷ []))
+    length-core_parts (Plus part span) terminal =
+        omega (arith, length-core_parts part terminal, length-append (core_parts rules terminal part) (plus_parts (core_form rules terminal part) span))
+    length-core_parts (And part span) terminal =
+        omega (arith, length-core_parts part terminal, length-append (core_parts rules terminal part) (and_parts (core_form rules terminal part)))
+    length-core_parts (written.Not part span) terminal =
+        omega (arith, length-core_parts part terminal, length-append (core_parts rules terminal part) (Not (core_form rules terminal part) ∷ []))
+
+    pub length-core_parts_of_all : (items : Forms) (terminal : ℕ)
+        → length (core_parts_of_all rules terminal items) + length (core_forms rules terminal items) ≤ 2 * forms_weight items
+    length-core_parts_of_all End terminal = omega arith
+    length-core_parts_of_all (Then e rest) terminal =
+        let later = terminal + terminals e in
+        omega (arith, length-core_parts e terminal, length-core_parts_of_all rest later, length-append (core_parts rules terminal e) (core_parts_of_all rules later rest))
+
+  -- ---- room for more
+
+  pub LaysForm-room : (e : Form) (old new : Layout) (number : ℕ) → LaysForm rules e old number new
+      → length new.forms + 1 ≤ length old.forms + 2 * form_weight e
+  LaysForm-room e old new number lays =
+      omega (arith, ap length lays.forms, length-append old.forms (core_parts rules (length old.spans) e), length-core_parts e (length old.spans))
+
+  pub LaysForm-spans : (e : Form) (old new : Layout) (number : ℕ) → LaysForm rules e old number new
+      → length new.spans ≡ length old.spans + terminals e
+  LaysForm-spans e old new number lays =
+      ap length lays.spans
+      ∙ (length-append old.spans (terminal_extents e) ∙ ap (λ n. length old.spans + n) (length-terminal_extents e))
+
+  pub LaysForm-few : (e : Form) (old new : Layout) (number : ℕ) → LaysForm rules e old number new
+      → length new.spans ≤ length old.spans + form_weight e
+  LaysForm-few e old new number lays = omega (arith, LaysForm-spans e old new number lays, terminals-weight e)
+
+  pub LaysForms-room : (items : Forms) (old new : Layout) (numbers : List ℕ) → LaysForms rules items old numbers new
+      → length new.forms + length numbers ≤ length old.forms + 2 * forms_weight items
+  LaysForms-room items old new numbers lays =
+      let t = length old.spans in
+      let many : length numbers ≡ length (core_forms rules t items) = sym (length-map numbers (form_at new.forms)) ∙ ap length lays.each in
+      omega (arith, many, ap length lays.forms, length-append old.forms (core_parts_of_all rules t items), length-core_parts_of_all items t)
+
+  -- ---- the whole from its parts
+
+  -- a sign on a part
+  pub Lays-sign : (part : Form) (old mid new : Layout) (number last : ℕ) (more : CoreForm → List CoreForm)
+      (whole : CoreForm → CoreForm) → LaysForm rules part old number mid
+      → Lays mid (more (form_at mid.forms number)) [] (whole (form_at mid.forms number)) last new
+      → Lays old (core_parts rules (length old.spans) part ++ more (core_form rules (length old.spans) part)) (terminal_extents part) (whole (core_form rules (length old.spans) part)) last new
+  Lays-sign part old mid new number last more whole first then =
+      let t = length old.spans in
+      Lays-then old mid new (core_parts rules t part) (more (core_form rules t part)) (terminal_extents part)
+      (core_form rules t part) (whole (core_form rules t part)) number last first
+      (subst (λ form. Lays mid (more form) [] (whole form) last new) first.last then)
+
+  -- a sequence of items
+  pub Lays-sequence : (items : Forms) (span : Extent) (old mid new : Layout) (numbers : List ℕ) (last : ℕ)
+      → LaysForms rules items old numbers mid
+      → Lays mid (sequences_of (map (form_at mid.forms) numbers)) [] (all_in_order (map (form_at mid.forms) numbers)) last new
+      → LaysForm rules (written.Seq items span) old last new
+  Lays-sequence items span old mid new numbers last all then =
+      let t = length old.spans in
+      let forms = core_forms rules t items in
+      let seq = subst (λ forms. Lays mid (sequences_of forms) [] (all_in_order forms) last new) all.each then in
+      record {
+        forms = seq.forms ∙ (ap (λ f. f ++ sequences_of forms) all.forms ∙ append_assoc old.forms (core_parts_of_all rules t items) (sequences_of forms));
+        spans = seq.spans ∙ (append-nil mid.spans ∙ all.spans);
+        rules = seq.rules ∙ all.rules;
+        within = seq.within;
+        last = seq.last;
+      }
+
+  -- a choice of a first and others
+  pub Lays-choice : (first : Form) (rest : Forms) (span : Extent) (old mid later new : Layout) (number last : ℕ)
+      (numbers : List ℕ) → LaysForm rules first old number mid → LaysForms rules rest mid numbers later
+      → Lays later (choices_of (form_at later.forms number) (map (form_at later.forms) numbers)) []
+      (one_of (form_at later.forms number) (map (form_at later.forms) numbers)) last new
+      → LaysForm rules (written.Choice first rest span) old last new
+  Lays-choice first rest span old mid later new number last numbers one all then =
+      let t = length old.spans in
+      let next = t + terminals first in
+      let counted : length mid.spans ≡ next = LaysForm-spans first old mid number one in
+      let others = subst (λ n. LaysAll mid (core_parts_of_all rules n rest) (terminal_extents_of_all rest) (core_forms rules n rest) numbers later) counted all in
+      let kept : form_at later.forms number ≡ core_form rules t first = form_at-kept mid later (core_parts_of_all rules next rest) number others.forms one.within ∙ one.last in
+      let choice = subst (λ form. Lays later (choices_of form (core_forms rules next rest)) [] (one_of form (core_forms rules next rest)) last new) kept (subst (λ forms. Lays later (choices_of (form_at later.forms number) forms) [] (one_of (form_at later.forms number) forms) last new) others.each then) in
+      let parts = core_parts rules t first in
+      let more = core_parts_of_all rules next rest in
+      let choices = choices_of (core_form rules t first) (core_forms rules next rest) in
+      record {
+        forms =
+            choice.forms
+            ∙ (ap (λ f. f ++ choices) (others.forms ∙ (ap (λ f. f ++ more) one.forms ∙ append_assoc old.forms parts more))
+            ∙ append_assoc old.forms (parts ++ more) choices);
+        spans =
+            choice.spans
+            ∙ (append-nil later.spans
+            ∙ (others.spans
+            ∙ (ap (λ s. s ++ terminal_extents_of_all rest) one.spans
+            ∙ append_assoc old.spans (terminal_extents first) (terminal_extents_of_all rest))));
+        rules = choice.rules ∙ (others.rules ∙ one.rules);
+        within = choice.within;
+        last = choice.last;
+      }
+
+  -- ---- items one after the other
+
+  -- what the items so far put there, before the rest
+  pub record SoFar (all : Forms) (old : Layout) (rest : Forms) (numbers : List ℕ) (now : Layout) : Type 0 where
+    pub forms : now.forms ++ core_parts_of_all rules (length now.spans) rest ≡ old.forms ++ core_parts_of_all rules (length old.spans) all
+    pub spans : now.spans ++ terminal_extents_of_all rest ≡ old.spans ++ terminal_extents_of_all all
+    pub same_rules : now.rules ≡ old.rules
+    pub within : All (λ number. number < length now.forms) numbers
+    pub each : map (form_at now.forms) numbers ++ core_forms rules (length now.spans) rest ≡ core_forms rules (length old.spans) all
+
+  pub SoFar-start : (all : Forms) (old : Layout) → SoFar all old all [] old
+  SoFar-start all old =
+      record {
+        forms = refl;
+        spans = refl;
+        same_rules = refl;
+        within = All-nil (λ number. number < length old.forms);
+        each = refl;
+      }
+
+  pub SoFar-more : (all : Forms) (old : Layout) (e : Form) (rest : Forms) (numbers : List ℕ) (now new : Layout) (number : ℕ)
+      → SoFar all old (Then e rest) numbers now → LaysForm rules e now number new
+      → SoFar all old rest (numbers ++ number ∷ []) new
+  SoFar-more all old e rest numbers now new number so_far lays =
+      let t = length now.spans in
+      let next = t + terminals e in
+      let counted : length new.spans ≡ next = LaysForm-spans e now new number lays in
+      record {
+        forms =
+            ap (λ n. new.forms ++ core_parts_of_all rules n rest) counted
+            ∙ (ap (λ f. f ++ core_parts_of_all rules next rest) lays.forms
+            ∙ (append_assoc now.forms (core_parts rules t e) (core_parts_of_all rules next rest) ∙ so_far.forms));
+        spans =
+            ap (λ s. s ++ terminal_extents_of_all rest) lays.spans
+            ∙ (append_assoc now.spans (terminal_extents e) (terminal_extents_of_all rest) ∙ so_far.spans);
+        same_rules = lays.rules ∙ so_far.same_rules;
+        within = All-push (λ n. n < length new.forms) numbers number
+            (all_within-grown now new (core_parts rules t e) lays.forms numbers so_far.within) lays.within;
+        each =
+            ap (λ n. map (form_at new.forms) (numbers ++ number ∷ []) ++ core_forms rules n rest) counted
+            ∙ (ap (λ f. f ++ core_forms rules next rest)
+            (map-append (form_at new.forms) numbers (number ∷ [])
+            ∙ (λ i. forms-kept now new (core_parts rules t e) lays.forms numbers so_far.within i ++ lays.last i ∷ []))
+            ∙ (append_assoc (map (form_at now.forms) numbers) (core_form rules t e ∷ []) (core_forms rules next rest)
+            ∙ so_far.each));
+      }
+
+  pub SoFar-end : (all : Forms) (old now : Layout) (numbers : List ℕ) → SoFar all old End numbers now
+      → LaysForms rules all old numbers now
+  SoFar-end all old now numbers so_far =
+      record {
+        forms = sym (append-nil now.forms) ∙ so_far.forms;
+        spans = sym (append-nil now.spans) ∙ so_far.spans;
+        rules = so_far.same_rules;
+        within = so_far.within;
+        each = sym (append-nil (map (form_at now.forms) numbers)) ∙ so_far.each;
+      }
+
+  -- ---- names
+
+  and_left : (a b : Bool) → (a && b) ≡ true → a ≡ true
+  and_left true b e = refl
+  and_left false b e = cc
+
+  and_right : (a b : Bool) → (a && b) ≡ true → b ≡ true
+  and_right true b e = e
+  and_right false b e = cc
+
+  abbrev here : Reference → Bool
+  here reference = is_defined rules reference.name
+
+  pub are_defined-left : (some more : List Reference) → are_defined rules (some ++ more) ≡ true → are_defined rules some ≡ true
+  are_defined-left some more e =
+      and_left (are_defined rules some) (are_defined rules more) (sym (list_all-append here some more) ∙ e)
+
+  pub are_defined-right : (some more : List Reference) → are_defined rules (some ++ more) ≡ true → are_defined rules more ≡ true
+  are_defined-right some more e =
+      and_right (are_defined rules some) (are_defined rules more) (sym (list_all-append here some more) ∙ e)
+
+-- where an element passes, one is found
+any-position : {X : Type 0} (p : X → Bool) (xs : List X) → list_any p xs ≡ true → position_or_len p xs < length xs
+any-position p [] e = cc
+any-position p (x ∷ xs) e = by (p x) e (any-position p xs)
+  where
+    by : (b : Bool) → (b || list_any p xs) ≡ true → (list_any p xs ≡ true → position_or_len p xs < length xs)
+        → cond (not b) (1 + position_or_len p xs) 0 < suc (length xs)
+    by true e later = omega arith
+    by false e later = omega (arith, later e)
+
+position-none : (within : Bool) (at : ℕ) → within ≡ true → cond within (Some at) None ≡ None → ⊥
+position-none true at e none = cc
+position-none false at e none = cc
+
+-- a defined name has a position
+pub defined-position : (rules : List grammar.Rule) (name : List ℕ) → is_defined rules name ≡ true
+    → position (bytes_eq name) (names rules) ≡ None → ⊥
+defined-position rules name defined none =
+    let at = position_or_len (bytes_eq name) (names rules) in
+    let within : nat_lt at (length (names rules)) ≡ true = lt-ltb at (length (names rules)) (any-position (bytes_eq name) (names rules) defined) in
+    position-none (nat_lt at (length (names rules))) at within none
+
+some-at : (rules : List grammar.Rule) (i : ℕ) → i < length rules → (rule : grammar.Rule) × (slice_get rules i ≡ Some rule)
+some-at [] i within = absurd (omega arith)
+some-at (r ∷ rs) zero within = (r, refl)
+some-at (r ∷ rs) (suc i) within = some-at rs i (omega arith)
+
+-- its position is the number of the rule that it means
+pub number_of-position : (rules : List grammar.Rule) (name : List ℕ) (rule : ℕ)
+    → position (bytes_eq name) (names rules) ≡ Some rule → number_of rules name ≡ rule
+number_of-position rules name rule found =
+    let some = some-at rules rule (position-within rules name rule found) in
+    let first = get_or (first_from 0 rules) rule 0 in
+    let is : meant rules name ≡ Some (meaning (0 + rule) first some.0) = meant-position rules name rule found ∙ ap (option_map (meaning (0 + rule) first)) some.1 in
+    number_of-meant rules name (meaning (0 + rule) first some.0) is ∙ omega arith
+
+-- the set of all bytes
+pub full-is : (set : ByteSet) → ((other : ℕ) → has (bytes_of set) other ≡ nat_lt other 256) → bytes_of set ≡ all_bytes
+full-is set has_all = bytes_of-all set (λ byte within. has_all byte ∙ below byte within)
+  where
+    below : (byte : ℕ) → byte < 256 → nat_lt byte 256 ≡ true
+    below byte within = lt-ltb byte 256 within

@@ -1,0 +1,134 @@
+-- The forms that nodes stand for, number by number.
+use Rattle.std.proofs.Common.{◌≡◌, ℕ, zero, suc, ◌+◌, ◌<◌, ◌≤◌, List, [], ◌∷◌, ◌++◌, ◌⊎◌, inl, inr, length, get_or, fold, refl, sym, ap, ◌∙◌, subst, arith, length-append}
+use Rattle.std.proofs.lemmas.Bool.{cases_lt}
+use Rattle.std.proofs.lemmas.List.{get_or_append_left, get_or_at}
+use Rattle.std.proofs.lemmas.List.Sums.{fold-append}
+use Rattle.peg_bytes.specs.Extent.{Extent, extent}
+use Rattle.peg_core.specs.CoreForm.{CoreForm, Empty, Seq, Choice, Star, Not}
+use Rattle.peg_core.specs.Layout.{form_at}
+use Rattle.peg_core.specs.Nodes.{shape, NodeFits, added, forms_of, AllFit, IsStarFrom}
+use Rattle.peg_core.specs.declared.node.Node.{Node}
+use Rattle.peg_core.specs.declared.node.Node.TheVariants as node
+use Rattle.peg_core.specs.declared.node.Part.{Part}
+
+-- the form of a part among others
+abbrev formed : List CoreForm → Part → CoreForm
+formed forms part = shape forms (extent part.origin) part.node
+
+length-added : (forms : List CoreForm) (part : Part) → length (added forms part) ≡ length forms + 1
+length-added forms part = length-append forms (formed forms part ∷ [])
+
+length-fold_added : (start : List CoreForm) (parts : List Part)
+    → length (fold added start parts) ≡ length start + length parts
+length-fold_added start [] = omega arith
+length-fold_added start (p ∷ ps) = omega (arith, length-fold_added (added start p) ps, length-added start p)
+
+-- there are as many forms as nodes
+pub length-forms_of : (parts : List Part) → length (forms_of parts) ≡ length parts
+length-forms_of parts = omega (arith, length-fold_added [] parts)
+
+-- one more node is one more form
+pub forms_of-push : (parts : List Part) (part : Part) → forms_of (parts ++ part ∷ []) ≡ added (forms_of parts) part
+forms_of-push parts part = fold-append added [] parts (part ∷ [])
+
+-- the forms so far keep their numbers
+kept : (start : List CoreForm) (parts : List Part) (k : ℕ) → k < length start
+    → form_at (fold added start parts) k ≡ form_at start k
+kept start [] k within = refl
+kept start (p ∷ ps) k within =
+    kept (added start p) ps k (omega (arith, length-added start p))
+    ∙ get_or_append_left start (formed start p ∷ []) Empty k within
+
+-- a node's form depends on the forms with smaller numbers alone
+pub shape-same : (a b : List CoreForm) (origin : Extent) (number rules terminals : ℕ) (n : Node)
+    → NodeFits number rules terminals n → ((k : ℕ) → k < number → form_at a k ≡ form_at b k)
+    → shape a origin n ≡ shape b origin n
+shape-same a b origin number rules terminals node.Empty fits same = refl
+shape-same a b origin number rules terminals (node.Test set terminal) fits same = refl
+shape-same a b origin number rules terminals (node.Rule rule) fits same = refl
+shape-same a b origin number rules terminals (node.Seq first rest) fits same =
+    λ i. Seq (same first fits.0 i) (same rest fits.1 i)
+shape-same a b origin number rules terminals (node.Choice first rest) fits same =
+    λ i. Choice (same first fits.0 i) (same rest fits.1 i)
+shape-same a b origin number rules terminals (node.Star part) fits same = λ i. Star (same part fits i) origin
+shape-same a b origin number rules terminals (node.Not part) fits same = λ i. Not (same part fits i)
+
+-- each node fits at its number, where the first has this one
+abbrev FitFrom : (first rules terminals : ℕ) → List Part → Type 0
+FitFrom first rules terminals parts =
+    (k : ℕ) (d : Part) → k < length parts → NodeFits (first + k) rules terminals (get_or parts k d).node
+
+formed_at : (start : List CoreForm) (parts : List Part) (rules terminals k : ℕ) (d : Part)
+    → FitFrom (length start) rules terminals parts → k < length parts
+    → form_at (fold added start parts) (length start + k) ≡ formed (fold added start parts) (get_or parts k d)
+formed_at start [] rules terminals k d fit within = absurd (omega arith)
+formed_at start (p ∷ ps) rules terminals zero d fit within =
+    let here : NodeFits (length start) rules terminals p.node = subst (λ n. NodeFits n rules terminals p.node) (omega arith) (fit 0 d within) in
+    let number : length start + 0 ≡ length start = omega arith in
+    let longer : length start < length (added start p) = omega (arith, length-added start p) in
+    ap (form_at (fold added start (p ∷ ps))) number
+    ∙ (kept (added start p) ps (length start) longer
+    ∙ (get_or_at start (formed start p) [] Empty (length start) refl
+    ∙ shape-same start (fold added start (p ∷ ps)) (extent p.origin) (length start) rules terminals p.node here
+    (λ k below. sym (kept start (p ∷ ps) k below))))
+formed_at start (p ∷ ps) rules terminals (suc k) d fit within =
+    let number : length start + suc k ≡ length (added start p) + k = omega (arith, length-added start p) in
+    let later : FitFrom (length (added start p)) rules terminals ps = λ j e h. let same : length start + suc j ≡ length (added start p) + j = omega (arith, length-added start p) in subst (λ n. NodeFits n rules terminals (get_or ps j e).node) same (fit (suc j) e (omega arith)) in
+    ap (form_at (fold added start (p ∷ ps))) number
+    ∙ formed_at (added start p) ps rules terminals k d later (omega arith)
+
+-- the form with a number is that of its node
+pub form_at-node : (parts : List Part) (rules terminals number : ℕ) (part : Part) → AllFit rules terminals parts
+    → number < length parts → part ≡ get_or parts number part
+    → form_at (forms_of parts) number ≡ shape (forms_of parts) (extent part.origin) part.node
+form_at-node parts rules terminals number part fit within there =
+    let from_zero : FitFrom 0 rules terminals parts = λ k d h. let same : k ≡ 0 + k = omega arith in subst (λ n. NodeFits n rules terminals (get_or parts k d).node) same (fit k d h) in
+    let first : number ≡ 0 + number = omega arith in
+    ap (form_at (forms_of parts)) first
+    ∙ (formed_at [] parts rules terminals number part from_zero within ∙ ap (formed (forms_of parts)) (sym there))
+
+-- a node fits where it is one of many that do
+pub fits-at : (parts : List Part) (rules terminals number : ℕ) (part : Part) → AllFit rules terminals parts
+    → number < length parts → part ≡ get_or parts number part → NodeFits number rules terminals part.node
+fits-at parts rules terminals number part fit within there =
+    subst (λ (p : Part). NodeFits number rules terminals p.node) (sym there) (fit number part within)
+
+-- with more terminals a node still fits
+fits-more : (number rules terminals more : ℕ) (n : Node) → terminals ≤ more → NodeFits number rules terminals n
+    → NodeFits number rules more n
+fits-more number rules terminals more node.Empty h fits = fits
+fits-more number rules terminals more (node.Test set terminal) h fits = omega arith
+fits-more number rules terminals more (node.Rule rule) h fits = fits
+fits-more number rules terminals more (node.Seq first rest) h fits = fits
+fits-more number rules terminals more (node.Choice first rest) h fits = fits
+fits-more number rules terminals more (node.Star part) h fits = fits
+fits-more number rules terminals more (node.Not part) h fits = fits
+
+pub AllFit-more : (rules terminals more : ℕ) (parts : List Part) → terminals ≤ more → AllFit rules terminals parts
+    → AllFit rules more parts
+AllFit-more rules terminals more parts h fit k d within =
+    fits-more k rules terminals more (get_or parts k d).node h (fit k d within)
+
+-- one more node that fits
+pub AllFit-push : (rules terminals : ℕ) (parts : List Part) (part : Part) → AllFit rules terminals parts
+    → NodeFits (length parts) rules terminals part.node → AllFit rules terminals (parts ++ part ∷ [])
+AllFit-push rules terminals parts part fit here k d within =
+    by (cases_lt k (length parts))
+  where
+    by : (k < length parts) ⊎ (length parts ≤ k) → NodeFits k rules terminals (get_or (parts ++ part ∷ []) k d).node
+    by (inl before) = subst (λ (p : Part). NodeFits k rules terminals p.node) (sym (get_or_append_left parts (part ∷ []) d k before)) (fit k d before)
+    by (inr past) =
+        let last : length parts ≡ k = omega (arith, length-append parts (part ∷ [])) in
+        subst (λ (p : Part). NodeFits k rules terminals p.node) (sym (get_or_at parts part [] d k last))
+        (subst (λ n. NodeFits n rules terminals part.node) last here)
+
+-- a star's form is that of its node
+pub star-node : (forms : List CoreForm) (n : Node) (number : ℕ) (origin found : Extent)
+    → IsStarFrom forms number origin → form_at forms number ≡ shape forms found n → IsStarFrom forms number found
+star-node forms node.Empty number origin found star is = let bad : Star star.0 origin ≡ Empty = sym star.1 ∙ is in cc
+star-node forms (node.Test set terminal) number origin found star is = let bad = sym star.1 ∙ is in cc
+star-node forms (node.Rule rule) number origin found star is = let bad = sym star.1 ∙ is in cc
+star-node forms (node.Seq first rest) number origin found star is = let bad = sym star.1 ∙ is in cc
+star-node forms (node.Choice first rest) number origin found star is = let bad = sym star.1 ∙ is in cc
+star-node forms (node.Star part) number origin found star is = (form_at forms part, is)
+star-node forms (node.Not part) number origin found star is = let bad = sym star.1 ∙ is in cc

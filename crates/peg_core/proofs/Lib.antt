@@ -1,0 +1,12 @@
+pub mod AddLemmas
+pub mod CoreRounds
+pub mod FlatLemmas
+pub mod LaidLemmas
+pub mod Meanings
+pub mod PartsLemmas
+pub mod Reaches
+pub mod RuleLemmas
+pub mod Sets
+pub mod SugarOutcomes
+pub mod SugarRecords
+pub mod SugarWellFormed

@@ -1,0 +1,65 @@
+-- A name means a rule whose body's core form stands at the rule's number among the bodies.
+use Rattle.std.proofs.Common.{◌≡◌, ℕ, suc, ◌+◌, Bool, true, false, if◌then◌else◌, List, [], ◌∷◌, length, None, Some, option_map, unwrap_or, slice_get, bytes_eq, refl, sym, ap, ◌∙◌, zero-add, arith}
+use Rattle.std.proofs.lemmas.Option.{slice_get_past}
+use Rattle.peg_grammar.specs.Form.{terminals}
+use Rattle.peg_grammar.specs.Rules.{Rule, Meaning, meant_from, meant}
+use Rattle.peg_core.specs.CoreForm.{core_form, core_bodies_from, core_bodies, number_of}
+
+-- the meaning is of the rule with this number behind the first, whose body's core form stands there
+abbrev StandsAt : List Rule → (rule terminal : ℕ) → List Rule → Meaning → Type 0
+StandsAt rules rule terminal some m =
+    (i : ℕ) × (m.rule ≡ i + rule) × (slice_get (core_bodies_from rules terminal some) i ≡ Some (core_form rules m.terminal m.body))
+
+meant_from-stands : (rules : List Rule) (rule terminal : ℕ) (some : List Rule) (name : List ℕ) (m : Meaning)
+    → meant_from rule terminal some name ≡ Some m → StandsAt rules rule terminal some m
+meant_from-stands rules rule terminal [] name m is = cc
+meant_from-stands rules rule terminal (r ∷ rs) name m is =
+    by (bytes_eq name r.name) (meant_from-stands rules (rule + 1) (terminal + terminals r.body) rs name m) is
+  where
+    first : Meaning
+    first = record { rule = rule; terminal = terminal; body = r.body }
+
+    by : (b : Bool)
+        → (meant_from (rule + 1) (terminal + terminals r.body) rs name ≡ Some m
+        → StandsAt rules (rule + 1) (terminal + terminals r.body) rs m)
+        → (if b then Some first else meant_from (rule + 1) (terminal + terminals r.body) rs name) ≡ Some m
+        → StandsAt rules rule terminal (r ∷ rs) m
+    by true later found =
+        let same : first ≡ m = cc in (
+          0,
+          sym (ap (λ (m : Meaning). m.rule) same) ∙ sym (zero-add rule),
+          ap (λ (m : Meaning). Some (core_form rules m.terminal m.body)) same,
+        )
+    by false later found =
+        let behind = later found in
+        (suc behind.0, omega (arith, behind.1), behind.2)
+
+length-core_bodies_from : (rules : List Rule) (terminal : ℕ) (some : List Rule)
+    → length (core_bodies_from rules terminal some) ≡ length some
+length-core_bodies_from rules terminal [] = refl
+length-core_bodies_from rules terminal (r ∷ rs) =
+    ap suc (length-core_bodies_from rules (terminal + terminals r.body) rs)
+
+pub length-core_bodies : (rules : List Rule) → length (core_bodies rules) ≡ length rules
+length-core_bodies rules = length-core_bodies_from rules 0 rules
+
+-- the number of a name that means something is its rule's
+pub number_of-meant : (rules : List Rule) (name : List ℕ) (m : Meaning) → meant rules name ≡ Some m
+    → number_of rules name ≡ m.rule
+number_of-meant rules name m is = ap (λ o. unwrap_or (option_map (λ (m : Meaning). m.rule) o) (length rules)) is
+
+-- and there stands the core form of what it means
+pub body-meant : (rules : List Rule) (name : List ℕ) (m : Meaning) → meant rules name ≡ Some m
+    → slice_get (core_bodies rules) (number_of rules name) ≡ Some (core_form rules m.terminal m.body)
+body-meant rules name m is =
+    let stands = meant_from-stands rules 0 0 rules name m is in
+    let number : number_of rules name ≡ stands.0 = number_of-meant rules name m is ∙ omega (arith, stands.1) in
+    ap (slice_get (core_bodies rules)) number ∙ stands.2
+
+-- a name that means nothing has the number past all rules
+pub body-unmeant : (rules : List Rule) (name : List ℕ) → meant rules name ≡ None
+    → slice_get (core_bodies rules) (number_of rules name) ≡ None
+body-unmeant rules name is =
+    let number : number_of rules name ≡ length rules = ap (λ o. unwrap_or (option_map (λ (m : Meaning). m.rule) o) (length rules)) is in
+    ap (slice_get (core_bodies rules)) number
+    ∙ slice_get_past (core_bodies rules) (length rules) (omega (arith, length-core_bodies rules))

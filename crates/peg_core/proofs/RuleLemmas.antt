@@ -1,0 +1,107 @@
+-- The core forms of rules, one rule after the other.
+use Rattle.std.proofs.Common.{◌≡◌, ℕ, zero, suc, ◌+◌, ◌*◌, ◌<◌, ◌≤◌, Bool, true, false, ◌&&◌, not, cond, List, [], ◌∷◌, ◌++◌, All, length, map, drop, find, sum_by, slice_get, None, Some, option_map, refl, ap, ◌∙◌, suc-add, arith, length-append, append_assoc}
+use Rattle.std.specs.List.{list_all}
+use Rattle.std.proofs.lemmas.List.{map-append}
+use Rattle.std.proofs.lemmas.List.Elements.{All-nil, All-push}
+use Rattle.std.proofs.lemmas.List.Sums.{sum_by-cons}
+use Rattle.peg_grammar.specs.Form.{Form, Reference, terminals, form_weight}
+use Rattle.peg_grammar.specs.Grammar.{IsGrammar}
+use Rattle.peg_grammar.specs.Rules.{Rule, uses, is_defined, weight_of}
+use Rattle.peg_grammar.specs.Terminals.{terminal_extents, extents_of_terminals}
+use Rattle.peg_grammar.proofs.GrammarLemmas.{searches_from_IsGrammar}
+use Rattle.peg_core.specs.CoreForm.{core_form, core_bodies_from, core_bodies}
+use Rattle.peg_core.specs.CoreParts.{core_parts, core_parts_from, all_core_parts, are_defined}
+use Rattle.peg_core.specs.Laid.{LaysForm}
+use Rattle.peg_core.specs.Layout.{Layout, form_at}
+use Rattle.peg_core.proofs.AddLemmas.{LaysForm-spans, length-core_parts}
+use Rattle.peg_core.proofs.LaidLemmas.{forms-kept, all_within-grown}
+
+-- how much the expressions of rules weigh
+abbrev pub body_weights : List Rule → ℕ
+body_weights rules = sum_by (λ (rule : Rule). form_weight rule.body) rules
+
+-- the rule with a number, whose expression this is, and those after it
+pub rules-drop : (rules : List Rule) (i : ℕ) (e : Form) → option_map (λ (r : Rule). r.body) (slice_get rules i) ≡ Some e
+    → (r : Rule) × (drop i rules ≡ r ∷ drop (i + 1) rules) × (r.body ≡ e)
+rules-drop [] i e is = cc
+rules-drop (r ∷ rs) zero e is = (r, refl, let same : r.body ≡ e = cc in same)
+rules-drop (r ∷ rs) (suc i) e is =
+    let later = rules-drop rs i e is in (later.0, rw suc-add later.1, later.2)
+
+-- ---- names
+
+-- where no reference fails a test, all pass it
+all_pass : (p : Reference → Bool) (references : List Reference) → find (λ (r : Reference). not (p r)) references ≡ None
+    → list_all p references ≡ true
+all_pass p [] none = refl
+all_pass p (r ∷ rs) none = by (p r) refl none (all_pass p rs)
+  where
+    by : (b : Bool) → p r ≡ b → cond (not b) (Some r) (find (λ (r : Reference). not (p r)) rs) ≡ None
+        → (find (λ (r : Reference). not (p r)) rs ≡ None → list_all p rs ≡ true)
+        → list_all p (r ∷ rs) ≡ true
+    by true is none later = ap (λ b. b && list_all p rs) is ∙ later none
+    by false is none later = cc
+
+-- a grammar defines all names that it uses
+pub grammar-defined : (rules : List Rule) → IsGrammar rules → are_defined rules (uses rules) ≡ true
+grammar-defined rules grammar =
+    all_pass (λ (r : Reference). is_defined rules r.name) (uses rules) (searches_from_IsGrammar rules grammar).2
+
+-- ---- how many core forms there are
+
+length-core_parts_from : (rules : List Rule) (terminal : ℕ) (some : List Rule)
+    → length (core_parts_from rules terminal some) ≤ 2 * body_weights some
+length-core_parts_from rules terminal [] = omega arith
+length-core_parts_from rules terminal (r ∷ rs) =
+    let later = terminal + terminals r.body in
+    omega (arith, length-core_parts rules r.body terminal, length-core_parts_from rules later rs, length-append (core_parts rules terminal r.body) (core_parts_from rules later rs), sum_by-cons (λ (rule : Rule). form_weight rule.body) r rs)
+
+pub length-all_core_parts : (rules : List Rule) → length (all_core_parts rules) ≤ 2 * weight_of rules
+length-all_core_parts rules = omega (arith, length-core_parts_from rules 0 rules)
+
+-- ---- rule by rule
+
+module _ (rules : List Rule) where
+  -- what the rules so far put there, before the rest
+  pub record RulesSoFar (rest : List Rule) (bodies : List ℕ) (now : Layout) : Type 0 where
+    pub forms : now.forms ++ core_parts_from rules (length now.spans) rest ≡ all_core_parts rules
+    pub spans : now.spans ++ extents_of_terminals rest ≡ extents_of_terminals rules
+    pub within : All (λ number. number < length now.forms) bodies
+    pub each : map (form_at now.forms) bodies ++ core_bodies_from rules (length now.spans) rest ≡ core_bodies rules
+
+  pub RulesSoFar-start : (now : Layout) → now ≡ record { rules = length rules; forms = []; spans = [] }
+      → RulesSoFar rules [] now
+  RulesSoFar-start now is =
+      record {
+        forms = ap (λ (l : Layout). l.forms ++ core_parts_from rules (length l.spans) rules) is;
+        spans = ap (λ (l : Layout). l.spans ++ extents_of_terminals rules) is;
+        within = All-nil (λ number. number < length now.forms);
+        each = ap (λ (l : Layout). core_bodies_from rules (length l.spans) rules) is;
+      }
+
+  pub RulesSoFar-more : (rule : Rule) (rest : List Rule) (bodies : List ℕ) (now new : Layout) (body : ℕ)
+      → RulesSoFar (rule ∷ rest) bodies now → LaysForm rules rule.body now body new
+      → RulesSoFar rest (bodies ++ body ∷ []) new
+  RulesSoFar-more rule rest bodies now new body so_far lays =
+      let e = rule.body in
+      let t = length now.spans in
+      let next = t + terminals e in
+      let counted : length new.spans ≡ next = LaysForm-spans rules e now new body lays in
+      record {
+        forms =
+            ap (λ n. new.forms ++ core_parts_from rules n rest) counted
+            ∙ (ap (λ f. f ++ core_parts_from rules next rest) lays.forms
+            ∙ (append_assoc now.forms (core_parts rules t e) (core_parts_from rules next rest) ∙ so_far.forms));
+        spans =
+            ap (λ s. s ++ extents_of_terminals rest) lays.spans
+            ∙ (append_assoc now.spans (terminal_extents e) (extents_of_terminals rest) ∙ so_far.spans);
+        within = All-push (λ n. n < length new.forms) bodies body
+            (all_within-grown now new (core_parts rules t e) lays.forms bodies so_far.within) lays.within;
+        each =
+            ap (λ n. map (form_at new.forms) (bodies ++ body ∷ []) ++ core_bodies_from rules n rest) counted
+            ∙ (ap (λ f. f ++ core_bodies_from rules next rest)
+            (map-append (form_at new.forms) bodies (body ∷ [])
+            ∙ (λ i. forms-kept now new (core_parts rules t e) lays.forms bodies so_far.within i ++ lays.last i ∷ []))
+            ∙ (append_assoc (map (form_at now.forms) bodies) (core_form rules t e ∷ []) (core_bodies_from rules next rest)
+            ∙ so_far.each));
+      }

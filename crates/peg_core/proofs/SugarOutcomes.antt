@@ -1,0 +1,455 @@
+-- A written expression and its core form have the same abstract outcomes.
+use Rattle.std.proofs.Common.{◌≡◌, ℕ, zero, suc, ◌+◌, Bool, true, false, List, [], ◌∷◌, Option, None, Some, refl, sym, ap, subst, slice_get, zero-add, suc-add, add_comm}
+use Rattle.peg_bytes.specs.ByteSet.{only, all_bytes}
+use Rattle.peg_bytes.specs.Extent.{Extent}
+use Rattle.peg_grammar.specs.AbstractOutcomes.{Can, CanAll, cannot, only_nothing, something_or_fails, can_of_set, both, either, or_nothing, again, once_and_again, ahead, not_ahead, judge_items, judge_first, judge_meaning, can_table, can_in, GivesNothing, GivesSomething, CanFail}
+use Rattle.peg_grammar.specs.Form.{Form, Forms, Literal, Class, Any, Name, Optional, Plus, And, End, Then, terminals}
+use Rattle.peg_grammar.specs.Form as written_form
+use Rattle.peg_grammar.specs.Rules.{Meaning, meant}
+use Rattle.peg_grammar.specs.Rules as grammar
+use Rattle.peg_grammar.proofs.RoundsLemmas.{CanAll-refl, CanAll-trans, CanAll-cannot, CanAll-both, CanAll-either, CanAll-again, CanAll-not_ahead, CanAll-items, CanAll-first, can_in-more}
+use Rattle.peg_core.specs.CoreForm.{CoreForm, Empty, Test, Rule, Seq, Choice, Star, Not, in_order, all_in_order, one_of, tests_of, number_of, core_form, core_forms, core_bodies}
+use Rattle.peg_core.specs.CoreOutcomes.{judge_body, core_can_table, core_can_in, CoreGivesNothing, CoreGivesSomething, CoreCanFail}
+use Rattle.peg_core.proofs.CoreRounds.{core_can_in-more}
+use Rattle.peg_core.proofs.Meanings.{body-meant, body-unmeant}
+use Rattle.peg_core.proofs.Sets.{has_some-only, has_some-all_bytes}
+
+-- ---- the sugar, on outcomes
+
+-- the eight outcomes
+abbrev can : (nothing something fails : Bool) → Can
+can nothing something fails = record { nothing = nothing; something = something; fails = fails }
+
+both-nothing_of : (x y z : Bool) → both (can x y z) only_nothing ≡ can x y z
+both-nothing_of true true true = refl
+both-nothing_of true true false = refl
+both-nothing_of true false true = refl
+both-nothing_of true false false = refl
+both-nothing_of false true true = refl
+both-nothing_of false true false = refl
+both-nothing_of false false true = refl
+both-nothing_of false false false = refl
+
+or_nothing-either_of : (x y z : Bool) → or_nothing (can x y z) ≡ either (can x y z) only_nothing
+or_nothing-either_of true true true = refl
+or_nothing-either_of true true false = refl
+or_nothing-either_of true false true = refl
+or_nothing-either_of true false false = refl
+or_nothing-either_of false true true = refl
+or_nothing-either_of false true false = refl
+or_nothing-either_of false false true = refl
+or_nothing-either_of false false false = refl
+
+once_and_again-both_of : (x y z : Bool) → once_and_again (can x y z) ≡ both (can x y z) (again (can x y z))
+once_and_again-both_of true true true = refl
+once_and_again-both_of true true false = refl
+once_and_again-both_of true false true = refl
+once_and_again-both_of true false false = refl
+once_and_again-both_of false true true = refl
+once_and_again-both_of false true false = refl
+once_and_again-both_of false false true = refl
+once_and_again-both_of false false false = refl
+
+ahead-not_of : (x y z : Bool) → ahead (can x y z) ≡ not_ahead (not_ahead (can x y z))
+ahead-not_of true true true = refl
+ahead-not_of true true false = refl
+ahead-not_of true false true = refl
+ahead-not_of true false false = refl
+ahead-not_of false true true = refl
+ahead-not_of false true false = refl
+ahead-not_of false false true = refl
+ahead-not_of false false false = refl
+
+-- a part and then nothing is the part
+both-nothing : (a : Can) → both a only_nothing ≡ a
+both-nothing a = both-nothing_of a.nothing a.something a.fails
+
+-- `e?` is `e / ''`, `e+` is `e e*`, `&e` is `!(!e)`
+or_nothing-either : (a : Can) → or_nothing a ≡ either a only_nothing
+or_nothing-either a = or_nothing-either_of a.nothing a.something a.fails
+
+once_and_again-both : (a : Can) → once_and_again a ≡ both a (again a)
+once_and_again-both a = once_and_again-both_of a.nothing a.something a.fails
+
+ahead-not : (a : Can) → ahead a ≡ not_ahead (not_ahead a)
+ahead-not a = ahead-not_of a.nothing a.something a.fails
+
+-- a set with some byte is a terminal that may match
+can_of_some : (some : Bool) → some ≡ true → something_or_fails ≡ can false some true
+can_of_some some is = ap (λ b. can false b true) (sym is)
+
+-- ---- what is shown in some round
+
+-- what can be done, by rounds, and only more later
+abbrev Grows : (ℕ → Can) → Type 0
+Grows f = (n : ℕ) → CanAll (f n) (f (suc n))
+
+-- all of this can be done in some round
+abbrev Shows : Can → (ℕ → Can) → Type 0
+Shows a f = (n : ℕ) × CanAll a (f n)
+
+grown : (f : ℕ → Can) → Grows f → (more n : ℕ) → CanAll (f n) (f (more + n))
+grown f grows zero n = rw zero-add (CanAll-refl (f n))
+grown f grows (suc more) n =
+    rw suc-add (CanAll-trans (f n) (f (more + n)) (f (suc (more + n))) (grown f grows more n) (grows (more + n)))
+
+Shows-shift : (a : Can) (f : ℕ → Can) → Shows a (λ n. f (suc n)) → Shows a f
+Shows-shift a f h = (suc h.0, h.1)
+
+Shows-unshift : (a : Can) (f : ℕ → Can) → Grows f → Shows a f → Shows a (λ n. f (suc n))
+Shows-unshift a f grows h = (h.0, CanAll-trans a (f h.0) (f (suc h.0)) h.1 (grows h.0))
+
+Shows-from : (a b : Can) (f : ℕ → Can) → a ≡ b → Shows b f → Shows a f
+Shows-from a b f same h = subst (λ c. Shows c f) (sym same) h
+
+Shows-same : (a : Can) (f g : ℕ → Can) → ((n : ℕ) → f n ≡ g n) → Shows a f → Shows a g
+Shows-same a f g same h = (h.0, subst (CanAll a) (same h.0) h.1)
+
+Shows-constant : (a : Can) → Shows a (λ n. a)
+Shows-constant a = (0, CanAll-refl a)
+
+Shows-cannot : (f : ℕ → Can) → Shows cannot f
+Shows-cannot f = (0, CanAll-cannot (f 0))
+
+-- one rule of two parts
+module _ (a b : Can) (f g : ℕ → Can) (grows : Grows f) (also : Grows g) (h : Shows a f) (k : Shows b g) where
+  first_later : CanAll a (f (k.0 + h.0))
+  first_later = CanAll-trans a (f h.0) (f (k.0 + h.0)) h.1 (grown f grows k.0 h.0)
+
+  second_later : CanAll b (g (k.0 + h.0))
+  second_later =
+      subst (λ n. CanAll b (g n)) (add_comm h.0 k.0)
+      (CanAll-trans b (g k.0) (g (h.0 + k.0)) k.1 (grown g also h.0 k.0))
+
+  Shows-both : Shows (both a b) (λ n. both (f n) (g n))
+  Shows-both = (k.0 + h.0, CanAll-both a b (f (k.0 + h.0)) (g (k.0 + h.0)) first_later second_later)
+
+  Shows-either : Shows (either a b) (λ n. either (f n) (g n))
+  Shows-either = (k.0 + h.0, CanAll-either a b (f (k.0 + h.0)) (g (k.0 + h.0)) first_later second_later)
+
+module _ (rules : List grammar.Rule) where
+  abbrev bodies : List CoreForm
+  bodies = core_bodies rules
+
+  -- what a core form can do, and a written expression, by rounds
+  abbrev core : CoreForm → ℕ → Can
+  core form n = core_can_in bodies n form
+
+  abbrev written : Form → ℕ → Can
+  written e n = can_in rules n e
+
+  core-grows : (form : CoreForm) → Grows (core form)
+  core-grows form n = core_can_in-more bodies n form
+
+  written-grows : (e : Form) → Grows (written e)
+  written-grows e n = can_in-more rules n e
+
+  -- ---- what outcomes of parts make of core forms
+
+  core-Empty : Shows only_nothing (core Empty)
+  unfolding core_can_in
+  core-Empty = Shows-shift only_nothing (core Empty) (Shows-constant only_nothing)
+
+  core-Test : (set : List Bool) (terminal : ℕ) → Shows (can_of_set set) (core (Test set terminal))
+  unfolding core_can_in
+  core-Test set terminal = Shows-shift (can_of_set set) (core (Test set terminal)) (Shows-constant (can_of_set set))
+
+  core-Rule : (rule : ℕ) (body : CoreForm) (a : Can) → slice_get bodies rule ≡ Some body → Shows a (core body)
+      → Shows a (core (Rule rule))
+  unfolding core_can_in
+  core-Rule rule body a is h =
+      Shows-shift a (core (Rule rule))
+      (Shows-same a (core body) (λ n. judge_body (core_can_in bodies n) (slice_get bodies rule))
+      (λ n. sym (ap (judge_body (core_can_in bodies n)) is)) h)
+
+  core-Seq : (first rest : CoreForm) (a b : Can) → Shows a (core first) → Shows b (core rest)
+      → Shows (both a b) (core (Seq first rest))
+  unfolding core_can_in
+  core-Seq first rest a b h k =
+      Shows-shift (both a b) (core (Seq first rest))
+      (Shows-both a b (core first) (core rest) (core-grows first) (core-grows rest) h k)
+
+  core-Choice : (first rest : CoreForm) (a b : Can) → Shows a (core first) → Shows b (core rest)
+      → Shows (either a b) (core (Choice first rest))
+  unfolding core_can_in
+  core-Choice first rest a b h k =
+      Shows-shift (either a b) (core (Choice first rest))
+      (Shows-either a b (core first) (core rest) (core-grows first) (core-grows rest) h k)
+
+  core-Star : (part : CoreForm) (origin : Extent) (a : Can) → Shows a (core part)
+      → Shows (again a) (core (Star part origin))
+  unfolding core_can_in
+  core-Star part origin a h =
+      Shows-shift (again a) (core (Star part origin)) (h.0, CanAll-again a (core part h.0) h.1)
+
+  core-Not : (part : CoreForm) (a : Can) → Shows a (core part) → Shows (not_ahead a) (core (Not part))
+  unfolding core_can_in
+  core-Not part a h = Shows-shift (not_ahead a) (core (Not part)) (h.0, CanAll-not_ahead a (core part h.0) h.1)
+
+  -- the tests of a literal
+  to_tests : (b : ℕ) (bs : List ℕ) (terminal : ℕ)
+      → Shows something_or_fails (core (in_order (Test (only b) terminal) (tests_of terminal bs)))
+  to_tests b [] terminal =
+      Shows-from something_or_fails (can_of_set (only b)) (core (Test (only b) terminal))
+      (can_of_some _ (has_some-only b)) (core-Test (only b) terminal)
+  to_tests b (c ∷ bs) terminal =
+      core-Seq (Test (only b) terminal) (in_order (Test (only c) terminal) (tests_of terminal bs)) something_or_fails
+      something_or_fails
+      (Shows-from something_or_fails (can_of_set (only b)) (core (Test (only b) terminal))
+      (can_of_some _ (has_some-only b)) (core-Test (only b) terminal))
+      (to_tests c bs terminal)
+
+  -- ---- from a written expression to its core form
+
+  abbrev ToCore : ℕ → Type 0
+  ToCore n = (e : Form) (terminal : ℕ) → Shows (can_in rules n e) (core (core_form rules terminal e))
+
+  module _ (n : ℕ) (h : ToCore n) where
+    to_items : (items : Forms) (terminal : ℕ)
+        → Shows (judge_items (can_in rules n) items) (core (all_in_order (core_forms rules terminal items)))
+    to_items End terminal = core-Empty
+    to_items (Then e End) terminal =
+        Shows-from (both (can_in rules n e) only_nothing) (can_in rules n e) (core (core_form rules terminal e))
+        (both-nothing (can_in rules n e)) (h e terminal)
+    to_items (Then e (Then f rest)) terminal =
+        core-Seq (core_form rules terminal e) (all_in_order (core_forms rules (terminal + terminals e) (Then f rest)))
+        (can_in rules n e) (judge_items (can_in rules n) (Then f rest)) (h e terminal)
+        (to_items (Then f rest) (terminal + terminals e))
+
+    to_first : (e : Form) (rest : Forms) (terminal : ℕ)
+        → Shows (judge_first (can_in rules n) e rest)
+        (core (one_of (core_form rules terminal e) (core_forms rules (terminal + terminals e) rest)))
+    to_first e End terminal = h e terminal
+    to_first e (Then next rest) terminal =
+        let later = terminal + terminals e in
+        core-Choice (core_form rules terminal e)
+        (one_of (core_form rules later next) (core_forms rules (later + terminals next) rest)) (can_in rules n e)
+        (judge_first (can_in rules n) next rest) (h e terminal) (to_first next rest later)
+
+    to_meaning : (name : List ℕ) (meaning : Option Meaning) → meant rules name ≡ meaning
+        → Shows (judge_meaning (can_in rules n) meaning) (core (Rule (number_of rules name)))
+    to_meaning name None is = Shows-cannot (core (Rule (number_of rules name)))
+    to_meaning name (Some m) is =
+        core-Rule (number_of rules name) (core_form rules m.terminal m.body) (can_in rules n m.body)
+        (body-meant rules name m is) (h m.body m.terminal)
+
+    to_core-table : (e : Form) (terminal : ℕ)
+        → Shows (can_table rules (can_in rules n) e) (core (core_form rules terminal e))
+    to_core-table (Literal [] span) terminal = core-Empty
+    to_core-table (Literal (b ∷ bs) span) terminal = to_tests b bs terminal
+    to_core-table (Class set span) terminal = core-Test set terminal
+    to_core-table (Any span) terminal =
+        Shows-from something_or_fails (can_of_set all_bytes) (core (Test all_bytes terminal))
+        (can_of_some _ has_some-all_bytes) (core-Test all_bytes terminal)
+    to_core-table (Name name span) terminal = to_meaning name (meant rules name) refl
+    to_core-table (written_form.Seq items span) terminal = to_items items terminal
+    to_core-table (written_form.Choice first rest span) terminal = to_first first rest terminal
+    to_core-table (Optional part span) terminal =
+        let a = can_in rules n part in
+        Shows-from (or_nothing a) (either a only_nothing) (core (Choice (core_form rules terminal part) Empty))
+        (or_nothing-either a)
+        (core-Choice (core_form rules terminal part) Empty a only_nothing (h part terminal) core-Empty)
+    to_core-table (written_form.Star part span) terminal =
+        core-Star (core_form rules terminal part) span (can_in rules n part) (h part terminal)
+    to_core-table (Plus part span) terminal =
+        let a = can_in rules n part in
+        let form = core_form rules terminal part in
+        Shows-from (once_and_again a) (both a (again a)) (core (Seq form (Star form span))) (once_and_again-both a)
+        (core-Seq form (Star form span) a (again a) (h part terminal) (core-Star form span a (h part terminal)))
+    to_core-table (And part span) terminal =
+        let a = can_in rules n part in
+        let form = core_form rules terminal part in
+        Shows-from (ahead a) (not_ahead (not_ahead a)) (core (Not (Not form))) (ahead-not a)
+        (core-Not (Not form) (not_ahead a) (core-Not form a (h part terminal)))
+    to_core-table (written_form.Not part span) terminal =
+        core-Not (core_form rules terminal part) (can_in rules n part) (h part terminal)
+
+  pub to_core : (n : ℕ) → ToCore n
+  unfolding can_in
+  to_core zero = λ e terminal. Shows-cannot (core (core_form rules terminal e))
+  to_core (suc n) = λ e terminal. to_core-table n (to_core n) e terminal
+
+  -- ---- from a core form to the written expression
+
+  abbrev FromCore : ℕ → Type 0
+  FromCore n = (e : Form) (terminal : ℕ) → Shows (core (core_form rules terminal e) n) (written e)
+
+  -- what is shown of a written form by its line of the table
+  shown : (e : Form) (a : Can) → Shows a (λ n. can_table rules (can_in rules n) e) → Shows a (written e)
+  unfolding can_in
+  shown e a h = Shows-shift a (written e) h
+
+  -- and the other way
+  unshown : (e : Form) (a : Can) → Shows a (written e) → Shows a (λ n. can_table rules (can_in rules n) e)
+  unfolding can_in
+  unshown e a h = Shows-unshift a (written e) (written-grows e) h
+
+  abbrev tabled : ℕ → CoreForm → Can
+  tabled n form = core_can_table bodies (core_can_in bodies n) form
+
+  from_empty : (n : ℕ) → Shows (core Empty n) (λ m. only_nothing)
+  unfolding core_can_in
+  from_empty zero = Shows-cannot (λ m. only_nothing)
+  from_empty (suc n) = Shows-constant only_nothing
+
+  from_test : (n : ℕ) (set : List Bool) (terminal : ℕ) → Shows (core (Test set terminal) n) (λ m. can_of_set set)
+  unfolding core_can_in
+  from_test zero set terminal = Shows-cannot (λ m. can_of_set set)
+  from_test (suc n) set terminal = Shows-constant (can_of_set set)
+
+  one_test : (n b terminal : ℕ) → Shows (core (Test (only b) terminal) n) (λ m. something_or_fails)
+  one_test n b terminal =
+      Shows-same (core (Test (only b) terminal) n) (λ m. can_of_set (only b)) (λ m. something_or_fails)
+      (λ m. sym (can_of_some _ (has_some-only b))) (from_test n (only b) terminal)
+
+  -- all tests of a literal, in any number of rounds
+  from_tests : (n b : ℕ) (bs : List ℕ) (terminal : ℕ)
+      → Shows (core (in_order (Test (only b) terminal) (tests_of terminal bs)) n) (λ m. something_or_fails)
+  unfolding core_can_in
+  from_tests zero b bs terminal = Shows-cannot (λ m. something_or_fails)
+  from_tests (suc n) b [] terminal = one_test (suc n) b terminal
+  from_tests (suc n) b (c ∷ bs) terminal =
+      let rest = in_order (Test (only c) terminal) (tests_of terminal bs) in
+      Shows-both (core (Test (only b) terminal) n) (core rest n) (λ m. something_or_fails) (λ m. something_or_fails)
+      (λ m. CanAll-refl something_or_fails) (λ m. CanAll-refl something_or_fails) (one_test n b terminal)
+      (from_tests n c bs terminal)
+
+  -- items and alternatives of written expressions, by rounds
+  abbrev items_in : Forms → ℕ → Can
+  items_in items n = judge_items (can_in rules n) items
+
+  abbrev first_in : Form → Forms → ℕ → Can
+  first_in e rest n = judge_first (can_in rules n) e rest
+
+  items-grow : (items : Forms) → Grows (items_in items)
+  items-grow items n = CanAll-items (can_in rules n) (can_in rules (suc n)) (can_in-more rules n) items
+
+  first-grows : (e : Form) (rest : Forms) → Grows (first_in e rest)
+  first-grows e rest n = CanAll-first (can_in rules n) (can_in rules (suc n)) (can_in-more rules n) e rest
+
+  module _ (n : ℕ) (h : FromCore n) where
+    from_first : (e next : Form) (rest : Forms) (span : Extent) (terminal : ℕ)
+        → Shows (tabled n (core_form rules terminal (written_form.Choice e (Then next rest) span)))
+        (first_in e (Then next rest))
+    from_first e next rest span terminal =
+        let later = terminal + terminals e in
+        let others : Form = written_form.Choice next rest span in
+        Shows-either (core (core_form rules terminal e) n) (core (core_form rules later others) n) (written e)
+        (first_in next rest) (written-grows e) (first-grows next rest) (h e terminal)
+        (unshown others (core (core_form rules later others) n) (h others later))
+
+    from_meaning : (name : List ℕ) (span : Extent) (terminal : ℕ) (meaning : Option Meaning) → meant rules name ≡ meaning
+        → Shows (tabled n (Rule (number_of rules name))) (written (Name name span))
+    from_meaning name span terminal None is =
+        Shows-from (tabled n (Rule (number_of rules name))) cannot (written (Name name span))
+        (ap (judge_body (core_can_in bodies n)) (body-unmeant rules name is)) (Shows-cannot (written (Name name span)))
+    from_meaning name span terminal (Some m) is =
+        let form = core_form rules m.terminal m.body in
+        Shows-from (tabled n (Rule (number_of rules name))) (core form n) (written (Name name span))
+        (ap (judge_body (core_can_in bodies n)) (body-meant rules name m is))
+        (shown (Name name span) (core form n)
+        (Shows-same (core form n) (written m.body) (λ k. judge_meaning (can_in rules k) (meant rules name))
+        (λ k. sym (ap (judge_meaning (can_in rules k)) is)) (h m.body m.terminal)))
+
+    from_literal : (bs : List ℕ) (span : Extent) (terminal : ℕ)
+        → Shows (tabled n (all_in_order (tests_of terminal bs))) (written (Literal bs span))
+    unfolding core_can_in
+    from_literal [] span terminal = shown (Literal [] span) only_nothing (Shows-constant only_nothing)
+    from_literal (b ∷ bs) span terminal =
+        shown (Literal (b ∷ bs) span) (tabled n (all_in_order (tests_of terminal (b ∷ bs))))
+        (from_tests (suc n) b bs terminal)
+
+    mutual
+      from_core-table : (e : Form) (terminal : ℕ) → Shows (tabled n (core_form rules terminal e)) (written e)
+      from_core-table (Literal bs span) terminal = from_literal bs span terminal
+      from_core-table (Class set span) terminal =
+          shown (Class set span) (can_of_set set) (Shows-constant (can_of_set set))
+      from_core-table (Any span) terminal =
+          shown (Any span) (can_of_set all_bytes)
+          (Shows-same (can_of_set all_bytes) (λ m. can_of_set all_bytes) (λ m. something_or_fails)
+          (λ m. sym (can_of_some _ has_some-all_bytes)) (Shows-constant (can_of_set all_bytes)))
+      from_core-table (Name name span) terminal = from_meaning name span terminal (meant rules name) refl
+      from_core-table (written_form.Seq items span) terminal =
+          shown (written_form.Seq items span) (tabled n (all_in_order (core_forms rules terminal items)))
+          (from_items items span terminal)
+      from_core-table (written_form.Choice first End span) terminal =
+          shown (written_form.Choice first End span) (tabled n (core_form rules terminal first))
+          (from_core-table first terminal)
+      from_core-table (written_form.Choice first (Then next rest) span) terminal =
+          let e : Form = written_form.Choice first (Then next rest) span in
+          shown e (tabled n (core_form rules terminal e)) (from_first first next rest span terminal)
+      from_core-table (Optional part span) terminal =
+          let a = core (core_form rules terminal part) n in
+          shown (Optional part span) (either a (core Empty n))
+          (Shows-same (either a (core Empty n)) (λ m. either (written part m) only_nothing) (λ m. or_nothing (written part m))
+          (λ m. sym (or_nothing-either (written part m)))
+          (Shows-either a (core Empty n) (written part) (λ m. only_nothing) (written-grows part)
+          (λ m. CanAll-refl only_nothing) (h part terminal) (from_empty n)))
+      from_core-table (written_form.Star part span) terminal =
+          let a = core (core_form rules terminal part) n in
+          let k = h part terminal in
+          shown (written_form.Star part span) (again a) (k.0, CanAll-again a (written part k.0) k.1)
+      from_core-table (Plus part span) terminal =
+          let star : Form = written_form.Star part span in
+          let a = core (core_form rules terminal part) n in
+          let b = core (core_form rules terminal star) n in
+          shown (Plus part span) (both a b)
+          (Shows-same (both a b) (λ m. both (written part m) (again (written part m))) (λ m. once_and_again (written part m))
+          (λ m. sym (once_and_again-both (written part m)))
+          (Shows-both a b (written part) (λ m. again (written part m)) (written-grows part)
+          (λ m. CanAll-again (written part m) (written part (suc m)) (written-grows part m)) (h part terminal)
+          (unshown star b (h star terminal))))
+      from_core-table (And part span) terminal =
+          let not : Form = written_form.Not part span in
+          let b = core (core_form rules terminal not) n in
+          let k = unshown not b (h not terminal) in
+          shown (And part span) (not_ahead b)
+          (Shows-same (not_ahead b) (λ m. not_ahead (not_ahead (written part m))) (λ m. ahead (written part m))
+          (λ m. sym (ahead-not (written part m))) (k.0, CanAll-not_ahead b (not_ahead (written part k.0)) k.1))
+      from_core-table (written_form.Not part span) terminal =
+          let a = core (core_form rules terminal part) n in
+          let k = h part terminal in
+          shown (written_form.Not part span) (not_ahead a) (k.0, CanAll-not_ahead a (written part k.0) k.1)
+
+      from_items : (items : Forms) (span : Extent) (terminal : ℕ)
+          → Shows (tabled n (all_in_order (core_forms rules terminal items))) (items_in items)
+      from_items End span terminal = Shows-constant only_nothing
+      from_items (Then e End) span terminal =
+          let a = tabled n (core_form rules terminal e) in
+          Shows-same a (written e) (items_in (Then e End)) (λ m. sym (both-nothing (written e m)))
+          (from_core-table e terminal)
+      from_items (Then e (Then f rest)) span terminal =
+          let later = terminal + terminals e in
+          let items : Form = written_form.Seq (Then f rest) span in
+          Shows-both (core (core_form rules terminal e) n) (core (core_form rules later items) n) (written e)
+          (items_in (Then f rest)) (written-grows e) (items-grow (Then f rest)) (h e terminal)
+          (unshown items (core (core_form rules later items) n) (h items later))
+
+  pub from_core : (n : ℕ) → FromCore n
+  unfolding core_can_in
+  from_core zero = λ e terminal. Shows-cannot (written e)
+  from_core (suc n) = λ e terminal. from_core-table n (from_core n) e terminal
+
+-- the outcomes of a written expression are those of its core form
+module _ (rules : List grammar.Rule) (e : Form) (terminal : ℕ) where
+  pub GivesNothing-to_core : GivesNothing rules e → CoreGivesNothing (core_bodies rules) (core_form rules terminal e)
+  GivesNothing-to_core gives =
+      let shows = to_core rules gives.0 e terminal in (shows.0, shows.1.nothing gives.1)
+
+  pub GivesNothing-from_core : CoreGivesNothing (core_bodies rules) (core_form rules terminal e) → GivesNothing rules e
+  GivesNothing-from_core gives =
+      let shows = from_core rules gives.0 e terminal in (shows.0, shows.1.nothing gives.1)
+
+  pub GivesSomething-to_core : GivesSomething rules e → CoreGivesSomething (core_bodies rules) (core_form rules terminal e)
+  GivesSomething-to_core gives =
+      let shows = to_core rules gives.0 e terminal in (shows.0, shows.1.something gives.1)
+
+  pub GivesSomething-from_core : CoreGivesSomething (core_bodies rules) (core_form rules terminal e) → GivesSomething rules e
+  GivesSomething-from_core gives =
+      let shows = from_core rules gives.0 e terminal in (shows.0, shows.1.something gives.1)
+
+  pub CanFail-to_core : CanFail rules e → CoreCanFail (core_bodies rules) (core_form rules terminal e)
+  CanFail-to_core gives = let shows = to_core rules gives.0 e terminal in (shows.0, shows.1.fails gives.1)
+
+  pub CanFail-from_core : CoreCanFail (core_bodies rules) (core_form rules terminal e) → CanFail rules e
+  CanFail-from_core gives = let shows = from_core rules gives.0 e terminal in (shows.0, shows.1.fails gives.1)

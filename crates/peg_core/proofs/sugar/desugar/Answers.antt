@@ -1,0 +1,117 @@
+use Rattle.std.proofs.Common.{◌≡◌, ◌+◌, ◌∷◌, ◌++◌, ◌↔◌, [], All, Contains, filter, true, length, drop, sym, ap, ◌∙◌, subst, arith, length-append, append-nil}
+use Rattle.std.proofs.lemmas.List.{drop_all}
+use Rattle.std.proofs.Math.Logic.{∥∥₁_elim}
+use mathlib.Core.Bool.{Bool-set}
+use Rattle.std.proofs.lemmas.List.Sums.{sum_by-cons}
+use Rattle.peg_grammar.specs.Form.{form_weight, names_used}
+use Rattle.peg_grammar.specs.GrammarRules.{rules_in}
+use Rattle.peg_grammar.specs.Rules.{Rule, uses}
+use Rattle.peg_grammar.specs.Written.{form_of}
+use Rattle.peg_core.specs.CoreForm.{core_form, core_bodies}
+use Rattle.peg_core.specs.CoreOutcomes.{IsCoreWellFormed}
+use Rattle.peg_core.specs.CoreParts.{are_defined, all_core_parts, core_parts_from}
+use Rattle.peg_core.specs.Subexpressions.{Numbered, numbered_subexpressions, is_star}
+use Rattle.peg_grammar.specs.WellFormed.{IsWellFormedGrammar}
+use Rattle.peg_core.specs.Laid.{LaysForm}
+use Rattle.peg_core.specs.Layout.{Layout, Desugared}
+use Rattle.peg_core.proofs.AddLemmas.{LaysForm-room, LaysForm-few, are_defined-left, are_defined-right}
+use Rattle.peg_core.proofs.RuleLemmas.{body_weights, rules-drop, grammar-defined, length-all_core_parts, RulesSoFar, RulesSoFar-start, RulesSoFar-more}
+use Rattle.peg_core.proofs.PartsLemmas.{subexpressions-stand, stars-stand, grammar-right, grammar-fine}
+use Rattle.peg_core.proofs.sugar.desugar.Goals as goal
+use Rattle.peg_core.proofs.sugar.desugar.Goals.{After-new}
+
+pub loop-rule-init : goal.loop-rule-init
+loop-rule-init c =
+    let rules = rules_in c.args.grammar.now in
+    let flat = c.new-flat.result in
+    let light = c.args.grammar.now.light in
+    let forms = ap length (ap (λ (l : Layout). l.forms) c.new-flat.ensures) in
+    let spans = ap length (ap (λ (l : Layout). l.spans) c.new-flat.ensures) in
+    let count = ap (λ (l : Layout). l.rules) c.new-flat.ensures ∙ c.rules.ensures.count in
+    record {
+      room = omega (arith, light, forms);
+      few = omega (arith, light, spans);
+      rules = count;
+      counted = ap length c.new-bodies.ensures.items;
+      defined = ∥∥₁_elim c.args.grammar.now.grammar (Bool-set _ _) (grammar-defined rules);
+      so_far = subst (λ bodies. RulesSoFar rules rules bodies flat) (sym c.new-bodies.ensures.items) (RulesSoFar-start rules flat (c.new-flat.ensures ∙ ap (λ n. record { rules = n; forms = []; spans = [] }) c.rules.ensures.count));
+    }
+
+pub add-requires-clause-room : goal.add-requires-clause-room
+add-requires-clause-room c =
+    let rules = rules_in c.args.grammar.now in
+    let step = rules-drop rules c.loop-rule.rule (form_of c.body.result.now) c.body.ensures in
+    let weight : body_weights (drop c.loop-rule.rule rules) ≡ form_weight step.0.body + body_weights (drop (c.loop-rule.rule + 1) rules) = ap body_weights step.1 ∙ sum_by-cons (λ (rule : Rule). form_weight rule.body) step.0 (drop (c.loop-rule.rule + 1) rules) in
+    omega (arith, c.loop-rule.invariant.room, weight, ap form_weight step.2)
+
+pub add-requires-clause-few : goal.add-requires-clause-few
+add-requires-clause-few c =
+    let rules = rules_in c.args.grammar.now in
+    let step = rules-drop rules c.loop-rule.rule (form_of c.body.result.now) c.body.ensures in
+    let weight : body_weights (drop c.loop-rule.rule rules) ≡ form_weight step.0.body + body_weights (drop (c.loop-rule.rule + 1) rules) = ap body_weights step.1 ∙ sum_by-cons (λ (rule : Rule). form_weight rule.body) step.0 (drop (c.loop-rule.rule + 1) rules) in
+    omega (arith, c.loop-rule.invariant.few, weight, ap form_weight step.2)
+
+pub add-requires-clause-defined : goal.add-requires-clause-defined
+add-requires-clause-defined c =
+    let rules = rules_in c.args.grammar.now in
+    let step = rules-drop rules c.loop-rule.rule (form_of c.body.result.now) c.body.ensures in
+    let rest = drop (c.loop-rule.rule + 1) rules in
+    let here = are_defined-left rules (names_used step.0.body) (uses rest) (subst (λ some. are_defined rules (uses some) ≡ true) step.1 c.loop-rule.invariant.defined) in
+    subst (λ e. are_defined rules (names_used e) ≡ true) step.2 here
+
+pub loop-rule-preserved : goal.loop-rule-preserved
+loop-rule-preserved c =
+    let rules = rules_in c.args.grammar.now in
+    let e = form_of c.body.result.now in
+    let step = rules-drop rules c.loop-rule.rule e c.body.ensures in
+    let rest = drop (c.loop-rule.rule + 1) rules in
+    let weight : body_weights (drop c.loop-rule.rule rules) ≡ form_weight step.0.body + body_weights rest = ap body_weights step.1 ∙ sum_by-cons (λ (rule : Rule). form_weight rule.body) step.0 rest in
+    let now = c.loop-rule.flat in
+    let new = c.add.new.flat in
+    let body = c.in_ok-body.body in
+    let bodies = c.loop-rule.bodies.items in
+    let lays = subst (λ f. LaysForm rules f now body new) (sym step.2) c.in_ok-body.ensures in
+    let so_far = subst (λ some. RulesSoFar rules some bodies now) step.1 c.loop-rule.invariant.so_far in
+    record {
+      room = omega (arith, c.loop-rule.invariant.room, weight, LaysForm-room rules step.0.body now new body lays);
+      few = omega (arith, c.loop-rule.invariant.few, weight, LaysForm-few rules step.0.body now new body lays);
+      rules = lays.rules ∙ c.loop-rule.invariant.rules;
+      counted = omega (arith, c.loop-rule.invariant.counted, ap length c.in_ok-push.ensures.items, length-append bodies (body ∷ []));
+      defined = are_defined-right rules (names_used step.0.body) (uses rest) (subst (λ some. are_defined rules (uses some) ≡ true) step.1 c.loop-rule.invariant.defined);
+      so_far = subst (λ l. RulesSoFar rules rest l new) (sym c.in_ok-push.ensures.items) (RulesSoFar-more rules step.0 rest bodies now new body so_far lays);
+    }
+
+pub returns-clause-few : goal.returns-clause-few
+returns-clause-few c =
+    let rules = rules_in c.args.grammar.now in
+    let flat = c.loop-rule.flat in
+    let rest = core_parts_from rules (length flat.spans) (drop c.loop-rule.rule rules) in
+    omega (arith, ap (λ (d : Desugared). length d.forms) c.new.ensures, ap length c.loop-rule.invariant.so_far.forms, length-append flat.forms rest, length-all_core_parts rules)
+
+-- ---- what stands among the core forms
+
+-- they are those of the grammar
+are_parts : (c : After-new) → c.new.result.forms ≡ all_core_parts (rules_in c.args.grammar.now)
+are_parts c =
+    let rules = rules_in c.args.grammar.now in
+    let flat = c.loop-rule.flat in
+    let t = length flat.spans in
+    let none : drop c.loop-rule.rule rules ≡ [] = drop_all c.loop-rule.rule rules (omega (arith, c.loop-rule-test.false, c.rules-rule-end.ensures.count)) in
+    ap (λ (d : Desugared). d.forms) c.new.ensures
+    ∙ (sym (append-nil flat.forms)
+    ∙ (ap (λ rest. flat.forms ++ core_parts_from rules t rest) (sym none) ∙ c.loop-rule.invariant.so_far.forms))
+
+pub returns-clause-subexpressions : goal.returns-clause-subexpressions
+returns-clause-subexpressions c =
+    let rules = rules_in c.args.grammar.now in
+    subst (λ forms. All (λ (e : Numbered). Contains forms (core_form rules e.terminal e.form)) (numbered_subexpressions rules))
+    (sym (are_parts c)) (subexpressions-stand rules)
+
+pub returns-clause-stars : goal.returns-clause-stars
+returns-clause-stars c = ap (filter is_star) (are_parts c) ∙ stars-stand (rules_in c.args.grammar.now)
+
+pub returns-clause-well_formed : goal.returns-clause-well_formed
+returns-clause-well_formed c =
+    let rules = rules_in c.args.grammar.now in
+    subst (λ forms. IsWellFormedGrammar rules ↔ All (IsCoreWellFormed (core_bodies rules)) forms) (sym (are_parts c))
+    (grammar-right rules, grammar-fine rules)

@@ -1,0 +1,75 @@
+-- Ford's core forms (Ford 2004, section 3.1), and the core form of a written expression by his sugar (section 3.2).
+use Rattle.std.specs.Prelude.{ℕ, ◌+◌, List, [], ◌∷◌, map, length, option_map, unwrap_or}
+use Rattle.peg_bytes.specs.ByteSet.{Bytes, only, all_bytes}
+use Rattle.peg_bytes.specs.Extent.{Extent}
+use Rattle.peg_grammar.specs.Form.{Form, Forms, End, Then, terminals}
+use Rattle.peg_grammar.specs.Form as written
+use Rattle.peg_grammar.specs.Rules.{Meaning, meant}
+use Rattle.peg_grammar.specs.Rules as grammar
+
+-- the empty expression, a byte of a set, a rule by its number, a sequence, a choice, a star, a not-predicate; a test
+-- keeps its terminal's number, and a star where the star or plus that it came from stands
+pub data CoreForm : Type 0 where
+  Empty : CoreForm
+  Test : (set : Bytes) → (terminal : ℕ) → CoreForm
+  Rule : (rule : ℕ) → CoreForm
+  Seq : (first rest : CoreForm) → CoreForm
+  Choice : (first rest : CoreForm) → CoreForm
+  Star : (part : CoreForm) → (origin : Extent) → CoreForm
+  Not : (part : CoreForm) → CoreForm
+
+-- a form and those after it, one after the other, nested to the right
+abbrev pub in_order : CoreForm → List CoreForm → CoreForm
+in_order first [] = first
+in_order first (next ∷ rest) = Seq first (in_order next rest)
+
+-- some forms, one after the other; none are the empty expression
+abbrev pub all_in_order : List CoreForm → CoreForm
+all_in_order [] = Empty
+all_in_order (first ∷ rest) = in_order first rest
+
+-- a form or else those after it, nested to the right
+abbrev pub one_of : CoreForm → List CoreForm → CoreForm
+one_of first [] = first
+one_of first (next ∷ rest) = Choice first (one_of next rest)
+
+-- the tests of a literal's bytes, all with the literal's number
+abbrev pub tests_of : (terminal : ℕ) → List ℕ → List CoreForm
+tests_of terminal bytes = map (λ byte. Test (only byte) terminal) bytes
+
+-- the number of the rule that a name means; past all rules where it means none
+abbrev pub number_of : List grammar.Rule → List ℕ → ℕ
+number_of rules name = unwrap_or (option_map (λ (m : Meaning). m.rule) (meant rules name)) (length rules)
+
+-- The core form of an expression whose first terminal has this number: `e?` is `e / ''`, `e+` is `e e*`, `&e` is
+-- `!(!e)`, a literal is the sequence of its bytes, a class and `.` are one test of a byte.
+abbrev mutual
+  pub core_form : List grammar.Rule → (terminal : ℕ) → Form → CoreForm
+  core_form rules terminal (written.Literal bytes span) = all_in_order (tests_of terminal bytes)
+  core_form rules terminal (written.Class set span) = Test set terminal
+  core_form rules terminal (written.Any span) = Test all_bytes terminal
+  core_form rules terminal (written.Name name span) = Rule (number_of rules name)
+  core_form rules terminal (written.Seq items span) = all_in_order (core_forms rules terminal items)
+  core_form rules terminal (written.Choice first rest span) =
+      one_of (core_form rules terminal first) (core_forms rules (terminal + terminals first) rest)
+  core_form rules terminal (written.Optional part span) = Choice (core_form rules terminal part) Empty
+  core_form rules terminal (written.Star part span) = Star (core_form rules terminal part) span
+  core_form rules terminal (written.Plus part span) =
+      Seq (core_form rules terminal part) (Star (core_form rules terminal part) span)
+  core_form rules terminal (written.And part span) = Not (Not (core_form rules terminal part))
+  core_form rules terminal (written.Not part span) = Not (core_form rules terminal part)
+
+  pub core_forms : List grammar.Rule → (terminal : ℕ) → Forms → List CoreForm
+  core_forms rules terminal End = []
+  core_forms rules terminal (Then e rest) =
+      core_form rules terminal e ∷ core_forms rules (terminal + terminals e) rest
+
+-- the core forms of these rules' expressions, where the first one's first terminal has this number
+abbrev pub core_bodies_from : List grammar.Rule → (terminal : ℕ) → List grammar.Rule → List CoreForm
+core_bodies_from rules terminal [] = []
+core_bodies_from rules terminal (rule ∷ more) =
+    core_form rules terminal rule.body ∷ core_bodies_from rules (terminal + terminals rule.body) more
+
+-- the core form of each rule's expression
+abbrev pub core_bodies : List grammar.Rule → List CoreForm
+core_bodies rules = core_bodies_from rules 0 rules

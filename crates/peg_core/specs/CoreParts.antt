@@ -1,0 +1,82 @@
+-- The core forms that a written expression is made of: those of its parts, and then its own, itself last. The part of a
+-- plus stands there once, and is named twice.
+use Rattle.std.specs.Prelude.{ℕ, ◌+◌, Bool, List, [], ◌∷◌, ◌++◌}
+use Rattle.std.specs.List.{list_all}
+use Rattle.peg_bytes.specs.ByteSet.{all_bytes}
+use Rattle.peg_bytes.specs.Extent.{Extent}
+use Rattle.peg_grammar.specs.Form.{Form, Forms, End, Then, Reference, terminals}
+use Rattle.peg_grammar.specs.Form as written
+use Rattle.peg_grammar.specs.Rules.{is_defined}
+use Rattle.peg_grammar.specs.Rules as grammar
+use Rattle.peg_core.specs.CoreForm.{CoreForm, Empty, Test, Rule, Seq, Choice, Star, Not, in_order, one_of, tests_of, number_of, core_form, core_forms}
+
+-- the sequences that forms in order nest to, the shortest first
+abbrev pub sequences_from : CoreForm → List CoreForm → List CoreForm
+sequences_from first [] = []
+sequences_from first (next ∷ rest) = sequences_from next rest ++ Seq first (in_order next rest) ∷ []
+
+-- of no forms, the empty expression
+abbrev pub sequences_of : List CoreForm → List CoreForm
+sequences_of [] = Empty ∷ []
+sequences_of (first ∷ rest) = sequences_from first rest
+
+-- the choices that forms nest to, the shortest first
+abbrev pub choices_of : CoreForm → List CoreForm → List CoreForm
+choices_of first [] = []
+choices_of first (next ∷ rest) = choices_of next rest ++ Choice first (one_of next rest) ∷ []
+
+-- a part or nothing
+abbrev pub optional_parts : CoreForm → List CoreForm
+optional_parts part = Empty ∷ Choice part Empty ∷ []
+
+-- a part, and again
+abbrev pub plus_parts : CoreForm → Extent → List CoreForm
+plus_parts part origin = Star part origin ∷ Seq part (Star part origin) ∷ []
+
+-- not the predicate that there is none
+abbrev pub and_parts : CoreForm → List CoreForm
+and_parts part = Not part ∷ Not (Not part) ∷ []
+
+-- The core forms of an expression whose first terminal has this number.
+abbrev mutual
+  pub core_parts : List grammar.Rule → (terminal : ℕ) → Form → List CoreForm
+  core_parts rules terminal (written.Literal bytes span) =
+      tests_of terminal bytes ++ sequences_of (tests_of terminal bytes)
+  core_parts rules terminal (written.Class set span) = Test set terminal ∷ []
+  core_parts rules terminal (written.Any span) = Test all_bytes terminal ∷ []
+  core_parts rules terminal (written.Name name span) = Rule (number_of rules name) ∷ []
+  core_parts rules terminal (written.Seq items span) =
+      core_parts_of_all rules terminal items ++ sequences_of (core_forms rules terminal items)
+  core_parts rules terminal (written.Choice first rest span) =
+      core_parts rules terminal first
+      ++ core_parts_of_all rules (terminal + terminals first) rest
+      ++ choices_of (core_form rules terminal first) (core_forms rules (terminal + terminals first) rest)
+  core_parts rules terminal (written.Optional part span) =
+      core_parts rules terminal part ++ optional_parts (core_form rules terminal part)
+  core_parts rules terminal (written.Star part span) =
+      core_parts rules terminal part ++ Star (core_form rules terminal part) span ∷ []
+  core_parts rules terminal (written.Plus part span) =
+      core_parts rules terminal part ++ plus_parts (core_form rules terminal part) span
+  core_parts rules terminal (written.And part span) =
+      core_parts rules terminal part ++ and_parts (core_form rules terminal part)
+  core_parts rules terminal (written.Not part span) =
+      core_parts rules terminal part ++ Not (core_form rules terminal part) ∷ []
+
+  pub core_parts_of_all : List grammar.Rule → (terminal : ℕ) → Forms → List CoreForm
+  core_parts_of_all rules terminal End = []
+  core_parts_of_all rules terminal (Then e rest) =
+      core_parts rules terminal e ++ core_parts_of_all rules (terminal + terminals e) rest
+
+-- the core forms of these rules, where the first one's first terminal has this number
+abbrev pub core_parts_from : List grammar.Rule → (terminal : ℕ) → List grammar.Rule → List CoreForm
+core_parts_from rules terminal [] = []
+core_parts_from rules terminal (rule ∷ more) =
+    core_parts rules terminal rule.body ++ core_parts_from rules (terminal + terminals rule.body) more
+
+-- the core forms of all rules
+abbrev pub all_core_parts : List grammar.Rule → List CoreForm
+all_core_parts rules = core_parts_from rules 0 rules
+
+-- whether all names that are used are defined
+abbrev pub are_defined : List grammar.Rule → List Reference → Bool
+are_defined rules references = list_all (λ (reference : Reference). is_defined rules reference.name) references

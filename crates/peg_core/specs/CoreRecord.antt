@@ -1,0 +1,36 @@
+-- Ford's recognition relation on core forms (Ford 2004, section 3.3), with the same records as on written expressions.
+use Rattle.std.specs.Prelude.{◌≡◌, ℕ, zero, suc, ◌<◌, List, All, drop, slice_get, Option, None, Some, option_map, option_and_then}
+use Rattle.peg_bytes.specs.ByteSet.{has}
+use Rattle.peg_grammar.specs.Record.{Record, matched_at, then_at, or_else, repeated, if_failed, with_result, byte_at, as_use}
+use Rattle.peg_core.specs.CoreForm.{CoreForm, Empty, Test, Rule, Seq, Choice, Star, Not}
+
+-- a text as a file has it: each number is a byte
+abbrev pub AreBytes : List ℕ → Type 0
+AreBytes text = All (λ byte. byte < 256) text
+
+-- a way to take a part: what comes of a form at a place, if anything does
+abbrev pub CoreTaking : Type 0
+CoreTaking = CoreForm → (place : ℕ) → Option Record
+
+-- The recognition table: what comes of each form, given the rules' bodies and a way to take parts.
+abbrev pub core_table : List CoreForm → List ℕ → CoreTaking → CoreTaking
+core_table bodies text take Empty place = Some (matched_at place)
+core_table bodies text take (Test set terminal) place = Some (byte_at (has set) terminal place (drop place text))
+core_table bodies text take (Rule rule) place =
+    option_and_then (λ (body : CoreForm). option_map (as_use rule place) (take body place)) (slice_get bodies rule)
+core_table bodies text take (Seq first rest) place = then_at (take first place) (λ end. take rest end)
+core_table bodies text take (Choice first rest) place = or_else (take first place) (take rest place)
+core_table bodies text take (Star part origin) place =
+    option_and_then (λ (round : Record). repeated round.result place round (λ end. take (Star part origin) end)) (take part place)
+core_table bodies text take (Not part) place =
+    option_map (λ (r : Record). with_result r (if_failed r.result place)) (take part place)
+
+-- The record of a form at a place in n: in 0 there is none; above 0 it is that of the table, whose parts are taken in
+-- n - 1.
+unfoldable pub core_record_in : List CoreForm → List ℕ → ℕ → CoreTaking
+core_record_in bodies text zero form place = None
+core_record_in bodies text (suc n) form place = core_table bodies text (core_record_in bodies text n) form place
+
+-- Ford's record of a form at a place: its record in some n.
+abbrev pub IsCoreRecord : List CoreForm → List ℕ → CoreForm → (place : ℕ) → Record → Type 0
+IsCoreRecord bodies text form place r = (n : ℕ) × (core_record_in bodies text n form place ≡ Some r)

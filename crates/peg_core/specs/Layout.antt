@@ -1,0 +1,24 @@
+-- Core forms in a list, named by their numbers, as definitions see them.
+use Rattle.std.specs.Prelude.{ℕ, List, slice_index_or}
+use Rattle.peg_bytes.specs.Extent.{Extent}
+use Rattle.peg_core.specs.CoreForm.{CoreForm, Empty}
+
+-- how many rules there are, the form of each number, and where each terminal stands
+pub record Layout : Type 0 where
+  pub rules : ℕ
+  pub forms : List CoreForm
+  pub spans : List Extent
+
+-- the forms, the number of each rule's body, and where each terminal stands
+pub record Desugared : Type 0 where
+  pub forms : List CoreForm
+  pub bodies : List ℕ
+  pub spans : List Extent
+
+-- the form with a number
+abbrev pub form_at : List CoreForm → ℕ → CoreForm
+form_at forms number = slice_index_or forms number Empty
+
+-- the most forms of a grammar: two for each part of the greatest weight
+abbrev pub most_forms : ℕ
+most_forms = 8388608

@@ -1,0 +1,113 @@
+//! A flat list of core forms: a form's parts have smaller numbers.
+ghost use Rattle.std.specs.Prelude.{◌≡◌, ◌<◌, ◌≤◌, [], ◌∷◌, ◌++◌, length, slice_get, IfOk, OnOk, Some};
+ghost use Rattle.peg_bytes.specs.Extent.{Extent, extent};
+ghost use Rattle.peg_grammar.specs.Grammar.{most_parts};
+ghost use Rattle.peg_core.specs.Layout.{most_forms};
+ghost use Rattle.peg_core.specs.Nodes.{NodeFits, IsStarFrom, Spells, shape};
+
+use crate::node::{Node, Part};
+use peg_bytes::Span;
+use std::alloc::{AllocError, Global};
+use std::marker::Model;
+
+/// Core forms by their numbers, and where the terminals stand that they test. It grows while a grammar is desugared.
+#[derive(Debug, Drop)]
+pub(crate) struct Flat {
+    rules: u32,
+    parts: Vec<Part>,
+    spans: Vec<Span>,
+}
+
+impl Model for Flat {
+    ghost use Rattle.peg_core.specs.CoreCode.{layout_code};
+    ghost use Rattle.peg_core.specs.Layout.{Layout};
+
+    ghost Value = { Layout };
+
+    ghost coded = { layout_code };
+
+    ghost use Rattle.peg_core.specs.FlatForms.{layout_of, IsFlat};
+
+    ghost view = { layout_of };
+
+    ghost invariant = { IsFlat };
+}
+
+impl Flat {
+    /// No forms and no terminals, for so many rules.
+    pub(crate) fn new(alloc: Global, rules: u32) -> Flat
+        ensures { result ≡ record { rules = rules; forms = []; spans = [] } }
+    {
+        Flat {
+            rules,
+            parts: Vec::new(alloc),
+            spans: Vec::new(alloc),
+        }
+    }
+
+    /// The next terminal, which stands there: its number.
+    pub(crate) fn terminal(&mut self, span: Span) -> Result<u32, AllocError>
+        requires { length self.old.spans < most_parts }
+        ensures number { IfOk result (λ terminal. terminal ≡ length self.old.spans) }
+        ensures put { OnOk result (self.new ≡ record self.old { spans = self.old.spans ++ extent span ∷ [] }) }
+    {
+        let terminal = self.spans.len() as u32;
+        self.spans.push(span)?;
+        Ok(terminal)
+    }
+
+    /// One more form, whose parts are among the forms: its number.
+    pub(crate) fn push(&mut self, node: Node, origin: Span) -> Result<u32, AllocError>
+        requires room { length self.old.forms < most_forms }
+        requires fits { NodeFits (length self.old.forms) self.old.rules (length self.old.spans) node }
+        ensures number { IfOk result (λ number. number ≡ length self.old.forms) }
+        ensures put { OnOk result (self.new
+            ≡ record self.old { forms = self.old.forms ++ shape self.old.forms (extent origin) node ∷ [] }) }
+    {
+        let number = self.parts.len() as u32;
+        self.parts.push(Part { node, origin })?;
+        Ok(number)
+    }
+
+    /// How many forms there are.
+    pub(crate) fn len(&self) -> u32
+        ensures count { result ≡ length self.now.forms }
+        ensures most { result ≤ most_forms }
+    {
+        self.parts.len() as u32
+    }
+
+    /// How many terminals there are.
+    pub(crate) fn terminals(&self) -> u32
+        ensures count { result ≡ length self.now.spans }
+        ensures most { result ≤ most_parts }
+    {
+        self.spans.len() as u32
+    }
+
+    /// The form with a number, its parts by their numbers.
+    pub(crate) fn node(&self, number: u32) -> Node
+        requires { number < length self.now.forms }
+        ensures form { Spells self.now.forms number result }
+        ensures fits { NodeFits number self.now.rules (length self.now.spans) result }
+    {
+        self.parts[number as usize].node
+    }
+
+    /// Where the star or plus stands that a star came from.
+    pub(crate) fn origin(&self, number: u32) -> Span
+        requires within { number < length self.now.forms }
+        requires star { (origin : Extent) × IsStarFrom self.now.forms number origin }
+        ensures { IsStarFrom self.now.forms number (extent result) }
+    {
+        self.parts[number as usize].origin
+    }
+
+    /// Where a terminal stands.
+    pub(crate) fn terminal_span(&self, terminal: u32) -> Span
+        requires { terminal < length self.now.spans }
+        ensures { slice_get self.now.spans terminal ≡ Some (extent result) }
+    {
+        self.spans[terminal as usize]
+    }
+}

@@ -1,0 +1,84 @@
+//! Laws of the definitions: what holds for every grammar and text. Each function does nothing; its contract is the law.
+ghost use Rattle.std.specs.Prelude.{◌≡◌, ◌↔◌, codes, All, Contains, filter, flat_map, map, ℕ, suc, List, Some};
+ghost use Rattle.peg_core.specs.CoreExamples.{nested_core, signs_core, all_core_can_in};
+ghost use Rattle.peg_core.specs.CoreForm.{Rule as use_of};
+ghost use Rattle.peg_core.specs.CoreForm.{CoreForm, core_bodies, core_form};
+ghost use Rattle.peg_core.specs.CoreOutcomes.{core_can_in, CoreGivesNothing, CoreGivesSomething, CoreCanFail, IsCoreWellFormedIn, IsCoreWellFormed};
+ghost use Rattle.peg_core.specs.CoreParts.{all_core_parts};
+ghost use Rattle.peg_core.specs.Subexpressions.{Numbered, numbered_subexpressions, all_core_stars, is_star};
+ghost use Rattle.peg_core.specs.CoreRecord.{AreBytes, core_record_in, IsCoreRecord};
+ghost use Rattle.peg_grammar.specs.AbstractOutcomes.{CanAll, GivesNothing, GivesSomething, CanFail};
+ghost use Rattle.peg_grammar.specs.Examples.{nested, nested_record, signs, signs_can};
+ghost use Rattle.peg_grammar.specs.Form.{Form};
+ghost use Rattle.peg_grammar.specs.Record.{Record, IsRecord};
+ghost use Rattle.peg_grammar.specs.Rules.{Rule};
+ghost use Rattle.peg_grammar.specs.WellFormed.{IsWellFormed, IsWellFormedGrammar, subexpressions};
+
+/// What has a record in n has the same record in n + 1.
+pub fn a_core_record_stays()
+    ensures { (bodies : List CoreForm) (text : List ℕ) (n : ℕ) (form : CoreForm) (place : ℕ) (r : Record)
+        → core_record_in bodies text n form place ≡ Some r
+        → core_record_in bodies text (suc n) form place ≡ Some r }
+{}
+
+/// Two records of one form at one place are the same.
+pub fn a_core_record_is_the_only_one()
+    ensures { (bodies : List CoreForm) (text : List ℕ) (form : CoreForm) (place : ℕ) (r s : Record)
+        → IsCoreRecord bodies text form place r → IsCoreRecord bodies text form place s → r ≡ s }
+{}
+
+/// What a form can do in n rounds, by Ford's abstract outcomes, it can do in n + 1.
+pub fn core_outcomes_stay()
+    ensures { (bodies : List CoreForm) (n : ℕ) (form : CoreForm)
+        → CanAll (core_can_in bodies n form) (core_can_in bodies (suc n) form) }
+{}
+
+/// What is well-formed in n rounds is well-formed in n + 1.
+pub fn well_formed_core_forms_stay()
+    ensures { (bodies : List CoreForm) (n : ℕ) (form : CoreForm)
+        → IsCoreWellFormedIn bodies n form → IsCoreWellFormedIn bodies (suc n) form }
+{}
+
+/// A written expression and its core form have the same record at each place of a text, or neither has one.
+pub fn core_forms_have_the_same_records()
+    ensures { (rules : List Rule) (text : List ℕ) (e : Form) (terminal place : ℕ) (r : Record) → AreBytes text
+        → (IsRecord rules text e terminal place r
+        ↔ IsCoreRecord (core_bodies rules) text (core_form rules terminal e) place r) }
+{}
+
+/// A written expression and its core form have the same abstract outcomes: 0, 1 and f.
+pub fn core_forms_have_the_same_outcomes()
+    ensures nothing { (rules : List Rule) (e : Form) (terminal : ℕ)
+        → (GivesNothing rules e ↔ CoreGivesNothing (core_bodies rules) (core_form rules terminal e)) }
+    ensures something { (rules : List Rule) (e : Form) (terminal : ℕ)
+        → (GivesSomething rules e ↔ CoreGivesSomething (core_bodies rules) (core_form rules terminal e)) }
+    ensures fails { (rules : List Rule) (e : Form) (terminal : ℕ)
+        → (CanFail rules e ↔ CoreCanFail (core_bodies rules) (core_form rules terminal e)) }
+{}
+
+/// A written expression is well-formed exactly where its core form is.
+pub fn core_forms_are_well_formed_alike()
+    ensures { (rules : List Rule) (e : Form) (terminal : ℕ)
+        → (IsWellFormed rules e ↔ IsCoreWellFormed (core_bodies rules) (core_form rules terminal e)) }
+{}
+
+/// Among a grammar's core forms stands that of each written subexpression; the stars are exactly those of its written
+/// stars and pluses; and the grammar is well-formed exactly where all its core forms are.
+pub fn a_grammars_core_forms_are_those_of_its_expressions()
+    ensures subexpressions { (rules : List Rule)
+        → All (λ (e : Numbered). Contains (all_core_parts rules) (core_form rules e.terminal e.form))
+        (numbered_subexpressions rules) }
+    ensures all { (rules : List Rule) → map (λ (e : Numbered). e.form) (numbered_subexpressions rules)
+        ≡ flat_map (λ (rule : Rule). subexpressions rule.body) rules }
+    ensures stars { (rules : List Rule) → filter is_star (all_core_parts rules) ≡ all_core_stars rules }
+    ensures well_formed { (rules : List Rule) → (IsWellFormedGrammar rules
+        ↔ All (IsCoreWellFormed (core_bodies rules)) (all_core_parts rules)) }
+{}
+
+/// The definitions on grammars that were worked by hand: core forms, the record of a first rule, and outcomes.
+pub fn the_core_forms_agree_with_hand_worked_grammars()
+    ensures nested { core_bodies nested ≡ nested_core }
+    ensures signs { core_bodies signs ≡ signs_core }
+    ensures recognized { IsCoreRecord nested_core (codes "aab") (use_of 0) 0 nested_record }
+    ensures outcomes { all_core_can_in signs_core 8 ≡ signs_can }
+{}

@@ -1,0 +1,16 @@
+//! Ford's core forms of written grammars: the sugar taken away, with the same meaning.
+#![tactic(auto)]
+
+mod cores;
+mod flat;
+pub mod laws;
+mod nest;
+mod node;
+mod signs;
+mod sugar;
+#[cfg(test)]
+mod tests;
+
+pub use cores::Core;
+pub use node::Node;
+pub use sugar::desugar;

@@ -1,0 +1,102 @@
+//! Core forms that are put together from others.
+ghost use Rattle.std.specs.Prelude.{◌+◌, ◌<◌, ◌≤◌, [], ◌∷◌, length, IfOk};
+ghost use Rattle.peg_bytes.specs.ByteSet.{all_bytes, bytes_of};
+ghost use Rattle.peg_bytes.specs.Extent.{extent};
+ghost use Rattle.peg_core.specs.CoreForm.{Empty, Rule, Seq, Choice, Star, Not, Test};
+ghost use Rattle.peg_core.specs.CoreParts.{optional_parts, plus_parts, and_parts};
+ghost use Rattle.peg_core.specs.Laid.{Lays};
+ghost use Rattle.peg_core.specs.Layout.{form_at, most_forms};
+ghost use Rattle.peg_grammar.specs.Grammar.{most_parts};
+
+use crate::Node;
+use crate::flat::Flat;
+use peg_bytes::{ByteSet, Span};
+use std::alloc::AllocError;
+
+// Where a node came from that is no star.
+fn nowhere() -> Span {
+    Span::new(0, 0)
+}
+
+/// The part, or else the empty form.
+pub(crate) fn add_optional(part: u32, flat: &mut Flat) -> Result<u32, AllocError>
+    requires room { length flat.old.forms + 2 ≤ most_forms }
+    requires part { part < length flat.old.forms }
+    ensures { IfOk result (λ number. Lays flat.old (optional_parts (form_at flat.old.forms part)) []
+        (Choice (form_at flat.old.forms part) Empty) number flat.new) }
+{
+    let empty = flat.push(Node::Empty, nowhere())?;
+    flat.push(Node::Choice(part, empty), nowhere())
+}
+
+/// The part again and again.
+pub(crate) fn add_star(part: u32, flat: &mut Flat, origin: Span) -> Result<u32, AllocError>
+    requires room { length flat.old.forms + 1 ≤ most_forms }
+    requires part { part < length flat.old.forms }
+    ensures { IfOk result (λ number. Lays flat.old (Star (form_at flat.old.forms part) (extent origin) ∷ []) []
+        (Star (form_at flat.old.forms part) (extent origin)) number flat.new) }
+{
+    flat.push(Node::Star(part), origin)
+}
+
+/// The part, and then again and again.
+pub(crate) fn add_plus(part: u32, flat: &mut Flat, origin: Span) -> Result<u32, AllocError>
+    requires room { length flat.old.forms + 2 ≤ most_forms }
+    requires part { part < length flat.old.forms }
+    ensures { IfOk result (λ number. Lays flat.old (plus_parts (form_at flat.old.forms part) (extent origin)) []
+        (Seq (form_at flat.old.forms part) (Star (form_at flat.old.forms part) (extent origin))) number flat.new) }
+{
+    let star = flat.push(Node::Star(part), origin)?;
+    flat.push(Node::Seq(part, star), nowhere())
+}
+
+/// Nothing, where not even the part's failing comes.
+pub(crate) fn add_and(part: u32, flat: &mut Flat) -> Result<u32, AllocError>
+    requires room { length flat.old.forms + 2 ≤ most_forms }
+    requires part { part < length flat.old.forms }
+    ensures { IfOk result (λ number. Lays flat.old (and_parts (form_at flat.old.forms part)) []
+        (Not (Not (form_at flat.old.forms part))) number flat.new) }
+{
+    let not = flat.push(Node::Not(part), nowhere())?;
+    flat.push(Node::Not(not), nowhere())
+}
+
+/// Nothing, where the part fails.
+pub(crate) fn add_not(part: u32, flat: &mut Flat) -> Result<u32, AllocError>
+    requires room { length flat.old.forms + 1 ≤ most_forms }
+    requires part { part < length flat.old.forms }
+    ensures { IfOk result (λ number. Lays flat.old (Not (form_at flat.old.forms part) ∷ []) []
+        (Not (form_at flat.old.forms part)) number flat.new) }
+{
+    flat.push(Node::Not(part), nowhere())
+}
+
+/// The use of a rule.
+pub(crate) fn add_use(flat: &mut Flat, rule: u32) -> Result<u32, AllocError>
+    requires room { length flat.old.forms + 1 ≤ most_forms }
+    requires rule { rule < flat.old.rules }
+    ensures { IfOk result (λ number. Lays flat.old (Rule rule ∷ []) [] (Rule rule) number flat.new) }
+{
+    flat.push(Node::Rule(rule), nowhere())
+}
+
+/// A class: one test, of the next terminal.
+pub(crate) fn add_class(flat: &mut Flat, set: ByteSet, span: Span) -> Result<u32, AllocError>
+    requires room { length flat.old.forms + 1 ≤ most_forms }
+    requires few { length flat.old.spans + 1 ≤ most_parts }
+    ensures { IfOk result (λ number. Lays flat.old (Test (bytes_of set) (length flat.old.spans) ∷ [])
+        (extent span ∷ []) (Test (bytes_of set) (length flat.old.spans)) number flat.new) }
+{
+    let terminal = flat.terminal(span)?;
+    flat.push(Node::Test { set, terminal }, nowhere())
+}
+
+/// A dot: one test of any byte, of the next terminal.
+pub(crate) fn add_any(flat: &mut Flat, span: Span) -> Result<u32, AllocError>
+    requires room { length flat.old.forms + 1 ≤ most_forms }
+    requires few { length flat.old.spans + 1 ≤ most_parts }
+    ensures { IfOk result (λ number. Lays flat.old (Test all_bytes (length flat.old.spans) ∷ [])
+        (extent span ∷ []) (Test all_bytes (length flat.old.spans)) number flat.new) }
+{
+    add_class(flat, ByteSet::full(), span)
+}

@@ -1,0 +1,120 @@
+//! The sugar taken away (Ford 2004, section 3.2): `e?` is `e / ''`, `e+` is `e e*`, `&e` is `!(!e)`, a literal is the
+//! sequence of its bytes, a class and `.` are one test of a byte.
+ghost use Rattle.std.specs.Prelude.{◌≡◌, ◌↔◌, All, Contains, filter, ◌+◌, ◌*◌, ◌≤◌, ◌<◌, true, [], ◌∷◌, length, map, IfOk};
+ghost use Rattle.peg_core.specs.CoreForm.{Rule, core_bodies, core_form, number_of};
+ghost use Rattle.peg_core.specs.CoreOutcomes.{IsCoreWellFormed};
+ghost use Rattle.peg_core.specs.CoreParts.{all_core_parts, are_defined};
+ghost use Rattle.peg_core.specs.Laid.{Lays, LaysForm, LaysForms};
+ghost use Rattle.peg_core.specs.Layout.{form_at, most_forms};
+ghost use Rattle.peg_core.specs.Subexpressions.{numbered_subexpressions, all_core_stars, is_star};
+ghost use Rattle.peg_grammar.specs.Form.{form_weight, forms, forms_weight, names_used, names_used_by_all};
+ghost use Rattle.peg_grammar.specs.Grammar.{most_parts};
+ghost use Rattle.peg_grammar.specs.GrammarRules.{rules_in};
+ghost use Rattle.peg_grammar.specs.Rules.{is_defined, weight_of};
+ghost use Rattle.peg_grammar.specs.Terminals.{extents_of_terminals};
+ghost use Rattle.peg_grammar.specs.WellFormed.{IsWellFormedGrammar};
+ghost use Rattle.peg_grammar.specs.Written.{form_of};
+
+use crate::Core;
+use crate::flat::Flat;
+use crate::nest::{add_choices, add_literal, add_sequence};
+use crate::signs::{
+    add_and, add_any, add_class, add_not, add_optional, add_plus, add_star, add_use,
+};
+use peg_grammar::{Expr, Grammar};
+use std::alloc::{AllocError, Global};
+
+/// The core forms of a grammar (Ford 2004, section 3.2): for each written expression, those of its parts and then its
+/// own, rule by rule and in written order; the part of a plus stands once and is named twice. There are at most two for
+/// each part of the grammar's weight, and it takes time and memory linear in that, but for hashing. It recurses as deep
+/// as expressions nest.
+pub fn desugar(alloc: Global, grammar: &Grammar) -> Result<Core, AllocError>
+    ensures forms { IfOk result (λ core. core.forms ≡ all_core_parts (rules_in grammar.now)) }
+    ensures bodies { IfOk result (λ core. map (form_at core.forms) core.bodies ≡ core_bodies (rules_in grammar.now)) }
+    ensures spans { IfOk result (λ core. core.spans ≡ extents_of_terminals (rules_in grammar.now)) }
+    ensures few { IfOk result (λ core. length core.forms ≤ 2 * weight_of (rules_in grammar.now)) }
+
+    // So what is asked of written expressions can be asked of the core forms.
+    ensures subexpressions { IfOk result (λ core.
+        All (λ e. Contains core.forms (core_form (rules_in grammar.now) e.terminal e.form))
+        (numbered_subexpressions (rules_in grammar.now))) }
+    ensures stars { IfOk result (λ core. filter is_star core.forms ≡ all_core_stars (rules_in grammar.now)) }
+    ensures well_formed { IfOk result (λ core. IsWellFormedGrammar (rules_in grammar.now)
+        ↔ All (IsCoreWellFormed (core_bodies (rules_in grammar.now))) core.forms) }
+{
+    let mut flat = Flat::new(alloc, grammar.rules());
+    let mut bodies = Vec::new(alloc);
+    for rule in 0..grammar.rules() {
+        let body = add(alloc, &mut flat, grammar, grammar.body(rule))?;
+        bodies.push(body)?;
+    }
+    Ok(Core::new(flat, bodies))
+}
+
+// The core forms of an expression, and the number of its own. It recurses as deep as expressions nest.
+#[cycle(sugar)]
+fn add(alloc: Global, flat: &mut Flat, grammar: &Grammar, expr: &Expr) -> Result<u32, AllocError>
+    requires room { length flat.old.forms + 2 * form_weight (form_of expr.now) ≤ most_forms }
+    requires few { length flat.old.spans + form_weight (form_of expr.now) ≤ most_parts }
+    requires rules { flat.old.rules ≡ length (rules_in grammar.now) }
+    requires defined { are_defined (rules_in grammar.now) (names_used (form_of expr.now)) ≡ true }
+    ensures { IfOk result (λ number. LaysForm (rules_in grammar.now) (form_of expr.now) flat.old number flat.new) }
+{
+    match expr {
+        Expr::Literal { bytes, span } => add_literal(alloc, flat, bytes, *span),
+        Expr::Class { set, span } => add_class(flat, *set, *span),
+        Expr::Any { span } => add_any(flat, *span),
+        Expr::Name { name, .. } => add_name(flat, grammar, name.as_str()),
+        Expr::Seq { items, .. } => {
+            let numbers = add_all(alloc, flat, grammar, items)?;
+            add_sequence(flat, &numbers)
+        }
+        Expr::Choice { first, rest, .. } => {
+            let first = add(alloc, flat, grammar, first)?;
+            let others = add_all(alloc, flat, grammar, rest)?;
+            add_choices(flat, first, &others)
+        }
+        Expr::Optional { part, .. } => add_optional(add(alloc, flat, grammar, part)?, flat),
+        Expr::Star { part, span } => add_star(add(alloc, flat, grammar, part)?, flat, *span),
+        Expr::Plus { part, span } => add_plus(add(alloc, flat, grammar, part)?, flat, *span),
+        Expr::And { part, .. } => add_and(add(alloc, flat, grammar, part)?, flat),
+        Expr::Not { part, .. } => add_not(add(alloc, flat, grammar, part)?, flat),
+    }
+}
+
+// The core forms of expressions in order, and the numbers of their own.
+#[cycle(sugar)]
+fn add_all(
+    alloc: Global,
+    flat: &mut Flat,
+    grammar: &Grammar,
+    items: &[Expr],
+) -> Result<Vec<u32>, AllocError>
+    requires room { length flat.old.forms + 2 * forms_weight (forms (map form_of items.now)) ≤ most_forms }
+    requires few { length flat.old.spans + forms_weight (forms (map form_of items.now)) ≤ most_parts }
+    requires rules { flat.old.rules ≡ length (rules_in grammar.now) }
+    requires defined { are_defined (rules_in grammar.now) (names_used_by_all (forms (map form_of items.now))) ≡ true }
+    ensures { IfOk result (λ numbers.
+        LaysForms (rules_in grammar.now) (forms (map form_of items.now)) flat.old numbers.items flat.new) }
+{
+    let mut numbers = Vec::new(alloc);
+    for item in items {
+        let number = add(alloc, flat, grammar, item)?;
+        numbers.push(number)?;
+    }
+    Ok(numbers)
+}
+
+// The use of the rule that a name means.
+fn add_name(flat: &mut Flat, grammar: &Grammar, name: &str) -> Result<u32, AllocError>
+    requires room { length flat.old.forms + 1 ≤ most_forms }
+    requires rules { flat.old.rules ≡ length (rules_in grammar.now) }
+    requires defined { is_defined (rules_in grammar.now) name.now ≡ true }
+    ensures { IfOk result (λ number. Lays flat.old (Rule (number_of (rules_in grammar.now) name.now) ∷ []) []
+        (Rule (number_of (rules_in grammar.now) name.now)) number flat.new) }
+{
+    match grammar.rule_number(name) {
+        Some(rule) => add_use(flat, rule),
+        None => unreachable!(),
+    }
+}
