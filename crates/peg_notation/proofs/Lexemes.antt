@@ -97,7 +97,7 @@ of_sign kind sign more byte rest is =
       | inr none ↦ inr none
     ]
 
-kinds_apart : (kind : TokenKind) (byte : ℕ) (rest : List ℕ)
+pub kinds_apart : (kind : TokenKind) (byte : ℕ) (rest : List ℕ)
     → (kind_of byte ≡ Some kind) ⊎ (text_of kind (byte ∷ rest) ≡ None)
 unfolding kind_of identifier literal quoted class
 kinds_apart Ident byte rest = by (begins_name byte) refl

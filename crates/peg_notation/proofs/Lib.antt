@@ -1,6 +1,7 @@
 pub mod Classes
 pub mod FigureNames
 pub mod Lexemes
+pub mod OneLexing
 pub mod PieceLemmas
 pub mod PieceSizes
 pub mod SpacingRules
