@@ -1,6 +1,6 @@
 #!/usr/bin/env bash
-# Refuses each request for memory of the stored run in turn. Each run has to end with status 5 and print nothing, or print
-# the stored line with status 0; the last one meets no refusal.
+# Refuses each request for memory of the stored run in turn. Each run has to end with status 5 and print nothing, or
+# print the stored line with status 0; the last one meets no refusal.
 set -u
 cd "$(dirname "$0")/../crates/pegtool"
 mkdir -p out
@@ -19,3 +19,5 @@ for n in $(seq 1 1000); do
     exit 1
   fi
 done
+echo "WRONG, more than 1000 growths"
+exit 1

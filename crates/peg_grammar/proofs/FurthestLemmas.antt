@@ -1,10 +1,10 @@
 -- Going over the tests once gives their furthest failure.
-use Rattle.std.proofs.Common.{◌≡◌, ℕ, zero, suc, ◌<◌, ◌≤◌, Bool, true, false, List, [], ◌∷◌, ◌++◌, All, Contains, fold, nat_lt, ◌==◌, ◌⊎◌, inl, inr, refl, sym, ap, subst, le_refl, le_trans, le_of_lt, suc-add, append_assoc, append-nil, if◌then◌else◌, arith}
+use Rattle.std.proofs.Common.{◌≡◌, ℕ, ◌<◌, ◌≤◌, Bool, true, false, List, [], ◌∷◌, ◌++◌, All, Contains, fold, nat_lt, ◌==◌, ◌⊎◌, inl, inr, refl, sym, ap, subst, le_refl, le_trans, le_of_lt, append_assoc, append-nil, if◌then◌else◌, arith}
 use Rattle.std.proofs.lemmas.List.Elements.{Contains-append_left, Contains-append_right, Contains-append_cases, Contains-push, Contains-push_cases, All-contains, All-push}
 use Rattle.std.proofs.lemmas.Bool.Decides.{nat_tests}
-use Rattle.std.specs.List.Sorted.{IsStrictlyIncreasing}
 use Rattle.peg_grammar.specs.Record.{Test}
 use Rattle.peg_grammar.specs.Furthest.{IsFurthest, Furthest, insert_ascending, noted, nothing_failed, furthest_of}
+use Rattle.peg_grammar.proofs.Ascending.{RisesFrom, RisesFrom-insert, RisesFrom-to_increasing}
 
 Contains-none : {X : Type 0} (x : X) → Contains [] x → ⊥
 Contains-none x h = omega (arith, h.1)
@@ -19,29 +19,6 @@ Contains-later xs y x h = Contains-append_right (y ∷ []) xs x h
 Contains-cons_cases : {X : Type 0} (xs : List X) (y x : X) → Contains (y ∷ xs) x → (y ≡ x) ⊎ Contains xs x
 Contains-cons_cases xs y x h =
     elim (Contains-append_cases (y ∷ []) xs x h) [ inl a ↦ elim (Contains-push_cases [] y x a) [ inl b ↦ absurd (Contains-none x b) | inr b ↦ inl b ] | inr a ↦ inr a ]
-
--- numbers that rise, the first at least low
-abbrev RisesFrom : ℕ → List ℕ → Type 0
-RisesFrom low [] = Unit {0}
-RisesFrom low (x ∷ xs) = (low ≤ x) × RisesFrom (suc x) xs
-
-RisesFrom-choice : (n low x : ℕ) (xs more : List ℕ) → low ≤ n → RisesFrom low (x ∷ xs) → (suc x ≤ n → RisesFrom (suc x) more) → (b e : Bool) → nat_lt n x ≡ b → (n == x) ≡ e
-    → RisesFrom low (if b then n ∷ x ∷ xs else (if e then x ∷ xs else x ∷ more))
-RisesFrom-choice n low x xs more h r k true e p q = (h, (grind (arith, nat_tests), r.1))
-RisesFrom-choice n low x xs more h r k false true p q = r
-RisesFrom-choice n low x xs more h r k false false p q = (r.0, k (grind (arith, nat_tests)))
-
-RisesFrom-insert : (n low : ℕ) (xs : List ℕ) → low ≤ n → RisesFrom low xs → RisesFrom low (insert_ascending n xs)
-RisesFrom-insert n low [] h r = (h, tt)
-RisesFrom-insert n low (x ∷ xs) h r =
-    RisesFrom-choice n low x xs (insert_ascending n xs) h r (λ above. RisesFrom-insert n (suc x) xs above r.1) (nat_lt n x) (n == x) refl refl
-
--- what insertion makes of the tests
-RisesFrom-to_increasing : (low : ℕ) (xs : List ℕ) → RisesFrom low xs → IsStrictlyIncreasing xs
-RisesFrom-to_increasing low [] r k h = absurd (omega arith)
-RisesFrom-to_increasing low (x ∷ []) r k h = absurd (omega arith)
-RisesFrom-to_increasing low (x ∷ y ∷ ys) r zero h = r.1.0
-RisesFrom-to_increasing low (x ∷ y ∷ ys) r (suc k) h = rw suc-add (RisesFrom-to_increasing (suc x) (y ∷ ys) r.1 k (omega arith))
 
 -- an inserted number is there, and no other came or went
 Contains-insert_new : (n : ℕ) (xs : List ℕ) → Contains (insert_ascending n xs) n

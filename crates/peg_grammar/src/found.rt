@@ -1,5 +1,6 @@
 //! What the plain evaluator notes on its way.
-ghost use Rattle.std.specs.Prelude.{◌≡◌, OnOk};
+ghost use Rattle.std.specs.Prelude.{◌≡◌, ◌<◌, ◌↔◌, All, IsTrue, OnOk};
+ghost use Rattle.std.specs.List.Sorted.{IsStrictlyIncreasing};
 ghost use Rattle.peg_grammar.specs.Furthest.{insert_ascending};
 
 use peg_tree::TreeNode;
@@ -46,6 +47,7 @@ impl<T: Drop> From<AllocFailed<T>> for Stop {
 pub(crate) struct Furthest {
     pub(crate) far: u32,
     pub(crate) expected: Vec<u32>,
+    ghost ascending: { IsStrictlyIncreasing expected.items },
 }
 
 /// The furthest failure so far, and the rows of the trees so far.
@@ -78,19 +80,33 @@ impl Furthest {
     }
 }
 
-// Puts a number in its place among ascending ones, if it isn't there.
+// Puts a number in its place among ascending ones, if it isn't there. Constant time behind the last one; else the place
+// is found in logarithmic time, and the greater ones move.
 fn insert_ascending(numbers: &mut Vec<u32>, number: u32) -> Result<(), AllocError>
-    ensures { OnOk result (numbers.new.items ≡ insert_ascending number numbers.old.items) }
+    requires { IsStrictlyIncreasing numbers.old.items }
+    ensures inserted { OnOk result (numbers.new.items ≡ insert_ascending number numbers.old.items) }
+    ensures ascending { IsStrictlyIncreasing numbers.new.items }
 {
-    for at in 0..numbers.len() {
-        if number < numbers[at] {
+    if is_above_all(numbers, number) {
+        numbers.push(number)?;
+        return Ok(());
+    }
+    match numbers.binary_search(&number) {
+        Ok(_) => Ok(()),
+        Err(at) => {
             numbers.insert(at, number)?;
-            return Ok(());
-        }
-        if number == numbers[at] {
-            return Ok(());
+            Ok(())
         }
     }
-    numbers.push(number)?;
-    Ok(())
+}
+
+// Whether a number is greater than each of ascending ones.
+fn is_above_all(numbers: &[u32], number: u32) -> bool
+    requires { IsStrictlyIncreasing numbers.now }
+    ensures { IsTrue result ↔ All (λ n. n < number) numbers.now }
+{
+    match numbers.last() {
+        None => true,
+        Some(last) => *last < number,
+    }
 }

@@ -62,14 +62,17 @@ fn seq(items: Vec<Expr>) -> Expr {
     }
 }
 
-fn either(alloc: Global, first: Expr, second: Expr) -> Result<Expr, AllocError> {
+fn choice(alloc: Global, first: Expr, rest: Vec<Expr>) -> Result<Expr, AllocError> {
     let first = boxed(alloc, first)?;
-    let rest = vec![in alloc; second]?;
     Ok(Expr::Choice {
         first,
         rest,
         span: nowhere(),
     })
+}
+
+fn either(alloc: Global, first: Expr, second: Expr) -> Result<Expr, AllocError> {
+    choice(alloc, first, vec![in alloc; second]?)
 }
 
 fn star(alloc: Global, part: Expr) -> Result<Expr, AllocError> {
@@ -83,6 +86,14 @@ fn star(alloc: Global, part: Expr) -> Result<Expr, AllocError> {
 fn not(alloc: Global, part: Expr) -> Result<Expr, AllocError> {
     let part = boxed(alloc, part)?;
     Ok(Expr::Not {
+        part,
+        span: nowhere(),
+    })
+}
+
+fn and(alloc: Global, part: Expr) -> Result<Expr, AllocError> {
+    let part = boxed(alloc, part)?;
+    Ok(Expr::And {
         part,
         span: nowhere(),
     })
@@ -179,6 +190,19 @@ fn nested_rules_match(rt: HostRuntime) -> Result<(), Fail> {
 }
 
 #[test]
+fn an_empty_text_fails_at_its_start(rt: HostRuntime) -> Result<(), Fail> {
+    let alloc = rt.alloc();
+    let cases = [Case {
+        text: b"",
+        end: None,
+        far: 0,
+        expected: &[0, 1],
+        nodes: &[],
+    }];
+    assert_cases(&rt, alloc, &nested(alloc)?, &cases)
+}
+
+#[test]
 fn depth_is_used_below_what_the_cases_need(rt: HostRuntime) -> Result<(), Fail> {
     let alloc = rt.alloc();
     let grammar = nested(alloc)?;
@@ -224,12 +248,11 @@ fn a_star_stops_where_its_part_fails(rt: HostRuntime) -> Result<(), Fail> {
 #[test]
 fn predicates_consume_nothing(rt: HostRuntime) -> Result<(), Fail> {
     let alloc = rt.alloc();
-    let part = boxed(alloc, literal(alloc, b"a")?)?;
-    let and = Expr::And {
-        part,
-        span: nowhere(),
-    };
-    let grammar = only(alloc, seq(vec![in alloc; and, any(), not(alloc, any())?]?))?;
+    let first = and(alloc, literal(alloc, b"a")?)?;
+    let grammar = only(
+        alloc,
+        seq(vec![in alloc; first, any(), not(alloc, any())?]?),
+    )?;
     let cases = [
         Case {
             text: b"a",
@@ -249,7 +272,7 @@ fn predicates_consume_nothing(rt: HostRuntime) -> Result<(), Fail> {
     assert_cases(&rt, alloc, &grammar, &cases)
 }
 
-// S <- !!'a'*
+// S <- !!'a'* and S <- &!'a'*
 #[test]
 fn failed_tests_below_predicates_count(rt: HostRuntime) -> Result<(), Fail> {
     let alloc = rt.alloc();
@@ -261,6 +284,16 @@ fn failed_tests_below_predicates_count(rt: HostRuntime) -> Result<(), Fail> {
         far: 2,
         expected: &[0],
         nodes: &[(0, 0, 0, 0)],
+    }];
+    assert_cases(&rt, alloc, &grammar, &cases)?;
+    let rounds = star(alloc, literal(alloc, b"a")?)?;
+    let grammar = only(alloc, and(alloc, not(alloc, rounds)?)?)?;
+    let cases = [Case {
+        text: b"aa",
+        end: None,
+        far: 2,
+        expected: &[0],
+        nodes: &[],
     }];
     assert_cases(&rt, alloc, &grammar, &cases)
 }
@@ -373,6 +406,256 @@ fn abandoned_branches_leave_no_node(rt: HostRuntime) -> Result<(), Fail> {
         },
     ];
     assert_cases(&rt, alloc, &grammar, &cases)
+}
+
+// D <- &(A !'b') 'a'* B !., A <- 'a' A 'b' / '', B <- 'b' B 'c' / ''
+fn equal_counts(alloc: Global) -> Result<Grammar, Fail> {
+    let no_more = not(alloc, literal(alloc, b"b")?)?;
+    let first = and(alloc, seq(vec![in alloc; use_of(alloc, "A")?, no_more]?))?;
+    let letters = star(alloc, literal(alloc, b"a")?)?;
+    let end = not(alloc, any())?;
+    let body = seq(vec![in alloc; first, letters, use_of(alloc, "B")?, end]?);
+    let start = rule(alloc, "D", body)?;
+    let pair = seq(vec![in alloc;
+        literal(alloc, b"a")?,
+        use_of(alloc, "A")?,
+        literal(alloc, b"b")?,
+    ]?);
+    let front = rule(alloc, "A", either(alloc, pair, literal(alloc, b"")?)?)?;
+    let pair = seq(vec![in alloc;
+        literal(alloc, b"b")?,
+        use_of(alloc, "B")?,
+        literal(alloc, b"c")?,
+    ]?);
+    let back = rule(alloc, "B", either(alloc, pair, literal(alloc, b"")?)?)?;
+    Ok(Grammar::new(alloc, vec![in alloc; start, front, back]?)?)
+}
+
+#[test]
+fn as_many_of_each_of_three_letters_are_matched(rt: HostRuntime) -> Result<(), Fail> {
+    let alloc = rt.alloc();
+    let nodes: &[Node] = &[(0, 0, 6, 1), (2, 2, 6, 1), (2, 3, 5, 1), (2, 4, 4, 0)];
+    let cases = [
+        Case {
+            text: b"aabbcc",
+            end: Some(6),
+            far: 6,
+            expected: &[2],
+            nodes,
+        },
+        Case {
+            text: b"aabbc",
+            end: None,
+            far: 5,
+            expected: &[7],
+            nodes: &[],
+        },
+    ];
+    assert_cases(&rt, alloc, &equal_counts(alloc)?, &cases)
+}
+
+// S <- 'a' / 'ab'
+#[test]
+fn the_first_alternative_that_matches_is_taken(rt: HostRuntime) -> Result<(), Fail> {
+    let alloc = rt.alloc();
+    let body = either(alloc, literal(alloc, b"a")?, literal(alloc, b"ab")?)?;
+    let cases = [Case {
+        text: b"ab",
+        end: Some(1),
+        far: 0,
+        expected: &[],
+        nodes: &[(0, 0, 1, 0)],
+    }];
+    assert_cases(&rt, alloc, &only(alloc, body)?, &cases)
+}
+
+// S <-
+#[test]
+fn an_empty_sequence_matches_nothing(rt: HostRuntime) -> Result<(), Fail> {
+    let alloc = rt.alloc();
+    let grammar = only(alloc, seq(Vec::new(alloc)))?;
+    let cases = [Case {
+        text: b"zz",
+        end: Some(0),
+        far: 0,
+        expected: &[],
+        nodes: &[(0, 0, 0, 0)],
+    }];
+    assert_cases(&rt, alloc, &grammar, &cases)
+}
+
+// S <- 'a' / and S <- / 'a'
+#[test]
+fn an_empty_alternative_matches_where_it_is_reached(rt: HostRuntime) -> Result<(), Fail> {
+    let alloc = rt.alloc();
+    let last = either(alloc, literal(alloc, b"a")?, seq(Vec::new(alloc)))?;
+    let cases = [
+        Case {
+            text: b"a",
+            end: Some(1),
+            far: 0,
+            expected: &[],
+            nodes: &[(0, 0, 1, 0)],
+        },
+        Case {
+            text: b"b",
+            end: Some(0),
+            far: 0,
+            expected: &[0],
+            nodes: &[(0, 0, 0, 0)],
+        },
+    ];
+    assert_cases(&rt, alloc, &only(alloc, last)?, &cases)?;
+    let first = either(alloc, seq(Vec::new(alloc)), literal(alloc, b"a")?)?;
+    let cases = [Case {
+        text: b"a",
+        end: Some(0),
+        far: 0,
+        expected: &[],
+        nodes: &[(0, 0, 0, 0)],
+    }];
+    assert_cases(&rt, alloc, &only(alloc, first)?, &cases)
+}
+
+// S <- a literal of the bytes 31 and 55
+#[test]
+fn a_literal_of_two_bytes_takes_both(rt: HostRuntime) -> Result<(), Fail> {
+    let alloc = rt.alloc();
+    let grammar = only(alloc, literal(alloc, &[31, 55])?)?;
+    let cases = [
+        Case {
+            text: &[31, 55],
+            end: Some(2),
+            far: 0,
+            expected: &[],
+            nodes: &[(0, 0, 2, 0)],
+        },
+        Case {
+            text: &[31, 56],
+            end: None,
+            far: 1,
+            expected: &[0],
+            nodes: &[],
+        },
+    ];
+    assert_cases(&rt, alloc, &grammar, &cases)
+}
+
+// S <- !''
+#[test]
+fn a_predicate_against_the_empty_literal_always_fails(rt: HostRuntime) -> Result<(), Fail> {
+    let alloc = rt.alloc();
+    let grammar = only(alloc, not(alloc, literal(alloc, b"")?)?)?;
+    let cases = [Case {
+        text: b"q",
+        end: None,
+        far: 0,
+        expected: &[],
+        nodes: &[],
+    }];
+    assert_cases(&rt, alloc, &grammar, &cases)
+}
+
+// A <- '(' A ')' 'x' / '(' A ')' 'y' / 'a'
+#[test]
+fn a_rule_is_tried_again_in_the_next_alternative(rt: HostRuntime) -> Result<(), Fail> {
+    let alloc = rt.alloc();
+    let first = seq(vec![in alloc;
+        literal(alloc, b"(")?,
+        use_of(alloc, "A")?,
+        literal(alloc, b")")?,
+        literal(alloc, b"x")?,
+    ]?);
+    let second = seq(vec![in alloc;
+        literal(alloc, b"(")?,
+        use_of(alloc, "A")?,
+        literal(alloc, b")")?,
+        literal(alloc, b"y")?,
+    ]?);
+    let rest = vec![in alloc; second, literal(alloc, b"a")?]?;
+    let start = rule(alloc, "A", choice(alloc, first, rest)?)?;
+    let grammar = Grammar::new(alloc, vec![in alloc; start]?)?;
+    let cases = [Case {
+        text: b"(a)y",
+        end: Some(4),
+        far: 3,
+        expected: &[2],
+        nodes: &[(0, 0, 4, 1), (0, 1, 2, 0)],
+    }];
+    assert_cases(&rt, alloc, &grammar, &cases)
+}
+
+// S <- [z-a] / [] / [ then byte 200 then ]
+#[test]
+fn a_reversed_range_and_an_empty_class_hold_no_byte(rt: HostRuntime) -> Result<(), Fail> {
+    let alloc = rt.alloc();
+    let reversed = class(ByteSet::range(b'z', b'a'));
+    let rest = vec![in alloc; class(ByteSet::empty()), class(ByteSet::single(200))]?;
+    let grammar = only(alloc, choice(alloc, reversed, rest)?)?;
+    let cases = [
+        Case {
+            text: &[200],
+            end: Some(1),
+            far: 0,
+            expected: &[0, 1],
+            nodes: &[(0, 0, 1, 0)],
+        },
+        Case {
+            text: b"z",
+            end: None,
+            far: 0,
+            expected: &[0, 1, 2],
+            nodes: &[],
+        },
+    ];
+    assert_cases(&rt, alloc, &grammar, &cases)
+}
+
+// S <- C / B / C / A, A <- 'a', B <- 'b', C <- 'c'
+#[test]
+fn failed_terminals_are_told_once_and_in_written_order(rt: HostRuntime) -> Result<(), Fail> {
+    let alloc = rt.alloc();
+    let rest = vec![in alloc;
+        use_of(alloc, "B")?,
+        use_of(alloc, "C")?,
+        use_of(alloc, "A")?,
+    ]?;
+    let start = rule(alloc, "S", choice(alloc, use_of(alloc, "C")?, rest)?)?;
+    let first = rule(alloc, "A", literal(alloc, b"a")?)?;
+    let second = rule(alloc, "B", literal(alloc, b"b")?)?;
+    let third = rule(alloc, "C", literal(alloc, b"c")?)?;
+    let grammar = Grammar::new(alloc, vec![in alloc; start, first, second, third]?)?;
+    let cases = [Case {
+        text: b"d",
+        end: None,
+        far: 0,
+        expected: &[0, 1, 2],
+        nodes: &[],
+    }];
+    assert_cases(&rt, alloc, &grammar, &cases)
+}
+
+// S <- T / T, T <- 'a' / 'a' / ..
+#[test]
+fn many_alternatives_that_fail_at_one_place_are_all_told(rt: HostRuntime) -> Result<(), Fail> {
+    let alloc = rt.alloc();
+    let mut rest = Vec::new(alloc);
+    for _ in 1..300_000 {
+        rest.push(literal(alloc, b"a")?)?;
+    }
+    let many = rule(alloc, "T", choice(alloc, literal(alloc, b"a")?, rest)?)?;
+    let body = either(alloc, use_of(alloc, "T")?, use_of(alloc, "T")?)?;
+    let start = rule(alloc, "S", body)?;
+    let grammar = Grammar::new(alloc, vec![in alloc; start, many]?)?;
+    assert!(rt; grammar.rules() > 0);
+    let outcome = plain_match(alloc, &grammar, b"b", 0, 1000)?;
+    assert!(rt; matches!(outcome.result, Parsed::Failed));
+    assert_eq!(rt; outcome.far, 0);
+    assert_eq!(rt; outcome.expected.len(), 300_000);
+    for (number, terminal) in outcome.expected.iter().enumerate() {
+        assert_eq!(rt; *terminal as usize, number);
+    }
+    Ok(())
 }
 
 // S <- 'b'

@@ -1,10 +1,12 @@
 -- The figure's classes, as tests of a byte.
-use Rattle.std.proofs.Common.{◌≡◌, ℕ, ◌<◌, ◌≤◌, Bool, true, false, ◌&&◌, ◌||◌, ◌==◌, nat_le, List, [], ◌∷◌, arith, refl, sym, ap, ◌∙◌, inl, inr, lit<}
+use Rattle.std.proofs.Common.{length, ◌≡◌, ℕ, ◌<◌, ◌≤◌, Bool, true, false, ◌&&◌, ◌||◌, ◌==◌, nat_le, List, [], ◌∷◌, arith, refl, sym, ap, ◌∙◌, inl, inr, lit<}
 use Rattle.std.proofs.lemmas.Bool.{cases_lt}
 use Rattle.std.proofs.lemmas.Bool.Decides.{nat_tests}
-use Rattle.std.proofs.lemmas.List.{get_or_past}
+use Rattle.std.proofs.lemmas.List.{get_or_past, ext_get_or}
 use Rattle.std.proofs.lemmas.List.FromFn.{length-map-range_with_len, get_or-map-range_with_len}
-use Rattle.peg_bytes.specs.ByteSet.{has}
+use Rattle.peg_bytes.specs.ByteSet.{has, bytes_of}
+use Rattle.peg_bytes.specs.declared.byte_set.ByteSet.{ByteSet}
+use Rattle.peg_bytes.proofs.ByteSetLemmas.{length-bytes_of}
 use Rattle.peg_notation.specs.Lexical.{begins_name, is_sign, is_quote}
 use Rattle.peg_notation.specs.Ranges.{Range, range, holds, in_ranges, class_of}
 
@@ -63,7 +65,8 @@ has_name_start byte =
 pub has_sign : (byte : ℕ) → has (class_of (range 110 110 ∷ range 114 114 ∷ range 116 116 ∷ range 39 39 ∷ range 34 34 ∷
     range 91 91 ∷ range 93 93 ∷ range 92 92 ∷ [])) byte ≡ is_sign byte
 has_sign byte =
-    has-class_of (range 110 110 ∷ range 114 114 ∷ range 116 116 ∷ range 39 39 ∷ range 34 34 ∷ range 91 91 ∷ range 93 93 ∷
+    has-class_of (range 110 110 ∷ range 114 114 ∷ range 116 116 ∷ range 39 39 ∷ range 34 34 ∷ range 91 91 ∷
+    range 93 93 ∷
     range 92 92 ∷ []) (
       lit< tt,
       (
@@ -75,3 +78,14 @@ has_sign byte =
       ),
     ) byte
     ∙ simp (one_byte, or-false)
+
+-- a set that has the bytes of some ranges is their class
+pub set-class : (set : ByteSet) (ranges : List Range)
+    → ((byte : ℕ) → has (bytes_of set) byte ≡ in_ranges ranges byte) → bytes_of set ≡ class_of ranges
+unfolding class_of
+set-class set ranges same =
+    let sized : length (class_of ranges) ≡ 256 = length-map-range_with_len (in_ranges ranges) 0 256 in
+    ext_get_or false (bytes_of set) (class_of ranges) (omega (arith, length-bytes_of set))
+    (λ byte within. same byte
+    ∙ sym (get_or-map-range_with_len (in_ranges ranges) 0 256 byte byte false (omega (arith, length-bytes_of set))
+    (omega arith)))

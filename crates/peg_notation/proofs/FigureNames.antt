@@ -1,145 +1,145 @@
 -- What the figure's names mean.
 use Rattle.std.proofs.Common.{◌≡◌, ℕ, codes, Some, refl}
 use Rattle.peg_grammar.specs.Rules.{meant}
-use Rattle.peg_notation.specs.Figure.{figure, definition_body, expression_body, sequence_body, prefix_body, suffix_body, primary_body, identifier_body, ident_start_body, ident_cont_body, literal_body, class_body, range_body, char_body, leftarrow_body, slash_body, and_sign_body, not_sign_body, question_body, star_body, plus_body, open_sign_body, close_body, dot_body, spacing_body, comment_body, space_body, end_of_line_body, end_of_file_body}
+use Rattle.peg_notation.specs.Figure.{figure, syntax_rules, text_rules, sign_rules, spacing_rules, definition_body, expression_body, sequence_body, prefix_body, suffix_body, primary_body, identifier_body, ident_start_body, ident_cont_body, literal_body, class_body, range_body, char_body, leftarrow_body, slash_body, and_sign_body, not_sign_body, question_body, star_body, plus_body, open_sign_body, close_body, dot_body, spacing_body, comment_body, space_body, end_of_line_body, end_of_file_body}
 use Rattle.peg_notation.specs.FigureRules as rule
 
 pub definition-meant : (t : ℕ) × (meant figure (codes "Definition")
     ≡ Some (record { rule = rule.definition; terminal = t; body = definition_body }))
-unfolding figure
+unfolding figure syntax_rules text_rules sign_rules spacing_rules
 definition-meant = (_, refl)
 
 pub expression-meant : (t : ℕ) × (meant figure (codes "Expression")
     ≡ Some (record { rule = rule.expression; terminal = t; body = expression_body }))
-unfolding figure
+unfolding figure syntax_rules text_rules sign_rules spacing_rules
 expression-meant = (_, refl)
 
 pub sequence-meant : (t : ℕ) × (meant figure (codes "Sequence") ≡ Some
     (record { rule = rule.sequence; terminal = t; body = sequence_body }))
-unfolding figure
+unfolding figure syntax_rules text_rules sign_rules spacing_rules
 sequence-meant = (_, refl)
 
 pub prefix-meant : (t : ℕ) ×
     (meant figure (codes "Prefix") ≡ Some (record { rule = rule.prefix; terminal = t; body = prefix_body }))
-unfolding figure
+unfolding figure syntax_rules text_rules sign_rules spacing_rules
 prefix-meant = (_, refl)
 
 pub suffix-meant : (t : ℕ) ×
     (meant figure (codes "Suffix") ≡ Some (record { rule = rule.suffix; terminal = t; body = suffix_body }))
-unfolding figure
+unfolding figure syntax_rules text_rules sign_rules spacing_rules
 suffix-meant = (_, refl)
 
 pub primary-meant : (t : ℕ) × (meant figure (codes "Primary") ≡ Some
     (record { rule = rule.primary; terminal = t; body = primary_body }))
-unfolding figure
+unfolding figure syntax_rules text_rules sign_rules spacing_rules
 primary-meant = (_, refl)
 
 pub identifier-meant : (t : ℕ) × (meant figure (codes "Identifier")
     ≡ Some (record { rule = rule.identifier; terminal = t; body = identifier_body }))
-unfolding figure
+unfolding figure syntax_rules text_rules sign_rules spacing_rules
 identifier-meant = (_, refl)
 
 pub ident_start-meant : (t : ℕ) × (meant figure (codes "IdentStart")
     ≡ Some (record { rule = rule.ident_start; terminal = t; body = ident_start_body }))
-unfolding figure
+unfolding figure syntax_rules text_rules sign_rules spacing_rules
 ident_start-meant = (_, refl)
 
 pub ident_cont-meant : (t : ℕ) × (meant figure (codes "IdentCont") ≡ Some
     (record { rule = rule.ident_cont; terminal = t; body = ident_cont_body }))
-unfolding figure
+unfolding figure syntax_rules text_rules sign_rules spacing_rules
 ident_cont-meant = (_, refl)
 
 pub literal-meant : (t : ℕ) × (meant figure (codes "Literal") ≡ Some
     (record { rule = rule.literal; terminal = t; body = literal_body }))
-unfolding figure
+unfolding figure syntax_rules text_rules sign_rules spacing_rules
 literal-meant = (_, refl)
 
 pub class-meant : (t : ℕ) ×
     (meant figure (codes "Class") ≡ Some (record { rule = rule.class; terminal = t; body = class_body }))
-unfolding figure
+unfolding figure syntax_rules text_rules sign_rules spacing_rules
 class-meant = (_, refl)
 
 pub range-meant : (t : ℕ) ×
     (meant figure (codes "Range") ≡ Some (record { rule = rule.range; terminal = t; body = range_body }))
-unfolding figure
+unfolding figure syntax_rules text_rules sign_rules spacing_rules
 range-meant = (_, refl)
 
 pub char-meant : (t : ℕ) ×
     (meant figure (codes "Char") ≡ Some (record { rule = rule.char; terminal = t; body = char_body }))
-unfolding figure
+unfolding figure syntax_rules text_rules sign_rules spacing_rules
 char-meant = (_, refl)
 
 pub leftarrow-meant : (t : ℕ) × (meant figure (codes "LEFTARROW") ≡ Some
     (record { rule = rule.leftarrow; terminal = t; body = leftarrow_body }))
-unfolding figure
+unfolding figure syntax_rules text_rules sign_rules spacing_rules
 leftarrow-meant = (_, refl)
 
 pub slash-meant : (t : ℕ) ×
     (meant figure (codes "SLASH") ≡ Some (record { rule = rule.slash; terminal = t; body = slash_body }))
-unfolding figure
+unfolding figure syntax_rules text_rules sign_rules spacing_rules
 slash-meant = (_, refl)
 
 pub and_sign-meant : (t : ℕ) ×
     (meant figure (codes "AND") ≡ Some (record { rule = rule.and_sign; terminal = t; body = and_sign_body }))
-unfolding figure
+unfolding figure syntax_rules text_rules sign_rules spacing_rules
 and_sign-meant = (_, refl)
 
 pub not_sign-meant : (t : ℕ) ×
     (meant figure (codes "NOT") ≡ Some (record { rule = rule.not_sign; terminal = t; body = not_sign_body }))
-unfolding figure
+unfolding figure syntax_rules text_rules sign_rules spacing_rules
 not_sign-meant = (_, refl)
 
 pub question-meant : (t : ℕ) × (meant figure (codes "QUESTION") ≡ Some
     (record { rule = rule.question; terminal = t; body = question_body }))
-unfolding figure
+unfolding figure syntax_rules text_rules sign_rules spacing_rules
 question-meant = (_, refl)
 
 pub star-meant : (t : ℕ) ×
     (meant figure (codes "STAR") ≡ Some (record { rule = rule.star; terminal = t; body = star_body }))
-unfolding figure
+unfolding figure syntax_rules text_rules sign_rules spacing_rules
 star-meant = (_, refl)
 
 pub plus-meant : (t : ℕ) ×
     (meant figure (codes "PLUS") ≡ Some (record { rule = rule.plus; terminal = t; body = plus_body }))
-unfolding figure
+unfolding figure syntax_rules text_rules sign_rules spacing_rules
 plus-meant = (_, refl)
 
 pub open_sign-meant : (t : ℕ) × (meant figure (codes "OPEN") ≡ Some
     (record { rule = rule.open_sign; terminal = t; body = open_sign_body }))
-unfolding figure
+unfolding figure syntax_rules text_rules sign_rules spacing_rules
 open_sign-meant = (_, refl)
 
 pub close-meant : (t : ℕ) ×
     (meant figure (codes "CLOSE") ≡ Some (record { rule = rule.close; terminal = t; body = close_body }))
-unfolding figure
+unfolding figure syntax_rules text_rules sign_rules spacing_rules
 close-meant = (_, refl)
 
 pub dot-meant : (t : ℕ) ×
     (meant figure (codes "DOT") ≡ Some (record { rule = rule.dot; terminal = t; body = dot_body }))
-unfolding figure
+unfolding figure syntax_rules text_rules sign_rules spacing_rules
 dot-meant = (_, refl)
 
 pub spacing-meant : (t : ℕ) × (meant figure (codes "Spacing") ≡ Some
     (record { rule = rule.spacing; terminal = t; body = spacing_body }))
-unfolding figure
+unfolding figure syntax_rules text_rules sign_rules spacing_rules
 spacing-meant = (_, refl)
 
 pub comment-meant : (t : ℕ) × (meant figure (codes "Comment") ≡ Some
     (record { rule = rule.comment; terminal = t; body = comment_body }))
-unfolding figure
+unfolding figure syntax_rules text_rules sign_rules spacing_rules
 comment-meant = (_, refl)
 
 pub space-meant : (t : ℕ) ×
     (meant figure (codes "Space") ≡ Some (record { rule = rule.space; terminal = t; body = space_body }))
-unfolding figure
+unfolding figure syntax_rules text_rules sign_rules spacing_rules
 space-meant = (_, refl)
 
 pub end_of_line-meant : (t : ℕ) × (meant figure (codes "EndOfLine")
     ≡ Some (record { rule = rule.end_of_line; terminal = t; body = end_of_line_body }))
-unfolding figure
+unfolding figure syntax_rules text_rules sign_rules spacing_rules
 end_of_line-meant = (_, refl)
 
 pub end_of_file-meant : (t : ℕ) × (meant figure (codes "EndOfFile")
     ≡ Some (record { rule = rule.end_of_file; terminal = t; body = end_of_file_body }))
-unfolding figure
+unfolding figure syntax_rules text_rules sign_rules spacing_rules
 end_of_file-meant = (_, refl)

@@ -168,7 +168,8 @@ token_missing byte rest seen kind =
 
     no_text : kind_of byte ≡ Some kind → text_of kind (byte ∷ rest) ≡ None
     no_text is =
-        gone (text_of kind (byte ∷ rest)) (ap (λ k. option_map seen_found (option_and_then (λ kind. token_of kind (byte ∷
+        gone (text_of kind (byte ∷ rest)) (ap (λ k. option_map seen_found
+        (option_and_then (λ kind. token_of kind (byte ∷
         rest)) k)) (sym is) ∙ seen)
 
 -- ---- tokens, one after the other

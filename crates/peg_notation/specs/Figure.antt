@@ -1,6 +1,6 @@
 -- Ford's figure 1 (Ford 2004, section 2.1): the notation of grammar files, as a grammar. Each rule stands with the
 -- places that it has in the figure's text.
-use Rattle.std.specs.Prelude.{List, [], ◌∷◌, codes}
+use Rattle.std.specs.Prelude.{List, [], ◌∷◌, ◌++◌, codes}
 use Rattle.peg_bytes.specs.Extent.{between}
 use Rattle.peg_grammar.specs.Form.{Form, Literal, Class, Any, Name, Seq, Choice, Optional, Star, Plus, Not, forms}
 use Rattle.peg_grammar.specs.Rules.{Rule}
@@ -77,7 +77,8 @@ literal_body = Choice (Seq (forms (Class (class_of (range 39 39 ∷ [])) (betwee
 -- Class <- '[' (!']' Range)* ']' Spacing
 unfoldable pub class_body : Form
 class_body = Seq (forms (Literal (codes "[") (between 483 486) ∷ Star
-    (Seq (forms (Not (Literal (codes "]") (between 489 492)) (between 488 492) ∷ Name (codes "Range") (between 493 498) ∷
+    (Seq (forms (Not (Literal (codes "]") (between 489 492)) (between 488 492) ∷
+    Name (codes "Range") (between 493 498) ∷
     [])) (between 488 498)) (between 487 500) ∷ Literal (codes "]") (between 501 504) ∷
     Name (codes "Spacing") (between 505 512) ∷ [])) (between 483 512)
 
@@ -175,9 +176,9 @@ end_of_line_body = Choice (Literal (codes "\r\n") (between 947 953))
 unfoldable pub end_of_file_body : Form
 end_of_file_body = Not (Any (between 982 983)) (between 981 983)
 
--- the figure: its 29 rules
-unfoldable pub figure : List Rule
-figure =
+-- the rules of grammars, definitions and expressions
+unfoldable pub syntax_rules : List Rule
+syntax_rules =
     record { name = codes "Grammar"; span = between 0 7; body = grammar_body } ∷
     record { name = codes "Definition"; span = between 41 51; body = definition_body } ∷
     record { name = codes "Expression"; span = between 87 97; body = expression_body } ∷
@@ -185,6 +186,11 @@ figure =
     record { name = codes "Prefix"; span = between 148 154; body = prefix_body } ∷
     record { name = codes "Suffix"; span = between 178 184; body = suffix_body } ∷
     record { name = codes "Primary"; span = between 222 229; body = primary_body } ∷
+    []
+
+-- the rules of names, literals and classes
+unfoldable pub text_rules : List Rule
+text_rules =
     record { name = codes "Identifier"; span = between 303 313; body = identifier_body } ∷
     record { name = codes "IdentStart"; span = between 347 357; body = ident_start_body } ∷
     record { name = codes "IdentCont"; span = between 371 380; body = ident_cont_body } ∷
@@ -192,6 +198,11 @@ figure =
     record { name = codes "Class"; span = between 474 479; body = class_body } ∷
     record { name = codes "Range"; span = between 513 518; body = range_body } ∷
     record { name = codes "Char"; span = between 543 547; body = char_body } ∷
+    []
+
+-- the rules of signs
+unfoldable pub sign_rules : List Rule
+sign_rules =
     record { name = codes "LEFTARROW"; span = between 622 631; body = leftarrow_body } ∷
     record { name = codes "SLASH"; span = between 648 653; body = slash_body } ∷
     record { name = codes "AND"; span = between 669 672; body = and_sign_body } ∷
@@ -202,9 +213,18 @@ figure =
     record { name = codes "OPEN"; span = between 771 775; body = open_sign_body } ∷
     record { name = codes "CLOSE"; span = between 791 796; body = close_body } ∷
     record { name = codes "DOT"; span = between 812 815; body = dot_body } ∷
+    []
+
+-- the rules of spacing
+unfoldable pub spacing_rules : List Rule
+spacing_rules =
     record { name = codes "Spacing"; span = between 831 838; body = spacing_body } ∷
     record { name = codes "Comment"; span = between 861 868; body = comment_body } ∷
     record { name = codes "Space"; span = between 902 907; body = space_body } ∷
     record { name = codes "EndOfLine"; span = between 934 943; body = end_of_line_body } ∷
     record { name = codes "EndOfFile"; span = between 968 977; body = end_of_file_body } ∷
     []
+
+-- the figure: its 29 rules
+unfoldable pub figure : List Rule
+figure = syntax_rules ++ (text_rules ++ (sign_rules ++ spacing_rules))

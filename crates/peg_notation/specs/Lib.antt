@@ -13,5 +13,6 @@ pub mod LexicalCode
 pub mod Notation
 pub mod Pieces
 pub mod Ranges
+pub mod RangesCode
 pub mod Spelled
 pub mod Tokens

@@ -69,11 +69,11 @@ impl Names for Grammar {
     }
 }
 
-// A root with a chain of nodes below it, each the only child of the one before.
-fn chain(alloc: Global, levels: u64) -> Result<Vec<TreeNode>, Fail> {
+// A root with a chain of nodes below it, each the only child of the one before, which starts a byte earlier.
+fn chain(alloc: Global, levels: u32) -> Result<Vec<TreeNode>, Fail> {
     let mut rows = Vec::new(alloc);
-    for below in (0..levels).rev() {
-        rows.push(row(1, 0, 0, 1 + below))?;
+    for above in 0..levels {
+        rows.push(row(1, above, levels, u64::from(levels - above)))?;
     }
     Ok(rows)
 }
@@ -104,24 +104,48 @@ fn prints_a_tree(rt: HostRuntime) -> Result<(), Fail> {
 }
 
 #[test]
-fn nests_at_most_60_levels(rt: HostRuntime) -> Result<(), Fail> {
+fn a_chain_of_60_levels_is_nested(rt: HostRuntime) -> Result<(), Fail> {
     let alloc = rt.alloc();
-    for levels in 60..62 {
-        let rows = chain(alloc, levels)?;
-        assert!(rt; one_tree(&rows));
-        let tree = Tree::from_rows(rows);
-        assert_eq!(rt; tree.depth() as u64, levels);
-        assert!(rt; tree.fits(Grammar.count()));
-        let nested = nested_json(alloc, &tree, &Grammar);
-        assert_eq!(rt;
-            nested.err(),
-            if levels == 60 {
-                None
-            } else {
-                Some(JsonFault::TooDeep)
-            }
-        );
+    let rows = chain(alloc, 60)?;
+    assert!(rt; one_tree(&rows));
+    let tree = Tree::from_rows(rows);
+    assert_eq!(rt; tree.depth(), 60);
+    assert!(rt; tree.fits(Grammar.count()));
+    let nested = nested_json(alloc, &tree, &Grammar)
+        .ok()
+        .ok_or("memory")?
+        .to_string(alloc)?;
+    let mut expected = String::new(alloc);
+    for _above in 0..59 {
+        expected.push_str("{\"children\":[")?;
     }
+    expected.push_str("{\"children\":[],\"end\":60,\"rule\":\"word\",\"start\":59}")?;
+    for above in (0..59).rev() {
+        let end = format!(in alloc; "],\"end\":60,\"rule\":\"word\",\"start\":{above}}}")?;
+        expected.push_str(end.as_str())?;
+    }
+    assert_eq!(rt; nested.as_str(), expected.as_str());
+    Ok(())
+}
+
+#[test]
+fn a_chain_of_61_levels_is_printed_as_rows_alone(rt: HostRuntime) -> Result<(), Fail> {
+    let alloc = rt.alloc();
+    let rows = chain(alloc, 61)?;
+    assert!(rt; one_tree(&rows));
+    let tree = Tree::from_rows(rows);
+    assert_eq!(rt; tree.depth(), 61);
+    assert!(rt; tree.fits(Grammar.count()));
+    let nested = nested_json(alloc, &tree, &Grammar);
+    assert_eq!(rt; nested.err(), Some(JsonFault::TooDeep));
+    let printed = rows_json(alloc, &tree, &Grammar)?.to_string(alloc)?;
+    let mut expected = String::from_str(alloc, "[[1,\"word\",0,61]")?;
+    for above in 1..61 {
+        let node = format!(in alloc; ",[{},\"word\",{above},61]", above + 1)?;
+        expected.push_str(node.as_str())?;
+    }
+    expected.push_str("]")?;
+    assert_eq!(rt; printed.as_str(), expected.as_str());
     Ok(())
 }
 

@@ -54,6 +54,7 @@ tokens-preserved c =
       begins =
           subst (λ (lexemes : List Lexeme). Begins c.args.file.now lexemes (c.tokens.at + size + c.spacing.result))
           (sym pushed)
-          (subst (λ gap. Begins c.args.file.now (map lexeme_of c.tokens.tokens.items ++ lexeme_at kind c.tokens.at size ∷
+          (subst (λ gap. Begins c.args.file.now (map lexeme_of c.tokens.tokens.items
+          ++ lexeme_at kind c.tokens.at size ∷
           []) (c.tokens.at + size + gap)) (sym c.spacing.ensures.value) more);
     }
