@@ -3,6 +3,7 @@ pub mod ExpressionRules
 pub mod FigureNames
 pub mod GrammarRules
 pub mod Lexemes
+pub mod OneLexing
 pub mod PieceLemmas
 pub mod PieceSizes
 pub mod PrefixRules

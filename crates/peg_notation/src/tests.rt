@@ -1,5 +1,5 @@
-//! Tests of the lexer. Every value that is wanted was worked out by hand from the figure.
-use crate::{LexFault, MOST_FILE_BYTES, Token, TokenKind, lex};
+//! Tests of the lexer and of the figure. Every value that is wanted was worked out by hand from the figure.
+use crate::{LexFault, MOST_FILE_BYTES, Token, TokenKind, figure, figure_text, lex};
 use peg_bytes::Span;
 use std::alloc::Global;
 use std::process::Abort;
@@ -354,5 +354,18 @@ fn the_figures_text_has_its_tokens(rt: HostRuntime) -> Result<(), Fail> {
         assert_eq!(rt; found, count, "of {kind:?}");
     }
     assert_eq!(rt; tokens.len(), 205);
+    Ok(())
+}
+
+#[test]
+fn the_figure_has_its_text_and_names_where_they_stand(rt: HostRuntime) -> Result<(), Fail> {
+    let text = figure_text();
+    assert_eq!(rt; text, FIGURE);
+    let rules = figure(rt.alloc())?;
+    assert_eq!(rt; rules.len(), 29);
+    for rule in &rules {
+        let name = text.get(rule.span.start as usize..rule.span.end as usize);
+        assert_eq!(rt; name, Some(rule.name.as_bytes()));
+    }
     Ok(())
 }
