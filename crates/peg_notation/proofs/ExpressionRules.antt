@@ -36,7 +36,7 @@ unfolding prefix suffix primary
 none_begins file inner p [] stream none = (length file, refl)
 none_begins file inner p (_ ∷ more) (Stream.next k piece lexeme found is rest) none =
     subst (λ (l : Lexeme). (at : ℕ) × (prefix file inner (l ∷ more) ≡ Err (Unexpected at))) (sym is)
-        (by k (ap (λ (l : Lexeme). kind_begins l.kind (starts_with_arrow more)) (sym is) ∙ none))
+    (by k (ap (λ (l : Lexeme). kind_begins l.kind (starts_with_arrow more)) (sym is) ∙ none))
   where
     name : (t : Bool) → starts_with_arrow more ≡ t → kind_begins kind.Ident t ≡ false → (at : ℕ)
         × (prefix file inner (lexeme_at kind.Ident p piece.length ∷ more) ≡ Err (Unexpected at))
@@ -66,7 +66,7 @@ unfolding prefix suffix primary
 begun_stuck file inner p at [] stream begins none = cc
 begun_stuck file inner p at (_ ∷ more) (Stream.next k piece lexeme found is rest) begins none =
     by k found (ap (λ (l : Lexeme). kind_begins l.kind (starts_with_arrow more)) (sym is) ∙ begins)
-        (ap (λ (l : Lexeme). prefix file inner (l ∷ more)) (sym is) ∙ none)
+    (ap (λ (l : Lexeme). prefix file inner (l ∷ more)) (sym is) ∙ none)
   where
     name : (t : Bool) → starts_with_arrow more ≡ t → kind_begins kind.Ident t ≡ true
         → prefix file inner (lexeme_at kind.Ident p piece.length ∷ more) ≡ Err (Unexpected at) → IsStuck file p
@@ -98,10 +98,10 @@ prefix_rounds file most inner good = record {
   none = λ p lexemes stream few none.
       let it = none_begins file inner p lexemes stream none in
       subst (λ (x : Result Part Halt). ExactAny file (codes "Prefix") p lexemes x) it.1
-          (prefix-exact file most inner good p lexemes stream few) (between 140 146);
+      (prefix-exact file most inner good p lexemes stream few) (between 140 146);
   one = λ before p lexemes stream few begins.
       by p lexemes stream begins (prefix file inner lexemes) refl
-          (prefix-exact file most inner good p lexemes stream few);
+      (prefix-exact file most inner good p lexemes stream few);
 }
   where
     by : (p : ℕ) (lexemes : List Lexeme) → Stream file p lexemes → begins_prefix lexemes ≡ true → (x : Result Part Halt)
@@ -137,17 +137,17 @@ pub sequence-exact : (file : List ℕ) (most : ℕ) (inner : Option Reading) →
 unfolding sequence sequence_body
 sequence-exact file most inner good before p lexemes stream few =
     by (many begins_prefix (λ b. prefix file inner) before lexemes)
-        (rounds (prefix_rounds file most inner good) (length lexemes) before p lexemes (omega arith) stream few refl)
+    (rounds (prefix_rounds file most inner good) (length lexemes) before p lexemes (omega arith) stream few refl)
   where
     by : (x : Result Parts Halt) → ExactMany file (Name (codes "Prefix") (between 140 146))
         (between 140 147) before p lexemes x → ExactAt file (codes "Sequence") before p lexemes
         (and_read x (λ (parts : Parts). Ok (sequence_part before (place_of (length file) lexemes) parts)))
     by (Ok parts) m =
         subst (λ start. ReadsAt file (codes "Sequence") before p lexemes (sequence_part before start parts))
-            (sym (place-is stream))
+        (sym (place-is stream))
         (node_at before _ sequence-meant.1 refl refl m.derives (sequence_part before p parts)
         (ap (λ (forms : List Form). Expression (sequence_spelled before (between p parts.last) forms) ∷ [])
-            (ap expressions_in (m.spells before) ∙ expressions-all parts.forms))
+        (ap expressions_in (m.spells before) ∙ expressions-all parts.forms))
         m.ends m.nests m.left)
     by (Err (Unexpected at)) stops = record {
       end = stops.end;
@@ -163,7 +163,7 @@ sequence-exact file most inner good before p lexemes stream few =
 abbrev slash_sequence : Form
 slash_sequence =
     form.Seq (form.Then (Name (codes "SLASH") (between 111 116)) (form.Then
-        (Name (codes "Sequence") (between 117 125)) form.End)) (between 111 125)
+    (Name (codes "Sequence") (between 117 125)) form.End)) (between 111 125)
 
 no_slash : {file : List ℕ} {p : ℕ} → ((span : Extent) → Derives figure file (Name (codes "SLASH") span) p Failed)
     → Derives figure file slash_sequence p Failed
@@ -174,13 +174,13 @@ stuck_slash : (file : List ℕ) (q : ℕ) → IsStuck file q → (span : Extent)
     → Derives figure file (Name (codes "SLASH") span) q Failed
 stuck_slash file q stuck span =
     elim stuck.opens [
-      inl is ↦ not_here stuck.kind stuck.piece kind.Slash span stuck.found
+      | inl is ↦ not_here stuck.kind stuck.piece kind.Slash span stuck.found
           (λ x. let bad : kind.Slash ≡ kind.And = x ∙ is in cc)
-    | inr other ↦ elim other [
-        inl is ↦ not_here stuck.kind stuck.piece kind.Slash span stuck.found
+      | inr other ↦ elim other [
+        | inl is ↦ not_here stuck.kind stuck.piece kind.Slash span stuck.found
             (λ x. let bad : kind.Slash ≡ kind.Not = x ∙ is in cc)
-      | inr is ↦ not_here stuck.kind stuck.piece kind.Slash span stuck.found
-          (λ x. let bad : kind.Slash ≡ kind.Open = x ∙ is in cc)
+        | inr is ↦ not_here stuck.kind stuck.piece kind.Slash span stuck.found
+            (λ x. let bad : kind.Slash ≡ kind.Open = x ∙ is in cc)
       ]
     ]
 
@@ -190,7 +190,7 @@ one_alternative : (file : List ℕ) (p : ℕ) (piece : Piece) (rest : List Lexem
     (lexeme_at kind.Slash p piece.length ∷ rest) (and_read x (λ (part : Part). Ok (behind 1 part)))
 one_alternative file p piece rest found (Ok part) e =
     let s : FindsToken file rule.slash (codes "SLASH") (between 111 116) p piece = here kind.Slash piece
-        (between 111 116) found in
+    (between 111 116) found in
     let blank : piece.spells ≡ [] = (blank-these (codes "/")).blank (drop p file) piece found in
     record {
       end = e.end;
@@ -200,7 +200,7 @@ one_alternative file p piece rest found (Ok part) e =
           subst (λ n. Stream file e.end (drop n (lexeme_at kind.Slash p piece.length ∷ rest))) (sym one) e.left;
       derives =
           Derives.sequence (DerivesItems.items_then s.derives (DerivesItems.items_then
-              (e.derives (between 117 125)) DerivesItems.items_none refl)
+          (e.derives (between 117 125)) DerivesItems.items_none refl)
           (ap (λ (t : Trees). Matched e.end (followed_by s.trees t)) (sym (followed-none e.trees))));
       spells = λ b.
           spelled-followed file b s.trees e.trees
@@ -212,13 +212,13 @@ one_alternative file p piece rest found (Ok part) e =
     }
 one_alternative file p piece rest found (Err (Unexpected at)) stops =
     let s : FindsToken file rule.slash (codes "SLASH") (between 111 116) p piece = here kind.Slash piece
-        (between 111 116) found in
+    (between 111 116) found in
     record {
       end = stops.end;
       trees = followed_by (followed_by s.trees (followed_by stops.trees NoTrees)) NoTrees;
       derives =
           Derives.star_more (Derives.sequence (DerivesItems.items_then s.derives
-              (DerivesItems.items_then (stops.derives (between 117 125)) DerivesItems.items_none refl) refl))
+          (DerivesItems.items_then (stops.derives (between 117 125)) DerivesItems.items_none refl) refl))
           (Derives.star_none (no_slash (stuck_slash file stops.end stops.stuck))) refl;
       stuck = stops.stuck;
     }
@@ -237,8 +237,8 @@ alternative_rounds file most inner good = record {
     fails p [] (Stream.ended last) none = no_slash (λ span. none_here kind.Slash span last)
     fails p (_ ∷ more) (Stream.next k piece lexeme found is rest) none =
         no_slash (λ span. not_here k piece kind.Slash span found (λ same. let bad : true
-            ≡ false = ap (λ (x : TokenKind). is_slash x) same
-            ∙ (ap (λ (l : Lexeme). is_slash l.kind) (sym is) ∙ none) in cc))
+        ≡ false = ap (λ (x : TokenKind). is_slash x) same
+        ∙ (ap (λ (l : Lexeme). is_slash l.kind) (sym is) ∙ none) in cc))
 
     reads : (before p : ℕ) (lexemes : List Lexeme) → Stream file p lexemes → length lexemes ≤ most
         → starts_with_slash lexemes ≡ true → ExactRound file slash_sequence (between 110 127) p lexemes
@@ -246,16 +246,16 @@ alternative_rounds file most inner good = record {
     reads before p [] stream few begins = cc
     reads before p (_ ∷ more) (Stream.next k piece lexeme found is rest) few begins =
         subst (λ (l : Lexeme). ExactRound file slash_sequence (between 110 127) p (l ∷
-            more) (and_read (sequence file inner l.text.end more) (λ (part : Part). Ok (behind 1 part)))) (sym is)
-            (by k found (ap (λ (l : Lexeme). is_slash l.kind) (sym is) ∙ begins))
+        more) (and_read (sequence file inner l.text.end more) (λ (part : Part). Ok (behind 1 part)))) (sym is)
+        (by k found (ap (λ (l : Lexeme). is_slash l.kind) (sym is) ∙ begins))
       where
         by : (k : TokenKind) → text_of k (drop p file) ≡ Some piece → is_slash k ≡ true
             → ExactRound file slash_sequence (between 110 127) p (lexeme_at k p piece.length ∷
             more) (and_read (sequence file inner (p + piece.length) more) (λ (part : Part). Ok (behind 1 part)))
         by kind.Slash there slash =
             one_alternative file p piece more there (sequence file inner (p + piece.length) more)
-                (sequence-exact file most inner good (p + piece.length) (behind_text file p piece.length) more rest
-                (omega arith))
+            (sequence-exact file most inner good (p + piece.length) (behind_text file p piece.length) more rest
+            (omega arith))
         by kind.Ident there slash = cc
         by kind.Literal there slash = cc
         by kind.Class there slash = cc
@@ -280,7 +280,7 @@ unfolding expression_body
 both_parts file before p lexemes first e (Ok more) m =
     node_at before _ expression-meant.1 refl refl
     (Derives.sequence
-        (DerivesItems.items_then (e.derives _) (DerivesItems.items_then m.derives DerivesItems.items_none refl)
+    (DerivesItems.items_then (e.derives _) (DerivesItems.items_then m.derives DerivesItems.items_none refl)
     (ap (λ (t : Trees). Matched m.end (followed_by e.trees t)) (sym (followed-none m.trees)))))
     (choice_part p first more)
     (ap (λ (forms : List Form). Expression (choice_spelled (between p more.last) forms) ∷ [])
@@ -297,8 +297,8 @@ both_parts file before p lexemes first e (Err (Unexpected at)) stops = record {
   trees = Tree rule.expression p stops.end (followed_by e.trees (followed_by stops.trees NoTrees)) NoTrees;
   derives = λ span. Derives.name_matched expression-meant.1
       (Derives.sequence
-          (DerivesItems.items_then (e.derives _)
-          (DerivesItems.items_then stops.derives DerivesItems.items_none refl) refl)) refl;
+      (DerivesItems.items_then (e.derives _)
+      (DerivesItems.items_then stops.derives DerivesItems.items_none refl) refl)) refl;
   stuck = stops.stuck;
 }
 both_parts file before p lexemes first e (Err (TooDeep at)) m = absurd m
@@ -318,19 +318,19 @@ expression-exact file most inner good before p lexemes stream few =
     by (Ok first) e =
         let fewer : length (drop first.taken lexemes) ≤ most = omega (arith, length-drop first.taken lexemes) in
         let m = rounds (alternative_rounds file most inner good) (length (drop first.taken lexemes)) first.last e.end
-            (drop first.taken lexemes) (omega arith) e.left fewer refl in
+        (drop first.taken lexemes) (omega arith) e.left fewer refl in
         subst (λ start. ExactAt file (codes "Expression") before p lexemes
-            (and_read (many starts_with_slash (alternative file inner) first.last (drop first.taken lexemes))
-            (λ (more : Parts). Ok (choice_part start first more)))) (sym (place-is stream))
+        (and_read (many starts_with_slash (alternative file inner) first.last (drop first.taken lexemes))
+        (λ (more : Parts). Ok (choice_part start first more)))) (sym (place-is stream))
         (both_parts file before p lexemes first e (many starts_with_slash (alternative file inner) first.last
-            (drop first.taken lexemes)) m)
+        (drop first.taken lexemes)) m)
     by (Err (Unexpected at)) stops = record {
       end = stops.end;
       trees = Tree rule.expression p stops.end (followed_by stops.trees NoTrees) NoTrees;
       derives = λ span. Derives.name_matched expression-meant.1
           (Derives.sequence (DerivesItems.items_then (stops.derives _)
-              (DerivesItems.items_then (Derives.star_none
-              (no_slash (stuck_slash file stops.end stops.stuck))) DerivesItems.items_none refl) refl)) refl;
+          (DerivesItems.items_then (Derives.star_none
+          (no_slash (stuck_slash file stops.end stops.stuck))) DerivesItems.items_none refl) refl)) refl;
       stuck = stops.stuck;
     }
     by (Err (TooDeep at)) e = absurd e

@@ -65,7 +65,7 @@ abbrev pub ExactRule : (file : List ℕ) (p : ℕ) (lexemes : List Lexeme) → R
 ExactRule file p lexemes (Ok part_read) = ReadsRule file p lexemes part_read
 ExactRule file p lexemes (Err (Unexpected at)) =
     ((span : Extent) → Derives figure file (Name (codes "Definition") span) p Failed) ⊎ Stops file
-        (codes "Definition") p
+    (codes "Definition") p
 ExactRule file p lexemes (Err (TooDeep at)) = ⊥
 
 -- no definition begins without a name
@@ -83,7 +83,7 @@ unfolding definition_body
 no_arrow piece found fails span =
     Derives.name_failed definition-meant.1
     (Derives.sequence (DerivesItems.items_then ((here kind.Ident piece _ found).derives)
-        (DerivesItems.items_failed (fails _)) refl))
+    (DerivesItems.items_failed (fails _)) refl))
 
 -- a name, an arrow and an expression
 definition_read : (file : List ℕ) (p : ℕ) (piece : Piece) → text_of kind.Ident (drop p file) ≡ Some piece
@@ -96,37 +96,43 @@ unfolding definition_body
 definition_read file p piece found arrow there rest (Ok body) e =
     let q : ℕ = behind_text file p piece.length in
     let i : FindsToken file rule.identifier (codes "Identifier") (between 55 65) p piece = here kind.Ident piece
-        (between 55 65) found in
+    (between 55 65) found in
     let a : FindsToken file rule.leftarrow (codes "LEFTARROW") (between 66 75) q arrow = here kind.Arrow arrow
-        (between 66 75) there in
+    (between 66 75) there in
     let blank : arrow.spells ≡ [] = (blank-these (codes "<-")).blank (drop q file) arrow there in
     let inside : Trees = followed_by i.trees (followed_by a.trees e.trees) in
     let spelling : (b : ℕ) → spelled file b inside ≡ Word (part file p (p + piece.length))
-        (between p (p + piece.length)) ∷ Expression body.form ∷ [] =
-        λ b. spelled-followed file b i.trees (followed_by a.trees e.trees)
-        ∙ (ap (λ (pieces : List Spelling). spelled file b i.trees ++ pieces)
-        (spelled-followed file (text_end b i.trees) a.trees e.trees
-        ∙ (ap (λ (pieces : List Spelling). pieces ++ spelled file (text_end (text_end b i.trees) a.trees) e.trees)
-            (a.spells (text_end b i.trees) ∙ blank)
-        ∙ (ap (λ k. spelled file k e.trees) (a.ends (text_end b i.trees)) ∙ e.spells)))
-        ∙ ap (λ (pieces : List Spelling). pieces ++ Expression body.form ∷ []) (i.spells b)) in
+    (between p (p + piece.length)) ∷ Expression body.form ∷ [] =
+    λ b. spelled-followed file b i.trees (followed_by a.trees e.trees)
+    ∙ (ap (λ (pieces : List Spelling). spelled file b i.trees ++ pieces)
+    (spelled-followed file (text_end b i.trees) a.trees e.trees
+    ∙ (ap (λ (pieces : List Spelling). pieces ++ spelled file (text_end (text_end b i.trees) a.trees) e.trees)
+    (a.spells (text_end b i.trees) ∙ blank)
+    ∙ (ap (λ k. spelled file k e.trees) (a.ends (text_end b i.trees)) ∙ e.spells)))
+    ∙ ap (λ (pieces : List Spelling). pieces ++ Expression body.form ∷ []) (i.spells b)) in
     record {
       end = e.end;
       trees = Tree rule.definition p e.end inside NoTrees;
       left =
           let two : 2 + body.taken ≡ suc (suc body.taken) = omega arith in
           subst (λ n. Stream file e.end (drop n (lexeme_at kind.Ident p piece.length ∷
-              lexeme_at kind.Arrow q arrow.length ∷ rest))) (sym two) e.left;
+          lexeme_at kind.Arrow q arrow.length ∷ rest))) (sym two) e.left;
       derives = λ span. Derives.name_matched definition-meant.1
           (Derives.sequence (DerivesItems.items_then i.derives (DerivesItems.items_then a.derives
-              (DerivesItems.items_then (e.derives (between 76 86)) DerivesItems.items_none refl) refl)
+          (DerivesItems.items_then (e.derives (between 76 86)) DerivesItems.items_none refl) refl)
           (ap (λ (t : Trees). Matched e.end (followed_by i.trees (followed_by a.trees t)))
-              (sym (followed-none e.trees))))) refl;
+          (sym (followed-none e.trees))))) refl;
       spells = λ b. append-nil (definition_spelled (spelled file b inside)) ∙ ap definition_spelled (spelling b);
       nests =
-          omega
-              (arith, nesting-followed i.trees
-              (followed_by a.trees e.trees), nesting-followed a.trees e.trees, i.flat, a.flat, e.nests);
+          omega (
+            arith,
+            nesting-followed i.trees
+                (followed_by a.trees e.trees),
+            nesting-followed a.trees e.trees,
+            i.flat,
+            a.flat,
+            e.nests,
+          );
       some = omega arith;
     }
 definition_read file p piece found arrow there rest (Err (Unexpected at)) stops =
@@ -137,8 +143,8 @@ definition_read file p piece found arrow there rest (Err (Unexpected at)) stops 
           (followed_by stops.trees NoTrees))) NoTrees;
       derives = λ span. Derives.name_matched definition-meant.1
           (Derives.sequence (DerivesItems.items_then ((here kind.Ident piece (between 55 65) found).derives)
-              (DerivesItems.items_then ((here kind.Arrow arrow (between 66 75) there).derives)
-              (DerivesItems.items_then (stops.derives (between 76 86)) DerivesItems.items_none refl) refl) refl)) refl;
+          (DerivesItems.items_then ((here kind.Arrow arrow (between 66 75) there).derives)
+          (DerivesItems.items_then (stops.derives (between 76 86)) DerivesItems.items_none refl) refl) refl)) refl;
       stuck = stops.stuck;
     })
 definition_read file p piece found arrow there rest (Err (TooDeep at)) e = absurd e
@@ -152,8 +158,8 @@ behind_name file most p piece [] found (Stream.ended last) few =
     inl (no_arrow piece found (λ span. none_here kind.Arrow span last))
 behind_name file most p piece (_ ∷ rest) found (Stream.next k arrow lexeme there is left) few =
     subst (λ (l : Lexeme). ExactRule file p (lexeme_at kind.Ident p piece.length ∷ l ∷
-        rest) (definition_behind file most (lexeme_at kind.Ident p piece.length) (l ∷
-        rest) (is_arrow l.kind))) (sym is) (by k there)
+    rest) (definition_behind file most (lexeme_at kind.Ident p piece.length) (l ∷
+    rest) (is_arrow l.kind))) (sym is) (by k there)
   where
     q : ℕ
     q = behind_text file p piece.length
@@ -170,9 +176,9 @@ behind_name file most p piece (_ ∷ rest) found (Stream.next k arrow lexeme the
         (lexeme_at k (behind_text file p piece.length) arrow.length ∷ rest) (is_arrow k))
     by kind.Arrow at_end =
         definition_read file p piece found arrow at_end rest
-            (expression_in file most (behind_text file p piece.length + arrow.length) rest)
-            (expression_in-exact file most (behind_text file p piece.length + arrow.length)
-            (behind_text file (behind_text file p piece.length) arrow.length) rest left (omega arith))
+        (expression_in file most (behind_text file p piece.length + arrow.length) rest)
+        (expression_in-exact file most (behind_text file p piece.length + arrow.length)
+        (behind_text file (behind_text file p piece.length) arrow.length) rest left (omega arith))
     by kind.Ident at_end = none kind.Ident at_end (λ e. cc)
     by kind.Literal at_end = none kind.Literal at_end (λ e. cc)
     by kind.Class at_end = none kind.Class at_end (λ e. cc)
@@ -223,13 +229,13 @@ stuck_name : (file : List ℕ) (q : ℕ) → IsStuck file q → (span : Extent)
     → Derives figure file (Name (codes "Identifier") span) q Failed
 stuck_name file q stuck span =
     elim stuck.opens [
-      inl is ↦ not_here stuck.kind stuck.piece kind.Ident span stuck.found
+      | inl is ↦ not_here stuck.kind stuck.piece kind.Ident span stuck.found
           (λ x. let bad : kind.Ident ≡ kind.And = x ∙ is in cc)
-    | inr other ↦ elim other [
-        inl is ↦ not_here stuck.kind stuck.piece kind.Ident span stuck.found
+      | inr other ↦ elim other [
+        | inl is ↦ not_here stuck.kind stuck.piece kind.Ident span stuck.found
             (λ x. let bad : kind.Ident ≡ kind.Not = x ∙ is in cc)
-      | inr is ↦ not_here stuck.kind stuck.piece kind.Ident span stuck.found
-          (λ x. let bad : kind.Ident ≡ kind.Open = x ∙ is in cc)
+        | inr is ↦ not_here stuck.kind stuck.piece kind.Ident span stuck.found
+            (λ x. let bad : kind.Ident ≡ kind.Open = x ∙ is in cc)
       ]
     ]
 
@@ -302,8 +308,8 @@ definitions file most n p [] few (Stream.ended last) within = record {
   trees = NoTrees;
   derives =
       subst (λ end. Derives figure file (Star (Name (codes "Definition") (between 19 29)) (between 19 30)) p
-          (Matched end NoTrees)) last (Derives.star_none
-          (no_name (λ span. none_here kind.Ident span last) (between 19 29)));
+      (Matched end NoTrees)) last (Derives.star_none
+      (no_name (λ span. none_here kind.Ident span last) (between 19 29)));
   spells = λ b. refl;
   nests = refl;
 }
@@ -315,10 +321,10 @@ definitions file most (suc n) p (l ∷ rest) few stream within =
     let same : drop part_read.taken (l ∷ rest) ≡ drop (part_read.taken - 1) rest = ap (λ k. drop k (l ∷ rest)) one in
     subst (λ (x : Result Rules Halt). ExactRules file e.end x)
     (ap (λ ls. definitions_behind file most ls 0) same ∙ sym
-        (definitions_behind-drop file most rest (part_read.taken - 1)))
+    (definitions_behind-drop file most rest (part_read.taken - 1)))
     (definitions file most n e.end (drop part_read.taken (l ∷ rest))
-        (omega (arith, length-drop part_read.taken (l ∷ rest), e.some)) e.left
-        (omega (arith, length-drop part_read.taken (l ∷ rest), e.some))))
+    (omega (arith, length-drop part_read.taken (l ∷ rest), e.some)) e.left
+    (omega (arith, length-drop part_read.taken (l ∷ rest), e.some))))
   where
     stops_here : (k : TokenKind) (piece : Piece) → text_of k (drop p file) ≡ Some piece
         → ((span : Extent) → Derives figure file (Name (codes "Definition") span) p Failed) → StopsEarly file p
@@ -339,7 +345,7 @@ definitions file most (suc n) p (l ∷ rest) few stream within =
         (definitions_behind file most rest (first.taken - 1)) (λ (more : Rules). Ok (and_rules first more))))
     step (Ok part_read) e later =
         more_rules file p (l ∷ rest) part_read e (definitions_behind file most rest (part_read.taken - 1))
-            (later part_read e)
+        (later part_read e)
     step (Err (Unexpected at)) (inl fails) later =
         let token = a_token stream in stops_here token.0 token.1 token.2 fails
     step (Err (Unexpected at)) (inr stops) later = rules_stop file p stops
@@ -391,32 +397,39 @@ grammar_read file lexemes first e (Ok more) m =
     let last : Trees = Tree rule.end_of_file (length file) (length file) NoTrees NoTrees in
     let inside : Trees = followed_by gap.trees (followed_by all last) in
     let spelling : spelled file 0 inside ≡ map Definition (first.rule ∷ more.rules) =
-        spelled-followed file 0 gap.trees (followed_by all last)
-        ∙ (ap (λ (pieces : List Spelling). pieces ++ spelled file (text_end 0 gap.trees) (followed_by all last))
-            (gap.spells 0)
-        ∙ (spelled-followed file (text_end 0 gap.trees) all last
-        ∙ (append-nil (spelled file (text_end 0 gap.trees) all)
-        ∙ (spelled-followed file (text_end 0 gap.trees) e.trees m.trees
-        ∙ (ap (λ (pieces : List Spelling). spelled file (text_end 0 gap.trees) e.trees ++ pieces)
-            (m.spells (text_end (text_end 0 gap.trees) e.trees))
-        ∙ ap (λ (pieces : List Spelling). pieces ++ map Definition more.rules) (e.spells (text_end 0 gap.trees))))))) in
+    spelled-followed file 0 gap.trees (followed_by all last)
+    ∙ (ap (λ (pieces : List Spelling). pieces ++ spelled file (text_end 0 gap.trees) (followed_by all last))
+    (gap.spells 0)
+    ∙ (spelled-followed file (text_end 0 gap.trees) all last
+    ∙ (append-nil (spelled file (text_end 0 gap.trees) all)
+    ∙ (spelled-followed file (text_end 0 gap.trees) e.trees m.trees
+    ∙ (ap (λ (pieces : List Spelling). spelled file (text_end 0 gap.trees) e.trees ++ pieces)
+    (m.spells (text_end (text_end 0 gap.trees) e.trees))
+    ∙ ap (λ (pieces : List Spelling). pieces ++ map Definition more.rules) (e.spells (text_end 0 gap.trees))))))) in
     record {
       end = length file;
       trees = Tree rule.grammar 0 (length file) inside NoTrees;
       derives = λ span. Derives.name_matched grammar-meant.1
           (Derives.sequence (DerivesItems.items_then gap.derives (DerivesItems.items_then
-              (Derives.plus_matched (e.derives (between 19 29)) m.derives refl)
-              (DerivesItems.items_then (ended_here refl
-              (between 31 40)) DerivesItems.items_none refl) refl) refl)) refl;
+          (Derives.plus_matched (e.derives (between 19 29)) m.derives refl)
+          (DerivesItems.items_then (ended_here refl
+          (between 31 40)) DerivesItems.items_none refl) refl) refl)) refl;
       spells = sym (ap rules_in (append-nil (spelled file 0 inside) ∙ spelling) ∙ rules-all (first.rule ∷ more.rules));
       nests =
-          omega
-              (arith, nesting-followed gap.trees
-              (followed_by all last), nesting-followed all last, nesting-followed e.trees m.trees, gap.flat, e.nests, m.nests);
+          omega (
+            arith,
+            nesting-followed gap.trees
+                (followed_by all last),
+            nesting-followed all last,
+            nesting-followed e.trees m.trees,
+            gap.flat,
+            e.nests,
+            m.nests,
+          );
     }
 grammar_read file lexemes first e (Err (Unexpected at)) stops =
     grammar_fails file (DerivesItems.items_then (Derives.plus_matched (e.derives (between 19 29)) stops.derives refl)
-        (DerivesItems.items_failed (stops.more (between 31 40))) refl)
+    (DerivesItems.items_failed (stops.more (between 31 40))) refl)
 grammar_read file lexemes first e (Err (TooDeep at)) m = absurd m
 
 -- Grammar is what is read, where as many parentheses may be open as there are tokens.
@@ -425,7 +438,7 @@ pub grammar-exact : (file : List ℕ) (most : ℕ) (lexemes : List Lexeme) → S
 unfolding grammar definitions_behind
 grammar-exact file most [] (Stream.ended last) few =
     grammar_fails file (DerivesItems.items_failed (Derives.plus_failed
-        (no_name (λ span. none_here kind.Ident span last) (between 19 29))))
+    (no_name (λ span. none_here kind.Ident span last) (between 19 29))))
 grammar-exact file most (l ∷ rest) stream few =
     step (definition file most (l ∷ rest)) (definition-exact file most (first_place file) (l ∷ rest) stream few)
     (λ part_read e.
@@ -433,9 +446,9 @@ grammar-exact file most (l ∷ rest) stream few =
     let same : drop part_read.taken (l ∷ rest) ≡ drop (part_read.taken - 1) rest = ap (λ k. drop k (l ∷ rest)) one in
     subst (λ (x : Result Rules Halt). ExactRules file e.end x)
     (ap (λ ls. definitions_behind file most ls 0) same ∙ sym
-        (definitions_behind-drop file most rest (part_read.taken - 1)))
+    (definitions_behind-drop file most rest (part_read.taken - 1)))
     (definitions file most (length (drop part_read.taken (l ∷ rest))) e.end (drop part_read.taken (l ∷ rest))
-        (omega arith) e.left (omega (arith, length-drop part_read.taken (l ∷ rest)))))
+    (omega arith) e.left (omega (arith, length-drop part_read.taken (l ∷ rest)))))
   where
     step : (x : Result RulePart Halt) → ExactRule file (first_place file) (l ∷ rest) x
         → ((part_read : RulePart) → (e : ReadsRule file (first_place file) (l ∷ rest) part_read)
@@ -444,12 +457,12 @@ grammar-exact file most (l ∷ rest) stream few =
         (definitions_behind file most rest (first.taken - 1)) (λ (more : Rules). Ok (and_rules first more))))
     step (Ok part_read) e later =
         grammar_read file (l ∷ rest) part_read e (definitions_behind file most rest (part_read.taken - 1))
-            (later part_read e)
+        (later part_read e)
     step (Err (Unexpected at)) (inl fails) later =
         grammar_fails file (DerivesItems.items_failed (Derives.plus_failed (fails (between 19 29))))
     step (Err (Unexpected at)) (inr stops) later =
         grammar_fails file (DerivesItems.items_then (Derives.plus_matched (stops.derives (between 19 29))
-            (Derives.star_none (no_name (stuck_name file stops.end stops.stuck) (between 19 29))) refl)
-            (DerivesItems.items_failed (not_ended stops.stuck.kind stops.stuck.piece stops.stuck.found
-            (between 31 40))) refl)
+        (Derives.star_none (no_name (stuck_name file stops.end stops.stuck) (between 19 29))) refl)
+        (DerivesItems.items_failed (not_ended stops.stuck.kind stops.stuck.piece stops.stuck.found
+        (between 31 40))) refl)
     step (Err (TooDeep at)) e later = absurd e

@@ -1,4 +1,5 @@
 pub mod Classes
+pub mod Cuts
 pub mod ExpressionRules
 pub mod FigureNames
 pub mod GrammarRules
@@ -8,6 +9,8 @@ pub mod PieceLemmas
 pub mod PieceSizes
 pub mod PrefixRules
 pub mod PrimaryRule
+pub mod Progress
+pub mod ReaderCuts
 pub mod Readings
 pub mod Repeats
 pub mod SpacingRules

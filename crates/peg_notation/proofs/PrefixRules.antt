@@ -43,8 +43,8 @@ no_suffix file p lexemes part e question star plus =
     node_any _ suffix-meant.1 refl refl
     (Derives.sequence (DerivesItems.items_then (e.derives _)
     (DerivesItems.items_then (Derives.optional_none (Derives.choice
-        (DerivesFirst.alternative_failed (question _) (DerivesFirst.alternative_failed (star _)
-        (DerivesFirst.alternative_last (plus _)))))) DerivesItems.items_none refl)
+    (DerivesFirst.alternative_failed (question _) (DerivesFirst.alternative_failed (star _)
+    (DerivesFirst.alternative_last (plus _)))))) DerivesItems.items_none refl)
     (ap (λ (t : Trees). Matched e.end t) (sym (followed-none e.trees)))))
     part (λ before. ap (signed (between p part.last)) (e.spells before)) e.ends e.nests e.some e.left
 
@@ -56,12 +56,22 @@ one_suffix : (file : List ℕ) (p : ℕ) (lexemes : List Lexeme) (part : Part)
     → ((before : ℕ) → spelled file before it.trees ≡ Sign sign ∷ [])
     → Derives figure file suffix_body p (Matched (behind_text file e.end piece.length) (followed_by e.trees it.trees))
     → Stream file (behind_text file e.end piece.length) (drop (part.taken + 1) lexemes)
-    → ReadsAny file (codes "Suffix") p lexemes (record { form = sign part.form
-    (between p (e.end + piece.length)); taken = part.taken + 1; last = e.end + piece.length; depth = part.depth })
+    → ReadsAny file (codes "Suffix") p lexemes (record {
+      form = sign part.form
+          (between p (e.end + piece.length));
+      taken = part.taken + 1;
+      last = e.end + piece.length;
+      depth = part.depth;
+    })
 one_suffix file p lexemes part e {number} {used} {span} {piece} sign rest it spells d left =
     node_any _ suffix-meant.1 refl refl d
-    (record { form = sign part.form
-        (between p (e.end + piece.length)); taken = part.taken + 1; last = e.end + piece.length; depth = part.depth })
+    (record {
+      form = sign part.form
+          (between p (e.end + piece.length));
+      taken = part.taken + 1;
+      last = e.end + piece.length;
+      depth = part.depth;
+    })
     (λ before. ap (signed (between p (e.end + piece.length)))
     (spelled-followed file before e.trees it.trees
     ∙ (ap (λ (pieces : List Spelling). spelled file before e.trees ++ pieces) (spells (text_end before e.trees))
@@ -76,58 +86,58 @@ suffix_read : (file : List ℕ) (p : ℕ) (lexemes : List Lexeme) (part : Part)
 unfolding suffix_body
 suffix_read file p lexemes part e [] same (Stream.ended last) =
     no_suffix file p lexemes part e (λ span. none_here kind.Question span last) (λ span. none_here kind.Star span last)
-        (λ span. none_here kind.Plus span last)
+    (λ span. none_here kind.Plus span last)
 suffix_read file p lexemes part e (_ ∷ rest) same (Stream.next k piece lexeme there is left) =
     subst (λ (l : Lexeme). ReadsAny file (codes "Suffix") p lexemes (then_suffix p part (l ∷ rest))) (sym is)
-        (by k there (same ∙ ap (λ (l : Lexeme). l ∷ rest) is))
+    (by k there (same ∙ ap (λ (l : Lexeme). l ∷ rest) is))
   where
     next_left : (k : TokenKind) → drop part.taken lexemes ≡ lexeme_at k e.end piece.length ∷ rest
         → Stream file (behind_text file e.end piece.length) (drop (part.taken + 1) lexemes)
     next_left k left_is =
         subst (λ (l : List Lexeme). Stream file (behind_text file e.end piece.length) l)
-            (sym (after_one lexemes part.taken ∙ ap (drop 1) left_is)) left
+        (sym (after_one lexemes part.taken ∙ ap (drop 1) left_is)) left
 
     none : (k : TokenKind) → text_of k (drop e.end file) ≡ Some piece → kind.Question ≢ k → kind.Star ≢ k
         → kind.Plus ≢ k → ReadsAny file (codes "Suffix") p lexemes part
     none k at_end a b c =
         no_suffix file p lexemes part e (λ span. not_here k piece kind.Question span at_end a)
-            (λ span. not_here k piece kind.Star span at_end b) (λ span. not_here k piece kind.Plus span at_end c)
+        (λ span. not_here k piece kind.Star span at_end b) (λ span. not_here k piece kind.Plus span at_end c)
 
     by : (k : TokenKind) → text_of k (drop e.end file) ≡ Some piece → drop part.taken lexemes
         ≡ lexeme_at k e.end piece.length ∷ rest → ReadsAny file (codes "Suffix") p lexemes
         (then_suffix p part (lexeme_at k e.end piece.length ∷ rest))
     by kind.Question at_end left_is =
         let it : FindsToken file rule.question (codes "QUESTION")
-            (between 197 205) e.end piece = here kind.Question piece (between 197 205) at_end in
+        (between 197 205) e.end piece = here kind.Question piece (between 197 205) at_end in
         one_suffix file p lexemes part e form.Optional rest it it.spells
         (Derives.sequence (DerivesItems.items_then (e.derives _)
         (DerivesItems.items_then (Derives.optional_some (Derives.choice
-            (DerivesFirst.alternative_matched it.derives))) DerivesItems.items_none refl)
+        (DerivesFirst.alternative_matched it.derives))) DerivesItems.items_none refl)
         (ap (λ (t : Trees). Matched (behind_text file e.end piece.length) (followed_by e.trees t))
-            (sym (followed-none it.trees)))))
+        (sym (followed-none it.trees)))))
         (next_left kind.Question left_is)
     by kind.Star at_end left_is =
         let it : FindsToken file rule.star (codes "STAR") (between 208 212) e.end piece = here kind.Star piece
-            (between 208 212) at_end in
+        (between 208 212) at_end in
         one_suffix file p lexemes part e form.Star rest it it.spells
         (Derives.sequence (DerivesItems.items_then (e.derives _)
         (DerivesItems.items_then (Derives.optional_some (Derives.choice
-            (DerivesFirst.alternative_failed (not_here kind.Star piece kind.Question _ at_end (λ x. cc))
-            (DerivesFirst.alternative_matched it.derives)))) DerivesItems.items_none refl)
+        (DerivesFirst.alternative_failed (not_here kind.Star piece kind.Question _ at_end (λ x. cc))
+        (DerivesFirst.alternative_matched it.derives)))) DerivesItems.items_none refl)
         (ap (λ (t : Trees). Matched (behind_text file e.end piece.length) (followed_by e.trees t))
-            (sym (followed-none it.trees)))))
+        (sym (followed-none it.trees)))))
         (next_left kind.Star left_is)
     by kind.Plus at_end left_is =
         let it : FindsToken file rule.plus (codes "PLUS") (between 215 219) e.end piece = here kind.Plus piece
-            (between 215 219) at_end in
+        (between 215 219) at_end in
         one_suffix file p lexemes part e form.Plus rest it it.spells
         (Derives.sequence (DerivesItems.items_then (e.derives _)
         (DerivesItems.items_then (Derives.optional_some (Derives.choice
-            (DerivesFirst.alternative_failed (not_here kind.Plus piece kind.Question _ at_end (λ x. cc))
-            (DerivesFirst.alternative_failed (not_here kind.Plus piece kind.Star _ at_end (λ x. cc))
-            (DerivesFirst.alternative_last it.derives))))) DerivesItems.items_none refl)
+        (DerivesFirst.alternative_failed (not_here kind.Plus piece kind.Question _ at_end (λ x. cc))
+        (DerivesFirst.alternative_failed (not_here kind.Plus piece kind.Star _ at_end (λ x. cc))
+        (DerivesFirst.alternative_last it.derives))))) DerivesItems.items_none refl)
         (ap (λ (t : Trees). Matched (behind_text file e.end piece.length) (followed_by e.trees t))
-            (sym (followed-none it.trees)))))
+        (sym (followed-none it.trees)))))
         (next_left kind.Plus left_is)
     by kind.Ident at_end left_is = none kind.Ident at_end (λ x. cc) (λ x. cc) (λ x. cc)
     by kind.Literal at_end left_is = none kind.Literal at_end (λ x. cc) (λ x. cc) (λ x. cc)
@@ -153,7 +163,7 @@ suffix-exact file most inner good p lexemes stream few =
         (λ (part : Part). Ok (then_suffix (place_of (length file) lexemes) part (drop part.taken lexemes))))
     by (Ok part) e =
         subst (λ start. ReadsAny file (codes "Suffix") p lexemes (then_suffix start part (drop part.taken lexemes)))
-            (sym (place-is stream)) (suffix_read file p lexemes part e (drop part.taken lexemes) refl e.left)
+        (sym (place-is stream)) (suffix_read file p lexemes part e (drop part.taken lexemes) refl e.left)
     by (Err (Unexpected at)) fails =
         λ span. Derives.name_failed suffix-meant.1 (Derives.sequence (DerivesItems.items_failed (fails _)))
     by (Err (TooDeep at)) e = absurd e
@@ -169,15 +179,15 @@ unfolding prefix_body
 no_prefix file p lexemes ands nots (Ok part) e =
     node_any _ prefix-meant.1 refl refl
     (Derives.sequence (DerivesItems.items_then (Derives.optional_none
-        (Derives.choice (DerivesFirst.alternative_failed (ands _) (DerivesFirst.alternative_last (nots _)))))
+    (Derives.choice (DerivesFirst.alternative_failed (ands _) (DerivesFirst.alternative_last (nots _)))))
     (DerivesItems.items_then (e.derives _) DerivesItems.items_none refl)
     (ap (λ (t : Trees). Matched e.end t) (sym (followed-none e.trees)))))
     part (λ before. ap (signed (between p part.last)) (e.spells before)) e.ends e.nests e.some e.left
 no_prefix file p lexemes ands nots (Err (Unexpected at)) fails =
     λ span. Derives.name_failed prefix-meant.1
     (Derives.sequence (DerivesItems.items_then (Derives.optional_none
-        (Derives.choice (DerivesFirst.alternative_failed (ands _) (DerivesFirst.alternative_last (nots _)))))
-        (DerivesItems.items_failed (fails _)) refl))
+    (Derives.choice (DerivesFirst.alternative_failed (ands _) (DerivesFirst.alternative_last (nots _)))))
+    (DerivesItems.items_failed (fails _)) refl))
 no_prefix file p lexemes ands nots (Err (TooDeep at)) e = absurd e
 
 -- a sign before the suffix
@@ -215,38 +225,38 @@ pub prefix-exact : (file : List ℕ) (most : ℕ) (inner : Option Reading) → G
 unfolding prefix
 prefix-exact file most inner good p [] (Stream.ended last) few =
     no_prefix file p [] (λ span. none_here kind.And span last) (λ span. none_here kind.Not span last)
-        (suffix file inner []) (suffix-exact file most inner good p [] (Stream.ended last) few)
+    (suffix file inner []) (suffix-exact file most inner good p [] (Stream.ended last) few)
 prefix-exact file most inner good p (_ ∷ more) (Stream.next k piece lexeme found is rest) few =
     subst (λ (l : Lexeme). ExactAny file (codes "Prefix") p (l ∷ more)
-        (prefix_of file inner l more (prefix_sign l.kind))) (sym is) (by k found)
+    (prefix_of file inner l more (prefix_sign l.kind))) (sym is) (by k found)
   where
     plain : (k : TokenKind) → text_of k (drop p file) ≡ Some piece → kind.And ≢ k → kind.Not ≢ k
         → ExactAny file (codes "Prefix") p (lexeme_at k p piece.length ∷
         more) (suffix file inner (lexeme_at k p piece.length ∷ more))
     plain k there a b =
         no_prefix file p (lexeme_at k p piece.length ∷ more) (λ span. not_here k piece kind.And span there a)
-            (λ span. not_here k piece kind.Not span there b) (suffix file inner (lexeme_at k p piece.length ∷
-            more)) (suffix-exact file most inner good p (lexeme_at k p piece.length ∷
-            more) (Stream.next k piece (lexeme_at k p piece.length) there refl rest) few)
+        (λ span. not_here k piece kind.Not span there b) (suffix file inner (lexeme_at k p piece.length ∷
+        more)) (suffix-exact file most inner good p (lexeme_at k p piece.length ∷
+        more) (Stream.next k piece (lexeme_at k p piece.length) there refl rest) few)
 
     by : (k : TokenKind) → text_of k (drop p file) ≡ Some piece
         → ExactAny file (codes "Prefix") p (lexeme_at k p piece.length ∷
         more) (prefix_of file inner (lexeme_at k p piece.length) more (prefix_sign k))
     by kind.And there =
         let it : FindsToken file rule.and_sign (codes "AND") (between 159 162) p piece = here kind.And piece
-            (between 159 162) there in
+        (between 159 162) there in
         one_prefix file p (lexeme_at kind.And p piece.length) more form.And it it.spells
         (Derives.optional_some (Derives.choice (DerivesFirst.alternative_matched it.derives)))
         (suffix file inner more) (suffix-exact file most inner good (behind_text file p piece.length) more rest
-            (omega arith))
+        (omega arith))
     by kind.Not there =
         let it : FindsToken file rule.not_sign (codes "NOT") (between 165 168) p piece = here kind.Not piece
-            (between 165 168) there in
+        (between 165 168) there in
         one_prefix file p (lexeme_at kind.Not p piece.length) more form.Not it it.spells
         (Derives.optional_some (Derives.choice (DerivesFirst.alternative_failed
-            (not_here kind.Not piece kind.And _ there (λ x. cc)) (DerivesFirst.alternative_last it.derives))))
+        (not_here kind.Not piece kind.And _ there (λ x. cc)) (DerivesFirst.alternative_last it.derives))))
         (suffix file inner more) (suffix-exact file most inner good (behind_text file p piece.length) more rest
-            (omega arith))
+        (omega arith))
     by kind.Question there = plain kind.Question there (λ x. cc) (λ x. cc)
     by kind.Star there = plain kind.Star there (λ x. cc) (λ x. cc)
     by kind.Plus there = plain kind.Plus there (λ x. cc) (λ x. cc)

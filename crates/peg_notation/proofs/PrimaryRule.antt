@@ -47,7 +47,7 @@ failed ident opens literal class dot span =
     (Derives.choice (DerivesFirst.alternative_failed (Derives.sequence (DerivesItems.items_failed (ident _)))
     (DerivesFirst.alternative_failed (Derives.sequence (DerivesItems.items_failed (opens _)))
     (DerivesFirst.alternative_failed (literal _) (DerivesFirst.alternative_failed (class _)
-        (DerivesFirst.alternative_last (dot _)))))))
+    (DerivesFirst.alternative_last (dot _)))))))
 
 -- a token of a kind that begins no primary is next
 other_fails : {file : List ℕ} {p : ℕ} (k : TokenKind) (piece : Piece) → text_of k (drop p file) ≡ Some piece
@@ -55,8 +55,8 @@ other_fails : {file : List ℕ} {p : ℕ} (k : TokenKind) (piece : Piece) → te
     → Derives figure file (Name (codes "Primary") span) p Failed
 other_fails k piece found a b c d e =
     failed (λ span. not_here k piece kind.Ident span found a) (λ span. not_here k piece kind.Open span found b)
-        (λ span. not_here k piece kind.Literal span found c) (λ span. not_here k piece kind.Class span found d)
-        (λ span. not_here k piece kind.Dot span found e)
+    (λ span. not_here k piece kind.Literal span found c) (λ span. not_here k piece kind.Class span found d)
+    (λ span. not_here k piece kind.Dot span found e)
 
 -- a primary of one token
 of_token : {file : List ℕ} {p : ℕ} {k : TokenKind} {span : Extent} {piece : Piece} {more : List Lexeme} (value : Form)
@@ -92,9 +92,9 @@ arrow_next : {file : List ℕ} {p : ℕ} {lexemes : List Lexeme} → Stream file
 arrow_next (Stream.ended last) = inr (refl, λ span. none_here kind.Arrow span last)
 arrow_next {file} {p} (Stream.next {more = more} k piece lexeme found is rest) =
     subst (λ (l : Lexeme). ((starts_with_arrow (l ∷ more) ≡ true) × ((span : Extent) → (end : ℕ) × (trees : Trees)
-        × Derives figure file (Name (codes "LEFTARROW") span) p (Matched end trees))) ⊎ ((starts_with_arrow (l ∷ more)
-        ≡ false) × ((span : Extent) → Derives figure file (Name (codes "LEFTARROW") span) p Failed))) (sym is)
-        (by k found)
+    × Derives figure file (Name (codes "LEFTARROW") span) p (Matched end trees))) ⊎ ((starts_with_arrow (l ∷ more)
+    ≡ false) × ((span : Extent) → Derives figure file (Name (codes "LEFTARROW") span) p Failed))) (sym is)
+    (by k found)
   where
     by : (k : TokenKind) → text_of k (drop p file) ≡ Some piece
         → ((starts_with_arrow (lexeme_at k p piece.length ∷ more) ≡ true)
@@ -102,8 +102,11 @@ arrow_next {file} {p} (Stream.next {more = more} k piece lexeme found is rest) =
         × Derives figure file (Name (codes "LEFTARROW") span) p (Matched end trees))) ⊎
         ((starts_with_arrow (lexeme_at k p piece.length ∷ more) ≡ false)
         × ((span : Extent) → Derives figure file (Name (codes "LEFTARROW") span) p Failed))
-    by kind.Arrow there = inl (refl, λ span. let it = here kind.Arrow piece span there in
-        (behind_text file p piece.length, it.trees, it.derives))
+    by kind.Arrow there = inl (
+      refl,
+      λ span. let it = here kind.Arrow piece span there in
+          (behind_text file p piece.length, it.trees, it.derives),
+    )
     by kind.Ident there = inr (refl, λ span. not_here kind.Ident piece kind.Arrow span there (λ e. cc))
     by kind.Literal there = inr (refl, λ span. not_here kind.Literal piece kind.Arrow span there (λ e. cc))
     by kind.Class there = inr (refl, λ span. not_here kind.Class piece kind.Arrow span there (λ e. cc))
@@ -132,13 +135,13 @@ name_primary file p piece more inner found rest =
     refused arrow =
         rw arrow.0 (λ (span : Extent). Derives.name_failed primary-meant.1
         (Derives.choice (DerivesFirst.alternative_failed (Derives.sequence
-            (DerivesItems.items_then ((here kind.Ident piece _ found).derives)
-            (DerivesItems.items_failed (Derives.not_failed ((arrow.1 _).2))) refl))
+        (DerivesItems.items_then ((here kind.Ident piece _ found).derives)
+        (DerivesItems.items_failed (Derives.not_failed ((arrow.1 _).2))) refl))
         (DerivesFirst.alternative_failed (Derives.sequence (DerivesItems.items_failed
-            (not_here kind.Ident piece kind.Open _ found (λ e. cc))))
+        (not_here kind.Ident piece kind.Open _ found (λ e. cc))))
         (DerivesFirst.alternative_failed (not_here kind.Ident piece kind.Literal _ found (λ e. cc))
-            (DerivesFirst.alternative_failed (not_here kind.Ident piece kind.Class _ found (λ e. cc))
-            (DerivesFirst.alternative_last (not_here kind.Ident piece kind.Dot _ found (λ e. cc)))))))))
+        (DerivesFirst.alternative_failed (not_here kind.Ident piece kind.Class _ found (λ e. cc))
+        (DerivesFirst.alternative_last (not_here kind.Ident piece kind.Dot _ found (λ e. cc)))))))))
 
     read : (starts_with_arrow more ≡ false) × ((span : Extent) → Derives figure file (Name (codes "LEFTARROW") span)
         (behind_text file p piece.length) Failed) → ExactAny file (codes "Primary") p
@@ -146,13 +149,13 @@ name_primary file p piece more inner found rest =
         (lexeme_at kind.Ident p piece.length) more kind.Ident)
     read none =
         let it : FindsToken file rule.identifier (codes "Identifier") (between 233 243) p piece = here kind.Ident piece
-            (between 233 243) found in
+        (between 233 243) found in
         rw none.0 (of_token (form.Name (part file p (p + piece.length)) (between p (p + piece.length))) it refl
-            (λ before. refl)
+        (λ before. refl)
         (Derives.choice (DerivesFirst.alternative_matched (Derives.sequence
-            (DerivesItems.items_then it.derives (DerivesItems.items_then
-            (Derives.not_matched (none.1 _)) DerivesItems.items_none refl)
-            (ap (λ (t : Trees). Matched (behind_text file p piece.length) t) (sym (followed-none it.trees))))))) rest)
+        (DerivesItems.items_then it.derives (DerivesItems.items_then
+        (Derives.not_matched (none.1 _)) DerivesItems.items_none refl)
+        (ap (λ (t : Trees). Matched (behind_text file p piece.length) t) (sym (followed-none it.trees))))))) rest)
 
 -- ---- literals, classes and dots
 
@@ -168,15 +171,15 @@ literal_primary : (file : List ℕ) (p : ℕ) (piece : Piece) (more : List Lexem
 unfolding primary_body
 literal_primary file p piece more inner found rest =
     let it : FindsToken file rule.literal (codes "Literal") (between 281 288) p piece = here kind.Literal piece
-        (between 281 288) found in
+    (between 281 288) found in
     of_token (form.Literal (bytes_in (pieces_of file (lexeme_at kind.Literal p piece.length)))
-        (between p (p + piece.length))) it refl
+    (between p (p + piece.length))) it refl
     (λ before. ap (λ pieces. Expression (form.Literal (bytes_in pieces) (between p (p + piece.length))) ∷ [])
-        (sym (pieces_here file kind.Literal p piece found)))
+    (sym (pieces_here file kind.Literal p piece found)))
     (Derives.choice (DerivesFirst.alternative_failed (Derives.sequence
-        (DerivesItems.items_failed (not_here kind.Literal piece kind.Ident _ found (λ e. cc))))
+    (DerivesItems.items_failed (not_here kind.Literal piece kind.Ident _ found (λ e. cc))))
     (DerivesFirst.alternative_failed (Derives.sequence (DerivesItems.items_failed
-        (not_here kind.Literal piece kind.Open _ found (λ e. cc))))
+    (not_here kind.Literal piece kind.Open _ found (λ e. cc))))
     (DerivesFirst.alternative_matched it.derives)))) rest
 
 class_primary : (file : List ℕ) (p : ℕ) (piece : Piece) (more : List Lexeme) (inner : Option Reading)
@@ -186,15 +189,15 @@ class_primary : (file : List ℕ) (p : ℕ) (piece : Piece) (more : List Lexeme)
 unfolding primary_body
 class_primary file p piece more inner found rest =
     let it : FindsToken file rule.class (codes "Class") (between 291 296) p piece = here kind.Class piece
-        (between 291 296) found in
+    (between 291 296) found in
     of_token (form.Class (class_of (ranges_in (pieces_of file (lexeme_at kind.Class p piece.length))))
-        (between p (p + piece.length))) it refl
+    (between p (p + piece.length))) it refl
     (λ before. ap (λ pieces. Expression (form.Class (class_of (ranges_in pieces)) (between p (p + piece.length))) ∷ [])
-        (sym (pieces_here file kind.Class p piece found)))
+    (sym (pieces_here file kind.Class p piece found)))
     (Derives.choice (DerivesFirst.alternative_failed (Derives.sequence
-        (DerivesItems.items_failed (not_here kind.Class piece kind.Ident _ found (λ e. cc))))
+    (DerivesItems.items_failed (not_here kind.Class piece kind.Ident _ found (λ e. cc))))
     (DerivesFirst.alternative_failed (Derives.sequence (DerivesItems.items_failed
-        (not_here kind.Class piece kind.Open _ found (λ e. cc))))
+    (not_here kind.Class piece kind.Open _ found (λ e. cc))))
     (DerivesFirst.alternative_failed (not_here kind.Class piece kind.Literal _ found (λ e. cc))
     (DerivesFirst.alternative_matched it.derives))))) rest
 
@@ -205,12 +208,12 @@ dot_primary : (file : List ℕ) (p : ℕ) (piece : Piece) (more : List Lexeme) (
 unfolding primary_body
 dot_primary file p piece more inner found rest =
     let it : FindsToken file rule.dot (codes "DOT") (between 299 302) p piece = here kind.Dot piece
-        (between 299 302) found in
+    (between 299 302) found in
     of_token (form.Any (between p (p + piece.length))) it refl (λ before. refl)
     (Derives.choice (DerivesFirst.alternative_failed (Derives.sequence
-        (DerivesItems.items_failed (not_here kind.Dot piece kind.Ident _ found (λ e. cc))))
+    (DerivesItems.items_failed (not_here kind.Dot piece kind.Ident _ found (λ e. cc))))
     (DerivesFirst.alternative_failed (Derives.sequence (DerivesItems.items_failed
-        (not_here kind.Dot piece kind.Open _ found (λ e. cc))))
+    (not_here kind.Dot piece kind.Open _ found (λ e. cc))))
     (DerivesFirst.alternative_failed (not_here kind.Dot piece kind.Literal _ found (λ e. cc))
     (DerivesFirst.alternative_failed (not_here kind.Dot piece kind.Class _ found (λ e. cc))
     (DerivesFirst.alternative_last it.derives)))))) rest
@@ -226,12 +229,12 @@ unfolding primary_body
 open_fails file p piece found inside span =
     Derives.name_failed primary-meant.1
     (Derives.choice (DerivesFirst.alternative_failed (Derives.sequence
-        (DerivesItems.items_failed (not_here kind.Open piece kind.Ident _ found (λ e. cc))))
+    (DerivesItems.items_failed (not_here kind.Open piece kind.Ident _ found (λ e. cc))))
     (DerivesFirst.alternative_failed (Derives.sequence (DerivesItems.items_then ((here kind.Open piece _ found).derives)
-        (inside _ _) refl))
+    (inside _ _) refl))
     (DerivesFirst.alternative_failed (not_here kind.Open piece kind.Literal _ found (λ e. cc))
-        (DerivesFirst.alternative_failed (not_here kind.Open piece kind.Class _ found (λ e. cc))
-        (DerivesFirst.alternative_last (not_here kind.Open piece kind.Dot _ found (λ e. cc))))))))
+    (DerivesFirst.alternative_failed (not_here kind.Open piece kind.Class _ found (λ e. cc))
+    (DerivesFirst.alternative_last (not_here kind.Open piece kind.Dot _ found (λ e. cc))))))))
 
 -- after as many tokens as are inside and two more
 behind_both : (opening : Lexeme) (more : List Lexeme) (taken : ℕ) → drop (taken + 2) (opening ∷ more)
@@ -251,45 +254,53 @@ parentheses : (file : List ℕ) (p : ℕ) (piece : Piece) (more : List Lexeme) (
 unfolding primary_body
 parentheses file p piece more part found e closing rest there left_is left =
     let o : FindsToken file rule.open_sign (codes "OPEN") (between 257 261) p piece = here kind.Open piece
-        (between 257 261) found in
+    (between 257 261) found in
     let c : FindsToken file rule.close (codes "CLOSE") (between 273 278) e.end closing = here kind.Close closing
-        (between 273 278) there in
+    (between 273 278) there in
     let end : ℕ = behind_text file e.end closing.length in
     let inside : Trees = followed_by o.trees (followed_by e.trees (followed_by c.trees NoTrees)) in
     let o_blank : piece.spells ≡ [] = (blank-these (codes "(")).blank (drop p file) piece found in
     let c_blank : closing.spells ≡ [] = (blank-these (codes ")")).blank (drop e.end file) closing there in
     let body : Derives figure file primary_body p (Matched end inside) =
-        Derives.choice (DerivesFirst.alternative_failed (Derives.sequence
-            (DerivesItems.items_failed (not_here kind.Open piece kind.Ident _ found (λ x. cc))))
-        (DerivesFirst.alternative_matched (Derives.sequence (DerivesItems.items_then o.derives
-            (DerivesItems.items_then (e.derives _)
-            (DerivesItems.items_then c.derives DerivesItems.items_none refl) refl) refl)))) in
+    Derives.choice (DerivesFirst.alternative_failed (Derives.sequence
+    (DerivesItems.items_failed (not_here kind.Open piece kind.Ident _ found (λ x. cc))))
+    (DerivesFirst.alternative_matched (Derives.sequence (DerivesItems.items_then o.derives
+    (DerivesItems.items_then (e.derives _)
+    (DerivesItems.items_then c.derives DerivesItems.items_none refl) refl) refl)))) in
     let c_spells : (before : ℕ) → spelled file before (followed_by c.trees NoTrees) ≡ [] =
-        λ before. ap (spelled file before) (followed-none c.trees) ∙ (c.spells before ∙ c_blank) in
+    λ before. ap (spelled file before) (followed-none c.trees) ∙ (c.spells before ∙ c_blank) in
     let e_spells : spelled file (p + piece.length) (followed_by e.trees (followed_by c.trees NoTrees))
-        ≡ Expression part.form ∷ [] =
-        spelled-followed file (p + piece.length) e.trees (followed_by c.trees NoTrees)
-        ∙ (ap (λ (pieces : List Spelling). spelled file (p + piece.length) e.trees ++ pieces)
-            (c_spells (text_end (p + piece.length) e.trees))
-        ∙ (append-nil (spelled file (p + piece.length) e.trees) ∙ e.spells)) in
+    ≡ Expression part.form ∷ [] =
+    spelled-followed file (p + piece.length) e.trees (followed_by c.trees NoTrees)
+    ∙ (ap (λ (pieces : List Spelling). spelled file (p + piece.length) e.trees ++ pieces)
+    (c_spells (text_end (p + piece.length) e.trees))
+    ∙ (append-nil (spelled file (p + piece.length) e.trees) ∙ e.spells)) in
     let all_spells : (before : ℕ) → spelled file before inside ≡ Expression part.form ∷ [] =
-        λ before. spelled-followed file before o.trees (followed_by e.trees (followed_by c.trees NoTrees))
-        ∙ (ap (λ (pieces : List Spelling). pieces ++ spelled file (text_end before o.trees)
-            (followed_by e.trees (followed_by c.trees NoTrees))) (o.spells before ∙ o_blank)
-        ∙ (ap (λ b. spelled file b (followed_by e.trees (followed_by c.trees NoTrees))) (o.ends before) ∙ e_spells)) in
+    λ before. spelled-followed file before o.trees (followed_by e.trees (followed_by c.trees NoTrees))
+    ∙ (ap (λ (pieces : List Spelling). pieces ++ spelled file (text_end before o.trees)
+    (followed_by e.trees (followed_by c.trees NoTrees))) (o.spells before ∙ o_blank)
+    ∙ (ap (λ b. spelled file b (followed_by e.trees (followed_by c.trees NoTrees))) (o.ends before) ∙ e_spells)) in
     let opens : has_open inside ≡ true =
-        has_open-followed o.trees (followed_by e.trees (followed_by c.trees NoTrees))
-        ∙ ap (λ (t : Bool). t || has_open (followed_by e.trees (followed_by c.trees NoTrees))) o.opens in
+    has_open-followed o.trees (followed_by e.trees (followed_by c.trees NoTrees))
+    ∙ ap (λ (t : Bool). t || has_open (followed_by e.trees (followed_by c.trees NoTrees))) o.opens in
     let nests : nesting inside ≡ part.depth =
-        omega (arith, nesting-followed o.trees (followed_by e.trees
-            (followed_by c.trees NoTrees)), nesting-followed e.trees
-            (followed_by c.trees NoTrees), nesting-followed c.trees NoTrees, o.flat, c.flat, e.nests) in
+    omega (
+      arith,
+      nesting-followed o.trees (followed_by e.trees
+          (followed_by c.trees NoTrees)),
+      nesting-followed e.trees
+          (followed_by c.trees NoTrees),
+      nesting-followed c.trees NoTrees,
+      o.flat,
+      c.flat,
+      e.nests,
+    ) in
     record {
       end = end;
       trees = Tree rule.primary p end inside NoTrees;
       left =
           subst (λ (lexemes : List Lexeme). Stream file end lexemes)
-              (sym (behind_both (lexeme_at kind.Open p piece.length) more part.taken ∙ ap (drop 1) left_is)) left;
+          (sym (behind_both (lexeme_at kind.Open p piece.length) more part.taken ∙ ap (drop 1) left_is)) left;
       derives = matched body;
       spells = λ before.
           append-nil (primary_spelled (spelled file before inside)) ∙ ap primary_spelled (all_spells before);
@@ -297,7 +308,7 @@ parentheses file p piece more part found e closing rest there left_is left =
           text_end-followed before o.trees (followed_by e.trees (followed_by c.trees NoTrees))
           ∙ (text_end-followed (text_end before o.trees) e.trees (followed_by c.trees NoTrees)
           ∙ (ap (text_end (text_end (text_end before o.trees) e.trees)) (followed-none c.trees)
-              ∙ c.ends (text_end (text_end before o.trees) e.trees)));
+          ∙ c.ends (text_end (text_end before o.trees) e.trees)));
       nests =
           ap (λ (t : Bool). max ((if t then 1 else 0) + nesting inside) 0) opens
           ∙ ap (λ n. max (1 + n) 0) nests ∙ omega arith;
@@ -312,7 +323,7 @@ no_close : (file : List ℕ) (p : ℕ) (piece : Piece) (more : List Lexeme) (par
     → Derives figure file (Name (codes "Primary") span) p Failed
 no_close file p piece more part found e fails =
     open_fails file p piece found (λ span next. DerivesItems.items_then (e.derives span)
-        (DerivesItems.items_failed (fails next)) refl)
+    (DerivesItems.items_failed (fails next)) refl)
 
 close_read : (file : List ℕ) (p : ℕ) (piece : Piece) (more : List Lexeme) (part : Part)
     → text_of kind.Open (drop p file) ≡ Some piece → (e : ReadsAt file (codes "Expression") (p + piece.length)
@@ -323,7 +334,7 @@ close_read file p piece more part found e [] same (Stream.ended last) =
     no_close file p piece more part found e (λ span. none_here kind.Close span last)
 close_read file p piece more part found e (_ ∷ rest) same (Stream.next k closing lexeme there is left) =
     subst (λ (l : Lexeme). ExactAny file (codes "Primary") p (lexeme_at kind.Open p piece.length ∷
-        more) (closed (length file) part (l ∷ rest))) (sym is) (by k there (same ∙ ap (λ (l : Lexeme). l ∷ rest) is))
+    more) (closed (length file) part (l ∷ rest))) (sym is) (by k there (same ∙ ap (λ (l : Lexeme). l ∷ rest) is))
   where
     by : (k : TokenKind) → text_of k (drop e.end file) ≡ Some closing → drop part.taken more
         ≡ lexeme_at k e.end closing.length ∷ rest → ExactAny file (codes "Primary") p
@@ -360,13 +371,13 @@ stuck_close : (file : List ℕ) (q : ℕ) → IsStuck file q → (span : Extent)
     → Derives figure file (Name (codes "CLOSE") span) q Failed
 stuck_close file q stuck span =
     elim stuck.opens [
-      inl is ↦ not_here stuck.kind stuck.piece kind.Close span stuck.found
+      | inl is ↦ not_here stuck.kind stuck.piece kind.Close span stuck.found
           (λ x. let bad : kind.Close ≡ kind.And = x ∙ is in cc)
-    | inr other ↦ elim other [
-        inl is ↦ not_here stuck.kind stuck.piece kind.Close span stuck.found
+      | inr other ↦ elim other [
+        | inl is ↦ not_here stuck.kind stuck.piece kind.Close span stuck.found
             (λ x. let bad : kind.Close ≡ kind.Not = x ∙ is in cc)
-      | inr is ↦ not_here stuck.kind stuck.piece kind.Close span stuck.found
-          (λ x. let bad : kind.Close ≡ kind.Open = x ∙ is in cc)
+        | inr is ↦ not_here stuck.kind stuck.piece kind.Close span stuck.found
+            (λ x. let bad : kind.Close ≡ kind.Open = x ∙ is in cc)
       ]
     ]
 
@@ -378,7 +389,7 @@ open_primary : (file : List ℕ) (most p : ℕ) (piece : Piece) (more : List Lex
 open_primary file most p piece more None good few found rest = absurd (omega (arith, good))
 open_primary file most p piece more (Some read) good few found rest =
     by (read (p + piece.length) more) (good (p + piece.length) (behind_text file p piece.length) more rest
-        (omega arith))
+    (omega arith))
   where
     by : (x : Result Part Halt) → ExactAt file (codes "Expression") (p + piece.length)
         (behind_text file p piece.length) more x → ExactAny file (codes "Primary") p (lexeme_at kind.Open p piece.length ∷
@@ -386,7 +397,7 @@ open_primary file most p piece more (Some read) good few found rest =
     by (Ok inside) e = close_read file p piece more inside found e (drop inside.taken more) refl e.left
     by (Err (Unexpected at)) stops =
         open_fails file p piece found (λ span next. DerivesItems.items_then (stops.derives span)
-            (DerivesItems.items_failed (stuck_close file stops.end stops.stuck next)) refl)
+        (DerivesItems.items_failed (stuck_close file stops.end stops.stuck next)) refl)
     by (Err (TooDeep at)) e = absurd e
 
 -- ---- every kind
@@ -398,11 +409,11 @@ pub primary-exact : (file : List ℕ) (most : ℕ) (inner : Option Reading) → 
 unfolding primary
 primary-exact file most inner good p [] (Stream.ended last) few =
     failed (λ span. none_here kind.Ident span last) (λ span. none_here kind.Open span last)
-        (λ span. none_here kind.Literal span last) (λ span. none_here kind.Class span last)
-        (λ span. none_here kind.Dot span last)
+    (λ span. none_here kind.Literal span last) (λ span. none_here kind.Class span last)
+    (λ span. none_here kind.Dot span last)
 primary-exact file most inner good p (_ ∷ more) (Stream.next k piece lexeme found is rest) few =
     subst (λ (l : Lexeme). ExactAny file (codes "Primary") p (l ∷ more) (primary_of file inner l more l.kind)) (sym is)
-        (by k found)
+    (by k found)
   where
     by : (k : TokenKind) → text_of k (drop p file) ≡ Some piece
         → ExactAny file (codes "Primary") p (lexeme_at k p piece.length ∷

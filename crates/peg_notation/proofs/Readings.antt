@@ -89,7 +89,7 @@ abbrev pub Good : (file : List ℕ) (most : ℕ) → Option Reading → Type 0
 Good file most None = most ≡ 0
 Good file most (Some read) =
     (before p : ℕ) (lexemes : List Lexeme) → Stream file p lexemes → length lexemes < most
-        → ExactAt file (codes "Expression") before p lexemes (read before lexemes)
+    → ExactAt file (codes "Expression") before p lexemes (read before lexemes)
 
 -- ---- nodes
 

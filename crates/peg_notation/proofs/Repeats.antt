@@ -141,7 +141,7 @@ rounds {file} {element} {span} {begins} {read} {most} r (suc n) before p (l ∷ 
         (λ (parts : Parts). Ok (and_parts part parts))))
     step (Ok part) e later =
         more_rounds span before (l ∷ rest) part e (many_behind begins read part.last rest (part.taken - 1))
-            (later part e)
+        (later part e)
     step (Err (Unexpected at)) stops later = stops
     step (Err (TooDeep at)) e later = absurd e
 

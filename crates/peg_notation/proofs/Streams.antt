@@ -103,8 +103,8 @@ pub not_here : {file : List ℕ} {p : ℕ} (kind : TokenKind) (piece : Piece) (o
     → Derives figure file (Name (rule_of_kind other) span) p Failed
 not_here {file} {p} kind piece other span found apart =
     elim (one_kind (drop p file) kind other piece found) [
-      inl same ↦ absurd (apart same)
-    | inr none ↦ (takes-kind file other).none span p none
+      | inl same ↦ absurd (apart same)
+      | inr none ↦ (takes-kind file other).none span p none
     ]
 
 -- no token is next
@@ -134,15 +134,15 @@ lexeme_text file p end lexeme is = by (text_of lexeme.kind (drop p file)) refl
         × (end ≡ behind_text file p piece.length)
     by None none =
         absurd (let bad : Matched end is.0 ≡ Failed = one_result known
-            ((takes-kind file lexeme.kind).none (between 0 0) p none) in cc)
+        ((takes-kind file lexeme.kind).none (between 0 0) p none) in cc)
     by (Some piece) found =
         let it : FindsToken file (number_of lexeme.kind) (rule_of_kind lexeme.kind)
-            (between 0 0) p piece = here lexeme.kind piece (between 0 0) found in
+        (between 0 0) p piece = here lexeme.kind piece (between 0 0) found in
         let same : Matched end is.0 ≡ Matched
-            (behind_text file p piece.length) it.trees = one_result known it.derives in
+        (behind_text file p piece.length) it.trees = one_result known it.derives in
         let trees : is.0 ≡ it.trees = cc in
         let text : lexeme.text ≡ between p (p + piece.length) =
-            is.2 ∙ (ap (λ (t : Trees). between p (text_end p t)) trees ∙ ap (between p) (it.ends p)) in
+        is.2 ∙ (ap (λ (t : Trees). between p (text_end p t)) trees ∙ ap (between p) (it.ends p)) in
         (piece, found, ap (λ (t : Extent). record { kind = lexeme.kind; text = t }) text, cc)
 
 -- tokens up to the end are a stream

@@ -113,7 +113,7 @@ parenthesized (Some inner) size opening rest =
 abbrev pub named : List ℕ → Lexeme → List Lexeme → Result Part Halt
 named file lexeme rest =
     if starts_with_arrow rest then Err (Unexpected (place_of (length file) rest)) else one_token
-        (form.Name (part file lexeme.text.start lexeme.text.end) lexeme.text) lexeme
+    (form.Name (part file lexeme.text.start lexeme.text.end) lexeme.text) lexeme
 
 abbrev pub primary_of : List ℕ → Option Reading → Lexeme → List Lexeme → TokenKind → Result Part Halt
 primary_of file inner lexeme rest Ident = named file lexeme rest
@@ -140,8 +140,13 @@ suffix_sign _ = None
 abbrev pub with_suffix : (start : ℕ) → Part → Lexeme → Option (Form → Extent → Form) → Part
 with_suffix start part lexeme None = part
 with_suffix start part lexeme (Some sign) =
-    record { form = sign part.form
-        (between start lexeme.text.end); taken = part.taken + 1; last = lexeme.text.end; depth = part.depth }
+    record {
+      form = sign part.form
+          (between start lexeme.text.end);
+      taken = part.taken + 1;
+      last = lexeme.text.end;
+      depth = part.depth;
+    }
 
 abbrev pub then_suffix : (start : ℕ) → Part → List Lexeme → Part
 then_suffix start part [] = part
@@ -150,7 +155,7 @@ then_suffix start part (lexeme ∷ more) = with_suffix start part lexeme (suffix
 unfoldable pub suffix : List ℕ → Option Reading → List Lexeme → Result Part Halt
 suffix file inner lexemes =
     and_read (primary file inner lexemes) (λ (part : Part). Ok (then_suffix (place_of (length file) lexemes) part
-        (drop part.taken lexemes)))
+    (drop part.taken lexemes)))
 
 abbrev pub prefix_sign : TokenKind → Option (Form → Extent → Form)
 prefix_sign And = Some form.And
@@ -159,8 +164,13 @@ prefix_sign _ = None
 
 abbrev pub with_prefix : (start : ℕ) → (Form → Extent → Form) → Part → Part
 with_prefix start sign part =
-    record { form = sign part.form
-        (between start part.last); taken = 1 + part.taken; last = part.last; depth = part.depth }
+    record {
+      form = sign part.form
+          (between start part.last);
+      taken = 1 + part.taken;
+      last = part.last;
+      depth = part.depth;
+    }
 
 abbrev pub prefix_of : List ℕ → Option Reading → Lexeme → List Lexeme → Option (Form → Extent → Form) → Result Part Halt
 prefix_of file inner lexeme rest None = suffix file inner (lexeme ∷ rest)
@@ -179,8 +189,13 @@ no_more last = record { forms = []; taken = 0; last = last; depth = 0 }
 
 abbrev pub and_parts : Part → Parts → Parts
 and_parts part parts =
-    record { forms = part.form ∷
-        parts.forms; taken = part.taken + parts.taken; last = parts.last; depth = max part.depth parts.depth }
+    record {
+      forms = part.form ∷
+          parts.forms;
+      taken = part.taken + parts.taken;
+      last = parts.last;
+      depth = max part.depth parts.depth;
+    }
 
 -- readings, one behind the other, as long as one begins, behind so many tokens
 unfoldable pub many_behind : (List Lexeme → Bool) → Reading → (before : ℕ) → List Lexeme → (skipped : ℕ)
@@ -188,8 +203,8 @@ unfoldable pub many_behind : (List Lexeme → Bool) → Reading → (before : �
 many_behind begins read before [] skipped = Ok (no_more before)
 many_behind begins read before (lexeme ∷ rest) zero =
     if begins (lexeme ∷ rest) then and_read (read before (lexeme ∷ rest))
-        (λ (part : Part). and_read (many_behind begins read part.last rest (part.taken - 1))
-        (λ (parts : Parts). Ok (and_parts part parts))) else Ok (no_more before)
+    (λ (part : Part). and_read (many_behind begins read part.last rest (part.taken - 1))
+    (λ (parts : Parts). Ok (and_parts part parts))) else Ok (no_more before)
 many_behind begins read before (lexeme ∷ rest) (suc skipped) = many_behind begins read before rest skipped
 
 abbrev pub many : (List Lexeme → Bool) → Reading → (before : ℕ) → List Lexeme → Result Parts Halt
@@ -197,13 +212,18 @@ many begins read before lexemes = many_behind begins read before lexemes 0
 
 abbrev pub sequence_part : (before start : ℕ) → Parts → Part
 sequence_part before start parts =
-    record { form = sequence_spelled before
-        (between start parts.last) parts.forms; taken = parts.taken; last = parts.last; depth = parts.depth }
+    record {
+      form = sequence_spelled before
+          (between start parts.last) parts.forms;
+      taken = parts.taken;
+      last = parts.last;
+      depth = parts.depth;
+    }
 
 unfoldable pub sequence : List ℕ → Option Reading → Reading
 sequence file inner before lexemes =
     and_read (many begins_prefix (λ before. prefix file inner) before lexemes)
-        (λ (parts : Parts). Ok (sequence_part before (place_of (length file) lexemes) parts))
+    (λ (parts : Parts). Ok (sequence_part before (place_of (length file) lexemes) parts))
 
 abbrev pub is_slash : TokenKind → Bool
 is_slash Slash = true
@@ -221,15 +241,20 @@ alternative file inner before (slash ∷ rest) =
 
 abbrev pub choice_part : (start : ℕ) → Part → Parts → Part
 choice_part start first more =
-    record { form = choice_spelled (between start more.last)
-        (first.form ∷
-        more.forms); taken = first.taken + more.taken; last = more.last; depth = max first.depth more.depth }
+    record {
+      form = choice_spelled (between start more.last)
+          (first.form ∷
+          more.forms);
+      taken = first.taken + more.taken;
+      last = more.last;
+      depth = max first.depth more.depth;
+    }
 
 abbrev pub expression : List ℕ → Option Reading → Reading
 expression file inner before lexemes =
     and_read (sequence file inner before lexemes) (λ (first : Part). and_read
-        (many starts_with_slash (alternative file inner) first.last (drop first.taken lexemes))
-        (λ (more : Parts). Ok (choice_part (place_of (length file) lexemes) first more)))
+    (many starts_with_slash (alternative file inner) first.last (drop first.taken lexemes))
+    (λ (more : Parts). Ok (choice_part (place_of (length file) lexemes) first more)))
 
 -- an expression in which so many parentheses may be open at once
 unfoldable pub expression_in : List ℕ → ℕ → Reading
@@ -276,7 +301,7 @@ unfoldable pub definitions_behind : List ℕ → (most : ℕ) → List Lexeme �
 definitions_behind file most [] skipped = Ok (record { rules = []; depth = 0 })
 definitions_behind file most (lexeme ∷ rest) zero =
     and_read (definition file most (lexeme ∷ rest)) (λ (first : RulePart). and_read
-        (definitions_behind file most rest (first.taken - 1)) (λ (more : Rules). Ok (and_rules first more)))
+    (definitions_behind file most rest (first.taken - 1)) (λ (more : Rules). Ok (and_rules first more)))
 definitions_behind file most (lexeme ∷ rest) (suc skipped) = definitions_behind file most rest skipped
 
 -- one definition at least
