@@ -1,7 +1,7 @@
 -- Reading with a bound on the parentheses that may be open, beside reading without one: what nests no deeper is read
 -- alike, what nests deeper is too deep, and what can't be read isn't, or is found too deep before.
-use Rattle.std.proofs.Common.{◌≡◌, ℕ, zero, suc, max, ◌+◌, ◌-◌, ◌<◌, ◌≤◌, Bool, true, false, List, [], ◌∷◌, length, drop, length-drop, ◌⊎◌, inl, inr}
-use Rattle.std.proofs.Common.{Option, None, Some, Result, Ok, Err, if◌then◌else◌, refl, sym, ap, ◌∙◌, subst, arith}
+use Rattle.std.proofs.Common.{◌≡◌, ℕ, zero, suc, max, ◌-◌, ◌<◌, ◌≤◌, Bool, true, false, List, [], ◌∷◌, length, drop, length-drop, ◌⊎◌, inl, inr}
+use Rattle.std.proofs.Common.{Result, Ok, Err, if◌then◌else◌, refl, sym, ap, ◌∙◌, subst, arith}
 use Rattle.std.proofs.lemmas.Bool.{cases_lt}
 use Rattle.peg_notation.specs.Reader.{Halt, Unexpected, TooDeep, Part, Parts, Reading, and_read, no_more, and_parts, many_behind, many}
 use Rattle.peg_notation.specs.Tokens.{Lexeme}

@@ -1,6 +1,6 @@
 -- The reader's `sequence` and `expression` say what the figure's Sequence and Expression say.
-use Rattle.std.proofs.Common.{◌≡◌, ◌≢◌, ℕ, zero, suc, max, ◌+◌, ◌<◌, ◌≤◌, Bool, true, false, List, [], ◌∷◌, ◌++◌, map, length, drop, length-drop, codes, inl, inr}
-use Rattle.std.proofs.Common.{Option, None, Some, Result, Ok, Err, refl, sym, ap, ◌∙◌, subst, arith, append-nil}
+use Rattle.std.proofs.Common.{◌≡◌, ℕ, zero, suc, ◌+◌, ◌≤◌, Bool, true, false, List, [], ◌∷◌, ◌++◌, map, length, drop, length-drop, codes, inl, inr}
+use Rattle.std.proofs.Common.{Option, None, Some, Result, Ok, Err, refl, sym, ap, ◌∙◌, subst, arith}
 use Rattle.std.proofs.lemmas.List.{drop-drop}
 use Rattle.peg_bytes.specs.Extent.{Extent, between}
 use Rattle.peg_tree.specs.Trees.{Trees, NoTrees, Tree, followed_by}
@@ -13,7 +13,7 @@ use Rattle.peg_notation.specs.FigureRules as rule
 use Rattle.peg_notation.specs.Lexical.{text_of}
 use Rattle.peg_notation.specs.Pieces.{Piece}
 use Rattle.peg_notation.specs.Reader.{Halt, Unexpected, TooDeep, Part, Parts, Reading, place_of, starts_with_arrow, kind_begins, begins_prefix, and_read, many, primary, suffix, prefix, sequence_part, sequence, is_slash, starts_with_slash, behind, alternative, choice_part, expression, expression_in}
-use Rattle.peg_notation.specs.Spelled.{Spelling, Expression, text_end, spelled, expressions_in, sequence_spelled, choice_spelled, nesting}
+use Rattle.peg_notation.specs.Spelled.{Spelling, Expression, text_end, spelled, expressions_in, sequence_spelled, choice_spelled}
 use Rattle.peg_notation.specs.Tokens.{Lexeme}
 use Rattle.peg_notation.specs.declared.token.TokenKind.{TokenKind}
 use Rattle.peg_notation.specs.declared.token.TokenKind.TheVariants as kind
@@ -21,8 +21,8 @@ use Rattle.peg_notation.proofs.FigureNames.{sequence-meant, expression-meant}
 use Rattle.peg_notation.proofs.Lexemes.{lexeme_at}
 use Rattle.peg_notation.proofs.PieceSizes.{blank-these}
 use Rattle.peg_notation.proofs.PrefixRules.{prefix-exact}
-use Rattle.peg_notation.proofs.Readings.{followed-none, ReadsAny, ExactAny, ReadsAt, ExactAt, Stops, IsStuck, Good, node_at, place-is}
-use Rattle.peg_notation.proofs.Repeats.{ReadsRound, StarStops, ExactRound, Rounds, ReadsMany, ExactMany, rounds}
+use Rattle.peg_notation.proofs.Readings.{followed-none, ExactAny, ReadsAt, ExactAt, IsStuck, Good, node_at, place-is}
+use Rattle.peg_notation.proofs.Repeats.{ExactRound, Rounds, ExactMany, rounds}
 use Rattle.peg_notation.proofs.Streams.{Stream, here, not_here, none_here}
 use Rattle.peg_notation.proofs.Takes.{spelled-followed, text_end-followed, nesting-followed}
 use Rattle.peg_notation.proofs.Texts.{FindsToken, behind_text}

@@ -1,7 +1,7 @@
 -- The reader's `definition` and `grammar` say what the figure's Definition and Grammar say.
-use Rattle.std.proofs.Common.{◌≡◌, ◌≢◌, ℕ, zero, suc, max, ◌+◌, ◌-◌, ◌<◌, ◌≤◌, Bool, true, false, List, [], ◌∷◌, ◌++◌, map, length, drop, length-drop, codes, ◌⊎◌, inl, inr}
-use Rattle.std.proofs.Common.{Option, None, Some, Result, Ok, Err, refl, sym, ap, ◌∙◌, subst, arith, append-nil}
-use Rattle.std.proofs.lemmas.List.{drop-drop, drop_all}
+use Rattle.std.proofs.Common.{◌≡◌, ◌≢◌, ℕ, zero, suc, ◌+◌, ◌-◌, ◌<◌, ◌≤◌, List, [], ◌∷◌, ◌++◌, map, length, drop, length-drop, codes, ◌⊎◌, inl, inr}
+use Rattle.std.proofs.Common.{None, Some, Result, Ok, Err, refl, sym, ap, ◌∙◌, subst, arith, append-nil}
+use Rattle.std.proofs.lemmas.List.{drop_all}
 use Rattle.peg_bytes.specs.Extent.{Extent, between}
 use Rattle.peg_tree.specs.Trees.{Trees, NoTrees, Tree, followed_by}
 use Rattle.peg_grammar.specs.Form as form
@@ -13,7 +13,7 @@ use Rattle.peg_notation.specs.Figure.{figure, definition_body, grammar_body, end
 use Rattle.peg_notation.specs.FigureRules as rule
 use Rattle.peg_notation.specs.Lexical.{text_of, spacing}
 use Rattle.peg_notation.specs.Pieces.{Piece}
-use Rattle.peg_notation.specs.Reader.{Halt, Unexpected, TooDeep, Part, place_of, starts_with_arrow, is_arrow, and_read, expression_in, RulePart, Rules, and_rules, rule_of, definition_behind, definition_of, definition, definitions_behind, grammar}
+use Rattle.peg_notation.specs.Reader.{Halt, Unexpected, TooDeep, Part, starts_with_arrow, is_arrow, and_read, expression_in, RulePart, Rules, and_rules, rule_of, definition_behind, definition_of, definition, definitions_behind, grammar}
 use Rattle.peg_notation.specs.Spelled.{Spelling, Definition, Word, Expression, text_end, part, spelled, definition_spelled, rules_in, rules_spelled, nesting}
 use Rattle.peg_notation.specs.Tokens.{Lexeme}
 use Rattle.peg_notation.specs.declared.token.TokenKind.{TokenKind}
@@ -22,10 +22,10 @@ use Rattle.peg_notation.proofs.ExpressionRules.{expression_in-exact}
 use Rattle.peg_notation.proofs.FigureNames.{grammar-meant, definition-meant, end_of_file-meant}
 use Rattle.peg_notation.proofs.Lexemes.{lexeme_at}
 use Rattle.peg_notation.proofs.PieceSizes.{blank-these}
-use Rattle.peg_notation.proofs.Readings.{followed-none, ReadsAt, ExactAt, Stops, IsStuck}
+use Rattle.peg_notation.proofs.Readings.{followed-none, ExactAt, Stops, IsStuck}
 use Rattle.peg_notation.proofs.SpacingRules.{FindsSpacing, finds-spacing}
 use Rattle.peg_notation.proofs.Streams.{Stream, here, not_here, none_here, nothing_left}
-use Rattle.peg_notation.proofs.Takes.{spelled-followed, text_end-followed, nesting-followed}
+use Rattle.peg_notation.proofs.Takes.{spelled-followed, nesting-followed}
 use Rattle.peg_notation.proofs.Texts.{FindsToken, behind_text}
 
 -- ---- the end of the file

@@ -1,9 +1,9 @@
 -- The reader's `suffix` and `prefix` say what the figure's Suffix and Prefix say.
-use Rattle.std.proofs.Common.{◌≡◌, ◌≢◌, ℕ, suc, max, ◌+◌, ◌<◌, ◌≤◌, List, [], ◌∷◌, ◌++◌, length, drop, codes}
-use Rattle.std.proofs.Common.{Option, None, Some, Result, Ok, Err, refl, sym, ap, ◌∙◌, subst, arith, append-nil}
+use Rattle.std.proofs.Common.{◌≡◌, ◌≢◌, ℕ, suc, ◌+◌, ◌≤◌, List, [], ◌∷◌, ◌++◌, length, drop, codes}
+use Rattle.std.proofs.Common.{Option, Some, Result, Ok, Err, refl, sym, ap, ◌∙◌, subst, arith}
 use Rattle.std.proofs.lemmas.List.{drop-drop}
 use Rattle.peg_bytes.specs.Extent.{Extent, between}
-use Rattle.peg_tree.specs.Trees.{Trees, NoTrees, Tree, followed_by}
+use Rattle.peg_tree.specs.Trees.{Trees, followed_by}
 use Rattle.peg_grammar.specs.Form as form
 use Rattle.peg_grammar.specs.Form.{Form, Name}
 use Rattle.peg_grammar.specs.Record.{Failed, Matched}
@@ -13,7 +13,7 @@ use Rattle.peg_notation.specs.FigureRules as rule
 use Rattle.peg_notation.specs.Lexical.{text_of}
 use Rattle.peg_notation.specs.Pieces.{Piece}
 use Rattle.peg_notation.specs.Reader.{Halt, Unexpected, TooDeep, Part, Reading, place_of, and_read, primary, then_suffix, suffix, with_prefix, prefix_of, prefix_sign, prefix}
-use Rattle.peg_notation.specs.Spelled.{Spelling, Expression, Sign, text_end, spelled, signed, nesting}
+use Rattle.peg_notation.specs.Spelled.{Spelling, Expression, Sign, text_end, spelled, signed}
 use Rattle.peg_notation.specs.Tokens.{Lexeme}
 use Rattle.peg_notation.specs.declared.token.TokenKind.{TokenKind}
 use Rattle.peg_notation.specs.declared.token.TokenKind.TheVariants as kind

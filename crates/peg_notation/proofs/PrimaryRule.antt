@@ -1,5 +1,5 @@
 -- The reader's `primary` says what the figure's Primary says.
-use Rattle.std.proofs.Common.{◌≡◌, ◌≢◌, ℕ, suc, max, ◌+◌, ◌<◌, ◌≤◌, Bool, true, false, ◌&&◌, ◌||◌, List, [], ◌∷◌, ◌++◌, length, drop, codes, ◌⊎◌, inl, inr}
+use Rattle.std.proofs.Common.{◌≡◌, ◌≢◌, ℕ, suc, max, ◌+◌, ◌≤◌, Bool, true, false, ◌||◌, List, [], ◌∷◌, ◌++◌, length, drop, codes, ◌⊎◌, inl, inr}
 use Rattle.std.proofs.Common.{Option, None, Some, Result, Ok, Err, option_map, unwrap_or, if◌then◌else◌, ◌==◌, refl, sym, ap, ◌∙◌, subst, arith, append-nil}
 use Rattle.std.proofs.lemmas.List.{drop-drop}
 use Rattle.peg_bytes.specs.Extent.{Extent, between}
@@ -22,7 +22,7 @@ use Rattle.peg_notation.proofs.FigureNames.{primary-meant}
 use Rattle.peg_notation.proofs.Lexemes.{lexeme_at}
 use Rattle.peg_notation.proofs.PieceSizes.{blank-these}
 use Rattle.peg_notation.proofs.Takes.{spelled-followed, text_end-followed, nesting-followed}
-use Rattle.peg_notation.proofs.Readings.{followed-none, has_open-followed, ReadsAny, ExactAny, ExactAt, ReadsAt, Stops, IsStuck, Good}
+use Rattle.peg_notation.proofs.Readings.{followed-none, has_open-followed, ReadsAny, ExactAny, ExactAt, ReadsAt, IsStuck, Good}
 use Rattle.peg_notation.proofs.Streams.{Stream, number_of, here, not_here, none_here}
 use Rattle.peg_notation.proofs.Texts.{FindsToken, behind_text}
 

@@ -1,10 +1,10 @@
 -- Readings take tokens.
-use Rattle.std.proofs.Common.{◌≡◌, ℕ, suc, ◌+◌, ◌<◌, ◌≤◌, Bool, true, false, List, [], ◌∷◌, length, drop, refl, sym, ap, ◌∙◌, subst, arith}
+use Rattle.std.proofs.Common.{◌≡◌, ℕ, ◌<◌, ◌≤◌, Bool, true, false, List, [], ◌∷◌, length, drop, subst, arith}
 use Rattle.std.proofs.Common.{Option, None, Some, Result, Ok, Err, if◌then◌else◌}
 use Rattle.peg_bytes.specs.Extent.{Extent}
 use Rattle.peg_grammar.specs.Form as form
 use Rattle.peg_grammar.specs.Form.{Form}
-use Rattle.peg_notation.specs.Reader.{Halt, Unexpected, TooDeep, Part, Reading, place_of, starts_with_arrow, and_read, one_token, close_of, closed, parenthesized, named, primary_of, primary, with_suffix, then_suffix, suffix_sign, suffix, with_prefix, prefix_sign, prefix_of, prefix}
+use Rattle.peg_notation.specs.Reader.{Halt, Unexpected, Part, Reading, place_of, starts_with_arrow, and_read, one_token, close_of, closed, parenthesized, named, primary_of, primary, with_suffix, then_suffix, suffix_sign, suffix, with_prefix, prefix_sign, prefix_of, prefix}
 use Rattle.peg_notation.specs.Spelled.{part}
 use Rattle.peg_notation.specs.Tokens.{Lexeme}
 use Rattle.peg_notation.specs.declared.token.TokenKind.{TokenKind}

@@ -1,11 +1,11 @@
 -- The reader with at most so many parentheses open at once, beside the reader without such a bound.
-use Rattle.std.proofs.Common.{◌≡◌, ℕ, zero, suc, max, ◌+◌, ◌<◌, ◌≤◌, Bool, true, false, List, [], ◌∷◌, length, drop, length-drop, ◌⊎◌, inl, inr}
-use Rattle.std.proofs.Common.{Option, None, Some, Result, Ok, Err, if◌then◌else◌, refl, sym, ap, ◌∙◌, subst, arith}
+use Rattle.std.proofs.Common.{◌≡◌, ℕ, zero, suc, ◌+◌, ◌<◌, ◌≤◌, Bool, true, false, List, [], ◌∷◌, length, drop, inl, inr}
+use Rattle.std.proofs.Common.{Option, None, Some, Result, Ok, Err, if◌then◌else◌, refl, sym, ap, subst, arith}
 use Rattle.std.proofs.lemmas.Bool.{cases_lt}
 use Rattle.peg_bytes.specs.Extent.{Extent}
 use Rattle.peg_grammar.specs.Form as form
 use Rattle.peg_grammar.specs.Form.{Form}
-use Rattle.peg_notation.specs.Reader.{Halt, Unexpected, TooDeep, Part, Parts, Reading, place_of, starts_with_arrow, begins_prefix, and_read, one_token, close_of, closed, parenthesized, named, primary_of, primary, with_suffix, then_suffix, suffix_sign, suffix, with_prefix, prefix_sign, prefix_of, prefix, sequence_part, sequence, starts_with_slash, behind, alternative, choice_part, expression, expression_in, RulePart, Rules, and_rules, rule_of, definition_behind, definition_of, definition, definitions_behind, grammar, many}
+use Rattle.peg_notation.specs.Reader.{Halt, Unexpected, TooDeep, Part, Parts, Reading, place_of, starts_with_arrow, begins_prefix, and_read, one_token, close_of, closed, parenthesized, named, primary_of, primary, with_suffix, then_suffix, suffix_sign, suffix, with_prefix, prefix_sign, prefix_of, prefix, sequence_part, sequence, starts_with_slash, behind, alternative, choice_part, expression, expression_in, many}
 use Rattle.peg_notation.specs.Spelled.{part}
 use Rattle.peg_notation.specs.Tokens.{Lexeme}
 use Rattle.peg_notation.specs.declared.token.TokenKind.{TokenKind}

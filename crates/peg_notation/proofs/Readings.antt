@@ -1,10 +1,10 @@
 -- What it is that the reader's functions say what the figure says: at a place where tokens stand, a rule of the figure
 -- matches just what is read, or fails, or goes no further than a token that nothing can follow.
-use Rattle.std.proofs.Common.{◌≡◌, ℕ, max, ◌+◌, ◌<◌, ◌≤◌, Bool, true, false, ◌&&◌, ◌||◌, List, [], ◌∷◌, ◌++◌, length, drop, codes, ◌⊎◌, inl, inr}
-use Rattle.std.proofs.Common.{Option, None, Some, Result, Ok, Err, if◌then◌else◌, ◌==◌, refl, sym, ap, ◌∙◌, subst, arith, append-nil}
-use Rattle.peg_bytes.specs.Extent.{Extent, between}
+use Rattle.std.proofs.Common.{◌≡◌, ℕ, max, ◌+◌, ◌<◌, Bool, true, false, ◌&&◌, ◌||◌, List, [], ◌∷◌, length, drop, codes, ◌⊎◌}
+use Rattle.std.proofs.Common.{Option, None, Some, Result, Ok, Err, if◌then◌else◌, ◌==◌, refl, sym, ap, ◌∙◌, arith, append-nil}
+use Rattle.peg_bytes.specs.Extent.{Extent}
 use Rattle.peg_tree.specs.Trees.{Trees, NoTrees, Tree, followed_by}
-use Rattle.peg_grammar.specs.Form.{Form, Name}
+use Rattle.peg_grammar.specs.Form.{Name}
 use Rattle.peg_grammar.specs.Record.{Failed, Matched}
 use Rattle.peg_grammar.specs.Rules.{Meaning, meant}
 use Rattle.peg_grammar.proofs.Derivations.{Derives}

@@ -1,16 +1,15 @@
 -- The tokens of a file from a place on, each with the text that stands there.
-use Rattle.std.proofs.Common.{◌≡◌, ◌≢◌, ℕ, zero, suc, ◌+◌, ◌<◌, ◌≤◌, List, [], ◌∷◌, length, drop, codes, ◌⊎◌, inl, inr}
-use Rattle.std.proofs.Common.{Option, None, Some, refl, sym, ap, ◌∙◌, subst, arith, get_or, drop-cons}
+use Rattle.std.proofs.Common.{◌≡◌, ◌≢◌, ℕ, ◌+◌, List, [], ◌∷◌, length, drop, ◌⊎◌, inl, inr}
+use Rattle.std.proofs.Common.{Option, None, Some, refl, sym, ap, ◌∙◌, subst, arith}
 use Rattle.std.proofs.lemmas.List.{drop_all}
 use Rattle.peg_bytes.specs.Extent.{Extent, between}
-use Rattle.peg_tree.specs.Trees.{Trees, NoTrees, Tree}
+use Rattle.peg_tree.specs.Trees.{Trees}
 use Rattle.peg_grammar.specs.Form.{Name}
-use Rattle.peg_grammar.specs.Record.{Recognition, Record, Failed, Matched, IsRecord}
+use Rattle.peg_grammar.specs.Record.{Recognition, Failed, Matched}
 use Rattle.peg_grammar.proofs.Derivations.{Derives, derived, one_result}
 use Rattle.peg_notation.specs.Figure.{figure}
 use Rattle.peg_notation.specs.FigureRules as rule
 use Rattle.peg_notation.specs.Lexical.{text_of, kind_of, identifier, literal, quoted, class}
-use Rattle.peg_notation.specs.Notation.{Matches}
 use Rattle.peg_notation.specs.Pieces.{Piece}
 use Rattle.peg_notation.specs.Spelled.{text_end}
 use Rattle.peg_notation.specs.Tokens.{rule_of_kind, Lexeme, IsLexeme, Lexemes}
