@@ -1,4 +1,4 @@
-use Rattle.std.proofs.Common.{ℕ, ◌≡◌, List, map, length, take, ◌∙◌, ap, arith}
+use Rattle.std.proofs.Common.{◌≡◌, List, map, take, ◌∙◌, ap, arith}
 use Rattle.std.proofs.lemmas.List.{take_all}
 use Rattle.peg_notation.specs.Ranges.{in_ranges}
 use Rattle.peg_notation.specs.RangesCode.{range_of}
