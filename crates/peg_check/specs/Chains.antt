@@ -1,14 +1,14 @@
 -- Which forms go by a form: chains of entries, the newest first. Entry n stands at n - 1, and 0 is none.
-use Rattle.std.specs.Prelude.{◌≡◌, ℕ, suc, ◌<◌, ◌≤◌, List, Some, length, slice_get, slice_index}
+use Rattle.std.specs.Prelude.{◌≡◌, ℕ, suc, ◌<◌, ◌≤◌, List, Some, length, slice_get, slice_index, slice_index_or}
 use Rattle.peg_check.specs.Links.{GoesBy}
 use Rattle.peg_check.specs.declared.link.Link.{Link}
 use Rattle.peg_check.specs.declared.uses.Use.{Use}
 use Rattle.peg_check.specs.declared.uses.Uses.{Uses}
-use Rattle.std.specs.Prelude.{slice_index_or}
 
 -- going from an entry to the older ones meets this user
 pub data Leads (entries : List Use) : (from user : ℕ) → Type 0 where
-  here : (at user : ℕ) (entry : Use) → slice_get entries at ≡ Some entry → entry.user ≡ user → Leads entries (suc at) user
+  here : (at user : ℕ) (entry : Use) → slice_get entries at ≡ Some entry → entry.user ≡ user
+      → Leads entries (suc at) user
   there : (at user : ℕ) (entry : Use) → slice_get entries at ≡ Some entry → Leads entries entry.older user
       → Leads entries (suc at) user
 

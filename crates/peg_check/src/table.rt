@@ -57,9 +57,9 @@ impl Table {
     }
 }
 
-/// The table of a grammar's core forms: of each, what it can do by Ford's rules. Each of the three is found once for each
-/// form at most, and then the forms that go by that form are looked at again: this takes time and memory linear in the
-/// number of forms.
+/// The table of a grammar's core forms: of each, what it can do by Ford's rules. Each of the three is found once for a
+/// form at most, and then the forms that go by that form are looked at again, so this takes time and memory linear in
+/// the number of forms.
 pub fn table_of(alloc: Global, core: &Core) -> Result<Table, AllocError>
     ensures { IfOk result (λ table. IsExactTable core.now table) }
 {

@@ -85,9 +85,11 @@ impl Uses {
         requires within { part < length self.now.newest.items }
         requires forms { All (λ number. number < length self.now.newest.items) pending.old.items }
         ensures users { OnOk result ((user : ℕ) → IsUsedBy self.now part user → Contains pending.new.items user) }
-        ensures kept { OnOk result ((number : ℕ) → Contains pending.old.items number → Contains pending.new.items number) }
+        ensures kept { OnOk result ((number : ℕ) → Contains pending.old.items number
+            → Contains pending.new.items number) }
         ensures forms { OnOk result (All (λ number. number < length self.now.newest.items) pending.new.items) }
-        ensures few { OnOk result (length pending.new.items ≤ length pending.old.items + length self.now.entries.items) }
+        ensures few { OnOk result (length pending.new.items
+            ≤ length pending.old.items + length self.now.entries.items) }
     {
         let mut at = self.newest[part as usize];
         while at > 0 {
