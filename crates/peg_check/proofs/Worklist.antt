@@ -1,0 +1,103 @@
+-- A form that has all that follows by its link stays so, but where one that it goes by can do more.
+use Rattle.std.proofs.Common.{◌≡◌, ℕ, ◌<◌, ◌⊎◌, inl, inr, All, Contains, List, [], ◌∷◌, ◌++◌, length, take, drop, get_or, refl, sym, ap, ◌∙◌, subst, arith, length-append}
+use Rattle.std.proofs.lemmas.Bool.{cases_eq}
+use Rattle.std.proofs.Math.Seq.{take-append_seam}
+use Rattle.std.proofs.lemmas.List.{get_or_append_left, get_or-set_other, get_or-set_same, length-set}
+use Rattle.std.proofs.lemmas.List.Elements.{All-contains, Contains-push, Contains-push_cases}
+use Rattle.peg_grammar.specs.AbstractOutcomes.{Can, CanAll, both, either, again, not_ahead}
+use Rattle.peg_check.specs.Cans.{can_of, can_at, nothing_known}
+use Rattle.peg_check.specs.Links.{link_can, GoesBy}
+use Rattle.peg_check.specs.Steps.{added_to, looked_at}
+use Rattle.peg_check.specs.declared.can.Can as code
+use Rattle.peg_check.specs.declared.link.Link.{Link}
+use Rattle.peg_check.specs.declared.link.Link.TheVariants as link
+use Rattle.peg_check.proofs.OutcomeTables.{link_at, IsClosed, added-more}
+
+-- a link goes by this form, or tells the same whatever that form can do
+module _ (f g : ℕ → Can) (number : ℕ) (same : (k : ℕ) → (k ≡ number → ⊥) → f k ≡ g k) where
+  one : (part : ℕ) → (part ≡ number) ⊎ (f part ≡ g part)
+  one part = elim (cases_eq part number) [ inl is ↦ inl is | inr other ↦ inr (same part other) ]
+
+  goes_by-or-same : (l : Link) → GoesBy l number ⊎ (link_can f l ≡ link_can g l)
+  goes_by-or-same (link.Known known) = inr refl
+  goes_by-or-same (link.Same part) = one part
+  goes_by-or-same (link.Both first rest) =
+      elim (one first) [ inl is ↦ inl (inl is) | inr a ↦ elim (one rest) [ inl is ↦ inl (inr is) | inr b ↦ inr (λ i. both (a i) (b i)) ] ]
+  goes_by-or-same (link.Either first rest) =
+      elim (one first) [ inl is ↦ inl (inl is) | inr a ↦ elim (one rest) [ inl is ↦ inl (inr is) | inr b ↦ inr (λ i. either (a i) (b i)) ] ]
+  goes_by-or-same (link.Again part) = elim (one part) [ inl is ↦ inl is | inr a ↦ inr (λ i. again (a i)) ]
+  goes_by-or-same (link.NotAhead part) = elim (one part) [ inl is ↦ inl is | inr a ↦ inr (λ i. not_ahead (a i)) ]
+
+module _ (count : ℕ) (links : List Link) where
+  -- each form is in the list, or has all that follows by its link
+  abbrev pub AreAwaited : List code.Can → List ℕ → Type 0
+  AreAwaited cans pending = (k : ℕ) → k < count → Contains pending k ⊎ IsClosed cans (link_at links k) k
+
+  module _ (cans : List code.Can) (number : ℕ) (within : number < length cans) (pending rest : List ℕ)
+      (taken : pending ≡ rest ++ number ∷ []) (awaited : AreAwaited cans pending) where
+    -- a look at a form leaves it with what followed by its link
+    has-looked : CanAll (link_can (can_at cans) (link_at links number)) (can_at (looked_at cans (link_at links number) number) number)
+    has-looked =
+        let known = get_or cans number nothing_known in
+        let can = link_can (can_at cans) (link_at links number) in
+        subst (λ (v : code.Can). CanAll can (can_of v)) (sym (get_or-set_same cans number (added_to known can) nothing_known within))
+        (added-more known can)
+
+    -- nothing more was found: the form has all
+    pub awaited-same : looked_at cans (link_at links number) number ≡ cans → AreAwaited cans rest
+    awaited-same same k below = by (awaited k below)
+      where
+        by : Contains pending k ⊎ IsClosed cans (link_at links k) k → Contains rest k ⊎ IsClosed cans (link_at links k) k
+        by (inr closed) = inr closed
+        by (inl had) = elim (Contains-push_cases rest number k (subst (λ (l : List ℕ). Contains l k) taken had)) [ inl still ↦ inl still | inr is ↦ inr (subst (λ j. IsClosed cans (link_at links j) j) is (subst (λ (after : List code.Can). CanAll (link_can (can_at cans) (link_at links number)) (can_at after number)) same has-looked)) ]
+
+    -- something was found: the form's users are in the list again
+    pub awaited-more : (after : List ℕ) → ((k : ℕ) → Contains rest k → Contains after k)
+        → ((k : ℕ) → k < count → GoesBy (link_at links k) number → Contains after k)
+        → AreAwaited (looked_at cans (link_at links number) number) after
+    awaited-more after kept users k below =
+        by (goes_by-or-same (can_at (looked_at cans (link_at links number) number)) (can_at cans) number other (link_at links k)) (cases_eq k number) (awaited k below)
+      where
+        other : (j : ℕ) → (j ≡ number → ⊥) → can_at (looked_at cans (link_at links number) number) j ≡ can_at cans j
+        other j differs =
+            let can = link_can (can_at cans) (link_at links number) in
+            ap can_of (get_or-set_other cans number j (added_to (get_or cans number nothing_known) can) nothing_known differs)
+
+        by : GoesBy (link_at links k) number ⊎ (link_can (can_at (looked_at cans (link_at links number) number)) (link_at links k) ≡ link_can (can_at cans) (link_at links k))
+            → (k ≡ number) ⊎ (k ≡ number → ⊥) → Contains pending k ⊎ IsClosed cans (link_at links k) k
+            → Contains after k ⊎ IsClosed (looked_at cans (link_at links number) number) (link_at links k) k
+        by (inl goes) _ _ = inl (users k below goes)
+        by (inr same) (inl is) _ =
+            inr (subst (λ v. CanAll v (can_at (looked_at cans (link_at links number) number) k)) (sym same) (subst (λ j. CanAll (link_can (can_at cans) (link_at links j)) (can_at (looked_at cans (link_at links number) number) j)) (sym is) has-looked))
+        by (inr same) (inr differs) (inl had) =
+            elim (Contains-push_cases rest number k (subst (λ (l : List ℕ). Contains l k) taken had)) [ inl still ↦ inl (kept k still) | inr is ↦ absurd (differs (sym is)) ]
+        by (inr same) (inr differs) (inr closed) =
+            inr (subst (λ v. CanAll v (can_at (looked_at cans (link_at links number) number) k)) (sym same) (subst (CanAll (link_can (can_at cans) (link_at links k))) (sym (other k differs)) closed))
+
+-- ---- one form is taken from the list
+
+pub all_taken : (P : ℕ → Type 0) (pending rest : List ℕ) (number : ℕ) → pending ≡ rest ++ number ∷ [] → All P pending
+    → All P rest
+all_taken P pending rest number taken all k d below =
+    let longer : k < length pending = omega (arith, ap length taken, length-append rest (number ∷ [])) in
+    subst P (ap (λ (l : List ℕ). get_or l k d) taken ∙ get_or_append_left rest (number ∷ []) d k below) (all k d longer)
+
+pub last_taken : (P : ℕ → Type 0) (pending rest : List ℕ) (number : ℕ) → pending ≡ rest ++ number ∷ [] → All P pending
+    → P number
+last_taken P pending rest number taken all =
+    All-contains P pending number all (subst (λ (l : List ℕ). Contains l number) (sym taken) (Contains-push rest number))
+
+-- the entries after a look, as a slice of all of them
+pub whole-looked : (n number : ℕ) (items now new : List code.Can) (l m : Link) → n ≡ length items → now ≡ items → l ≡ m
+    → new ≡ looked_at now l number → take n (new ++ drop (length new) items) ≡ looked_at items m number
+whole-looked n number items now new l m counted same is looked =
+    let all : new ≡ looked_at items m number = looked ∙ (λ i. looked_at (same i) (is i) number) in
+    let many : length new ≡ length items = ap length all ∙ length-set items number (added_to (get_or items number nothing_known) (link_can (can_at items) m)) in
+    ap (λ k. take k (new ++ drop (length new) items)) (counted ∙ sym many)
+    ∙ (take-append_seam new (drop (length new) items) ∙ all)
+
+pub whole-same : (n : ℕ) (items new : List code.Can) → n ≡ length items → new ≡ items
+    → take n (new ++ drop (length new) items) ≡ items
+whole-same n items new counted same =
+    ap (λ k. take k (new ++ drop (length new) items)) (counted ∙ ap length (sym same))
+    ∙ (take-append_seam new (drop (length new) items) ∙ same)

@@ -1,0 +1,23 @@
+use Rattle.std.proofs.Common.{Bool, true, false, sym, ap, ◌∙◌}
+use Rattle.peg_bytes.specs.ByteSet.{bytes_of}
+use Rattle.peg_grammar.specs.AbstractOutcomes.{Can}
+use Rattle.peg_core.specs.CoreOutcomes.{core_can_table}
+use Rattle.peg_check.specs.Exact.{bodies_of}
+use Rattle.peg_check.proofs.LinkLemmas.{not-empty, rule-is}
+use Rattle.peg_check.proofs.link.link_of.Goals as goal
+
+pub returns-in-Test : goal.returns-in-Test
+returns-in-Test c =
+    let test = λ (some : Bool). let can : Can = record { nothing = false; something = some; fails = true } in can in
+    record {
+      fits = tt;
+      tells = λ judge. ap (core_can_table (bodies_of c.args.core.now) judge) c.in-Test.ensures.form.1
+          ∙ ap test (sym (not-empty (bytes_of c.in-Test.set) c.is_empty.result c.is_empty.ensures));
+    }
+
+pub returns-in-Rule : goal.returns-in-Rule
+returns-in-Rule c = record {
+  fits = c.body.ensures.within;
+  tells = λ judge. ap (core_can_table (bodies_of c.args.core.now) judge) c.in-Rule.ensures.form.1
+      ∙ rule-is c.args.core.now judge c.in-Rule.rule c.body.result c.body.ensures.number;
+}

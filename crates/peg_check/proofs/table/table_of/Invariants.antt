@@ -1,0 +1,18 @@
+use Rattle.std.proofs.Common.{◌≡◌, ◌+◌, ◌*◌, ◌<◌, All, length}
+use Rattle.peg_check.specs.Steps.{unknown_in}
+use Rattle.peg_check.proofs.OutcomeTables.{Holds}
+use Rattle.peg_check.proofs.Worklist.{AreAwaited}
+use Rattle.peg_check.proofs.table.table_of.Given as goal
+
+-- what is known holds, and what follows of it is known but for the forms still in the list
+abbrev pub invariant-looks : goal.invariant-looks
+invariant-looks l = record {
+  count : length l.entries.items ≡ length l.core.forms;
+  within : All (λ number. number < length l.core.forms) l.pending.items;
+  holds : Holds l.core l.entries.items;
+  awaited : AreAwaited (length l.core.forms) l.links.items l.entries.items l.pending.items;
+}
+
+-- each look takes one form from the list; it puts others there only where more is known
+abbrev pub decreases-looks : goal.decreases-looks
+decreases-looks l = unknown_in l.entries.items * (length l.uses.entries.items + 1) + length l.pending.items

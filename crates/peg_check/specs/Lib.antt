@@ -1,0 +1,9 @@
+pub use Rattle.peg_core.specs.CoreForm
+pub use Rattle.peg_core.specs.CoreOutcomes
+pub use Rattle.peg_core.specs.Layout
+pub use Rattle.peg_grammar.specs.AbstractOutcomes
+pub mod Cans
+pub mod Chains
+pub mod Exact
+pub mod Links
+pub mod Steps

@@ -1,0 +1,49 @@
+-- What a core form's outcomes depend on: those of the forms with some numbers.
+use Rattle.std.specs.Prelude.{◌≡◌, ℕ, ◌<◌, ◌⊎◌, List, length, slice_index_or}
+use Rattle.peg_grammar.specs.AbstractOutcomes.{Can, both, either, again, not_ahead}
+use Rattle.peg_core.specs.CoreForm.{CoreForm}
+use Rattle.peg_core.specs.CoreOutcomes.{CoreJudging, core_can_table}
+use Rattle.peg_core.specs.Layout.{Desugared, form_at}
+use Rattle.peg_check.specs.Cans.{can_of}
+use Rattle.peg_check.specs.Exact.{bodies_of}
+use Rattle.peg_check.specs.declared.link.Link.{Link}
+use Rattle.peg_check.specs.declared.link.Link.TheVariants as link
+
+-- what a form can do, where this is what the form with each number can do
+abbrev pub link_can : (ℕ → Can) → Link → Can
+link_can can (link.Known known) = can_of known
+link_can can (link.Same part) = can part
+link_can can (link.Both first rest) = both (can first) (can rest)
+link_can can (link.Either first rest) = either (can first) (can rest)
+link_can can (link.Again part) = again (can part)
+link_can can (link.NotAhead part) = not_ahead (can part)
+
+-- the numbers are below this one
+abbrev pub LinkFits : (count : ℕ) → Link → Type 0
+LinkFits count (link.Known known) = Unit {0}
+LinkFits count (link.Same part) = part < count
+LinkFits count (link.Both first rest) = (first < count) × (rest < count)
+LinkFits count (link.Either first rest) = (first < count) × (rest < count)
+LinkFits count (link.Again part) = part < count
+LinkFits count (link.NotAhead part) = part < count
+
+-- a form goes by the form with this number
+abbrev pub GoesBy : Link → ℕ → Type 0
+GoesBy (link.Known known) number = ⊥
+GoesBy (link.Same part) number = part ≡ number
+GoesBy (link.Both first rest) number = (first ≡ number) ⊎ (rest ≡ number)
+GoesBy (link.Either first rest) number = (first ≡ number) ⊎ (rest ≡ number)
+GoesBy (link.Again part) number = part ≡ number
+GoesBy (link.NotAhead part) number = part ≡ number
+
+-- a link tells of a form what Ford's rules tell of it, whatever forms can do
+pub record IsLinkOf (core : Desugared) (form : CoreForm) (link : Link) : Type 0 where
+  pub fits : LinkFits (length core.forms) link
+  pub tells : (judge : CoreJudging)
+      → core_can_table (bodies_of core) judge form ≡ link_can (λ part. judge (form_at core.forms part)) link
+
+-- each form has its link
+abbrev pub AreLinked : Desugared → List Link → Type 0
+AreLinked core links =
+    (number : ℕ) (d : Link) → number < length links
+    → IsLinkOf core (form_at core.forms number) (slice_index_or links number d)

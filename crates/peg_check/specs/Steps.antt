@@ -1,0 +1,33 @@
+-- How what is known of the forms grows.
+use Rattle.std.specs.Prelude.{ℕ, ◌+◌, Bool, true, false, ◌||◌, List, slice_index_or, slice_set}
+use Rattle.std.specs.List.{sum_by}
+use Rattle.peg_grammar.specs.AbstractOutcomes.{Can}
+use Rattle.peg_check.specs.Cans.{can_at, nothing_known}
+use Rattle.peg_check.specs.Links.{link_can}
+use Rattle.peg_check.specs.declared.can.Can as code
+use Rattle.peg_check.specs.declared.link.Link.{Link}
+
+-- what was known, and this
+abbrev pub added_to : code.Can → Can → code.Can
+added_to known can = record {
+  nothing = known.nothing || can.nothing;
+  something = known.something || can.something;
+  fails = known.fails || can.fails;
+}
+
+-- what a form can do by its link is known of it too
+abbrev pub looked_at : List code.Can → Link → (number : ℕ) → List code.Can
+looked_at cans link number =
+    slice_set cans number (added_to (slice_index_or cans number nothing_known) (link_can (can_at cans) link))
+
+-- how many of the three aren't known
+abbrev pub one_unless : Bool → ℕ
+one_unless true = 0
+one_unless false = 1
+
+abbrev pub unknown_of : code.Can → ℕ
+unknown_of can = one_unless can.nothing + one_unless can.something + one_unless can.fails
+
+-- how many aren't known of all forms
+abbrev pub unknown_in : List code.Can → ℕ
+unknown_in cans = sum_by unknown_of cans

@@ -1,0 +1,77 @@
+//! What each core form's outcomes depend on, by numbers alone.
+ghost use Rattle.std.specs.Prelude.{◌≡◌, ◌<◌, length, IfOk};
+ghost use Rattle.peg_core.specs.Layout.{form_at};
+ghost use Rattle.peg_check.specs.Cans.{can_at, can_of};
+ghost use Rattle.peg_check.specs.Links.{AreLinked, IsLinkOf, LinkFits, link_can};
+
+use crate::Can;
+use peg_core::{Core, Node};
+use std::alloc::{AllocError, Global};
+
+/// A core form with a rule's use taken for the rule's body, and a test for what it can do.
+#[derive(Clone, Copy, Debug)]
+pub(crate) enum Link {
+    /// It goes by no other form.
+    Known(Can),
+    /// What the form with this number can do.
+    Same(u32),
+    /// One after the other.
+    Both(u32, u32),
+    /// One, or where it fails the other.
+    Either(u32, u32),
+    /// Again and again, until it fails.
+    Again(u32),
+    /// Nothing, where it fails.
+    NotAhead(u32),
+}
+
+/// The links of all core forms, in order.
+pub(crate) fn links_of(alloc: Global, core: &Core) -> Result<Vec<Link>, AllocError>
+    ensures count { IfOk result (λ links. length links.items ≡ length core.now.forms) }
+    ensures linked { IfOk result (λ links. AreLinked core.now links.items) }
+{
+    let mut links = Vec::new(alloc);
+    for number in 0..core.len() {
+        links.push(link_of(core, number))?;
+    }
+    Ok(links)
+}
+
+// The link of the form with a number.
+fn link_of(core: &Core, number: u32) -> Link
+    requires { number < length core.now.forms }
+    ensures { IsLinkOf core.now (form_at core.now.forms number) result }
+{
+    match core.node(number) {
+        Node::Empty => Link::Known(Can {
+            nothing: true,
+            something: false,
+            fails: false,
+        }),
+        Node::Test { set, .. } => Link::Known(Can {
+            nothing: false,
+            something: !set.is_empty(),
+            fails: true,
+        }),
+        Node::Rule(rule) => Link::Same(core.body(rule)),
+        Node::Seq(first, rest) => Link::Both(first, rest),
+        Node::Choice(first, rest) => Link::Either(first, rest),
+        Node::Star(part) => Link::Again(part),
+        Node::Not(part) => Link::NotAhead(part),
+    }
+}
+
+/// What a form can do, by what the forms that it goes by are known to be able to do.
+pub(crate) fn judged(link: Link, cans: &[Can]) -> Can
+    requires { LinkFits (length cans.now) link }
+    ensures { can_of result ≡ link_can (can_at cans.now) link }
+{
+    match link {
+        Link::Known(can) => can,
+        Link::Same(part) => cans[part as usize],
+        Link::Both(first, rest) => cans[first as usize].then(cans[rest as usize]),
+        Link::Either(first, rest) => cans[first as usize].or_else(cans[rest as usize]),
+        Link::Again(part) => cans[part as usize].again(),
+        Link::NotAhead(part) => cans[part as usize].not_ahead(),
+    }
+}

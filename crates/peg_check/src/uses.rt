@@ -1,0 +1,102 @@
+//! Which forms go by a form, so that they can be looked at again.
+ghost use Rattle.std.specs.Prelude.{◌≡◌, ◌<◌, ◌≤◌, ◌+◌, ◌*◌, ℕ, All, Contains, length, slice_index_or, IfOk, OnOk};
+ghost use Rattle.peg_core.specs.Layout.{most_forms};
+ghost use Rattle.peg_check.specs.Chains.{AreChains, IsUsedBy, KeepsUsers, ShowsUsers};
+ghost use Rattle.peg_check.specs.Links.{GoesBy, LinkFits};
+ghost use Rattle.peg_check.specs.declared.link.Link.{Link};
+
+use crate::link::Link;
+use std::alloc::{AllocError, Global};
+
+/// A form that goes by another one, and the entry before it of that one: entry n stands at n - 1, and 0 is none.
+#[derive(Clone, Copy, Debug)]
+pub(crate) struct Use {
+    user: u32,
+    older: u32,
+}
+
+/// For each form, the newest entry of those that go by it; and the entries of all forms.
+#[derive(Debug, Drop)]
+pub(crate) struct Uses {
+    newest: Vec<u32>,
+    entries: Vec<Use>,
+}
+
+/// Which forms go by each form, two entries a form at most.
+pub(crate) fn uses_of(alloc: Global, links: &[Link]) -> Result<Uses, AllocError>
+    requires few { length links.now ≤ most_forms }
+    requires fit { (user : ℕ) (d : Link) → user < length links.now
+        → LinkFits (length links.now) (slice_index_or links.now user d) }
+    ensures chains { IfOk result (λ uses. AreChains (length links.now) uses) }
+    ensures users { IfOk result (λ uses. ShowsUsers uses links.now) }
+{
+    let mut uses = Uses {
+        newest: vec![in alloc; 0; links.len()]?,
+        entries: Vec::new(alloc),
+    };
+    for (user, link) in links.iter().enumerate() {
+        uses.add_link(*link, user as u32)?;
+    }
+    Ok(uses)
+}
+
+impl Uses {
+    // The user goes by the forms of its link.
+    fn add_link(&mut self, link: Link, user: u32) -> Result<(), AllocError>
+        requires chains { AreChains (length self.old.newest.items) self.old }
+        requires fits { LinkFits (length self.old.newest.items) link }
+        requires within { user < length self.old.newest.items }
+        requires room { length self.old.entries.items + 2 ≤ 2 * most_forms }
+        ensures chains { OnOk result (AreChains (length self.old.newest.items) self.new) }
+        ensures kept { OnOk result (KeepsUsers self.old self.new) }
+        ensures added { OnOk result ((part : ℕ) → GoesBy link part → IsUsedBy self.new part user) }
+        ensures few { OnOk result (length self.new.entries.items ≤ length self.old.entries.items + 2) }
+    {
+        match link {
+            Link::Known(_) => Ok(()),
+            Link::Same(part) | Link::Again(part) | Link::NotAhead(part) => self.add(part, user),
+            Link::Both(first, rest) | Link::Either(first, rest) => {
+                self.add(first, user)?;
+                self.add(rest, user)
+            }
+        }
+    }
+
+    // The user goes by a form.
+    fn add(&mut self, part: u32, user: u32) -> Result<(), AllocError>
+        requires chains { AreChains (length self.old.newest.items) self.old }
+        requires fits { part < length self.old.newest.items }
+        requires within { user < length self.old.newest.items }
+        requires room { length self.old.entries.items < 2 * most_forms }
+        ensures chains { OnOk result (AreChains (length self.old.newest.items) self.new) }
+        ensures kept { OnOk result (KeepsUsers self.old self.new) }
+        ensures added { OnOk result (IsUsedBy self.new part user) }
+        ensures more { OnOk result (length self.new.entries.items ≡ length self.old.entries.items + 1) }
+    {
+        let older = self.newest[part as usize];
+        self.entries.push(Use { user, older })?;
+        self.newest[part as usize] = self.entries.len() as u32;
+        Ok(())
+    }
+
+    /// Puts the forms that go by a form behind others.
+    pub(crate) fn add_users(&self, part: u32, pending: &mut Vec<u32>) -> Result<(), AllocError>
+        requires chains { AreChains (length self.now.newest.items) self.now }
+        requires within { part < length self.now.newest.items }
+        requires forms { All (λ number. number < length self.now.newest.items) pending.old.items }
+        ensures users { OnOk result ((user : ℕ) → IsUsedBy self.now part user → Contains pending.new.items user) }
+        ensures kept { OnOk result ((number : ℕ) → Contains pending.old.items number
+            → Contains pending.new.items number) }
+        ensures forms { OnOk result (All (λ number. number < length self.now.newest.items) pending.new.items) }
+        ensures few { OnOk result (length pending.new.items
+            ≤ length pending.old.items + length self.now.entries.items) }
+    {
+        let mut at = self.newest[part as usize];
+        while at > 0 {
+            let entry = self.entries[at as usize - 1];
+            pending.push(entry.user)?;
+            at = entry.older;
+        }
+        Ok(())
+    }
+}
