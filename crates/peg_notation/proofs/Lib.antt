@@ -7,6 +7,7 @@ pub mod Lexemes
 pub mod OneLexing
 pub mod PieceLemmas
 pub mod PieceSizes
+pub mod Places
 pub mod PrefixRules
 pub mod PrimaryRule
 pub mod Progress

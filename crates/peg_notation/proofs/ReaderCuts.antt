@@ -1,11 +1,12 @@
 -- The reader with at most so many parentheses open at once, beside the reader without such a bound.
-use Rattle.std.proofs.Common.{◌≡◌, ℕ, zero, suc, ◌+◌, ◌<◌, ◌≤◌, Bool, true, false, List, [], ◌∷◌, length, drop, inl, inr}
+use Rattle.peg_notation.specs.Reader.{RulePart, Rules, and_rules, rule_of, starts_with_arrow, definition_behind, definition_of, definition, definitions_behind, grammar}
+use Rattle.std.proofs.Common.{◌≡◌, ℕ, zero, suc, ◌-◌, ◌+◌, ◌<◌, ◌≤◌, Bool, true, false, List, [], ◌∷◌, length, drop, inl, inr}
 use Rattle.std.proofs.Common.{Option, None, Some, Result, Ok, Err, if◌then◌else◌, refl, sym, ap, subst, arith}
 use Rattle.std.proofs.lemmas.Bool.{cases_lt}
 use Rattle.peg_bytes.specs.Extent.{Extent}
 use Rattle.peg_grammar.specs.Form as form
 use Rattle.peg_grammar.specs.Form.{Form}
-use Rattle.peg_notation.specs.Reader.{Halt, Unexpected, TooDeep, Part, Parts, Reading, place_of, starts_with_arrow, begins_prefix, and_read, one_token, close_of, closed, parenthesized, named, primary_of, primary, with_suffix, then_suffix, suffix_sign, suffix, with_prefix, prefix_sign, prefix_of, prefix, sequence_part, sequence, starts_with_slash, behind, alternative, choice_part, expression, expression_in, many}
+use Rattle.peg_notation.specs.Reader.{Halt, Unexpected, TooDeep, Part, Parts, Reading, place_of, begins_prefix, and_read, one_token, close_of, closed, parenthesized, named, primary_of, primary, with_suffix, then_suffix, suffix_sign, suffix, with_prefix, prefix_sign, prefix_of, prefix, sequence_part, sequence, starts_with_slash, behind, alternative, choice_part, expression, expression_in, many}
 use Rattle.peg_notation.specs.Spelled.{part}
 use Rattle.peg_notation.specs.Tokens.{Lexeme}
 use Rattle.peg_notation.specs.declared.token.TokenKind.{TokenKind}
@@ -267,3 +268,62 @@ expression_in-cut file (suc m) zero before lexemes =
 expression_in-cut file (suc m) (suc n) before lexemes =
     expression-cut file (suc n) (Some (expression_in file m)) (Some (expression_in file n))
     (λ b ls. expression_in-cut file m n b ls) before lexemes
+
+-- ---- Definition and Grammar
+
+abbrev depth_of_rule : RulePart → ℕ
+depth_of_rule p = p.depth
+
+behind-cut : (file : List ℕ) (all most : ℕ) (name : Lexeme) (rest : List Lexeme) (t : Bool)
+    → IsCut depth_of_rule most (definition_behind file all name rest t) (definition_behind file most name rest t)
+behind-cut file all most name [] t = inl refl
+behind-cut file all most name (arrow ∷ rest) false = inl refl
+behind-cut file all most name (arrow ∷ rest) true =
+    cut-map depth_of depth_of_rule most (rule_of file name) (λ p. refl) (expression_in file all arrow.text.end rest)
+    (expression_in file most arrow.text.end rest) (expression_in-cut file all most arrow.text.end rest)
+
+definition_of-cut : (file : List ℕ) (all most : ℕ) (lexeme : Lexeme) (rest : List Lexeme) (k : TokenKind)
+    → IsCut depth_of_rule most (definition_of file all lexeme rest k) (definition_of file most lexeme rest k)
+definition_of-cut file all most lexeme rest kind.Ident =
+    behind-cut file all most lexeme rest (starts_with_arrow rest)
+definition_of-cut file all most lexeme rest kind.Literal = inl refl
+definition_of-cut file all most lexeme rest kind.Class = inl refl
+definition_of-cut file all most lexeme rest kind.Arrow = inl refl
+definition_of-cut file all most lexeme rest kind.Slash = inl refl
+definition_of-cut file all most lexeme rest kind.And = inl refl
+definition_of-cut file all most lexeme rest kind.Not = inl refl
+definition_of-cut file all most lexeme rest kind.Question = inl refl
+definition_of-cut file all most lexeme rest kind.Star = inl refl
+definition_of-cut file all most lexeme rest kind.Plus = inl refl
+definition_of-cut file all most lexeme rest kind.Open = inl refl
+definition_of-cut file all most lexeme rest kind.Close = inl refl
+definition_of-cut file all most lexeme rest kind.Dot = inl refl
+
+definition-cut : (file : List ℕ) (all most : ℕ) (lexemes : List Lexeme)
+    → IsCut depth_of_rule most (definition file all lexemes) (definition file most lexemes)
+unfolding definition
+definition-cut file all most [] = inl refl
+definition-cut file all most (lexeme ∷ rest) = definition_of-cut file all most lexeme rest lexeme.kind
+
+abbrev depth_of_rules : Rules → ℕ
+depth_of_rules p = p.depth
+
+definitions-cut : (file : List ℕ) (all most : ℕ) (lexemes : List Lexeme) (skipped : ℕ)
+    → IsCut depth_of_rules most (definitions_behind file all lexemes skipped)
+    (definitions_behind file most lexemes skipped)
+unfolding definitions_behind
+definitions-cut file all most [] skipped = (λ _. refl, λ over. absurd (omega arith))
+definitions-cut file all most (lexeme ∷ rest) zero =
+    cut-both depth_of_rule depth_of_rules depth_of_rules most and_rules (λ x y. refl)
+    (λ (a : RulePart). definitions_behind file all rest (a.taken - 1))
+    (λ (a : RulePart). definitions_behind file most rest (a.taken - 1))
+    (definition file all (lexeme ∷ rest)) (definition file most (lexeme ∷ rest))
+    (λ a _. definitions-cut file all most rest (a.taken - 1)) (definition-cut file all most (lexeme ∷ rest))
+definitions-cut file all most (lexeme ∷ rest) (suc skipped) = definitions-cut file all most rest skipped
+
+-- a file that nests no deeper is read alike, one that nests deeper is too deep, one that isn't read isn't or is too deep
+pub grammar-cut : (file : List ℕ) (all most : ℕ) (lexemes : List Lexeme)
+    → IsCut (λ (p : Rules). p.depth) most (grammar file all lexemes) (grammar file most lexemes)
+unfolding grammar
+grammar-cut file all most [] = inl refl
+grammar-cut file all most (lexeme ∷ rest) = definitions-cut file all most (lexeme ∷ rest) 0
