@@ -261,7 +261,7 @@ ExactRules file p (Err (Unexpected at)) = StopsEarly file p
 ExactRules file p (Err (TooDeep at)) = ⊥
 
 -- skipping tokens is dropping them
-definitions_behind-drop : (file : List ℕ) (most : ℕ) (lexemes : List Lexeme) (skipped : ℕ)
+pub definitions_behind-drop : (file : List ℕ) (most : ℕ) (lexemes : List Lexeme) (skipped : ℕ)
     → definitions_behind file most lexemes skipped ≡ definitions_behind file most (drop skipped lexemes) 0
 unfolding definitions_behind
 definitions_behind-drop file most [] zero = refl

@@ -2,8 +2,11 @@ pub mod Classes
 pub mod Cuts
 pub mod ExpressionRules
 pub mod FigureNames
+pub mod FileAnswers
 pub mod GrammarRules
 pub mod Lexemes
+pub mod ManyLoops
+pub mod MatchedTokens
 pub mod OneLexing
 pub mod PieceLemmas
 pub mod PieceSizes
@@ -11,7 +14,10 @@ pub mod Places
 pub mod PrefixRules
 pub mod PrimaryRule
 pub mod Progress
+pub mod Reached
+pub mod ReachedRules
 pub mod ReaderCuts
+pub mod ReaderSteps
 pub mod Readings
 pub mod Repeats
 pub mod SpacingRules
@@ -20,3 +26,5 @@ pub mod Takes
 pub mod TextRules
 pub mod Texts
 pub mod TokenRules
+pub mod TokenTexts
+pub mod TokenValues

@@ -68,7 +68,7 @@ has-one test = record { some = λ rest piece found. let by = one_size test rest 
 -- ---- one behind another
 
 -- two pieces in a row
-followed_parts : (first next : Finding) (rest : List ℕ) (piece : Piece) → followed first next rest ≡ Some piece
+pub followed_parts : (first next : Finding) (rest : List ℕ) (piece : Piece) → followed first next rest ≡ Some piece
     → (x : Piece) × (y : Piece) × (first rest ≡ Some x) × (next (drop x.length rest) ≡ Some y)
     × (piece.length ≡ x.length + y.length) × (piece.spells ≡ x.spells ++ y.spells)
 followed_parts first next rest piece found = by (first rest) refl found

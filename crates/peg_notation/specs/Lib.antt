@@ -16,6 +16,8 @@ pub mod Pieces
 pub mod Ranges
 pub mod RangesCode
 pub mod Reader
+pub mod ReaderCode
+pub mod ReaderFile
 pub mod Reads
 pub mod Spans
 pub mod Spelled

@@ -9,6 +9,8 @@ use Rattle.peg_tree.specs.Trees.{Trees}
 use Rattle.peg_notation.specs.Notation.{Matches, IsInNotation, most_file_bytes}
 use Rattle.peg_notation.specs.Spelled.{rules_spelled, nesting}
 use Rattle.peg_notation.specs.Tokens.{Lexeme, IsTokens, IsLexingFault}
+use Rattle.peg_notation.specs.declared.fault.LexFault.{LexFault}
+use Rattle.peg_notation.specs.declared.fault.LexFault.TheVariants as lexing
 use Rattle.peg_notation.specs.declared.fault.NotationFault.{NotationFault}
 use Rattle.peg_notation.specs.declared.fault.NotationFault.TheVariants.{FileTooLong, Syntax, TooNested, Memory}
 use Rattle.peg_notation.specs.declared.token.TokenKind.{TokenKind}
@@ -61,6 +63,12 @@ IsOneTooMany most file at =
     × ((n : ℕ) → opens (take n before) ≤ closes (take n before) + most)
 
 -- ---- the answer
+
+-- a file without tokens isn't read
+abbrev pub fault_of : LexFault → NotationFault
+fault_of lexing.FileTooLong = FileTooLong
+fault_of (lexing.Syntax at) = Syntax at
+fault_of lexing.Memory = Memory
 
 -- What reading a file answers. Its definitions are the reading of a file of the notation that nests no deeper than may
 -- be; a file that is refused as no syntax isn't in the notation, and the place is its lexing fault, or else where a token

@@ -1,5 +1,5 @@
 -- Where what was read lies: every span in the file, and every place of a refusal.
-use Rattle.std.specs.Prelude.{ℕ, ◌≤◌, List, All, Result, Ok, Err}
+use Rattle.std.specs.Prelude.{ℕ, ◌≤◌, All, Result, Ok, Err}
 use Rattle.std.specs.declared.alloc.Global.{Global}
 use Rattle.std.specs.declared.vec.Vec.{Vec}
 use Rattle.peg_bytes.specs.Extent.{Extent}

@@ -69,3 +69,18 @@ impl<T: Drop> From<AllocFailed<T>> for NotationFault {
         NotationFault::Memory
     }
 }
+
+impl From<LexFault> for NotationFault {
+    ghost use Rattle.std.specs.Prelude.{◌≡◌};
+    ghost use Rattle.peg_notation.specs.Reads.{fault_of};
+
+    ghost from_gives = { λ lexing fault. fault ≡ fault_of lexing };
+
+    fn from(fault: LexFault) -> NotationFault {
+        match fault {
+            LexFault::FileTooLong => NotationFault::FileTooLong,
+            LexFault::Syntax { at } => NotationFault::Syntax { at },
+            LexFault::Memory => NotationFault::Memory,
+        }
+    }
+}

@@ -1,21 +1,448 @@
-//! Reading a grammar file.
-ghost use Rattle.std.specs.Prelude.{length};
-ghost use Rattle.peg_notation.specs.Reads.{Reads};
-ghost use Rattle.peg_notation.specs.Spans.{AnswerLiesIn};
+//! Expressions over tokens: one function for each rule of the figure from Expression to Primary.
+ghost use Rattle.std.specs.Prelude.{◌≡◌, ℕ, ◌+◌, ◌-◌, ◌<◌, ◌≤◌, ◌^◌, length, drop, IfOk, Ok};
+ghost use Rattle.std.specs.Str.{IsUtf8};
+ghost use Rattle.peg_bytes.specs.ByteSet.{bytes_of};
+ghost use Rattle.peg_bytes.specs.Extent.{extent};
+ghost use Rattle.peg_grammar.specs.Form.{And, Not, Name, Literal, Class, Any};
+ghost use Rattle.peg_grammar.specs.Written.{form_of};
+ghost use Rattle.peg_notation.specs.Notation.{most_file_bytes};
+ghost use Rattle.peg_notation.specs.Ranges.{class_of};
+ghost use Rattle.peg_notation.specs.Reader.{starts_with_arrow, starts_with_slash, begins_prefix, place_of, pieces_of};
+ghost use Rattle.peg_notation.specs.Reader.{one_token, closed, parenthesized, named, primary, suffix_sign, with_suffix};
+ghost use Rattle.peg_notation.specs.Reader.{then_suffix, suffix, with_prefix, prefix, sequence, alternative, expression};
+ghost use Rattle.peg_notation.specs.ReaderCode.{lexemes, IsText, AreTexts, part_seen, inner_of, Tells};
+ghost use Rattle.peg_notation.specs.Spans.{LiesIn};
+ghost use Rattle.peg_notation.specs.Spelled.{bytes_in, ranges_in};
+ghost use Rattle.peg_notation.specs.Tokens.{lexeme_of};
 
 use crate::fault::NotationFault;
-use peg_grammar::Definition;
-use std::alloc::Global;
+use crate::parts::{Part, Parts};
+use crate::token::{Token, TokenKind};
+use crate::values::{class_bytes, literal_bytes, name_text};
+use peg_bytes::{ByteSet, Span};
+use peg_grammar::Expr;
+use std::alloc::{AllocError, Global};
 
-/// The most parentheses that may be open at once.
-pub const MOST_OPEN: usize = 200;
+/// What is read: a file, whose tokens are given call by call.
+#[derive(Clone, Copy, Debug)]
+pub(crate) struct Reader<'a> {
+    pub(crate) alloc: Global,
+    pub(crate) file: &'a [u8],
+    ghost small: { length file.now ≤ most_file_bytes },
+}
 
-/// The definitions of a grammar file, in order (Ford 2004, section 2.1): `FileTooLong` for over `MOST_FILE_BYTES` bytes;
-/// `Syntax` where no token begins; then, whichever comes first, `Syntax` at the first token with which no file of the
-/// notation goes on so, or `TooNested` at the parenthesis that is one more than `MOST_OPEN`; `Memory`. Linear time.
-pub fn read(_alloc: Global, _file: &[u8]) -> Result<Vec<Definition>, NotationFault>
-    ensures reads { Reads _file.now result }
-    ensures inside { AnswerLiesIn (length _file.now) result }
+/// The tokens behind so many.
+pub(crate) fn behind(tokens: &[Token], taken: usize) -> &[Token]
+    requires { taken ≤ length tokens.now }
+    ensures tokens { lexemes result.now ≡ drop taken (lexemes tokens.now) }
+    ensures len { length result.now ≡ length tokens.now - taken }
 {
-    Err(NotationFault::Memory)
+    &tokens[taken..]
+}
+
+/// Whether an arrow is next.
+pub(crate) fn starts_with_arrow(tokens: &[Token]) -> bool
+    ensures { result ≡ starts_with_arrow (lexemes tokens.now) }
+{
+    match tokens {
+        [token, ..] => matches!(token.kind, TokenKind::Arrow),
+        [] => false,
+    }
+}
+
+// Whether a slash is next.
+fn starts_with_slash(tokens: &[Token]) -> bool
+    ensures { result ≡ starts_with_slash (lexemes tokens.now) }
+{
+    match tokens {
+        [token, ..] => matches!(token.kind, TokenKind::Slash),
+        [] => false,
+    }
+}
+
+// Whether an expression with or without a sign begins: a name, unless it is that of the next definition.
+fn begins_prefix(tokens: &[Token]) -> bool
+    ensures { result ≡ begins_prefix (lexemes tokens.now) }
+{
+    match tokens {
+        [token, ..] => match token.kind {
+            TokenKind::Ident => !starts_with_arrow(&tokens[1..]),
+            TokenKind::Literal
+            | TokenKind::Class
+            | TokenKind::And
+            | TokenKind::Not
+            | TokenKind::Open
+            | TokenKind::Dot => true,
+            _ => false,
+        },
+        [] => false,
+    }
+}
+
+impl<'a> Reader<'a> {
+    ghost use Rattle.peg_notation.specs.ReaderFile.{file_of};
+
+    /// Where the next token starts; where there is none, the file's length.
+    pub(crate) fn place_of(&self, tokens: &[Token]) -> u32
+        ensures { result ≡ place_of (length (file_of self.now)) (lexemes tokens.now) }
+    {
+        match tokens {
+            [token, ..] => token.span.start,
+            [] => self.file.len() as u32,
+        }
+    }
+
+    /// The fault that the next token can't stand there.
+    pub(crate) fn unexpected(&self, tokens: &[Token]) -> NotationFault
+        ensures { result ≡ NotationFault.Syntax (place_of (length (file_of self.now)) (lexemes tokens.now)) }
+    {
+        NotationFault::Syntax {
+            at: self.place_of(tokens),
+        }
+    }
+
+    /// Sequences with slashes between them, where so many parentheses may be opened; `before` is where the text of the
+    /// token before them ends.
+    #[cycle(reader)]
+    #[tactic(auto, using(crate::proofs::ReaderSteps::faults))]
+    pub(crate) fn expression(
+        &self,
+        before: u32,
+        tokens: &[Token],
+        left: usize,
+    ) -> Result<Part, NotationFault>
+        requires texts { AreTexts (file_of self.now) before (lexemes tokens.now) }
+        ensures read { Tells part_seen (expression (file_of self.now) (inner_of (file_of self.now) left) before (lexemes tokens.now)) result }
+        ensures fits { IfOk result (λ part. part.taken ≤ length tokens.now) }
+        ensures shallow { IfOk result (λ part. part.depth ≤ left) }
+    {
+        let first = self.sequence(before, tokens, left)?;
+        let mut more = Parts::none(self.alloc, first.last);
+        let rest = behind(tokens, first.taken);
+        'alternatives: while starts_with_slash(behind(rest, more.taken)) {
+            let alternative = self.alternative(behind(rest, more.taken), left)?;
+            more.add(alternative)?;
+        }
+        Ok(more.into_choice(self.alloc, self.place_of(tokens), first)?)
+    }
+
+    // A slash, and the sequence behind it.
+    #[cycle(reader)]
+    #[tactic(auto, using(crate::proofs::ReaderSteps::faults), unfolding(crate::specs::Reader::alternative))]
+    fn alternative(&self, tokens: &[Token], left: usize) -> Result<Part, NotationFault>
+        requires texts { AreTexts (file_of self.now) 0 (lexemes tokens.now) }
+        ensures read { (before : ℕ) → Tells part_seen (alternative (file_of self.now) (inner_of (file_of self.now) left) before (lexemes tokens.now)) result }
+        ensures fits { IfOk result (λ part. part.taken ≤ length tokens.now) }
+        ensures some { IfOk result (λ part. 0 < part.taken) }
+        ensures shallow { IfOk result (λ part. part.depth ≤ left) }
+    {
+        match tokens {
+            [slash, ..] => {
+                let part = self.sequence(slash.span.end, &tokens[1..], left)?;
+                Ok(Part {
+                    taken: 1 + part.taken,
+                    ..part
+                })
+            }
+            [] => Err(self.unexpected(tokens)),
+        }
+    }
+
+    // Expressions with or without signs, one behind the other.
+    #[cycle(reader)]
+    #[tactic(auto, using(crate::proofs::ReaderSteps::faults), unfolding(crate::specs::Reader::sequence))]
+    fn sequence(&self, before: u32, tokens: &[Token], left: usize) -> Result<Part, NotationFault>
+        requires texts { AreTexts (file_of self.now) before (lexemes tokens.now) }
+        ensures read { Tells part_seen (sequence (file_of self.now) (inner_of (file_of self.now) left) before (lexemes tokens.now)) result }
+        ensures fits { IfOk result (λ part. part.taken ≤ length tokens.now) }
+        ensures shallow { IfOk result (λ part. part.depth ≤ left) }
+    {
+        let mut items = Parts::none(self.alloc, before);
+        'items: while begins_prefix(behind(tokens, items.taken)) {
+            let item = self.prefix(behind(tokens, items.taken), left)?;
+            items.add(item)?;
+        }
+        Ok(items.into_sequence(before, self.place_of(tokens)))
+    }
+
+    // An expression with a suffix, or a predicate of one.
+    #[cycle(reader)]
+    #[tactic(auto, using(crate::proofs::ReaderSteps::faults), unfolding(crate::specs::Reader::prefix))]
+    fn prefix(&self, tokens: &[Token], left: usize) -> Result<Part, NotationFault>
+        requires texts { AreTexts (file_of self.now) 0 (lexemes tokens.now) }
+        ensures read { Tells part_seen (prefix (file_of self.now) (inner_of (file_of self.now) left) (lexemes tokens.now)) result }
+        ensures fits { IfOk result (λ part. part.taken ≤ length tokens.now) }
+        ensures some { IfOk result (λ part. 0 < part.taken) }
+        ensures shallow { IfOk result (λ part. part.depth ≤ left) }
+    {
+        match tokens {
+            [sign, ..] if matches!(sign.kind, TokenKind::And) => {
+                let part = self.suffix(&tokens[1..], left)?;
+                Ok(self.and(*sign, part)?)
+            }
+            [sign, ..] if matches!(sign.kind, TokenKind::Not) => {
+                let part = self.suffix(&tokens[1..], left)?;
+                Ok(self.not(*sign, part)?)
+            }
+            _ => self.suffix(tokens, left),
+        }
+    }
+
+    // The predicate `&` of an expression.
+    fn and(&self, sign: Token, part: Part) -> Result<Part, AllocError>
+        requires few { part.taken < 2 ^ 63 }
+        requires order { sign.span.start ≤ part.last }
+        ensures { IfOk result (λ whole. part_seen whole ≡ with_prefix sign.span.start And (part_seen part)) }
+    {
+        let expression = Expr::And {
+            part: Box::new(self.alloc, part.expression)?,
+            span: Span::new(sign.span.start, part.last),
+        };
+        Ok(Part {
+            expression,
+            taken: 1 + part.taken,
+            last: part.last,
+            depth: part.depth,
+        })
+    }
+
+    // The predicate `!` of an expression.
+    fn not(&self, sign: Token, part: Part) -> Result<Part, AllocError>
+        requires few { part.taken < 2 ^ 63 }
+        requires order { sign.span.start ≤ part.last }
+        ensures { IfOk result (λ whole. part_seen whole ≡ with_prefix sign.span.start Not (part_seen part)) }
+    {
+        let expression = Expr::Not {
+            part: Box::new(self.alloc, part.expression)?,
+            span: Span::new(sign.span.start, part.last),
+        };
+        Ok(Part {
+            expression,
+            taken: 1 + part.taken,
+            last: part.last,
+            depth: part.depth,
+        })
+    }
+
+    // An expression, with the sign behind it if there is one.
+    #[cycle(reader)]
+    #[tactic(auto, using(crate::proofs::ReaderSteps::faults), unfolding(crate::specs::Reader::suffix))]
+    fn suffix(&self, tokens: &[Token], left: usize) -> Result<Part, NotationFault>
+        requires texts { AreTexts (file_of self.now) 0 (lexemes tokens.now) }
+        ensures read { Tells part_seen (suffix (file_of self.now) (inner_of (file_of self.now) left) (lexemes tokens.now)) result }
+        ensures fits { IfOk result (λ part. part.taken ≤ length tokens.now) }
+        ensures some { IfOk result (λ part. 0 < part.taken) }
+        ensures shallow { IfOk result (λ part. part.depth ≤ left) }
+    {
+        let part = self.primary(tokens, left)?;
+        let start = self.place_of(tokens);
+        Ok(self.then_suffix(start, behind(tokens, part.taken), part)?)
+    }
+
+    // An expression with the sign that is next, if one is; `start` is where it starts.
+    fn then_suffix(&self, start: u32, rest: &[Token], part: Part) -> Result<Part, AllocError>
+        requires few { part.taken < 2 ^ 63 }
+        requires order { start ≤ part.last }
+        requires texts { AreTexts (file_of self.now) part.last (lexemes rest.now) }
+        ensures { IfOk result (λ whole. part_seen whole ≡ then_suffix start (part_seen part) (lexemes rest.now)) }
+    {
+        match rest {
+            [sign, ..] => self.with_suffix(start, *sign, part),
+            [] => Ok(part),
+        }
+    }
+
+    // An expression with this token behind it, if it is a sign.
+    fn with_suffix(&self, start: u32, sign: Token, part: Part) -> Result<Part, AllocError>
+        requires few { part.taken < 2 ^ 63 }
+        requires order { start ≤ sign.span.end }
+        ensures { IfOk result (λ whole. part_seen whole
+            ≡ with_suffix start (part_seen part) (lexeme_of sign) (suffix_sign sign.kind)) }
+    {
+        let span = Span::new(start, sign.span.end);
+        let Part {
+            expression,
+            taken,
+            last,
+            depth,
+        } = part;
+        let expression = match sign.kind {
+            TokenKind::Question => Expr::Optional {
+                part: Box::new(self.alloc, expression)?,
+                span,
+            },
+            TokenKind::Star => Expr::Star {
+                part: Box::new(self.alloc, expression)?,
+                span,
+            },
+            TokenKind::Plus => Expr::Plus {
+                part: Box::new(self.alloc, expression)?,
+                span,
+            },
+            _ => {
+                return Ok(Part {
+                    expression,
+                    taken,
+                    last,
+                    depth,
+                });
+            }
+        };
+        Ok(Part {
+            expression,
+            taken: taken + 1,
+            last: sign.span.end,
+            depth,
+        })
+    }
+
+    // A name, a literal, a class or a dot, or an expression in parentheses.
+    #[cycle(reader)]
+    #[tactic(auto, using(crate::proofs::ReaderSteps::faults), unfolding(crate::specs::Reader::primary))]
+    fn primary(&self, tokens: &[Token], left: usize) -> Result<Part, NotationFault>
+        requires texts { AreTexts (file_of self.now) 0 (lexemes tokens.now) }
+        ensures read { Tells part_seen (primary (file_of self.now) (inner_of (file_of self.now) left) (lexemes tokens.now)) result }
+        ensures fits { IfOk result (λ part. part.taken ≤ length tokens.now) }
+        ensures some { IfOk result (λ part. 0 < part.taken) }
+        ensures shallow { IfOk result (λ part. part.depth ≤ left) }
+    {
+        match tokens {
+            [token, ..] => match token.kind {
+                TokenKind::Ident => self.name(*token, &tokens[1..]),
+                TokenKind::Literal => Ok(self.literal(*token)?),
+                TokenKind::Class => Ok(self.class(*token)?),
+                TokenKind::Dot => Ok(one_token(any_of(token.span), *token)),
+                TokenKind::Open => self.parenthesized(*token, &tokens[1..], left),
+                _ => Err(self.unexpected(tokens)),
+            },
+            [] => Err(self.unexpected(tokens)),
+        }
+    }
+
+    // A name that isn't that of the next definition.
+    fn name(&self, token: Token, rest: &[Token]) -> Result<Part, NotationFault>
+        requires text { IsText (file_of self.now) (lexeme_of token) }
+        requires inside { LiesIn (length (file_of self.now)) (extent token.span) }
+        requires ident { token.kind ≡ TokenKind.Ident }
+        ensures { Tells part_seen (named (file_of self.now) (lexeme_of token) (lexemes rest.now)) result }
+    {
+        if starts_with_arrow(rest) {
+            return Err(self.unexpected(rest));
+        }
+        let span = token.span;
+        let name = name_text(
+            self.alloc,
+            &self.file[span.start as usize..span.end as usize],
+        )?;
+        Ok(one_token(Expr::Name { name, span }, token))
+    }
+
+    // The bytes that a literal spells.
+    fn literal(&self, token: Token) -> Result<Part, AllocError>
+        requires text { IsText (file_of self.now) (lexeme_of token) }
+        requires inside { LiesIn (length (file_of self.now)) (extent token.span) }
+        requires literal { token.kind ≡ TokenKind.Literal }
+        ensures { IfOk result (λ part. Ok (part_seen part) ≡ one_token
+            (Literal (bytes_in (pieces_of (file_of self.now) (lexeme_of token))) (extent token.span)) (lexeme_of token)) }
+    {
+        let span = token.span;
+        let bytes = literal_bytes(self.alloc, &self.file[span.start as usize..])?;
+        Ok(one_token(literal_of(bytes, span), token))
+    }
+
+    // The set of bytes that a class spells.
+    fn class(&self, token: Token) -> Result<Part, AllocError>
+        requires text { IsText (file_of self.now) (lexeme_of token) }
+        requires inside { LiesIn (length (file_of self.now)) (extent token.span) }
+        requires class { token.kind ≡ TokenKind.Class }
+        ensures { IfOk result (λ part. Ok (part_seen part) ≡ one_token
+            (Class (class_of (ranges_in (pieces_of (file_of self.now) (lexeme_of token)))) (extent token.span))
+            (lexeme_of token)) }
+    {
+        let span = token.span;
+        let set = class_bytes(self.alloc, &self.file[span.start as usize..])?;
+        Ok(one_token(class_of(set, span), token))
+    }
+
+    // What stands behind an open parenthesis, if it may be opened, up to the one that closes it.
+    #[cycle(reader)]
+    #[tactic(auto, using(crate::proofs::ReaderSteps::faults))]
+    fn parenthesized(
+        &self,
+        opening: Token,
+        rest: &[Token],
+        left: usize,
+    ) -> Result<Part, NotationFault>
+        requires texts { AreTexts (file_of self.now) opening.span.end (lexemes rest.now) }
+        ensures read { Tells part_seen (parenthesized (inner_of (file_of self.now) left) (length (file_of self.now))
+            (lexeme_of opening) (lexemes rest.now)) result }
+        ensures fits { IfOk result (λ part. part.taken ≤ 1 + length rest.now) }
+        ensures some { IfOk result (λ part. 0 < part.taken) }
+        ensures shallow { IfOk result (λ part. part.depth ≤ left) }
+    {
+        if left == 0 {
+            return Err(NotationFault::TooNested {
+                at: opening.span.start,
+            });
+        }
+        let inside = self.expression(opening.span.end, rest, left - 1)?;
+        self.closed(behind(rest, inside.taken), inside)
+    }
+
+    // The parenthesis that closes; where a name stands in its place, what can't stand there is the arrow behind it.
+    fn closed(&self, rest: &[Token], inside: Part) -> Result<Part, NotationFault>
+        requires few { inside.taken < 2 ^ 63 }
+        requires shallow { inside.depth + 1 < 2 ^ 64 }
+        ensures read { Tells part_seen (closed (length (file_of self.now)) (part_seen inside) (lexemes rest.now)) result }
+        ensures fits { IfOk result (λ part. part.taken ≤ inside.taken + 1 + length rest.now) }
+        ensures some { IfOk result (λ part. 0 < part.taken) }
+        ensures depth { IfOk result (λ part. part.depth ≡ inside.depth + 1) }
+    {
+        match rest {
+            [closing, ..] => match closing.kind {
+                TokenKind::Close => Ok(Part {
+                    expression: inside.expression,
+                    taken: inside.taken + 2,
+                    last: closing.span.end,
+                    depth: inside.depth + 1,
+                }),
+                TokenKind::Ident => Err(self.unexpected(&rest[1..])),
+                _ => Err(self.unexpected(rest)),
+            },
+            [] => Err(self.unexpected(rest)),
+        }
+    }
+}
+
+// An expression of one token.
+fn one_token(expression: Expr, token: Token) -> Part
+    ensures { Ok (part_seen result) ≡ one_token (form_of expression) (lexeme_of token) }
+{
+    Part {
+        expression,
+        taken: 1,
+        last: token.span.end,
+        depth: 0,
+    }
+}
+
+// Any one byte.
+fn any_of(span: Span) -> Expr
+    ensures { form_of result ≡ Any (extent span) }
+{
+    Expr::Any { span }
+}
+
+// A literal of these bytes.
+fn literal_of(bytes: Vec<u8>, span: Span) -> Expr
+    ensures { form_of result ≡ Literal bytes.items (extent span) }
+{
+    Expr::Literal { bytes, span }
+}
+
+// A class of this set.
+fn class_of(set: ByteSet, span: Span) -> Expr
+    ensures { form_of result ≡ Class (bytes_of set) (extent span) }
+{
+    Expr::Class { set, span }
 }

@@ -1,10 +1,27 @@
 //! The texts of names, literals and classes (Ford 2004, section 2.1).
-ghost use Rattle.std.specs.Prelude.{◌≡◌, ◌<◌, ◌≤◌, length, IfSome, is_some};
+ghost use Rattle.std.specs.Prelude.{◌≡◌, ◌<◌, ◌≤◌, ◌+◌, length, option_map, IfSome, is_some};
 ghost use Rattle.peg_notation.specs.Lexical.{begins_name, is_digit, in_name, identifier, is_sign, is_low_digit, escape};
 ghost use Rattle.peg_notation.specs.Lexical.{backslash, char, is_quote, quoted_char, up_to_quote, quoted, literal, range};
 ghost use Rattle.peg_notation.specs.Lexical.{classed_range, class};
+ghost use Rattle.peg_notation.specs.LexicalCode.{char_piece, item_piece, escaped_char};
 ghost use Rattle.peg_notation.specs.Pieces.{length_of, one_that, followed, many};
-ghost use Rattle.peg_notation.specs.Spelled.{is_octal};
+ghost use Rattle.peg_notation.specs.Spelled.{is_octal, escaped};
+
+use crate::ranges::{ByteRange, range};
+
+/// A character at the front: the byte that it spells, and how many bytes it has.
+#[derive(Clone, Copy, Debug)]
+pub(crate) struct Char {
+    pub(crate) byte: u8,
+    pub(crate) length: usize,
+}
+
+/// A range at the front: its bytes, and how many bytes its text has.
+#[derive(Clone, Copy, Debug)]
+pub(crate) struct Item {
+    pub(crate) bytes: ByteRange,
+    pub(crate) length: usize,
+}
 
 /// How many bytes the name at the front has. Linear in them.
 #[tactic(auto, unfolding(crate::specs::Lexical::identifier))]
@@ -111,21 +128,21 @@ fn chars_before(quote: u8, rest: &[u8]) -> usize
     ensures fits { result ≤ length rest.now }
 {
     let mut at = 0;
-    'chars: while let Some(length) = quoted_char(quote, &rest[at..]) {
-        at += length;
+    'chars: while let Some(char) = quoted_char(quote, &rest[at..]) {
+        at += char.length;
     }
     at
 }
 
-// The character at the front, unless the quote stands there.
-fn quoted_char(quote: u8, rest: &[u8]) -> Option<usize>
-    ensures value { result ≡ length_of (quoted_char quote rest.now) }
-    ensures some { IfSome result (λ n. 0 < n) }
-    ensures fits { IfSome result (λ n. n ≤ length rest.now) }
+/// The character at the front, unless the quote stands there.
+pub(crate) fn quoted_char(quote: u8, rest: &[u8]) -> Option<Char>
+    ensures value { option_map char_piece result ≡ quoted_char quote rest.now }
+    ensures some { IfSome result (λ char. 0 < char.length) }
+    ensures fits { IfSome result (λ char. char.length ≤ length rest.now) }
 {
     match byte_at_front(quote, rest) {
         Some(_) => None,
-        None => char(rest),
+        None => char_at(rest),
     }
 }
 
@@ -153,72 +170,103 @@ fn ranges_before_bracket(rest: &[u8]) -> usize
     ensures fits { result ≤ length rest.now }
 {
     let mut at = 0;
-    'items: while let Some(length) = classed_range(&rest[at..]) {
-        at += length;
+    'items: while let Some(item) = classed_range(&rest[at..]) {
+        at += item.length;
     }
     at
 }
 
-// The range at the front, unless the bracket stands there.
-fn classed_range(rest: &[u8]) -> Option<usize>
-    ensures value { result ≡ length_of (classed_range rest.now) }
-    ensures some { IfSome result (λ n. 0 < n) }
-    ensures fits { IfSome result (λ n. n ≤ length rest.now) }
+/// The range at the front, unless the bracket stands there.
+pub(crate) fn classed_range(rest: &[u8]) -> Option<Item>
+    ensures value { option_map item_piece result ≡ classed_range rest.now }
+    ensures some { IfSome result (λ item. 0 < item.length) }
+    ensures fits { IfSome result (λ item. item.length ≤ length rest.now) }
 {
     if rest.starts_with(b"]") {
         return None;
     }
-    range(rest)
+    range_at(rest)
 }
 
 // The range at the front: two characters with a dash between them, or one.
 #[tactic(auto, unfolding(crate::specs::Lexical::range))]
-fn range(rest: &[u8]) -> Option<usize>
-    ensures value { result ≡ length_of (range rest.now) }
-    ensures some { IfSome result (λ n. 0 < n) }
-    ensures fits { IfSome result (λ n. n ≤ length rest.now) }
+fn range_at(rest: &[u8]) -> Option<Item>
+    ensures value { option_map item_piece result ≡ range rest.now }
+    ensures some { IfSome result (λ item. 0 < item.length) }
+    ensures fits { IfSome result (λ item. item.length ≤ length rest.now) }
 {
-    let low = char(rest)?;
-    let behind = &rest[low..];
+    let low = char_at(rest)?;
+    let alone = Item {
+        bytes: range(low.byte, low.byte),
+        length: low.length,
+    };
+    let behind = &rest[low.length..];
     if !behind.starts_with(b"-") {
-        return Some(low);
+        return Some(alone);
     }
-    match char(&behind[1..]) {
-        Some(high) => Some(low + 1 + high),
-        None => Some(low),
+    match char_at(&behind[1..]) {
+        Some(high) => Some(Item {
+            bytes: range(low.byte, high.byte),
+            length: low.length + 1 + high.length,
+        }),
+        None => Some(alone),
     }
 }
 
 // The character at the front: a byte alone, or a backslash with a sign or octal digits.
 #[tactic(auto, unfolding(crate::specs::Lexical::char))]
-fn char(rest: &[u8]) -> Option<usize>
-    ensures value { result ≡ length_of (char rest.now) }
-    ensures some { IfSome result (λ n. 0 < n) }
-    ensures fits { IfSome result (λ n. n ≤ length rest.now) }
+fn char_at(rest: &[u8]) -> Option<Char>
+    ensures value { option_map char_piece result ≡ char rest.now }
+    ensures some { IfSome result (λ char. 0 < char.length) }
+    ensures fits { IfSome result (λ char. char.length ≤ length rest.now) }
 {
     match rest {
-        [b'\\', ..] => match escape(&rest[1..]) {
-            Some(length) => Some(1 + length),
-            None => None,
-        },
-        [_, ..] => Some(1),
+        [b'\\', ..] => escape(&rest[1..]),
+        [byte, ..] => Some(Char {
+            byte: *byte,
+            length: 1,
+        }),
         [] => None,
     }
 }
 
 // What stands behind a backslash: a sign, or one to three octal digits, three only where the first is at most 2.
-fn escape(rest: &[u8]) -> Option<usize>
-    ensures value { result ≡ length_of (escape rest.now) }
-    ensures some { IfSome result (λ n. 0 < n) }
-    ensures fits { IfSome result (λ n. n ≤ length rest.now) }
+fn escape(rest: &[u8]) -> Option<Char>
+    ensures value { option_map char_piece result ≡ escaped_char rest.now }
+    ensures some { IfSome result (λ char. 0 < char.length) }
+    ensures fits { IfSome result (λ char. char.length ≤ length rest.now + 1) }
 {
     match rest {
-        [sign, ..] if is_sign(*sign) => Some(1),
+        [sign, ..] if is_sign(*sign) => Some(Char {
+            byte: escaped(*sign),
+            length: 2,
+        }),
         [first, second, third, ..]
-            if is_low_digit(*first) && is_octal(*second) && is_octal(*third) => Some(3),
-        [first, second, ..] if is_octal(*first) && is_octal(*second) => Some(2),
-        [first, ..] if is_octal(*first) => Some(1),
+            if is_low_digit(*first) && is_octal(*second) && is_octal(*third) => Some(Char {
+            byte: 64 * (*first - b'0') + 8 * (*second - b'0') + (*third - b'0'),
+            length: 4,
+        }),
+        [first, second, ..] if is_octal(*first) && is_octal(*second) => Some(Char {
+            byte: 8 * (*first - b'0') + (*second - b'0'),
+            length: 3,
+        }),
+        [digit, ..] if is_octal(*digit) => Some(Char {
+            byte: *digit - b'0',
+            length: 2,
+        }),
         _ => None,
+    }
+}
+
+// The byte that a sign behind a backslash spells.
+fn escaped(sign: u8) -> u8
+    ensures { result ≡ escaped sign }
+{
+    match sign {
+        b'n' => b'\n',
+        b'r' => b'\r',
+        b't' => b'\t',
+        _ => sign,
     }
 }
 

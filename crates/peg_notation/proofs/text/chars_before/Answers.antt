@@ -1,13 +1,16 @@
-use Rattle.std.proofs.Common.{sym, ◌∙◌}
+use Rattle.std.proofs.Common.{ap, sym, ◌∙◌, option_map}
 use Rattle.peg_notation.specs.Lexical.{quoted_char}
+use Rattle.peg_notation.specs.LexicalCode.{char_piece}
+use Rattle.peg_notation.specs.Pieces.{length_of}
 use Rattle.peg_notation.proofs.PieceLemmas.{Passed-one, Passed-all}
 use Rattle.peg_notation.proofs.text.chars_before.Goals as goal
 
 pub chars-preserved : goal.chars-preserved
 chars-preserved c =
     Passed-one
-    (quoted_char c.args.quote) c.args.rest.now c.chars.at c.in-Some.length c.chars.invariant c.in-Some.ensures.value c.in-Some.ensures.some c.in-Some.ensures.fits
+    (quoted_char c.args.quote) c.args.rest.now c.chars.at c.in-Some.char.length c.chars.invariant
+    (ap length_of c.in-Some.ensures.value) c.in-Some.ensures.some c.in-Some.ensures.fits
 
 pub returns-clause-value : goal.returns-clause-value
 returns-clause-value c = Passed-all (quoted_char c.args.quote) c.args.rest.now c.chars.at c.chars.invariant
-    (sym c.in_default.is ∙ c.quoted_char.ensures.value)
+    (ap length_of (sym (ap (option_map char_piece) c.in_default.is) ∙ c.quoted_char.ensures.value))

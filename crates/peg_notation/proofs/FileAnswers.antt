@@ -1,0 +1,282 @@
+-- What is read of the tokens of a file, joined into what reading the file answers.
+use Rattle.std.proofs.Common.{◌≡◌, ◌⊎◌, inl, inr, ℕ, zero, suc, ◌+◌, ◌<◌, ◌≤◌, List, [], ◌∷◌, ◌++◌, length, take, map, codes, Contains, All}
+use Rattle.std.proofs.Common.{Option, option_map, Result, Ok, Err, refl, sym, ap, ◌∙◌, subst, arith}
+use Rattle.std.proofs.lemmas.Bool.{cases_lt}
+use Rattle.std.proofs.lemmas.List.Sums.{sum_by-cons}
+use Rattle.peg_bytes.specs.Extent.{between}
+use Rattle.peg_tree.specs.Trees.{Trees}
+use Rattle.peg_grammar.specs.Form.{Name}
+use Rattle.peg_grammar.specs.Record.{Failed, Matched}
+use Rattle.peg_grammar.proofs.Derivations.{Derives, one_result}
+use Rattle.peg_notation.specs.Figure.{figure}
+use Rattle.peg_notation.specs.Notation.{Matches, IsInNotation, most_file_bytes}
+use Rattle.peg_notation.specs.Pieces.{Piece}
+use Rattle.peg_notation.specs.Reader.{Halt, Unexpected, TooDeep, Rules, grammar}
+use Rattle.peg_notation.specs.ReaderCode.{IsText, AreTexts, TellsFault}
+use Rattle.peg_notation.specs.Reads.{most_open, fault_of, Reads, IsReadingWithin, NestsDeeper, IsTokenPlace, one_if_open, opens, one_if_close, closes, IsOneTooMany}
+use Rattle.peg_notation.specs.Spans.{RuleLiesIn, AnswerLiesIn}
+use Rattle.peg_notation.specs.Spelled.{nesting}
+use Rattle.peg_notation.specs.Tokens.{Lexeme, IsTokens, Lexes}
+use Rattle.peg_notation.specs.declared.fault.LexFault.{LexFault}
+use Rattle.peg_notation.specs.declared.fault.LexFault.TheVariants.{FileTooLong, Syntax, Memory}
+use Rattle.peg_notation.specs.declared.fault.NotationFault.{NotationFault}
+use Rattle.peg_notation.specs.declared.fault.NotationFault.TheVariants as answer
+use Rattle.peg_notation.proofs.Cuts.{IsCut}
+use Rattle.peg_notation.proofs.GrammarRules.{ExactFile, first_place, grammar-exact}
+use Rattle.peg_notation.proofs.Lexemes.{lexeme_at, matches}
+use Rattle.peg_notation.proofs.MatchedTokens.{derives, fault_not_matched}
+use Rattle.peg_notation.proofs.Places.{IsPlace, StopsAt, grammar-stops}
+use Rattle.peg_notation.proofs.Reached.{Runs, IsDeepAt, token-order, texts-within, texts-from}
+use Rattle.peg_notation.proofs.ReachedRules.{RulesReach, grammar-reaches}
+use Rattle.peg_notation.proofs.ReaderCuts.{grammar-cut}
+use Rattle.peg_notation.proofs.SpacingRules.{finds-spacing}
+use Rattle.peg_notation.proofs.Streams.{Stream, stream}
+use Rattle.peg_notation.proofs.Texts.{behind_text}
+
+-- ---- tokens
+
+-- the first spacing ends where it is seen to end
+first_start : (file : List ℕ) {start : ℕ} {trees : Trees} → Matches file (codes "Spacing") 0 start trees
+    → start ≡ first_place file
+first_start file {start} {trees} m =
+    let gap = finds-spacing file (between 0 0) 0 in
+    let same : Matched start trees ≡ Matched (first_place file) gap.trees = one_result (derives m) gap.derives in
+    cc
+
+-- the tokens of a file stand one behind the other
+pub tokens-stream : (file : List ℕ) (lexemes : List Lexeme) → IsTokens file lexemes → Stream file (first_place file) lexemes
+tokens-stream file lexemes tokens = subst (λ p. Stream file p lexemes) (first_start file tokens.2) (stream tokens.3 refl)
+
+stream-texts : {file : List ℕ} {p : ℕ} {lexemes : List Lexeme} → Stream file p lexemes → AreTexts file p lexemes
+stream-texts (Stream.ended last) = omega (arith, last)
+stream-texts {file} {p} (Stream.next {more = more} k piece lexeme found is rest) =
+    let here : IsText file (lexeme_at k p piece.length) =
+    ap (λ (x : Option Piece). option_map (λ (q : Piece). p + q.length) x) found in
+    let behind : AreTexts file (p + piece.length) more =
+    texts-from file (behind_text file p piece.length) (p + piece.length) more (omega arith) (stream-texts rest) in
+    subst (λ (l : Lexeme). AreTexts file p (l ∷ more)) (sym is) (omega arith, here, behind)
+
+pub tokens-texts : (file : List ℕ) (lexemes : List Lexeme) → IsTokens file lexemes → AreTexts file 0 lexemes
+tokens-texts file lexemes tokens =
+    texts-from file (first_place file) 0 lexemes (omega arith) (stream-texts (tokens-stream file lexemes tokens))
+
+-- ---- places
+
+contains-later : (x y : ℕ) (list : List ℕ) → Contains list x → Contains (y ∷ list) x
+contains-later x y list is = (suc is.0, omega (arith, is.1), is.2)
+
+token_place : (size : ℕ) (lexemes : List Lexeme) (at : ℕ) → IsPlace size lexemes at
+    → Contains (map (λ (lexeme : Lexeme). lexeme.text.start) lexemes) at ⊎ (at ≡ size)
+token_place size lexemes at (IsPlace.the_end is) = inr is
+token_place size (lexeme ∷ more) at (IsPlace.first is) = inl (0, omega arith, sym is)
+token_place size (lexeme ∷ more) at (IsPlace.later rest) =
+    elim (token_place size more at rest) [
+      | inl is ↦ inl (contains-later at lexeme.text.start (map (λ (l : Lexeme). l.text.start) more) is)
+      | inr is ↦ inr is
+    ]
+
+-- ---- open parentheses
+
+-- what a run passes over: the tokens, how many open and close, and that no more than the most are open on the way
+record Passed (most a b : ℕ) (lexemes rest : List Lexeme) : Type 0 where
+  pub before : List Lexeme
+  pub same : lexemes ≡ before ++ rest
+  pub count : a + opens before ≡ b + closes before
+  pub within : (n : ℕ) → a + opens (take n before) ≤ most + closes (take n before)
+
+counts : (lexeme : Lexeme) (more : List Lexeme) → (opens (lexeme ∷ more) ≡ one_if_open lexeme.kind + opens more)
+    × (closes (lexeme ∷ more) ≡ one_if_close lexeme.kind + closes more)
+counts lexeme more = (
+  sum_by-cons (λ (l : Lexeme). one_if_open l.kind) lexeme more,
+  sum_by-cons (λ (l : Lexeme). one_if_close l.kind) lexeme more,
+)
+
+-- one token, and what is passed behind it
+one_passed : (most a c b : ℕ) (lexeme : Lexeme) (more rest : List Lexeme) → a ≤ most
+    → a + one_if_open lexeme.kind ≡ c + one_if_close lexeme.kind → Passed most c b more rest
+    → Passed most a b (lexeme ∷ more) rest
+one_passed most a c b lexeme more rest less step p =
+    let both = counts lexeme p.before in
+    record {
+      before = lexeme ∷ p.before;
+      same = ap (λ l. lexeme ∷ l) p.same;
+      count = omega (arith, both.0, both.1, step, p.count);
+      within = λ n. by n;
+    }
+  where
+    by : (n : ℕ) → a + opens (take n (lexeme ∷ p.before)) ≤ most + closes (take n (lexeme ∷ p.before))
+    by zero = omega arith
+    by (suc n) =
+        let both = counts lexeme (take n p.before) in
+        omega (arith, both.0, both.1, step, p.within n)
+
+stays_passed : (most a : ℕ) (lexemes : List Lexeme) → a ≤ most → Passed most a a lexemes lexemes
+stays_passed most a lexemes less = record { before = []; same = refl; count = refl; within = λ n. by n }
+  where
+    by : (n : ℕ) → a + opens (take n []) ≤ most + closes (take n [])
+    by zero = omega arith
+    by (suc n) = omega arith
+
+runs-passed : {most a b : ℕ} {lexemes rest : List Lexeme} → a ≤ most → Runs most a lexemes b rest
+    → Passed most a b lexemes rest
+runs-passed {most} {a} {b} {lexemes} less Runs.stays = stays_passed most a lexemes less
+runs-passed {most} {a} {b} less (Runs.opened {lexeme = lexeme} {more = more} {rest = rest} is smaller run) =
+    one_passed most a (suc a) b lexeme more rest less (omega (arith, ap one_if_open is, ap one_if_close is))
+    (runs-passed (omega arith) run)
+runs-passed {most} {a} {b} less (Runs.shut {a = c} {lexeme = lexeme} {more = more} {rest = rest} is run) =
+    one_passed most (suc c) c b lexeme more rest less (omega (arith, ap one_if_open is, ap one_if_close is))
+    (runs-passed (omega arith) run)
+runs-passed {most} {a} {b} less (Runs.other {lexeme = lexeme} {more = more} {rest = rest} is too run) =
+    one_passed most a a b lexeme more rest less (omega (arith, is, too)) (runs-passed less run)
+
+too_many : (most : ℕ) (file : List ℕ) (lexemes : List Lexeme) (at : ℕ) → IsTokens file lexemes → IsDeepAt most 0 lexemes at
+    → IsOneTooMany most file at
+too_many most file lexemes at tokens deep =
+    let p = runs-passed (omega arith) deep.runs in (
+      p.before,
+      deep.opening,
+      deep.more,
+      subst (IsTokens file) p.same tokens,
+      deep.opens,
+      deep.place,
+      omega (arith, p.count),
+      λ n. omega (arith, p.within n),
+    )
+
+-- ---- the answer
+
+-- a reading is the figure's, where it is read with as many parentheses as there are tokens and nests no deeper than is
+-- allowed
+read_within : (file : List ℕ) (most : ℕ) (all cut : Result Rules Halt) → ExactFile file all
+    → IsCut (λ (p : Rules). p.depth) most all cut → (read : Rules) → cut ≡ Ok read → IsReadingWithin most file read.rules
+read_within file most (Ok x) cut exact is read found = by (cases_lt most x.depth)
+  where
+    by : (most < x.depth) ⊎ (x.depth ≤ most) → IsReadingWithin most file read.rules
+    by (inr shallow) =
+        let same : Ok x ≡ Ok read = sym (is.0 shallow) ∙ found in
+        let it : x ≡ read = cc in (
+          exact.end,
+          exact.trees,
+          matches (exact.derives (between 0 0)),
+          omega (arith, exact.nests),
+          ap (λ (r : Rules). r.rules) (sym it) ∙ exact.spells,
+        )
+    by (inl deep) = absurd (let bad = sym found ∙ (is.1 deep).1 in cc)
+read_within file most (Err (Unexpected at)) cut exact (inl same) read found = absurd (let bad = sym found ∙ same in cc)
+read_within file most (Err (Unexpected at)) cut exact (inr deep) read found = absurd (let bad = sym found ∙ deep.1 in cc)
+read_within file most (Err (TooDeep at)) cut exact is read found = absurd exact
+
+not_matched : (file : List ℕ) → ((span : Rattle.peg_bytes.specs.Extent.Extent) → Derives figure file (Name (codes "Grammar") span) 0 Failed)
+    → (end : ℕ) (trees : Trees) → Matches file (codes "Grammar") 0 end trees → ⊥
+not_matched file fails end trees m =
+    let bad : Matched end trees ≡ Failed = one_result (derives m) (fails (between 0 0)) in cc
+
+not_read : (file : List ℕ) (most : ℕ) (all cut : Result Rules Halt) → ExactFile file all
+    → IsCut (λ (p : Rules). p.depth) most all cut → (at : ℕ) → cut ≡ Err (Unexpected at) → ¬ IsInNotation file
+not_read file most (Ok x) cut exact is at found m = by (cases_lt most x.depth)
+  where
+    by : (most < x.depth) ⊎ (x.depth ≤ most) → ⊥
+    by (inr shallow) = let bad = sym found ∙ is.0 shallow in cc
+    by (inl deep) = let bad = sym found ∙ (is.1 deep).1 in cc
+not_read file most (Err (Unexpected other)) cut exact is at found m = not_matched file exact m.0 m.1 m.2
+not_read file most (Err (TooDeep other)) cut exact is at found m = exact
+
+nests_deeper : (file : List ℕ) (most : ℕ) (all cut : Result Rules Halt) → ExactFile file all
+    → IsCut (λ (p : Rules). p.depth) most all cut → (at : ℕ) → cut ≡ Err (TooDeep at) → NestsDeeper most file
+nests_deeper file most (Ok x) cut exact is at found end trees m = by (cases_lt most x.depth)
+  where
+    by : (most < x.depth) ⊎ (x.depth ≤ most) → most < nesting trees
+    by (inr shallow) = absurd (let bad = sym found ∙ is.0 shallow in cc)
+    by (inl deep) =
+        let same : Matched end trees ≡ Matched exact.end exact.trees = one_result (derives m) (exact.derives (between 0 0)) in
+        let one : trees ≡ exact.trees = cc in
+        omega (arith, ap nesting one, exact.nests)
+nests_deeper file most (Err (Unexpected other)) cut exact is at found end trees m = absurd (not_matched file exact end trees m)
+nests_deeper file most (Err (TooDeep other)) cut exact is at found end trees m = absurd exact
+
+-- What is read of the tokens of a file with so many parentheses at most.
+pub record OfTokens (file : List ℕ) (most : ℕ) (lexemes : List Lexeme) : Type 0 where
+  pub read : (r : Rules) → grammar file most lexemes ≡ Ok r → IsReadingWithin most file r.rules
+  pub lies : (r : Rules) → grammar file most lexemes ≡ Ok r → All (RuleLiesIn (length file)) r.rules
+  pub unread : (at : ℕ) → grammar file most lexemes ≡ Err (Unexpected at) → (¬ IsInNotation file) × IsTokenPlace file at
+  pub deep : (at : ℕ) → grammar file most lexemes ≡ Err (TooDeep at) → NestsDeeper most file × IsOneTooMany most file at
+
+pub answers : (file : List ℕ) (most : ℕ) (lexemes : List Lexeme) → IsTokens file lexemes → OfTokens file most lexemes
+answers file most lexemes tokens =
+    let all = grammar file (length lexemes) lexemes in
+    let cut = grammar file most lexemes in
+    let exact : ExactFile file all = grammar-exact file (length lexemes) lexemes (tokens-stream file lexemes tokens) (omega arith) in
+    let is : IsCut (λ (p : Rules). p.depth) most all cut = grammar-cut file (length lexemes) most lexemes in
+    let reach : RulesReach file most lexemes cut = grammar-reaches file most 0 lexemes (tokens-texts file lexemes tokens) in
+    record {
+      read = λ r found. read_within file most all cut exact is r found;
+      lies = λ r found. subst (λ (x : Result Rules Halt). RulesReach file most lexemes x) found reach;
+      unread = λ at found. (
+        not_read file most all cut exact is at found,
+        (
+          lexemes,
+          tokens,
+          token_place (length file) lexemes at
+              (subst (λ (x : Result Rules Halt). StopsAt (length file) lexemes x) found (grammar-stops file most lexemes)),
+        ),
+      );
+      deep = λ at found. (
+        nests_deeper file most all cut exact is at found,
+        too_many most file lexemes at tokens (subst (λ (x : Result Rules Halt). RulesReach file most lexemes x) found reach),
+      );
+    }
+
+-- a file without tokens isn't read
+pub lexing_reads : (file : List ℕ) (fault : LexFault) → Lexes file (Err fault) → Reads file (Err (fault_of fault))
+lexing_reads file FileTooLong is = is
+lexing_reads file (Syntax at) is = (is.0, fault_not_matched file at is.1, inl is.1)
+lexing_reads file Memory is = tt
+
+pub lexing_lies : (file : List ℕ) (fault : LexFault) → Lexes file (Err fault) → AnswerLiesIn (length file) (Err (fault_of fault))
+lexing_lies file FileTooLong is = tt
+lexing_lies file (Syntax at) is = let before = is.1.2 in omega (arith, before)
+lexing_lies file Memory is = tt
+
+-- what the reader answers on the tokens of a file is what reading the file answers
+pub fault_reads : (file : List ℕ) (lexemes : List Lexeme) (fault : NotationFault) → length file ≤ most_file_bytes
+    → IsTokens file lexemes → TellsFault (grammar file most_open lexemes) fault → Reads file (Err fault)
+fault_reads file lexemes answer.FileTooLong short tokens is = absurd is
+fault_reads file lexemes (answer.Syntax at) short tokens is =
+    let it = (answers file most_open lexemes tokens).unread at is in (short, it.0, inr it.1)
+fault_reads file lexemes (answer.TooNested at) short tokens is =
+    let it = (answers file most_open lexemes tokens).deep at is in (short, it.0, it.1)
+fault_reads file lexemes answer.Memory short tokens is = tt
+
+-- a place where a token starts lies in the file
+starts_within : (file : List ℕ) (from : ℕ) (lexemes : List Lexeme) (at : ℕ) → AreTexts file from lexemes
+    → IsPlace (length file) lexemes at → at ≤ length file
+starts_within file from lexemes at texts (IsPlace.the_end is) = omega (arith, is)
+starts_within file from (lexeme ∷ more) at texts (IsPlace.first is) =
+    omega (arith, is, token-order file from lexeme more texts, texts-within file lexeme.text.end more texts.2)
+starts_within file from (lexeme ∷ more) at texts (IsPlace.later rest) = starts_within file lexeme.text.end more at texts.2 rest
+
+runs_within : (file : List ℕ) {most a b : ℕ} {lexemes rest : List Lexeme} → Runs most a lexemes b rest → (from : ℕ)
+    → AreTexts file from lexemes → (to : ℕ) × AreTexts file to rest
+runs_within file Runs.stays from texts = (from, texts)
+runs_within file (Runs.opened {lexeme = lexeme} is less run) from texts = runs_within file run lexeme.text.end texts.2
+runs_within file (Runs.shut {lexeme = lexeme} is run) from texts = runs_within file run lexeme.text.end texts.2
+runs_within file (Runs.other {lexeme = lexeme} is too run) from texts = runs_within file run lexeme.text.end texts.2
+
+pub fault_lies : (file : List ℕ) (lexemes : List Lexeme) (fault : NotationFault) → IsTokens file lexemes
+    → TellsFault (grammar file most_open lexemes) fault → AnswerLiesIn (length file) (Err fault)
+fault_lies file lexemes answer.FileTooLong tokens is = tt
+fault_lies file lexemes (answer.Syntax at) tokens is =
+    starts_within file 0 lexemes at (tokens-texts file lexemes tokens)
+    (subst (λ (x : Result Rules Halt). StopsAt (length file) lexemes x) is (grammar-stops file most_open lexemes))
+fault_lies file lexemes (answer.TooNested at) tokens is =
+    let texts = tokens-texts file lexemes tokens in
+    let deep : IsDeepAt most_open 0 lexemes at =
+    subst (λ (x : Result Rules Halt). RulesReach file most_open lexemes x) is (grammar-reaches file most_open 0 lexemes texts) in
+    let left = runs_within file deep.runs 0 texts in
+    omega (
+      arith,
+      deep.place,
+      token-order file left.0 deep.opening deep.more left.1,
+      texts-within file deep.opening.text.end deep.more left.1.2,
+    )
+fault_lies file lexemes answer.Memory tokens is = tt

@@ -1,0 +1,355 @@
+-- What a reading of tokens reaches: where its spans lie, which tokens are left, and how many parentheses are open on the
+-- way.
+use Rattle.std.proofs.Common.{◌≡◌, ℕ, suc, ◌+◌, ◌<◌, ◌≤◌, Bool, true, false, List, [], ◌∷◌, length, drop}
+use Rattle.std.proofs.Common.{Option, None, Some, option_map, Result, Ok, Err, if◌then◌else◌, refl, sym, ap, ◌∙◌, subst, arith}
+use Rattle.std.proofs.lemmas.List.{drop-drop}
+use Rattle.peg_bytes.specs.Extent.{Extent, between}
+use Rattle.peg_grammar.specs.Form as form
+use Rattle.peg_grammar.specs.Form.{Form, Forms, forms}
+use Rattle.peg_notation.specs.Lexical.{text_of}
+use Rattle.peg_notation.specs.Pieces.{Piece}
+use Rattle.peg_notation.specs.Ranges.{class_of}
+use Rattle.peg_notation.specs.Reader.{Halt, Unexpected, TooDeep, Part, Reading, place_of, starts_with_arrow, and_read, one_token, pieces_of, close_of, closed, parenthesized, named, primary_of, primary, suffix_sign, with_suffix, then_suffix, suffix, with_prefix, prefix_sign, prefix_of, prefix}
+use Rattle.peg_notation.specs.ReaderCode.{AreTexts}
+use Rattle.peg_notation.specs.Reads.{one_if_open, one_if_close}
+use Rattle.peg_notation.specs.Spans.{LiesIn, FormLiesIn}
+use Rattle.peg_notation.specs.Spelled.{part, bytes_in, ranges_in}
+use Rattle.peg_notation.specs.Tokens.{Lexeme}
+use Rattle.peg_notation.specs.declared.token.TokenKind.{TokenKind}
+use Rattle.peg_notation.specs.declared.token.TokenKind.TheVariants as kind
+
+-- ---- texts
+
+-- so many bytes from a place on end behind it
+end_behind : (start end : ℕ) (x : Option Piece) → option_map (λ (piece : Piece). start + piece.length) x ≡ Some end → start ≤ end
+end_behind start end None is = cc
+end_behind start end (Some piece) is = let same : start + piece.length ≡ end = cc in omega (arith, same)
+
+pub token-order : (file : List ℕ) (from : ℕ) (lexeme : Lexeme) (more : List Lexeme) → AreTexts file from (lexeme ∷ more)
+    → lexeme.text.start ≤ lexeme.text.end
+token-order file from lexeme more texts =
+    end_behind lexeme.text.start lexeme.text.end (text_of lexeme.kind (drop lexeme.text.start file)) texts.1
+
+pub texts-within : (file : List ℕ) (from : ℕ) (lexemes : List Lexeme) → AreTexts file from lexemes → from ≤ length file
+texts-within file from [] texts = texts
+texts-within file from (lexeme ∷ more) texts =
+    omega (arith, texts.0, token-order file from lexeme more texts, texts-within file lexeme.text.end more texts.2)
+
+pub texts-from : (file : List ℕ) (from before : ℕ) (lexemes : List Lexeme) → before ≤ from → AreTexts file from lexemes
+    → AreTexts file before lexemes
+texts-from file from before [] less texts = omega arith
+texts-from file from before (lexeme ∷ more) less texts = (omega (arith, texts.0), texts.1, texts.2)
+
+pub texts-place : (file : List ℕ) (from : ℕ) (lexemes : List Lexeme) → AreTexts file from lexemes
+    → from ≤ place_of (length file) lexemes
+texts-place file from [] texts = texts
+texts-place file from (lexeme ∷ more) texts = texts.0
+
+pub token-lies : (file : List ℕ) (from : ℕ) (lexeme : Lexeme) (more : List Lexeme) → AreTexts file from (lexeme ∷ more)
+    → LiesIn (length file) lexeme.text
+token-lies file from lexeme more texts =
+    (token-order file from lexeme more texts, texts-within file lexeme.text.end more texts.2)
+
+-- ---- open parentheses
+
+-- From tokens with so many parentheses open to the tokens left, with so many open, and never more than the most.
+pub data Runs (most : ℕ) : ℕ → List Lexeme → ℕ → List Lexeme → Type 0 where
+  stays : {a : ℕ} {lexemes : List Lexeme} → Runs most a lexemes a lexemes
+  opened : {a b : ℕ} {lexeme : Lexeme} {more rest : List Lexeme} → lexeme.kind ≡ kind.Open → a < most
+      → Runs most (suc a) more b rest → Runs most a (lexeme ∷ more) b rest
+  shut : {a b : ℕ} {lexeme : Lexeme} {more rest : List Lexeme} → lexeme.kind ≡ kind.Close → Runs most a more b rest
+      → Runs most (suc a) (lexeme ∷ more) b rest
+  other : {a b : ℕ} {lexeme : Lexeme} {more rest : List Lexeme} → one_if_open lexeme.kind ≡ 0
+      → one_if_close lexeme.kind ≡ 0 → Runs most a more b rest → Runs most a (lexeme ∷ more) b rest
+
+pub runs-then : {most a b c : ℕ} {lexemes mid rest : List Lexeme} → Runs most a lexemes b mid → Runs most b mid c rest
+    → Runs most a lexemes c rest
+runs-then Runs.stays next = next
+runs-then (Runs.opened is less more) next = Runs.opened is less (runs-then more next)
+runs-then (Runs.shut is more) next = Runs.shut is (runs-then more next)
+runs-then (Runs.other is too more) next = Runs.other is too (runs-then more next)
+
+-- the parenthesis that opens at a place is one too many
+pub record IsDeepAt (most a : ℕ) (lexemes : List Lexeme) (at : ℕ) : Type 0 where
+  pub opening : Lexeme
+  pub more : List Lexeme
+  pub opens : opening.kind ≡ kind.Open
+  pub place : at ≡ opening.text.start
+  pub runs : Runs most a lexemes most (opening ∷ more)
+
+pub deep-behind : {most a b : ℕ} {lexemes rest : List Lexeme} {at : ℕ} → Runs most a lexemes b rest → IsDeepAt most b rest at
+    → IsDeepAt most a lexemes at
+deep-behind runs deep = record {
+  opening = deep.opening;
+  more = deep.more;
+  opens = deep.opens;
+  place = deep.place;
+  runs = runs-then runs deep.runs;
+}
+
+-- ---- what is reached
+
+-- by an expression of some tokens
+pub record Taken (file : List ℕ) (most a : ℕ) (lexemes : List Lexeme) (p : Part) : Type 0 where
+  pub form : FormLiesIn (length file) p.form
+  pub some : 0 < p.taken
+  pub order : place_of (length file) lexemes ≤ p.last
+  pub behind : AreTexts file p.last (drop p.taken lexemes)
+  pub runs : Runs most a lexemes a (drop p.taken lexemes)
+
+-- by an expression behind a token whose text ends at a place
+pub record Reached (file : List ℕ) (most a before : ℕ) (lexemes : List Lexeme) (p : Part) : Type 0 where
+  pub form : FormLiesIn (length file) p.form
+  pub after : before ≤ p.last
+  pub order : 0 < p.taken → place_of (length file) lexemes ≤ p.last
+  pub behind : AreTexts file p.last (drop p.taken lexemes)
+  pub runs : Runs most a lexemes a (drop p.taken lexemes)
+
+abbrev pub Takes : (file : List ℕ) (most a : ℕ) (lexemes : List Lexeme) → Result Part Halt → Type 0
+Takes file most a lexemes (Ok p) = Taken file most a lexemes p
+Takes file most a lexemes (Err (Unexpected at)) = Unit {0}
+Takes file most a lexemes (Err (TooDeep at)) = IsDeepAt most a lexemes at
+
+abbrev pub Reaches : (file : List ℕ) (most a before : ℕ) (lexemes : List Lexeme) → Result Part Halt → Type 0
+Reaches file most a before lexemes (Ok p) = Reached file most a before lexemes p
+Reaches file most a before lexemes (Err (Unexpected at)) = Unit {0}
+Reaches file most a before lexemes (Err (TooDeep at)) = IsDeepAt most a lexemes at
+
+-- a way to read inside parentheses, where so many are open: none may be opened, or one more
+abbrev pub InnerReaches : (file : List ℕ) (most a : ℕ) → Option Reading → Type 0
+InnerReaches file most a None = a ≡ most
+InnerReaches file most a (Some read) =
+    (a < most) × ((before : ℕ) (lexemes : List Lexeme) → AreTexts file before lexemes
+    → Reaches file most (suc a) before lexemes (read before lexemes))
+
+-- ---- Primary
+
+one_token-takes : (file : List ℕ) (most a from : ℕ) (lexeme : Lexeme) (rest : List Lexeme) (f : Form)
+    → AreTexts file from (lexeme ∷ rest) → FormLiesIn (length file) f → one_if_open lexeme.kind ≡ 0
+    → one_if_close lexeme.kind ≡ 0 → Takes file most a (lexeme ∷ rest) (one_token f lexeme)
+one_token-takes file most a from lexeme rest f texts lies opens closes = record {
+  form = lies;
+  some = omega arith;
+  order = token-order file from lexeme rest texts;
+  behind = texts.2;
+  runs = Runs.other opens closes Runs.stays;
+}
+
+-- a parenthesis that closes, behind what stood inside
+shut-takes : (file : List ℕ) (most a from : ℕ) (opening : Lexeme) (rest : List Lexeme) (inside : Part) (lexeme : Lexeme)
+    (more : List Lexeme) → AreTexts file from (opening ∷ rest) → opening.kind ≡ kind.Open → a < most
+    → Reached file most (suc a) opening.text.end rest inside → drop inside.taken rest ≡ lexeme ∷ more → lexeme.kind ≡ kind.Close
+    → Taken file most a (opening ∷ rest) (record { form = inside.form; taken = inside.taken + 2; last = lexeme.text.end; depth = inside.depth + 1 })
+shut-takes file most a from opening rest inside lexeme more texts opens less e left closes =
+    let behind : AreTexts file inside.last (lexeme ∷ more) = subst (AreTexts file inside.last) left e.behind in
+    let count : inside.taken + 2 ≡ suc (inside.taken + 1) = omega arith in
+    let gone : more ≡ drop (inside.taken + 2) (opening ∷ rest) =
+    ap (drop 1) (sym left) ∙ (drop-drop 1 inside.taken rest ∙ ap (λ n. drop n (opening ∷ rest)) (sym count)) in
+    let over : Runs most (suc a) rest (suc a) (lexeme ∷ more) = subst (Runs most (suc a) rest (suc a)) left e.runs in
+    record {
+      form = e.form;
+      some = omega arith;
+      order = omega (arith, token-order file from opening rest texts, e.after, behind.0, token-order file inside.last lexeme more behind);
+      behind = subst (AreTexts file lexeme.text.end) gone behind.2;
+      runs = Runs.opened opens less (runs-then over (subst (Runs most (suc a) (lexeme ∷ more) a) gone (Runs.shut closes Runs.stays)));
+    }
+
+close_of-takes : (file : List ℕ) (most a from : ℕ) (opening : Lexeme) (rest : List Lexeme) (inside : Part) (lexeme : Lexeme)
+    (more : List Lexeme) → AreTexts file from (opening ∷ rest) → opening.kind ≡ kind.Open → a < most
+    → Reached file most (suc a) opening.text.end rest inside → drop inside.taken rest ≡ lexeme ∷ more
+    → (k : TokenKind) → lexeme.kind ≡ k → Takes file most a (opening ∷ rest) (close_of (length file) inside lexeme more k)
+close_of-takes file most a from opening rest inside lexeme more texts opens less e left kind.Close is =
+    shut-takes file most a from opening rest inside lexeme more texts opens less e left is
+close_of-takes file most a from opening rest inside lexeme more texts opens less e left kind.Ident is = tt
+close_of-takes file most a from opening rest inside lexeme more texts opens less e left kind.Literal is = tt
+close_of-takes file most a from opening rest inside lexeme more texts opens less e left kind.Class is = tt
+close_of-takes file most a from opening rest inside lexeme more texts opens less e left kind.Arrow is = tt
+close_of-takes file most a from opening rest inside lexeme more texts opens less e left kind.Slash is = tt
+close_of-takes file most a from opening rest inside lexeme more texts opens less e left kind.And is = tt
+close_of-takes file most a from opening rest inside lexeme more texts opens less e left kind.Not is = tt
+close_of-takes file most a from opening rest inside lexeme more texts opens less e left kind.Question is = tt
+close_of-takes file most a from opening rest inside lexeme more texts opens less e left kind.Star is = tt
+close_of-takes file most a from opening rest inside lexeme more texts opens less e left kind.Plus is = tt
+close_of-takes file most a from opening rest inside lexeme more texts opens less e left kind.Open is = tt
+close_of-takes file most a from opening rest inside lexeme more texts opens less e left kind.Dot is = tt
+
+closed-takes : (file : List ℕ) (most a from : ℕ) (opening : Lexeme) (rest : List Lexeme) (inside : Part)
+    → AreTexts file from (opening ∷ rest) → opening.kind ≡ kind.Open → a < most
+    → Reached file most (suc a) opening.text.end rest inside → (left : List Lexeme) → drop inside.taken rest ≡ left
+    → Takes file most a (opening ∷ rest) (closed (length file) inside left)
+closed-takes file most a from opening rest inside texts opens less e [] left = tt
+closed-takes file most a from opening rest inside texts opens less e (lexeme ∷ more) left =
+    close_of-takes file most a from opening rest inside lexeme more texts opens less e left lexeme.kind refl
+
+parenthesized-takes : (file : List ℕ) (most a from : ℕ) (inner : Option Reading) → InnerReaches file most a inner
+    → (opening : Lexeme) (rest : List Lexeme) → AreTexts file from (opening ∷ rest) → opening.kind ≡ kind.Open
+    → Takes file most a (opening ∷ rest) (parenthesized inner (length file) opening rest)
+parenthesized-takes file most a from None is opening rest texts opens = record {
+  opening = opening;
+  more = rest;
+  opens = opens;
+  place = refl;
+  runs = subst (λ b. Runs most b (opening ∷ rest) most (opening ∷ rest)) (sym is) Runs.stays;
+}
+parenthesized-takes file most a from (Some read) is opening rest texts opens =
+    by (read opening.text.end rest) (is.1 opening.text.end rest texts.2)
+  where
+    by : (x : Result Part Halt) → Reaches file most (suc a) opening.text.end rest x → Takes file most a (opening ∷ rest)
+        (and_read x (λ (inside : Part). closed (length file) inside (drop inside.taken rest)))
+    by (Ok inside) e = closed-takes file most a from opening rest inside texts opens is.0 e (drop inside.taken rest) refl
+    by (Err (Unexpected at)) e = tt
+    by (Err (TooDeep at)) e = deep-behind (Runs.opened opens is.0 Runs.stays) e
+
+named-takes : (file : List ℕ) (most a from : ℕ) (lexeme : Lexeme) (rest : List Lexeme) → AreTexts file from (lexeme ∷ rest)
+    → lexeme.kind ≡ kind.Ident → Takes file most a (lexeme ∷ rest) (named file lexeme rest)
+named-takes file most a from lexeme rest texts is = by (starts_with_arrow rest)
+  where
+    by : (t : Bool) → Takes file most a (lexeme ∷ rest) (if t then Err (Unexpected (place_of (length file) rest)) else one_token
+        (form.Name (part file lexeme.text.start lexeme.text.end) lexeme.text) lexeme)
+    by true = tt
+    by false =
+        one_token-takes file most a from lexeme rest (form.Name (part file lexeme.text.start lexeme.text.end) lexeme.text) texts
+        (token-lies file from lexeme rest texts) (ap one_if_open is) (ap one_if_close is)
+
+primary_of-takes : (file : List ℕ) (most a from : ℕ) (inner : Option Reading) → InnerReaches file most a inner
+    → (lexeme : Lexeme) (rest : List Lexeme) → AreTexts file from (lexeme ∷ rest) → (k : TokenKind) → lexeme.kind ≡ k
+    → Takes file most a (lexeme ∷ rest) (primary_of file inner lexeme rest k)
+primary_of-takes file most a from inner e lexeme rest texts kind.Ident is = named-takes file most a from lexeme rest texts is
+primary_of-takes file most a from inner e lexeme rest texts kind.Literal is =
+    one_token-takes file most a from lexeme rest (form.Literal (bytes_in (pieces_of file lexeme)) lexeme.text) texts
+    (token-lies file from lexeme rest texts) (ap one_if_open is) (ap one_if_close is)
+primary_of-takes file most a from inner e lexeme rest texts kind.Class is =
+    one_token-takes file most a from lexeme rest (form.Class (class_of (ranges_in (pieces_of file lexeme))) lexeme.text) texts
+    (token-lies file from lexeme rest texts) (ap one_if_open is) (ap one_if_close is)
+primary_of-takes file most a from inner e lexeme rest texts kind.Dot is =
+    one_token-takes file most a from lexeme rest (form.Any lexeme.text) texts
+    (token-lies file from lexeme rest texts) (ap one_if_open is) (ap one_if_close is)
+primary_of-takes file most a from inner e lexeme rest texts kind.Open is = parenthesized-takes file most a from inner e lexeme rest texts is
+primary_of-takes file most a from inner e lexeme rest texts kind.Arrow is = tt
+primary_of-takes file most a from inner e lexeme rest texts kind.Slash is = tt
+primary_of-takes file most a from inner e lexeme rest texts kind.And is = tt
+primary_of-takes file most a from inner e lexeme rest texts kind.Not is = tt
+primary_of-takes file most a from inner e lexeme rest texts kind.Question is = tt
+primary_of-takes file most a from inner e lexeme rest texts kind.Star is = tt
+primary_of-takes file most a from inner e lexeme rest texts kind.Plus is = tt
+primary_of-takes file most a from inner e lexeme rest texts kind.Close is = tt
+
+pub primary-takes : (file : List ℕ) (most a from : ℕ) (inner : Option Reading) → InnerReaches file most a inner
+    → (lexemes : List Lexeme) → AreTexts file from lexemes → Takes file most a lexemes (primary file inner lexemes)
+unfolding primary
+primary-takes file most a from inner e [] texts = tt
+primary-takes file most a from inner e (lexeme ∷ rest) texts =
+    primary_of-takes file most a from inner e lexeme rest texts lexeme.kind refl
+
+-- ---- Suffix and Prefix
+
+-- a sign behind an expression
+signed-takes : (file : List ℕ) (most a : ℕ) (lexemes : List Lexeme) (p : Part) → Taken file most a lexemes p
+    → (lexeme : Lexeme) (more : List Lexeme) → drop p.taken lexemes ≡ lexeme ∷ more → one_if_open lexeme.kind ≡ 0
+    → one_if_close lexeme.kind ≡ 0 → (sign : Form → Extent → Form)
+    → ((f : Form) (span : Extent) → FormLiesIn (length file) f → LiesIn (length file) span → FormLiesIn (length file) (sign f span))
+    → Taken file most a lexemes (with_suffix (place_of (length file) lexemes) p lexeme (Some sign))
+signed-takes file most a lexemes p e lexeme more left opens closes sign lies =
+    let texts : AreTexts file p.last (lexeme ∷ more) = subst (AreTexts file p.last) left e.behind in
+    let gone : more ≡ drop (p.taken + 1) lexemes = ap (drop 1) (sym left) ∙ drop-drop 1 p.taken lexemes in
+    let order : place_of (length file) lexemes ≤ lexeme.text.end =
+    omega (arith, e.order, texts.0, token-order file p.last lexeme more texts) in
+    let over : Runs most a lexemes a (lexeme ∷ more) = subst (Runs most a lexemes a) left e.runs in
+    record {
+      form = lies p.form (between (place_of (length file) lexemes) lexeme.text.end) e.form
+          (order, texts-within file lexeme.text.end more texts.2);
+      some = omega arith;
+      order = order;
+      behind = subst (AreTexts file lexeme.text.end) gone texts.2;
+      runs = runs-then over (subst (Runs most a (lexeme ∷ more) a) gone (Runs.other opens closes Runs.stays));
+    }
+
+sign_of-takes : (file : List ℕ) (most a : ℕ) (lexemes : List Lexeme) (p : Part) → Taken file most a lexemes p
+    → (lexeme : Lexeme) (more : List Lexeme) → drop p.taken lexemes ≡ lexeme ∷ more → (k : TokenKind) → lexeme.kind ≡ k
+    → Taken file most a lexemes (with_suffix (place_of (length file) lexemes) p lexeme (suffix_sign k))
+sign_of-takes file most a lexemes p e lexeme more left kind.Question is =
+    signed-takes file most a lexemes p e lexeme more left (ap one_if_open is) (ap one_if_close is) form.Optional (λ f span l s. (s, l))
+sign_of-takes file most a lexemes p e lexeme more left kind.Star is =
+    signed-takes file most a lexemes p e lexeme more left (ap one_if_open is) (ap one_if_close is) form.Star (λ f span l s. (s, l))
+sign_of-takes file most a lexemes p e lexeme more left kind.Plus is =
+    signed-takes file most a lexemes p e lexeme more left (ap one_if_open is) (ap one_if_close is) form.Plus (λ f span l s. (s, l))
+sign_of-takes file most a lexemes p e lexeme more left kind.Ident is = e
+sign_of-takes file most a lexemes p e lexeme more left kind.Literal is = e
+sign_of-takes file most a lexemes p e lexeme more left kind.Class is = e
+sign_of-takes file most a lexemes p e lexeme more left kind.Arrow is = e
+sign_of-takes file most a lexemes p e lexeme more left kind.Slash is = e
+sign_of-takes file most a lexemes p e lexeme more left kind.And is = e
+sign_of-takes file most a lexemes p e lexeme more left kind.Not is = e
+sign_of-takes file most a lexemes p e lexeme more left kind.Open is = e
+sign_of-takes file most a lexemes p e lexeme more left kind.Close is = e
+sign_of-takes file most a lexemes p e lexeme more left kind.Dot is = e
+
+then_suffix-takes : (file : List ℕ) (most a : ℕ) (lexemes : List Lexeme) (p : Part) → Taken file most a lexemes p
+    → (left : List Lexeme) → drop p.taken lexemes ≡ left
+    → Taken file most a lexemes (then_suffix (place_of (length file) lexemes) p left)
+then_suffix-takes file most a lexemes p e [] left = e
+then_suffix-takes file most a lexemes p e (lexeme ∷ more) left = sign_of-takes file most a lexemes p e lexeme more left lexeme.kind refl
+
+pub suffix-takes : (file : List ℕ) (most a from : ℕ) (inner : Option Reading) → InnerReaches file most a inner
+    → (lexemes : List Lexeme) → AreTexts file from lexemes → Takes file most a lexemes (suffix file inner lexemes)
+unfolding suffix
+suffix-takes file most a from inner is lexemes texts =
+    by (primary file inner lexemes) (primary-takes file most a from inner is lexemes texts)
+  where
+    by : (x : Result Part Halt) → Takes file most a lexemes x → Takes file most a lexemes
+        (and_read x (λ (p : Part). Ok (then_suffix (place_of (length file) lexemes) p (drop p.taken lexemes))))
+    by (Ok p) e = then_suffix-takes file most a lexemes p e (drop p.taken lexemes) refl
+    by (Err (Unexpected at)) e = tt
+    by (Err (TooDeep at)) e = e
+
+-- a sign before an expression
+prefixed-takes : (file : List ℕ) (most a from : ℕ) (inner : Option Reading) → InnerReaches file most a inner
+    → (lexeme : Lexeme) (rest : List Lexeme) → AreTexts file from (lexeme ∷ rest) → one_if_open lexeme.kind ≡ 0
+    → one_if_close lexeme.kind ≡ 0 → (sign : Form → Extent → Form)
+    → ((f : Form) (span : Extent) → FormLiesIn (length file) f → LiesIn (length file) span → FormLiesIn (length file) (sign f span))
+    → Takes file most a (lexeme ∷ rest) (prefix_of file inner lexeme rest (Some sign))
+prefixed-takes file most a from inner is lexeme rest texts opens closes sign lies =
+    by (suffix file inner rest) (suffix-takes file most a lexeme.text.end inner is rest texts.2)
+  where
+    by : (x : Result Part Halt) → Takes file most a rest x → Takes file most a (lexeme ∷ rest)
+        (and_read x (λ (p : Part). Ok (with_prefix lexeme.text.start sign p)))
+    by (Ok p) e =
+        let order : lexeme.text.start ≤ p.last =
+        omega (arith, token-order file from lexeme rest texts, texts-place file lexeme.text.end rest texts.2, e.order) in
+        let count : 1 + p.taken ≡ suc p.taken = omega arith in
+        let gone : drop p.taken rest ≡ drop (1 + p.taken) (lexeme ∷ rest) = ap (λ n. drop n (lexeme ∷ rest)) (sym count) in
+        record {
+          form = lies p.form (between lexeme.text.start p.last) e.form (order, texts-within file p.last (drop p.taken rest) e.behind);
+          some = omega arith;
+          order = order;
+          behind = subst (AreTexts file p.last) gone e.behind;
+          runs = subst (Runs most a (lexeme ∷ rest) a) gone (Runs.other opens closes e.runs);
+        }
+    by (Err (Unexpected at)) e = tt
+    by (Err (TooDeep at)) e = deep-behind (Runs.other opens closes Runs.stays) e
+
+prefix_of-takes : (file : List ℕ) (most a from : ℕ) (inner : Option Reading) → InnerReaches file most a inner
+    → (lexeme : Lexeme) (rest : List Lexeme) → AreTexts file from (lexeme ∷ rest) → (k : TokenKind) → lexeme.kind ≡ k
+    → Takes file most a (lexeme ∷ rest) (prefix_of file inner lexeme rest (prefix_sign k))
+prefix_of-takes file most a from inner is lexeme rest texts kind.And e =
+    prefixed-takes file most a from inner is lexeme rest texts (ap one_if_open e) (ap one_if_close e) form.And (λ f span l s. (s, l))
+prefix_of-takes file most a from inner is lexeme rest texts kind.Not e =
+    prefixed-takes file most a from inner is lexeme rest texts (ap one_if_open e) (ap one_if_close e) form.Not (λ f span l s. (s, l))
+prefix_of-takes file most a from inner is lexeme rest texts kind.Ident e = suffix-takes file most a from inner is (lexeme ∷ rest) texts
+prefix_of-takes file most a from inner is lexeme rest texts kind.Literal e = suffix-takes file most a from inner is (lexeme ∷ rest) texts
+prefix_of-takes file most a from inner is lexeme rest texts kind.Class e = suffix-takes file most a from inner is (lexeme ∷ rest) texts
+prefix_of-takes file most a from inner is lexeme rest texts kind.Arrow e = suffix-takes file most a from inner is (lexeme ∷ rest) texts
+prefix_of-takes file most a from inner is lexeme rest texts kind.Slash e = suffix-takes file most a from inner is (lexeme ∷ rest) texts
+prefix_of-takes file most a from inner is lexeme rest texts kind.Question e = suffix-takes file most a from inner is (lexeme ∷ rest) texts
+prefix_of-takes file most a from inner is lexeme rest texts kind.Star e = suffix-takes file most a from inner is (lexeme ∷ rest) texts
+prefix_of-takes file most a from inner is lexeme rest texts kind.Plus e = suffix-takes file most a from inner is (lexeme ∷ rest) texts
+prefix_of-takes file most a from inner is lexeme rest texts kind.Open e = suffix-takes file most a from inner is (lexeme ∷ rest) texts
+prefix_of-takes file most a from inner is lexeme rest texts kind.Close e = suffix-takes file most a from inner is (lexeme ∷ rest) texts
+prefix_of-takes file most a from inner is lexeme rest texts kind.Dot e = suffix-takes file most a from inner is (lexeme ∷ rest) texts
+
+pub prefix-takes : (file : List ℕ) (most a from : ℕ) (inner : Option Reading) → InnerReaches file most a inner
+    → (lexemes : List Lexeme) → AreTexts file from lexemes → Takes file most a lexemes (prefix file inner lexemes)
+unfolding prefix
+prefix-takes file most a from inner is [] texts = suffix-takes file most a from inner is [] texts
+prefix-takes file most a from inner is (lexeme ∷ rest) texts =
+    prefix_of-takes file most a from inner is lexeme rest texts lexeme.kind refl

@@ -1,0 +1,365 @@
+-- What a reading of sequences, expressions, rules and whole files reaches.
+use Rattle.std.proofs.Common.{◌≡◌, ℕ, zero, suc, ◌+◌, ◌-◌, ◌<◌, ◌≤◌, Bool, true, false, List, [], ◌∷◌, length, drop, length-drop, All}
+use Rattle.std.proofs.Common.{Option, None, Some, Result, Ok, Err, if◌then◌else◌, refl, sym, ap, ◌∙◌, subst, arith}
+use Rattle.std.proofs.lemmas.List.{drop-drop}
+use Rattle.std.proofs.lemmas.List.Elements.{All-cons}
+use Rattle.peg_bytes.specs.Extent.{between}
+use Rattle.peg_grammar.specs.Form.{Form, forms}
+use Rattle.peg_notation.specs.Reader.{Halt, Unexpected, TooDeep, Part, Parts, Reading, place_of, is_arrow, starts_with_arrow, begins_prefix, and_read, no_more, and_parts, prefix, many_behind, many, sequence_part, sequence, starts_with_slash, is_slash, behind, alternative, choice_part, expression, expression_in, RulePart, Rules, and_rules, rule_of, definition_behind, definition_of, definition, definitions_behind, grammar}
+use Rattle.peg_notation.specs.ReaderCode.{AreTexts}
+use Rattle.peg_notation.specs.Reads.{one_if_open, one_if_close}
+use Rattle.peg_notation.specs.Spans.{FormLiesIn, FormsLieIn, RuleLiesIn}
+use Rattle.peg_notation.specs.Spelled.{sequence_spelled, choice_spelled}
+use Rattle.peg_notation.specs.Tokens.{Lexeme}
+use Rattle.peg_notation.specs.declared.token.TokenKind.{TokenKind}
+use Rattle.peg_notation.specs.declared.token.TokenKind.TheVariants as kind
+use Rattle.peg_notation.proofs.GrammarRules.{definitions_behind-drop}
+use Rattle.peg_notation.proofs.Reached.{token-order, token-lies, texts-within, texts-from, texts-place, Runs, runs-then, IsDeepAt, deep-behind, Taken, Reached, Takes, Reaches, InnerReaches, prefix-takes}
+use Rattle.peg_notation.proofs.Repeats.{many_behind-drop}
+
+-- ---- several in a row
+
+-- by expressions one behind the other
+pub record Passes (file : List ℕ) (most a before : ℕ) (lexemes : List Lexeme) (p : Parts) : Type 0 where
+  pub forms : FormsLieIn (length file) (forms p.forms)
+  pub after : before ≤ p.last
+  pub some : 0 < length p.forms → 0 < p.taken
+  pub order : 0 < p.taken → place_of (length file) lexemes ≤ p.last
+  pub behind : AreTexts file p.last (drop p.taken lexemes)
+  pub runs : Runs most a lexemes a (drop p.taken lexemes)
+
+abbrev pub PassesAll : (file : List ℕ) (most a before : ℕ) (lexemes : List Lexeme) → Result Parts Halt → Type 0
+PassesAll file most a before lexemes (Ok p) = Passes file most a before lexemes p
+PassesAll file most a before lexemes (Err (Unexpected at)) = Unit {0}
+PassesAll file most a before lexemes (Err (TooDeep at)) = IsDeepAt most a lexemes at
+
+none-passes : (file : List ℕ) (most a before : ℕ) (lexemes : List Lexeme) → AreTexts file before lexemes
+    → Passes file most a before lexemes (no_more before)
+none-passes file most a before lexemes texts = record {
+  forms = tt;
+  after = omega arith;
+  some = λ h. h;
+  order = λ h. absurd (omega arith);
+  behind = texts;
+  runs = Runs.stays;
+}
+
+one-passes : (file : List ℕ) (most a before : ℕ) (lexemes : List Lexeme) → AreTexts file before lexemes → (p : Part)
+    → Taken file most a lexemes p → (x : Result Parts Halt) → PassesAll file most a p.last (drop p.taken lexemes) x
+    → PassesAll file most a before lexemes (and_read x (λ (parts : Parts). Ok (and_parts p parts)))
+one-passes file most a before lexemes texts p e (Ok parts) m =
+    let at : drop parts.taken (drop p.taken lexemes) ≡ drop (p.taken + parts.taken) lexemes = drop-drop parts.taken p.taken lexemes in
+    record {
+      forms = (e.form, m.forms);
+      after = omega (arith, texts-place file before lexemes texts, e.order, m.after);
+      some = λ h. omega (arith, e.some);
+      order = λ h. omega (arith, e.order, m.after);
+      behind = subst (AreTexts file parts.last) at m.behind;
+      runs = subst (Runs most a lexemes a) at (runs-then e.runs m.runs);
+    }
+one-passes file most a before lexemes texts p e (Err (Unexpected at)) m = tt
+one-passes file most a before lexemes texts p e (Err (TooDeep at)) m = deep-behind e.runs m
+
+-- a way to read one, where one begins
+abbrev pub Rounds : (file : List ℕ) (most a : ℕ) (begins : List Lexeme → Bool) → Reading → Type 0
+Rounds file most a begins read =
+    (before : ℕ) (lexemes : List Lexeme) → AreTexts file before lexemes → begins lexemes ≡ true
+    → Takes file most a lexemes (read before lexemes)
+
+many-passes : (file : List ℕ) (most a : ℕ) (begins : List Lexeme → Bool) (read : Reading) → Rounds file most a begins read
+    → (n before : ℕ) (lexemes : List Lexeme) → length lexemes ≤ n → AreTexts file before lexemes
+    → PassesAll file most a before lexemes (many begins read before lexemes)
+unfolding many_behind
+many-passes file most a begins read is n before [] few texts = none-passes file most a before [] texts
+many-passes file most a begins read is zero before (l ∷ rest) few texts = absurd (omega arith)
+many-passes file most a begins read is (suc n) before (l ∷ rest) few texts =
+    by (begins (l ∷ rest)) refl
+    (λ p e.
+    let one : p.taken ≡ suc (p.taken - 1) = omega (arith, e.some) in
+    let same : drop p.taken (l ∷ rest) ≡ drop (p.taken - 1) rest = ap (λ k. drop k (l ∷ rest)) one in
+    let fewer : length (drop p.taken (l ∷ rest)) ≤ n = omega (arith, length-drop p.taken (l ∷ rest), e.some) in
+    subst (λ (x : Result Parts Halt). PassesAll file most a p.last (drop p.taken (l ∷ rest)) x)
+    (ap (many begins read p.last) same ∙ sym (many_behind-drop begins read p.last rest (p.taken - 1)))
+    (many-passes file most a begins read is n p.last (drop p.taken (l ∷ rest)) fewer e.behind))
+  where
+    step : (x : Result Part Halt) → Takes file most a (l ∷ rest) x → ((p : Part) → (e : Taken file most a (l ∷ rest) p)
+        → PassesAll file most a p.last (drop p.taken (l ∷ rest)) (many_behind begins read p.last rest (p.taken - 1)))
+        → PassesAll file most a before (l ∷ rest) (and_read x (λ (p : Part). and_read
+        (many_behind begins read p.last rest (p.taken - 1)) (λ (parts : Parts). Ok (and_parts p parts))))
+    step (Ok p) e later =
+        one-passes file most a before (l ∷ rest) texts p e (many_behind begins read p.last rest (p.taken - 1)) (later p e)
+    step (Err (Unexpected at)) e later = tt
+    step (Err (TooDeep at)) e later = e
+
+    by : (t : Bool) → begins (l ∷ rest) ≡ t → ((p : Part) → (e : Taken file most a (l ∷ rest) p)
+        → PassesAll file most a p.last (drop p.taken (l ∷ rest)) (many_behind begins read p.last rest (p.taken - 1)))
+        → PassesAll file most a before (l ∷ rest) (if t then and_read (read before (l ∷ rest)) (λ (p : Part). and_read
+        (many_behind begins read p.last rest (p.taken - 1)) (λ (parts : Parts). Ok (and_parts p parts))) else Ok (no_more before))
+    by true begun later = step (read before (l ∷ rest)) (is before (l ∷ rest) texts begun) later
+    by false begun later = none-passes file most a before (l ∷ rest) texts
+
+-- ---- Sequence and Expression
+
+sequence_form-lies : (size before start last : ℕ) (list : List Form) → FormsLieIn size (forms list) → before ≤ size
+    → (0 < length list → start ≤ last) → last ≤ size → FormLiesIn size (sequence_spelled before (between start last) list)
+sequence_form-lies size before start last [] lie within order fits = ((omega arith, within), tt)
+sequence_form-lies size before start last (f ∷ []) lie within order fits = lie.0
+sequence_form-lies size before start last (f ∷ g ∷ more) lie within order fits = ((order (omega arith), fits), lie)
+
+pub items-pass : (file : List ℕ) (most a : ℕ) (inner : Option Reading) → InnerReaches file most a inner
+    → (before : ℕ) (lexemes : List Lexeme) → AreTexts file before lexemes
+    → PassesAll file most a before lexemes (many begins_prefix (λ b. prefix file inner) before lexemes)
+items-pass file most a inner is before lexemes texts =
+    many-passes file most a begins_prefix (λ b. prefix file inner)
+    (λ b ls t begun. prefix-takes file most a b inner is ls t) (length lexemes) before lexemes (omega arith) texts
+
+pub sequence-reaches : (file : List ℕ) (most a : ℕ) (inner : Option Reading) → InnerReaches file most a inner
+    → (before : ℕ) (lexemes : List Lexeme) → AreTexts file before lexemes
+    → Reaches file most a before lexemes (sequence file inner before lexemes)
+unfolding sequence
+sequence-reaches file most a inner is before lexemes texts =
+    by (many begins_prefix (λ b. prefix file inner) before lexemes) (items-pass file most a inner is before lexemes texts)
+  where
+    by : (x : Result Parts Halt) → PassesAll file most a before lexemes x → Reaches file most a before lexemes
+        (and_read x (λ (parts : Parts). Ok (sequence_part before (place_of (length file) lexemes) parts)))
+    by (Ok parts) e = record {
+      form =
+          sequence_form-lies (length file) before (place_of (length file) lexemes) parts.last parts.forms e.forms
+          (texts-within file before lexemes texts) (λ h. e.order (e.some h)) (texts-within file parts.last (drop parts.taken lexemes) e.behind);
+      after = e.after;
+      order = e.order;
+      behind = e.behind;
+      runs = e.runs;
+    }
+    by (Err (Unexpected at)) e = tt
+    by (Err (TooDeep at)) e = e
+
+-- a slash is no parenthesis, and neither is an arrow
+slash-other : (k : TokenKind) → is_slash k ≡ true → (one_if_open k ≡ 0) × (one_if_close k ≡ 0)
+slash-other kind.Slash is = (refl, refl)
+slash-other kind.Open is = cc
+slash-other kind.Close is = cc
+slash-other kind.Ident is = cc
+slash-other kind.Literal is = cc
+slash-other kind.Class is = cc
+slash-other kind.Arrow is = cc
+slash-other kind.And is = cc
+slash-other kind.Not is = cc
+slash-other kind.Question is = cc
+slash-other kind.Star is = cc
+slash-other kind.Plus is = cc
+slash-other kind.Dot is = cc
+
+arrow-other : (k : TokenKind) → is_arrow k ≡ true → (one_if_open k ≡ 0) × (one_if_close k ≡ 0)
+arrow-other kind.Arrow is = (refl, refl)
+arrow-other kind.Open is = cc
+arrow-other kind.Close is = cc
+arrow-other kind.Ident is = cc
+arrow-other kind.Literal is = cc
+arrow-other kind.Class is = cc
+arrow-other kind.Slash is = cc
+arrow-other kind.And is = cc
+arrow-other kind.Not is = cc
+arrow-other kind.Question is = cc
+arrow-other kind.Star is = cc
+arrow-other kind.Plus is = cc
+arrow-other kind.Dot is = cc
+
+pub alternative-takes : (file : List ℕ) (most a : ℕ) (inner : Option Reading) → InnerReaches file most a inner
+    → (before : ℕ) (lexemes : List Lexeme) → AreTexts file before lexemes → starts_with_slash lexemes ≡ true
+    → Takes file most a lexemes (alternative file inner before lexemes)
+unfolding alternative
+alternative-takes file most a inner is before [] texts begun = tt
+alternative-takes file most a inner is before (slash ∷ rest) texts begun =
+    by (sequence file inner slash.text.end rest) (sequence-reaches file most a inner is slash.text.end rest texts.2)
+  where
+    by : (x : Result Part Halt) → Reaches file most a slash.text.end rest x
+        → Takes file most a (slash ∷ rest) (and_read x (λ (p : Part). Ok (behind 1 p)))
+    by (Ok p) e =
+        let count : 1 + p.taken ≡ suc p.taken = omega arith in
+        let gone : drop p.taken rest ≡ drop (1 + p.taken) (slash ∷ rest) = ap (λ n. drop n (slash ∷ rest)) (sym count) in
+        let kinds = slash-other slash.kind begun in
+        record {
+          form = e.form;
+          some = omega arith;
+          order = omega (arith, token-order file before slash rest texts, e.after);
+          behind = subst (AreTexts file p.last) gone e.behind;
+          runs = subst (Runs most a (slash ∷ rest) a) gone (Runs.other kinds.0 kinds.1 e.runs);
+        }
+    by (Err (Unexpected at)) e = tt
+    by (Err (TooDeep at)) e = let kinds = slash-other slash.kind begun in deep-behind (Runs.other kinds.0 kinds.1 Runs.stays) e
+
+pub alternatives-pass : (file : List ℕ) (most a : ℕ) (inner : Option Reading) → InnerReaches file most a inner
+    → (before : ℕ) (lexemes : List Lexeme) → AreTexts file before lexemes
+    → PassesAll file most a before lexemes (many starts_with_slash (alternative file inner) before lexemes)
+alternatives-pass file most a inner is before lexemes texts =
+    many-passes file most a starts_with_slash (alternative file inner) (alternative-takes file most a inner is)
+    (length lexemes) before lexemes (omega arith) texts
+
+choice_form-lies : (size start last : ℕ) (first : Form) (list : List Form) → FormLiesIn size first → FormsLieIn size (forms list)
+    → (0 < length list → start ≤ last) → last ≤ size → FormLiesIn size (choice_spelled (between start last) (first ∷ list))
+choice_form-lies size start last first [] lies lie order fits = lies
+choice_form-lies size start last first (f ∷ more) lies lie order fits = ((order (omega arith), fits), lies, lie)
+
+-- a first expression and those behind it begin no later than they end
+pub both-order : (file : List ℕ) (lexemes : List Lexeme) (taken more last end : ℕ)
+    → (0 < taken → place_of (length file) lexemes ≤ last) → last ≤ end
+    → (0 < more → place_of (length file) (drop taken lexemes) ≤ end) → 0 < taken + more
+    → place_of (length file) lexemes ≤ end
+both-order file lexemes zero more last end first after next some = next (omega arith)
+both-order file lexemes (suc taken) more last end first after next some = omega (arith, first (omega arith))
+
+pub expression-reaches : (file : List ℕ) (most a : ℕ) (inner : Option Reading) → InnerReaches file most a inner
+    → (before : ℕ) (lexemes : List Lexeme) → AreTexts file before lexemes
+    → Reaches file most a before lexemes (expression file inner before lexemes)
+expression-reaches file most a inner is before lexemes texts =
+    by (sequence file inner before lexemes) (sequence-reaches file most a inner is before lexemes texts)
+  where
+    more_reach : (p : Part) → Reached file most a before lexemes p → (x : Result Parts Halt)
+        → PassesAll file most a p.last (drop p.taken lexemes) x → Reaches file most a before lexemes
+        (and_read x (λ (more : Parts). Ok (choice_part (place_of (length file) lexemes) p more)))
+    more_reach p e (Ok more) m =
+        let at : drop more.taken (drop p.taken lexemes) ≡ drop (p.taken + more.taken) lexemes = drop-drop more.taken p.taken lexemes in
+        let order : 0 < p.taken + more.taken → place_of (length file) lexemes ≤ more.last =
+        both-order file lexemes p.taken more.taken p.last more.last e.order m.after m.order in
+        record {
+          form =
+              choice_form-lies (length file) (place_of (length file) lexemes) more.last p.form more.forms e.form m.forms
+              (λ h. order (omega (arith, m.some h))) (texts-within file more.last (drop more.taken (drop p.taken lexemes)) m.behind);
+          after = omega (arith, e.after, m.after);
+          order = order;
+          behind = subst (AreTexts file more.last) at m.behind;
+          runs = subst (Runs most a lexemes a) at (runs-then e.runs m.runs);
+        }
+    more_reach p e (Err (Unexpected at)) m = tt
+    more_reach p e (Err (TooDeep at)) m = deep-behind e.runs m
+
+    by : (x : Result Part Halt) → Reaches file most a before lexemes x → Reaches file most a before lexemes
+        (and_read x (λ (p : Part). and_read (many starts_with_slash (alternative file inner) p.last (drop p.taken lexemes))
+        (λ (more : Parts). Ok (choice_part (place_of (length file) lexemes) p more))))
+    by (Ok p) e =
+        more_reach p e (many starts_with_slash (alternative file inner) p.last (drop p.taken lexemes))
+        (alternatives-pass file most a inner is p.last (drop p.taken lexemes) e.behind)
+    by (Err (Unexpected at)) e = tt
+    by (Err (TooDeep at)) e = e
+
+pub expression_in-reaches : (file : List ℕ) (most n a : ℕ) → a + n ≡ most → (before : ℕ) (lexemes : List Lexeme)
+    → AreTexts file before lexemes → Reaches file most a before lexemes (expression_in file n before lexemes)
+unfolding expression_in
+expression_in-reaches file most zero a left before lexemes texts =
+    expression-reaches file most a None (omega (arith, left)) before lexemes texts
+expression_in-reaches file most (suc n) a left before lexemes texts =
+    expression-reaches file most a (Some (expression_in file n))
+    (omega (arith, left), expression_in-reaches file most n (suc a) (omega (arith, left))) before lexemes texts
+
+-- ---- Definition and Grammar
+
+-- by a rule
+pub record RuleReached (file : List ℕ) (most : ℕ) (lexemes : List Lexeme) (r : RulePart) : Type 0 where
+  pub lies : RuleLiesIn (length file) r.rule
+  pub some : 0 < r.taken
+  pub behind : AreTexts file 0 (drop r.taken lexemes)
+  pub runs : Runs most 0 lexemes 0 (drop r.taken lexemes)
+
+abbrev pub RuleReaches : (file : List ℕ) (most : ℕ) (lexemes : List Lexeme) → Result RulePart Halt → Type 0
+RuleReaches file most lexemes (Ok r) = RuleReached file most lexemes r
+RuleReaches file most lexemes (Err (Unexpected at)) = Unit {0}
+RuleReaches file most lexemes (Err (TooDeep at)) = IsDeepAt most 0 lexemes at
+
+behind-reaches : (file : List ℕ) (most from : ℕ) (name : Lexeme) (rest : List Lexeme) → AreTexts file from (name ∷ rest)
+    → name.kind ≡ kind.Ident → (t : Bool) → starts_with_arrow rest ≡ t
+    → RuleReaches file most (name ∷ rest) (definition_behind file most name rest t)
+behind-reaches file most from name [] texts is t next = tt
+behind-reaches file most from name (arrow ∷ rest) texts is false next = tt
+behind-reaches file most from name (arrow ∷ rest) texts is true next =
+    by (expression_in file most arrow.text.end rest)
+    (expression_in-reaches file most most 0 (omega arith) arrow.text.end rest texts.2.2)
+  where
+    runs : Runs most 0 (name ∷ arrow ∷ rest) 0 rest
+    runs =
+        let kinds = arrow-other arrow.kind next in
+        Runs.other (ap one_if_open is) (ap one_if_close is) (Runs.other kinds.0 kinds.1 Runs.stays)
+
+    by : (x : Result Part Halt) → Reaches file most 0 arrow.text.end rest x → RuleReaches file most (name ∷ arrow ∷ rest)
+        (and_read x (λ (body : Part). Ok (rule_of file name body)))
+    by (Ok body) e =
+        let count : 2 + body.taken ≡ suc (suc body.taken) = omega arith in
+        let gone : drop body.taken rest ≡ drop (2 + body.taken) (name ∷ arrow ∷ rest) =
+        ap (λ n. drop n (name ∷ arrow ∷ rest)) (sym count) in
+        record {
+          lies = (token-lies file from name (arrow ∷ rest) texts, e.form);
+          some = omega arith;
+          behind = subst (AreTexts file 0) gone (texts-from file body.last 0 (drop body.taken rest) (omega arith) e.behind);
+          runs = subst (Runs most 0 (name ∷ arrow ∷ rest) 0) gone (runs-then runs e.runs);
+        }
+    by (Err (Unexpected at)) e = tt
+    by (Err (TooDeep at)) e = deep-behind runs e
+
+definition_of-reaches : (file : List ℕ) (most from : ℕ) (lexeme : Lexeme) (rest : List Lexeme)
+    → AreTexts file from (lexeme ∷ rest) → (k : TokenKind) → lexeme.kind ≡ k
+    → RuleReaches file most (lexeme ∷ rest) (definition_of file most lexeme rest k)
+definition_of-reaches file most from lexeme rest texts kind.Ident is =
+    behind-reaches file most from lexeme rest texts is (starts_with_arrow rest) refl
+definition_of-reaches file most from lexeme rest texts kind.Literal is = tt
+definition_of-reaches file most from lexeme rest texts kind.Class is = tt
+definition_of-reaches file most from lexeme rest texts kind.Arrow is = tt
+definition_of-reaches file most from lexeme rest texts kind.Slash is = tt
+definition_of-reaches file most from lexeme rest texts kind.And is = tt
+definition_of-reaches file most from lexeme rest texts kind.Not is = tt
+definition_of-reaches file most from lexeme rest texts kind.Question is = tt
+definition_of-reaches file most from lexeme rest texts kind.Star is = tt
+definition_of-reaches file most from lexeme rest texts kind.Plus is = tt
+definition_of-reaches file most from lexeme rest texts kind.Open is = tt
+definition_of-reaches file most from lexeme rest texts kind.Close is = tt
+definition_of-reaches file most from lexeme rest texts kind.Dot is = tt
+
+pub definition-reaches : (file : List ℕ) (most from : ℕ) (lexemes : List Lexeme) → AreTexts file from lexemes
+    → RuleReaches file most lexemes (definition file most lexemes)
+unfolding definition
+definition-reaches file most from [] texts = tt
+definition-reaches file most from (lexeme ∷ rest) texts =
+    definition_of-reaches file most from lexeme rest texts lexeme.kind refl
+
+-- by all rules
+abbrev pub RulesReach : (file : List ℕ) (most : ℕ) (lexemes : List Lexeme) → Result Rules Halt → Type 0
+RulesReach file most lexemes (Ok read) = All (RuleLiesIn (length file)) read.rules
+RulesReach file most lexemes (Err (Unexpected at)) = Unit {0}
+RulesReach file most lexemes (Err (TooDeep at)) = IsDeepAt most 0 lexemes at
+
+definitions-reach : (file : List ℕ) (most n from : ℕ) (lexemes : List Lexeme) → length lexemes ≤ n
+    → AreTexts file from lexemes → RulesReach file most lexemes (definitions_behind file most lexemes 0)
+unfolding definitions_behind
+definitions-reach file most n from [] few texts = λ k d h. absurd (omega arith)
+definitions-reach file most zero from (l ∷ rest) few texts = absurd (omega arith)
+definitions-reach file most (suc n) from (l ∷ rest) few texts =
+    by (definition file most (l ∷ rest)) (definition-reaches file most from (l ∷ rest) texts)
+    (λ r e.
+    let one : r.taken ≡ suc (r.taken - 1) = omega (arith, e.some) in
+    let same : drop r.taken (l ∷ rest) ≡ drop (r.taken - 1) rest = ap (λ k. drop k (l ∷ rest)) one in
+    let fewer : length (drop r.taken (l ∷ rest)) ≤ n = omega (arith, length-drop r.taken (l ∷ rest), e.some) in
+    subst (λ (x : Result Rules Halt). RulesReach file most (drop r.taken (l ∷ rest)) x)
+    (ap (λ ls. definitions_behind file most ls 0) same ∙ sym (definitions_behind-drop file most rest (r.taken - 1)))
+    (definitions-reach file most n 0 (drop r.taken (l ∷ rest)) fewer e.behind))
+  where
+    both : (r : RulePart) → RuleReached file most (l ∷ rest) r → (x : Result Rules Halt)
+        → RulesReach file most (drop r.taken (l ∷ rest)) x
+        → RulesReach file most (l ∷ rest) (and_read x (λ (more : Rules). Ok (and_rules r more)))
+    both r e (Ok more) m = All-cons (RuleLiesIn (length file)) r.rule more.rules e.lies m
+    both r e (Err (Unexpected at)) m = tt
+    both r e (Err (TooDeep at)) m = deep-behind e.runs m
+
+    by : (x : Result RulePart Halt) → RuleReaches file most (l ∷ rest) x
+        → ((r : RulePart) → RuleReached file most (l ∷ rest) r
+        → RulesReach file most (drop r.taken (l ∷ rest)) (definitions_behind file most rest (r.taken - 1)))
+        → RulesReach file most (l ∷ rest) (and_read x (λ (first : RulePart). and_read
+        (definitions_behind file most rest (first.taken - 1)) (λ (more : Rules). Ok (and_rules first more))))
+    by (Ok r) e later = both r e (definitions_behind file most rest (r.taken - 1)) (later r e)
+    by (Err (Unexpected at)) e later = tt
+    by (Err (TooDeep at)) e later = e
+
+pub grammar-reaches : (file : List ℕ) (most from : ℕ) (lexemes : List Lexeme) → AreTexts file from lexemes
+    → RulesReach file most lexemes (grammar file most lexemes)
+unfolding grammar
+grammar-reaches file most from [] texts = tt
+grammar-reaches file most from (lexeme ∷ rest) texts =
+    definitions-reach file most (length (lexeme ∷ rest)) from (lexeme ∷ rest) (omega arith) texts

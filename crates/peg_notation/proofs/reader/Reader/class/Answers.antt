@@ -1,0 +1,19 @@
+use Rattle.std.proofs.Common.{ap, ◌∙◌}
+use Rattle.peg_bytes.specs.Extent.{extent}
+use Rattle.peg_grammar.specs.Form.{Class}
+use Rattle.peg_notation.specs.Ranges.{class_of}
+use Rattle.peg_notation.specs.Reader.{one_token}
+use Rattle.peg_notation.specs.ReaderFile.{file_of}
+use Rattle.peg_notation.specs.Spelled.{ranges_in}
+use Rattle.peg_notation.specs.Tokens.{lexeme_of}
+use Rattle.peg_notation.proofs.TokenTexts.{class-here, class-pieces}
+use Rattle.peg_notation.proofs.reader.Reader.class.Goals as goal
+
+pub class_bytes-requires : goal.class_bytes-requires
+class_bytes-requires c = class-here (file_of c.args.self.now) (lexeme_of c.args.token) c.requires.text c.requires.class
+
+pub returns : goal.returns
+returns c =
+    let pieces = class-pieces (file_of c.args.self.now) (lexeme_of c.args.token) c.requires.class in
+    c.one_token.ensures ∙ ap (λ f. one_token f (lexeme_of c.args.token)) (c.class_of.ensures
+    ∙ ap (λ set. Class set (extent c.args.token.span)) (c.in_ok-set.ensures ∙ ap (λ l. class_of (ranges_in l)) pieces))

@@ -1,0 +1,17 @@
+use Rattle.std.proofs.Common.{◌-◌, ◌≤◌, length}
+use Rattle.peg_grammar.specs.Written.{rules_of}
+use Rattle.peg_notation.specs.ReaderCode.{lexemes}
+use Rattle.peg_notation.specs.ReaderFile.{file_of}
+use Rattle.peg_notation.specs.Reads.{most_open}
+use Rattle.peg_notation.proofs.ManyLoops.{RulesSoFar}
+use Rattle.peg_notation.proofs.reader.Reader.grammar.Given as goal
+
+-- the rules so far
+abbrev pub invariant-rules : goal.invariant-rules
+invariant-rules l = record {
+  so_far : RulesSoFar (file_of l.self) most_open (lexemes l.tokens) l.taken (rules_of l.definitions.items) l.depth;
+  fits : l.taken ≤ length l.tokens;
+}
+
+abbrev pub decreases-rules : goal.decreases-rules
+decreases-rules l = length l.tokens - l.taken

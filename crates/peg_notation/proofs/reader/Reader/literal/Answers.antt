@@ -1,0 +1,18 @@
+use Rattle.std.proofs.Common.{ap, ◌∙◌}
+use Rattle.peg_bytes.specs.Extent.{extent}
+use Rattle.peg_grammar.specs.Form.{Literal}
+use Rattle.peg_notation.specs.Reader.{one_token}
+use Rattle.peg_notation.specs.ReaderFile.{file_of}
+use Rattle.peg_notation.specs.Spelled.{bytes_in}
+use Rattle.peg_notation.specs.Tokens.{lexeme_of}
+use Rattle.peg_notation.proofs.TokenTexts.{literal-here, literal-pieces}
+use Rattle.peg_notation.proofs.reader.Reader.literal.Goals as goal
+
+pub literal_bytes-requires : goal.literal_bytes-requires
+literal_bytes-requires c = literal-here (file_of c.args.self.now) (lexeme_of c.args.token) c.requires.text c.requires.literal
+
+pub returns : goal.returns
+returns c =
+    let pieces = literal-pieces (file_of c.args.self.now) (lexeme_of c.args.token) c.requires.literal in
+    c.one_token.ensures ∙ ap (λ f. one_token f (lexeme_of c.args.token)) (c.literal_of.ensures
+    ∙ ap (λ bytes. Literal bytes (extent c.args.token.span)) (c.in_ok-bytes.ensures ∙ ap bytes_in pieces))

@@ -1,0 +1,106 @@
+//! Rules and whole files over tokens: the figure's rules Definition and Grammar.
+ghost use Rattle.std.specs.Prelude.{◌≡◌, ◌+◌, ◌<◌, ◌≤◌, length, IfOk};
+ghost use Rattle.peg_bytes.specs.Extent.{extent};
+ghost use Rattle.peg_notation.specs.Reader.{starts_with_arrow, definition_behind, definition, grammar};
+ghost use Rattle.peg_notation.specs.ReaderCode.{lexemes, IsText, AreTexts, rule_seen, rules_seen, Tells};
+ghost use Rattle.peg_notation.specs.Reads.{most_open};
+ghost use Rattle.peg_notation.specs.Spans.{LiesIn};
+ghost use Rattle.peg_notation.specs.Tokens.{lexeme_of};
+
+use crate::fault::NotationFault;
+use crate::reader::{Reader, behind, starts_with_arrow};
+use crate::token::{Token, TokenKind};
+use crate::values::name_text;
+use peg_grammar::Definition;
+
+/// The most parentheses that may be open at once.
+pub const MOST_OPEN: usize = 200;
+
+/// A rule that was read.
+#[derive(Debug, Drop)]
+pub(crate) struct ReadRule {
+    pub(crate) definition: Definition,
+    /// How many tokens it has.
+    pub(crate) taken: usize,
+    /// How deep its parentheses nest.
+    pub(crate) depth: usize,
+}
+
+/// The rules that were read.
+#[derive(Debug, Drop)]
+pub(crate) struct ReadRules {
+    pub(crate) definitions: Vec<Definition>,
+    pub(crate) depth: usize,
+}
+
+impl<'a> Reader<'a> {
+    ghost use Rattle.peg_notation.specs.ReaderFile.{file_of};
+
+    /// Definitions, one behind the other, up to the end: one at least.
+    #[tactic(auto, unfolding(crate::specs::Reader::grammar))]
+    pub(crate) fn grammar(&self, tokens: &[Token]) -> Result<ReadRules, NotationFault>
+        requires { AreTexts (file_of self.now) 0 (lexemes tokens.now) }
+        ensures { Tells rules_seen (grammar (file_of self.now) most_open (lexemes tokens.now)) result }
+    {
+        if tokens.is_empty() {
+            return Err(self.unexpected(tokens));
+        }
+        let mut definitions = Vec::new(self.alloc);
+        let mut taken = 0;
+        let mut depth: usize = 0;
+        'rules: while taken < tokens.len() {
+            let rule = self.definition(behind(tokens, taken))?;
+            taken += rule.taken;
+            depth = depth.max(rule.depth);
+            definitions.push(rule.definition)?;
+        }
+        Ok(ReadRules { definitions, depth })
+    }
+
+    // A name, an arrow and an expression.
+    #[tactic(auto, unfolding(crate::specs::Reader::definition))]
+    fn definition(&self, tokens: &[Token]) -> Result<ReadRule, NotationFault>
+        requires { AreTexts (file_of self.now) 0 (lexemes tokens.now) }
+        ensures read { Tells rule_seen (definition (file_of self.now) most_open (lexemes tokens.now)) result }
+        ensures fits { IfOk result (λ rule. rule.taken ≤ length tokens.now) }
+        ensures some { IfOk result (λ rule. 0 < rule.taken) }
+    {
+        match tokens {
+            [name, ..] if matches!(name.kind, TokenKind::Ident) => {
+                self.definition_behind(*name, &tokens[1..])
+            }
+            _ => Err(self.unexpected(tokens)),
+        }
+    }
+
+    // An arrow and an expression behind a name.
+    fn definition_behind(&self, name: Token, rest: &[Token]) -> Result<ReadRule, NotationFault>
+        requires text { IsText (file_of self.now) (lexeme_of name) }
+        requires inside { LiesIn (length (file_of self.now)) (extent name.span) }
+        requires ident { name.kind ≡ TokenKind.Ident }
+        requires texts { AreTexts (file_of self.now) name.span.end (lexemes rest.now) }
+        ensures read { Tells rule_seen (definition_behind (file_of self.now) most_open (lexeme_of name)
+            (lexemes rest.now) (starts_with_arrow (lexemes rest.now))) result }
+        ensures fits { IfOk result (λ rule. rule.taken ≤ 1 + length rest.now) }
+        ensures some { IfOk result (λ rule. 0 < rule.taken) }
+    {
+        match rest {
+            [arrow, ..] if starts_with_arrow(rest) => {
+                let body = self.expression(arrow.span.end, &rest[1..], MOST_OPEN)?;
+                let span = name.span;
+                let text = &self.file[span.start as usize..span.end as usize];
+                let definition = Definition {
+                    name: name_text(self.alloc, text)?,
+                    span,
+                    body: body.expression,
+                };
+                Ok(ReadRule {
+                    definition,
+                    taken: 2 + body.taken,
+                    depth: body.depth,
+                })
+            }
+            _ => Err(self.unexpected(rest)),
+        }
+    }
+}
