@@ -1,12 +1,21 @@
-//! Lexes a file of 1 MiB that it makes in memory, of the kind that its first word names (`spaces`, `comment`, `literal`,
-//! `opens`, `ordinary`), and prints the number of tokens; with no word, each kind in turn.
+//! Lexes and reads a file of up to 1 MiB that it makes in memory, of the kind that its first word names, and prints the
+//! number of tokens and of rules, where there are any; with no word, each kind in turn.
 #![tactic(auto)]
 
-use peg_notation::{MOST_FILE_BYTES, lex};
+use peg_notation::{MOST_FILE_BYTES, lex, read};
 use std::alloc::{AllocError, Global};
 use std::{env, io};
 
-const KINDS: [&str; 5] = ["spaces", "comment", "literal", "opens", "ordinary"];
+const KINDS: [&str; 8] = [
+    "spaces",
+    "comment",
+    "literal",
+    "opens",
+    "ordinary",
+    "rules",
+    "alternatives",
+    "names",
+];
 
 // Some lines of a usual grammar, with each kind of token.
 const ORDINARY: &[u8] = b"\
@@ -29,11 +38,16 @@ fn run_of(alloc: Global, first: u8, middle: u8, last: u8) -> Result<Vec<u8>, All
     Ok(file)
 }
 
-// The ordinary lines again and again, as often as they fit.
-fn ordinary(alloc: Global) -> Result<Vec<u8>, AllocError> {
-    let mut file = Vec::new(alloc);
-    for _ in 0..MOST_FILE_BYTES / ORDINARY.len() {
-        file.extend_from_slice(ORDINARY)?;
+// A first piece, and then another one again and again, so often.
+fn repeated(
+    alloc: Global,
+    first: &[u8],
+    piece: &[u8],
+    count: usize,
+) -> Result<Vec<u8>, AllocError> {
+    let mut file = Vec::from_slice(alloc, first)?;
+    for _ in 0..count {
+        file.extend_from_slice(piece)?;
     }
     Ok(file)
 }
@@ -44,14 +58,19 @@ fn file_of(alloc: Global, kind: &str) -> Result<Vec<u8>, AllocError> {
         "comment" => run_of(alloc, b'#', b'c', b'\n'),
         "literal" => run_of(alloc, b'\'', b'c', b'\''),
         "opens" => run_of(alloc, b'(', b'(', b'('),
-        _ => ordinary(alloc),
+        "rules" => repeated(alloc, b"", b"Rule<-.\n", 100_000),
+        "alternatives" => repeated(alloc, b"A<-.", b"/A ", 300_000),
+        "names" => repeated(alloc, b"A<-.", b" ab", 300_000),
+        _ => repeated(alloc, b"", ORDINARY, MOST_FILE_BYTES / ORDINARY.len()),
     }
 }
 
-// How many tokens the file of this kind has, if it has any lexing at all.
-fn count(alloc: Global, kind: &str) -> Result<Option<usize>, AllocError> {
+// How many tokens and how many rules the file of this kind has, if it has any.
+fn count(alloc: Global, kind: &str) -> Result<(Option<usize>, Option<usize>), AllocError> {
     let file = file_of(alloc, kind)?;
-    Ok(lex(alloc, &file).ok().map(|tokens| tokens.len()))
+    let tokens = lex(alloc, &file).ok().map(|tokens| tokens.len());
+    let rules = read(alloc, &file).ok().map(|rules| rules.len());
+    Ok((tokens, rules))
 }
 
 fn main(rt: HostRuntime) -> io::Result<()> {
@@ -60,8 +79,8 @@ fn main(rt: HostRuntime) -> io::Result<()> {
     let word = word.as_ref().map_or("", |w| w.as_str());
     for kind in KINDS {
         if word.is_empty() || word == kind {
-            let tokens = count(alloc, kind)?;
-            println!(rt; "{kind} {tokens:?}")?;
+            let (tokens, rules) = count(alloc, kind)?;
+            println!(rt; "{kind} {tokens:?} {rules:?}")?;
         }
     }
     Ok(())
