@@ -5,5 +5,6 @@ pub mod LineLaws
 mod Pieces
 pub mod ReplyLemmas
 pub mod SplitLaws
+pub mod TableLemmas
 pub mod TransferLemmas
 pub mod Values

@@ -13,4 +13,6 @@ pub mod LineForm
 pub mod LineReader
 pub mod Reply
 pub mod Split
+pub mod TableText
 pub mod Transfer
+pub mod Words
