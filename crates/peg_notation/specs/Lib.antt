@@ -5,6 +5,7 @@ pub use Rattle.peg_grammar.specs.Grammar
 pub use Rattle.peg_grammar.specs.Record
 pub use Rattle.peg_grammar.specs.Rules
 pub use Rattle.peg_grammar.specs.Trees
+pub use Rattle.peg_grammar.specs.Written
 pub mod Figure
 pub mod FigureRules
 pub mod FigureText
@@ -15,5 +16,7 @@ pub mod Pieces
 pub mod Ranges
 pub mod RangesCode
 pub mod Reader
+pub mod Reads
+pub mod Spans
 pub mod Spelled
 pub mod Tokens
