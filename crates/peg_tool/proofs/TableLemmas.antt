@@ -1,5 +1,6 @@
 -- The entries of the printed table, one after the other, and that none holds a float.
-use Rattle.std.proofs.Common.{◌≡◌, ℕ, ◌+◌, ◌<◌, ◌≤◌, List, [], ◌∷◌, ◌++◌, length, map, take, Bool, false, ◌||◌, Option, Some, option_map, unwrap_or, slice_get, slice_index_or, get_or, refl, sym, ap, ◌∙◌, arith}
+use Rattle.std.proofs.Common.{◌≡◌, ℕ, ◌+◌, ◌<◌, ◌≤◌, List, [], ◌∷◌, ◌++◌, length, map, take, Bool, false, ◌||◌}
+use Rattle.std.proofs.Common.{Option, Some, unwrap_or, slice_get, slice_index_or, get_or, refl, sym, ap, ◌∙◌, arith}
 use Rattle.std.specs.List.{zip}
 use Rattle.std.proofs.lemmas.List.{take_all, take_more, length-map, get_or-map}
 use Rattle.std.proofs.lemmas.Option.{get_or_from_slice_get, slice_get_within, slice_get-map, unwrap_or-slice_get}
@@ -12,7 +13,8 @@ use Rattle.peg_grammar.specs.Rules.{Rule, names, name_of}
 use Rattle.peg_tool.specs.TableText.{cans_of, entry_data, entries_data, table_data}
 
 -- no entry holds a float
-entries-without_floats : (entries : List (List ℕ × Can)) → items_have_float (items_of (map (λ entry. entry_data entry.0 entry.1) entries)) ≡ false
+entries-without_floats : (entries : List (List ℕ × Can)) → items_have_float
+    (items_of (map (λ entry. entry_data entry.0 entry.1) entries)) ≡ false
 entries-without_floats [] = refl
 entries-without_floats (entry ∷ entries) = entries-without_floats entries
 
@@ -20,8 +22,10 @@ pub table-without_floats : (names : List (List ℕ)) (cans : List Can) → has_f
 table-without_floats names cans = ap (λ (b : Bool). b || false) (entries-without_floats (zip names cans))
 
 -- the entries up to a rule, and that rule's
-pub entries_more : (rules : List Rule) (bodies : List ℕ) (table : List Can) (so_far : List Data) (rule body : ℕ) (name : List ℕ) (can : Can)
-    → so_far ≡ take rule (entries_data (names rules) (cans_of bodies table)) → rule < length rules → name ≡ name_of rules rule
+pub entries_more : (rules : List Rule) (bodies : List ℕ) (table : List Can) (so_far : List Data) (rule body : ℕ)
+    (name : List ℕ) (can : Can)
+    → so_far ≡ take rule (entries_data (names rules) (cans_of bodies table)) → rule < length rules
+    → name ≡ name_of rules rule
     → slice_get bodies rule ≡ Some body → slice_get table body ≡ Some can
     → so_far ++ entry_data name can ∷ [] ≡ take (rule + 1) (entries_data (names rules) (cans_of bodies table))
 entries_more rules bodies table so_far rule body name can is inside named laid told =

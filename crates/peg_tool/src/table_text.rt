@@ -73,3 +73,55 @@ fn entry_value(alloc: Global, rule: &str, can: Can) -> Result<Value, AllocError>
         "something": (can.something)
     })
 }
+
+#[cfg(test)]
+mod tests {
+    use super::table_json;
+    use peg_bytes::Span;
+    use peg_check::table_of;
+    use peg_core::desugar;
+    use peg_grammar::{Definition, Expr, Grammar};
+    use std::alloc::{AllocError, Global};
+    use std::test::Fail;
+
+    fn rule(alloc: Global, name: &str, body: Expr) -> Result<Definition, AllocError> {
+        Ok(Definition {
+            name: String::from_str(alloc, name)?,
+            span: Span::new(0, 1),
+            body,
+        })
+    }
+
+    // S <- 'a'?, T <- T
+    fn rules(alloc: Global) -> Result<Vec<Definition>, AllocError> {
+        let span = Span::new(5, 8);
+        let literal = Expr::Literal {
+            bytes: vec![in alloc; b'a']?,
+            span,
+        };
+        let part = Box::new(alloc, literal).map_err(AllocError::from)?;
+        let name = String::from_str(alloc, "T")?;
+        let rules = vec![in alloc;
+            rule(alloc, "S", Expr::Optional { part, span })?,
+            rule(alloc, "T", Expr::Name { name, span })?,
+        ]?;
+        Ok(rules)
+    }
+
+    #[test]
+    fn each_rule_has_an_entry(rt: HostRuntime) -> Result<(), Fail> {
+        let alloc = rt.alloc();
+        let grammar = Grammar::new(alloc, rules(alloc)?)?;
+        let core = desugar(alloc, &grammar)?;
+        let table = table_of(alloc, &core)?;
+        assert_eq!(rt; core.rules(), grammar.rules());
+        assert_eq!(rt; table.len(), core.len());
+        let text = table_json(alloc, &grammar, &core, &table)?;
+        assert!(rt;
+            text.as_str()
+                == "{\"table\":[{\"fails\":false,\"nothing\":true,\"rule\":\"S\",\"something\":true},{\"fails\":false,\"nothing\":false,\"rule\":\"T\",\"something\":false}]}",
+            "{text}"
+        );
+        Ok(())
+    }
+}

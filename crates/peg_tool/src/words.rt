@@ -37,8 +37,8 @@ impl From<AllocError> for WordsFault {
     }
 }
 
-/// Reads the words behind the program's name: `Joined` where there are none, `Help` with its text where it is asked for,
-/// else a command. `Usage` where they are none of these; `Memory`.
+/// Reads the words behind the program's name: `Joined` where there are none, `Help` with its text where it is asked
+/// for, else a command. `Usage` where they are none of these; `Memory`.
 pub fn read_words(alloc: Global, words: &[String]) -> Result<Words, WordsFault>
     ensures joined { words.now ≡ [] → result ≡ Ok Words.Joined }
     ensures asking { words.now ≢ [] → IfOk result IsAsking }
@@ -149,6 +149,7 @@ Example: pegtool table grammar.peg";
 mod tests {
     use super::{Words, WordsFault, read_words};
     use std::alloc::Global;
+    use std::process::Abort;
     use std::test::Fail;
 
     // What is read from these words, one after the other.
@@ -179,41 +180,49 @@ mod tests {
         Ok(())
     }
 
+    // The text that comes in place of a command, and whether it is help.
+    fn told(alloc: Global, words: &[&str]) -> Option<(bool, String)> {
+        match read(alloc, words) {
+            Ok(Words::Help { text }) => Some((true, text)),
+            Err(WordsFault::Usage { text }) => Some((false, text)),
+            Ok(Words::Joined) => None,
+            Ok(Words::Table { g: _g }) => None,
+            Err(WordsFault::Memory) => None,
+        }
+    }
+
     #[test]
     fn help_is_told(rt: HostRuntime) -> Result<(), Fail> {
-        let cases: [(&[&str], &str); 3] = [
-            (&["--help"], "Example: pegtool table grammar.peg"),
-            (&["-h"], "Usage: pegtool"),
-            (&["table", "--help"], "Usage: pegtool table <G>"),
-        ];
-        for (words, part) in cases {
-            match read(rt.alloc(), words) {
-                Ok(Words::Help { text }) => assert!(rt; text.contains(part), "{text}"),
-                _ => assert!(rt; false),
-            }
-        }
+        let (is_help, text) = told(rt.alloc(), &["--help"]).ok_or("no text")?;
+        assert!(rt; is_help && text.contains("Example: pegtool table grammar.peg"));
+        let (is_help, text) = told(rt.alloc(), &["-h"]).ok_or("no text")?;
+        assert!(rt; is_help && text.contains("Usage: pegtool"));
+        let (is_help, text) = told(rt.alloc(), &["table", "--help"]).ok_or("no text")?;
+        assert!(rt; is_help && text.contains("Usage: pegtool table <G>"));
+        Ok(())
+    }
+
+    // What the words of one text, apart by spaces, are refused for.
+    fn refused(rt: &impl Abort, alloc: Global, line: &str, part: &str) -> Result<(), Fail> {
+        let words: Vec<&str> = line.split(' ').collect(alloc)?;
+        let (is_help, text) = told(alloc, &words).ok_or("no text")?;
+        assert!(rt; !is_help && text.contains(part), "{text}");
+        assert!(rt; text.contains("--help"), "{text}");
         Ok(())
     }
 
     #[test]
     fn what_is_no_command_line_is_refused(rt: HostRuntime) -> Result<(), Fail> {
-        let cases: [(&[&str], &str); 7] = [
-            (&["tables"], "unrecognized subcommand 'tables'"),
-            (&["table"], "<G>"),
-            (&["table", "x", "y"], "unexpected argument 'y'"),
-            (&["table", "--all", "x"], "unexpected argument '--all'"),
-            (&["--start"], "unexpected argument '--start'"),
-            (&["help"], "unrecognized subcommand 'help'"),
-            (&[""], "--help"),
+        let cases = [
+            ("tables", "unrecognized subcommand 'tables'"),
+            ("table", "<G>"),
+            ("table x y", "unexpected argument 'y'"),
+            ("table --all x", "unexpected argument '--all'"),
+            ("--start", "unexpected argument '--start'"),
+            ("help", "unrecognized subcommand 'help'"),
         ];
-        for (words, part) in cases {
-            match read(rt.alloc(), words) {
-                Err(WordsFault::Usage { text }) => {
-                    assert!(rt; text.contains(part), "{text}");
-                    assert!(rt; text.contains("--help"), "{text}");
-                }
-                _ => assert!(rt; false),
-            }
+        for (line, part) in cases {
+            refused(&rt, rt.alloc(), line, part)?;
         }
         Ok(())
     }
