@@ -19,7 +19,7 @@ use Rattle.peg_tree.specs.Trees.{Trees}
 use Rattle.peg_tree.specs.declared.outcome.Parsed.TheVariants as parsed
 use Rattle.peg_notation.specs.Notation.{most_file_bytes}
 use Rattle.peg_tool.specs.Answers.{AnswersBy, Answers, Recognizes, most_text_bytes, most_joined_bytes, most_depth}
-use Rattle.peg_tool.specs.Answers.{no_rule, a_name_twice, a_name_missing, too_many_parts, tabled, text_too_long}
+use Rattle.peg_tool.specs.Answers.{a_name_twice, a_name_missing, too_many_parts, tabled, text_too_long}
 use Rattle.peg_tool.specs.Answers.{too_deep, failed, too_many_levels, matched, file_too_long, not_in_the_notation}
 use Rattle.peg_tool.specs.Answers.{too_nested, read}
 use Rattle.peg_tool.specs.Printed.{IsPrinted, IsPrintedJoined, Tells, TellsInPart}
@@ -62,7 +62,6 @@ nodes-named rules text r end tree found is =
 AnswersBy-longer : (file : List ℕ) (rules : List Rule) (text more : List ℕ) (task : Task) (told : Answer)
     → most_text_bytes < length text → most_text_bytes < length more → AnswersBy file rules text task told
     → AnswersBy file rules more task told
-AnswersBy-longer file rules text more task told long longer (no_rule is) = no_rule is
 AnswersBy-longer file rules text more task told long longer (a_name_twice is) = a_name_twice is
 AnswersBy-longer file rules text more task told long longer (a_name_missing distinct is) = a_name_missing distinct is
 AnswersBy-longer file rules text more task told long longer (too_many_parts grammar heavy) =

@@ -1,5 +1,5 @@
 -- The names that a grammar is refused for stand where the file's rules do.
-use Rattle.std.proofs.Common.{◌≡◌, ℕ, List, [], ◌∷◌, ◌++◌, All, Bool, true, false, not, bytes_eq, find, Some}
+use Rattle.std.proofs.Common.{◌≡◌, ◌≢◌, ℕ, List, [], ◌∷◌, ◌++◌, All, Bool, true, false, not, bytes_eq, find, Some}
 use Rattle.std.proofs.Common.{if◌then◌else◌, subst, arith}
 use Rattle.std.specs.List.{list_any}
 use Rattle.std.proofs.lemmas.List.Elements.{All-nil, All-cons, All-head, All-tail, All-append}
@@ -77,6 +77,10 @@ found-inside size test (first ∷ rest) name inside is =
         let same : first ≡ name = cc in
         subst (StandsIn size) same (All-head (StandsIn size) first rest inside)
     by false there later = later there
+
+-- rules are not refused for being none
+pub refused-some : (rules : List Rule) (fault : GrammarFault) → rules ≢ [] → Refuses rules fault → fault ≢ NoRule
+refused-some rules fault some refuses is = some (subst (Refuses rules) is refuses)
 
 -- the name that a grammar is refused for
 pub refused-inside : (size : ℕ) (rules : List Rule) (fault : GrammarFault) → All (RuleLiesIn size) rules

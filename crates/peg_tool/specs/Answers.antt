@@ -1,5 +1,5 @@
 -- What the tool answers to a task on a grammar file and a text: the first case that applies.
-use Rattle.std.specs.Prelude.{◌≡◌, ◌⊎◌, ℕ, ◌<◌, ◌≤◌, List, [], length, map, slice_index_or, None, Some}
+use Rattle.std.specs.Prelude.{◌≡◌, ◌⊎◌, ℕ, ◌<◌, ◌≤◌, List, length, map, slice_index_or, None, Some}
 use Rattle.peg_bytes.specs.Extent.{Extent, between}
 use Rattle.peg_grammar.specs.AbstractOutcomes.{Can}
 use Rattle.peg_grammar.specs.Form.{Reference}
@@ -16,7 +16,7 @@ use Rattle.peg_tree.specs.Trees.{Trees, levels}
 use Rattle.peg_tool.specs.Outcomes.{AreOutcomes}
 use Rattle.peg_tool.specs.Reply.{Answer, Refused, Tabled, Failed, Matched, IsReply, refused_at, refused_name}
 use Rattle.peg_tool.specs.Task.{Task, TableTask, ParseTask}
-use Rattle.peg_tool.specs.declared.reply.Reason.TheVariants.{FileTooLong, Syntax, TooNested, NoRule, Duplicate}
+use Rattle.peg_tool.specs.declared.reply.Reason.TheVariants.{FileTooLong, Syntax, TooNested, Duplicate}
 use Rattle.peg_tool.specs.declared.reply.Reason.TheVariants.{Undefined, TooManyParts, TextTooLong, DepthUsed, TooDeep}
 use Rattle.peg_tool.specs.declared.reply.Reply.{Reply}
 
@@ -49,9 +49,8 @@ pub record IsTaken (rules : List Rule) : Type 0 where
   pub grammar : IsGrammar rules
   pub light : weight_of rules ≤ most_parts
 
--- The answer where the file spells these rules. A file of the notation has a rule.
+-- the answer where the file spells these rules
 pub data AnswersBy (file : List ℕ) (rules : List Rule) (text : List ℕ) : Task → Answer → Type 0 where
-  no_rule : {task : Task} → rules ≡ [] → AnswersBy file rules text task (Refused NoRule)
   a_name_twice : {task : Task} {name : Reference} → first_duplicate rules ≡ Some name
       → AnswersBy file rules text task (refused_name Duplicate file name)
   a_name_missing : {task : Task} {name : Reference} → first_duplicate rules ≡ None

@@ -11,7 +11,7 @@ use Rattle.peg_grammar.specs.Form.{Reference}
 use Rattle.peg_tree.specs.Trees.{Trees}
 use Rattle.peg_tree.specs.Json.{nested_data}
 use Rattle.peg_tool.specs.declared.reply.Reason.{Reason}
-use Rattle.peg_tool.specs.declared.reply.Reason.TheVariants.{FileTooLong, Syntax, TooNested, NoRule, Duplicate}
+use Rattle.peg_tool.specs.declared.reply.Reason.TheVariants.{FileTooLong, Syntax, TooNested, Duplicate}
 use Rattle.peg_tool.specs.declared.reply.Reason.TheVariants.{Undefined, TooManyParts, TextTooLong, DepthUsed, TooDeep}
 use Rattle.peg_tool.specs.declared.reply.Reply.{Reply}
 use Rattle.peg_tool.specs.TableText.{table_data}
@@ -46,7 +46,6 @@ abbrev pub reason_text : Reason → List ℕ
 reason_text FileTooLong = codes "FileTooLong"
 reason_text Syntax = codes "Syntax"
 reason_text TooNested = codes "TooNested"
-reason_text NoRule = codes "NoRule"
 reason_text Duplicate = codes "Duplicate"
 reason_text Undefined = codes "Undefined"
 reason_text TooManyParts = codes "TooManyParts"
@@ -59,7 +58,6 @@ abbrev pub reason_status : Reason → ℕ
 reason_status FileTooLong = 2
 reason_status Syntax = 2
 reason_status TooNested = 2
-reason_status NoRule = 2
 reason_status Duplicate = 2
 reason_status Undefined = 2
 reason_status TooManyParts = 2

@@ -1,5 +1,5 @@
 //! What a grammar file and a text come to.
-ghost use Rattle.std.specs.Prelude.{◌≡◌, ℕ, ◌<◌, ◌≤◌, List, All, length, map, slice_index_or, IfOk};
+ghost use Rattle.std.specs.Prelude.{◌≡◌, ◌≢◌, ℕ, ◌<◌, ◌≤◌, List, [], All, length, map, slice_index_or, IfOk};
 ghost use Rattle.peg_bytes.specs.Extent.{between, extent};
 ghost use Rattle.peg_grammar.specs.GrammarRules.{rules_in};
 ghost use Rattle.peg_grammar.specs.Terminals.{extents_of_terminals};
@@ -39,6 +39,7 @@ fn parse_by(
 ) -> Result<Reply, AllocError>
     requires short { length file.now ≤ most_file_bytes }
     requires inside { All (RuleLiesIn (length file.now)) (rules_of definitions.items) }
+    requires some { rules_of definitions.items ≢ [] }
     ensures { IfOk result (Replies (AnswersBy file.now (rules_of definitions.items) text.now ParseTask)) }
 {
     let spans = terminal_spans(alloc, &definitions)?;

@@ -1,5 +1,5 @@
 //! The answers to grammar files that are refused.
-ghost use Rattle.std.specs.Prelude.{ℕ, ◌≤◌, List, length, IfOk};
+ghost use Rattle.std.specs.Prelude.{◌≢◌, ℕ, ◌≤◌, List, length, IfOk};
 ghost use Rattle.peg_grammar.specs.Refusal.{Refuses};
 ghost use Rattle.peg_grammar.specs.Rules.{Rule};
 ghost use Rattle.peg_notation.specs.Notation.{most_file_bytes};
@@ -32,7 +32,7 @@ pub(crate) fn refused_file(
     }
 }
 
-/// The answer to a file whose definitions are no grammar.
+/// The answer to a file whose definitions, of which there are some, are no grammar.
 pub(crate) fn refused_grammar(
     alloc: Global,
     file: &[u8],
@@ -40,11 +40,12 @@ pub(crate) fn refused_grammar(
 ) -> Result<Reply, AllocError>
     requires short { length file.now ≤ most_file_bytes }
     requires inside { NameLiesIn (length file.now) fault }
+    requires some { fault ≢ GrammarFault.NoRule }
     ensures { (rules : List Rule) (text : List ℕ) (task : Task) → Refuses rules fault
         → IfOk result (Replies (AnswersBy file.now rules text task)) }
 {
     match fault {
-        GrammarFault::NoRule => Reply::refused(alloc, Reason::NoRule),
+        GrammarFault::NoRule => unreachable!(),
         GrammarFault::Duplicate { name, span } => {
             Reply::refused_name(alloc, Reason::Duplicate, file, name.as_str(), span)
         }

@@ -1,5 +1,5 @@
 //! What the expressions of a grammar file's rules can do.
-ghost use Rattle.std.specs.Prelude.{ℕ, ◌≤◌, List, All, length, IfOk};
+ghost use Rattle.std.specs.Prelude.{◌≢◌, ℕ, ◌≤◌, List, [], All, length, IfOk};
 ghost use Rattle.peg_grammar.specs.GrammarRules.{rules_in};
 ghost use Rattle.peg_grammar.specs.Written.{rules_of};
 ghost use Rattle.peg_notation.specs.Notation.{most_file_bytes};
@@ -29,6 +29,7 @@ pub(crate) fn tell_table(alloc: Global, file: &[u8]) -> Result<Reply, AllocError
 fn tell_by(alloc: Global, file: &[u8], definitions: Vec<Definition>) -> Result<Reply, AllocError>
     requires short { length file.now ≤ most_file_bytes }
     requires inside { All (RuleLiesIn (length file.now)) (rules_of definitions.items) }
+    requires some { rules_of definitions.items ≢ [] }
     ensures { (text : List ℕ) → IfOk result
         (Replies (AnswersBy file.now (rules_of definitions.items) text TableTask)) }
 {

@@ -5,6 +5,7 @@ ghost use Rattle.peg_tool.specs.Words.{IsAsking};
 use clap::error::ErrorKind;
 use clap::{Arg, ArgMatches, Command, Error};
 use std::alloc::{AllocError, Global};
+use thiserror::Error;
 
 /// What the words of a command line ask for.
 #[derive(Debug, PartialEq, Eq, Drop)]
@@ -18,11 +19,13 @@ pub enum Words {
 }
 
 /// Why the words of a command line ask for nothing.
-#[derive(Debug, PartialEq, Eq, Drop)]
+#[derive(Debug, PartialEq, Eq, Drop, Error)]
 pub enum WordsFault {
     /// They are no command line; the text says what is wrong and how to get help.
+    #[error("{text}")]
     Usage { text: String },
     /// Memory ran out.
+    #[error("out of memory")]
     Memory,
 }
 

@@ -21,6 +21,9 @@ const FILE_FAULT: u8 = 4;
 /// The status where memory ran out.
 const OUT_OF_MEMORY: u8 = 5;
 
+/// What is told of words that aren't UTF-8.
+const NOT_UTF8: &str = "error: a word isn't UTF-8\n\nFor more information, try '--help'.\n";
+
 fn main(rt: HostRuntime) -> ExitCode {
     let status = match words(&rt) {
         Ok(Words::Joined) => joined(&rt),
@@ -42,7 +45,7 @@ fn words<R: Env + AllocGlobal>(rt: &R) -> Result<Words, WordsFault> {
         }
         Err(error) if error.kind() == ErrorKind::OutOfMemory => Err(WordsFault::Memory),
         Err(_) => {
-            let text = String::from_str(alloc, "error: a word isn't UTF-8\n")?;
+            let text = String::from_str(alloc, NOT_UTF8)?;
             Err(WordsFault::Usage { text })
         }
     }

@@ -2,16 +2,10 @@ use Rattle.std.proofs.Common.{string_bytes, subst, List, ℕ}
 use Rattle.std.proofs.lemmas.Result.{IfOk-weaker}
 use Rattle.peg_bytes.specs.Extent.{extent}
 use Rattle.peg_grammar.specs.Refusal.{Refuses}
-use Rattle.peg_tool.specs.Answers.{AnswersBy, Replies, no_rule, a_name_twice, a_name_missing, too_many_parts}
+use Rattle.peg_tool.specs.Answers.{AnswersBy, Replies, a_name_twice, a_name_missing, too_many_parts}
 use Rattle.peg_tool.specs.Reply.{Refused, IsReply, reference, refused_name}
-use Rattle.peg_tool.specs.declared.reply.Reason.TheVariants.{NoRule, Duplicate, Undefined, TooManyParts}
+use Rattle.peg_tool.specs.declared.reply.Reason.TheVariants.{Duplicate, Undefined, TooManyParts}
 use Rattle.peg_tool.proofs.refusal.refused_grammar.Goals as goal
-
-pub returns-in-NoRule : goal.returns-in-NoRule
-returns-in-NoRule c rules text task refuses =
-    let why = subst (Refuses rules) c.in-NoRule.is refuses in
-    IfOk-weaker c.refused.result (IsReply (Refused NoRule)) (Replies (AnswersBy c.args.file.now rules text task))
-    (λ reply is. (Refused NoRule, no_rule why, is)) c.refused.ensures
 
 pub returns-in-Duplicate : goal.returns-in-Duplicate
 returns-in-Duplicate c rules text task refuses =
@@ -44,6 +38,6 @@ returns-in-Undefined c rules text task refuses =
 pub returns-in-TooManyParts : goal.returns-in-TooManyParts
 returns-in-TooManyParts c rules text task refuses =
     let why = subst (Refuses rules) c.in-TooManyParts.is refuses in
-    IfOk-weaker c.refused-in-TooManyParts.result (IsReply (Refused TooManyParts))
+    IfOk-weaker c.refused.result (IsReply (Refused TooManyParts))
     (Replies (AnswersBy c.args.file.now rules text task))
-    (λ reply is. (Refused TooManyParts, too_many_parts why.0 why.1, is)) c.refused-in-TooManyParts.ensures
+    (λ reply is. (Refused TooManyParts, too_many_parts why.0 why.1, is)) c.refused.ensures
