@@ -1,7 +1,7 @@
 //! Runs whose input or output breaks in mid-stream.
 ghost use Rattle.std.specs.Prelude.{◌≡◌, None, false};
 
-use peg_tool::{DeviceFault, Sink, Source, ToolFault, run_joined};
+use peg_tool::{Command, DeviceFault, Sink, Source, ToolFault, run_joined, run_tool};
 use std::alloc::Global;
 use std::test::Fail;
 
@@ -126,5 +126,68 @@ fn a_byte_at_a_time_is_enough(rt: HostRuntime) -> Result<(), Fail> {
     let mut output = Choking::new(rt.alloc(), 1000);
     assert_eq!(rt; run_joined(rt.alloc(), &mut input, &mut output), Ok(0));
     assert!(rt; output.taken.as_slice() == LINE);
+    Ok(())
+}
+
+// What `table` says of the input as a grammar file, whose line `%%` is no syntax.
+const REFUSAL: &[u8] = b"{\"at\":17,\"column\":1,\"line\":2,\"refusal\":\"Syntax\"}\n";
+
+#[test]
+fn a_command_tells_a_failed_read(rt: HostRuntime) -> Result<(), Fail> {
+    for breaks_at in 0..=INPUT.len() {
+        let mut file = Dripping::new(breaks_at);
+        let mut text = Dripping::new(0);
+        let mut output = Choking::new(rt.alloc(), 1000);
+        let ended = run_tool(
+            rt.alloc(),
+            &mut file,
+            &mut text,
+            &mut output,
+            &Command::Table,
+        );
+        assert_eq!(rt; ended, Err(ToolFault::ReadFault), "at {breaks_at}");
+        assert!(rt; file.failed() && !text.failed() && !output.failed());
+        assert_eq!(rt; output.taken.len(), 0, "at {breaks_at}");
+    }
+    Ok(())
+}
+
+#[test]
+fn a_command_tells_a_failed_write(rt: HostRuntime) -> Result<(), Fail> {
+    for breaks_at in 0..REFUSAL.len() {
+        let mut file = Dripping::new(1000);
+        let mut text = Dripping::new(0);
+        let mut output = Choking::new(rt.alloc(), breaks_at);
+        let ended = run_tool(
+            rt.alloc(),
+            &mut file,
+            &mut text,
+            &mut output,
+            &Command::Table,
+        );
+        assert_eq!(rt; ended, Err(ToolFault::WriteFault), "at {breaks_at}");
+        assert!(rt;
+            output.taken.as_slice() == &REFUSAL[..breaks_at],
+            "at {breaks_at}"
+        );
+    }
+    Ok(())
+}
+
+#[test]
+fn a_table_needs_no_text(rt: HostRuntime) -> Result<(), Fail> {
+    let mut file = Dripping::new(1000);
+    let mut text = Dripping::new(0);
+    let mut output = Choking::new(rt.alloc(), 1000);
+    let ended = run_tool(
+        rt.alloc(),
+        &mut file,
+        &mut text,
+        &mut output,
+        &Command::Table,
+    );
+    assert_eq!(rt; ended, Ok(2));
+    assert!(rt; !text.failed());
+    assert!(rt; output.taken.as_slice() == REFUSAL);
     Ok(())
 }

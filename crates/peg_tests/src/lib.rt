@@ -5,3 +5,5 @@
 mod broken;
 #[cfg(test)]
 mod joined;
+#[cfg(test)]
+mod tool;

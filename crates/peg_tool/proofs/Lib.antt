@@ -1,9 +1,8 @@
 pub mod AnswerLemmas
-pub mod Fronts
-pub mod LineFiles
-pub mod LineLaws
-mod Pieces
+pub mod FirstRule
+pub mod NameLemmas
+pub mod OutcomeLemmas
 pub mod ReplyLemmas
 pub mod SplitLaws
+pub mod TableLemmas
 pub mod TransferLemmas
-pub mod Values

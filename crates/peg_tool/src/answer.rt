@@ -1,48 +1,51 @@
 //! What a grammar file and a text come to.
-ghost use Rattle.std.specs.Prelude.{◌≡◌, ◌≢◌, ◌<◌, ◌≤◌, [], All, length, map, slice_index_or, IfOk};
+ghost use Rattle.std.specs.Prelude.{◌≡◌, ◌≢◌, ℕ, ◌<◌, ◌≤◌, List, [], All, length, map, slice_index_or, IfOk};
 ghost use Rattle.peg_bytes.specs.Extent.{between, extent};
-ghost use Rattle.peg_grammar.specs.Grammar.{IsGrammar, most_parts};
 ghost use Rattle.peg_grammar.specs.GrammarRules.{rules_in};
-ghost use Rattle.peg_grammar.specs.Rules.{weight_of};
 ghost use Rattle.peg_grammar.specs.Terminals.{extents_of_terminals};
 ghost use Rattle.peg_grammar.specs.Written.{rules_of};
-ghost use Rattle.peg_tool.specs.Answers.{Answers, AnswersBy, Replies};
+ghost use Rattle.peg_notation.specs.Notation.{most_file_bytes};
+ghost use Rattle.peg_notation.specs.Spans.{RuleLiesIn};
+ghost use Rattle.peg_tool.specs.Answers.{Answers, AnswersBy, IsTaken, Replies};
+ghost use Rattle.peg_tool.specs.Task.{ParseTask};
 
-use crate::line_form::{LineFault, read_lines};
+use crate::refusal::{refused_file, refused_grammar};
 use crate::reply::{Reason, Reply};
 use peg_bytes::Span;
-use peg_grammar::{Definition, Grammar, GrammarFault, PlainFault, plain_match, terminal_spans};
+use peg_grammar::{Definition, Grammar, PlainFault, plain_match, terminal_spans};
+use peg_notation::read;
 use peg_tree::{JsonFault, Outcome, Parsed, nested_json};
 use std::alloc::{AllocError, Global};
 
 /// How deep the cases of recognition may nest.
 const MOST_DEPTH: u64 = 1000;
 
-/// The answer to a grammar file and a text: the first case that applies.
-pub(crate) fn answer(alloc: Global, file: &[u8], text: &[u8]) -> Result<Reply, AllocError>
-    ensures { IfOk result (Replies (Answers file.now text.now)) }
+/// The answer to a parse of a text by a grammar file.
+pub(crate) fn parse_answer(alloc: Global, file: &[u8], text: &[u8]) -> Result<Reply, AllocError>
+    ensures { IfOk result (Replies (Answers file.now text.now ParseTask)) }
 {
-    match read_lines(alloc, file) {
-        Ok(definitions) => answer_by(alloc, definitions, text),
-        Err(LineFault::FileTooLong) => Reply::refused(alloc, Reason::FileTooLong),
-        Err(LineFault::Syntax) => Reply::refused(alloc, Reason::Syntax),
-        Err(LineFault::Memory) => Err(AllocError),
+    match read(alloc, file) {
+        Ok(definitions) => parse_by(alloc, file, definitions, text),
+        Err(fault) => refused_file(alloc, file, fault),
     }
 }
 
-// The answer where the file spells these definitions, of which there is one.
-fn answer_by(alloc: Global, definitions: Vec<Definition>, text: &[u8]) -> Result<Reply, AllocError>
-    requires { rules_of definitions.items ≢ [] }
-    ensures { IfOk result (Replies (AnswersBy (rules_of definitions.items) text.now)) }
+// The answer where the file spells these definitions.
+fn parse_by(
+    alloc: Global,
+    file: &[u8],
+    definitions: Vec<Definition>,
+    text: &[u8],
+) -> Result<Reply, AllocError>
+    requires short { length file.now ≤ most_file_bytes }
+    requires inside { All (RuleLiesIn (length file.now)) (rules_of definitions.items) }
+    requires some { rules_of definitions.items ≢ [] }
+    ensures { IfOk result (Replies (AnswersBy file.now (rules_of definitions.items) text.now ParseTask)) }
 {
     let spans = terminal_spans(alloc, &definitions)?;
     match Grammar::new(alloc, definitions) {
         Ok(grammar) => recognize(alloc, &grammar, &spans, text),
-        Err(GrammarFault::NoRule) => unreachable!(),
-        Err(GrammarFault::Duplicate { .. }) => Reply::refused(alloc, Reason::Duplicate),
-        Err(GrammarFault::Undefined { .. }) => Reply::refused(alloc, Reason::Undefined),
-        Err(GrammarFault::TooManyParts) => Reply::refused(alloc, Reason::TooManyParts),
-        Err(GrammarFault::Memory) => Err(AllocError),
+        Err(fault) => refused_grammar(alloc, file, fault),
     }
 }
 
@@ -53,10 +56,9 @@ fn recognize(
     spans: &[Span],
     text: &[u8],
 ) -> Result<Reply, AllocError>
-    requires grammar { IsGrammar (rules_in grammar.now) }
-    requires light { weight_of (rules_in grammar.now) ≤ most_parts }
+    requires taken { IsTaken (rules_in grammar.now) }
     requires spans { map extent spans.now ≡ extents_of_terminals (rules_in grammar.now) }
-    ensures { IfOk result (Replies (AnswersBy (rules_in grammar.now) text.now)) }
+    ensures { (file : List ℕ) → IfOk result (Replies (AnswersBy file (rules_in grammar.now) text.now ParseTask)) }
 {
     match plain_match(alloc, grammar, text, 0, MOST_DEPTH) {
         Ok(

@@ -1,45 +1,23 @@
 //! The tool over one input: a grammar file, a line `%%` and a text.
-ghost use Rattle.std.specs.Prelude.{◌≡◌, ◌↔◌, true, false, IfOk, IsErrOf, string_bytes};
-ghost use Rattle.peg_tool.specs.Joined.{IsPrinted, Tells, TellsInPart};
-ghost use Rattle.peg_tool.specs.Answers.{most_joined_bytes};
-ghost use Rattle.peg_tool.specs.Transfer.{ConsumesAtMost};
+ghost use Rattle.std.specs.Prelude.{◌≡◌, ◌↔◌, true, false, IfOk, IfSome, IsErrOf, string_bytes};
 ghost use Rattle.std.specs.Io.KnownBytes.{Keeps};
+ghost use Rattle.peg_tool.specs.Answers.{most_joined_bytes};
+ghost use Rattle.peg_tool.specs.Printed.{IsPrintedJoined, Tells, TellsInPart};
+ghost use Rattle.peg_tool.specs.Transfer.{ConsumesAtMost};
 
-use crate::answer::answer;
+use crate::answer::parse_answer;
 use crate::device::{Sink, Source};
 use crate::parts::split;
-use crate::reply::Reply;
+use crate::printed::{OUT_OF_MEMORY, Printed, ToolFault, print};
 use crate::transfer::{ReadFault, read_up_to, write_all_bytes};
 use std::alloc::{AllocError, Global};
-use thiserror::Error;
 
 /// The most bytes of the input that are held: over the limits of a grammar file and of a text together.
 const MOST_JOINED_BYTES: usize = 68_157_444;
 
-/// The status where memory ran out.
-const OUT_OF_MEMORY: u8 = 5;
-
-/// What failed outside of the tool.
-#[derive(Clone, Copy, Debug, PartialEq, Eq, Error)]
-pub enum ToolFault {
-    /// The input answered a failed read.
-    #[error("the input can't be read")]
-    ReadFault,
-    /// The output answered a failed write.
-    #[error("the output can't be written")]
-    WriteFault,
-}
-
-// A printed line and its status.
-#[derive(Drop)]
-struct Printed {
-    line: String,
-    status: u8,
-}
-
-/// Reads one input, a grammar file and behind a line `%%` a text, and writes what the first rule makes of the text, as one
-/// line of JSON. Answers the status that goes with it; 5, with nothing written, where memory runs out. Neither device may
-/// have failed before. It holds at most 68,157,444 bytes of the input and reads no further.
+/// Reads one input, a grammar file and behind a line `%%` a text, and writes what the first rule makes of the text, as
+/// one line of JSON. Answers the status that goes with it; 5, with nothing written, where memory runs out. Neither
+/// device may have failed before. It holds at most 68,157,444 bytes of the input and reads no further.
 pub fn run_joined<G: Source, W: Sink>(
     alloc: Global,
     input: &mut G,
@@ -47,15 +25,16 @@ pub fn run_joined<G: Source, W: Sink>(
 ) -> Result<u8, ToolFault>
     requires input_works { G.failed input.old ≡ false }
     requires output_works { W.failed output.old ≡ false }
-    ensures answer { IfOk result (Tells (G.left input.old) (W.written output.old) (W.written output.new)) }
+    ensures answer { IfOk result (λ status. IfSome (G.left input.old) (λ bytes.
+        Tells (IsPrintedJoined bytes) (W.written output.old) (W.written output.new) status)) }
     ensures held { ConsumesAtMost (G.left input.old) (G.left input.new) most_joined_bytes }
 
     // What fails outside, and only that, is told, and what is written then.
     ensures read_fault { IsErrOf result ToolFault.ReadFault ↔ (G.failed input.new ≡ true) }
     ensures nothing_written { IsErrOf result ToolFault.ReadFault → Keeps (W.written output.old) (W.written output.new) }
     ensures write_fault { IsErrOf result ToolFault.WriteFault ↔ (W.failed output.new ≡ true) }
-    ensures partly_written { IsErrOf result ToolFault.WriteFault
-        → TellsInPart (G.left input.old) (W.written output.old) (W.written output.new) }
+    ensures partly_written { IsErrOf result ToolFault.WriteFault → IfSome (G.left input.old) (λ bytes.
+        TellsInPart (IsPrintedJoined bytes) (W.written output.old) (W.written output.new)) }
 {
     let bytes = match read_up_to(alloc, input, MOST_JOINED_BYTES) {
         Ok(bytes) => bytes,
@@ -73,13 +52,9 @@ pub fn run_joined<G: Source, W: Sink>(
 
 // The line and the status of an input that is held.
 fn line_for(alloc: Global, input: &[u8]) -> Result<Printed, AllocError>
-    ensures { IfOk result (λ told. IsPrinted input.now (string_bytes told.line) told.status) }
+    ensures { IfOk result (λ told. IsPrintedJoined input.now (string_bytes told.line) told.status) }
 {
     let (file, text) = split(input);
-    let reply = answer(alloc, file, text)?;
-    let line = reply.line(alloc)?;
-    Ok(Printed {
-        line,
-        status: reply.status,
-    })
+    let reply = parse_answer(alloc, file, text)?;
+    print(alloc, &reply)
 }

@@ -1,7 +1,0 @@
-use Rattle.std.proofs.Common.{◌≡◌, ◌+◌, length, drop}
-use Rattle.peg_tool.specs.LineForm.{is_in_name}
-use Rattle.peg_tool.specs.LineReader.{front}
-use Rattle.peg_tool.proofs.line_form.name_run.Given as goal
-
-abbrev pub invariant-loop-at : goal.invariant-loop-at
-invariant-loop-at l = l.at + length (front is_in_name (drop l.at l.rest)) ≡ length (front is_in_name l.rest)
