@@ -15,6 +15,10 @@ StandsIn form (Choice first rest) = (form ≡ Choice first rest) ⊎ (StandsIn f
 StandsIn form (Star part origin) = (form ≡ Star part origin) ⊎ StandsIn form part
 StandsIn form (Not part) = (form ≡ Not part) ⊎ StandsIn form part
 
+-- a form stands in some rule's body
+abbrev pub StandsInBody : List CoreForm → CoreForm → Type 0
+StandsInBody bodies form = (rule : ℕ) × BodyIs (StandsIn form) (slice_get bodies rule)
+
 -- an empty loop of a rule: a star in its body, from this place, whose part gives nothing
 abbrev pub IsCoreEmptyLoop : List CoreForm → (rule : ℕ) → (origin : Extent) → Type 0
 IsCoreEmptyLoop bodies rule origin =
