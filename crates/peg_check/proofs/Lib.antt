@@ -1,4 +1,11 @@
+pub mod AskLemmas
 pub mod ChainLemmas
 pub mod LinkLemmas
+pub mod LoopLemmas
 pub mod OutcomeTables
+pub mod OwnerLemmas
+pub mod PathLemmas
+pub mod Refutations
+pub mod SettledLemmas
 pub mod Worklist
+pub mod Written

@@ -1,9 +1,17 @@
+pub use Rattle.peg_bytes.specs.Extent
 pub use Rattle.peg_core.specs.CoreForm
+pub use Rattle.peg_core.specs.CoreLoops
 pub use Rattle.peg_core.specs.CoreOutcomes
 pub use Rattle.peg_core.specs.Layout
 pub use Rattle.peg_grammar.specs.AbstractOutcomes
+pub mod Asks
 pub mod Cans
 pub mod Chains
 pub mod Exact
 pub mod Links
+pub mod Loops
+pub mod Owners
+pub mod Paths
+pub mod Settled
 pub mod Steps
+pub mod Verdicts

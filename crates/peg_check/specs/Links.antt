@@ -4,7 +4,7 @@ use Rattle.peg_grammar.specs.AbstractOutcomes.{Can, both, either, again, not_ahe
 use Rattle.peg_core.specs.CoreForm.{CoreForm}
 use Rattle.peg_core.specs.CoreOutcomes.{CoreJudging, core_can_table}
 use Rattle.peg_core.specs.Layout.{Desugared, form_at}
-use Rattle.peg_check.specs.Cans.{can_of}
+use Rattle.peg_check.specs.Cans.{can_of, nothing_known}
 use Rattle.peg_check.specs.Exact.{bodies_of}
 use Rattle.peg_check.specs.declared.link.Link.{Link}
 use Rattle.peg_check.specs.declared.link.Link.TheVariants as link
@@ -17,6 +17,10 @@ link_can can (link.Both first rest) = both (can first) (can rest)
 link_can can (link.Either first rest) = either (can first) (can rest)
 link_can can (link.Again part) = again (can part)
 link_can can (link.NotAhead part) = not_ahead (can part)
+
+-- the link of the form with a number
+abbrev pub link_at : List Link → ℕ → Link
+link_at links number = slice_index_or links number (link.Known nothing_known)
 
 -- the numbers are below this one
 abbrev pub LinkFits : (count : ℕ) → Link → Type 0

@@ -1,13 +1,22 @@
-//! The check of grammars: what each core form can do, whatever the text.
+//! The check of grammars: what each core form can do, whatever the text; and whether all are well-formed, or why not.
 #![tactic(auto)]
 
+mod asks;
 mod can;
+mod cycles;
+mod fault;
 mod link;
+mod loops;
+mod owners;
+mod settled;
 mod step;
 mod table;
 #[cfg(test)]
 mod tests;
 mod uses;
+mod verdict;
 
 pub use can::Can;
+pub use fault::CheckFault;
 pub use table::{Table, table_of};
+pub use verdict::{Checked, check};
