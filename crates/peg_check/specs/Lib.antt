@@ -14,4 +14,6 @@ pub mod Owners
 pub mod Paths
 pub mod Settled
 pub mod Steps
+pub mod Trails
 pub mod Verdicts
+pub mod Visits

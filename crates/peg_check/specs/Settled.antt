@@ -1,11 +1,17 @@
 -- Forms that are settled: all that they ask for is settled, in some number of rounds. The others ask for one that is left.
 use Rattle.std.specs.Prelude.{◌≡◌, ℕ, zero, suc, ◌<◌, Bool, true, false, List, length, slice_index_or, slice_set}
+use Rattle.std.specs.List.{sum_by}
 use Rattle.peg_check.specs.Links.{GoesBy, link_at}
+use Rattle.peg_check.specs.Steps.{one_unless}
 use Rattle.peg_check.specs.declared.link.Link.{Link}
 
 -- whether the form with a number is marked
 abbrev pub is_marked : List Bool → ℕ → Bool
 is_marked marks number = slice_index_or marks number false
+
+-- how many aren't marked
+abbrev pub unmarked_in : List Bool → ℕ
+unmarked_in marks = sum_by one_unless marks
 
 -- settled in n rounds: in 0 nothing is; above 0 where all that is asked for is settled in n - 1
 unfoldable pub IsSettledIn : List Link → ℕ → ℕ → Type 0

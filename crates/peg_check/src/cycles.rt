@@ -63,8 +63,8 @@ fn met_first(core: &Core, asks: &[Link], marks: &[bool], form: u32) -> u32
     }
 }
 
-// The rule that a form is a use of, if it is one.
-fn used_rule(core: &Core, number: u32) -> Option<u32>
+/// The rule that a form is a use of, if it is one.
+pub(crate) fn used_rule(core: &Core, number: u32) -> Option<u32>
     requires { number < length core.now.forms }
     ensures within { MatchOption result ⊤ (λ rule. rule < length core.now.bodies) }
     ensures used { MatchOption result ((rule : ℕ) → ¬ (form_at core.now.forms number ≡ Rule rule))

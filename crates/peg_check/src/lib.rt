@@ -3,18 +3,24 @@
 
 mod asks;
 mod can;
+mod components;
 mod cycles;
 mod fault;
 mod link;
 mod loops;
+mod met;
+mod order;
 mod owners;
 mod settled;
+mod shortest;
 mod step;
 mod table;
 #[cfg(test)]
 mod tests;
 mod uses;
 mod verdict;
+#[cfg(test)]
+mod verdict_tests;
 
 pub use can::Can;
 pub use fault::CheckFault;

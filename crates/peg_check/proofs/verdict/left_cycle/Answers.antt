@@ -1,4 +1,4 @@
-use Rattle.std.proofs.Common.{◌≡◌, ℕ, ◌<◌, true, List, length, get_or, ap, sym, subst, arith}
+use Rattle.std.proofs.Common.{◌≡◌, ℕ, ◌<◌, true, List, length, get_or, ap, ◌∙◌, sym, subst, arith}
 use Rattle.std.proofs.lemmas.List.{get_or_default}
 use Rattle.peg_core.specs.CoreForm.{Empty}
 use Rattle.peg_core.specs.CoreOutcomes.{IsCoreWellFormedIn}
@@ -10,20 +10,27 @@ use Rattle.peg_check.specs.declared.link.Link.{Link}
 use Rattle.peg_check.specs.declared.link.Link.TheVariants as link
 use Rattle.peg_check.proofs.AskLemmas.{AsksBy-fits, well_formed-settled}
 use Rattle.peg_check.proofs.verdict.left_cycle.Goals as goal
+use Rattle.peg_check.proofs.verdict.left_cycle.Goals.{In_ok-asks}
 
 pub settled_of-requires-clause-few : goal.settled_of-requires-clause-few
 settled_of-requires-clause-few c = omega (arith, ap length c.deref.ensures.value, c.in_ok-asks.ensures.few)
 
-pub settled_of-requires-clause-fit : goal.settled_of-requires-clause-fit
-settled_of-requires-clause-fit c =
+-- what is asked for is one of the forms
+fit : (c : In_ok-asks) (l : List Link) → l ≡ c.in_ok-asks.asks.items → (user : ℕ) (d : Link) → user < length l
+    → LinkFits (length l) (get_or l user d)
+fit c l is user d within =
     let core = c.args.core.now in
-    let asks = c.in_ok-asks.asks.items in
-    subst (λ (l : List Link). (user : ℕ) (d : Link) → user < length l → LinkFits (length l) (get_or l user d)) (sym c.deref.ensures.value)
-    (λ user d within.
-    let inside : user < length core.forms = omega (arith, c.in_ok-asks.ensures.count) in
-    subst (λ n. LinkFits n (get_or asks user d)) (sym c.in_ok-asks.ensures.count)
-    (subst (LinkFits (length core.forms)) (get_or_default asks user (link.Known nothing_known) d within)
-    (AsksBy-fits core user (link_at asks user) inside (c.in_ok-asks.ensures.asked user inside))))
+    let counted : length l ≡ length core.forms = ap length is ∙ c.in_ok-asks.ensures.count in
+    let inside : user < length core.forms = omega arith in
+    let asked = AsksBy-fits core user (link_at c.in_ok-asks.asks.items user) inside (c.in_ok-asks.ensures.asked user inside) in
+    subst (λ n. LinkFits n (get_or l user d)) (sym counted)
+    (subst (LinkFits (length core.forms)) (ap (λ (k : List Link). link_at k user) (sym is) ∙ get_or_default l user (link.Known nothing_known) d within) asked)
+
+pub settled_of-requires-clause-fit : goal.settled_of-requires-clause-fit
+settled_of-requires-clause-fit c = fit (goal.at.settled_of-requires-clause-fit c).In_ok-asks c.deref.result.now c.deref.ensures.value
+
+pub least_cycle-requires-clause-fit : goal.least_cycle-requires-clause-fit
+least_cycle-requires-clause-fit c = fit (goal.at.least_cycle-requires-clause-fit c).In_ok-asks c.deref-in-Some-3.result.now c.deref-in-Some-3.ensures.value
 
 pub unmarked-requires : goal.unmarked-requires
 unmarked-requires c =
