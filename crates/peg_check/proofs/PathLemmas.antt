@@ -1,7 +1,10 @@
 -- Paths grow at their ends; where a path comes back to one of its rules, it is a left cycle from there.
-use Rattle.std.proofs.Common.{◌≡◌, ℕ, zero, suc, ◌<◌, List, [], ◌∷◌, ◌++◌, drop, length, get_or, sym, subst, arith}
+use Rattle.std.proofs.Common.{◌≡◌, ℕ, zero, suc, ◌<◌, All, List, [], ◌∷◌, ◌++◌, Option, None, Some, drop, length, get_or, slice_get, refl, sym, subst, arith}
+use Rattle.std.proofs.lemmas.List.Elements.{All-cons, All-nil}
+use Rattle.std.proofs.lemmas.Option.{slice_get_within}
 use Rattle.peg_core.specs.CoreForm.{CoreForm}
-use Rattle.peg_core.specs.CoreLoops.{CoreMeetsFirst, CoreMeetInTurn, IsCoreLeftCycle}
+use Rattle.peg_core.specs.CoreLoops.{CoreMeets, CoreMeetsFirst, CoreMeetInTurn, IsCoreLeftCycle}
+use Rattle.peg_core.specs.CoreOutcomes.{BodyIs}
 use Rattle.peg_check.specs.Paths.{IsPath, IsFrom}
 
 module _ (bodies : List CoreForm) where
@@ -31,3 +34,27 @@ module _ (bodies : List CoreForm) where
       → IsCoreLeftCycle bodies rest
   cycle-from path rule rest is from =
       subst (IsCoreLeftCycle bodies) (sym from.3) (cycle-at path rule from.0 is from.1 from.2)
+
+-- ---- the rules of a cycle have bodies
+
+pub has-body : (bodies : List CoreForm) (P : CoreForm → Type 0) (rule : ℕ) → BodyIs P (slice_get bodies rule)
+    → rule < length bodies
+has-body bodies P rule is = by (slice_get bodies rule) refl is
+  where
+    by : (body : Option CoreForm) → slice_get bodies rule ≡ body → BodyIs P body → rule < length bodies
+    by None there none = absurd none
+    by (Some body) there some = slice_get_within bodies rule body there
+
+turn-bodies : (bodies : List CoreForm) (before last : ℕ) (rules : List ℕ)
+    → CoreMeetInTurn bodies before (rules ++ last ∷ []) → All (λ rule. rule < length bodies) (before ∷ rules)
+turn-bodies bodies before last [] turn =
+    All-cons (λ rule. rule < length bodies) before [] (has-body bodies (λ body. CoreMeets bodies body last) before turn.0)
+    (All-nil (λ rule. rule < length bodies))
+turn-bodies bodies before last (next ∷ rules) turn =
+    All-cons (λ rule. rule < length bodies) before (next ∷ rules)
+    (has-body bodies (λ body. CoreMeets bodies body next) before turn.0) (turn-bodies bodies next last rules turn.1)
+
+pub cycle-bodies : (bodies : List CoreForm) (path : List ℕ) → IsCoreLeftCycle bodies path
+    → All (λ rule. rule < length bodies) path
+cycle-bodies bodies [] cycle = absurd cycle
+cycle-bodies bodies (rule ∷ more) cycle = turn-bodies bodies rule rule more cycle

@@ -1,5 +1,5 @@
--- What a core form asks for (Ford 2004, section 3.6), by numbers: the parts that his rules for well-formed expressions ask
--- for, and of a rule's use the rule's body.
+-- What a core form asks for (Ford 2004, section 3.6), by numbers: the parts that his rules for well-formed expressions
+-- ask for, and of a rule's use the rule's body.
 use Rattle.std.specs.Prelude.{◌≡◌, ℕ, ◌<◌, List, Some, length, slice_get}
 use Rattle.peg_bytes.specs.ByteSet.{Bytes}
 use Rattle.peg_bytes.specs.Extent.{Extent}

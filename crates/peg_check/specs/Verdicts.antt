@@ -1,5 +1,5 @@
 -- Whether core forms are well-formed, and why not.
-use Rattle.std.specs.Prelude.{All}
+use Rattle.std.specs.Prelude.{ℕ, ◌<◌, All}
 use Rattle.peg_bytes.specs.Extent.{extent}
 use Rattle.peg_core.specs.CoreLoops.{IsCoreEmptyLoop, IsCoreLeftCycle}
 use Rattle.peg_core.specs.CoreOutcomes.{IsCoreWellFormed}
@@ -19,3 +19,9 @@ IsFaultOf core (EmptyLoop rule span) = IsCoreEmptyLoop (bodies_of core) rule (ex
 IsFaultOf core (LeftRecursion path) =
     HasNoEmptyLoop core × IsCoreLeftCycle (bodies_of core) path.items × ¬ AreWellFormed core
 IsFaultOf core Memory = Unit {0}
+
+-- the rules that a fault names are among so many
+abbrev pub NamesRules : (count : ℕ) → CheckFault → Type 0
+NamesRules count (EmptyLoop rule span) = rule < count
+NamesRules count (LeftRecursion path) = All (λ rule. rule < count) path.items
+NamesRules count Memory = Unit {0}

@@ -1,5 +1,5 @@
-//! What each core form asks for (Ford 2004, section 3.6), as links: the parts that his rules for well-formed expressions
-//! ask for, and of a rule's use the rule's body.
+//! What each core form asks for (Ford 2004, section 3.6), as links: the parts that his rules for well-formed
+//! expressions ask for, and of a rule's use the rule's body.
 ghost use Rattle.std.specs.Prelude.{◌≡◌, ◌<◌, ◌≤◌, length, IfOk, MatchOption};
 ghost use Rattle.peg_core.specs.Layout.{most_forms};
 ghost use Rattle.peg_check.specs.Asks.{AsksBy, AreAsked};

@@ -47,7 +47,7 @@ fn label_users(alloc: Global, uses: &Uses, labels: &mut [u32], root: u32) -> Res
     Ok(())
 }
 
-/// The least rule with a use of the component that its body is of, if there is one: the least that lies on a left cycle.
+/// The least rule with a use in the component of its body, if there is one: the least that lies on a left cycle.
 pub(crate) fn least_in_a_cycle(core: &Core, labels: &[u32]) -> Option<u32>
     requires { length labels.now ≡ length core.now.forms }
     ensures { IfSome result (λ rule. rule < length core.now.bodies) }

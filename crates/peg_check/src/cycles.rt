@@ -13,8 +13,8 @@ use crate::settled::left_part;
 use peg_core::{Core, Node};
 use std::alloc::{AllocError, Global};
 
-/// A left cycle, found from a form that isn't settled by always asking for such a form, until a rule is met again. Takes
-/// time and memory linear in the number of forms.
+/// A left cycle, found from a form that isn't settled by always asking for such a form, until a rule is met again.
+/// Takes time and memory linear in the number of forms.
 pub(crate) fn cycle_from(
     alloc: Global,
     core: &Core,

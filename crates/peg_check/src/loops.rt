@@ -60,7 +60,7 @@ fn loop_at(core: &Core, table: &Table, owners: &[u32], number: u32) -> Option<Lo
     }
 }
 
-// The one that stands first; where both begin at one place, the later one, since the forms of parts come before their own.
+// The one that stands first; where both begin at one place, the later one, since parts come before their whole.
 fn first_of(found: Option<Loop>, next: Loop) -> Loop
     ensures { (result ≡ next) ⊎ (found ≡ Some result) }
 {

@@ -1,5 +1,6 @@
 //! The forms that are settled: all that they ask for is settled too, in some number of rounds.
-ghost use Rattle.std.specs.Prelude.{◌≡◌, ℕ, ◌<◌, ◌≤◌, true, false, length, slice_index_or, IfOk, MatchBool, MatchOption};
+ghost use Rattle.std.specs.Prelude.{◌≡◌, ℕ, ◌<◌, ◌≤◌, true, false, length, slice_index_or};
+ghost use Rattle.std.specs.Prelude.{IfOk, MatchBool, MatchOption};
 ghost use Rattle.peg_core.specs.Layout.{most_forms};
 ghost use Rattle.peg_check.specs.Links.{LinkFits};
 ghost use Rattle.peg_check.specs.Settled.{is_marked, AllMarked, IsLeft, AreSettled, IsNewlyMarked, SomeLeft};
@@ -10,8 +11,8 @@ use crate::table::all_numbers;
 use crate::uses::uses_of;
 use std::alloc::{AllocError, Global};
 
-/// Marks the forms that are settled. Each is marked once at most, and then the forms that ask for it are looked at again,
-/// so this takes time and memory linear in the number of forms.
+/// Marks the forms that are settled. Each is marked once at most, and then the forms that ask for it are looked at
+/// again, so this takes time and memory linear in the number of forms.
 pub(crate) fn settled_of(alloc: Global, asks: &[Link]) -> Result<Vec<bool>, AllocError>
     requires few { length asks.now ≤ most_forms }
     requires fit { (user : ℕ) (d : Link) → user < length asks.now

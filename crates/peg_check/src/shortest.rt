@@ -19,9 +19,9 @@ pub(crate) struct Step {
     before: u32,
 }
 
-/// The shortest left cycle from a rule on, if the search comes back to it. Rules are searched in breadth, and those that
-/// one rule meets first by their numbers: so of two paths of one length the one with lesser numbers comes first. Takes
-/// time and memory linear in the number of forms, but for the sorting of the rules that one rule meets first.
+/// The shortest left cycle from a rule on, if the search comes back to it. Rules are searched in breadth, and those
+/// that one rule meets first by their numbers: so of two paths of one length the one with lesser numbers comes first.
+/// Takes time and memory linear in the number of forms, but for the sorting of the rules that one rule meets first.
 pub(crate) fn shortest_cycle(
     alloc: Global,
     core: &Core,

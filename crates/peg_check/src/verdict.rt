@@ -6,7 +6,7 @@ ghost use Rattle.peg_check.specs.Asks.{AreAsked};
 ghost use Rattle.peg_check.specs.Exact.{bodies_of, IsExactTable};
 ghost use Rattle.peg_check.specs.Links.{LinkFits};
 ghost use Rattle.peg_check.specs.Loops.{NoneLoops};
-ghost use Rattle.peg_check.specs.Verdicts.{AreWellFormed, IsFaultOf};
+ghost use Rattle.peg_check.specs.Verdicts.{AreWellFormed, IsFaultOf, NamesRules};
 ghost use Rattle.peg_check.specs.declared.link.Link.{Link};
 
 use crate::asks::asks_of;
@@ -37,13 +37,14 @@ impl Checked {
 }
 
 /// Checks that each core form is well-formed (Ford 2004, section 3.6), or says why not: the first empty loop in written
-/// order, an expression before its parts; else the shortest left cycle from the least rule that lies on one, and of these
-/// the one whose rule numbers are least in order. Takes time and memory linear in the number of forms, but for the sorting
-/// of the rules that one rule meets first.
+/// order, an expression before its parts; else the shortest left cycle from the least rule that lies on one, and of
+/// these the one whose rule numbers are least in order. Takes time and memory linear in the number of forms, but for
+/// the sorting of the rules that one rule meets first.
 pub fn check(alloc: Global, core: Core) -> Result<Checked, CheckFault>
     ensures accepted { IfOk result (λ checked. checked.core ≡ core) }
     ensures well_formed { OnOk result (AreWellFormed core) }
     ensures refused { IfErr result (IsFaultOf core) }
+    ensures named { IfErr result (NamesRules (length core.bodies)) }
 {
     judge(alloc, &core)?;
     Ok(Checked { core })
@@ -53,6 +54,7 @@ pub fn check(alloc: Global, core: Core) -> Result<Checked, CheckFault>
 fn judge(alloc: Global, core: &Core) -> Result<(), CheckFault>
     ensures well_formed { OnOk result (AreWellFormed core.now) }
     ensures refused { IfErr result (IsFaultOf core.now) }
+    ensures named { IfErr result (NamesRules (length core.now.bodies)) }
 {
     let table = table_of(alloc, core)?;
     match empty_loop(alloc, core, &table)? {
