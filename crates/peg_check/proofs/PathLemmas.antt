@@ -1,0 +1,60 @@
+-- Paths grow at their ends; where a path comes back to one of its rules, it is a left cycle from there.
+use Rattle.std.proofs.Common.{◌≡◌, ℕ, zero, suc, ◌<◌, All, List, [], ◌∷◌, ◌++◌, Option, None, Some, drop, length, get_or, slice_get, refl, sym, subst, arith}
+use Rattle.std.proofs.lemmas.List.Elements.{All-cons, All-nil}
+use Rattle.std.proofs.lemmas.Option.{slice_get_within}
+use Rattle.peg_core.specs.CoreForm.{CoreForm}
+use Rattle.peg_core.specs.CoreLoops.{CoreMeets, CoreMeetsFirst, CoreMeetInTurn, IsCoreLeftCycle}
+use Rattle.peg_core.specs.CoreOutcomes.{BodyIs}
+use Rattle.peg_check.specs.Paths.{IsPath, IsFrom}
+
+module _ (bodies : List CoreForm) where
+  turn-push : (before : ℕ) (path : List ℕ) (rule next : ℕ) → CoreMeetInTurn bodies before (path ++ rule ∷ [])
+      → CoreMeetsFirst bodies rule next → CoreMeetInTurn bodies before ((path ++ rule ∷ []) ++ next ∷ [])
+  turn-push before [] rule next turn meets = (turn.0, (meets, tt))
+  turn-push before (one ∷ path) rule next turn meets = (turn.0, turn-push one path rule next turn.1 meets)
+
+  pub IsPath-push : (path : List ℕ) (rule next : ℕ) → IsPath bodies (path ++ rule ∷ []) → CoreMeetsFirst bodies rule next
+      → IsPath bodies ((path ++ rule ∷ []) ++ next ∷ [])
+  IsPath-push [] rule next is meets = (meets, tt)
+  IsPath-push (one ∷ path) rule next is meets = turn-push one path rule next is meets
+
+  tail-path : (rule : ℕ) (path : List ℕ) → CoreMeetInTurn bodies rule path → IsPath bodies path
+  tail-path rule [] turn = tt
+  tail-path rule (next ∷ path) turn = turn.1
+
+  cycle-at : (path : List ℕ) (rule at : ℕ) → IsPath bodies (path ++ rule ∷ []) → at < length path → get_or path at 0 ≡ rule
+      → IsCoreLeftCycle bodies (drop at path)
+  cycle-at [] rule at is within there = absurd (omega arith)
+  cycle-at (one ∷ path) rule zero is within there =
+      subst (λ r. CoreMeetInTurn bodies one (path ++ r ∷ [])) (sym there) is
+  cycle-at (one ∷ path) rule (suc at) is within there =
+      cycle-at path rule at (tail-path one (path ++ rule ∷ []) is) (omega arith) there
+
+  pub cycle-from : (path : List ℕ) (rule : ℕ) (rest : List ℕ) → IsPath bodies (path ++ rule ∷ []) → IsFrom path rule rest
+      → IsCoreLeftCycle bodies rest
+  cycle-from path rule rest is from =
+      subst (IsCoreLeftCycle bodies) (sym from.3) (cycle-at path rule from.0 is from.1 from.2)
+
+-- ---- the rules of a cycle have bodies
+
+pub has-body : (bodies : List CoreForm) (P : CoreForm → Type 0) (rule : ℕ) → BodyIs P (slice_get bodies rule)
+    → rule < length bodies
+has-body bodies P rule is = by (slice_get bodies rule) refl is
+  where
+    by : (body : Option CoreForm) → slice_get bodies rule ≡ body → BodyIs P body → rule < length bodies
+    by None there none = absurd none
+    by (Some body) there some = slice_get_within bodies rule body there
+
+turn-bodies : (bodies : List CoreForm) (before last : ℕ) (rules : List ℕ)
+    → CoreMeetInTurn bodies before (rules ++ last ∷ []) → All (λ rule. rule < length bodies) (before ∷ rules)
+turn-bodies bodies before last [] turn =
+    All-cons (λ rule. rule < length bodies) before [] (has-body bodies (λ body. CoreMeets bodies body last) before turn.0)
+    (All-nil (λ rule. rule < length bodies))
+turn-bodies bodies before last (next ∷ rules) turn =
+    All-cons (λ rule. rule < length bodies) before (next ∷ rules)
+    (has-body bodies (λ body. CoreMeets bodies body next) before turn.0) (turn-bodies bodies next last rules turn.1)
+
+pub cycle-bodies : (bodies : List CoreForm) (path : List ℕ) → IsCoreLeftCycle bodies path
+    → All (λ rule. rule < length bodies) path
+cycle-bodies bodies [] cycle = absurd cycle
+cycle-bodies bodies (rule ∷ more) cycle = turn-bodies bodies rule rule more cycle

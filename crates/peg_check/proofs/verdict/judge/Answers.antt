@@ -1,0 +1,58 @@
+use Rattle.std.proofs.Common.{◌≡◌, ◌<◌, All, Option, Vec, Global, ℕ, MatchOption, Some, length, subst}
+use Rattle.std.proofs.lemmas.List.{length-map}
+use Rattle.peg_core.specs.CoreForm.{CoreForm, Star}
+use Rattle.peg_core.specs.CoreLoops.{StandsIn, IsCoreLeftCycle}
+use Rattle.peg_core.specs.CoreOutcomes.{CoreGivesNothing}
+use Rattle.peg_core.specs.Layout.{Desugared, form_at}
+use Rattle.peg_bytes.specs.Extent.{extent}
+use Rattle.peg_check.specs.Exact.{bodies_of}
+use Rattle.peg_check.specs.Loops.{HasNone, IsLoop}
+use Rattle.peg_check.specs.Verdicts.{AreWellFormed}
+use Rattle.peg_check.specs.declared.loops.Loop.{Loop}
+use Rattle.peg_check.proofs.PathLemmas.{has-body, cycle-bodies}
+use Rattle.peg_check.proofs.Refutations.{loop-refuted, cycle-refuted}
+use Rattle.peg_check.proofs.verdict.judge.Goals as goal
+
+-- what was found, where something was
+found : (core : Desugared) (o : Option Loop) (loop : Loop) → o ≡ Some loop → MatchOption o (HasNone core) (IsLoop core)
+    → IsLoop core loop
+found core o loop is h = subst (λ (p : Option Loop). MatchOption p (HasNone core) (IsLoop core)) is h
+
+-- there are as many bodies as rules
+counted : (core : Desugared) → length (bodies_of core) ≡ length core.bodies
+counted core = length-map core.bodies (form_at core.forms)
+
+pub returns-in-Some-clause-refused : goal.returns-in-Some-clause-refused
+returns-in-Some-clause-refused c =
+    let core = c.args.core.now in
+    let loop = found core c.in_ok-rule.field-0 c.in-Some.field-0 c.in-Some.is c.in_ok-rule.ensures in
+    (loop.named, loop-refuted core loop.stands.0 loop.stands.1 loop.stands.2)
+
+pub returns-in-Some-clause-named : goal.returns-in-Some-clause-named
+returns-in-Some-clause-named c =
+    let core = c.args.core.now in
+    let loop = found core c.in_ok-rule.field-0 c.in-Some.field-0 c.in-Some.is c.in_ok-rule.ensures in
+    let span = c.in-Some.field-0.span in
+    subst (λ n. c.in-Some.field-0.rule < n) (counted core)
+    (has-body (bodies_of core) (λ body. (part : CoreForm) × (StandsIn (Star part (extent span)) body × CoreGivesNothing (bodies_of core) part)) c.in-Some.field-0.rule loop.named)
+
+-- the cycle that was found, where one was
+named : (core : Desugared) (o : Option (Vec ℕ Global)) (path : Vec ℕ Global) → o ≡ Some path
+    → MatchOption o (AreWellFormed core) (λ p. IsCoreLeftCycle (bodies_of core) p.items)
+    → IsCoreLeftCycle (bodies_of core) path.items
+named core o path is h =
+    subst (λ (p : Option (Vec ℕ Global)). MatchOption p (AreWellFormed core) (λ q. IsCoreLeftCycle (bodies_of core) q.items)) is h
+
+pub returns-in-Some-2-clause-refused : goal.returns-in-Some-2-clause-refused
+returns-in-Some-2-clause-refused c =
+    let core = c.args.core.now in
+    let none : HasNone core = subst (λ (o : Option Loop). MatchOption o (HasNone core) (IsLoop core)) c.in-None.is c.in_ok-rule.ensures in
+    let cycle = named core c.in_ok-path-in-None.field-0 c.in-Some-2.path c.in-Some-2.is c.in_ok-path-in-None.ensures in
+    (none.0, cycle, cycle-refuted core c.in-Some-2.path.items cycle)
+
+pub returns-in-Some-2-clause-named : goal.returns-in-Some-2-clause-named
+returns-in-Some-2-clause-named c =
+    let core = c.args.core.now in
+    let cycle = named core c.in_ok-path-in-None.field-0 c.in-Some-2.path c.in-Some-2.is c.in_ok-path-in-None.ensures in
+    subst (λ n. All (λ rule. rule < n) c.in-Some-2.path.items) (counted core)
+    (cycle-bodies (bodies_of core) c.in-Some-2.path.items cycle)
