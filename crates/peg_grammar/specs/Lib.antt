@@ -10,6 +10,7 @@ pub mod Found
 pub mod Furthest
 pub mod Grammar
 pub mod GrammarRules
+pub mod Loops
 pub mod Names
 pub mod Numbers
 pub mod Outcomes
