@@ -1,9 +1,10 @@
--- Why a grammar isn't well-formed (Ford 2004, section 3.6): an empty loop, which may go round on nothing for ever, or a left
--- cycle of rules that meet one another before anything is consumed.
-use Rattle.std.specs.Prelude.{◌≡◌, ◌⊎◌, ℕ, Contains, List, [], ◌∷◌, Some, option_map, slice_get}
+-- Why a grammar isn't well-formed (Ford 2004, section 3.6): an empty loop, which may go round on nothing for ever, or a
+-- left cycle of rules that meet one another before anything is consumed.
+use Rattle.std.specs.Prelude.{◌≡◌, ◌⊎◌, ℕ, Contains, List, [], ◌∷◌, ◌++◌, Some, option_map, slice_get}
 use Rattle.peg_bytes.specs.Extent.{Extent}
 use Rattle.peg_grammar.specs.AbstractOutcomes.{GivesNothing}
-use Rattle.peg_grammar.specs.Form.{Form, Forms, Literal, Class, Any, Name, Seq, Choice, Optional, Star, Plus, And, Not, End, Then}
+use Rattle.peg_grammar.specs.Form.{Form, Forms, Literal, Class, Any, Name, Seq, Choice, Optional, Star, Plus, And, Not}
+use Rattle.peg_grammar.specs.Form.{End, Then}
 use Rattle.peg_grammar.specs.Rules.{Rule, Meaning, meant}
 use Rattle.peg_grammar.specs.WellFormed.{Asking, subexpressions}
 
@@ -46,25 +47,28 @@ pub record MeetsFirstBy (rules : List Rule) (Idles : Asking) (first second : ℕ
 abbrev pub MeetsFirst : List Rule → (first second : ℕ) → Type 0
 MeetsFirst rules = MeetsFirstBy rules (GivesNothing rules)
 
--- from a number along others to the last, each is met by the one before it
-abbrev pub IsPath : (Meets : ℕ → ℕ → Type 0) → ℕ → List ℕ → ℕ → Type 0
-IsPath Meets start [] end = Meets start end
-IsPath Meets start (next ∷ more) end = Meets start next × IsPath Meets next more end
+-- each number is met by the one before it, the first of them by this one
+abbrev pub MeetInTurn : (Meets : ℕ → ℕ → Type 0) → (before : ℕ) → List ℕ → Type 0
+MeetInTurn Meets before [] = Unit {0}
+MeetInTurn Meets before (next ∷ more) = Meets before next × MeetInTurn Meets next more
 
 -- some numbers, each met by the one before it, and the first by the last
 abbrev pub IsCycle : (Meets : ℕ → ℕ → Type 0) → List ℕ → Type 0
 IsCycle Meets [] = ⊥
-IsCycle Meets (first ∷ more) = IsPath Meets first more first
+IsCycle Meets (first ∷ more) = MeetInTurn Meets first (more ++ first ∷ [])
 
 -- a left cycle: rules, each met first by the one before it, and the first by the last
 abbrev pub IsLeftCycle : List Rule → List ℕ → Type 0
 IsLeftCycle rules = IsCycle (MeetsFirst rules)
 
--- an empty loop: among the subexpressions of the rule with this number, a star or plus that stands there and whose part
--- gives 0
+-- among some expressions is a star or plus round this part, and it stands there
+abbrev pub WritesLoop : List Form → (part : Form) → Extent → Type 0
+WritesLoop some part span = Contains some (Star part span) ⊎ Contains some (Plus part span)
+
+-- an empty loop: a star or plus in the expression of the rule with this number that stands there and whose part gives 0
 pub record IsEmptyLoop (rules : List Rule) (number : ℕ) (span : Extent) : Type 0 where
   pub rule : Rule
   pub part : Form
   pub numbered : slice_get rules number ≡ Some rule
-  pub written : Contains (subexpressions rule.body) (Star part span) ⊎ Contains (subexpressions rule.body) (Plus part span)
+  pub written : WritesLoop (subexpressions rule.body) part span
   pub idle : GivesNothing rules part
