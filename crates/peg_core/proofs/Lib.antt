@@ -7,6 +7,7 @@ pub mod PartsLemmas
 pub mod Reaches
 pub mod RuleLemmas
 pub mod Sets
+pub mod StandingLemmas
 pub mod SugarOutcomes
 pub mod SugarRecords
 pub mod SugarWellFormed

@@ -12,6 +12,7 @@ pub use Rattle.peg_grammar.specs.WellFormed
 pub mod CoreCode
 pub mod CoreExamples
 pub mod CoreForm
+pub mod CoreLoops
 pub mod CoreOutcomes
 pub mod CoreParts
 pub mod CoreRecord

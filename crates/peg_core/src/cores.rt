@@ -1,8 +1,9 @@
 //! The core forms of a grammar, as contracts see them: trees.
-ghost use Rattle.std.specs.Prelude.{◌≡◌, ℕ, ◌<◌, ◌≤◌, length, slice_get, slice_index_or, Some};
+ghost use Rattle.std.specs.Prelude.{◌≡◌, ℕ, ◌<◌, ◌≤◌, All, length, map, slice_get, slice_index_or, Some};
 ghost use Rattle.peg_bytes.specs.Extent.{Extent, extent};
 ghost use Rattle.peg_grammar.specs.Grammar.{most_parts};
-ghost use Rattle.peg_core.specs.Layout.{most_forms};
+ghost use Rattle.peg_core.specs.CoreLoops.{StandsInBody};
+ghost use Rattle.peg_core.specs.Layout.{form_at, most_forms};
 ghost use Rattle.peg_core.specs.Nodes.{NodeFits, IsStarFrom, Spells};
 
 use crate::Node;
@@ -39,15 +40,17 @@ impl Core {
         requires rules { length bodies.items ≡ flat.rules }
         requires few { flat.rules ≤ most_parts }
         requires within { (k d : ℕ) → k < length bodies.items → slice_index_or bodies.items k d < length flat.forms }
+        requires owned { All (StandsInBody (map (form_at flat.forms) bodies.items)) flat.forms }
         ensures { result ≡ record { forms = flat.forms; bodies = bodies.items; spans = flat.spans } }
     {
         Core { flat, bodies }
     }
 
-    /// How many core forms there are. Takes constant time.
+    /// How many core forms there are; each stands in the body of a rule. Takes constant time.
     pub fn len(&self) -> u32
         ensures count { result ≡ length self.now.forms }
         ensures most { result ≤ most_forms }
+        ensures owned { All (StandsInBody (map (form_at self.now.forms) self.now.bodies)) self.now.forms }
     {
         self.flat.len()
     }

@@ -1,4 +1,4 @@
-use Rattle.std.proofs.Common.{◌≡◌, ◌+◌, ◌∷◌, ◌++◌, ◌↔◌, [], All, Contains, filter, true, length, drop, sym, ap, ◌∙◌, subst, arith, length-append, append-nil}
+use Rattle.std.proofs.Common.{◌≡◌, ◌+◌, ◌∷◌, ◌++◌, ◌↔◌, [], All, Contains, filter, map, true, length, drop, sym, ap, ◌∙◌, subst, arith, length-append, append-nil}
 use Rattle.std.proofs.lemmas.List.{drop_all}
 use Rattle.std.proofs.Math.Logic.{∥∥₁_elim}
 use mathlib.Core.Bool.{Bool-set}
@@ -7,16 +7,18 @@ use Rattle.peg_grammar.specs.Form.{form_weight, names_used}
 use Rattle.peg_grammar.specs.GrammarRules.{rules_in}
 use Rattle.peg_grammar.specs.Rules.{Rule, uses}
 use Rattle.peg_grammar.specs.Written.{form_of}
-use Rattle.peg_core.specs.CoreForm.{core_form, core_bodies}
+use Rattle.peg_core.specs.CoreForm.{core_form, core_bodies, core_bodies_from}
+use Rattle.peg_core.specs.CoreLoops.{StandsInBody}
 use Rattle.peg_core.specs.CoreOutcomes.{IsCoreWellFormed}
 use Rattle.peg_core.specs.CoreParts.{are_defined, all_core_parts, core_parts_from}
 use Rattle.peg_core.specs.Subexpressions.{Numbered, numbered_subexpressions, is_star}
 use Rattle.peg_grammar.specs.WellFormed.{IsWellFormedGrammar}
 use Rattle.peg_core.specs.Laid.{LaysForm}
-use Rattle.peg_core.specs.Layout.{Layout, Desugared}
+use Rattle.peg_core.specs.Layout.{Layout, Desugared, form_at}
 use Rattle.peg_core.proofs.AddLemmas.{LaysForm-room, LaysForm-few, are_defined-left, are_defined-right}
 use Rattle.peg_core.proofs.RuleLemmas.{body_weights, rules-drop, grammar-defined, length-all_core_parts, RulesSoFar, RulesSoFar-start, RulesSoFar-more}
 use Rattle.peg_core.proofs.PartsLemmas.{subexpressions-stand, stars-stand, grammar-right, grammar-fine}
+use Rattle.peg_core.proofs.StandingLemmas.{all-stand}
 use Rattle.peg_core.proofs.sugar.desugar.Goals as goal
 use Rattle.peg_core.proofs.sugar.desugar.Goals.{After-new}
 
@@ -80,6 +82,19 @@ loop-rule-preserved c =
       defined = are_defined-right rules (names_used step.0.body) (uses rest) (subst (λ some. are_defined rules (uses some) ≡ true) step.1 c.loop-rule.invariant.defined);
       so_far = subst (λ l. RulesSoFar rules rest l new) (sym c.in_ok-push.ensures.items) (RulesSoFar-more rules step.0 rest bodies now new body so_far lays);
     }
+
+-- each form stands in a rule's body
+pub new-requires-clause-owned : goal.new-requires-clause-owned
+new-requires-clause-owned c =
+    let rules = rules_in c.args.grammar.now in
+    let flat = c.loop-rule.flat in
+    let bodies = c.loop-rule.bodies.items in
+    let t = length flat.spans in
+    let none : drop c.loop-rule.rule rules ≡ [] = drop_all c.loop-rule.rule rules (omega (arith, c.loop-rule-test.false, c.rules-rule-end.ensures.count)) in
+    let forms : flat.forms ≡ all_core_parts rules = sym (append-nil flat.forms) ∙ (ap (λ rest. flat.forms ++ core_parts_from rules t rest) (sym none) ∙ c.loop-rule.invariant.so_far.forms) in
+    let each : map (form_at flat.forms) bodies ≡ core_bodies rules = sym (append-nil (map (form_at flat.forms) bodies)) ∙ (ap (λ rest. map (form_at flat.forms) bodies ++ core_bodies_from rules t rest) (sym none) ∙ c.loop-rule.invariant.so_far.each) in
+    subst (λ some. All (StandsInBody some) flat.forms) (sym each)
+    (subst (All (StandsInBody (core_bodies rules))) (sym forms) (all-stand rules))
 
 pub returns-clause-few : goal.returns-clause-few
 returns-clause-few c =
