@@ -1,4 +1,14 @@
+pub mod AskLemmas
 pub mod ChainLemmas
+pub mod LabelLemmas
 pub mod LinkLemmas
+pub mod LoopLemmas
+pub mod MetLemmas
 pub mod OutcomeTables
+pub mod OwnerLemmas
+pub mod PathLemmas
+pub mod Refutations
+pub mod SettledLemmas
+pub mod TrailLemmas
 pub mod Worklist
+pub mod Written

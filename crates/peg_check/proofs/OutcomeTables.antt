@@ -13,7 +13,7 @@ use Rattle.peg_core.specs.Layout.{Desugared, form_at}
 use Rattle.peg_core.proofs.CoreRounds.{core_can_in-more}
 use Rattle.peg_check.specs.Cans.{can_of, can_at, nothing_known}
 use Rattle.peg_check.specs.Exact.{bodies_of, IsExact}
-use Rattle.peg_check.specs.Links.{link_can, LinkFits, IsLinkOf, AreLinked}
+use Rattle.peg_check.specs.Links.{link_at, link_can, LinkFits, IsLinkOf, AreLinked}
 use Rattle.peg_check.specs.Steps.{added_to, looked_at, one_unless, unknown_of, unknown_in}
 use Rattle.peg_check.specs.declared.can.Can as code
 use Rattle.peg_check.specs.declared.link.Link.{Link}
@@ -111,10 +111,6 @@ pub unknown-looked : (cans : List code.Can) (number : ℕ) (can : Can) → numbe
 unknown-looked cans number can within more =
     let known = get_or cans number nothing_known in
     omega (arith, unknown-added known can more, sum_by-set unknown_of cans number (added_to known can) nothing_known within)
-
--- the link of the form with a number
-abbrev pub link_at : List Link → ℕ → Link
-link_at links k = get_or links k (link.Known nothing_known)
 
 -- a link that was read is the form's
 pub linked_at : (core : Desugared) (links : List Link) (number : ℕ) (read : Link) → AreLinked core links

@@ -6,12 +6,12 @@ use Rattle.std.proofs.lemmas.List.{get_or_append_left, get_or-set_other, get_or-
 use Rattle.std.proofs.lemmas.List.Elements.{All-contains, Contains-push, Contains-push_cases}
 use Rattle.peg_grammar.specs.AbstractOutcomes.{Can, CanAll, both, either, again, not_ahead}
 use Rattle.peg_check.specs.Cans.{can_of, can_at, nothing_known}
-use Rattle.peg_check.specs.Links.{link_can, GoesBy}
+use Rattle.peg_check.specs.Links.{link_at, link_can, GoesBy}
 use Rattle.peg_check.specs.Steps.{added_to, looked_at}
 use Rattle.peg_check.specs.declared.can.Can as code
 use Rattle.peg_check.specs.declared.link.Link.{Link}
 use Rattle.peg_check.specs.declared.link.Link.TheVariants as link
-use Rattle.peg_check.proofs.OutcomeTables.{link_at, IsClosed, added-more}
+use Rattle.peg_check.proofs.OutcomeTables.{IsClosed, added-more}
 
 -- a link goes by this form, or tells the same whatever that form can do
 module _ (f g : ℕ → Can) (number : ℕ) (same : (k : ℕ) → (k ≡ number → ⊥) → f k ≡ g k) where

@@ -1,10 +1,10 @@
 -- What a core form's outcomes depend on: those of the forms with some numbers.
-use Rattle.std.specs.Prelude.{◌≡◌, ℕ, ◌<◌, ◌⊎◌, List, length, slice_index_or}
+use Rattle.std.specs.Prelude.{◌≡◌, ℕ, ◌<◌, ◌⊎◌, List, [], ◌∷◌, length, slice_index_or}
 use Rattle.peg_grammar.specs.AbstractOutcomes.{Can, both, either, again, not_ahead}
 use Rattle.peg_core.specs.CoreForm.{CoreForm}
 use Rattle.peg_core.specs.CoreOutcomes.{CoreJudging, core_can_table}
 use Rattle.peg_core.specs.Layout.{Desugared, form_at}
-use Rattle.peg_check.specs.Cans.{can_of}
+use Rattle.peg_check.specs.Cans.{can_of, nothing_known}
 use Rattle.peg_check.specs.Exact.{bodies_of}
 use Rattle.peg_check.specs.declared.link.Link.{Link}
 use Rattle.peg_check.specs.declared.link.Link.TheVariants as link
@@ -17,6 +17,10 @@ link_can can (link.Both first rest) = both (can first) (can rest)
 link_can can (link.Either first rest) = either (can first) (can rest)
 link_can can (link.Again part) = again (can part)
 link_can can (link.NotAhead part) = not_ahead (can part)
+
+-- the link of the form with a number
+abbrev pub link_at : List Link → ℕ → Link
+link_at links number = slice_index_or links number (link.Known nothing_known)
 
 -- the numbers are below this one
 abbrev pub LinkFits : (count : ℕ) → Link → Type 0
@@ -35,6 +39,15 @@ GoesBy (link.Both first rest) number = (first ≡ number) ⊎ (rest ≡ number)
 GoesBy (link.Either first rest) number = (first ≡ number) ⊎ (rest ≡ number)
 GoesBy (link.Again part) number = part ≡ number
 GoesBy (link.NotAhead part) number = part ≡ number
+
+-- the forms that a link goes by, in order
+abbrev pub parts_of : Link → List ℕ
+parts_of (link.Known known) = []
+parts_of (link.Same part) = part ∷ []
+parts_of (link.Both first rest) = first ∷ rest ∷ []
+parts_of (link.Either first rest) = first ∷ rest ∷ []
+parts_of (link.Again part) = part ∷ []
+parts_of (link.NotAhead part) = part ∷ []
 
 -- a link tells of a form what Ford's rules tell of it, whatever forms can do
 pub record IsLinkOf (core : Desugared) (form : CoreForm) (link : Link) : Type 0 where

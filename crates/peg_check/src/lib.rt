@@ -1,13 +1,28 @@
-//! The check of grammars: what each core form can do, whatever the text.
+//! The check of grammars: what each core form can do, whatever the text; and whether all are well-formed, or why not.
 #![tactic(auto)]
 
+mod asks;
 mod can;
+mod components;
+mod cycles;
+mod fault;
 mod link;
+mod loops;
+mod met;
+mod order;
+mod owners;
+mod settled;
+mod shortest;
 mod step;
 mod table;
 #[cfg(test)]
 mod tests;
 mod uses;
+mod verdict;
+#[cfg(test)]
+mod verdict_tests;
 
 pub use can::Can;
+pub use fault::CheckFault;
 pub use table::{Table, table_of};
+pub use verdict::{Checked, check};

@@ -79,7 +79,7 @@ pub fn table_of(alloc: Global, core: &Core) -> Result<Table, AllocError>
 }
 
 // All numbers below one, the smallest last.
-fn all_numbers(alloc: Global, count: u32) -> Result<Vec<u32>, AllocError>
+pub(crate) fn all_numbers(alloc: Global, count: u32) -> Result<Vec<u32>, AllocError>
     ensures all { IfOk result (λ numbers. (number : ℕ) → number < count → Contains numbers.items number) }
     ensures within { IfOk result (λ numbers. All (λ number. number < count) numbers.items) }
 {

@@ -3,12 +3,12 @@ use Rattle.std.proofs.lemmas.Bool.{OnFalse_at}
 use Rattle.std.proofs.lemmas.List.{length-map, length-set}
 use Rattle.peg_core.specs.Layout.{form_at}
 use Rattle.peg_check.specs.Cans.{can_of, can_at, nothing_known}
-use Rattle.peg_check.specs.Links.{LinkFits, GoesBy, IsLinkOf, link_can}
+use Rattle.peg_check.specs.Links.{LinkFits, GoesBy, IsLinkOf, link_at, link_can}
 use Rattle.peg_check.specs.Steps.{added_to, looked_at}
 use Rattle.peg_check.specs.declared.can.Can as code
 use Rattle.peg_check.specs.declared.link.Link.{Link}
 use Rattle.peg_check.specs.declared.link.Link.TheVariants as link
-use Rattle.peg_check.proofs.OutcomeTables.{link_at, linked_at, link_at_read, Holds, Holds-looked, AreClosed, exact}
+use Rattle.peg_check.proofs.OutcomeTables.{linked_at, link_at_read, Holds, Holds-looked, AreClosed, exact}
 use Rattle.peg_check.proofs.Worklist.{AreAwaited, awaited-same, awaited-more, all_taken, last_taken, whole-looked, whole-same}
 use Rattle.peg_check.proofs.table.table_of.Goals as goal
 use Rattle.peg_check.proofs.table.table_of.Goals.{After-look_again-more}

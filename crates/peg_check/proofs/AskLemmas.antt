@@ -1,0 +1,124 @@
+-- What follows of what forms ask for: where all that is asked for is settled, forms are well-formed; and what is asked for
+-- meets no rules that the form doesn't meet.
+use Rattle.std.proofs.Common.{◌≡◌, ℕ, zero, suc, ◌<◌, ◌⊎◌, inl, inr, List, Some, length, slice_get, option_map, refl, sym, ap, ◌∙◌, subst, arith}
+use Rattle.std.proofs.lemmas.Option.{slice_get-map}
+use Rattle.peg_core.specs.CoreForm.{CoreForm, Rule, Seq, Choice, Star, Not}
+use Rattle.peg_core.specs.CoreLoops.{CoreMeets}
+use Rattle.peg_core.specs.CoreOutcomes.{CoreAsking, BodyIs, CoreWellFormedTable, IsCoreWellFormedIn}
+use Rattle.peg_core.specs.Layout.{Desugared, form_at}
+use Rattle.peg_check.specs.Asks.{AsksBy, asks_empty, asks_test, asks_body, asks_first, asks_both, asks_either, asks_again, asks_not, AreAsked}
+use Rattle.peg_check.specs.Exact.{bodies_of}
+use Rattle.peg_check.specs.Links.{GoesBy, LinkFits, link_at}
+use Rattle.peg_check.specs.Loops.{LoopsAt}
+use Rattle.peg_check.specs.Settled.{IsSettledIn}
+use Rattle.peg_check.specs.declared.link.Link.{Link}
+
+-- the body of a rule as a form
+pub body-form : (core : Desugared) (rule body : ℕ) → slice_get core.bodies rule ≡ Some body
+    → slice_get (bodies_of core) rule ≡ Some (form_at core.forms body)
+body-form core rule body there =
+    slice_get-map (form_at core.forms) core.bodies rule ∙ ap (option_map (form_at core.forms)) there
+
+-- what is asked for is one of the forms
+pub AsksBy-fits : (core : Desugared) (number : ℕ) (l : Link) → number < length core.forms → AsksBy core number l
+    → LinkFits (length core.forms) l
+AsksBy-fits core number _ within (asks_empty can is) = tt
+AsksBy-fits core number _ within (asks_test can set terminal is) = tt
+AsksBy-fits core number _ within (asks_body rule body is there below) = below
+AsksBy-fits core number _ within (asks_first first rest is below never) = omega arith
+AsksBy-fits core number _ within (asks_both first rest is below also gives) = (omega arith, omega arith)
+AsksBy-fits core number _ within (asks_either first rest is below also) = (omega arith, omega arith)
+AsksBy-fits core number _ within (asks_again part origin is below) = omega arith
+AsksBy-fits core number _ within (asks_not part is below) = omega arith
+
+module _ (core : Desugared) (number : ℕ) where
+  -- a use of a rule asks for its body
+  abbrev pub AsksForBody : ℕ → Type 0
+  AsksForBody part = (rule : ℕ) × (form_at core.forms number ≡ Rule rule) × (slice_get core.bodies rule ≡ Some part)
+
+  -- another form for a part before it, whose rules it meets
+  abbrev pub AsksForPart : ℕ → Type 0
+  AsksForPart part =
+      (part < number)
+      × ((rule : ℕ) → CoreMeets (bodies_of core) (form_at core.forms part) rule → CoreMeets (bodies_of core) (form_at core.forms number) rule)
+
+  part-from : (part named : ℕ) → part ≡ named → AsksForPart part → AsksForBody named ⊎ AsksForPart named
+  part-from part named same h = inr (subst AsksForPart same h)
+
+  meets : (form : CoreForm) → form_at core.forms number ≡ form → (rule : ℕ) → CoreMeets (bodies_of core) form rule
+      → CoreMeets (bodies_of core) (form_at core.forms number) rule
+  meets form is rule h = subst (λ f. CoreMeets (bodies_of core) f rule) (sym is) h
+
+  pub AsksBy-part : (l : Link) (part : ℕ) → AsksBy core number l → GoesBy l part → AsksForBody part ⊎ AsksForPart part
+  AsksBy-part _ part (asks_empty can is) goes = absurd goes
+  AsksBy-part _ part (asks_test can set terminal is) goes = absurd goes
+  AsksBy-part _ part (asks_body rule body is there below) goes = inl (subst AsksForBody goes (rule, is, there))
+  AsksBy-part _ part (asks_first first rest is below never) goes =
+      part-from first part goes (below, λ rule h. meets _ is rule (inl h))
+  AsksBy-part _ part (asks_both first rest is below also gives) (inl goes) =
+      part-from first part goes (below, λ rule h. meets _ is rule (inl h))
+  AsksBy-part _ part (asks_both first rest is below also gives) (inr goes) =
+      part-from rest part goes (also, λ rule h. meets _ is rule (inr (gives, h)))
+  AsksBy-part _ part (asks_either first rest is below also) (inl goes) =
+      part-from first part goes (below, λ rule h. meets _ is rule (inl h))
+  AsksBy-part _ part (asks_either first rest is below also) (inr goes) =
+      part-from rest part goes (also, λ rule h. meets _ is rule (inr h))
+  AsksBy-part _ part (asks_again one origin is below) goes = part-from one part goes (below, λ rule h. meets _ is rule h)
+  AsksBy-part _ part (asks_not one is below) goes = part-from one part goes (below, λ rule h. meets _ is rule h)
+
+  -- a use of a rule asks for nothing else
+  pub AsksBy-rule : (l : Link) (rule part : ℕ) → form_at core.forms number ≡ Rule rule → AsksBy core number l
+      → GoesBy l part → slice_get core.bodies rule ≡ Some part
+  AsksBy-rule _ rule part use_of (asks_empty can is) goes = absurd goes
+  AsksBy-rule _ rule part use_of (asks_test can set terminal is) goes = absurd goes
+  AsksBy-rule _ rule part use_of (asks_body other body is there below) goes =
+      let both : Rule other ≡ Rule rule = sym is ∙ use_of in
+      let same : other ≡ rule = cc in
+      subst (λ r. slice_get core.bodies r ≡ Some part) same (subst (λ b. slice_get core.bodies other ≡ Some b) goes there)
+  AsksBy-rule _ rule part use_of (asks_first first rest is below never) goes =
+      let bad : Seq (form_at core.forms first) (form_at core.forms rest) ≡ Rule rule = sym is ∙ use_of in cc
+  AsksBy-rule _ rule part use_of (asks_both first rest is below also gives) goes =
+      let bad : Seq (form_at core.forms first) (form_at core.forms rest) ≡ Rule rule = sym is ∙ use_of in cc
+  AsksBy-rule _ rule part use_of (asks_either first rest is below also) goes =
+      let bad : Choice (form_at core.forms first) (form_at core.forms rest) ≡ Rule rule = sym is ∙ use_of in cc
+  AsksBy-rule _ rule part use_of (asks_again one origin is below) goes =
+      let bad : Star (form_at core.forms one) origin ≡ Rule rule = sym is ∙ use_of in cc
+  AsksBy-rule _ rule part use_of (asks_not one is below) goes =
+      let bad : Not (form_at core.forms one) ≡ Rule rule = sym is ∙ use_of in cc
+
+-- ---- settled forms
+
+module _ (core : Desugared) (asks : List Link) (asked : AreAsked core asks)
+    (none : (number : ℕ) → number < length core.forms → ¬ LoopsAt core number) where
+  -- what the rules for well-formed expressions say, where all that is asked for is
+  by-rules : (Is : CoreAsking) (number : ℕ) (l : Link) → number < length core.forms → AsksBy core number l
+      → ((part : ℕ) → part < length core.forms → GoesBy l part → Is (form_at core.forms part))
+      → CoreWellFormedTable (bodies_of core) Is (form_at core.forms number)
+  by-rules Is number _ within (asks_empty can is) all =
+      subst (CoreWellFormedTable (bodies_of core) Is) (sym is) tt
+  by-rules Is number _ within (asks_test can set terminal is) all =
+      subst (CoreWellFormedTable (bodies_of core) Is) (sym is) tt
+  by-rules Is number _ within (asks_body rule body is there below) all =
+      subst (CoreWellFormedTable (bodies_of core) Is) (sym is)
+      (subst (BodyIs Is) (sym (body-form core rule body there)) (all body below refl))
+  by-rules Is number _ within (asks_first first rest is below never) all =
+      subst (CoreWellFormedTable (bodies_of core) Is) (sym is) (all first (omega arith) refl, λ gives. absurd (never gives))
+  by-rules Is number _ within (asks_both first rest is below also gives) all =
+      subst (CoreWellFormedTable (bodies_of core) Is) (sym is)
+      (all first (omega arith) (inl refl), λ again. all rest (omega arith) (inr refl))
+  by-rules Is number _ within (asks_either first rest is below also) all =
+      subst (CoreWellFormedTable (bodies_of core) Is) (sym is)
+      (all first (omega arith) (inl refl), all rest (omega arith) (inr refl))
+  by-rules Is number _ within (asks_again part origin is below) all =
+      subst (CoreWellFormedTable (bodies_of core) Is) (sym is)
+      (all part (omega arith) refl, λ gives. none number within (form_at core.forms part, origin, is, gives))
+  by-rules Is number _ within (asks_not part is below) all =
+      subst (CoreWellFormedTable (bodies_of core) Is) (sym is) (all part (omega arith) refl)
+
+  pub well_formed-settled : (n number : ℕ) → number < length core.forms → IsSettledIn asks n number
+      → IsCoreWellFormedIn (bodies_of core) n (form_at core.forms number)
+  unfolding IsSettledIn IsCoreWellFormedIn
+  well_formed-settled zero number within settled = absurd settled
+  well_formed-settled (suc n) number within settled =
+      by-rules (IsCoreWellFormedIn (bodies_of core) n) number (link_at asks number) within (asked number within)
+      (λ part below goes. well_formed-settled n part below (settled part goes))

@@ -1,0 +1,94 @@
+-- Marks of settled forms: what is marked is settled, and what isn't waits in a list or asks for a form that isn't marked.
+use Rattle.std.proofs.Common.{◌≡◌, ℕ, zero, suc, ◌+◌, ◌*◌, ◌<◌, ◌≤◌, ◌⊎◌, inl, inr, Bool, true, false, Contains, List, [], ◌∷◌, ◌++◌, length, set, sym, ap, ◌∙◌, subst, arith}
+use Rattle.std.specs.List.{sum_by}
+use Rattle.std.proofs.Math.Nat.{suc-mul}
+use Rattle.std.proofs.lemmas.Bool.{cases_eq}
+use Rattle.std.proofs.lemmas.List.{get_or-set_other, get_or-set_same}
+use Rattle.std.proofs.lemmas.List.Elements.{Contains-push_cases}
+use Rattle.std.proofs.lemmas.List.Sums.{sum_by-set}
+use Rattle.peg_check.specs.Links.{GoesBy, link_at}
+use Rattle.peg_check.specs.Settled.{is_marked, IsSettledIn, AllMarked, SomeLeft}
+use Rattle.peg_check.specs.Steps.{one_unless}
+use Rattle.peg_check.specs.declared.link.Link.{Link}
+
+-- one mark more, one less to come
+pub fewer-unmarked : (marks : List Bool) (number : ℕ) → number < length marks → is_marked marks number ≡ false
+    → sum_by one_unless (set marks number true) + 1 ≡ sum_by one_unless marks
+fewer-unmarked marks number within was =
+    omega (arith, sum_by-set one_unless marks number true false within, ap one_unless was)
+
+pub work-falls : (s t entries rest after : ℕ) → s + 1 ≡ t → after ≤ rest + entries
+    → s * (entries + 1) + after < t * (entries + 1) + (rest + 1)
+work-falls s t entries rest after one few =
+    let e : suc s ≡ t = omega arith in
+    omega (arith, suc-mul s (entries + 1), ap (λ n. n * (entries + 1)) e)
+
+module _ (asks : List Link) where
+  pub settled-more : (n number : ℕ) → IsSettledIn asks n number → IsSettledIn asks (suc n) number
+  unfolding IsSettledIn
+  settled-more zero number settled = absurd settled
+  settled-more (suc n) number settled = λ part goes. settled-more n part (settled part goes)
+
+  settled-by : (n number : ℕ) → ((part : ℕ) → GoesBy (link_at asks number) part → IsSettledIn asks n part)
+      → IsSettledIn asks (suc n) number
+  unfolding IsSettledIn
+  settled-by n number all = all
+
+  -- all that is marked is settled in some number of rounds
+  abbrev pub Rounds : List Bool → Type 0
+  Rounds marks = (n : ℕ) × ((number : ℕ) → is_marked marks number ≡ true → IsSettledIn asks n number)
+
+  -- each form that isn't marked waits, or asks for one that isn't
+  abbrev pub AreWaiting : List Bool → List ℕ → Type 0
+  AreWaiting marks pending =
+      (number : ℕ) → number < length asks → is_marked marks number ≡ false
+      → Contains pending number ⊎ SomeLeft marks (link_at asks number)
+
+  module _ (marks : List Bool) (number : ℕ) where
+    other-mark : (k : ℕ) → (k ≡ number → ⊥) → is_marked (set marks number true) k ≡ is_marked marks k
+    other-mark k other = get_or-set_other marks number k true false other
+
+    pub Rounds-marked : AllMarked marks (link_at asks number) → Rounds marks → Rounds (set marks number true)
+    Rounds-marked all rounds = (suc rounds.0, λ k marked. by k marked (cases_eq k number))
+      where
+        here : IsSettledIn asks (suc rounds.0) number
+        here = settled-by rounds.0 number (λ part goes. rounds.1 part (all part goes))
+
+        by : (k : ℕ) → is_marked (set marks number true) k ≡ true → (k ≡ number) ⊎ (k ≡ number → ⊥)
+            → IsSettledIn asks (suc rounds.0) k
+        by k marked (inl is) = subst (IsSettledIn asks (suc rounds.0)) (sym is) here
+        by k marked (inr other) = settled-more rounds.0 k (rounds.1 k (sym (other-mark k other) ∙ marked))
+
+    module _ (pending rest : List ℕ) (taken : pending ≡ rest ++ number ∷ []) (waiting : AreWaiting marks pending) where
+      -- the form that was taken was marked, or asks for one that isn't
+      pub AreWaiting-same : (is_marked marks number ≡ false → SomeLeft marks (link_at asks number)) → AreWaiting marks rest
+      AreWaiting-same left k below unmarked = by (waiting k below unmarked)
+        where
+          by : Contains pending k ⊎ SomeLeft marks (link_at asks k) → Contains rest k ⊎ SomeLeft marks (link_at asks k)
+          by (inr some) = inr some
+          by (inl had) =
+              elim (Contains-push_cases rest number k (subst (λ (l : List ℕ). Contains l k) taken had)) [ inl still ↦ inl still | inr is ↦ inr (subst (λ j. SomeLeft marks (link_at asks j)) is (left (ap (is_marked marks) is ∙ unmarked))) ]
+
+      -- it is marked now, and those that ask for it are in the list again
+      pub AreWaiting-marked : number < length marks → (after : List ℕ)
+          → ((k : ℕ) → Contains rest k → Contains after k)
+          → ((k : ℕ) → k < length asks → GoesBy (link_at asks k) number → Contains after k)
+          → AreWaiting (set marks number true) after
+      AreWaiting-marked within after kept users k below unmarked = cases (cases_eq k number)
+        where
+          left-still : SomeLeft marks (link_at asks k) → Contains after k ⊎ SomeLeft (set marks number true) (link_at asks k)
+          left-still some =
+              elim (cases_eq some.0 number) [ inl is ↦ inl (users k below (subst (GoesBy (link_at asks k)) is some.1.0)) | inr other ↦ inr (some.0, (some.1.0, other-mark some.0 other ∙ some.1.1)) ]
+
+          by : (k ≡ number → ⊥) → Contains pending k ⊎ SomeLeft marks (link_at asks k)
+              → Contains after k ⊎ SomeLeft (set marks number true) (link_at asks k)
+          by other (inr some) = left-still some
+          by other (inl had) =
+              elim (Contains-push_cases rest number k (subst (λ (l : List ℕ). Contains l k) taken had)) [ inl still ↦ inl (kept k still) | inr is ↦ absurd (other (sym is)) ]
+
+          cases : (k ≡ number) ⊎ (k ≡ number → ⊥) → Contains after k ⊎ SomeLeft (set marks number true) (link_at asks k)
+          cases (inl is) =
+              let now : is_marked (set marks number true) number ≡ true = get_or-set_same marks number true false within in
+              let bad : true ≡ false = sym now ∙ (ap (is_marked (set marks number true)) (sym is) ∙ unmarked) in
+              cc
+          cases (inr other) = by other (waiting k below (sym (other-mark k other) ∙ unmarked))

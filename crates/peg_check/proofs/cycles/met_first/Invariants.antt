@@ -1,0 +1,17 @@
+use Rattle.std.proofs.Common.{◌≡◌, ℕ, ◌<◌, false, length}
+use Rattle.peg_core.specs.CoreLoops.{CoreMeets}
+use Rattle.peg_core.specs.Layout.{form_at}
+use Rattle.peg_check.specs.Exact.{bodies_of}
+use Rattle.peg_check.specs.Settled.{is_marked}
+use Rattle.peg_check.proofs.cycles.met_first.Given as goal
+
+-- this form isn't settled, and what it meets first the first form does
+abbrev pub invariant-parts : goal.invariant-parts
+invariant-parts l = record {
+  within : l.number < length l.core.forms;
+  left : is_marked l.marks l.number ≡ false;
+  meets : (rule : ℕ) → CoreMeets (bodies_of l.core) (form_at l.core.forms l.number) rule → CoreMeets (bodies_of l.core) (form_at l.core.forms l.form) rule;
+}
+
+abbrev pub decreases-parts : goal.decreases-parts
+decreases-parts l = l.number

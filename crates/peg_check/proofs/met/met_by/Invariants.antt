@@ -1,0 +1,19 @@
+use Rattle.std.proofs.Common.{◌≡◌, ◌+◌, ◌*◌, ◌<◌, All, length}
+use Rattle.peg_core.specs.CoreLoops.{CoreMeetsFirst}
+use Rattle.peg_check.specs.Exact.{bodies_of}
+use Rattle.peg_check.specs.Settled.{unmarked_in}
+use Rattle.peg_check.proofs.MetLemmas.{IsMetBy}
+use Rattle.peg_check.proofs.met.met_by.Given as goal
+
+-- what the forms in the list meet first, the rule does
+abbrev pub invariant-forms : goal.invariant-forms
+invariant-forms l = record {
+  seen : length l.seen ≡ length l.core.forms;
+  pending : All (IsMetBy l.core l.rule) l.pending.items;
+  met : All (CoreMeetsFirst (bodies_of l.core) l.rule) l.met.items;
+  within : All (λ other. other < length l.core.bodies) l.met.items;
+}
+
+-- each form is taken from the list; there are more only where one more is seen
+abbrev pub decreases-forms : goal.decreases-forms
+decreases-forms l = unmarked_in l.seen * (2 + 1) + length l.pending.items

@@ -1,0 +1,14 @@
+use Rattle.std.proofs.Common.{◌≤◌, length}
+use Rattle.peg_check.specs.Owners.{AreOwnersUpTo, AreHandedDownFrom}
+use Rattle.peg_check.proofs.owners.owners_of.Given as goal
+
+-- from here on, parts have the owners of their forms
+abbrev pub invariant-loop-number : goal.invariant-loop-number
+invariant-loop-number l = record {
+  below : l.number ≤ length l.core.forms;
+  up_to : AreOwnersUpTo (length l.core.bodies) l.core l.owners.items;
+  handed_down : AreHandedDownFrom l.number l.core l.owners.items;
+}
+
+abbrev pub decreases-loop-number : goal.decreases-loop-number
+decreases-loop-number l = l.number

@@ -1,0 +1,32 @@
+use Rattle.std.proofs.Common.{◌≡◌, ◌+◌, ◌<◌, ◌++◌, ◌∷◌, [], false, List, length, get_or, sym, ap, ◌∙◌, subst, arith, length-append}
+use Rattle.peg_core.specs.CoreLoops.{CoreMeetsFirst}
+use Rattle.peg_check.specs.Exact.{bodies_of}
+use Rattle.peg_check.specs.Settled.{is_marked}
+use Rattle.peg_check.specs.Trails.{AreSteps, rule_at}
+use Rattle.peg_check.specs.declared.shortest.Step.{Step}
+use Rattle.peg_check.proofs.SettledLemmas.{fewer-unmarked}
+use Rattle.peg_check.proofs.TrailLemmas.{step-kept, AreSteps-push}
+use Rattle.peg_check.proofs.shortest.add_steps.Goals as goal
+
+pub loop-rule-preserved : goal.loop-rule-preserved
+loop-rule-preserved c =
+    let met = c.args.met.now in
+    let old = c.args.steps.now.items in
+    let steps = c.loop-rule.steps.items in
+    let before = c.args.before in
+    let rules = c.loop-rule.rules in
+    let at = c.loop-rule.rule-index in
+    let rule = get_or met at 0 in
+    let step : Step = record { rule = rule; before = before } in
+    let inside : at < length met = omega arith in
+    let there : before < length steps = omega (arith, c.requires.before, c.loop-rule.invariant.longer) in
+    let pushed : c.push.new.self.items ≡ steps ++ step ∷ [] = c.in_ok-push.ensures.items in
+    let counted : length c.push.new.self.items ≡ length steps + 1 = omega (arith, ap length pushed, length-append steps (step ∷ [])) in
+    let below : rule < length rules = omega (arith, c.requires.within at 0 inside, c.loop-rule.auto.rules) in
+    let was : is_marked rules rule ≡ false = grind arith in
+    record {
+      longer = omega (arith, counted, c.loop-rule.invariant.longer);
+      before = ap (λ (l : List Step). rule_at l before) pushed ∙ (ap (λ (s : Step). s.rule) (step-kept steps step before there) ∙ c.loop-rule.invariant.before);
+      added = λ core start same are all. subst (AreSteps core start) (sym pushed) (AreSteps-push steps step core start there (omega (arith, c.requires.within at 0 inside, same)) (subst (λ r. CoreMeetsFirst (bodies_of core) r rule) (sym c.loop-rule.invariant.before) (all at 0 inside)) (c.loop-rule.invariant.added core start same are all));
+      room = omega (arith, counted, fewer-unmarked rules rule below was, c.loop-rule.invariant.room);
+    }

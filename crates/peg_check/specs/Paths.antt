@@ -1,0 +1,13 @@
+-- Paths through rules, each of which meets the next one first.
+use Rattle.std.specs.Prelude.{◌≡◌, ℕ, ◌<◌, List, [], ◌∷◌, drop, length, slice_index}
+use Rattle.peg_core.specs.CoreForm.{CoreForm}
+use Rattle.peg_core.specs.CoreLoops.{CoreMeetInTurn}
+
+-- each rule of a path meets the next one first
+abbrev pub IsPath : List CoreForm → List ℕ → Type 0
+IsPath bodies [] = Unit {0}
+IsPath bodies (rule ∷ more) = CoreMeetInTurn bodies rule more
+
+-- a path from the place of a rule on
+abbrev pub IsFrom : (path : List ℕ) → (rule : ℕ) → List ℕ → Type 0
+IsFrom path rule rest = (at : ℕ) × (at < length path) × (slice_index path at ≡ rule) × (rest ≡ drop at path)

@@ -1,0 +1,31 @@
+-- Steps of a search from rule to rule: each but the first comes after an earlier one.
+use Rattle.std.specs.Prelude.{◌≡◌, ℕ, ◌<◌, List, length, slice_index_or}
+use Rattle.peg_core.specs.CoreLoops.{CoreMeetsFirst}
+use Rattle.peg_core.specs.Layout.{Desugared}
+use Rattle.peg_check.specs.Exact.{bodies_of}
+use Rattle.peg_check.specs.declared.shortest.Step.{Step}
+
+-- where there is no step
+abbrev pub no_step : Step
+no_step = record { rule = 0; before = 0 }
+
+-- the rule that a search came to at a step
+abbrev pub rule_at : List Step → ℕ → ℕ
+rule_at steps at = (slice_index_or steps at no_step).rule
+
+-- the step before a step
+abbrev pub before_at : List Step → ℕ → ℕ
+before_at steps at = (slice_index_or steps at no_step).before
+
+-- each step but the first comes after an earlier one
+abbrev pub ComeAfter : List Step → Type 0
+ComeAfter steps = (at : ℕ) → 0 < at → at < length steps → before_at steps at < at
+
+-- the steps of a search that starts at a rule: each but the first comes after one whose rule meets its own first
+pub record AreSteps (core : Desugared) (start : ℕ) (steps : List Step) : Type 0 where
+  pub some : 0 < length steps
+  pub starts : rule_at steps 0 ≡ start
+  pub within : (at : ℕ) → at < length steps → rule_at steps at < length core.bodies
+  pub after : ComeAfter steps
+  pub meets : (at : ℕ) → 0 < at → at < length steps
+      → CoreMeetsFirst (bodies_of core) (rule_at steps (before_at steps at)) (rule_at steps at)

@@ -1,0 +1,7 @@
+-- Visits of forms by a search down what they ask for.
+use Rattle.std.specs.Prelude.{ℕ, ◌<◌, All, List}
+use Rattle.peg_check.specs.declared.order.Visit.{Visit}
+
+-- each visit is of one of so many forms
+abbrev pub AreVisits : (count : ℕ) → List Visit → Type 0
+AreVisits count visits = All (λ visit. visit.number < count) visits

@@ -1,0 +1,90 @@
+//! Left cycles: rules each of which meets the next one first, and the last the first (Ford 2004, section 3.6).
+ghost use Rattle.std.specs.Prelude.{◌≡◌, ℕ, ◌<◌, ⊤, Contains, false, length, slice_get, Some, IfOk, MatchOption};
+ghost use Rattle.peg_core.specs.CoreForm.{Rule};
+ghost use Rattle.peg_core.specs.CoreLoops.{CoreMeets, IsCoreLeftCycle};
+ghost use Rattle.peg_core.specs.Layout.{form_at};
+ghost use Rattle.peg_check.specs.Asks.{AreAsked};
+ghost use Rattle.peg_check.specs.Exact.{bodies_of};
+ghost use Rattle.peg_check.specs.Paths.{IsFrom};
+ghost use Rattle.peg_check.specs.Settled.{is_marked, AreSettled};
+
+use crate::link::Link;
+use crate::settled::left_part;
+use peg_core::{Core, Node};
+use std::alloc::{AllocError, Global};
+
+/// A left cycle, found from a form that isn't settled by always asking for such a form, until a rule is met again. Takes
+/// time and memory linear in the number of forms.
+pub(crate) fn cycle_from(
+    alloc: Global,
+    core: &Core,
+    asks: &[Link],
+    marks: &[bool],
+    start: u32,
+) -> Result<Vec<u32>, AllocError>
+    requires asked { AreAsked core.now asks.now }
+    requires settled { AreSettled asks.now marks.now }
+    requires count { length asks.now ≡ length core.now.forms }
+    requires within { start < length core.now.forms }
+    requires left { is_marked marks.now start ≡ false }
+    ensures { IfOk result (λ path. IsCoreLeftCycle (bodies_of core.now) path.items) }
+{
+    let mut seen = vec![in alloc; false; core.rules() as usize]?;
+    let mut path = Vec::new(alloc);
+    let mut rule = met_first(core, asks, marks, start);
+    'steps: while !seen[rule as usize] {
+        seen[rule as usize] = true;
+        path.push(rule)?;
+        rule = met_first(core, asks, marks, core.body(rule));
+    }
+    from_rule(alloc, &path, rule)
+}
+
+// A rule that a form that isn't settled meets first, and whose body isn't settled either.
+fn met_first(core: &Core, asks: &[Link], marks: &[bool], form: u32) -> u32
+    requires asked { AreAsked core.now asks.now }
+    requires settled { AreSettled asks.now marks.now }
+    requires count { length asks.now ≡ length core.now.forms }
+    requires within { form < length core.now.forms }
+    requires left { is_marked marks.now form ≡ false }
+    ensures within { result < length core.now.bodies }
+    ensures met { CoreMeets (bodies_of core.now) (form_at core.now.forms form) result }
+    ensures left { (body : ℕ) → slice_get core.now.bodies result ≡ Some body → is_marked marks.now body ≡ false }
+{
+    let mut number = form;
+    'parts: loop {
+        if let Some(rule) = used_rule(core, number) {
+            return rule;
+        }
+        match left_part(asks[number as usize], marks) {
+            Some(part) => number = part,
+            None => unreachable!(),
+        }
+    }
+}
+
+/// The rule that a form is a use of, if it is one.
+pub(crate) fn used_rule(core: &Core, number: u32) -> Option<u32>
+    requires { number < length core.now.forms }
+    ensures within { MatchOption result ⊤ (λ rule. rule < length core.now.bodies) }
+    ensures used { MatchOption result ((rule : ℕ) → ¬ (form_at core.now.forms number ≡ Rule rule))
+        (λ rule. form_at core.now.forms number ≡ Rule rule) }
+{
+    match core.node(number) {
+        Node::Rule(rule) => Some(rule),
+        _ => None,
+    }
+}
+
+// A path from where a rule stands in it.
+fn from_rule(alloc: Global, path: &[u32], rule: u32) -> Result<Vec<u32>, AllocError>
+    requires { Contains path.now rule }
+    ensures { IfOk result (λ rest. IsFrom path.now rule rest.items) }
+{
+    for (at, one) in path.iter().enumerate() {
+        if *one == rule {
+            return Vec::from_slice(alloc, &path[at..]);
+        }
+    }
+    unreachable!()
+}

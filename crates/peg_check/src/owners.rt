@@ -1,0 +1,49 @@
+//! Which rule each core form belongs to.
+ghost use Rattle.std.specs.Prelude.{◌≡◌, length, IfOk};
+ghost use Rattle.peg_check.specs.Owners.{AreOwners, AreOwnersUpTo, NamesFit, handed_down};
+
+use peg_core::{Core, Node};
+use std::alloc::{AllocError, Global};
+
+/// The rule that each form belongs to: each form in a rule's body gets that rule, from the body down to its parts. The
+/// number of rules stands for none. Takes time and memory linear in the number of forms.
+pub(crate) fn owners_of(alloc: Global, core: &Core) -> Result<Vec<u32>, AllocError>
+    ensures { IfOk result (λ owners. AreOwners core.now owners.items) }
+{
+    let mut owners = owners_of_bodies(alloc, core)?;
+    let mut number = core.len();
+    while number > 0 {
+        number -= 1;
+        let owner = owners[number as usize];
+        if owner < core.rules() {
+            hand_down(core.node(number), &mut owners, owner);
+        }
+    }
+    Ok(owners)
+}
+
+// The bodies alone have owners.
+fn owners_of_bodies(alloc: Global, core: &Core) -> Result<Vec<u32>, AllocError>
+    ensures { IfOk result (λ owners. AreOwnersUpTo (length core.now.bodies) core.now owners.items) }
+{
+    let mut owners = vec![in alloc; core.rules(); core.len() as usize]?;
+    for rule in 0..core.rules() {
+        owners[core.body(rule) as usize] = rule;
+    }
+    Ok(owners)
+}
+
+// The parts of a node get its owner.
+fn hand_down(node: Node, owners: &mut [u32], owner: u32)
+    requires { NamesFit (length owners.old) node }
+    ensures { owners.new ≡ handed_down owners.old node owner }
+{
+    match node {
+        Node::Empty | Node::Test { .. } | Node::Rule(_) => {}
+        Node::Seq(first, rest) | Node::Choice(first, rest) => {
+            owners[first as usize] = owner;
+            owners[rest as usize] = owner;
+        }
+        Node::Star(part) | Node::Not(part) => owners[part as usize] = owner,
+    }
+}
