@@ -8,6 +8,7 @@ pub mod MeaningLemmas
 pub mod NameLists
 pub mod OutcomeLemmas
 pub mod RankedRules
+pub mod RankedTables
 pub mod RecordLemmas
 pub mod ResultSteps
 pub mod RoundsLemmas
