@@ -8,6 +8,8 @@ pub mod Reaches
 pub mod RuleLemmas
 pub mod Sets
 pub mod StandingLemmas
+pub mod SugarLoops
+pub mod SugarMeets
 pub mod SugarOutcomes
 pub mod SugarRecords
 pub mod SugarWellFormed

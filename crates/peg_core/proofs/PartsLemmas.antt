@@ -48,7 +48,7 @@ all-there (form ∷ forms) =
 
 module _ (rules : List grammar.Rule) where
   -- the core form of a numbered expression is among these
-  abbrev Stands : List CoreForm → Numbered → Type 0
+  abbrev pub Stands : List CoreForm → Numbered → Type 0
   Stands parts n = Contains parts (core_form rules n.terminal n.form)
 
   -- and still is among more
@@ -62,7 +62,7 @@ module _ (rules : List grammar.Rule) where
 
   mutual
     -- all subexpressions of an expression, itself first
-    stand : (e : Form) (t : ℕ) → All (Stands (core_parts rules t e)) (numbered_in t e)
+    pub stand : (e : Form) (t : ℕ) → All (Stands (core_parts rules t e)) (numbered_in t e)
     stand (Literal bytes span) t =
         All-cons (Stands (core_parts rules t (Literal bytes span))) (numbered_as t (Literal bytes span)) []
         (sequence-there (tests_of t bytes) (tests_of t bytes) (all-there (tests_of t bytes)))
@@ -159,7 +159,7 @@ subexpressions-stand rules = stand_from rules rules 0
 -- ---- the subexpressions are those that are numbered
 
 mutual
-  forms_below : (e : Form) (t : ℕ) → map (λ (n : Numbered). n.form) (numbered_below t e) ≡ below e
+  pub forms_below : (e : Form) (t : ℕ) → map (λ (n : Numbered). n.form) (numbered_below t e) ≡ below e
   forms_below (Literal bytes span) t = refl
   forms_below (Class set span) t = refl
   forms_below (Any span) t = refl

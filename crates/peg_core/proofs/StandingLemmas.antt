@@ -78,7 +78,7 @@ choices_of-stand first (next ∷ rest) =
 
 module _ (rules : List WrittenRule) where
   mutual
-    parts-stand : (terminal : ℕ) (e : Form)
+    pub parts-stand : (terminal : ℕ) (e : Form)
         → All (λ form. StandsIn form (core_form rules terminal e)) (core_parts rules terminal e)
     parts-stand terminal (written.Literal bytes span) =
         let tests = tests_of terminal bytes in

@@ -5,6 +5,7 @@ pub use Rattle.peg_grammar.specs.Examples
 pub use Rattle.peg_grammar.specs.Form
 pub use Rattle.peg_grammar.specs.Grammar
 pub use Rattle.peg_grammar.specs.GrammarRules
+pub use Rattle.peg_grammar.specs.Loops
 pub use Rattle.peg_grammar.specs.Record
 pub use Rattle.peg_grammar.specs.Rules
 pub use Rattle.peg_grammar.specs.Terminals

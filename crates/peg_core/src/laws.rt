@@ -1,15 +1,20 @@
 //! Laws of the definitions: what holds for every grammar and text. Each function does nothing; its contract is the law.
-ghost use Rattle.std.specs.Prelude.{◌≡◌, ◌↔◌, codes, All, Contains, filter, flat_map, map, ℕ, suc, List, Some};
+ghost use Rattle.std.specs.Prelude.{◌≡◌, ◌↔◌, ◌<◌, codes, All, Contains, filter, flat_map, length, map, ℕ, suc, List};
+ghost use Rattle.std.specs.Prelude.{Some};
+ghost use Rattle.peg_bytes.specs.Extent.{Extent};
 ghost use Rattle.peg_core.specs.CoreExamples.{nested_core, signs_core, all_core_can_in};
 ghost use Rattle.peg_core.specs.CoreForm.{Rule as use_of};
 ghost use Rattle.peg_core.specs.CoreForm.{CoreForm, core_bodies, core_form};
-ghost use Rattle.peg_core.specs.CoreOutcomes.{core_can_in, CoreGivesNothing, CoreGivesSomething, CoreCanFail, IsCoreWellFormedIn, IsCoreWellFormed};
+ghost use Rattle.peg_core.specs.CoreLoops.{CoreMeetsFirst, IsCoreEmptyLoop, IsCoreLeftCycle};
+ghost use Rattle.peg_core.specs.CoreOutcomes.{core_can_in, CoreGivesNothing, CoreGivesSomething, CoreCanFail};
+ghost use Rattle.peg_core.specs.CoreOutcomes.{IsCoreWellFormedIn, IsCoreWellFormed};
 ghost use Rattle.peg_core.specs.CoreParts.{all_core_parts};
 ghost use Rattle.peg_core.specs.Subexpressions.{Numbered, numbered_subexpressions, all_core_stars, is_star};
 ghost use Rattle.peg_core.specs.CoreRecord.{AreBytes, core_record_in, IsCoreRecord};
 ghost use Rattle.peg_grammar.specs.AbstractOutcomes.{CanAll, GivesNothing, GivesSomething, CanFail};
 ghost use Rattle.peg_grammar.specs.Examples.{nested, nested_record, signs, signs_can};
 ghost use Rattle.peg_grammar.specs.Form.{Form};
+ghost use Rattle.peg_grammar.specs.Loops.{MeetsFirst, IsEmptyLoop, IsLeftCycle};
 ghost use Rattle.peg_grammar.specs.Record.{Record, IsRecord};
 ghost use Rattle.peg_grammar.specs.Rules.{Rule};
 ghost use Rattle.peg_grammar.specs.WellFormed.{IsWellFormed, IsWellFormedGrammar, subexpressions};
@@ -73,6 +78,17 @@ pub fn a_grammars_core_forms_are_those_of_its_expressions()
     ensures stars { (rules : List Rule) → filter is_star (all_core_parts rules) ≡ all_core_stars rules }
     ensures well_formed { (rules : List Rule) → (IsWellFormedGrammar rules
         ↔ All (IsCoreWellFormed (core_bodies rules)) (all_core_parts rules)) }
+{}
+
+/// Rules meet first the same rules on their written expressions and on the core forms of these, so left cycles are the
+/// same; and so are a rule's empty loops, by the places of their stars and pluses.
+pub fn core_forms_have_the_same_loops()
+    ensures meets { (rules : List Rule) (first second : ℕ) → second < length rules
+        → (MeetsFirst rules first second ↔ CoreMeetsFirst (core_bodies rules) first second) }
+    ensures left_cycles { (rules : List Rule) (path : List ℕ)
+        → (IsLeftCycle rules path ↔ IsCoreLeftCycle (core_bodies rules) path) }
+    ensures empty_loops { (rules : List Rule) (rule : ℕ) (span : Extent)
+        → (IsEmptyLoop rules rule span ↔ IsCoreEmptyLoop (core_bodies rules) rule span) }
 {}
 
 /// The definitions on grammars that were worked by hand: core forms, the record of a first rule, and outcomes.

@@ -1,7 +1,10 @@
 //! The sugar taken away (Ford 2004, section 3.2): `e?` is `e / ''`, `e+` is `e e*`, `&e` is `!(!e)`, a literal is the
 //! sequence of its bytes, a class and `.` are one test of a byte.
-ghost use Rattle.std.specs.Prelude.{◌≡◌, ◌↔◌, All, Contains, filter, ◌+◌, ◌*◌, ◌≤◌, ◌<◌, true, [], ◌∷◌, length, map, IfOk};
+ghost use Rattle.std.specs.Prelude.{◌≡◌, ◌↔◌, ℕ, List, All, Contains, filter, ◌+◌, ◌*◌, ◌≤◌, ◌<◌, true, [], ◌∷◌};
+ghost use Rattle.std.specs.Prelude.{length, map, IfOk};
+ghost use Rattle.peg_bytes.specs.Extent.{Extent};
 ghost use Rattle.peg_core.specs.CoreForm.{Rule, core_bodies, core_form, number_of};
+ghost use Rattle.peg_core.specs.CoreLoops.{CoreMeetsFirst, IsCoreEmptyLoop, IsCoreLeftCycle};
 ghost use Rattle.peg_core.specs.CoreOutcomes.{IsCoreWellFormed};
 ghost use Rattle.peg_core.specs.CoreParts.{all_core_parts, are_defined};
 ghost use Rattle.peg_core.specs.Laid.{Lays, LaysForm, LaysForms};
@@ -10,6 +13,7 @@ ghost use Rattle.peg_core.specs.Subexpressions.{numbered_subexpressions, all_cor
 ghost use Rattle.peg_grammar.specs.Form.{form_weight, forms, forms_weight, names_used, names_used_by_all};
 ghost use Rattle.peg_grammar.specs.Grammar.{most_parts};
 ghost use Rattle.peg_grammar.specs.GrammarRules.{rules_in};
+ghost use Rattle.peg_grammar.specs.Loops.{MeetsFirst, IsEmptyLoop, IsLeftCycle};
 ghost use Rattle.peg_grammar.specs.Rules.{is_defined, weight_of};
 ghost use Rattle.peg_grammar.specs.Terminals.{extents_of_terminals};
 ghost use Rattle.peg_grammar.specs.WellFormed.{IsWellFormedGrammar};
@@ -41,6 +45,14 @@ pub fn desugar(alloc: Global, grammar: &Grammar) -> Result<Core, AllocError>
     ensures stars { IfOk result (λ core. filter is_star core.forms ≡ all_core_stars (rules_in grammar.now)) }
     ensures well_formed { IfOk result (λ core. IsWellFormedGrammar (rules_in grammar.now)
         ↔ All (IsCoreWellFormed (core_bodies (rules_in grammar.now))) core.forms) }
+    ensures meets { IfOk result (λ core. (first second : ℕ) → second < length core.bodies
+        → (MeetsFirst (rules_in grammar.now) first second
+        ↔ CoreMeetsFirst (map (form_at core.forms) core.bodies) first second)) }
+    ensures left_cycles { IfOk result (λ core. (path : List ℕ) → (IsLeftCycle (rules_in grammar.now) path
+        ↔ IsCoreLeftCycle (map (form_at core.forms) core.bodies) path)) }
+    ensures empty_loops { IfOk result (λ core. (rule : ℕ) (span : Extent)
+        → (IsEmptyLoop (rules_in grammar.now) rule span
+        ↔ IsCoreEmptyLoop (map (form_at core.forms) core.bodies) rule span)) }
 {
     let mut flat = Flat::new(alloc, grammar.rules());
     let mut bodies = Vec::new(alloc);

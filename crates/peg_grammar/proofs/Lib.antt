@@ -2,9 +2,13 @@ pub mod Ascending
 pub mod Derivations
 pub mod FurthestLemmas
 pub mod GrammarLemmas
+pub mod LoopFree
 pub mod LoopLemmas
+pub mod MeaningLemmas
 pub mod NameLists
 pub mod OutcomeLemmas
+pub mod RankedRules
+pub mod RankedTables
 pub mod RecordLemmas
 pub mod ResultSteps
 pub mod RoundsLemmas

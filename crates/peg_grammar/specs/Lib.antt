@@ -10,10 +10,13 @@ pub mod Found
 pub mod Furthest
 pub mod Grammar
 pub mod GrammarRules
+pub mod LoopExamples
+pub mod Loops
 pub mod Names
 pub mod Numbers
 pub mod Outcomes
 pub mod Plain
+pub mod Ranked
 pub mod Record
 pub mod Refusal
 pub mod Rules

@@ -1,16 +1,20 @@
 //! Laws of the definitions: what holds of records for every grammar and text. Each function does nothing; its contract
 //! is the law.
 ghost use Rattle.std.specs.Prelude.{◌≡◌, ◌≢◌, ◌↔◌, ℕ, suc, ◌<◌, ◌≤◌, All, List, [], ◌∷◌, codes, length, None, Some};
-ghost use Rattle.peg_grammar.specs.AbstractOutcomes.{CanAll, can_in};
+ghost use Rattle.peg_grammar.specs.AbstractOutcomes.{CanAll, Judging, can_in};
 ghost use Rattle.peg_grammar.specs.Examples.{Gives, nested, nested_record, counted, counted_record, ordered, ordered_record, repeated_prefix, repeated_prefix_record};
 ghost use Rattle.peg_grammar.specs.Examples.{all_can_in, nested_can, counted_can, itself, itself_can, signs, signs_can, star_of_star, plus_of_empty, star_of_optional};
 ghost use Rattle.peg_grammar.specs.Form.{Form};
 ghost use Rattle.peg_grammar.specs.Rules.{Rule, name_of};
+ghost use Rattle.peg_grammar.specs.LoopExamples.{only_rule, star_of_stuck_star, behind_optional, behind_empty_class};
+ghost use Rattle.peg_grammar.specs.Loops.{IsEmptyLoop, IsLeftCycle, MeetsFirst};
+ghost use Rattle.peg_grammar.specs.Ranked.{IsRanked};
 ghost use Rattle.peg_grammar.specs.Grammar.{IsGrammar, first_duplicate, first_undefined};
 ghost use Rattle.peg_grammar.specs.Furthest.{IsFurthest, furthest_of};
 ghost use Rattle.peg_grammar.specs.Record.{Matched, Record, IsRecord, Test, record_in, start_record};
 ghost use Rattle.peg_grammar.specs.Terminals.{extents_of_terminals};
 ghost use Rattle.peg_grammar.specs.WellFormed.{IsWellFormedIn, IsWellFormed, IsWellFormedGrammar};
+ghost use Rattle.peg_bytes.specs.Extent.{Extent, between};
 ghost use Rattle.peg_tree.specs.Nodes.{RulesBelow};
 ghost use Rattle.peg_tree.specs.Trees.{Trees};
 
@@ -98,4 +102,31 @@ pub fn abstract_outcomes_stay()
 /// What is well-formed in n rounds is well-formed in n + 1.
 pub fn well_formed_expressions_stay()
     ensures { (rules : List Rule) (n : ℕ) (e : Form) → IsWellFormedIn rules n e → IsWellFormedIn rules (suc n) e }
+{}
+
+/// A well-formed grammar has no empty loop and no left cycle (Ford 2004, section 3.6).
+pub fn well_formed_grammars_have_no_loops()
+    ensures empty_loops { (rules : List Rule) (rule : ℕ) (span : Extent)
+        → IsWellFormedGrammar rules → ¬ IsEmptyLoop rules rule span }
+    ensures left_cycles { (rules : List Rule) (path : List ℕ) → IsWellFormedGrammar rules → ¬ IsLeftCycle rules path }
+{}
+
+/// A grammar is well-formed where, by some table that is closed under Ford's rules of outcomes, no star's or plus's
+/// part gives 0, and each rule meets first only rules of lower rank.
+pub fn ranked_grammars_are_well_formed()
+    ensures { (rules : List Rule) (judge : Judging) (rank : ℕ → ℕ)
+        → IsGrammar rules → IsRanked rules judge rank → IsWellFormedGrammar rules }
+{}
+
+/// Empty loops and left cycles by hand: of `(''*)*` the inner star alone is an empty loop, and what follows an empty
+/// class isn't met.
+pub fn the_loops_agree_with_hand_worked_grammars()
+    ensures star_of_star { IsEmptyLoop (only_rule star_of_star) 0 (between 5 12) }
+    ensures plus_of_empty { IsEmptyLoop (only_rule plus_of_empty) 0 (between 5 10) }
+    ensures star_of_optional { IsEmptyLoop (only_rule star_of_optional) 0 (between 5 13) }
+    ensures inner { IsEmptyLoop star_of_stuck_star 0 (between 6 9) }
+    ensures outer { ¬ IsEmptyLoop star_of_stuck_star 0 (between 5 11) }
+    ensures behind_optional { IsLeftCycle behind_optional (0 ∷ 1 ∷ []) }
+    ensures behind_empty_class { ¬ MeetsFirst behind_empty_class 0 0 }
+    ensures itself { IsLeftCycle itself (0 ∷ []) }
 {}

@@ -1,5 +1,6 @@
 //! Tests of the evaluator on small grammars. Every value that is wanted was worked out by hand from the recognition
 //! table, the numbers of the terminals and the furthest failure.
+use self::Step::{And, Any, Choice, Class, Literal, Not, Optional, Plus, Seq, Star, Use};
 use crate::{Definition, Expr, Grammar, PlainFault, plain_match};
 use peg_bytes::{ByteSet, Span};
 use peg_tree::{Parsed, Tree};
@@ -20,8 +21,54 @@ struct Case {
     nodes: &'static [Node],
 }
 
+// An expression is written as steps, a form behind its parts. A sequence or choice says how many parts it has.
+#[derive(Clone, Copy)]
+enum Step {
+    Literal(&'static [u8]),
+    Class(ByteSet),
+    Any,
+    Use(&'static str),
+    Seq(usize),
+    Choice(usize),
+    Optional,
+    Star,
+    Plus,
+    And,
+    Not,
+}
+
+fn matched(
+    text: &'static [u8],
+    end: u32,
+    far: u32,
+    expected: &'static [u32],
+    nodes: &'static [Node],
+) -> Case {
+    Case {
+        text,
+        end: Some(end),
+        far,
+        expected,
+        nodes,
+    }
+}
+
+fn failed(text: &'static [u8], far: u32, expected: &'static [u32]) -> Case {
+    Case {
+        text,
+        end: None,
+        far,
+        expected,
+        nodes: &[],
+    }
+}
+
 fn nowhere() -> Span {
     Span::new(0, 0)
+}
+
+fn boxed(alloc: Global, part: Expr) -> Result<Box<Expr>, AllocError> {
+    Box::new(alloc, part).map_err(AllocError::from)
 }
 
 fn literal(alloc: Global, bytes: &[u8]) -> Result<Expr, AllocError> {
@@ -32,34 +79,12 @@ fn literal(alloc: Global, bytes: &[u8]) -> Result<Expr, AllocError> {
     })
 }
 
-fn class(set: ByteSet) -> Expr {
-    Expr::Class {
-        set,
-        span: nowhere(),
-    }
-}
-
-fn any() -> Expr {
-    Expr::Any { span: nowhere() }
-}
-
 fn use_of(alloc: Global, name: &str) -> Result<Expr, AllocError> {
     let name = String::from_str(alloc, name)?;
     Ok(Expr::Name {
         name,
         span: nowhere(),
     })
-}
-
-fn boxed(alloc: Global, part: Expr) -> Result<Box<Expr>, AllocError> {
-    Box::new(alloc, part).map_err(AllocError::from)
-}
-
-fn seq(items: Vec<Expr>) -> Expr {
-    Expr::Seq {
-        items,
-        span: nowhere(),
-    }
 }
 
 fn choice(alloc: Global, first: Expr, rest: Vec<Expr>) -> Result<Expr, AllocError> {
@@ -71,32 +96,64 @@ fn choice(alloc: Global, first: Expr, rest: Vec<Expr>) -> Result<Expr, AllocErro
     })
 }
 
-fn either(alloc: Global, first: Expr, second: Expr) -> Result<Expr, AllocError> {
-    choice(alloc, first, vec![in alloc; second]?)
+// The last expression that was built, taken away; a dot where there is none.
+fn last(built: &mut Vec<Expr>) -> Expr {
+    match built.pop() {
+        Some(part) => part,
+        None => Expr::Any { span: nowhere() },
+    }
 }
 
-fn star(alloc: Global, part: Expr) -> Result<Expr, AllocError> {
-    let part = boxed(alloc, part)?;
-    Ok(Expr::Star {
-        part,
-        span: nowhere(),
+// The last so many expressions, in order.
+fn last_of(alloc: Global, built: &mut Vec<Expr>, count: usize) -> Result<Vec<Expr>, Fail> {
+    let mut items = Vec::new(alloc);
+    for _ in 0..count {
+        items.push(last(built))?;
+    }
+    items.reverse();
+    Ok(items)
+}
+
+// A form of one part over the last expression.
+fn signed(alloc: Global, sign: Step, built: &mut Vec<Expr>) -> Result<Expr, Fail> {
+    let part = boxed(alloc, last(built))?;
+    let span = nowhere();
+    Ok(match sign {
+        Optional => Expr::Optional { part, span },
+        Star => Expr::Star { part, span },
+        Plus => Expr::Plus { part, span },
+        And => Expr::And { part, span },
+        _ => Expr::Not { part, span },
     })
 }
 
-fn not(alloc: Global, part: Expr) -> Result<Expr, AllocError> {
-    let part = boxed(alloc, part)?;
-    Ok(Expr::Not {
-        part,
-        span: nowhere(),
-    })
+// The expression of one step.
+fn next(alloc: Global, step: Step, built: &mut Vec<Expr>) -> Result<Expr, Fail> {
+    let span = nowhere();
+    match step {
+        Literal(bytes) => Ok(literal(alloc, bytes)?),
+        Class(set) => Ok(Expr::Class { set, span }),
+        Any => Ok(Expr::Any { span }),
+        Use(name) => Ok(use_of(alloc, name)?),
+        Seq(count) => {
+            let items = last_of(alloc, built, count)?;
+            Ok(Expr::Seq { items, span })
+        }
+        Choice(count) => {
+            let rest = last_of(alloc, built, count.saturating_sub(1))?;
+            Ok(choice(alloc, last(built), rest)?)
+        }
+        _ => signed(alloc, step, built),
+    }
 }
 
-fn and(alloc: Global, part: Expr) -> Result<Expr, AllocError> {
-    let part = boxed(alloc, part)?;
-    Ok(Expr::And {
-        part,
-        span: nowhere(),
-    })
+fn expression(alloc: Global, steps: &[Step]) -> Result<Expr, Fail> {
+    let mut built = Vec::new(alloc);
+    for step in steps {
+        let form = next(alloc, *step, &mut built)?;
+        built.push(form)?;
+    }
+    Ok(last(&mut built))
 }
 
 fn rule(alloc: Global, name: &str, body: Expr) -> Result<Definition, AllocError> {
@@ -108,10 +165,14 @@ fn rule(alloc: Global, name: &str, body: Expr) -> Result<Definition, AllocError>
     })
 }
 
-// The grammar whose one rule is S.
-fn only(alloc: Global, body: Expr) -> Result<Grammar, Fail> {
-    let start = rule(alloc, "S", body)?;
-    Ok(Grammar::new(alloc, vec![in alloc; start]?)?)
+// The grammar of these rules.
+fn grammar_of(alloc: Global, rules: &[(&str, &[Step])]) -> Result<Grammar, Fail> {
+    let mut definitions = Vec::new(alloc);
+    for (name, steps) in rules {
+        let body = expression(alloc, steps)?;
+        definitions.push(rule(alloc, name, body)?)?;
+    }
+    Ok(Grammar::new(alloc, definitions)?)
 }
 
 fn nodes_of(alloc: Global, tree: &Tree) -> Result<Vec<Node>, AllocError> {
@@ -128,84 +189,336 @@ fn nodes_of(alloc: Global, tree: &Tree) -> Result<Vec<Node>, AllocError> {
     Ok(nodes)
 }
 
-// Parses each text from the first rule, in ample depth.
-fn assert_cases(
-    rt: &impl Abort,
-    alloc: Global,
-    grammar: &Grammar,
-    cases: &[Case],
-) -> Result<(), Fail> {
+// Parses a text from the first rule, in ample depth.
+fn assert_case(rt: &impl Abort, alloc: Global, grammar: &Grammar, case: Case) -> Result<(), Fail> {
     assert!(rt; grammar.rules() > 0);
-    for case in cases {
-        let text = case.text;
-        let outcome = plain_match(alloc, grammar, text, 0, 1000)?;
-        assert_eq!(rt; outcome.far, case.far, "on {text:?}");
-        assert_eq!(rt; outcome.expected.as_slice(), case.expected, "on {text:?}");
-        match &outcome.result {
-            Parsed::Failed => assert_eq!(rt; None, case.end, "on {text:?}"),
-            Parsed::Matched { end, tree } => {
-                assert_eq!(rt; Some(*end), case.end, "on {text:?}");
-                let nodes = nodes_of(alloc, tree)?;
-                assert_eq!(rt; nodes.as_slice(), case.nodes, "on {text:?}");
-            }
+    let text = case.text;
+    let outcome = plain_match(alloc, grammar, text, 0, 1000)?;
+    assert_eq!(rt; outcome.far, case.far, "on {text:?}");
+    assert_eq!(rt; outcome.expected.as_slice(), case.expected, "on {text:?}");
+    match &outcome.result {
+        Parsed::Failed => assert_eq!(rt; None, case.end, "on {text:?}"),
+        Parsed::Matched { end, tree } => {
+            assert_eq!(rt; Some(*end), case.end, "on {text:?}");
+            let nodes = nodes_of(alloc, tree)?;
+            assert_eq!(rt; nodes.as_slice(), case.nodes, "on {text:?}");
         }
     }
     Ok(())
 }
 
-// S <- 'a' S / 'b'
-fn nested(alloc: Global) -> Result<Grammar, Fail> {
-    let first = seq(vec![in alloc; literal(alloc, b"a")?, use_of(alloc, "S")?]?);
-    only(alloc, either(alloc, first, literal(alloc, b"b")?)?)
+// Parses each text by the grammar of the rules.
+fn assert_cases(
+    rt: &impl Abort,
+    alloc: Global,
+    rules: &[(&str, &[Step])],
+    cases: &[Case],
+) -> Result<(), Fail> {
+    let grammar = grammar_of(alloc, rules)?;
+    for case in cases {
+        assert_case(rt, alloc, &grammar, *case)?;
+    }
+    Ok(())
 }
 
+// S <- 'a' S / 'b'
 #[test]
 fn nested_rules_match(rt: HostRuntime) -> Result<(), Fail> {
-    let alloc = rt.alloc();
-    let nodes: &[Node] = &[(0, 0, 3, 1), (0, 1, 3, 1), (0, 2, 3, 0)];
+    let rules: &[(&str, &[Step])] = &[(
+        "S",
+        &[Literal(b"a"), Use("S"), Seq(2), Literal(b"b"), Choice(2)],
+    )];
     let cases = [
-        Case {
-            text: b"aab",
-            end: Some(3),
-            far: 2,
-            expected: &[0],
-            nodes,
-        },
-        Case {
-            text: b"aabb",
-            end: Some(3),
-            far: 2,
-            expected: &[0],
-            nodes,
-        },
-        Case {
-            text: b"aa",
-            end: None,
-            far: 2,
-            expected: &[0, 1],
-            nodes: &[],
-        },
+        matched(
+            b"aab",
+            3,
+            2,
+            &[0],
+            &[(0, 0, 3, 1), (0, 1, 3, 1), (0, 2, 3, 0)],
+        ),
+        matched(
+            b"aabb",
+            3,
+            2,
+            &[0],
+            &[(0, 0, 3, 1), (0, 1, 3, 1), (0, 2, 3, 0)],
+        ),
+        failed(b"aa", 2, &[0, 1]),
     ];
-    assert_cases(&rt, alloc, &nested(alloc)?, &cases)
+    assert_cases(&rt, rt.alloc(), rules, &cases)
 }
 
+// S <- 'a' S / 'b'
 #[test]
 fn an_empty_text_fails_at_its_start(rt: HostRuntime) -> Result<(), Fail> {
-    let alloc = rt.alloc();
-    let cases = [Case {
-        text: b"",
-        end: None,
-        far: 0,
-        expected: &[0, 1],
-        nodes: &[],
-    }];
-    assert_cases(&rt, alloc, &nested(alloc)?, &cases)
+    let rules: &[(&str, &[Step])] = &[(
+        "S",
+        &[Literal(b"a"), Use("S"), Seq(2), Literal(b"b"), Choice(2)],
+    )];
+    let cases = [failed(b"", 0, &[0, 1])];
+    assert_cases(&rt, rt.alloc(), rules, &cases)
 }
 
+// S <- 'a'* 'b'
+#[test]
+fn a_star_stops_where_its_part_fails(rt: HostRuntime) -> Result<(), Fail> {
+    let rules: &[(&str, &[Step])] = &[("S", &[Literal(b"a"), Star, Literal(b"b"), Seq(2)])];
+    let cases = [
+        failed(b"aac", 2, &[0, 1]),
+        matched(b"aab", 3, 2, &[0], &[(0, 0, 3, 0)]),
+    ];
+    assert_cases(&rt, rt.alloc(), rules, &cases)
+}
+
+// S <- &'a' . !.
+#[test]
+fn predicates_consume_nothing(rt: HostRuntime) -> Result<(), Fail> {
+    let rules: &[(&str, &[Step])] = &[("S", &[Literal(b"a"), And, Any, Any, Not, Seq(3)])];
+    let cases = [
+        matched(b"a", 1, 1, &[2], &[(0, 0, 1, 0)]),
+        failed(b"ab", 0, &[]),
+    ];
+    assert_cases(&rt, rt.alloc(), rules, &cases)
+}
+
+// S <- !!'a'* and S <- &!'a'*
+#[test]
+fn failed_tests_below_predicates_count(rt: HostRuntime) -> Result<(), Fail> {
+    let rules: &[(&str, &[Step])] = &[("S", &[Literal(b"a"), Star, Not, Not])];
+    let cases = [matched(b"aa", 0, 2, &[0], &[(0, 0, 0, 0)])];
+    assert_cases(&rt, rt.alloc(), rules, &cases)?;
+    let rules: &[(&str, &[Step])] = &[("S", &[Literal(b"a"), Star, Not, And])];
+    let cases = [failed(b"aa", 2, &[0])];
+    assert_cases(&rt, rt.alloc(), rules, &cases)
+}
+
+// S <- [a-c]+ 'x'?
+#[test]
+fn a_plus_has_its_parts_terminals_once(rt: HostRuntime) -> Result<(), Fail> {
+    let rules: &[(&str, &[Step])] = &[(
+        "S",
+        &[
+            Class(ByteSet::range(b'a', b'c')),
+            Plus,
+            Literal(b"x"),
+            Optional,
+            Seq(2),
+        ],
+    )];
+    let cases = [
+        matched(b"abcd", 3, 3, &[0, 1], &[(0, 0, 3, 0)]),
+        failed(b"d", 0, &[0]),
+    ];
+    assert_cases(&rt, rt.alloc(), rules, &cases)
+}
+
+// S <- '' / [] and S <- [] / ''
+#[test]
+fn an_empty_literal_matches_and_an_empty_class_fails(rt: HostRuntime) -> Result<(), Fail> {
+    let rules: &[(&str, &[Step])] = &[("S", &[Literal(b""), Class(ByteSet::empty()), Choice(2)])];
+    let cases = [
+        matched(b"a", 0, 0, &[], &[(0, 0, 0, 0)]),
+        matched(b"", 0, 0, &[], &[(0, 0, 0, 0)]),
+    ];
+    assert_cases(&rt, rt.alloc(), rules, &cases)?;
+    let rules: &[(&str, &[Step])] = &[("S", &[Class(ByteSet::empty()), Literal(b""), Choice(2)])];
+    let cases = [matched(b"a", 0, 0, &[0], &[(0, 0, 0, 0)])];
+    assert_cases(&rt, rt.alloc(), rules, &cases)
+}
+
+// S <- A 'x' / A 'y', A <- 'a'
+#[test]
+fn abandoned_branches_leave_no_node(rt: HostRuntime) -> Result<(), Fail> {
+    let rules: &[(&str, &[Step])] = &[
+        (
+            "S",
+            &[
+                Use("A"),
+                Literal(b"x"),
+                Seq(2),
+                Use("A"),
+                Literal(b"y"),
+                Seq(2),
+                Choice(2),
+            ],
+        ),
+        ("A", &[Literal(b"a")]),
+    ];
+    let cases = [
+        matched(b"ay", 2, 1, &[0], &[(0, 0, 2, 1), (1, 0, 1, 0)]),
+        failed(b"az", 1, &[0, 1]),
+        failed(b"y", 0, &[2]),
+    ];
+    assert_cases(&rt, rt.alloc(), rules, &cases)
+}
+
+// D <- &(A !'b') 'a'* B !., A <- 'a' A 'b' / '', B <- 'b' B 'c' / ''
+#[test]
+fn as_many_of_each_of_three_letters_are_matched(rt: HostRuntime) -> Result<(), Fail> {
+    let rules: &[(&str, &[Step])] = &[
+        (
+            "D",
+            &[
+                Use("A"),
+                Literal(b"b"),
+                Not,
+                Seq(2),
+                And,
+                Literal(b"a"),
+                Star,
+                Use("B"),
+                Any,
+                Not,
+                Seq(4),
+            ],
+        ),
+        (
+            "A",
+            &[
+                Literal(b"a"),
+                Use("A"),
+                Literal(b"b"),
+                Seq(3),
+                Literal(b""),
+                Choice(2),
+            ],
+        ),
+        (
+            "B",
+            &[
+                Literal(b"b"),
+                Use("B"),
+                Literal(b"c"),
+                Seq(3),
+                Literal(b""),
+                Choice(2),
+            ],
+        ),
+    ];
+    let cases = [
+        matched(
+            b"aabbcc",
+            6,
+            6,
+            &[2],
+            &[(0, 0, 6, 1), (2, 2, 6, 1), (2, 3, 5, 1), (2, 4, 4, 0)],
+        ),
+        failed(b"aabbc", 5, &[7]),
+    ];
+    assert_cases(&rt, rt.alloc(), rules, &cases)
+}
+
+// S <- 'a' / 'ab'
+#[test]
+fn the_first_alternative_that_matches_is_taken(rt: HostRuntime) -> Result<(), Fail> {
+    let rules: &[(&str, &[Step])] = &[("S", &[Literal(b"a"), Literal(b"ab"), Choice(2)])];
+    let cases = [matched(b"ab", 1, 0, &[], &[(0, 0, 1, 0)])];
+    assert_cases(&rt, rt.alloc(), rules, &cases)
+}
+
+// S <-
+#[test]
+fn an_empty_sequence_matches_nothing(rt: HostRuntime) -> Result<(), Fail> {
+    let rules: &[(&str, &[Step])] = &[("S", &[Seq(0)])];
+    let cases = [matched(b"zz", 0, 0, &[], &[(0, 0, 0, 0)])];
+    assert_cases(&rt, rt.alloc(), rules, &cases)
+}
+
+// S <- 'a' / and S <- / 'a'
+#[test]
+fn an_empty_alternative_matches_where_it_is_reached(rt: HostRuntime) -> Result<(), Fail> {
+    let rules: &[(&str, &[Step])] = &[("S", &[Literal(b"a"), Seq(0), Choice(2)])];
+    let cases = [
+        matched(b"a", 1, 0, &[], &[(0, 0, 1, 0)]),
+        matched(b"b", 0, 0, &[0], &[(0, 0, 0, 0)]),
+    ];
+    assert_cases(&rt, rt.alloc(), rules, &cases)?;
+    let rules: &[(&str, &[Step])] = &[("S", &[Seq(0), Literal(b"a"), Choice(2)])];
+    let cases = [matched(b"a", 0, 0, &[], &[(0, 0, 0, 0)])];
+    assert_cases(&rt, rt.alloc(), rules, &cases)
+}
+
+// S <- a literal of the bytes 31 and 55
+#[test]
+fn a_literal_of_two_bytes_takes_both(rt: HostRuntime) -> Result<(), Fail> {
+    let rules: &[(&str, &[Step])] = &[("S", &[Literal(&[31, 55])])];
+    let cases = [
+        matched(&[31, 55], 2, 0, &[], &[(0, 0, 2, 0)]),
+        failed(&[31, 56], 1, &[0]),
+    ];
+    assert_cases(&rt, rt.alloc(), rules, &cases)
+}
+
+// S <- !''
+#[test]
+fn a_predicate_against_the_empty_literal_always_fails(rt: HostRuntime) -> Result<(), Fail> {
+    let rules: &[(&str, &[Step])] = &[("S", &[Literal(b""), Not])];
+    let cases = [failed(b"q", 0, &[])];
+    assert_cases(&rt, rt.alloc(), rules, &cases)
+}
+
+// A <- '(' A ')' 'x' / '(' A ')' 'y' / 'a'
+#[test]
+fn a_rule_is_tried_again_in_the_next_alternative(rt: HostRuntime) -> Result<(), Fail> {
+    let rules: &[(&str, &[Step])] = &[(
+        "A",
+        &[
+            Literal(b"("),
+            Use("A"),
+            Literal(b")"),
+            Literal(b"x"),
+            Seq(4),
+            Literal(b"("),
+            Use("A"),
+            Literal(b")"),
+            Literal(b"y"),
+            Seq(4),
+            Literal(b"a"),
+            Choice(3),
+        ],
+    )];
+    let cases = [matched(b"(a)y", 4, 3, &[2], &[(0, 0, 4, 1), (0, 1, 2, 0)])];
+    assert_cases(&rt, rt.alloc(), rules, &cases)
+}
+
+// S <- [z-a] / [] / [ then byte 200 then ]
+#[test]
+fn a_reversed_range_and_an_empty_class_hold_no_byte(rt: HostRuntime) -> Result<(), Fail> {
+    let rules: &[(&str, &[Step])] = &[(
+        "S",
+        &[
+            Class(ByteSet::range(b'z', b'a')),
+            Class(ByteSet::empty()),
+            Class(ByteSet::single(200)),
+            Choice(3),
+        ],
+    )];
+    let cases = [
+        matched(&[200], 1, 0, &[0, 1], &[(0, 0, 1, 0)]),
+        failed(b"z", 0, &[0, 1, 2]),
+    ];
+    assert_cases(&rt, rt.alloc(), rules, &cases)
+}
+
+// S <- C / B / C / A, A <- 'a', B <- 'b', C <- 'c'
+#[test]
+fn failed_terminals_are_told_once_and_in_written_order(rt: HostRuntime) -> Result<(), Fail> {
+    let rules: &[(&str, &[Step])] = &[
+        ("S", &[Use("C"), Use("B"), Use("C"), Use("A"), Choice(4)]),
+        ("A", &[Literal(b"a")]),
+        ("B", &[Literal(b"b")]),
+        ("C", &[Literal(b"c")]),
+    ];
+    let cases = [failed(b"d", 0, &[0, 1, 2])];
+    assert_cases(&rt, rt.alloc(), rules, &cases)
+}
+
+// S <- 'a' S / 'b'
 #[test]
 fn depth_is_used_below_what_the_cases_need(rt: HostRuntime) -> Result<(), Fail> {
     let alloc = rt.alloc();
-    let grammar = nested(alloc)?;
+    let steps: &[Step] = &[Literal(b"a"), Use("S"), Seq(2), Literal(b"b"), Choice(2)];
+    let grammar = grammar_of(alloc, &[("S", steps)])?;
     assert!(rt; grammar.rules() == 1);
     for depth in [0, 9] {
         let outcome = plain_match(alloc, &grammar, b"aab", 0, depth);
@@ -219,434 +532,31 @@ fn depth_is_used_below_what_the_cases_need(rt: HostRuntime) -> Result<(), Fail> 
     Ok(())
 }
 
-// S <- 'a'* 'b'
-#[test]
-fn a_star_stops_where_its_part_fails(rt: HostRuntime) -> Result<(), Fail> {
-    let alloc = rt.alloc();
-    let rounds = star(alloc, literal(alloc, b"a")?)?;
-    let grammar = only(alloc, seq(vec![in alloc; rounds, literal(alloc, b"b")?]?))?;
-    let cases = [
-        Case {
-            text: b"aac",
-            end: None,
-            far: 2,
-            expected: &[0, 1],
-            nodes: &[],
-        },
-        Case {
-            text: b"aab",
-            end: Some(3),
-            far: 2,
-            expected: &[0],
-            nodes: &[(0, 0, 3, 0)],
-        },
-    ];
-    assert_cases(&rt, alloc, &grammar, &cases)
+// T / T
+fn twice(alloc: Global) -> Result<Expr, Fail> {
+    expression(alloc, &[Use("T"), Use("T"), Choice(2)])
 }
 
-// S <- &'a' . !.
-#[test]
-fn predicates_consume_nothing(rt: HostRuntime) -> Result<(), Fail> {
-    let alloc = rt.alloc();
-    let first = and(alloc, literal(alloc, b"a")?)?;
-    let grammar = only(
-        alloc,
-        seq(vec![in alloc; first, any(), not(alloc, any())?]?),
-    )?;
-    let cases = [
-        Case {
-            text: b"a",
-            end: Some(1),
-            far: 1,
-            expected: &[2],
-            nodes: &[(0, 0, 1, 0)],
-        },
-        Case {
-            text: b"ab",
-            end: None,
-            far: 0,
-            expected: &[],
-            nodes: &[],
-        },
-    ];
-    assert_cases(&rt, alloc, &grammar, &cases)
-}
-
-// S <- !!'a'* and S <- &!'a'*
-#[test]
-fn failed_tests_below_predicates_count(rt: HostRuntime) -> Result<(), Fail> {
-    let alloc = rt.alloc();
-    let rounds = star(alloc, literal(alloc, b"a")?)?;
-    let grammar = only(alloc, not(alloc, not(alloc, rounds)?)?)?;
-    let cases = [Case {
-        text: b"aa",
-        end: Some(0),
-        far: 2,
-        expected: &[0],
-        nodes: &[(0, 0, 0, 0)],
-    }];
-    assert_cases(&rt, alloc, &grammar, &cases)?;
-    let rounds = star(alloc, literal(alloc, b"a")?)?;
-    let grammar = only(alloc, and(alloc, not(alloc, rounds)?)?)?;
-    let cases = [Case {
-        text: b"aa",
-        end: None,
-        far: 2,
-        expected: &[0],
-        nodes: &[],
-    }];
-    assert_cases(&rt, alloc, &grammar, &cases)
-}
-
-// S <- [a-c]+ 'x'?
-#[test]
-fn a_plus_has_its_parts_terminals_once(rt: HostRuntime) -> Result<(), Fail> {
-    let alloc = rt.alloc();
-    let part = boxed(alloc, class(ByteSet::range(b'a', b'c')))?;
-    let plus = Expr::Plus {
-        part,
-        span: nowhere(),
-    };
-    let part = boxed(alloc, literal(alloc, b"x")?)?;
-    let optional = Expr::Optional {
-        part,
-        span: nowhere(),
-    };
-    let grammar = only(alloc, seq(vec![in alloc; plus, optional]?))?;
-    let cases = [
-        Case {
-            text: b"abcd",
-            end: Some(3),
-            far: 3,
-            expected: &[0, 1],
-            nodes: &[(0, 0, 3, 0)],
-        },
-        Case {
-            text: b"d",
-            end: None,
-            far: 0,
-            expected: &[0],
-            nodes: &[],
-        },
-    ];
-    assert_cases(&rt, alloc, &grammar, &cases)
-}
-
-// S <- '' / [] and S <- [] / ''
-#[test]
-fn an_empty_literal_matches_and_an_empty_class_fails(rt: HostRuntime) -> Result<(), Fail> {
-    let alloc = rt.alloc();
-    let nodes: &[Node] = &[(0, 0, 0, 0)];
-    let grammar = only(
-        alloc,
-        either(alloc, literal(alloc, b"")?, class(ByteSet::empty()))?,
-    )?;
-    let cases = [
-        Case {
-            text: b"a",
-            end: Some(0),
-            far: 0,
-            expected: &[],
-            nodes,
-        },
-        Case {
-            text: b"",
-            end: Some(0),
-            far: 0,
-            expected: &[],
-            nodes,
-        },
-    ];
-    assert_cases(&rt, alloc, &grammar, &cases)?;
-    let grammar = only(
-        alloc,
-        either(alloc, class(ByteSet::empty()), literal(alloc, b"")?)?,
-    )?;
-    let cases = [Case {
-        text: b"a",
-        end: Some(0),
-        far: 0,
-        expected: &[0],
-        nodes,
-    }];
-    assert_cases(&rt, alloc, &grammar, &cases)
-}
-
-// S <- A 'x' / A 'y', A <- 'a'
-#[test]
-fn abandoned_branches_leave_no_node(rt: HostRuntime) -> Result<(), Fail> {
-    let alloc = rt.alloc();
-    let first = seq(vec![in alloc; use_of(alloc, "A")?, literal(alloc, b"x")?]?);
-    let second = seq(vec![in alloc; use_of(alloc, "A")?, literal(alloc, b"y")?]?);
-    let start = rule(alloc, "S", either(alloc, first, second)?)?;
-    let letter = rule(alloc, "A", literal(alloc, b"a")?)?;
-    let grammar = Grammar::new(alloc, vec![in alloc; start, letter]?)?;
-    let nodes: &[Node] = &[(0, 0, 2, 1), (1, 0, 1, 0)];
-    let cases = [
-        Case {
-            text: b"ay",
-            end: Some(2),
-            far: 1,
-            expected: &[0],
-            nodes,
-        },
-        Case {
-            text: b"az",
-            end: None,
-            far: 1,
-            expected: &[0, 1],
-            nodes: &[],
-        },
-        Case {
-            text: b"y",
-            end: None,
-            far: 0,
-            expected: &[2],
-            nodes: &[],
-        },
-    ];
-    assert_cases(&rt, alloc, &grammar, &cases)
-}
-
-// D <- &(A !'b') 'a'* B !., A <- 'a' A 'b' / '', B <- 'b' B 'c' / ''
-fn equal_counts(alloc: Global) -> Result<Grammar, Fail> {
-    let no_more = not(alloc, literal(alloc, b"b")?)?;
-    let first = and(alloc, seq(vec![in alloc; use_of(alloc, "A")?, no_more]?))?;
-    let letters = star(alloc, literal(alloc, b"a")?)?;
-    let end = not(alloc, any())?;
-    let body = seq(vec![in alloc; first, letters, use_of(alloc, "B")?, end]?);
-    let start = rule(alloc, "D", body)?;
-    let pair = seq(vec![in alloc;
-        literal(alloc, b"a")?,
-        use_of(alloc, "A")?,
-        literal(alloc, b"b")?,
-    ]?);
-    let front = rule(alloc, "A", either(alloc, pair, literal(alloc, b"")?)?)?;
-    let pair = seq(vec![in alloc;
-        literal(alloc, b"b")?,
-        use_of(alloc, "B")?,
-        literal(alloc, b"c")?,
-    ]?);
-    let back = rule(alloc, "B", either(alloc, pair, literal(alloc, b"")?)?)?;
-    Ok(Grammar::new(alloc, vec![in alloc; start, front, back]?)?)
-}
-
-#[test]
-fn as_many_of_each_of_three_letters_are_matched(rt: HostRuntime) -> Result<(), Fail> {
-    let alloc = rt.alloc();
-    let nodes: &[Node] = &[(0, 0, 6, 1), (2, 2, 6, 1), (2, 3, 5, 1), (2, 4, 4, 0)];
-    let cases = [
-        Case {
-            text: b"aabbcc",
-            end: Some(6),
-            far: 6,
-            expected: &[2],
-            nodes,
-        },
-        Case {
-            text: b"aabbc",
-            end: None,
-            far: 5,
-            expected: &[7],
-            nodes: &[],
-        },
-    ];
-    assert_cases(&rt, alloc, &equal_counts(alloc)?, &cases)
-}
-
-// S <- 'a' / 'ab'
-#[test]
-fn the_first_alternative_that_matches_is_taken(rt: HostRuntime) -> Result<(), Fail> {
-    let alloc = rt.alloc();
-    let body = either(alloc, literal(alloc, b"a")?, literal(alloc, b"ab")?)?;
-    let cases = [Case {
-        text: b"ab",
-        end: Some(1),
-        far: 0,
-        expected: &[],
-        nodes: &[(0, 0, 1, 0)],
-    }];
-    assert_cases(&rt, alloc, &only(alloc, body)?, &cases)
-}
-
-// S <-
-#[test]
-fn an_empty_sequence_matches_nothing(rt: HostRuntime) -> Result<(), Fail> {
-    let alloc = rt.alloc();
-    let grammar = only(alloc, seq(Vec::new(alloc)))?;
-    let cases = [Case {
-        text: b"zz",
-        end: Some(0),
-        far: 0,
-        expected: &[],
-        nodes: &[(0, 0, 0, 0)],
-    }];
-    assert_cases(&rt, alloc, &grammar, &cases)
-}
-
-// S <- 'a' / and S <- / 'a'
-#[test]
-fn an_empty_alternative_matches_where_it_is_reached(rt: HostRuntime) -> Result<(), Fail> {
-    let alloc = rt.alloc();
-    let last = either(alloc, literal(alloc, b"a")?, seq(Vec::new(alloc)))?;
-    let cases = [
-        Case {
-            text: b"a",
-            end: Some(1),
-            far: 0,
-            expected: &[],
-            nodes: &[(0, 0, 1, 0)],
-        },
-        Case {
-            text: b"b",
-            end: Some(0),
-            far: 0,
-            expected: &[0],
-            nodes: &[(0, 0, 0, 0)],
-        },
-    ];
-    assert_cases(&rt, alloc, &only(alloc, last)?, &cases)?;
-    let first = either(alloc, seq(Vec::new(alloc)), literal(alloc, b"a")?)?;
-    let cases = [Case {
-        text: b"a",
-        end: Some(0),
-        far: 0,
-        expected: &[],
-        nodes: &[(0, 0, 0, 0)],
-    }];
-    assert_cases(&rt, alloc, &only(alloc, first)?, &cases)
-}
-
-// S <- a literal of the bytes 31 and 55
-#[test]
-fn a_literal_of_two_bytes_takes_both(rt: HostRuntime) -> Result<(), Fail> {
-    let alloc = rt.alloc();
-    let grammar = only(alloc, literal(alloc, &[31, 55])?)?;
-    let cases = [
-        Case {
-            text: &[31, 55],
-            end: Some(2),
-            far: 0,
-            expected: &[],
-            nodes: &[(0, 0, 2, 0)],
-        },
-        Case {
-            text: &[31, 56],
-            end: None,
-            far: 1,
-            expected: &[0],
-            nodes: &[],
-        },
-    ];
-    assert_cases(&rt, alloc, &grammar, &cases)
-}
-
-// S <- !''
-#[test]
-fn a_predicate_against_the_empty_literal_always_fails(rt: HostRuntime) -> Result<(), Fail> {
-    let alloc = rt.alloc();
-    let grammar = only(alloc, not(alloc, literal(alloc, b"")?)?)?;
-    let cases = [Case {
-        text: b"q",
-        end: None,
-        far: 0,
-        expected: &[],
-        nodes: &[],
-    }];
-    assert_cases(&rt, alloc, &grammar, &cases)
-}
-
-// A <- '(' A ')' 'x' / '(' A ')' 'y' / 'a'
-#[test]
-fn a_rule_is_tried_again_in_the_next_alternative(rt: HostRuntime) -> Result<(), Fail> {
-    let alloc = rt.alloc();
-    let first = seq(vec![in alloc;
-        literal(alloc, b"(")?,
-        use_of(alloc, "A")?,
-        literal(alloc, b")")?,
-        literal(alloc, b"x")?,
-    ]?);
-    let second = seq(vec![in alloc;
-        literal(alloc, b"(")?,
-        use_of(alloc, "A")?,
-        literal(alloc, b")")?,
-        literal(alloc, b"y")?,
-    ]?);
-    let rest = vec![in alloc; second, literal(alloc, b"a")?]?;
-    let start = rule(alloc, "A", choice(alloc, first, rest)?)?;
-    let grammar = Grammar::new(alloc, vec![in alloc; start]?)?;
-    let cases = [Case {
-        text: b"(a)y",
-        end: Some(4),
-        far: 3,
-        expected: &[2],
-        nodes: &[(0, 0, 4, 1), (0, 1, 2, 0)],
-    }];
-    assert_cases(&rt, alloc, &grammar, &cases)
-}
-
-// S <- [z-a] / [] / [ then byte 200 then ]
-#[test]
-fn a_reversed_range_and_an_empty_class_hold_no_byte(rt: HostRuntime) -> Result<(), Fail> {
-    let alloc = rt.alloc();
-    let reversed = class(ByteSet::range(b'z', b'a'));
-    let rest = vec![in alloc; class(ByteSet::empty()), class(ByteSet::single(200))]?;
-    let grammar = only(alloc, choice(alloc, reversed, rest)?)?;
-    let cases = [
-        Case {
-            text: &[200],
-            end: Some(1),
-            far: 0,
-            expected: &[0, 1],
-            nodes: &[(0, 0, 1, 0)],
-        },
-        Case {
-            text: b"z",
-            end: None,
-            far: 0,
-            expected: &[0, 1, 2],
-            nodes: &[],
-        },
-    ];
-    assert_cases(&rt, alloc, &grammar, &cases)
-}
-
-// S <- C / B / C / A, A <- 'a', B <- 'b', C <- 'c'
-#[test]
-fn failed_terminals_are_told_once_and_in_written_order(rt: HostRuntime) -> Result<(), Fail> {
-    let alloc = rt.alloc();
-    let rest = vec![in alloc;
-        use_of(alloc, "B")?,
-        use_of(alloc, "C")?,
-        use_of(alloc, "A")?,
-    ]?;
-    let start = rule(alloc, "S", choice(alloc, use_of(alloc, "C")?, rest)?)?;
-    let first = rule(alloc, "A", literal(alloc, b"a")?)?;
-    let second = rule(alloc, "B", literal(alloc, b"b")?)?;
-    let third = rule(alloc, "C", literal(alloc, b"c")?)?;
-    let grammar = Grammar::new(alloc, vec![in alloc; start, first, second, third]?)?;
-    let cases = [Case {
-        text: b"d",
-        end: None,
-        far: 0,
-        expected: &[0, 1, 2],
-        nodes: &[],
-    }];
-    assert_cases(&rt, alloc, &grammar, &cases)
+// 'a' / 'a' / .., so many
+fn alternatives(alloc: Global, count: u32) -> Result<Expr, Fail> {
+    let mut rest = Vec::new(alloc);
+    for _ in 1..count {
+        rest.push(literal(alloc, b"a")?)?;
+    }
+    Ok(choice(alloc, literal(alloc, b"a")?, rest)?)
 }
 
 // S <- T / T, T <- 'a' / 'a' / ..
+fn wide(alloc: Global) -> Result<Grammar, Fail> {
+    let start = rule(alloc, "S", twice(alloc)?)?;
+    let many = rule(alloc, "T", alternatives(alloc, 300_000)?)?;
+    Ok(Grammar::new(alloc, vec![in alloc; start, many]?)?)
+}
+
 #[test]
 fn many_alternatives_that_fail_at_one_place_are_all_told(rt: HostRuntime) -> Result<(), Fail> {
     let alloc = rt.alloc();
-    let mut rest = Vec::new(alloc);
-    for _ in 1..300_000 {
-        rest.push(literal(alloc, b"a")?)?;
-    }
-    let many = rule(alloc, "T", choice(alloc, literal(alloc, b"a")?, rest)?)?;
-    let body = either(alloc, use_of(alloc, "T")?, use_of(alloc, "T")?)?;
-    let start = rule(alloc, "S", body)?;
-    let grammar = Grammar::new(alloc, vec![in alloc; start, many]?)?;
+    let grammar = wide(alloc)?;
     assert!(rt; grammar.rules() > 0);
     let outcome = plain_match(alloc, &grammar, b"b", 0, 1000)?;
     assert!(rt; matches!(outcome.result, Parsed::Failed));
@@ -662,7 +572,7 @@ fn many_alternatives_that_fail_at_one_place_are_all_told(rt: HostRuntime) -> Res
 #[test]
 fn a_text_at_the_limit_is_parsed(rt: HostRuntime) -> Result<(), Fail> {
     let alloc = rt.alloc();
-    let grammar = only(alloc, literal(alloc, b"b")?)?;
+    let grammar = grammar_of(alloc, &[("S", &[Literal(b"b")])])?;
     assert!(rt; grammar.rules() == 1);
     let mut text = vec![in alloc; b'a'; 67_108_864]?;
     let outcome = plain_match(alloc, &grammar, &text, 0, 1000)?;

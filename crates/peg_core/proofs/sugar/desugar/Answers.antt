@@ -1,14 +1,16 @@
-use Rattle.std.proofs.Common.{◌≡◌, ◌+◌, ◌∷◌, ◌++◌, ◌↔◌, [], All, Contains, filter, map, true, length, drop, sym, ap, ◌∙◌, subst, arith, length-append, append-nil}
-use Rattle.std.proofs.lemmas.List.{drop_all}
+use Rattle.std.proofs.Common.{◌≡◌, ℕ, ◌<◌, ◌+◌, ◌∷◌, ◌++◌, ◌↔◌, [], All, Contains, filter, map, true, length, drop, sym}
+use Rattle.std.proofs.Common.{ap, ◌∙◌, subst, arith, length-append, append-nil}
+use Rattle.std.proofs.lemmas.List.{drop_all, length-map}
 use Rattle.std.proofs.Math.Logic.{∥∥₁_elim}
 use mathlib.Core.Bool.{Bool-set}
 use Rattle.std.proofs.lemmas.List.Sums.{sum_by-cons}
 use Rattle.peg_grammar.specs.Form.{form_weight, names_used}
 use Rattle.peg_grammar.specs.GrammarRules.{rules_in}
+use Rattle.peg_grammar.specs.Loops.{MeetsFirst, IsEmptyLoop, IsLeftCycle}
 use Rattle.peg_grammar.specs.Rules.{Rule, uses}
 use Rattle.peg_grammar.specs.Written.{form_of}
 use Rattle.peg_core.specs.CoreForm.{core_form, core_bodies, core_bodies_from}
-use Rattle.peg_core.specs.CoreLoops.{StandsInBody}
+use Rattle.peg_core.specs.CoreLoops.{StandsInBody, CoreMeetsFirst, IsCoreEmptyLoop, IsCoreLeftCycle}
 use Rattle.peg_core.specs.CoreOutcomes.{IsCoreWellFormed}
 use Rattle.peg_core.specs.CoreParts.{are_defined, all_core_parts, core_parts_from}
 use Rattle.peg_core.specs.Subexpressions.{Numbered, numbered_subexpressions, is_star}
@@ -16,8 +18,13 @@ use Rattle.peg_grammar.specs.WellFormed.{IsWellFormedGrammar}
 use Rattle.peg_core.specs.Laid.{LaysForm}
 use Rattle.peg_core.specs.Layout.{Layout, Desugared, form_at}
 use Rattle.peg_core.proofs.AddLemmas.{LaysForm-room, LaysForm-few, are_defined-left, are_defined-right}
-use Rattle.peg_core.proofs.RuleLemmas.{body_weights, rules-drop, grammar-defined, length-all_core_parts, RulesSoFar, RulesSoFar-start, RulesSoFar-more}
+use Rattle.peg_core.proofs.RuleLemmas.{body_weights, rules-drop, grammar-defined, length-all_core_parts, RulesSoFar}
+use Rattle.peg_core.proofs.RuleLemmas.{RulesSoFar-start, RulesSoFar-more}
 use Rattle.peg_core.proofs.PartsLemmas.{subexpressions-stand, stars-stand, grammar-right, grammar-fine}
+use Rattle.peg_core.proofs.Meanings.{length-core_bodies}
+use Rattle.peg_core.proofs.SugarLoops.{IsEmptyLoop-to_core, IsEmptyLoop-from_core}
+use Rattle.peg_core.proofs.SugarMeets.{MeetsFirst-to_core, MeetsFirst-from_core, IsLeftCycle-to_core}
+use Rattle.peg_core.proofs.SugarMeets.{IsLeftCycle-from_core}
 use Rattle.peg_core.proofs.StandingLemmas.{all-stand}
 use Rattle.peg_core.proofs.sugar.desugar.Goals as goal
 use Rattle.peg_core.proofs.sugar.desugar.Goals.{After-new}
@@ -105,13 +112,19 @@ returns-clause-few c =
 
 -- ---- what stands among the core forms
 
+-- all rules are done
+no_rule_left : (c : After-new) → drop c.loop-rule.rule (rules_in c.args.grammar.now) ≡ []
+no_rule_left c =
+    drop_all c.loop-rule.rule (rules_in c.args.grammar.now)
+    (omega (arith, c.loop-rule-test.false, c.rules-rule-end.ensures.count))
+
 -- they are those of the grammar
 are_parts : (c : After-new) → c.new.result.forms ≡ all_core_parts (rules_in c.args.grammar.now)
 are_parts c =
     let rules = rules_in c.args.grammar.now in
     let flat = c.loop-rule.flat in
     let t = length flat.spans in
-    let none : drop c.loop-rule.rule rules ≡ [] = drop_all c.loop-rule.rule rules (omega (arith, c.loop-rule-test.false, c.rules-rule-end.ensures.count)) in
+    let none = no_rule_left c in
     ap (λ (d : Desugared). d.forms) c.new.ensures
     ∙ (sym (append-nil flat.forms)
     ∙ (ap (λ rest. flat.forms ++ core_parts_from rules t rest) (sym none) ∙ c.loop-rule.invariant.so_far.forms))
@@ -130,3 +143,46 @@ returns-clause-well_formed c =
     let rules = rules_in c.args.grammar.now in
     subst (λ forms. IsWellFormedGrammar rules ↔ All (IsCoreWellFormed (core_bodies rules)) forms) (sym (are_parts c))
     (grammar-right rules, grammar-fine rules)
+
+-- ---- what rules meet first, and loops
+
+-- the bodies are those of the grammar
+are_bodies : (c : After-new)
+    → map (form_at c.new.result.forms) c.new.result.bodies ≡ core_bodies (rules_in c.args.grammar.now)
+are_bodies c =
+    let rules = rules_in c.args.grammar.now in
+    let flat = c.loop-rule.flat in
+    let bodies = map (form_at flat.forms) c.loop-rule.bodies.items in
+    let t = length flat.spans in
+    let none = no_rule_left c in
+    ap (λ (d : Desugared). map (form_at d.forms) d.bodies) c.new.ensures
+    ∙ (sym (append-nil bodies)
+    ∙ (ap (λ rest. bodies ++ core_bodies_from rules t rest) (sym none) ∙ c.loop-rule.invariant.so_far.each))
+
+-- so there are as many as rules
+bodies_within : (c : After-new) (second : ℕ) → second < length c.new.result.bodies
+    → second < length (rules_in c.args.grammar.now)
+bodies_within c second within =
+    let rules = rules_in c.args.grammar.now in
+    let mapped = length-map c.new.result.bodies (form_at c.new.result.forms) in
+    omega (arith, within, mapped, ap length (are_bodies c), length-core_bodies rules)
+
+pub returns-clause-meets : goal.returns-clause-meets
+returns-clause-meets c = λ first second within.
+    let rules = rules_in c.args.grammar.now in
+    subst (λ bodies. MeetsFirst rules first second ↔ CoreMeetsFirst bodies first second) (sym (are_bodies c)) (
+      MeetsFirst-to_core rules first second,
+      MeetsFirst-from_core rules first second (bodies_within c second within),
+    )
+
+pub returns-clause-left_cycles : goal.returns-clause-left_cycles
+returns-clause-left_cycles c = λ path.
+    let rules = rules_in c.args.grammar.now in
+    subst (λ bodies. IsLeftCycle rules path ↔ IsCoreLeftCycle bodies path) (sym (are_bodies c))
+    (IsLeftCycle-to_core rules path, IsLeftCycle-from_core rules path)
+
+pub returns-clause-empty_loops : goal.returns-clause-empty_loops
+returns-clause-empty_loops c = λ rule span.
+    let rules = rules_in c.args.grammar.now in
+    subst (λ bodies. IsEmptyLoop rules rule span ↔ IsCoreEmptyLoop bodies rule span) (sym (are_bodies c))
+    (IsEmptyLoop-to_core rules span rule, IsEmptyLoop-from_core rules span rule)

@@ -1,0 +1,287 @@
+-- Rules meet first the same rules on written expressions and on their core forms, and so have the same left cycles.
+use Rattle.std.proofs.Common.{◌≡◌, ◌⊎◌, inl, inr, ℕ, zero, suc, ◌+◌, ◌<◌, List, [], ◌∷◌, ◌++◌, length}
+use Rattle.std.proofs.Common.{Option, None, Some, option_map, unwrap_or, slice_get, refl, sym, ap, ◌∙◌, subst, arith}
+use Rattle.std.proofs.lemmas.Option.{slice_get_within}
+use Rattle.peg_grammar.specs.AbstractOutcomes.{GivesNothing}
+use Rattle.peg_grammar.specs.Form.{Form, Forms, Literal, Class, Any, Name, Optional, Plus, And, End, Then, terminals}
+use Rattle.peg_grammar.specs.Form as written_form
+use Rattle.peg_grammar.specs.Loops.{Reaches, ItemsReach, SomeReaches, MeetsFirst, MeetInTurn, IsLeftCycle}
+use Rattle.peg_grammar.specs.Rules.{Meaning, meant}
+use Rattle.peg_grammar.specs.Rules as grammar
+use Rattle.peg_bytes.specs.ByteSet.{only}
+use Rattle.peg_core.specs.CoreForm.{CoreForm, Test, in_order, all_in_order, one_of, tests_of, number_of}
+use Rattle.peg_core.specs.CoreForm.{core_form, core_forms, core_bodies_from, core_bodies}
+use Rattle.peg_core.specs.CoreLoops.{CoreMeets, CoreMeetsFirst, CoreMeetInTurn, IsCoreLeftCycle}
+use Rattle.peg_core.specs.CoreOutcomes.{CoreGivesNothing, BodyIs}
+use Rattle.peg_core.proofs.SugarOutcomes.{GivesNothing-to_core, GivesNothing-from_core}
+
+-- ---- forms in order, and one of some forms
+
+module _ (bodies : List CoreForm) (rule : ℕ) where
+  -- what is met from forms in order is met from the first, or where that gives 0 from the others
+  order-to : (first : CoreForm) (rest : List CoreForm)
+      → CoreMeets bodies first rule ⊎ (CoreGivesNothing bodies first × CoreMeets bodies (all_in_order rest) rule)
+      → CoreMeets bodies (in_order first rest) rule
+  order-to first [] meets = elim meets [ inl here ↦ here | inr there ↦ absurd there.1 ]
+  order-to first (next ∷ rest) meets = meets
+
+  order-from : (first : CoreForm) (rest : List CoreForm) → CoreMeets bodies (in_order first rest) rule
+      → CoreMeets bodies first rule ⊎ (CoreGivesNothing bodies first × CoreMeets bodies (all_in_order rest) rule)
+  order-from first [] meets = inl meets
+  order-from first (next ∷ rest) meets = meets
+
+  -- it is met from one of these
+  abbrev SomeMeet : List CoreForm → Type 0
+  SomeMeet [] = ⊥
+  SomeMeet (form ∷ forms) = CoreMeets bodies form rule ⊎ SomeMeet forms
+
+  one-to : (first : CoreForm) (rest : List CoreForm) → SomeMeet (first ∷ rest)
+      → CoreMeets bodies (one_of first rest) rule
+  one-to first [] meets = elim meets [ inl here ↦ here | inr there ↦ absurd there ]
+  one-to first (next ∷ rest) meets = elim meets [ inl here ↦ inl here | inr there ↦ inr (one-to next rest there) ]
+
+  one-from : (first : CoreForm) (rest : List CoreForm) → CoreMeets bodies (one_of first rest) rule
+      → SomeMeet (first ∷ rest)
+  one-from first [] meets = inl meets
+  one-from first (next ∷ rest) meets =
+      elim meets [ inl here ↦ inl here | inr there ↦ inr (one-from next rest there) ]
+
+  -- a literal meets no rule
+  tests-meet : (terminal : ℕ) (bytes : List ℕ) → CoreMeets bodies (all_in_order (tests_of terminal bytes)) rule → ⊥
+  tests-meet terminal [] meets = meets
+  tests-meet terminal (b ∷ bs) meets =
+      elim (order-from (Test (only b) terminal) (tests_of terminal bs) meets) [
+        | inl here ↦ here
+        | inr there ↦ tests-meet terminal bs there.1
+      ]
+
+-- ---- from an expression a name is reached where its rule is met from the core form
+
+module _ (rules : List grammar.Rule) where
+  abbrev bodies : List CoreForm
+  bodies = core_bodies rules
+
+  abbrev Idles : Form → Type 0
+  Idles = GivesNothing rules
+
+  module _ (name : List ℕ) where
+    abbrev number : ℕ
+    number = number_of rules name
+
+    mutual
+      reached-met : (e : Form) (terminal : ℕ) → Reaches Idles e name
+          → CoreMeets bodies (core_form rules terminal e) number
+      reached-met (Literal bytes span) terminal reached = absurd reached
+      reached-met (Class set span) terminal reached = reached
+      reached-met (Any span) terminal reached = reached
+      reached-met (Name other span) terminal reached = ap (number_of rules) reached
+      reached-met (written_form.Seq items span) terminal reached = items-met items terminal reached
+      reached-met (written_form.Choice first rest span) terminal reached =
+          let later = terminal + terminals first in
+          one-to bodies number (core_form rules terminal first) (core_forms rules later rest) (elim reached [
+            | inl here ↦ inl (reached-met first terminal here)
+            | inr there ↦ inr (some-met rest later there)
+          ])
+      reached-met (Optional part span) terminal reached = inl (reached-met part terminal reached)
+      reached-met (written_form.Star part span) terminal reached = reached-met part terminal reached
+      reached-met (Plus part span) terminal reached = inl (reached-met part terminal reached)
+      reached-met (And part span) terminal reached = reached-met part terminal reached
+      reached-met (written_form.Not part span) terminal reached = reached-met part terminal reached
+
+      items-met : (items : Forms) (terminal : ℕ) → ItemsReach Idles items name
+          → CoreMeets bodies (all_in_order (core_forms rules terminal items)) number
+      items-met End terminal reached = reached
+      items-met (Then e rest) terminal reached =
+          let later = terminal + terminals e in
+          order-to bodies number (core_form rules terminal e) (core_forms rules later rest) (elim reached [
+            | inl here ↦ inl (reached-met e terminal here)
+            | inr there ↦ inr (GivesNothing-to_core rules e terminal there.0, items-met rest later there.1)
+          ])
+
+      some-met : (items : Forms) (terminal : ℕ) → SomeReaches Idles items name
+          → SomeMeet bodies number (core_forms rules terminal items)
+      some-met End terminal reached = reached
+      some-met (Then e rest) terminal reached =
+          elim reached [
+            | inl here ↦ inl (reached-met e terminal here)
+            | inr there ↦ inr (some-met rest (terminal + terminals e) there)
+          ]
+
+  module _ (rule : ℕ) where
+    -- a name of this rule is reached
+    abbrev ReachedBy : (List ℕ → Type 0) → Type 0
+    ReachedBy Reached = (name : List ℕ) × Reached name × (number_of rules name ≡ rule)
+
+    also : (Reached More : List ℕ → Type 0) → ((name : List ℕ) → Reached name → More name) → ReachedBy Reached
+        → ReachedBy More
+    also Reached More more by = (by.0, more by.0 by.1, by.2)
+
+    mutual
+      met-reached : (e : Form) (terminal : ℕ) → CoreMeets bodies (core_form rules terminal e) rule
+          → ReachedBy (Reaches Idles e)
+      met-reached (Literal bytes span) terminal meets = absurd (tests-meet bodies rule terminal bytes meets)
+      met-reached (Class set span) terminal meets = absurd meets
+      met-reached (Any span) terminal meets = absurd meets
+      met-reached (Name name span) terminal meets = (name, refl, meets)
+      met-reached (written_form.Seq items span) terminal meets = met-items items terminal meets
+      met-reached (written_form.Choice first rest span) terminal meets =
+          let later = terminal + terminals first in
+          let e : Form = written_form.Choice first rest span in
+          elim (one-from bodies rule (core_form rules terminal first) (core_forms rules later rest) meets) [
+            | inl here ↦
+                also (Reaches Idles first) (Reaches Idles e) (λ name h. inl h) (met-reached first terminal here)
+            | inr there ↦ also (SomeReaches Idles rest) (Reaches Idles e) (λ name h. inr h) (met-some rest later there)
+          ]
+      met-reached (Optional part span) terminal meets =
+          elim meets [ inl here ↦ met-reached part terminal here | inr there ↦ absurd there ]
+      met-reached (written_form.Star part span) terminal meets = met-reached part terminal meets
+      met-reached (Plus part span) terminal meets =
+          elim meets [ inl here ↦ met-reached part terminal here | inr there ↦ met-reached part terminal there.1 ]
+      met-reached (And part span) terminal meets = met-reached part terminal meets
+      met-reached (written_form.Not part span) terminal meets = met-reached part terminal meets
+
+      met-items : (items : Forms) (terminal : ℕ)
+          → CoreMeets bodies (all_in_order (core_forms rules terminal items)) rule
+          → ReachedBy (ItemsReach Idles items)
+      met-items End terminal meets = absurd meets
+      met-items (Then e rest) terminal meets =
+          let later = terminal + terminals e in
+          elim (order-from bodies rule (core_form rules terminal e) (core_forms rules later rest) meets) [
+            | inl here ↦
+                also (Reaches Idles e) (ItemsReach Idles (Then e rest)) (λ name h. inl h) (met-reached e terminal here)
+            | inr there ↦
+                let idle = GivesNothing-from_core rules e terminal there.0 in
+                let behind = met-items rest later there.1 in
+                also (ItemsReach Idles rest) (ItemsReach Idles (Then e rest)) (λ name h. inr (idle, h)) behind
+          ]
+
+      met-some : (items : Forms) (terminal : ℕ) → SomeMeet bodies rule (core_forms rules terminal items)
+          → ReachedBy (SomeReaches Idles items)
+      met-some End terminal meets = absurd meets
+      met-some (Then e rest) terminal meets =
+          elim meets [
+            | inl here ↦
+                also (Reaches Idles e) (SomeReaches Idles (Then e rest)) (λ name h. inl h) (met-reached e terminal here)
+            | inr there ↦
+                let behind = met-some rest (terminal + terminals e) there in
+                also (SomeReaches Idles rest) (SomeReaches Idles (Then e rest)) (λ name h. inr h) behind
+          ]
+
+-- ---- a rule and its body have one number
+
+-- there is neither, or the body is the core form of the rule's expression
+abbrev pub BodyAt : List grammar.Rule → Option grammar.Rule → Option CoreForm → Type 0
+BodyAt rules rule body =
+    ((rule ≡ None) × (body ≡ None))
+    ⊎ ((r : grammar.Rule) × (terminal : ℕ) × (rule ≡ Some r) × (body ≡ Some (core_form rules terminal r.body)))
+
+body_from-at : (rules : List grammar.Rule) (terminal : ℕ) (some : List grammar.Rule) (i : ℕ)
+    → BodyAt rules (slice_get some i) (slice_get (core_bodies_from rules terminal some) i)
+body_from-at rules terminal [] i = inl (refl, refl)
+body_from-at rules terminal (r ∷ rs) zero = inr (r, terminal, refl, refl)
+body_from-at rules terminal (r ∷ rs) (suc i) = body_from-at rules (terminal + terminals r.body) rs i
+
+pub body-at : (rules : List grammar.Rule) (i : ℕ) → BodyAt rules (slice_get rules i) (slice_get (core_bodies rules) i)
+body-at rules i = body_from-at rules 0 rules i
+
+-- ---- so the same rules are met first
+
+module _ (rules : List grammar.Rule) where
+  -- the number of a name that means a rule is the rule's
+  number-means : (name : List ℕ) (rule : ℕ) → option_map (λ (m : Meaning). m.rule) (meant rules name) ≡ Some rule
+      → number_of rules name ≡ rule
+  number-means name rule means = ap (λ o. unwrap_or o (length rules)) means
+
+  means-number : (name : List ℕ) (rule : ℕ) → rule < length rules → number_of rules name ≡ rule
+      → option_map (λ (m : Meaning). m.rule) (meant rules name) ≡ Some rule
+  means-number name rule within is = by (option_map (λ (m : Meaning). m.rule) (meant rules name)) is
+    where
+      by : (o : Option ℕ) → unwrap_or o (length rules) ≡ rule → o ≡ Some rule
+      by None same = absurd (omega (arith, within, same))
+      by (Some n) same = ap Some same
+
+  met_first-at : (first second : ℕ) (rule : Option grammar.Rule) (body : Option CoreForm) → BodyAt rules rule body
+      → slice_get rules first ≡ rule → MeetsFirst rules first second
+      → BodyIs (λ form. CoreMeets (core_bodies rules) form second) body
+  met_first-at first second rule body (inl none) at meets =
+      let bad : None ≡ Some meets.rule = sym (at ∙ none.0) ∙ meets.numbered in cc
+  met_first-at first second rule body (inr some) at meets =
+      let is : Some some.0 ≡ Some meets.rule = sym (at ∙ some.2) ∙ meets.numbered in
+      let same : meets.rule ≡ some.0 = cc in
+      let FromRule : grammar.Rule → Type 0 = λ r. Reaches (GivesNothing rules) r.body meets.name in
+      let reached = subst FromRule same meets.reached in
+      let met = reached-met rules meets.name some.0.body some.1 reached in
+      let number = number-means meets.name second meets.means in
+      subst (BodyIs (λ form. CoreMeets (core_bodies rules) form second)) (sym some.3)
+      (subst (CoreMeets (core_bodies rules) (core_form rules some.1 some.0.body)) number met)
+
+  pub MeetsFirst-to_core : (first second : ℕ) → MeetsFirst rules first second
+      → CoreMeetsFirst (core_bodies rules) first second
+  MeetsFirst-to_core first second meets =
+      met_first-at first second (slice_get rules first) (slice_get (core_bodies rules) first) (body-at rules first) refl
+      meets
+
+  meets_first-at : (first second : ℕ) (rule : Option grammar.Rule) (body : Option CoreForm) → BodyAt rules rule body
+      → slice_get rules first ≡ rule → second < length rules
+      → BodyIs (λ form. CoreMeets (core_bodies rules) form second) body → MeetsFirst rules first second
+  meets_first-at first second rule body (inl none) at within meets =
+      absurd (subst (BodyIs (λ form. CoreMeets (core_bodies rules) form second)) none.1 meets)
+  meets_first-at first second rule body (inr some) at within meets =
+      let met = subst (BodyIs (λ form. CoreMeets (core_bodies rules) form second)) some.3 meets in
+      let reached = met-reached rules second some.0.body some.1 met in
+      record {
+        rule = some.0;
+        name = reached.0;
+        numbered = at ∙ some.2;
+        reached = reached.1;
+        means = means-number reached.0 second within reached.2;
+      }
+
+  pub MeetsFirst-from_core : (first second : ℕ) → second < length rules
+      → CoreMeetsFirst (core_bodies rules) first second → MeetsFirst rules first second
+  MeetsFirst-from_core first second within meets =
+      meets_first-at first second (slice_get rules first) (slice_get (core_bodies rules) first) (body-at rules first)
+      refl within meets
+
+  -- ---- and left cycles are the same
+
+  in_turn-to_core : (before : ℕ) (path : List ℕ) → MeetInTurn (MeetsFirst rules) before path
+      → CoreMeetInTurn (core_bodies rules) before path
+  in_turn-to_core before [] meet = tt
+  in_turn-to_core before (next ∷ more) meet = (MeetsFirst-to_core before next meet.0, in_turn-to_core next more meet.1)
+
+  pub IsLeftCycle-to_core : (path : List ℕ) → IsLeftCycle rules path → IsCoreLeftCycle (core_bodies rules) path
+  IsLeftCycle-to_core [] cycle = cycle
+  IsLeftCycle-to_core (first ∷ more) cycle = in_turn-to_core first (more ++ first ∷ []) cycle
+
+  -- a rule that meets another first is one of the rules
+  meeting-at : (first second : ℕ) (rule : Option grammar.Rule) (body : Option CoreForm) → BodyAt rules rule body
+      → slice_get rules first ≡ rule → BodyIs (λ form. CoreMeets (core_bodies rules) form second) body
+      → first < length rules
+  meeting-at first second rule body (inl none) at meets =
+      absurd (subst (BodyIs (λ form. CoreMeets (core_bodies rules) form second)) none.1 meets)
+  meeting-at first second rule body (inr some) at meets = slice_get_within rules first some.0 (at ∙ some.2)
+
+  meeting-within : (first second : ℕ) → CoreMeetsFirst (core_bodies rules) first second → first < length rules
+  meeting-within first second meets =
+      meeting-at first second (slice_get rules first) (slice_get (core_bodies rules) first) (body-at rules first) refl
+      meets
+
+  first-within : (before : ℕ) (path : List ℕ) (last : ℕ) → CoreMeetInTurn (core_bodies rules) before (path ++ last ∷ [])
+      → before < length rules
+  first-within before [] last meet = meeting-within before last meet.0
+  first-within before (next ∷ more) last meet = meeting-within before next meet.0
+
+  in_turn-from_core : (before : ℕ) (path : List ℕ) (last : ℕ) → last < length rules
+      → CoreMeetInTurn (core_bodies rules) before (path ++ last ∷ [])
+      → MeetInTurn (MeetsFirst rules) before (path ++ last ∷ [])
+  in_turn-from_core before [] last within meet = (MeetsFirst-from_core before last within meet.0, tt)
+  in_turn-from_core before (next ∷ more) last within meet = (
+    MeetsFirst-from_core before next (first-within next more last meet.1) meet.0,
+    in_turn-from_core next more last within meet.1,
+  )
+
+  pub IsLeftCycle-from_core : (path : List ℕ) → IsCoreLeftCycle (core_bodies rules) path → IsLeftCycle rules path
+  IsLeftCycle-from_core [] cycle = cycle
+  IsLeftCycle-from_core (first ∷ more) cycle =
+      in_turn-from_core first more first (first-within first more first cycle) cycle
