@@ -19,7 +19,7 @@ use Rattle.peg_tree.specs.Trees.{Trees}
 use Rattle.peg_tree.specs.declared.outcome.Parsed.TheVariants as parsed
 use Rattle.peg_notation.specs.Notation.{most_file_bytes}
 use Rattle.peg_tool.specs.Answers.{AnswersBy, Answers, Recognizes, most_text_bytes, most_joined_bytes, most_depth}
-use Rattle.peg_tool.specs.Answers.{a_name_twice, a_name_missing, too_many_parts, tabled, text_too_long}
+use Rattle.peg_tool.specs.Answers.{a_name_twice, a_name_missing, too_many_parts, tabled, empty_loop, left_recursion, accepted, text_too_long}
 use Rattle.peg_tool.specs.Answers.{too_deep, failed, too_many_levels, matched, file_too_long, not_in_the_notation}
 use Rattle.peg_tool.specs.Answers.{too_nested, read}
 use Rattle.peg_tool.specs.Printed.{IsPrinted, IsPrintedJoined, Tells, TellsInPart}
@@ -67,6 +67,11 @@ AnswersBy-longer file rules text more task told long longer (a_name_missing dist
 AnswersBy-longer file rules text more task told long longer (too_many_parts grammar heavy) =
     too_many_parts grammar heavy
 AnswersBy-longer file rules text more task told long longer (tabled taken are) = tabled taken are
+AnswersBy-longer file rules text more task told long longer (empty_loop number span taken bad loop) =
+    empty_loop number span taken bad loop
+AnswersBy-longer file rules text more task told long longer (left_recursion path taken bad none cycle) =
+    left_recursion path taken bad none cycle
+AnswersBy-longer file rules text more task told long longer (accepted taken is) = accepted taken is
 AnswersBy-longer file rules text more task told long longer (text_too_long taken over) = text_too_long taken longer
 AnswersBy-longer file rules text more task told long longer (too_deep taken short is) = absurd (omega arith)
 AnswersBy-longer file rules text more task told long longer (failed taken short is at furthest) = absurd (omega arith)

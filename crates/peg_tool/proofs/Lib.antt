@@ -1,4 +1,5 @@
 pub mod AnswerLemmas
+pub mod CheckLemmas
 pub mod FirstRule
 pub mod NameLemmas
 pub mod OutcomeLemmas

@@ -4,6 +4,8 @@ use Rattle.peg_bytes.specs.Extent.{Extent, between}
 use Rattle.peg_grammar.specs.AbstractOutcomes.{Can}
 use Rattle.peg_grammar.specs.Form.{Reference}
 use Rattle.peg_grammar.specs.Furthest.{IsFurthest}
+use Rattle.peg_grammar.specs.Loops.{IsEmptyLoop, IsLeftCycle}
+use Rattle.peg_grammar.specs.WellFormed.{IsWellFormedGrammar}
 use Rattle.peg_grammar.specs.Grammar.{IsGrammar, most_parts, first_duplicate, first_undefined}
 use Rattle.peg_grammar.specs.Record.{Record, start_record}
 use Rattle.peg_grammar.specs.Record as recognition
@@ -14,8 +16,8 @@ use Rattle.peg_notation.specs.Reads.{most_open, IsReadingWithin, NestsDeeper, Is
 use Rattle.peg_notation.specs.Tokens.{IsLexingFault}
 use Rattle.peg_tree.specs.Trees.{Trees, levels}
 use Rattle.peg_tool.specs.Outcomes.{AreOutcomes}
-use Rattle.peg_tool.specs.Reply.{Answer, Refused, Tabled, Failed, Matched, IsReply, refused_at, refused_name}
-use Rattle.peg_tool.specs.Task.{Task, TableTask, ParseTask}
+use Rattle.peg_tool.specs.Reply.{Answer, Refused, Tabled, RefusedPath, Accepted, Failed, Matched, IsReply, refused_at, refused_name, refused_loop, reference}
+use Rattle.peg_tool.specs.Task.{Task, TableTask, CheckTask, ParseTask}
 use Rattle.peg_tool.specs.declared.reply.Reason.TheVariants.{FileTooLong, Syntax, TooNested, Duplicate}
 use Rattle.peg_tool.specs.declared.reply.Reason.TheVariants.{Undefined, TooManyParts, TextTooLong, DepthUsed, TooDeep}
 use Rattle.peg_tool.specs.declared.reply.Reply.{Reply}
@@ -59,6 +61,13 @@ pub data AnswersBy (file : List ℕ) (rules : List Rule) (text : List ℕ) : Tas
       → AnswersBy file rules text task (Refused TooManyParts)
   tabled : {cans : List Can} → IsTaken rules → AreOutcomes rules cans
       → AnswersBy file rules text TableTask (Tabled (names rules) cans)
+  empty_loop : (number : ℕ) (span : Extent) → IsTaken rules → ¬ IsWellFormedGrammar rules
+      → IsEmptyLoop rules number span
+      → AnswersBy file rules text CheckTask (refused_loop file (reference (name_of rules number) span))
+  left_recursion : (path : List ℕ) → IsTaken rules → ¬ IsWellFormedGrammar rules
+      → ((number : ℕ) (span : Extent) → ¬ IsEmptyLoop rules number span) → IsLeftCycle rules path
+      → AnswersBy file rules text CheckTask (RefusedPath (map (name_of rules) path))
+  accepted : IsTaken rules → IsWellFormedGrammar rules → AnswersBy file rules text CheckTask (Accepted (length rules))
   text_too_long : IsTaken rules → most_text_bytes < length text
       → AnswersBy file rules text ParseTask (Refused TextTooLong)
   too_deep : IsTaken rules → length text ≤ most_text_bytes

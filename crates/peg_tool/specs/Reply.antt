@@ -18,13 +18,17 @@ use Rattle.peg_tool.specs.TableText.{table_data}
 
 -- What the tool answers: why it refuses, with the place of the grammar file where it does, or the name and its place;
 -- or
--- the rules' names and what their expressions can do; or the furthest failure, as a place of the text and the places of
+-- the rules' names and what their expressions can do; or an empty loop, by its rule's name and its place; or the names of
+-- the rules of a left cycle; or how many rules a well-formed grammar has; or the furthest failure, as a place of the text and the places of
 -- terminals in the grammar file; where the text matched also where the match ends, the rules' names, and the tree.
 pub data Answer : Type 0 where
   Refused : Reason → Answer
   RefusedAt : Reason → (at line column : ℕ) → Answer
   RefusedName : Reason → (name : Reference) → (line column : ℕ) → Answer
   Tabled : (names : List (List ℕ)) → (cans : List Can) → Answer
+  RefusedLoop : (rule : Reference) → (line column : ℕ) → Answer
+  RefusedPath : (names : List (List ℕ)) → Answer
+  Accepted : (rules : ℕ) → Answer
   Failed : (far : ℕ) → (expected : List Extent) → Answer
   Matched : (end far : ℕ) → (expected : List Extent) → (names : List (List ℕ)) → (tree : Trees) → Answer
 
@@ -40,6 +44,10 @@ reference name span = record { name = name; span = span }
 abbrev pub refused_name : Reason → (file : List ℕ) → (name : Reference) → Answer
 refused_name reason file name =
     RefusedName reason name (place.line_of file name.span.start) (place.column_of file name.span.start)
+
+-- an empty loop of the rule of this name, where it stands in a grammar file
+abbrev pub refused_loop : (file : List ℕ) → (rule : Reference) → Answer
+refused_loop file rule = RefusedLoop rule (place.line_of file rule.span.start) (place.column_of file rule.span.start)
 
 -- the name of a reason
 abbrev pub reason_text : Reason → List ℕ
@@ -65,12 +73,15 @@ reason_status TextTooLong = 6
 reason_status DepthUsed = 6
 reason_status TooDeep = 6
 
--- 0 told or matched, 1 failed
+-- 0 told, accepted or matched, 1 failed, 2 not well-formed
 abbrev pub status_of : Answer → ℕ
 status_of (Refused reason) = reason_status reason
 status_of (RefusedAt reason at line column) = reason_status reason
 status_of (RefusedName reason name line column) = reason_status reason
 status_of (Tabled names cans) = 0
+status_of (RefusedLoop rule line column) = 2
+status_of (RefusedPath names) = 2
+status_of (Accepted rules) = 0
 status_of (Failed far expected) = 1
 status_of (Matched end far expected names tree) = 0
 
@@ -107,12 +118,31 @@ refused_name_data reason name line column =
     (member (codes "refusal") (string (reason_text reason)) (member (codes "start") (number (unsigned name.span.start))
     no_members))))))
 
+-- the printed object of an empty loop
+abbrev pub refused_loop_data : Reference → (line column : ℕ) → Data
+refused_loop_data rule line column =
+    object (member (codes "column") (number (unsigned column)) (member (codes "end") (number (unsigned rule.span.end))
+    (member (codes "line") (number (unsigned line)) (member (codes "refusal") (string (codes "EmptyLoop"))
+    (member (codes "rule") (string rule.name) (member (codes "start") (number (unsigned rule.span.start))
+    no_members))))))
+
+-- the printed object of a left cycle
+abbrev pub refused_path_data : List (List ℕ) → Data
+refused_path_data names =
+    object (member (codes "path") (array (items_of (map string names)))
+    (member (codes "refusal") (string (codes "LeftRecursion")) no_members))
+
 -- the printed object
 abbrev pub printed : Answer → Data
 printed (Refused reason) = object (member (codes "refusal") (string (reason_text reason)) no_members)
 printed (RefusedAt reason at line column) = refused_at_data reason at line column
 printed (RefusedName reason name line column) = refused_name_data reason name line column
 printed (Tabled names cans) = table_data names cans
+printed (RefusedLoop rule line column) = refused_loop_data rule line column
+printed (RefusedPath names) = refused_path_data names
+printed (Accepted rules) =
+    object (member (codes "result") (string (codes "accepted")) (member (codes "rules") (number (unsigned rules))
+    no_members))
 printed (Failed far expected) =
     object (member (codes "expected") (expected_data expected) (member (codes "far") (number (unsigned far))
     (member (codes "result") (string (codes "failed")) no_members)))

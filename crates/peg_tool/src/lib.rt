@@ -2,6 +2,8 @@
 #![tactic(auto)]
 
 mod answer;
+mod check_answer;
+mod check_reply;
 mod device;
 mod joined;
 mod parts;

@@ -37,7 +37,7 @@ pub(crate) enum Reason {
 /// What came of a grammar file and a text: the object that is printed, and the status that the program ends with.
 #[derive(Drop)]
 pub(crate) struct Reply {
-    value: Value,
+    pub(crate) value: Value,
     pub(crate) status: u8,
 }
 

@@ -2,12 +2,15 @@
 ghost use Rattle.std.specs.Prelude.{◌≡◌, ℕ, ◌↔◌, ◌+◌, true, false, List, IfOk, IfSome, IsErrOf, string_bytes};
 ghost use Rattle.std.specs.Io.KnownBytes.{Keeps};
 ghost use Rattle.peg_notation.specs.Notation.{most_file_bytes};
+ghost use Rattle.peg_tool.specs.Answers.{Answers, Replies};
 ghost use Rattle.peg_tool.specs.Printed.{IsPrinted, Tells, TellsInPart};
 ghost use Rattle.peg_tool.specs.Task.{task_of};
 ghost use Rattle.peg_tool.specs.Transfer.{ConsumesAtMost};
 
+use crate::check_answer::tell_check;
 use crate::device::{Sink, Source};
 use crate::printed::{OUT_OF_MEMORY, Printed, ToolFault, print};
+use crate::reply::Reply;
 use crate::table_answer::tell_table;
 use crate::transfer::{ReadFault, read_up_to, write_all_bytes};
 use peg_notation::MOST_FILE_BYTES;
@@ -18,11 +21,13 @@ use std::alloc::{AllocError, Global};
 pub enum Command {
     /// The table of outcomes: what the expression of each rule can do.
     Table,
+    /// Whether the grammar is well-formed, and why not.
+    Check,
 }
 
 /// Reads a grammar file, does what is asked and writes the answer as one line of JSON. Answers the status that goes
 /// with it; 5, with nothing written, where memory runs out. No device may have failed before. It holds at most 1,048,577
-/// bytes of the file and reads no further; for a table the text isn't read.
+/// bytes of the file and reads no further; the text isn't read.
 pub fn run_tool<G: Source, T: Source, W: Sink>(
     alloc: Global,
     grammar: &mut G,
@@ -65,10 +70,16 @@ fn line_of(alloc: Global, file: &[u8], command: &Command) -> Result<Printed, All
     ensures { (text : List ℕ) → IfOk result
         (λ told. IsPrinted (task_of command.now) file.now text (string_bytes told.line) told.status) }
 {
+    let reply = reply_of(alloc, file, command)?;
+    print(alloc, &reply)
+}
+
+// What is answered on a grammar file that is held.
+fn reply_of(alloc: Global, file: &[u8], command: &Command) -> Result<Reply, AllocError>
+    ensures { (text : List ℕ) → IfOk result (Replies (Answers file.now text (task_of command.now))) }
+{
     match command {
-        Command::Table => {
-            let reply = tell_table(alloc, file)?;
-            print(alloc, &reply)
-        }
+        Command::Table => tell_table(alloc, file),
+        Command::Check => tell_check(alloc, file),
     }
 }

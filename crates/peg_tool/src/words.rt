@@ -16,6 +16,8 @@ pub enum Words {
     Help { text: String },
     /// The table of outcomes of the grammar file with this name.
     Table { g: String },
+    /// Whether the grammar file with this name is well-formed, and why not.
+    Check { g: String },
 }
 
 /// Why the words of a command line ask for nothing.
@@ -61,20 +63,20 @@ fn command_of(alloc: Global, matches: &ArgMatches<'_>) -> Result<Words, WordsFau
     ensures { IfOk result IsAsking }
 {
     match matches.subcommand() {
-        Some((_, table)) => table_of(alloc, table),
+        Some(("check", words)) => Ok(Words::Check {
+            g: grammar_name(alloc, words)?,
+        }),
+        Some((_, words)) => Ok(Words::Table {
+            g: grammar_name(alloc, words)?,
+        }),
         None => Err(missing(alloc)),
     }
 }
 
-// The words of the command `table`.
-fn table_of(alloc: Global, matches: &ArgMatches<'_>) -> Result<Words, WordsFault>
-    ensures { IfOk result IsAsking }
-{
+// The grammar file's name among the words of a command.
+fn grammar_name(alloc: Global, matches: &ArgMatches<'_>) -> Result<String, WordsFault> {
     match matches.get_str("G") {
-        Some(name) => {
-            let g = String::from_str(alloc, name)?;
-            Ok(Words::Table { g })
-        }
+        Some(name) => Ok(String::from_str(alloc, name)?),
         None => Err(missing(alloc)),
     }
 }
@@ -107,6 +109,7 @@ fn told_by(alloc: Global, error: &Error) -> Result<Words, WordsFault>
 // The command line of the program.
 fn program<'a>(alloc: Global) -> Result<Command<'a>, AllocError> {
     let table = table(alloc)?;
+    let check = check(alloc)?;
     Command::new(alloc, "pegtool")
         .about("Reads grammars in the notation of Ford's parsing expression grammars (POPL 2004).")
         .after_help(PROGRAM_NOTES)
@@ -114,6 +117,7 @@ fn program<'a>(alloc: Global) -> Result<Command<'a>, AllocError> {
         .subcommand_required(true)
         .disable_help_subcommand(true)
         .subcommand(table)?
+        .subcommand(check)?
         .bin_name("pegtool")
 }
 
@@ -124,6 +128,14 @@ fn table<'a>(alloc: Global) -> Result<Command<'a>, AllocError> {
             "Tells of each rule whether it can succeed on nothing, succeed on something, and fail",
         )
         .after_help(TABLE_NOTES)
+        .arg(grammar_file(alloc))
+}
+
+// The command `check`.
+fn check<'a>(alloc: Global) -> Result<Command<'a>, AllocError> {
+    Command::new(alloc, "check")
+        .about("Tells whether a grammar is well-formed, and if it isn't, why not and where")
+        .after_help(CHECK_NOTES)
         .arg(grammar_file(alloc))
 }
 
@@ -147,6 +159,14 @@ const TABLE_NOTES: &str = "\
 Prints one line of JSON with one entry for each rule, in order.
 
 Example: pegtool table grammar.peg";
+
+// What stands below the help of `check`.
+const CHECK_NOTES: &str = "\
+Prints one line of JSON: that the grammar is accepted, or a star or plus that
+would go round on nothing, or rules that use one another before anything is
+consumed. The status is 0 or 2.
+
+Example: pegtool check grammar.peg";
 
 #[cfg(test)]
 mod tests {
@@ -183,13 +203,23 @@ mod tests {
         Ok(())
     }
 
+    #[test]
+    fn check_has_its_file(rt: HostRuntime) -> Result<(), Fail> {
+        let words = read(rt.alloc(), &["check", "x"]).map_err(|_| "check x")?;
+        match words {
+            Words::Check { g } => assert_eq!(rt; g.as_str(), "x"),
+            _ => assert!(rt; false),
+        }
+        Ok(())
+    }
+
     // The text that comes in place of a command, and whether it is help.
     fn told(alloc: Global, words: &[&str]) -> Option<(bool, String)> {
         match read(alloc, words) {
             Ok(Words::Help { text }) => Some((true, text)),
             Err(WordsFault::Usage { text }) => Some((false, text)),
             Ok(Words::Joined) => None,
-            Ok(Words::Table { g: _g }) => None,
+            Ok(Words::Table { g: _g } | Words::Check { g: _g }) => None,
             Err(WordsFault::Memory) => None,
         }
     }
@@ -202,6 +232,8 @@ mod tests {
         assert!(rt; is_help && text.contains("Usage: pegtool"));
         let (is_help, text) = told(rt.alloc(), &["table", "--help"]).ok_or("no text")?;
         assert!(rt; is_help && text.contains("Usage: pegtool table <G>"));
+        let (is_help, text) = told(rt.alloc(), &["check", "--help"]).ok_or("no text")?;
+        assert!(rt; is_help && text.contains("Usage: pegtool check <G>"));
         Ok(())
     }
 

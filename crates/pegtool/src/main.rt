@@ -1,5 +1,5 @@
-//! `pegtool`: tells what the rules of a grammar file can do; without words, parses a text by a grammar file, both from
-//! standard input.
+//! `pegtool`: tells what the rules of a grammar file can do, and whether it is well-formed; without words, parses a text by
+//! a grammar file, both from standard input.
 #![tactic(auto)]
 
 use peg_tool::{Command, Device, ToolFault, Words, WordsFault, read_words, run_joined, run_tool};
@@ -28,7 +28,8 @@ fn main(rt: HostRuntime) -> ExitCode {
     let status = match words(&rt) {
         Ok(Words::Joined) => joined(&rt),
         Ok(Words::Help { text }) => help(&rt, &text),
-        Ok(Words::Table { g }) => table(&rt, &g),
+        Ok(Words::Table { g }) => on_file(&rt, &g, Command::Table),
+        Ok(Words::Check { g }) => on_file(&rt, &g, Command::Check),
         Err(WordsFault::Usage { text }) => bad_words(&rt, &text),
         Err(WordsFault::Memory) => OUT_OF_MEMORY,
     };
@@ -72,20 +73,14 @@ fn joined<R: Input + Print + AllocGlobal>(rt: &R) -> u8 {
     status_of(run_joined(rt.alloc(), &mut input, &mut output))
 }
 
-// Prints the table of the grammar file with this name.
-fn table<R: Files + Print + AllocGlobal>(rt: &R, g: &str) -> u8 {
+// Does what is asked on the grammar file with this name.
+fn on_file<R: Files + Print + AllocGlobal>(rt: &R, g: &str, command: Command) -> u8 {
     match fs::open(rt, g) {
         Ok(file) => {
             let mut grammar = Device::new(file);
             let mut text = Device::new(io::empty());
             let mut output = Device::new(io::writer(rt));
-            status_of(run_tool(
-                rt.alloc(),
-                &mut grammar,
-                &mut text,
-                &mut output,
-                &Command::Table,
-            ))
+            status_of(run_tool(rt.alloc(), &mut grammar, &mut text, &mut output, &command))
         }
         Err(error) if error.kind() == ErrorKind::OutOfMemory => OUT_OF_MEMORY,
         Err(_) => FILE_FAULT,
