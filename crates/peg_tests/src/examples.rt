@@ -126,18 +126,37 @@ fn ends(rt: &impl Abort, alloc: Global, grammar: &[u8], texts: &[(&[u8], u8)]) -
     Ok(())
 }
 
+// Runs a command on a file, and answers its line and its status.
+fn told(alloc: Global, file: &[u8], command: Command) -> Result<(Vec<u8>, u8), Fail> {
+    let mut written = Vec::new(alloc);
+    let ended = run_tool(
+        alloc,
+        &mut Device::new(file),
+        &mut Device::new(b"".as_slice()),
+        &mut Device::new(&mut written),
+        &command,
+    )?;
+    Ok((written, ended))
+}
+
 #[test]
-fn every_grammar_has_a_table(rt: HostRuntime) -> Result<(), Fail> {
-    for file in [ARITHMETIC, CSV, INI, JSON, NOTATION, URI] {
-        let mut written = Vec::new(rt.alloc());
-        let ended = run_tool(
-            rt.alloc(),
-            &mut Device::new(file),
-            &mut Device::new(b"".as_slice()),
-            &mut Device::new(&mut written),
-            &Command::Table,
-        )?;
-        assert_eq!(&rt; ended, 0, "of {file:?}");
+fn every_grammar_has_a_table_and_is_accepted(rt: HostRuntime) -> Result<(), Fail> {
+    let alloc = rt.alloc();
+    let grammars = [
+        (ARITHMETIC, 8),
+        (CSV, 6),
+        (INI, 10),
+        (JSON, 10),
+        (NOTATION, 29),
+        (URI, 15),
+    ];
+    for (file, rules) in grammars {
+        let (_, status) = told(alloc, file, Command::Table)?;
+        assert_eq!(rt; status, 0, "of {file:?}");
+        let (line, status) = told(alloc, file, Command::Check)?;
+        let wanted = format!(in alloc; "{{\"result\":\"accepted\",\"rules\":{rules}}}\n")?;
+        assert!(rt; line.as_slice() == wanted.as_bytes(), "{wanted}");
+        assert_eq!(rt; status, 0, "of {file:?}");
     }
     Ok(())
 }

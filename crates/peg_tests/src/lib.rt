@@ -4,6 +4,8 @@
 #[cfg(test)]
 mod broken;
 #[cfg(test)]
+mod check;
+#[cfg(test)]
 mod examples;
 #[cfg(test)]
 mod joined;

@@ -1,0 +1,187 @@
+//! Runs of the command `check`: what was worked out by hand from Ford's rules for well-formed expressions.
+use peg_tool::{Command, Device, run_tool};
+use std::alloc::{AllocError, Global};
+use std::process::Abort;
+use std::test::Fail;
+
+// Checks a file, and compares the line, without its line end, and the status.
+fn tells(rt: &impl Abort, alloc: Global, file: &[u8], line: &str, status: u8) -> Result<(), Fail> {
+    let mut written = Vec::new(alloc);
+    let ended = run_tool(
+        alloc,
+        &mut Device::new(file),
+        &mut Device::new(b"".as_slice()),
+        &mut Device::new(&mut written),
+        &Command::Check,
+    )?;
+    let wanted = format!(in alloc; "{line}\n")?;
+    assert!(rt; written.as_slice() == wanted.as_bytes(), "{line}");
+    assert_eq!(rt; ended, status, "{line}");
+    Ok(())
+}
+
+// Each file is accepted, with so many rules.
+fn accepts(rt: &impl Abort, alloc: Global, files: &[(&[u8], usize)]) -> Result<(), Fail> {
+    for (file, rules) in files {
+        let line = format!(in alloc; "{{\"result\":\"accepted\",\"rules\":{rules}}}")?;
+        tells(rt, alloc, file, line.as_str(), 0)?;
+    }
+    Ok(())
+}
+
+// Each file is refused, with its line.
+fn refuses(rt: &impl Abort, alloc: Global, files: &[(&[u8], &str)]) -> Result<(), Fail> {
+    for (file, line) in files {
+        tells(rt, alloc, file, line, 2)?;
+    }
+    Ok(())
+}
+
+// Each file is refused for left recursion along these names.
+fn recurs(rt: &impl Abort, alloc: Global, files: &[(&[u8], &str)]) -> Result<(), Fail> {
+    for (file, path) in files {
+        let line = format!(in alloc; "{{\"path\":[{path}],\"refusal\":\"LeftRecursion\"}}")?;
+        tells(rt, alloc, file, line.as_str(), 2)?;
+    }
+    Ok(())
+}
+
+// Each file is refused for an empty loop of a rule, in a line and a column, from one place to another.
+fn loops(rt: &impl Abort, alloc: Global, files: &[(&[u8], &str, [u32; 4])]) -> Result<(), Fail> {
+    for (file, rule, [line, column, start, end]) in files {
+        let line = format!(in alloc;
+            "{{\"column\":{column},\"end\":{end},\"line\":{line},\"refusal\":\"EmptyLoop\",\"rule\":\"{rule}\",\"start\":{start}}}"
+        )?;
+        tells(rt, alloc, file, line.as_str(), 2)?;
+    }
+    Ok(())
+}
+
+#[test]
+fn well_formed_grammars_are_accepted(rt: HostRuntime) -> Result<(), Fail> {
+    let files: [(&[u8], usize); 7] = [
+        (b"A <- 'x' #end\n", 1),
+        (b"A <- 'x' A / 'y'\n", 1),
+        (b"A <- [] A\n", 1),
+        (b"A <- []* 'x'\n", 1),
+        (b"A <- !'x' . A / 'x'\n", 1),
+        (b"S <- 'a' S / 'b'\n", 1),
+        (b"A <- 'a' B?\nB <- &'c' . A / ''\n", 2),
+    ];
+    accepts(&rt, rt.alloc(), &files)
+}
+
+#[test]
+fn left_recursion_is_told_by_its_path(rt: HostRuntime) -> Result<(), Fail> {
+    let files: [(&[u8], &str); 18] = [
+        (b"A <- A\n", "\"A\""),
+        (b"A <- B 'x'\nB <- 'y'? A\n", "\"A\",\"B\""),
+        (b"S <- 'a'\nT <- T\n", "\"T\""),
+        (b"A <- 'x'? A\n", "\"A\""),
+        (b"A <- 'x'* A 'y'\n", "\"A\""),
+        (b"A <- !'x' A\n", "\"A\""),
+        (b"A <- &A 'x'\n", "\"A\""),
+        (b"A <- 'x' / !A\n", "\"A\""),
+        (b"A <- '' A\n", "\"A\""),
+        (b"A <- ('x' / '') A\n", "\"A\""),
+        (b"A <- B* 'x'\nB <- A\n", "\"A\",\"B\""),
+        (b"S <- 'a'\nU <- V\nV <- U 'x'\n", "\"U\",\"V\""),
+        (b"S <- A\nA <- 'x' / B\nB <- A\n", "\"A\",\"B\""),
+        (b"A <- B\nB <- C\nC <- B 'x'\n", "\"B\",\"C\""),
+        (b"A <- B / C\nB <- C\nC <- A\n", "\"A\",\"C\""),
+        (b"A <- C / B\nB <- A\nC <- A\n", "\"A\",\"B\""),
+        (
+            b"A <- 'x' / B\nB <- &C 'y'\nC <- 'z'? A\n",
+            "\"A\",\"B\",\"C\"",
+        ),
+        (b"A <- 'x'\rB <- (B)\r", "\"B\""),
+    ];
+    recurs(&rt, rt.alloc(), &files)
+}
+
+#[test]
+fn empty_loops_are_told_by_their_place(rt: HostRuntime) -> Result<(), Fail> {
+    let files: [(&[u8], &str, [u32; 4]); 12] = [
+        (b"A <- ('a'*)*\n", "A", [1, 6, 5, 12]),
+        (b"A <- ('')+\n", "A", [1, 6, 5, 10]),
+        (b"A <- (('')?)*\n", "A", [1, 6, 5, 13]),
+        (b"A <- !(''*) 'x'\n", "A", [1, 8, 7, 10]),
+        (b"A <- (('x'*)* 'y')+\n", "A", [1, 7, 6, 13]),
+        (b"A <- 'a' (''*) / ('b'?)+\n", "A", [1, 11, 10, 13]),
+        (b"A <- ((''?)*)*\n", "A", [1, 7, 6, 12]),
+        (b"A <- (('x'?)*)*\n", "A", [1, 7, 6, 13]),
+        (b"S <- 'a'\nU <- 'b'\n  ('c'?)*\n", "U", [3, 3, 20, 27]),
+        (b"A <- A\nB <- ''*\n", "B", [2, 6, 12, 15]),
+        (b"A <- (B / 'x')+\nB <- 'y'*\n", "A", [1, 6, 5, 15]),
+        (b"A <- 'x'\r\nB <- (!A)*", "B", [2, 6, 15, 20]),
+    ];
+    loops(&rt, rt.alloc(), &files)
+}
+
+#[test]
+fn files_and_grammars_are_refused_before(rt: HostRuntime) -> Result<(), Fail> {
+    let files: [(&[u8], &str); 8] = [
+        (
+            b"",
+            "{\"at\":0,\"column\":1,\"line\":1,\"refusal\":\"Syntax\"}",
+        ),
+        (
+            b"A <- [a-]\n",
+            "{\"at\":5,\"column\":6,\"line\":1,\"refusal\":\"Syntax\"}",
+        ),
+        (
+            b"A <- 'x' #end",
+            "{\"at\":9,\"column\":10,\"line\":1,\"refusal\":\"Syntax\"}",
+        ),
+        (
+            b"A <-\r\n  ?\n",
+            "{\"at\":8,\"column\":3,\"line\":2,\"refusal\":\"Syntax\"}",
+        ),
+        (
+            b"A <- (B <- 'x')\n",
+            "{\"at\":8,\"column\":9,\"line\":1,\"refusal\":\"Syntax\"}",
+        ),
+        (
+            b"A <- \"a\\-b\"\n",
+            "{\"at\":5,\"column\":6,\"line\":1,\"refusal\":\"Syntax\"}",
+        ),
+        (
+            b"A <- B\nA <- 'x'\n",
+            "{\"column\":1,\"end\":8,\"line\":2,\"name\":\"A\",\"refusal\":\"Duplicate\",\"start\":7}",
+        ),
+        (
+            b"A <- B\n",
+            "{\"column\":6,\"end\":6,\"line\":1,\"name\":\"B\",\"refusal\":\"Undefined\",\"start\":5}",
+        ),
+    ];
+    refuses(&rt, rt.alloc(), &files)?;
+    let spaces = vec![in rt.alloc(); b' '; 1_048_577]?;
+    refuses(
+        &rt,
+        rt.alloc(),
+        &[(spaces.as_slice(), "{\"refusal\":\"FileTooLong\"}")],
+    )
+}
+
+// A rule A of `'a'` in so many parentheses.
+fn nested(alloc: Global, depth: usize) -> Result<Vec<u8>, AllocError> {
+    let mut file = Vec::from_slice(alloc, b"A <- ")?;
+    for _ in 0..depth {
+        file.push(b'(')?;
+    }
+    file.extend_from_slice(b"'a'")?;
+    for _ in 0..depth {
+        file.push(b')')?;
+    }
+    file.push(b'\n')?;
+    Ok(file)
+}
+
+#[test]
+fn two_hundred_parentheses_may_be_open(rt: HostRuntime) -> Result<(), Fail> {
+    let alloc = rt.alloc();
+    let file = nested(alloc, 200)?;
+    accepts(&rt, alloc, &[(file.as_slice(), 1)])?;
+    let line = "{\"at\":205,\"column\":206,\"line\":1,\"refusal\":\"TooNested\"}";
+    refuses(&rt, alloc, &[(nested(alloc, 201)?.as_slice(), line)])
+}
