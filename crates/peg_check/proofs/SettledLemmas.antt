@@ -1,11 +1,11 @@
 -- Marks of settled forms: what is marked is settled, and what isn't waits in a list or asks for a form that isn't marked.
-use Rattle.std.proofs.Common.{◌≡◌, ℕ, zero, suc, ◌+◌, ◌*◌, ◌<◌, ◌≤◌, ◌⊎◌, inl, inr, Bool, true, false, Contains, List, [], ◌∷◌, ◌++◌, length, set, sym, ap, ◌∙◌, subst, arith}
+use Rattle.std.proofs.Common.{◌≡◌, ℕ, zero, suc, ◌+◌, ◌-◌, ◌*◌, ◌<◌, ◌≤◌, ◌⊎◌, inl, inr, Bool, true, false, Contains, List, [], ◌∷◌, ◌++◌, length, replicate, set, sym, ap, ◌∙◌, subst, arith, zero-add, suc-add}
 use Rattle.std.specs.List.{sum_by}
 use Rattle.std.proofs.Math.Nat.{suc-mul}
-use Rattle.std.proofs.lemmas.Bool.{cases_eq}
-use Rattle.std.proofs.lemmas.List.{get_or-set_other, get_or-set_same}
+use Rattle.std.proofs.lemmas.Bool.{cases_eq, cases_lt}
+use Rattle.std.proofs.lemmas.List.{get_or-replicate, get_or-set_other, get_or-set_same, get_or_past, length-replicate, length-set}
 use Rattle.std.proofs.lemmas.List.Elements.{Contains-push_cases}
-use Rattle.std.proofs.lemmas.List.Sums.{sum_by-set}
+use Rattle.std.proofs.lemmas.List.Sums.{sum_by-cons, sum_by-set}
 use Rattle.peg_check.specs.Links.{GoesBy, link_at}
 use Rattle.peg_check.specs.Settled.{is_marked, IsSettledIn, AllMarked, SomeLeft}
 use Rattle.peg_check.specs.Steps.{one_unless}
@@ -23,6 +23,20 @@ work-falls s t entries rest after one few =
     let e : suc s ≡ t = omega arith in
     omega (arith, suc-mul s (entries + 1), ap (λ n. n * (entries + 1)) e)
 
+-- at first nothing is marked
+pub none-marked : (n number : ℕ) → is_marked (replicate n false) number ≡ false
+none-marked n number = by (cases_lt number n)
+  where
+    by : (number < n) ⊎ (n ≤ number) → is_marked (replicate n false) number ≡ false
+    by (inl below) = get_or-replicate n number false false below
+    by (inr past) = get_or_past (replicate n false) number false (omega (arith, length-replicate n false))
+
+-- at most all
+pub most-unmarked : (marks : List Bool) → sum_by one_unless marks ≤ length marks
+most-unmarked [] = omega arith
+most-unmarked (true ∷ marks) = omega (arith, most-unmarked marks, sum_by-cons one_unless true marks)
+most-unmarked (false ∷ marks) = omega (arith, most-unmarked marks, sum_by-cons one_unless false marks)
+
 module _ (asks : List Link) where
   pub settled-more : (n number : ℕ) → IsSettledIn asks n number → IsSettledIn asks (suc n) number
   unfolding IsSettledIn
@@ -34,9 +48,23 @@ module _ (asks : List Link) where
   unfolding IsSettledIn
   settled-by n number all = all
 
-  -- all that is marked is settled in some number of rounds
+  pub settled-later : (more n number : ℕ) → IsSettledIn asks n number → IsSettledIn asks (more + n) number
+  settled-later zero n number settled = rw zero-add settled
+  settled-later (suc more) n number settled =
+      rw suc-add (settled-more (more + n) number (settled-later more n number settled))
+
+  -- all that is marked is settled, in no more rounds than there are marks
   abbrev pub Rounds : List Bool → Type 0
-  Rounds marks = (n : ℕ) × ((number : ℕ) → is_marked marks number ≡ true → IsSettledIn asks n number)
+  Rounds marks =
+      (n : ℕ) × (n + sum_by one_unless marks ≤ length marks)
+      × ((number : ℕ) → is_marked marks number ≡ true → IsSettledIn asks n number)
+
+  pub Rounds-all : (marks : List Bool) → length marks ≡ length asks → Rounds marks → (number : ℕ)
+      → is_marked marks number ≡ true → IsSettledIn asks (length asks) number
+  Rounds-all marks count rounds number marked =
+      let few : rounds.0 + sum_by one_unless marks ≤ length marks = rounds.1 in
+      let all : length asks - rounds.0 + rounds.0 ≡ length asks = omega arith in
+      subst (λ n. IsSettledIn asks n number) all (settled-later (length asks - rounds.0) rounds.0 number (rounds.2 number marked))
 
   -- each form that isn't marked waits, or asks for one that isn't
   abbrev pub AreWaiting : List Bool → List ℕ → Type 0
@@ -48,16 +76,22 @@ module _ (asks : List Link) where
     other-mark : (k : ℕ) → (k ≡ number → ⊥) → is_marked (set marks number true) k ≡ is_marked marks k
     other-mark k other = get_or-set_other marks number k true false other
 
-    pub Rounds-marked : AllMarked marks (link_at asks number) → Rounds marks → Rounds (set marks number true)
-    Rounds-marked all rounds = (suc rounds.0, λ k marked. by k marked (cases_eq k number))
+    pub Rounds-marked : number < length marks → is_marked marks number ≡ false → AllMarked marks (link_at asks number)
+        → Rounds marks → Rounds (set marks number true)
+    Rounds-marked within was all rounds = (
+      suc rounds.0,
+      (let few : rounds.0 + sum_by one_unless marks ≤ length marks = rounds.1 in
+          omega (arith, fewer-unmarked marks number within was, length-set marks number true)),
+      λ k marked. by k marked (cases_eq k number),
+    )
       where
         here : IsSettledIn asks (suc rounds.0) number
-        here = settled-by rounds.0 number (λ part goes. rounds.1 part (all part goes))
+        here = settled-by rounds.0 number (λ part goes. rounds.2 part (all part goes))
 
         by : (k : ℕ) → is_marked (set marks number true) k ≡ true → (k ≡ number) ⊎ (k ≡ number → ⊥)
             → IsSettledIn asks (suc rounds.0) k
         by k marked (inl is) = subst (IsSettledIn asks (suc rounds.0)) (sym is) here
-        by k marked (inr other) = settled-more rounds.0 k (rounds.1 k (sym (other-mark k other) ∙ marked))
+        by k marked (inr other) = settled-more rounds.0 k (rounds.2 k (sym (other-mark k other) ∙ marked))
 
     module _ (pending rest : List ℕ) (taken : pending ≡ rest ++ number ∷ []) (waiting : AreWaiting marks pending) where
       -- the form that was taken was marked, or asks for one that isn't

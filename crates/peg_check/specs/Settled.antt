@@ -31,10 +31,10 @@ IsLeft marks link part = GoesBy link part × (is_marked marks part ≡ false)
 abbrev pub SomeLeft : List Bool → Link → Type 0
 SomeLeft marks link = (part : ℕ) × IsLeft marks link part
 
--- the marks are those of the forms that are settled
+-- the marks are those of the forms that are settled, in as many rounds as there are forms
 pub record AreSettled (asks : List Link) (marks : List Bool) : Type 0 where
   pub count : length marks ≡ length asks
-  pub rounds : (n : ℕ) × ((number : ℕ) → is_marked marks number ≡ true → IsSettledIn asks n number)
+  pub rounds : (number : ℕ) → is_marked marks number ≡ true → IsSettledIn asks (length asks) number
   pub left : (number : ℕ) → number < length asks → is_marked marks number ≡ false → SomeLeft marks (link_at asks number)
 
 -- a form that wasn't marked, and all of whose parts were, is marked

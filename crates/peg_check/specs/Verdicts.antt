@@ -2,7 +2,7 @@
 use Rattle.std.specs.Prelude.{ℕ, ◌<◌, All}
 use Rattle.peg_bytes.specs.Extent.{extent}
 use Rattle.peg_core.specs.CoreLoops.{IsCoreEmptyLoop, IsCoreLeftCycle}
-use Rattle.peg_core.specs.CoreOutcomes.{IsCoreWellFormed}
+use Rattle.peg_core.specs.CoreOutcomes.{IsCoreWellFormedIn, IsCoreWellFormed}
 use Rattle.peg_core.specs.Layout.{Desugared}
 use Rattle.peg_check.specs.Exact.{bodies_of}
 use Rattle.peg_check.specs.Loops.{HasNoEmptyLoop}
@@ -12,6 +12,10 @@ use Rattle.peg_check.specs.declared.fault.CheckFault.TheVariants.{EmptyLoop, Lef
 -- each core form is well-formed
 abbrev pub AreWellFormed : Desugared → Type 0
 AreWellFormed core = All (IsCoreWellFormed (bodies_of core)) core.forms
+
+-- each core form is well-formed in so many rounds
+abbrev pub AreWellFormedIn : ℕ → Desugared → Type 0
+AreWellFormedIn n core = All (IsCoreWellFormedIn (bodies_of core) n) core.forms
 
 -- Whether a fault is true of core forms. Out of memory may come of any.
 abbrev pub IsFaultOf : Desugared → CheckFault → Type 0

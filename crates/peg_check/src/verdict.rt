@@ -6,7 +6,7 @@ ghost use Rattle.peg_check.specs.Asks.{AreAsked};
 ghost use Rattle.peg_check.specs.Exact.{bodies_of, IsExactTable};
 ghost use Rattle.peg_check.specs.Links.{LinkFits};
 ghost use Rattle.peg_check.specs.Loops.{NoneLoops};
-ghost use Rattle.peg_check.specs.Verdicts.{AreWellFormed, IsFaultOf, NamesRules};
+ghost use Rattle.peg_check.specs.Verdicts.{AreWellFormed, AreWellFormedIn, IsFaultOf, NamesRules};
 ghost use Rattle.peg_check.specs.declared.link.Link.{Link};
 
 use crate::asks::asks_of;
@@ -20,11 +20,12 @@ use crate::{CheckFault, Table, table_of};
 use peg_core::Core;
 use std::alloc::{AllocError, Global};
 
-/// The core forms of a well-formed grammar (Ford 2004, section 3.6): each of them is well-formed.
+/// The core forms of a well-formed grammar (Ford 2004, section 3.6): each of them is well-formed, in as many rounds as
+/// there are forms at most.
 #[derive(Debug, Drop)]
 pub struct Checked {
     core: Core,
-    pub ghost well_formed: { ∥ AreWellFormed core ∥₁ },
+    pub ghost well_formed: { ∥ AreWellFormedIn (length core.forms) core ∥₁ },
 }
 
 impl Checked {
@@ -43,6 +44,7 @@ impl Checked {
 pub fn check(alloc: Global, core: Core) -> Result<Checked, CheckFault>
     ensures accepted { IfOk result (λ checked. checked.core ≡ core) }
     ensures well_formed { OnOk result (AreWellFormed core) }
+    ensures rounds { OnOk result (AreWellFormedIn (length core.forms) core) }
     ensures refused { IfErr result (IsFaultOf core) }
     ensures named { IfErr result (NamesRules (length core.bodies)) }
 {
@@ -52,7 +54,7 @@ pub fn check(alloc: Global, core: Core) -> Result<Checked, CheckFault>
 
 // Nothing, if each core form is well-formed, and else why not.
 fn judge(alloc: Global, core: &Core) -> Result<(), CheckFault>
-    ensures well_formed { OnOk result (AreWellFormed core.now) }
+    ensures well_formed { OnOk result (AreWellFormedIn (length core.now.forms) core.now) }
     ensures refused { IfErr result (IsFaultOf core.now) }
     ensures named { IfErr result (NamesRules (length core.now.bodies)) }
 {
@@ -71,7 +73,8 @@ fn left_cycle(alloc: Global, core: &Core, table: &Table) -> Result<Option<Vec<u3
     requires table { IsExactTable core.now table.now }
     requires loops { NoneLoops core.now }
     ensures { IfOk result (λ found.
-        MatchOption found (AreWellFormed core.now) (λ path. IsCoreLeftCycle (bodies_of core.now) path.items)) }
+        MatchOption found (AreWellFormedIn (length core.now.forms) core.now)
+        (λ path. IsCoreLeftCycle (bodies_of core.now) path.items)) }
 {
     let asks = asks_of(alloc, core, table)?;
     let marks = settled_of(alloc, &asks)?;

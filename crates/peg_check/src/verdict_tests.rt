@@ -417,6 +417,18 @@ fn loop_inside_a_plus(rt: HostRuntime) -> Result<(), Fail> {
     Ok(())
 }
 
+// A <- ''*    B <- ''*
+#[test]
+fn loop_of_the_first_of_two_rules(rt: HostRuntime) -> Result<(), Fail> {
+    let alloc = rt.alloc();
+    let a = star(alloc, literal(alloc, b"")?, 5, 8)?;
+    let b = star(alloc, literal(alloc, b"")?, 14, 17)?;
+    let rules = pair(alloc, a, b)?;
+    let said = said(alloc, rules)?;
+    assert_eq!(rt; said.as_str(), "loop 0 5 8");
+    Ok(())
+}
+
 // A <- [] ''*
 #[test]
 fn loop_where_nothing_leads(rt: HostRuntime) -> Result<(), Fail> {

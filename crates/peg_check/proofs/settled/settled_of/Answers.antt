@@ -1,4 +1,4 @@
-use Rattle.std.proofs.Common.{◌≡◌, ℕ, ◌+◌, ◌*◌, ◌<◌, ◌++◌, ◌∷◌, [], All, true, false, List, Bool, length, take, drop, set, sym, refl, ap, ◌∙◌, subst, arith, length-append}
+use Rattle.std.proofs.Common.{replicate, inr, inl, ◌≡◌, ℕ, ◌+◌, ◌*◌, ◌<◌, ◌++◌, ◌∷◌, [], All, true, false, List, Bool, length, take, drop, set, sym, refl, ap, ◌∙◌, subst, arith, length-append}
 use Rattle.std.specs.List.{sum_by}
 use Rattle.std.proofs.lemmas.List.{length-set}
 use Rattle.peg_check.specs.Links.{GoesBy, link_at}
@@ -6,16 +6,56 @@ use Rattle.peg_check.specs.Settled.{is_marked, AllMarked, SomeLeft}
 use Rattle.peg_check.specs.Steps.{one_unless}
 use Rattle.peg_check.specs.declared.link.Link.TheVariants as link
 use Rattle.peg_check.specs.Cans.{nothing_known}
-use Rattle.peg_check.proofs.SettledLemmas.{fewer-unmarked, work-falls, Rounds, AreWaiting, Rounds-marked, AreWaiting-same, AreWaiting-marked}
+use Rattle.peg_check.proofs.SettledLemmas.{fewer-unmarked, work-falls, none-marked, most-unmarked, Rounds, Rounds-all, AreWaiting, Rounds-marked, AreWaiting-same, AreWaiting-marked}
 use Rattle.peg_check.proofs.Worklist.{all_taken, last_taken}
 use Rattle.peg_check.proofs.Written.{whole-written}
 use Rattle.peg_check.proofs.settled.settled_of.Goals as goal
-use Rattle.peg_check.proofs.settled.settled_of.Goals.{After-settle-more}
+use Rattle.peg_check.proofs.settled.settled_of.Goals.{In-Some, After-settle-more}
 
 -- the form that was taken from the list is one of the forms
+taken : (c : In-Some) → c.in-Some.number < length c.args.asks.now
+taken c =
+    last_taken (λ k. k < length c.args.asks.now) c.looks.pending.items c.pop.new.self.items c.in-Some.number c.in-Some.ensures.items c.looks.invariant.within
+
 within : (c : After-settle-more) → c.in-Some.number < length c.args.asks.now
 within c =
     last_taken (λ k. k < length c.args.asks.now) c.looks.pending.items c.pop.new.self.items c.in-Some.number c.in-Some.ensures.items c.looks.invariant.within
+
+pub bounds-asks-number : goal.bounds-asks-number
+bounds-asks-number c = taken (goal.at.bounds-asks-number c).In-Some
+
+pub settle-more-requires-clause-within : goal.settle-more-requires-clause-within
+settle-more-requires-clause-within c =
+    let at = (goal.at.settle-more-requires-clause-within c).In-Some in
+    omega (arith, taken at, ap length c.deref_mut.ensures.value, c.looks.invariant.count)
+
+-- at first nothing is marked
+pub looks-init : goal.looks-init
+looks-init c =
+    let marks = c.in_ok-marks.marks.items in
+    let items : marks ≡ replicate (length c.args.asks.now) false = c.in_ok-marks.ensures.items_if_clones_equal (λ y is. is) in
+    record {
+      count = omega (arith, c.in_ok-marks.ensures.len, c.in_ok-marks.marks.ok.0);
+      within = c.in_ok-pending.ensures.within;
+      rounds = (
+        0,
+        omega (arith, most-unmarked marks),
+        λ number marked. let bad : false ≡ true = sym (none-marked (length c.args.asks.now) number) ∙ (ap (λ (m : List Bool). is_marked m number) (sym items) ∙ marked) in cc,
+      );
+      awaited = λ number below unmarked. inl (c.in_ok-pending.ensures.all number below);
+    }
+
+-- at last nothing waits
+pub returns : goal.returns
+returns c =
+    let asks = c.args.asks.now in
+    let marks = c.looks.marks.items in
+    let none : length c.looks.pending.items ≡ 0 = omega (arith, c.in_default.ensures.cases.0, c.looks.pending.ok.0) in
+    record {
+      count = c.looks.invariant.count;
+      rounds = Rounds-all asks marks c.looks.invariant.count c.looks.invariant.rounds;
+      left = λ number below unmarked. elim (c.looks.invariant.awaited number below unmarked) [ inl had ↦ absurd (let bad : had.0 < length c.looks.pending.items = had.1 in omega (arith, bad, none)) | inr some ↦ some ];
+    }
 
 pub add_users-requires-clause-forms : goal.add_users-requires-clause-forms
 add_users-requires-clause-forms c =
@@ -64,11 +104,12 @@ looks-preserved c =
     let newly = c.if-not-more.ensures.marked in
     let now = marked at newly.now in
     let below : number < length marks = omega (arith, within at, c.looks.invariant.count) in
+    let was : is_marked marks number ≡ false = ap (λ (m : List Bool). is_marked m number) (sym c.deref_mut.ensures.value) ∙ newly.was in
     let users = λ (k : ℕ) (small : k < length asks) (goes : GoesBy (link_at asks k) number). c.in_ok-add_users.ensures.users k (c.in_ok-uses.ensures.users k (link.Known nothing_known) number small goes) in
     record {
       count = ap length now ∙ (length-set marks number true ∙ c.looks.invariant.count);
       within = subst (λ n. All (λ k. k < n) after) c.in_ok-uses.ensures.chains.forms c.in_ok-add_users.ensures.forms;
-      rounds = subst (Rounds asks) (sym now) (Rounds-marked asks marks number (subst (λ (m : List Bool). AllMarked m (link_at asks number)) c.deref_mut.ensures.value newly.all) c.looks.invariant.rounds);
+      rounds = subst (Rounds asks) (sym now) (Rounds-marked asks marks number below was (subst (λ (m : List Bool). AllMarked m (link_at asks number)) c.deref_mut.ensures.value newly.all) c.looks.invariant.rounds);
       awaited = subst (λ (m : List Bool). AreWaiting asks m after) (sym now) (AreWaiting-marked asks marks number pending rest taken c.looks.invariant.awaited below after c.in_ok-add_users.ensures.kept users);
     }
 

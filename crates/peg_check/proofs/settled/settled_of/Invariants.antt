@@ -1,4 +1,4 @@
-use Rattle.std.proofs.Common.{◌≡◌, ℕ, ◌+◌, ◌*◌, ◌<◌, ◌⊎◌, All, Contains, true, false, length}
+use Rattle.std.proofs.Common.{◌≡◌, ℕ, ◌+◌, ◌*◌, ◌<◌, ◌≤◌, ◌⊎◌, All, Contains, true, false, length}
 use Rattle.std.specs.List.{sum_by}
 use Rattle.peg_check.specs.Links.{link_at}
 use Rattle.peg_check.specs.Settled.{is_marked, IsSettledIn, SomeLeft}
@@ -10,7 +10,7 @@ abbrev pub invariant-looks : goal.invariant-looks
 invariant-looks l = record {
   count : length l.marks.items ≡ length l.asks;
   within : All (λ number. number < length l.asks) l.pending.items;
-  rounds : (n : ℕ) × ((number : ℕ) → is_marked l.marks.items number ≡ true → IsSettledIn l.asks n number);
+  rounds : (n : ℕ) × (n + sum_by one_unless l.marks.items ≤ length l.marks.items) × ((number : ℕ) → is_marked l.marks.items number ≡ true → IsSettledIn l.asks n number);
   awaited : (number : ℕ) → number < length l.asks → is_marked l.marks.items number ≡ false → Contains l.pending.items number ⊎ SomeLeft l.marks.items (link_at l.asks number);
 }
 

@@ -7,7 +7,7 @@ use Rattle.peg_core.specs.Layout.{Desugared, form_at}
 use Rattle.peg_bytes.specs.Extent.{extent}
 use Rattle.peg_check.specs.Exact.{bodies_of}
 use Rattle.peg_check.specs.Loops.{HasNone, IsLoop}
-use Rattle.peg_check.specs.Verdicts.{AreWellFormed}
+use Rattle.peg_check.specs.Verdicts.{AreWellFormedIn}
 use Rattle.peg_check.specs.declared.loops.Loop.{Loop}
 use Rattle.peg_check.proofs.PathLemmas.{has-body, cycle-bodies}
 use Rattle.peg_check.proofs.Refutations.{loop-refuted, cycle-refuted}
@@ -38,10 +38,10 @@ returns-in-Some-clause-named c =
 
 -- the cycle that was found, where one was
 named : (core : Desugared) (o : Option (Vec ℕ Global)) (path : Vec ℕ Global) → o ≡ Some path
-    → MatchOption o (AreWellFormed core) (λ p. IsCoreLeftCycle (bodies_of core) p.items)
+    → MatchOption o (AreWellFormedIn (length core.forms) core) (λ p. IsCoreLeftCycle (bodies_of core) p.items)
     → IsCoreLeftCycle (bodies_of core) path.items
 named core o path is h =
-    subst (λ (p : Option (Vec ℕ Global)). MatchOption p (AreWellFormed core) (λ q. IsCoreLeftCycle (bodies_of core) q.items)) is h
+    subst (λ (p : Option (Vec ℕ Global)). MatchOption p (AreWellFormedIn (length core.forms) core) (λ q. IsCoreLeftCycle (bodies_of core) q.items)) is h
 
 pub returns-in-Some-2-clause-refused : goal.returns-in-Some-2-clause-refused
 returns-in-Some-2-clause-refused c =

@@ -5,7 +5,7 @@ use Rattle.peg_core.specs.CoreOutcomes.{IsCoreWellFormedIn}
 use Rattle.peg_check.specs.Cans.{nothing_known}
 use Rattle.peg_check.specs.Exact.{bodies_of}
 use Rattle.peg_check.specs.Links.{LinkFits, link_at}
-use Rattle.peg_check.specs.Settled.{is_marked, AreSettled}
+use Rattle.peg_check.specs.Settled.{is_marked, IsSettledIn, AreSettled}
 use Rattle.peg_check.specs.declared.link.Link.{Link}
 use Rattle.peg_check.specs.declared.link.Link.TheVariants as link
 use Rattle.peg_check.proofs.AskLemmas.{AsksBy-fits, well_formed-settled}
@@ -44,8 +44,7 @@ returns-in-None c =
     let settled : AreSettled asks marks = subst (λ (l : List Link). AreSettled l marks) c.deref.ensures.value c.in_ok-marks.ensures in
     λ k d within.
     let inside : k < length c.deref-2.result.now = omega (arith, ap length c.deref-2.ensures.value, settled.count, c.in_ok-asks.ensures.count) in
-    let marked = subst (λ m. is_marked m k ≡ true) c.deref-2.ensures.value (c.in-None.ensures k inside) in (
-      settled.rounds.0,
-      subst (λ f. IsCoreWellFormedIn (bodies_of core) settled.rounds.0 f) (get_or_default core.forms k Empty d within)
-          (well_formed-settled core asks c.in_ok-asks.ensures.asked c.requires.loops settled.rounds.0 k within (settled.rounds.1 k marked)),
-    )
+    let marked = subst (λ m. is_marked m k ≡ true) c.deref-2.ensures.value (c.in-None.ensures k inside) in
+    let rounds = subst (λ n. IsSettledIn asks n k) c.in_ok-asks.ensures.count (settled.rounds k marked) in
+    subst (λ f. IsCoreWellFormedIn (bodies_of core) (length core.forms) f) (get_or_default core.forms k Empty d within)
+    (well_formed-settled core asks c.in_ok-asks.ensures.asked c.requires.loops (length core.forms) k within rounds)
