@@ -88,60 +88,43 @@ impl Grammar {
 #[cfg(test)]
 mod tests {
     use super::*;
+    use crate::steps::Step::{
+        And, Any, At, Choice, Class, Literal, Not, Optional, Plus, Seq, Star, Use,
+    };
+    use crate::steps::{definitions, expression, rule};
     use peg_bytes::{ByteSet, Span};
-    use std::alloc::AllocError;
+    use std::process::Abort;
     use std::test::Fail;
 
-    fn literal(alloc: Global, bytes: usize) -> Result<Expr, AllocError> {
-        Ok(Expr::Literal {
+    // S <- a literal of so many bytes
+    fn long(alloc: Global, bytes: usize) -> Result<Vec<Definition>, Fail> {
+        let body = Expr::Literal {
             bytes: vec![in alloc; b'a'; bytes]?,
             span: Span::new(0, 0),
-        })
-    }
-
-    fn use_of(alloc: Global, name: &str, span: Span) -> Result<Expr, AllocError> {
-        Ok(Expr::Name {
-            name: String::from_str(alloc, name)?,
-            span,
-        })
-    }
-
-    fn part(alloc: Global, expression: Expr) -> Result<Box<Expr>, AllocError> {
-        Box::new(alloc, expression).map_err(AllocError::from)
+        };
+        Ok(vec![in alloc; rule(alloc, "S", Span::new(0, 1), body)?]?)
     }
 
     // S <- [a-z] . 'xy'? (!NAME)* [a-z]+ &S, where the name stands from 20 to 21.
-    fn signs(alloc: Global, name: &str) -> Result<Expr, AllocError> {
-        let span = Span::new(0, 0);
+    fn signs(alloc: Global, name: &'static str) -> Result<Vec<Definition>, Fail> {
         let set = ByteSet::range(b'a', b'z');
-        let not = Expr::Not {
-            part: part(alloc, use_of(alloc, name, Span::new(20, 21))?)?,
-            span,
-        };
-        let optional = part(alloc, literal(alloc, 2)?)?;
-        let star = part(alloc, not)?;
-        let plus = part(alloc, Expr::Class { set, span })?;
-        let and = part(alloc, use_of(alloc, "S", span)?)?;
-        let items = vec![in alloc;
-            Expr::Class { set, span },
-            Expr::Any { span },
-            Expr::Optional {
-                part: optional,
-                span
-            },
-            Expr::Star { part: star, span },
-            Expr::Plus { part: plus, span },
-            Expr::And { part: and, span },
-        ]?;
-        Ok(Expr::Seq { items, span })
+        let class = [Class(set), Any, Literal(b"xy"), Optional];
+        let rounds = [At(20, 21), Use(name), Not, Star];
+        let last = [Class(set), Plus, Use("S"), And, Seq(6)];
+        let mut steps = class.to_vec(alloc)?;
+        steps.extend_from_slice(&rounds)?;
+        steps.extend_from_slice(&last)?;
+        definitions(alloc, &[("S", &steps)])
     }
 
-    fn rule(alloc: Global, name: &str, span: Span, body: Expr) -> Result<Definition, AllocError> {
-        Ok(Definition {
-            name: String::from_str(alloc, name)?,
-            span,
-            body,
-        })
+    fn assert_undefined(rt: &impl Abort, refused: &Result<Grammar, GrammarFault>, at: Span) {
+        match refused {
+            Err(GrammarFault::Undefined { name, span }) => {
+                assert_eq!(rt; name.as_str(), "T");
+                assert_eq!(rt; *span, at);
+            }
+            _ => assert!(rt; false),
+        }
     }
 
     #[test]
@@ -153,9 +136,7 @@ mod tests {
     #[test]
     fn most_parts_are_a_grammar(rt: HostRuntime) -> Result<(), Fail> {
         let alloc = rt.alloc();
-        let name = Span::new(0, 1);
-        let body = literal(alloc, 4_194_302)?;
-        let definitions = vec![in alloc; rule(alloc, "S", name, body)?]?;
+        let definitions = long(alloc, 4_194_302)?;
         assert_eq!(rt; weight(&definitions), MOST_PARTS);
         let grammar = Grammar::new(alloc, definitions)?;
         assert_eq!(rt; grammar.rules(), 1);
@@ -168,24 +149,25 @@ mod tests {
 
     #[test]
     fn one_part_more_is_refused(rt: HostRuntime) -> Result<(), Fail> {
-        let alloc = rt.alloc();
-        let body = literal(alloc, 4_194_303)?;
-        let definitions = vec![in alloc; rule(alloc, "S", Span::new(0, 1), body)?]?;
-        let refused = Grammar::new(alloc, definitions);
+        let refused = Grammar::new(rt.alloc(), long(rt.alloc(), 4_194_303)?);
         assert!(rt; matches!(refused, Err(GrammarFault::TooManyParts)));
         Ok(())
     }
 
-    #[test]
-    fn a_duplicate_is_named_where_it_stands(rt: HostRuntime) -> Result<(), Fail> {
-        let alloc = rt.alloc();
+    // S <- U, T <- U, T <- U, one in ten bytes.
+    fn repeated(alloc: Global) -> Result<Vec<Definition>, Fail> {
         let mut definitions = Vec::new(alloc);
         for start in [0, 10, 20] {
             let name = if start == 0 { "S" } else { "T" };
-            let body = use_of(alloc, "U", Span::new(start + 5, start + 6))?;
+            let body = expression(alloc, &[Use("U")])?;
             definitions.push(rule(alloc, name, Span::new(start, start + 1), body)?)?;
         }
-        let refused = Grammar::new(alloc, definitions);
+        Ok(definitions)
+    }
+
+    #[test]
+    fn a_duplicate_is_named_where_it_stands(rt: HostRuntime) -> Result<(), Fail> {
+        let refused = Grammar::new(rt.alloc(), repeated(rt.alloc())?);
         match &refused {
             Err(GrammarFault::Duplicate { name, span }) => {
                 assert_eq!(rt; name.as_str(), "T");
@@ -196,50 +178,25 @@ mod tests {
         Ok(())
     }
 
+    // S <- S / T / U
     #[test]
     fn the_first_undefined_name_is_told(rt: HostRuntime) -> Result<(), Fail> {
-        let alloc = rt.alloc();
-        let known = use_of(alloc, "S", Span::new(5, 6))?;
-        let rest = vec![in alloc;
-            use_of(alloc, "T", Span::new(7, 8))?,
-            use_of(alloc, "U", Span::new(9, 10))?,
-        ]?;
-        let body = Expr::Choice {
-            first: Box::new(alloc, known).map_err(AllocError::from)?,
-            rest,
-            span: Span::new(5, 10),
-        };
-        let definitions = vec![in alloc; rule(alloc, "S", Span::new(0, 1), body)?]?;
+        let (second, third) = (At(7, 8), At(9, 10));
+        let steps = [Use("S"), second, Use("T"), third, Use("U"), Choice(3)];
+        let definitions = definitions(rt.alloc(), &[("S", &steps)])?;
         assert_eq!(rt; weight(&definitions), 5);
-        let refused = Grammar::new(alloc, definitions);
-        match &refused {
-            Err(GrammarFault::Undefined { name, span }) => {
-                assert_eq!(rt; name.as_str(), "T");
-                assert_eq!(rt; *span, Span::new(7, 8));
-            }
-            _ => assert!(rt; false),
-        }
+        assert_undefined(&rt, &Grammar::new(rt.alloc(), definitions), Span::new(7, 8));
         Ok(())
     }
 
     // Rule 1, sequence 1, class 1, dot 1, optional 1 + 3, star 1 + 1 + 1, plus 1 + 1, and 1 + 1.
     #[test]
     fn all_forms_are_weighed_and_their_names_looked_up(rt: HostRuntime) -> Result<(), Fail> {
-        let alloc = rt.alloc();
-        let body = signs(alloc, "S")?;
-        let definitions = vec![in alloc; rule(alloc, "S", Span::new(0, 1), body)?]?;
+        let definitions = signs(rt.alloc(), "S")?;
         assert_eq!(rt; weight(&definitions), 15);
-        assert_eq!(rt; Grammar::new(alloc, definitions)?.rules(), 1);
-        let body = signs(alloc, "T")?;
-        let definitions = vec![in alloc; rule(alloc, "S", Span::new(0, 1), body)?]?;
-        let refused = Grammar::new(alloc, definitions);
-        match &refused {
-            Err(GrammarFault::Undefined { name, span }) => {
-                assert_eq!(rt; name.as_str(), "T");
-                assert_eq!(rt; *span, Span::new(20, 21));
-            }
-            _ => assert!(rt; false),
-        }
+        assert_eq!(rt; Grammar::new(rt.alloc(), definitions)?.rules(), 1);
+        let refused = Grammar::new(rt.alloc(), signs(rt.alloc(), "T")?);
+        assert_undefined(&rt, &refused, Span::new(20, 21));
         Ok(())
     }
 }

@@ -10,6 +10,8 @@ mod names;
 mod names_of_grammar;
 mod numbers;
 mod plain;
+#[cfg(test)]
+mod steps;
 mod terminals;
 #[cfg(test)]
 mod tests;

@@ -59,65 +59,48 @@ fn add_terminals_of_all(spans: &mut Vec<Span>, items: &[Expr]) -> Result<(), All
 #[cfg(test)]
 mod tests {
     use super::*;
+    use crate::steps::Step::{And, Any, At, Choice, Class, Literal, Not, Plus, Seq, Use};
+    use crate::steps::{definitions, expression, nowhere, rule};
     use peg_bytes::ByteSet;
+    use std::process::Abort;
     use std::test::Fail;
 
-    // A literal of one byte, in quotes, from a place on.
-    fn literal(alloc: Global, byte: u8, start: u8) -> Result<Expr, AllocError> {
-        let start = u32::from(start);
-        Ok(Expr::Literal {
-            bytes: vec![in alloc; byte]?,
-            span: Span::new(start, start + 3),
-        })
-    }
-
-    // The use of A between two literals, and a last one: each literal from its place on.
-    fn wrapped(alloc: Global, last: u8, places: [u8; 4], span: Span) -> Result<Expr, AllocError> {
-        let [open, name, close, end] = places;
-        let used = Expr::Name {
-            name: String::from_str(alloc, "A")?,
-            span: Span::new(u32::from(name), u32::from(name) + 1),
-        };
-        Ok(Expr::Seq {
-            items: vec![in alloc;
-                literal(alloc, b'(', open)?,
-                used,
-                literal(alloc, b')', close)?,
-                literal(alloc, last, end)?,
-            ]?,
-            span,
-        })
-    }
-
-    fn boxed(alloc: Global, expression: Expr) -> Result<Box<Expr>, AllocError> {
-        Box::new(alloc, expression).map_err(AllocError::from)
-    }
-
-    fn rule(alloc: Global, name: &str, span: Span, body: Expr) -> Result<Definition, AllocError> {
-        Ok(Definition {
-            name: String::from_str(alloc, name)?,
-            span,
-            body,
-        })
+    // The terminals of the definitions stand at these places.
+    fn assert_spans(
+        rt: &impl Abort,
+        alloc: Global,
+        definitions: &[Definition],
+        expected: &[Span],
+    ) -> Result<(), Fail> {
+        let spans = terminal_spans(alloc, definitions)?;
+        assert_eq!(rt; spans.as_slice(), expected);
+        Ok(())
     }
 
     // A <- '(' A ')' 'x' / '(' A ')' 'y' / 'a'
     #[test]
     fn a_repeated_prefix_has_its_terminals_twice(rt: HostRuntime) -> Result<(), Fail> {
-        let alloc = rt.alloc();
-        let body = Expr::Choice {
-            first: boxed(
-                alloc,
-                wrapped(alloc, b'x', [5, 9, 11, 15], Span::new(5, 18))?,
-            )?,
-            rest: vec![in alloc;
-                wrapped(alloc, b'y', [21, 25, 27, 31], Span::new(21, 34))?,
-                literal(alloc, b'a', 37)?,
-            ]?,
-            span: Span::new(5, 40),
-        };
-        let definitions = vec![in alloc; rule(alloc, "A", Span::new(0, 1), body)?]?;
-        let spans = terminal_spans(alloc, &definitions)?;
+        let steps = [
+            At(5, 8),
+            Literal(b"("),
+            Use("A"),
+            At(11, 14),
+            Literal(b")"),
+            At(15, 18),
+            Literal(b"x"),
+            Seq(4),
+            At(21, 24),
+            Literal(b"("),
+            Use("A"),
+            At(27, 30),
+            Literal(b")"),
+            At(31, 34),
+            Literal(b"y"),
+            Seq(4),
+            At(37, 40),
+            Literal(b"a"),
+            Choice(3),
+        ];
         let expected = [
             Span::new(5, 8),
             Span::new(11, 14),
@@ -127,57 +110,39 @@ mod tests {
             Span::new(31, 34),
             Span::new(37, 40),
         ];
-        assert_eq!(rt; spans.as_slice(), expected.as_slice());
-        Ok(())
-    }
-
-    // &[] .+ !'b'
-    fn signed(alloc: Global) -> Result<Expr, AllocError> {
-        let class = Expr::Class {
-            set: ByteSet::empty(),
-            span: Span::new(6, 8),
-        };
-        let ahead = Expr::And {
-            part: boxed(alloc, class)?,
-            span: Span::new(5, 8),
-        };
-        let dot = Expr::Any {
-            span: Span::new(9, 10),
-        };
-        let more = Expr::Plus {
-            part: boxed(alloc, dot)?,
-            span: Span::new(9, 11),
-        };
-        let end = Expr::Not {
-            part: boxed(alloc, literal(alloc, b'b', 13)?)?,
-            span: Span::new(12, 16),
-        };
-        Ok(Expr::Seq {
-            items: vec![in alloc; ahead, more, end]?,
-            span: Span::new(5, 16),
-        })
+        let definitions = definitions(rt.alloc(), &[("A", &steps)])?;
+        assert_spans(&rt, rt.alloc(), &definitions, &expected)
     }
 
     // S <- &[] .+ !'b' and, in the next line, T <- ''
+    fn two(alloc: Global) -> Result<Vec<Definition>, Fail> {
+        let class = Class(ByteSet::empty());
+        let steps = [
+            At(6, 8),
+            class,
+            And,
+            At(9, 10),
+            Any,
+            Plus,
+            At(13, 16),
+            Literal(b"b"),
+            Not,
+            Seq(3),
+        ];
+        let first = expression(alloc, &steps)?;
+        let second = expression(alloc, &[At(22, 24), Literal(b"")])?;
+        let first = rule(alloc, "S", nowhere(), first)?;
+        Ok(vec![in alloc; first, rule(alloc, "T", nowhere(), second)?]?)
+    }
+
     #[test]
     fn rules_follow_one_another(rt: HostRuntime) -> Result<(), Fail> {
-        let alloc = rt.alloc();
-        let empty = Expr::Literal {
-            bytes: Vec::new(alloc),
-            span: Span::new(22, 24),
-        };
-        let definitions = vec![in alloc;
-            rule(alloc, "S", Span::new(0, 1), signed(alloc)?)?,
-            rule(alloc, "T", Span::new(17, 18), empty)?,
-        ]?;
-        let spans = terminal_spans(alloc, &definitions)?;
         let expected = [
             Span::new(6, 8),
             Span::new(9, 10),
             Span::new(13, 16),
             Span::new(22, 24),
         ];
-        assert_eq!(rt; spans.as_slice(), expected.as_slice());
-        Ok(())
+        assert_spans(&rt, rt.alloc(), &two(rt.alloc())?, &expected)
     }
 }

@@ -1,8 +1,9 @@
 //! Tests of the evaluator on small grammars. Every value that is wanted was worked out by hand from the recognition
 //! table, the numbers of the terminals and the furthest failure.
-use self::Step::{And, Any, Choice, Class, Literal, Not, Optional, Plus, Seq, Star, Use};
-use crate::{Definition, Expr, Grammar, PlainFault, plain_match};
-use peg_bytes::{ByteSet, Span};
+use crate::steps::Step::{And, Any, Choice, Class, Literal, Not, Optional, Plus, Seq, Star, Use};
+use crate::steps::{Step, choice, definitions, expression, literal, nowhere, rule};
+use crate::{Expr, Grammar, PlainFault, plain_match};
+use peg_bytes::ByteSet;
 use peg_tree::{Parsed, Tree};
 use std::alloc::{AllocError, Global};
 use std::process::Abort;
@@ -19,22 +20,6 @@ struct Case {
     far: u32,
     expected: &'static [u32],
     nodes: &'static [Node],
-}
-
-// An expression is written as steps, a form behind its parts. A sequence or choice says how many parts it has.
-#[derive(Clone, Copy)]
-enum Step {
-    Literal(&'static [u8]),
-    Class(ByteSet),
-    Any,
-    Use(&'static str),
-    Seq(usize),
-    Choice(usize),
-    Optional,
-    Star,
-    Plus,
-    And,
-    Not,
 }
 
 fn matched(
@@ -63,116 +48,9 @@ fn failed(text: &'static [u8], far: u32, expected: &'static [u32]) -> Case {
     }
 }
 
-fn nowhere() -> Span {
-    Span::new(0, 0)
-}
-
-fn boxed(alloc: Global, part: Expr) -> Result<Box<Expr>, AllocError> {
-    Box::new(alloc, part).map_err(AllocError::from)
-}
-
-fn literal(alloc: Global, bytes: &[u8]) -> Result<Expr, AllocError> {
-    let bytes = bytes.to_vec(alloc)?;
-    Ok(Expr::Literal {
-        bytes,
-        span: nowhere(),
-    })
-}
-
-fn use_of(alloc: Global, name: &str) -> Result<Expr, AllocError> {
-    let name = String::from_str(alloc, name)?;
-    Ok(Expr::Name {
-        name,
-        span: nowhere(),
-    })
-}
-
-fn choice(alloc: Global, first: Expr, rest: Vec<Expr>) -> Result<Expr, AllocError> {
-    let first = boxed(alloc, first)?;
-    Ok(Expr::Choice {
-        first,
-        rest,
-        span: nowhere(),
-    })
-}
-
-// The last expression that was built, taken away; a dot where there is none.
-fn last(built: &mut Vec<Expr>) -> Expr {
-    match built.pop() {
-        Some(part) => part,
-        None => Expr::Any { span: nowhere() },
-    }
-}
-
-// The last so many expressions, in order.
-fn last_of(alloc: Global, built: &mut Vec<Expr>, count: usize) -> Result<Vec<Expr>, Fail> {
-    let mut items = Vec::new(alloc);
-    for _ in 0..count {
-        items.push(last(built))?;
-    }
-    items.reverse();
-    Ok(items)
-}
-
-// A form of one part over the last expression.
-fn signed(alloc: Global, sign: Step, built: &mut Vec<Expr>) -> Result<Expr, Fail> {
-    let part = boxed(alloc, last(built))?;
-    let span = nowhere();
-    Ok(match sign {
-        Optional => Expr::Optional { part, span },
-        Star => Expr::Star { part, span },
-        Plus => Expr::Plus { part, span },
-        And => Expr::And { part, span },
-        _ => Expr::Not { part, span },
-    })
-}
-
-// The expression of one step.
-fn next(alloc: Global, step: Step, built: &mut Vec<Expr>) -> Result<Expr, Fail> {
-    let span = nowhere();
-    match step {
-        Literal(bytes) => Ok(literal(alloc, bytes)?),
-        Class(set) => Ok(Expr::Class { set, span }),
-        Any => Ok(Expr::Any { span }),
-        Use(name) => Ok(use_of(alloc, name)?),
-        Seq(count) => {
-            let items = last_of(alloc, built, count)?;
-            Ok(Expr::Seq { items, span })
-        }
-        Choice(count) => {
-            let rest = last_of(alloc, built, count.saturating_sub(1))?;
-            Ok(choice(alloc, last(built), rest)?)
-        }
-        _ => signed(alloc, step, built),
-    }
-}
-
-fn expression(alloc: Global, steps: &[Step]) -> Result<Expr, Fail> {
-    let mut built = Vec::new(alloc);
-    for step in steps {
-        let form = next(alloc, *step, &mut built)?;
-        built.push(form)?;
-    }
-    Ok(last(&mut built))
-}
-
-fn rule(alloc: Global, name: &str, body: Expr) -> Result<Definition, AllocError> {
-    let name = String::from_str(alloc, name)?;
-    Ok(Definition {
-        name,
-        span: nowhere(),
-        body,
-    })
-}
-
 // The grammar of these rules.
 fn grammar_of(alloc: Global, rules: &[(&str, &[Step])]) -> Result<Grammar, Fail> {
-    let mut definitions = Vec::new(alloc);
-    for (name, steps) in rules {
-        let body = expression(alloc, steps)?;
-        definitions.push(rule(alloc, name, body)?)?;
-    }
-    Ok(Grammar::new(alloc, definitions)?)
+    Ok(Grammar::new(alloc, definitions(alloc, rules)?)?)
 }
 
 fn nodes_of(alloc: Global, tree: &Tree) -> Result<Vec<Node>, AllocError> {
@@ -541,15 +419,16 @@ fn twice(alloc: Global) -> Result<Expr, Fail> {
 fn alternatives(alloc: Global, count: u32) -> Result<Expr, Fail> {
     let mut rest = Vec::new(alloc);
     for _ in 1..count {
-        rest.push(literal(alloc, b"a")?)?;
+        rest.push(literal(alloc, b"a", nowhere())?)?;
     }
-    Ok(choice(alloc, literal(alloc, b"a")?, rest)?)
+    let first = literal(alloc, b"a", nowhere())?;
+    Ok(choice(alloc, first, rest, nowhere())?)
 }
 
 // S <- T / T, T <- 'a' / 'a' / ..
 fn wide(alloc: Global) -> Result<Grammar, Fail> {
-    let start = rule(alloc, "S", twice(alloc)?)?;
-    let many = rule(alloc, "T", alternatives(alloc, 300_000)?)?;
+    let start = rule(alloc, "S", nowhere(), twice(alloc)?)?;
+    let many = rule(alloc, "T", nowhere(), alternatives(alloc, 300_000)?)?;
     Ok(Grammar::new(alloc, vec![in alloc; start, many]?)?)
 }
 
