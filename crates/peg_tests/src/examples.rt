@@ -161,6 +161,111 @@ fn every_grammar_has_a_table_and_is_accepted(rt: HostRuntime) -> Result<(), Fail
     Ok(())
 }
 
+// The table of a grammar: of each rule 0 where it can succeed on nothing, 1 where on something, f where it can fail.
+fn can(rt: &impl Abort, alloc: Global, grammar: &[u8], rules: &[(&str, &str)]) -> Result<(), Fail> {
+    let mut wanted = String::from_str(alloc, "{\"table\":[")?;
+    for (number, (name, outcomes)) in rules.iter().enumerate() {
+        if number > 0 {
+            wanted.push_str(",")?;
+        }
+        let fails = outcomes.contains("f");
+        let nothing = outcomes.contains("0");
+        let something = outcomes.contains("1");
+        let entry = format!(in alloc;
+            "{{\"fails\":{fails},\"nothing\":{nothing},\"rule\":\"{name}\",\"something\":{something}}}"
+        )?;
+        wanted.push_str(entry.as_str())?;
+    }
+    wanted.push_str("]}\n")?;
+    let (line, _) = told(alloc, grammar, Command::Table)?;
+    assert!(rt; line.as_slice() == wanted.as_bytes(), "{line:?}");
+    Ok(())
+}
+
+#[test]
+fn the_table_of_arithmetic(rt: HostRuntime) -> Result<(), Fail> {
+    let rules = [
+        ("Calculation", "1f"),
+        ("Sum", "1f"),
+        ("Product", "1f"),
+        ("Value", "1f"),
+        ("Number", "1f"),
+        ("AddSign", "1f"),
+        ("MultiplySign", "1f"),
+        ("Spacing", "01"),
+    ];
+    can(&rt, rt.alloc(), ARITHMETIC, &rules)
+}
+
+#[test]
+fn the_table_of_csv(rt: HostRuntime) -> Result<(), Fail> {
+    let rules = [
+        ("File", "01f"),
+        ("Record", "01"),
+        ("Field", "01"),
+        ("Quoted", "1f"),
+        ("Plain", "1f"),
+        ("LineEnd", "1f"),
+    ];
+    can(&rt, rt.alloc(), CSV, &rules)
+}
+
+#[test]
+fn the_table_of_ini(rt: HostRuntime) -> Result<(), Fail> {
+    let rules = [
+        ("File", "01f"),
+        ("Line", "01"),
+        ("Section", "1f"),
+        ("SectionName", "1f"),
+        ("Comment", "1f"),
+        ("Property", "1f"),
+        ("Key", "1f"),
+        ("Value", "01"),
+        ("LineEnd", "1f"),
+        ("Space", "1f"),
+    ];
+    can(&rt, rt.alloc(), INI, &rules)
+}
+
+#[test]
+fn the_table_of_json(rt: HostRuntime) -> Result<(), Fail> {
+    let rules = [
+        ("JSON", "1f"),
+        ("Value", "1f"),
+        ("Object", "1f"),
+        ("Member", "1f"),
+        ("Array", "1f"),
+        ("String", "1f"),
+        ("Char", "1f"),
+        ("Number", "1f"),
+        ("Hex", "1f"),
+        ("Spacing", "01"),
+    ];
+    can(&rt, rt.alloc(), JSON, &rules)
+}
+
+#[test]
+fn the_table_of_uri(rt: HostRuntime) -> Result<(), Fail> {
+    let rules = [
+        ("URI", "1f"),
+        ("Scheme", "1f"),
+        ("Hierarchy", "01"),
+        ("Authority", "01"),
+        ("UserInfo", "01"),
+        ("Host", "01"),
+        ("Port", "01"),
+        ("Segment", "01"),
+        ("Query", "01"),
+        ("Fragment", "01"),
+        ("Character", "1f"),
+        ("Unreserved", "1f"),
+        ("Escape", "1f"),
+        ("Hex", "1f"),
+        ("Delimiter", "1f"),
+    ];
+    can(&rt, rt.alloc(), URI, &rules)
+}
+
 #[test]
 fn the_texts_of_arithmetic(rt: HostRuntime) -> Result<(), Fail> {
     let texts: [(&[u8], u8); 4] = [

@@ -10,4 +10,6 @@ mod examples;
 #[cfg(test)]
 mod joined;
 #[cfg(test)]
+mod outcomes;
+#[cfg(test)]
 mod tool;
