@@ -1,6 +1,6 @@
 -- A file of the notation has a rule: the figure's Grammar has a Definition.
-use Rattle.std.proofs.Common.{◌≡◌, ◌≢◌, ℕ, List, [], ◌∷◌, ◌++◌, drop, codes, Option, None, Some, refl, sym, ap, ◌∙◌, subst}
-use Rattle.std.proofs.Common.{append-nil}
+use Rattle.std.proofs.Common.{◌≡◌, ◌≢◌, ℕ, List, [], ◌∷◌, ◌++◌, drop, codes, Option, None, Some, refl, sym, ap, ◌∙◌}
+use Rattle.std.proofs.Common.{append-nil, subst}
 use Rattle.peg_bytes.specs.Extent.{Extent, between}
 use Rattle.peg_tree.specs.Trees.{Trees, NoTrees, Tree, followed_by}
 use Rattle.peg_grammar.specs.Form.{Form, Forms, Name, Seq, Plus, End, Then}
@@ -51,9 +51,11 @@ record InItems (file : List ℕ) (item : Form) (rest : Forms) (p end : ℕ) (tre
 
 in_items : {file : List ℕ} {item : Form} {rest : Forms} {p end : ℕ} {trees : Trees}
     → DerivesItems figure file (Then item rest) p (Matched end trees) → InItems file item rest p end trees
-in_items {file} {item} {rest} {p} {end} {trees} (DerivesItems.items_then {middle = middle} {trees = first} {more = result} d others is) = by result others is
+in_items {file} {item} {rest} {p} {end} {trees}
+    (DerivesItems.items_then {middle = middle} {trees = first} {more = result} d others is) = by result others is
   where
-    by : (x : Recognition) → DerivesItems figure file rest middle x → Matched end trees ≡ behind first x → InItems file item rest p end trees
+    by : (x : Recognition) → DerivesItems figure file rest middle x → Matched end trees ≡ behind first x
+        → InItems file item rest p end trees
     by Failed others is = cc
     by (Matched last more) others is =
         let ends : last ≡ end = cc in
@@ -74,7 +76,8 @@ in_sequence (Derives.sequence items) = items
 
 -- an arrow spells nothing
 arrow-blank : (file : List ℕ) (span : Extent) (p end : ℕ) (trees : Trees)
-    → Derives figure file (Name (codes "LEFTARROW") span) p (Matched end trees) → (before : ℕ) → spelled file before trees ≡ []
+    → Derives figure file (Name (codes "LEFTARROW") span) p (Matched end trees) → (before : ℕ)
+    → spelled file before trees ≡ []
 arrow-blank file span p end trees d before = by (text_of kind.Arrow (drop p file)) refl
   where
     by : (text : Option Piece) → text_of kind.Arrow (drop p file) ≡ text → spelled file before trees ≡ []
@@ -183,6 +186,7 @@ reading-some most file rules reading none =
     let all : spelled file 0 node.inner ≡ spelled file 0 gap.first ++ Definition one.0 ∷ (others ++ last) =
     ap (spelled file 0) gap.is
     ∙ (spelled-followed file 0 gap.first gap.more ∙ (λ i. spelled file 0 gap.first ++ behind i)) in
-    let whole : rules_spelled file reading.1 ≡ rules_in (spelled file 0 gap.first ++ Definition one.0 ∷ (others ++ last)) =
+    let whole : rules_spelled file reading.1
+    ≡ rules_in (spelled file 0 gap.first ++ Definition one.0 ∷ (others ++ last)) =
     ap (rules_spelled file) node.is ∙ ap rules_in (append-nil (spelled file 0 node.inner) ∙ all) in
     rules_in-some (spelled file 0 gap.first) one.0 (others ++ last) (sym whole ∙ (sym reading.4 ∙ none))
