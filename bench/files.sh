@@ -1,7 +1,8 @@
 #!/usr/bin/env bash
-# Makes grammar files of about a megabyte and times `pegtool table` on each: chains of 100,000 rules whose expression is the
-# next rule, or the one before; a choice of 300,000 alternatives; a sequence of 300,000 names; a literal of a million bytes.
-# Shows the status, the bytes printed, the seconds and the greatest memory in KiB.
+# Makes grammar files of about a megabyte and times `pegtool table` and `pegtool check` on each: left cycles through 100,000
+# rules whose expression is the next rule, or the one before; a choice of 300,000 alternatives; a sequence of 300,000 names; a
+# literal of a million bytes; opening parentheses up to the limit of a file. Shows for each the status, the seconds, the greatest
+# memory in KiB, and the bytes printed.
 set -eu
 cd "$(dirname "$0")/../crates/pegtool"
 rt run < stdin > /dev/null
@@ -24,8 +25,12 @@ chain -1 > out/files/backwards
 { printf "A<-A"; yes " A" | head -n 299999 | tr -d '\n'; echo; } > out/files/sequence
 { printf "A<-'"; head -c 1000000 /dev/zero | tr '\0' a; echo "'"; } > out/files/literal
 
-for file in forwards backwards choice sequence literal; do
+{ printf "A <- "; head -c 1048570 /dev/zero | tr '\0' '('; echo; } > out/files/parentheses
+
+for file in forwards backwards choice sequence literal parentheses; do
   echo "$file: $(wc -c < out/files/$file) bytes"
-  /usr/bin/time -f "  status %x, %e s, %M KiB" ./out/pegtool table "out/files/$file" 2>&1 > out/files/line || true
-  echo "  $(wc -c < out/files/line) bytes printed"
+  for command in table check; do
+    /usr/bin/time -f "  $command: status %x, %e s, %M KiB" ./out/pegtool "$command" "out/files/$file" 2>&1 > out/files/line || true
+    echo "  $(wc -c < out/files/line) bytes printed"
+  done
 done
