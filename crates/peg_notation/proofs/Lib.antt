@@ -2,6 +2,7 @@ pub mod Classes
 pub mod Cuts
 pub mod ExpressionRules
 pub mod FigureNames
+pub mod FigureWellFormed
 pub mod FileAnswers
 pub mod GrammarRules
 pub mod Lexemes

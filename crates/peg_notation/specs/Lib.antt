@@ -6,6 +6,7 @@ pub use Rattle.peg_grammar.specs.Record
 pub use Rattle.peg_grammar.specs.Rules
 pub use Rattle.peg_grammar.specs.Trees
 pub use Rattle.peg_grammar.specs.Written
+pub use Rattle.peg_grammar.specs.WellFormed
 pub mod Figure
 pub mod FigureRules
 pub mod FigureText
