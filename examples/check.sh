@@ -1,5 +1,5 @@
 #!/usr/bin/env bash
-# Runs the built program (`cd crates/pegtool && rt run < stdin` builds it) over each grammar here: its table, and each of
+# Runs the built program (`cd crates/pegtool && rt run < stdin` builds it) over each grammar here: its table, its check, and each of
 # its texts. A text whose name begins with `match` has to be matched (status 0), one with `no_match` to fail (status 1).
 set -u
 cd "$(dirname "$0")"
@@ -14,6 +14,7 @@ input=$(mktemp)
 trap 'rm -f "$input"' EXIT
 for grammar in *.peg; do
   run 0 /dev/null "$program" table "$grammar"
+  run 0 /dev/null "$program" check "$grammar"
   for text in "${grammar%.peg}"/*; do
     { cat "$grammar"; printf '%%%%\n'; cat "$text"; } > "$input"
     case "$text" in
