@@ -47,8 +47,12 @@ fn recurs(rt: &impl Abort, alloc: Global, files: &[(&[u8], &str)]) -> Result<(),
 }
 
 // Each file is refused for an empty loop of a rule, in a line and a column, from one place to another.
-fn loops(rt: &impl Abort, alloc: Global, files: &[(&[u8], &str, [u32; 4])]) -> Result<(), Fail> {
-    for (file, rule, [line, column, start, end]) in files {
+fn loops(
+    rt: &impl Abort,
+    alloc: Global,
+    files: &[(&[u8], &str, u32, u32, u32, u32)],
+) -> Result<(), Fail> {
+    for (file, rule, line, column, start, end) in files {
         let line = format!(in alloc;
             "{{\"column\":{column},\"end\":{end},\"line\":{line},\"refusal\":\"EmptyLoop\",\"rule\":\"{rule}\",\"start\":{start}}}"
         )?;
@@ -101,19 +105,19 @@ fn left_recursion_is_told_by_its_path(rt: HostRuntime) -> Result<(), Fail> {
 
 #[test]
 fn empty_loops_are_told_by_their_place(rt: HostRuntime) -> Result<(), Fail> {
-    let files: [(&[u8], &str, [u32; 4]); 12] = [
-        (b"A <- ('a'*)*\n", "A", [1, 6, 5, 12]),
-        (b"A <- ('')+\n", "A", [1, 6, 5, 10]),
-        (b"A <- (('')?)*\n", "A", [1, 6, 5, 13]),
-        (b"A <- !(''*) 'x'\n", "A", [1, 8, 7, 10]),
-        (b"A <- (('x'*)* 'y')+\n", "A", [1, 7, 6, 13]),
-        (b"A <- 'a' (''*) / ('b'?)+\n", "A", [1, 11, 10, 13]),
-        (b"A <- ((''?)*)*\n", "A", [1, 7, 6, 12]),
-        (b"A <- (('x'?)*)*\n", "A", [1, 7, 6, 13]),
-        (b"S <- 'a'\nU <- 'b'\n  ('c'?)*\n", "U", [3, 3, 20, 27]),
-        (b"A <- A\nB <- ''*\n", "B", [2, 6, 12, 15]),
-        (b"A <- (B / 'x')+\nB <- 'y'*\n", "A", [1, 6, 5, 15]),
-        (b"A <- 'x'\r\nB <- (!A)*", "B", [2, 6, 15, 20]),
+    let files: [(&[u8], &str, u32, u32, u32, u32); 12] = [
+        (b"A <- ('a'*)*\n", "A", 1, 6, 5, 12),
+        (b"A <- ('')+\n", "A", 1, 6, 5, 10),
+        (b"A <- (('')?)*\n", "A", 1, 6, 5, 13),
+        (b"A <- !(''*) 'x'\n", "A", 1, 8, 7, 10),
+        (b"A <- (('x'*)* 'y')+\n", "A", 1, 7, 6, 13),
+        (b"A <- 'a' (''*) / ('b'?)+\n", "A", 1, 11, 10, 13),
+        (b"A <- ((''?)*)*\n", "A", 1, 7, 6, 12),
+        (b"A <- (('x'?)*)*\n", "A", 1, 7, 6, 13),
+        (b"S <- 'a'\nU <- 'b'\n  ('c'?)*\n", "U", 3, 3, 20, 27),
+        (b"A <- A\nB <- ''*\n", "B", 2, 6, 12, 15),
+        (b"A <- (B / 'x')+\nB <- 'y'*\n", "A", 1, 6, 5, 15),
+        (b"A <- 'x'\r\nB <- (!A)*", "B", 2, 6, 15, 20),
     ];
     loops(&rt, rt.alloc(), &files)
 }
