@@ -14,6 +14,7 @@ pub mod ResultSteps
 pub mod RoundsLemmas
 pub mod RulesLemmas
 pub mod SeenLemmas
+pub mod ShownOutcomes
 pub mod StepLemmas
 pub mod TerminalLemmas
 pub mod TreeRules

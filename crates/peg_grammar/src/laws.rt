@@ -1,7 +1,7 @@
 //! Laws of the definitions: what holds of records for every grammar and text. Each function does nothing; its contract
 //! is the law.
 ghost use Rattle.std.specs.Prelude.{◌≡◌, ◌≢◌, ◌↔◌, ℕ, suc, ◌<◌, ◌≤◌, All, List, [], ◌∷◌, codes, length, None, Some};
-ghost use Rattle.peg_grammar.specs.AbstractOutcomes.{CanAll, Judging, can_in};
+ghost use Rattle.peg_grammar.specs.AbstractOutcomes.{CanAll, CanFail, GivesNothing, GivesSomething, Judging, can_in};
 ghost use Rattle.peg_grammar.specs.Examples.{Gives, nested, nested_record, counted, counted_record, ordered, ordered_record, repeated_prefix, repeated_prefix_record};
 ghost use Rattle.peg_grammar.specs.Examples.{all_can_in, nested_can, counted_can, itself, itself_can, signs, signs_can, star_of_star, plus_of_empty, star_of_optional};
 ghost use Rattle.peg_grammar.specs.Form.{Form};
@@ -11,7 +11,7 @@ ghost use Rattle.peg_grammar.specs.Loops.{IsEmptyLoop, IsLeftCycle, MeetsFirst};
 ghost use Rattle.peg_grammar.specs.Ranked.{IsRanked};
 ghost use Rattle.peg_grammar.specs.Grammar.{IsGrammar, first_duplicate, first_undefined};
 ghost use Rattle.peg_grammar.specs.Furthest.{IsFurthest, furthest_of};
-ghost use Rattle.peg_grammar.specs.Record.{Matched, Record, IsRecord, Test, record_in, start_record};
+ghost use Rattle.peg_grammar.specs.Record.{Failed, Matched, Record, IsRecord, Test, record_in, start_record};
 ghost use Rattle.peg_grammar.specs.Terminals.{extents_of_terminals};
 ghost use Rattle.peg_grammar.specs.WellFormed.{IsWellFormedIn, IsWellFormed, IsWellFormedGrammar};
 ghost use Rattle.peg_bytes.specs.Extent.{Extent, between};
@@ -97,6 +97,21 @@ pub fn every_node_is_of_a_rule()
 /// What an expression can do in n rounds, by Ford's abstract outcomes, it can do in n + 1.
 pub fn abstract_outcomes_stay()
     ensures { (rules : List Rule) (n : ℕ) (e : Form) → CanAll (can_in rules n e) (can_in rules (suc n) e) }
+{}
+
+/// What comes of an expression shows what it can do (Ford 2004, section 3.5, his theorem on abstract outcomes): a match
+/// ends at its place or later; one that ends there shows 0, one that ends later 1, and a failure f.
+pub fn results_show_abstract_outcomes()
+    ensures onward { (rules : List Rule) (text : List ℕ) (n : ℕ) (e : Form) (terminal place end : ℕ) (trees : Trees)
+        (r : Record) → record_in rules text n e terminal place ≡ Some r → r.result ≡ Matched end trees → place ≤ end }
+    ensures nothing { (rules : List Rule) (text : List ℕ) (n : ℕ) (e : Form) (terminal place : ℕ) (trees : Trees)
+        (r : Record) → record_in rules text n e terminal place ≡ Some r → r.result ≡ Matched place trees
+        → GivesNothing rules e }
+    ensures something { (rules : List Rule) (text : List ℕ) (n : ℕ) (e : Form) (terminal place end : ℕ) (trees : Trees)
+        (r : Record) → record_in rules text n e terminal place ≡ Some r → r.result ≡ Matched end trees → place < end
+        → GivesSomething rules e }
+    ensures fails { (rules : List Rule) (text : List ℕ) (n : ℕ) (e : Form) (terminal place : ℕ) (r : Record)
+        → record_in rules text n e terminal place ≡ Some r → r.result ≡ Failed → CanFail rules e }
 {}
 
 /// What is well-formed in n rounds is well-formed in n + 1.
