@@ -1,5 +1,7 @@
 pub mod Ascending
 pub mod Derivations
+pub mod EachHasAResult
+pub mod FineForms
 pub mod FurthestLemmas
 pub mod GrammarLemmas
 pub mod LoopFree

@@ -9,8 +9,8 @@ use Rattle.peg_bytes.specs.ByteSet.{Bytes, has, has_some}
 use Rattle.peg_bytes.specs.Extent.{Extent}
 use Rattle.peg_tree.specs.Trees.{Trees}
 use Rattle.peg_grammar.specs.AbstractOutcomes.{Can, CanAll, only_nothing, something_or_fails, can_of_set, succeeds}
-use Rattle.peg_grammar.specs.AbstractOutcomes.{both, either, or_nothing, again, once_and_again, ahead, not_ahead, Judging}
-use Rattle.peg_grammar.specs.AbstractOutcomes.{judge_items, judge_first, judge_meaning, can_table, can_in}
+use Rattle.peg_grammar.specs.AbstractOutcomes.{both, either, or_nothing, again, once_and_again, ahead, not_ahead}
+use Rattle.peg_grammar.specs.AbstractOutcomes.{Judging, judge_items, judge_first, judge_meaning, can_table, can_in}
 use Rattle.peg_grammar.specs.Form.{Form, Forms, Literal, Class, Any, Name, Seq, Choice, Optional, Star, Plus, And, Not}
 use Rattle.peg_grammar.specs.Form.{End, Then, terminals}
 use Rattle.peg_grammar.specs.Record.{Recognition, Failed, Matched, Record, Taking, matched_at, behind, if_matched}

@@ -1,10 +1,11 @@
 //! Laws of the definitions: what holds of records for every grammar and text. Each function does nothing; its contract
 //! is the law.
-ghost use Rattle.std.specs.Prelude.{◌≡◌, ◌≢◌, ◌↔◌, ℕ, suc, ◌<◌, ◌≤◌, All, List, [], ◌∷◌, codes, length, None, Some};
+ghost use Rattle.std.specs.Prelude.{◌≡◌, ◌≢◌, ◌↔◌, ℕ, suc, ◌<◌, ◌≤◌, All, Contains, List, [], ◌∷◌, codes, length};
+ghost use Rattle.std.specs.Prelude.{None, Some};
 ghost use Rattle.peg_grammar.specs.AbstractOutcomes.{CanAll, CanFail, GivesNothing, GivesSomething, Judging, can_in};
 ghost use Rattle.peg_grammar.specs.Examples.{Gives, nested, nested_record, counted, counted_record, ordered, ordered_record, repeated_prefix, repeated_prefix_record};
 ghost use Rattle.peg_grammar.specs.Examples.{all_can_in, nested_can, counted_can, itself, itself_can, signs, signs_can, star_of_star, plus_of_empty, star_of_optional};
-ghost use Rattle.peg_grammar.specs.Form.{Form};
+ghost use Rattle.peg_grammar.specs.Form.{Form, Name};
 ghost use Rattle.peg_grammar.specs.Rules.{Rule, name_of};
 ghost use Rattle.peg_grammar.specs.LoopExamples.{only_rule, star_of_stuck_star, behind_optional, behind_empty_class};
 ghost use Rattle.peg_grammar.specs.Loops.{IsEmptyLoop, IsLeftCycle, MeetsFirst};
@@ -13,7 +14,7 @@ ghost use Rattle.peg_grammar.specs.Grammar.{IsGrammar, first_duplicate, first_un
 ghost use Rattle.peg_grammar.specs.Furthest.{IsFurthest, furthest_of};
 ghost use Rattle.peg_grammar.specs.Record.{Failed, Matched, Record, IsRecord, Test, record_in, start_record};
 ghost use Rattle.peg_grammar.specs.Terminals.{extents_of_terminals};
-ghost use Rattle.peg_grammar.specs.WellFormed.{IsWellFormedIn, IsWellFormed, IsWellFormedGrammar};
+ghost use Rattle.peg_grammar.specs.WellFormed.{IsWellFormedIn, IsWellFormed, IsWellFormedGrammar, subexpressions};
 ghost use Rattle.peg_bytes.specs.Extent.{Extent, between};
 ghost use Rattle.peg_tree.specs.Nodes.{RulesBelow};
 ghost use Rattle.peg_tree.specs.Trees.{Trees};
@@ -124,6 +125,20 @@ pub fn well_formed_grammars_have_no_loops()
     ensures empty_loops { (rules : List Rule) (rule : ℕ) (span : Extent)
         → IsWellFormedGrammar rules → ¬ IsEmptyLoop rules rule span }
     ensures left_cycles { (rules : List Rule) (path : List ℕ) → IsWellFormedGrammar rules → ¬ IsLeftCycle rules path }
+{}
+
+/// A well-formed grammar is complete (Ford 2004, section 3.6): on each text, each subexpression of each rule has a
+/// record at each place, so has the name of each rule, and there is one from each start.
+pub fn well_formed_grammars_are_complete()
+    ensures subexpressions { (rules : List Rule) (text : List ℕ) (rule : Rule) (e : Form) (terminal place : ℕ)
+        → IsWellFormedGrammar rules → Contains rules rule → Contains (subexpressions rule.body) e → place ≤ length text
+        → (r : Record) × IsRecord rules text e terminal place r }
+    ensures names { (rules : List Rule) (text : List ℕ) (rule : ℕ) (span : Extent) (terminal place : ℕ)
+        → IsWellFormedGrammar rules → rule < length rules → place ≤ length text
+        → (r : Record) × IsRecord rules text (Name (name_of rules rule) span) terminal place r }
+    ensures starts { (rules : List Rule) (text : List ℕ) (start : ℕ)
+        → IsWellFormedGrammar rules → start < length rules
+        → (n : ℕ) × (r : Record) × (start_record rules text n (name_of rules start) ≡ Some r) }
 {}
 
 /// A grammar is well-formed where, by some table that is closed under Ford's rules of outcomes, no star's or plus's
