@@ -1,6 +1,7 @@
 pub mod Ascending
 pub mod Derivations
 pub mod EachHasAResult
+pub mod EnoughDepth
 pub mod FineForms
 pub mod FurthestLemmas
 pub mod GrammarLemmas
@@ -15,8 +16,11 @@ pub mod RecordLemmas
 pub mod ResultSteps
 pub mod RoundsLemmas
 pub mod RulesLemmas
+pub mod SameParts
 pub mod SeenLemmas
 pub mod ShownOutcomes
+pub mod StableRounds
+pub mod States
 pub mod StepLemmas
 pub mod TerminalLemmas
 pub mod TreeRules

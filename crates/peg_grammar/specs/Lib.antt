@@ -4,6 +4,7 @@ pub use Rattle.peg_tree.specs.Nodes
 pub use Rattle.peg_tree.specs.Rows
 pub use Rattle.peg_tree.specs.Trees
 pub mod AbstractOutcomes
+pub mod Depth
 pub mod Examples
 pub mod Form
 pub mod Found

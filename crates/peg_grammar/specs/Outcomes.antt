@@ -1,13 +1,14 @@
 -- What an outcome says of a record.
-use Rattle.std.specs.Prelude.{◌≡◌, List, Option, Some}
+use Rattle.std.specs.Prelude.{◌≡◌, ℕ, List, Option, Some}
 use Rattle.peg_tree.specs.Rows.{Row, IsOneTree}
 use Rattle.peg_tree.specs.TreesOfRows.{trees_of}
 use Rattle.peg_tree.specs.declared.outcome.Outcome.{Outcome}
 use Rattle.peg_tree.specs.declared.outcome.Parsed.{Parsed}
 use Rattle.peg_tree.specs.declared.outcome.Parsed.TheVariants.{Matched, Failed}
 use Rattle.peg_grammar.specs.Furthest.{IsFurthest}
-use Rattle.peg_grammar.specs.Record.{Recognition, Record}
+use Rattle.peg_grammar.specs.Record.{Recognition, Record, start_record}
 use Rattle.peg_grammar.specs.Record as recognition
+use Rattle.peg_grammar.specs.Rules.{Rule}
 use Rattle.peg_grammar.specs.declared.found.Verdict.{Verdict}
 use Rattle.peg_grammar.specs.declared.found.Verdict.TheVariants as verdict
 
@@ -20,6 +21,10 @@ parsed_of (recognition.Matched end trees) = Matched end trees
 abbrev pub Answers : Option Record → Outcome → Type 0
 Answers tried outcome =
     (r : Record) × (tried ≡ Some r) × (outcome.result ≡ parsed_of r.result) × IsFurthest r.tests outcome.far outcome.expected.items
+
+-- the outcome of a grammar on a text, from a start: that of Ford's record, the record in some n
+abbrev pub IsOutcome : List Rule → List ℕ → List ℕ → Outcome → Type 0
+IsOutcome rules text start outcome = (n : ℕ) × Answers (start_record rules text n start) outcome
 
 -- a match leaves the rows of one tree
 abbrev pub Leaves : Verdict → List Row → Type 0

@@ -3,6 +3,7 @@
 ghost use Rattle.std.specs.Prelude.{◌≡◌, ◌≢◌, ◌↔◌, ℕ, suc, ◌<◌, ◌≤◌, All, Contains, List, [], ◌∷◌, codes, length};
 ghost use Rattle.std.specs.Prelude.{None, Some};
 ghost use Rattle.peg_grammar.specs.AbstractOutcomes.{CanAll, CanFail, GivesNothing, GivesSomething, Judging, can_in};
+ghost use Rattle.peg_grammar.specs.Depth.{most_cases};
 ghost use Rattle.peg_grammar.specs.Examples.{Gives, nested, nested_record, counted, counted_record, ordered, ordered_record, repeated_prefix, repeated_prefix_record};
 ghost use Rattle.peg_grammar.specs.Examples.{all_can_in, nested_can, counted_can, itself, itself_can, signs, signs_can, star_of_star, plus_of_empty, star_of_optional};
 ghost use Rattle.peg_grammar.specs.Form.{Form, Name};
@@ -139,6 +140,14 @@ pub fn well_formed_grammars_are_complete()
     ensures starts { (rules : List Rule) (text : List ℕ) (start : ℕ)
         → IsWellFormedGrammar rules → start < length rules
         → (n : ℕ) × (r : Record) × (start_record rules text n (name_of rules start) ≡ Some r) }
+{}
+
+/// No record from a start is deeper than there are states, an expression at a place of the text each: a record in some
+/// n is one in as many as that.
+pub fn no_record_is_deeper_than_its_states()
+    ensures { (rules : List Rule) (text : List ℕ) (n start : ℕ) (r : Record)
+        → start_record rules text n (name_of rules start) ≡ Some r
+        → start_record rules text (most_cases rules text) (name_of rules start) ≡ Some r }
 {}
 
 /// A grammar is well-formed where, by some table that is closed under Ford's rules of outcomes, no star's or plus's

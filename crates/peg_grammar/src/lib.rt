@@ -15,6 +15,7 @@ mod steps;
 mod terminals;
 #[cfg(test)]
 mod tests;
+mod total;
 mod weights;
 
 pub use expr::{Definition, Expr};
@@ -22,4 +23,5 @@ pub use fault::GrammarFault;
 pub use grammar::{Grammar, MOST_PARTS};
 pub use plain::{MOST_TEXT_BYTES, PlainFault, plain_match};
 pub use terminals::terminal_spans;
+pub use total::{TotalFault, plain_total};
 pub use weights::weight;
