@@ -144,6 +144,6 @@ pub start-within : (rules : List Rule) (text : List ℕ) (start : ℕ) → start
     → start_record rules text 18446744073709551615 (name_of rules start) ≢ None
 start-within rules text start less grammar light short none =
     let a = start_has_record rules text start grammar less in
-    let found =
-    start-soon rules text (name_of rules start) a.0 18446744073709551615 a.1 (depth-enough rules text light short) a.2 in
+    let enough = depth-enough rules text light short in
+    let found = start-soon rules text (name_of rules start) a.0 18446744073709551615 a.1 enough a.2 in
     cc

@@ -1,10 +1,11 @@
 -- What the recognition table makes of an expression depends only on what its case asks of.
-use Rattle.std.proofs.Common.{◌≡◌, ℕ, ◌+◌, ◌≤◌, List, Contains, Option, None, Some, refl, ap, ◌∙◌, option_map, option_and_then}
+use Rattle.std.proofs.Common.{◌≡◌, ℕ, ◌+◌, ◌≤◌, List, Contains, Option, None, Some, refl, ap, ◌∙◌}
+use Rattle.std.proofs.Common.{option_map, option_and_then}
 use Rattle.peg_tree.specs.Trees.{Trees}
 use Rattle.peg_grammar.specs.Form.{Form, Forms, Literal, Class, Any, Name, Seq, Choice, Optional, Star, Plus, And, Not}
 use Rattle.peg_grammar.specs.Form.{End, Then, terminals}
-use Rattle.peg_grammar.specs.Record.{Recognition, Failed, Matched, Record, Taking, after_both, behind, followed, then_at}
-use Rattle.peg_grammar.specs.Record.{or_else, repeated, matched_at, as_use, if_matched, if_failed, with_result}
+use Rattle.peg_grammar.specs.Record.{Recognition, Failed, Matched, Record, Taking, after_both, behind, followed}
+use Rattle.peg_grammar.specs.Record.{then_at, or_else, repeated, matched_at, as_use, if_matched, if_failed, with_result}
 use Rattle.peg_grammar.specs.Record.{take_items, take_first, table}
 use Rattle.peg_grammar.specs.Rules.{Rule, Meaning, meant}
 use Rattle.peg_grammar.proofs.States.{Part, part_of, AreAmong, AsksAmong}

@@ -1,7 +1,7 @@
 -- What is found in rounds, of finitely many questions: where a round finds nothing new no later one does, so as many
 -- rounds as there are questions find all that is ever found.
-use Rattle.std.proofs.Common.{◌≡◌, ℕ, zero, suc, ◌+◌, ◌-◌, ◌<◌, ◌≤◌, ◌⊎◌, inl, inr, List, [], ◌∷◌, length, All, Contains}
-use Rattle.std.proofs.Common.{Option, None, Some, refl, sym, ap, ◌∙◌, zero-add, suc-add, arith}
+use Rattle.std.proofs.Common.{◌≡◌, ℕ, zero, suc, ◌+◌, ◌-◌, ◌<◌, ◌≤◌, ◌⊎◌, inl, inr, List, [], ◌∷◌, length, All}
+use Rattle.std.proofs.Common.{Contains, Option, None, Some, refl, sym, ap, ◌∙◌, zero-add, suc-add, arith}
 use Rattle.std.proofs.lemmas.List.Elements.{All-nil, All-cons, All-contains}
 use Rattle.peg_grammar.proofs.RecordLemmas.{Extends}
 

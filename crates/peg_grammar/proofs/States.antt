@@ -3,7 +3,8 @@
 use Rattle.std.proofs.Common.{◌≡◌, ℕ, suc, ◌+◌, ◌*◌, ◌≤◌, Bool, true, false, if◌then◌else◌}
 use Rattle.std.proofs.Common.{List, [], ◌∷◌, ◌++◌, length, All, Contains, Some, bytes_eq, ap, subst, sum_by, arith}
 use Rattle.std.proofs.lemmas.List.{length-append}
-use Rattle.std.proofs.lemmas.List.Elements.{All-nil, All-cons, All-head, All-tail, All-append, All-contains, All-contains_itself}
+use Rattle.std.proofs.lemmas.List.Elements.{All-nil, All-cons, All-head, All-tail, All-append, All-contains}
+use Rattle.std.proofs.lemmas.List.Elements.{All-contains_itself}
 use Rattle.std.proofs.lemmas.List.Sums.{sum_by-cons}
 use Rattle.peg_bytes.specs.Extent.{between}
 use Rattle.peg_grammar.specs.Form.{Form, Forms, Literal, Class, Any, Name, Seq, Choice, Optional, Star, Plus, And, Not}
@@ -75,8 +76,9 @@ mutual
 length-parts_from : (terminal : ℕ) (rules : List Rule) → length (parts_from terminal rules) ≤ 2 * weight_of rules
 length-parts_from terminal [] = omega arith
 length-parts_from terminal (r ∷ rs) =
-    let weight : weight_of (r ∷ rs) ≡ suc (length rs) + (form_weight r.body + sum_by (λ rule. form_weight rule.body) rs) =
-    ap (λ n. suc (length rs) + n) (sum_by-cons (λ rule. form_weight rule.body) r rs) in
+    let weigh = λ (rule : Rule). form_weight rule.body in
+    let weight : weight_of (r ∷ rs) ≡ suc (length rs) + (weigh r + sum_by weigh rs) =
+    ap (λ n. suc (length rs) + n) (sum_by-cons weigh r rs) in
     let behind = length-parts_from (terminal + terminals r.body) rs in
     let all =
     length-append (part_of terminal r.body ∷ below terminal r.body) (parts_from (terminal + terminals r.body) rs) in

@@ -16,6 +16,8 @@ mod terminals;
 #[cfg(test)]
 mod tests;
 mod total;
+#[cfg(test)]
+mod total_tests;
 mod weights;
 
 pub use expr::{Definition, Expr};

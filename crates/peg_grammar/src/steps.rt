@@ -1,4 +1,9 @@
 //! Expressions for tests, written as steps.
+ghost use Rattle.std.specs.Prelude.{◌≡◌, map, IfOk};
+ghost use Rattle.peg_bytes.specs.Extent.{extent};
+ghost use Rattle.peg_grammar.specs.Form.{Choice, Literal, Name, forms};
+ghost use Rattle.peg_grammar.specs.Written.{form_of, rule_of};
+
 use self::Step::{And, Any, At, Choice, Class, Literal, Not, Optional, Plus, Seq, Star, Use};
 use crate::{Definition, Expr};
 use peg_bytes::{ByteSet, Span};
@@ -27,16 +32,22 @@ pub(crate) fn nowhere() -> Span {
     Span::new(0, 0)
 }
 
-fn boxed(alloc: Global, part: Expr) -> Result<Box<Expr>, AllocError> {
+fn boxed(alloc: Global, part: Expr) -> Result<Box<Expr>, AllocError>
+    ensures { IfOk result (λ b. b.value ≡ part) }
+{
     Box::new(alloc, part).map_err(AllocError::from)
 }
 
-pub(crate) fn literal(alloc: Global, bytes: &[u8], span: Span) -> Result<Expr, AllocError> {
+pub(crate) fn literal(alloc: Global, bytes: &[u8], span: Span) -> Result<Expr, AllocError>
+    ensures { IfOk result (λ e. form_of e ≡ Literal bytes.now (extent span)) }
+{
     let bytes = bytes.to_vec(alloc)?;
     Ok(Expr::Literal { bytes, span })
 }
 
-fn use_of(alloc: Global, name: &str, span: Span) -> Result<Expr, AllocError> {
+pub(crate) fn use_of(alloc: Global, name: &str, span: Span) -> Result<Expr, AllocError>
+    ensures { IfOk result (λ e. form_of e ≡ Name name.now (extent span)) }
+{
     let name = String::from_str(alloc, name)?;
     Ok(Expr::Name { name, span })
 }
@@ -46,7 +57,10 @@ pub(crate) fn choice(
     first: Expr,
     rest: Vec<Expr>,
     span: Span,
-) -> Result<Expr, AllocError> {
+) -> Result<Expr, AllocError>
+    ensures { IfOk result (λ e. form_of e
+        ≡ Choice (form_of first) (forms (map form_of rest.items)) (extent span)) }
+{
     let first = boxed(alloc, first)?;
     Ok(Expr::Choice { first, rest, span })
 }
@@ -121,7 +135,9 @@ pub(crate) fn rule(
     name: &str,
     span: Span,
     body: Expr,
-) -> Result<Definition, AllocError> {
+) -> Result<Definition, AllocError>
+    ensures { IfOk result (λ d. rule_of d ≡ record { name = name.now; span = extent span; body = form_of body }) }
+{
     let name = String::from_str(alloc, name)?;
     Ok(Definition { name, span, body })
 }

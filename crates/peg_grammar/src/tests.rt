@@ -4,25 +4,25 @@ use crate::steps::Step::{And, Any, Choice, Class, Literal, Not, Optional, Plus, 
 use crate::steps::{Step, choice, definitions, expression, literal, nowhere, rule};
 use crate::{Expr, Grammar, PlainFault, plain_match};
 use peg_bytes::ByteSet;
-use peg_tree::{Parsed, Tree};
+use peg_tree::{Outcome, Parsed, Tree};
 use std::alloc::{AllocError, Global};
 use std::process::Abort;
 use std::test::Fail;
 
 // A node of a tree: its rule, its first byte, the byte behind it, how many children it has.
-type Node = (u32, u32, u32, usize);
+pub(crate) type Node = (u32, u32, u32, usize);
 
 // What is wanted on a text: how far it matches, if it does; the furthest failure; the tree's nodes in preorder.
 #[derive(Clone, Copy)]
-struct Case {
-    text: &'static [u8],
+pub(crate) struct Case {
+    pub(crate) text: &'static [u8],
     end: Option<u32>,
     far: u32,
     expected: &'static [u32],
     nodes: &'static [Node],
 }
 
-fn matched(
+pub(crate) fn matched(
     text: &'static [u8],
     end: u32,
     far: u32,
@@ -38,7 +38,7 @@ fn matched(
     }
 }
 
-fn failed(text: &'static [u8], far: u32, expected: &'static [u32]) -> Case {
+pub(crate) fn failed(text: &'static [u8], far: u32, expected: &'static [u32]) -> Case {
     Case {
         text,
         end: None,
@@ -67,11 +67,14 @@ fn nodes_of(alloc: Global, tree: &Tree) -> Result<Vec<Node>, AllocError> {
     Ok(nodes)
 }
 
-// Parses a text from the first rule, in ample depth.
-fn assert_case(rt: &impl Abort, alloc: Global, grammar: &Grammar, case: Case) -> Result<(), Fail> {
-    assert!(rt; grammar.rules() > 0);
+// Compares an outcome with what is wanted.
+pub(crate) fn assert_outcome(
+    rt: &impl Abort,
+    alloc: Global,
+    outcome: &Outcome,
+    case: Case,
+) -> Result<(), AllocError> {
     let text = case.text;
-    let outcome = plain_match(alloc, grammar, text, 0, 1000)?;
     assert_eq!(rt; outcome.far, case.far, "on {text:?}");
     assert_eq!(rt; outcome.expected.as_slice(), case.expected, "on {text:?}");
     match &outcome.result {
@@ -82,6 +85,19 @@ fn assert_case(rt: &impl Abort, alloc: Global, grammar: &Grammar, case: Case) ->
             assert_eq!(rt; nodes.as_slice(), case.nodes, "on {text:?}");
         }
     }
+    Ok(())
+}
+
+// Parses a text from the first rule, in ample depth.
+pub(crate) fn assert_case(
+    rt: &impl Abort,
+    alloc: Global,
+    grammar: &Grammar,
+    case: Case,
+) -> Result<(), Fail> {
+    assert!(rt; grammar.rules() > 0);
+    let outcome = plain_match(alloc, grammar, case.text, 0, 1000)?;
+    assert_outcome(rt, alloc, &outcome, case)?;
     Ok(())
 }
 
