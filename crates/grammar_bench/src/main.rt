@@ -1,5 +1,5 @@
-//! Makes large grammars by `Grammar::new`, for the script in bench/: with the word `rules` 100,000 rules that each use one
-//! name, with `names` one rule that uses a million, and with no word both.
+//! Makes large grammars by `Grammar::new`, for the script in bench/: with the word `rules` 100,000 rules that each use
+//! one name, with `names` one rule that uses a million, and with no word both.
 #![tactic(auto)]
 
 use peg_bytes::Span;

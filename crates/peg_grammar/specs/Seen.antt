@@ -29,8 +29,8 @@ verdict_of (recognition.Matched end trees) = Matched end
 abbrev pub with_record : Seen → Record → Seen
 with_record seen r = record { furthest = fold noted seen.furthest r.tests; rows = seen.rows ++ rows_of (trees_left r.result) }
 
--- what an evaluation answers: the verdict of the record, which has been noted; that the depth is used, where there is no
--- record; or that memory ran out
+-- what an evaluation answers: the verdict of the record, which has been noted; that the depth is used, where there is
+-- no record; or that memory ran out
 abbrev pub Tells : Option Record → Seen → Result Verdict Stop → Seen → Type 0
 Tells tried old (Ok verdict) new = (r : Record) × (tried ≡ Some r) × (verdict_of r.result ≡ verdict) × (new ≡ with_record old r)
 Tells tried old (Err Depth) new = tried ≡ None

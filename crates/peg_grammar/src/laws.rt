@@ -46,8 +46,8 @@ pub fn the_definitions_agree_with_hand_worked_grammars()
     ensures repeated_prefix { Gives repeated_prefix (codes "A") (codes "(a)y") repeated_prefix_record 3 (2 ∷ []) }
 {}
 
-/// What expressions can do, by hand: a rule that is only itself can do nothing, in any number of rounds, and a star or a
-/// plus round what may take nothing is not well-formed.
+/// What expressions can do, by hand: a rule that is only itself can do nothing, in any number of rounds, and a star or
+/// a plus round what may take nothing is not well-formed.
 pub fn the_outcomes_agree_with_hand_worked_grammars()
     ensures nested { all_can_in nested 8 ≡ nested_can }
     ensures counted { all_can_in counted 8 ≡ counted_can }
@@ -60,7 +60,8 @@ pub fn the_outcomes_agree_with_hand_worked_grammars()
 {}
 
 /// Rules are a grammar exactly where there is one, none has the name of an earlier one, and no name is used that none
-/// has. So each of these faults is of rules that are no grammar, and rules that are none have one of them. Does nothing.
+/// has. So each of these faults is of rules that are no grammar, and rules that are none have one of them. Does
+/// nothing.
 pub fn grammars_are_not_refused()
     ensures { (rules : List Rule) → IsGrammar rules
         ↔ ((rules ≢ []) × (first_duplicate rules ≡ None) × (first_undefined rules ≡ None)) }

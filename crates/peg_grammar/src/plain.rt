@@ -163,8 +163,8 @@ impl<'a> Plain<'a> {
         Ok(Verdict::Failed)
     }
 
-    /// What an expression makes of the bytes from a place on, its first terminal having this number. A failed expression
-    /// leaves the rows as they were.
+    /// What an expression makes of the bytes from a place on, its first terminal having this number. A failed
+    /// expression leaves the rows as they were.
     #[cycle(plain)]
     fn expression(
         &self,

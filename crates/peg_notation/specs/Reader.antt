@@ -19,8 +19,8 @@ pub data Halt : Type 0 where
   Unexpected : (at : ℕ) → Halt
   TooDeep : (at : ℕ) → Halt
 
--- an expression that was read, how many tokens it has, where the text of the last token before what is next ends, and how
--- deep its parentheses nest
+-- an expression that was read, how many tokens it has, where the text of the last token before what is next ends, and
+-- how deep its parentheses nest
 pub record Part : Type 0 where
   pub form : Form
   pub taken : ℕ

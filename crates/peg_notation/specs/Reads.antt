@@ -71,8 +71,8 @@ fault_of (lexing.Syntax at) = Syntax at
 fault_of lexing.Memory = Memory
 
 -- What reading a file answers. Its definitions are the reading of a file of the notation that nests no deeper than may
--- be; a file that is refused as no syntax isn't in the notation, and the place is its lexing fault, or else where a token
--- starts or its end. Want of memory says nothing.
+-- be; a file that is refused as no syntax isn't in the notation, and the place is its lexing fault, or else where a
+-- token starts or its end. Want of memory says nothing.
 abbrev pub Reads : List ℕ → Result (Vec Definition Global) NotationFault → Type 0
 Reads file (Ok definitions) =
     (length file ≤ most_file_bytes) × IsReadingWithin most_open file (rules_of definitions.items)

@@ -166,7 +166,8 @@ fn other_escapes_are_none(rt: HostRuntime) {
 }
 
 // In `[a-ESCAPE-]` the last dash stands for itself, and the class is closed, where the escape is one character. Where
-// its last digit is a character of its own, that one, the dash and the bracket are a range, and nothing closes the class.
+// its last digit is a character of its own, that one, the dash and the bracket are a range, and nothing closes the
+// class.
 #[test]
 fn three_octal_digits_begin_with_two_at_most(rt: HostRuntime) -> Result<(), Fail> {
     let alloc = rt.alloc();

@@ -1,7 +1,7 @@
 //! Runs whose input or output breaks in mid-stream.
 ghost use Rattle.std.specs.Prelude.{◌≡◌, None, false};
 
-use peg_tool::{Command, DeviceFault, Sink, Source, ToolFault, run_joined, run_tool};
+use peg_tool::{Command, DeviceFault, ParseOptions, Sink, Source, ToolFault, run_joined, run_tool};
 use std::alloc::Global;
 use std::test::Fail;
 
@@ -13,16 +13,18 @@ const LINE: &[u8] =
 // Gives one byte a read, and fails after so many.
 #[derive(Drop)]
 struct Dripping {
+    bytes: &'static [u8],
     at: usize,
     breaks_at: usize,
     broken: bool,
 }
 
 impl Dripping {
-    fn new(breaks_at: usize) -> Dripping
+    fn new(bytes: &'static [u8], breaks_at: usize) -> Dripping
         ensures { result.broken ≡ false }
     {
         Dripping {
+            bytes,
             at: 0,
             breaks_at,
             broken: false,
@@ -40,10 +42,10 @@ impl Source for Dripping {
             self.broken = true;
             return Err(DeviceFault);
         }
-        if self.at >= INPUT.len() {
+        if self.at >= self.bytes.len() {
             return Ok(0);
         }
-        piece[0] = INPUT[self.at];
+        piece[0] = self.bytes[self.at];
         self.at += 1;
         Ok(1)
     }
@@ -94,7 +96,7 @@ impl Sink for Choking {
 #[test]
 fn a_read_that_fails_leaves_nothing_written(rt: HostRuntime) -> Result<(), Fail> {
     for breaks_at in 0..=INPUT.len() {
-        let mut input = Dripping::new(breaks_at);
+        let mut input = Dripping::new(INPUT, breaks_at);
         let mut output = Choking::new(rt.alloc(), 1000);
         let ended = run_joined(rt.alloc(), &mut input, &mut output);
         assert_eq!(rt; ended, Err(ToolFault::ReadFault), "at {breaks_at}");
@@ -107,7 +109,7 @@ fn a_read_that_fails_leaves_nothing_written(rt: HostRuntime) -> Result<(), Fail>
 #[test]
 fn a_write_that_fails_leaves_a_front_of_the_line(rt: HostRuntime) -> Result<(), Fail> {
     for breaks_at in 0..LINE.len() {
-        let mut input = Dripping::new(1000);
+        let mut input = Dripping::new(INPUT, 1000);
         let mut output = Choking::new(rt.alloc(), breaks_at);
         let ended = run_joined(rt.alloc(), &mut input, &mut output);
         assert_eq!(rt; ended, Err(ToolFault::WriteFault), "at {breaks_at}");
@@ -122,7 +124,7 @@ fn a_write_that_fails_leaves_a_front_of_the_line(rt: HostRuntime) -> Result<(), 
 
 #[test]
 fn a_byte_at_a_time_is_enough(rt: HostRuntime) -> Result<(), Fail> {
-    let mut input = Dripping::new(1000);
+    let mut input = Dripping::new(INPUT, 1000);
     let mut output = Choking::new(rt.alloc(), 1000);
     assert_eq!(rt; run_joined(rt.alloc(), &mut input, &mut output), Ok(0));
     assert!(rt; output.taken.as_slice() == LINE);
@@ -135,8 +137,8 @@ const REFUSAL: &[u8] = b"{\"at\":17,\"column\":1,\"line\":2,\"refusal\":\"Syntax
 #[test]
 fn a_command_tells_a_failed_read(rt: HostRuntime) -> Result<(), Fail> {
     for breaks_at in 0..=INPUT.len() {
-        let mut file = Dripping::new(breaks_at);
-        let mut text = Dripping::new(0);
+        let mut file = Dripping::new(INPUT, breaks_at);
+        let mut text = Dripping::new(INPUT, 0);
         let mut output = Choking::new(rt.alloc(), 1000);
         let ended = run_tool(
             rt.alloc(),
@@ -155,8 +157,8 @@ fn a_command_tells_a_failed_read(rt: HostRuntime) -> Result<(), Fail> {
 #[test]
 fn a_command_tells_a_failed_write(rt: HostRuntime) -> Result<(), Fail> {
     for breaks_at in 0..REFUSAL.len() {
-        let mut file = Dripping::new(1000);
-        let mut text = Dripping::new(0);
+        let mut file = Dripping::new(INPUT, 1000);
+        let mut text = Dripping::new(INPUT, 0);
         let mut output = Choking::new(rt.alloc(), breaks_at);
         let ended = run_tool(
             rt.alloc(),
@@ -176,8 +178,8 @@ fn a_command_tells_a_failed_write(rt: HostRuntime) -> Result<(), Fail> {
 
 #[test]
 fn a_table_needs_no_text(rt: HostRuntime) -> Result<(), Fail> {
-    let mut file = Dripping::new(1000);
-    let mut text = Dripping::new(0);
+    let mut file = Dripping::new(INPUT, 1000);
+    let mut text = Dripping::new(INPUT, 0);
     let mut output = Choking::new(rt.alloc(), 1000);
     let ended = run_tool(
         rt.alloc(),
@@ -189,5 +191,95 @@ fn a_table_needs_no_text(rt: HostRuntime) -> Result<(), Fail> {
     assert_eq!(rt; ended, Ok(2));
     assert!(rt; !text.failed());
     assert!(rt; output.taken.as_slice() == REFUSAL);
+    Ok(())
+}
+
+const FILE: &[u8] = b"S <- 'a' S / 'b'\n";
+
+const TEXT: &[u8] = b"aab";
+
+// Parses a text, whose read breaks off after so many bytes, by a grammar file whose read and writes do too.
+fn parse(
+    alloc: Global,
+    file: &mut Dripping,
+    text: &mut Dripping,
+    output: &mut Choking,
+) -> Result<u8, ToolFault>
+    requires file { file.old.broken ≡ false }
+    requires text { text.old.broken ≡ false }
+    requires output { output.old.broken ≡ false }
+{
+    let options = ParseOptions {
+        start: None,
+        memo: 4096,
+    };
+    let (all, rows) = (false, false);
+    run_tool(
+        alloc,
+        file,
+        text,
+        output,
+        &Command::Parse { options, all, rows },
+    )
+}
+
+#[test]
+fn a_parse_tells_a_failed_read_of_either(rt: HostRuntime) -> Result<(), Fail> {
+    for breaks_at in 0..=FILE.len() {
+        let mut file = Dripping::new(FILE, breaks_at);
+        let mut text = Dripping::new(TEXT, 1000);
+        let mut output = Choking::new(rt.alloc(), 1000);
+        let ended = parse(rt.alloc(), &mut file, &mut text, &mut output);
+        assert_eq!(rt; ended, Err(ToolFault::ReadFault), "file at {breaks_at}");
+        assert_eq!(rt; text.at, 0, "file at {breaks_at}");
+        assert_eq!(rt; output.taken.len(), 0, "file at {breaks_at}");
+    }
+    for breaks_at in 0..=TEXT.len() {
+        let mut file = Dripping::new(FILE, 1000);
+        let mut text = Dripping::new(TEXT, breaks_at);
+        let mut output = Choking::new(rt.alloc(), 1000);
+        let ended = parse(rt.alloc(), &mut file, &mut text, &mut output);
+        assert_eq!(rt; ended, Err(ToolFault::ReadFault), "text at {breaks_at}");
+        assert!(rt; text.failed() && !file.failed() && !output.failed());
+        assert_eq!(rt; output.taken.len(), 0, "text at {breaks_at}");
+    }
+    Ok(())
+}
+
+#[test]
+fn a_parse_tells_a_failed_write(rt: HostRuntime) -> Result<(), Fail> {
+    for breaks_at in 0..LINE.len() {
+        let mut file = Dripping::new(FILE, 1000);
+        let mut text = Dripping::new(TEXT, 1000);
+        let mut output = Choking::new(rt.alloc(), breaks_at);
+        let ended = parse(rt.alloc(), &mut file, &mut text, &mut output);
+        assert_eq!(rt; ended, Err(ToolFault::WriteFault), "at {breaks_at}");
+        assert!(rt;
+            output.taken.as_slice() == &LINE[..breaks_at],
+            "at {breaks_at}"
+        );
+    }
+    Ok(())
+}
+
+// Rules that use one another before anything is consumed.
+const CYCLE: &[u8] = b"A <- B 'x'\nB <- 'y'? A\n";
+
+#[test]
+fn a_text_is_read_for_an_accepted_grammar_alone(rt: HostRuntime) -> Result<(), Fail> {
+    let mut file = Dripping::new(CYCLE, 1000);
+    let mut text = Dripping::new(TEXT, 0);
+    let mut output = Choking::new(rt.alloc(), 1000);
+    let ended = parse(rt.alloc(), &mut file, &mut text, &mut output);
+    assert_eq!(rt; ended, Ok(2));
+    assert!(rt; !text.failed());
+    let line = b"{\"path\":[\"A\",\"B\"],\"refusal\":\"LeftRecursion\"}\n".as_slice();
+    assert!(rt; output.taken.as_slice() == line);
+    let mut file = Dripping::new(FILE, 1000);
+    let mut text = Dripping::new(TEXT, 1000);
+    let mut output = Choking::new(rt.alloc(), 1000);
+    let ended = parse(rt.alloc(), &mut file, &mut text, &mut output);
+    assert_eq!(rt; ended, Ok(0));
+    assert!(rt; output.taken.as_slice() == LINE);
     Ok(())
 }

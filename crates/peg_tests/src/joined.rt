@@ -41,7 +41,11 @@ fn answers_have_their_lines(rt: HostRuntime) -> Result<(), Fail> {
             "{\"consumed\":1,\"expected\":[],\"far\":0,\"result\":\"matched\",\"tree\":{\"children\":[],\"end\":1,\"rule\":\"S\",\"start\":0}}\n",
             0,
         ),
-        (b"S <- S\n%%\nx", "{\"refusal\":\"DepthUsed\"}\n", 6),
+        (
+            b"S <- S\n%%\nx",
+            "{\"path\":[\"S\"],\"refusal\":\"LeftRecursion\"}\n",
+            2,
+        ),
         (
             b"S<-'a'\n%%\na",
             "{\"consumed\":1,\"expected\":[],\"far\":0,\"result\":\"matched\",\"tree\":{\"children\":[],\"end\":1,\"rule\":\"S\",\"start\":0}}\n",

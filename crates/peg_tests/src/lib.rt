@@ -1,4 +1,4 @@
-//! Tests that cross crates: whole runs of the tool, over inputs and outputs in memory.
+//! Tests that cross crates: whole runs of the tool, over inputs and outputs in memory, and calls of its parser.
 #![tactic(auto)]
 
 #[cfg(test)]
@@ -8,8 +8,16 @@ mod check;
 #[cfg(test)]
 mod examples;
 #[cfg(test)]
+mod formats;
+#[cfg(test)]
 mod joined;
 #[cfg(test)]
+mod line_ends;
+#[cfg(test)]
 mod outcomes;
+#[cfg(test)]
+mod parse;
+#[cfg(test)]
+mod parser;
 #[cfg(test)]
 mod tool;

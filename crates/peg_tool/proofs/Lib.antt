@@ -1,9 +1,16 @@
+pub mod AcceptLemmas
 pub mod AnswerLemmas
 pub mod CheckLemmas
 pub mod FirstRule
+pub mod JudgeLemmas
 pub mod NameLemmas
+pub mod OutcomeFits
 pub mod OutcomeLemmas
-pub mod ReplyLemmas
+pub mod ParseLemmas
+pub mod PrintLemmas
+pub mod RefusalLemmas
+pub mod RunLemmas
 pub mod SplitLaws
+pub mod StartLemmas
 pub mod TableLemmas
 pub mod TransferLemmas

@@ -1,5 +1,5 @@
 -- The names that a grammar is refused for stand where the file's rules do.
-use Rattle.std.proofs.Common.{◌≡◌, ◌≢◌, ℕ, List, [], ◌∷◌, ◌++◌, All, Bool, true, false, not, bytes_eq, find, Some}
+use Rattle.std.proofs.Common.{◌≡◌, ℕ, List, [], ◌∷◌, ◌++◌, All, Bool, true, false, not, bytes_eq, find, IfSome, Some}
 use Rattle.std.proofs.Common.{if◌then◌else◌, subst, arith}
 use Rattle.std.specs.List.{list_any}
 use Rattle.std.proofs.lemmas.List.Elements.{All-nil, All-cons, All-head, All-tail, All-append}
@@ -12,7 +12,7 @@ use Rattle.peg_grammar.specs.declared.fault.GrammarFault.{GrammarFault}
 use Rattle.peg_grammar.specs.declared.fault.GrammarFault.TheVariants.{NoRule, Duplicate, Undefined, TooManyParts}
 use Rattle.peg_grammar.specs.declared.fault.GrammarFault.TheVariants.{Memory}
 use Rattle.peg_notation.specs.Spans.{LiesIn, FormLiesIn, FormsLieIn, RuleLiesIn}
-use Rattle.peg_tool.specs.Refusals.{NameLiesIn}
+use Rattle.peg_tool.specs.Faults.{StartsIn, grammar_cause}
 
 -- a name that stands in a file of this length
 abbrev StandsIn : (size : ℕ) → Reference → Type 0
@@ -78,13 +78,9 @@ found-inside size test (first ∷ rest) name inside is =
         subst (StandsIn size) same (All-head (StandsIn size) first rest inside)
     by false there later = later there
 
--- rules are not refused for being none
-pub refused-some : (rules : List Rule) (fault : GrammarFault) → rules ≢ [] → Refuses rules fault → fault ≢ NoRule
-refused-some rules fault some refuses is = some (subst (Refuses rules) is refuses)
-
 -- the name that a grammar is refused for
 pub refused-inside : (size : ℕ) (rules : List Rule) (fault : GrammarFault) → All (RuleLiesIn size) rules
-    → Refuses rules fault → NameLiesIn size fault
+    → Refuses rules fault → IfSome (grammar_cause fault) (StartsIn size)
 refused-inside size rules NoRule inside is = tt
 refused-inside size rules (Duplicate name span) inside is =
     let lies = duplicate-inside size [] rules _ inside is in

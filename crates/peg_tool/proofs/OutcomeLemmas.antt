@@ -13,7 +13,7 @@ use Rattle.peg_core.proofs.SugarOutcomes.{GivesSomething-from_core, CanFail-to_c
 use Rattle.peg_grammar.specs.AbstractOutcomes.{Can, cannot}
 use Rattle.peg_grammar.specs.Form.{Form, terminals}
 use Rattle.peg_grammar.specs.Rules.{Rule}
-use Rattle.peg_tool.specs.Outcomes.{IsOutcome, AreOutcomes}
+use Rattle.peg_tool.specs.RuleOutcomes.{IsOutcome, AreOutcomes}
 use Rattle.peg_tool.specs.TableText.{cans_of}
 
 -- what is exact for an expression's core form is exact for the expression

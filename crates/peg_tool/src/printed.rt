@@ -1,9 +1,11 @@
 //! What a run prints and how it ends.
-ghost use Rattle.std.specs.Prelude.{◌≡◌, IfOk, string_bytes};
-ghost use Rattle.peg_tool.specs.Reply.{Answer, IsReply, line_of, status_of};
+ghost use Rattle.std.specs.Prelude.{◌≡◌, ◌++◌, ◌∷◌, [], IfOk, OnOk, OnErr, is_err, false, string_bytes};
+ghost use Rattle.std.specs.Io.KnownBytes.{Appends};
+ghost use Rattle.peg_tool.specs.Transfer.{AppendsProperPrefix};
 
-use crate::reply::Reply;
-use std::alloc::{AllocError, Global};
+use crate::device::{DeviceFault, Sink};
+use crate::transfer::write_all_bytes;
+use std::alloc::AllocError;
 use thiserror::Error;
 
 /// The status where memory ran out.
@@ -27,14 +29,28 @@ pub(crate) struct Printed {
     pub(crate) status: u8,
 }
 
-/// What is printed of a reply.
-pub(crate) fn print(alloc: Global, reply: &Reply) -> Result<Printed, AllocError>
-    ensures { (answer : Answer) → IsReply answer reply.now
-        → IfOk result (λ told. (string_bytes told.line ≡ line_of answer) × (told.status ≡ status_of answer)) }
-{
-    let line = reply.line(alloc)?;
-    Ok(Printed {
-        line,
-        status: reply.status,
-    })
+impl Printed {
+    /// The line of a text without its line end, and this status.
+    pub(crate) fn new(text: String, status: u8) -> Result<Printed, AllocError>
+        ensures line { IfOk result (λ told. string_bytes told.line ≡ string_bytes text ++ 10 ∷ []) }
+        ensures status { IfOk result (λ told. told.status ≡ status) }
+    {
+        let mut line = text;
+        line.push('\n')?;
+        Ok(Printed { line, status })
+    }
+
+    /// Writes the line, and answers the status.
+    pub(crate) fn write<W: Sink>(&self, output: &mut W) -> Result<u8, DeviceFault>
+        requires { W.failed output.old ≡ false }
+        ensures status { IfOk result (λ status. status ≡ self.now.status) }
+        ensures written { OnOk result
+            (Appends (W.written output.old) (W.written output.new) (string_bytes self.now.line)) }
+        ensures cut { OnErr result
+            (AppendsProperPrefix (W.written output.old) (W.written output.new) (string_bytes self.now.line)) }
+        ensures failed { W.failed output.new ≡ is_err result }
+    {
+        write_all_bytes(output, self.line.as_bytes())?;
+        Ok(self.status)
+    }
 }

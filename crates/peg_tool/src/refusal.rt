@@ -1,58 +1,91 @@
-//! The answers to grammar files that are refused.
-ghost use Rattle.std.specs.Prelude.{◌≢◌, ℕ, ◌≤◌, List, length, IfOk};
-ghost use Rattle.peg_grammar.specs.Refusal.{Refuses};
-ghost use Rattle.peg_grammar.specs.Rules.{Rule};
-ghost use Rattle.peg_notation.specs.Notation.{most_file_bytes};
-ghost use Rattle.peg_notation.specs.Reads.{Reads};
-ghost use Rattle.peg_notation.specs.Spans.{AnswerLiesIn};
-ghost use Rattle.peg_tool.specs.Answers.{Answers, AnswersBy, Replies};
-ghost use Rattle.peg_tool.specs.Refusals.{NameLiesIn};
-ghost use Rattle.peg_tool.specs.Task.{Task};
-
-use crate::reply::{Reason, Reply};
+//! Why a grammar file, a start or a text is refused.
+use peg_check::CheckFault;
 use peg_grammar::GrammarFault;
 use peg_notation::NotationFault;
-use std::alloc::{AllocError, Global};
+use std::alloc::AllocError;
+use thiserror::Error;
 
-/// The answer to a file that isn't read.
-pub(crate) fn refused_file(
-    alloc: Global,
-    file: &[u8],
-    fault: NotationFault,
-) -> Result<Reply, AllocError>
-    requires reads { Reads file.now (Err fault) }
-    requires inside { AnswerLiesIn (length file.now) (Err fault) }
-    ensures { (text : List ℕ) (task : Task) → IfOk result (Replies (Answers file.now text task)) }
-{
-    match fault {
-        NotationFault::FileTooLong => Reply::refused(alloc, Reason::FileTooLong),
-        NotationFault::Syntax { at } => Reply::refused_at(alloc, Reason::Syntax, file, at),
-        NotationFault::TooNested { at } => Reply::refused_at(alloc, Reason::TooNested, file, at),
-        NotationFault::Memory => Err(AllocError),
+/// Why a grammar file is refused. Want of memory in any layer is `Memory`.
+#[derive(Debug, Drop, Error)]
+pub enum Refusal {
+    /// It isn't in the notation, or over a limit of it.
+    #[error("the file isn't in the notation of grammars, or over its limits")]
+    Notation(NotationFault),
+    /// What it spells is no grammar, or one that is too large.
+    #[error("the file's definitions are no grammar, or one that is too large")]
+    Grammar(GrammarFault),
+    /// The grammar isn't well-formed.
+    #[error("the grammar isn't well-formed")]
+    NotWellFormed(CheckFault),
+    /// Memory ran out.
+    #[error("out of memory")]
+    Memory,
+}
+
+impl From<AllocError> for Refusal {
+    ghost use Rattle.std.specs.Prelude.{◌≡◌};
+    ghost use Rattle.peg_tool.specs.declared.refusal.Refusal.TheVariants.{Memory};
+
+    ghost from_gives = { λ _ refusal. refusal ≡ Memory };
+
+    fn from(_error: AllocError) -> Refusal {
+        Refusal::Memory
     }
 }
 
-/// The answer to a file whose definitions, of which there are some, are no grammar.
-pub(crate) fn refused_grammar(
-    alloc: Global,
-    file: &[u8],
-    fault: GrammarFault,
-) -> Result<Reply, AllocError>
-    requires short { length file.now ≤ most_file_bytes }
-    requires inside { NameLiesIn (length file.now) fault }
-    requires some { fault ≢ GrammarFault.NoRule }
-    ensures { (rules : List Rule) (text : List ℕ) (task : Task) → Refuses rules fault
-        → IfOk result (Replies (AnswersBy file.now rules text task)) }
-{
-    match fault {
-        GrammarFault::NoRule => unreachable!(),
-        GrammarFault::Duplicate { name, span } => {
-            Reply::refused_name(alloc, Reason::Duplicate, file, name.as_str(), span)
+impl From<NotationFault> for Refusal {
+    ghost use Rattle.std.specs.Prelude.{◌≡◌};
+    ghost use Rattle.peg_tool.specs.Faults.{of_notation};
+
+    ghost from_gives = { λ fault refusal. refusal ≡ of_notation fault };
+
+    fn from(fault: NotationFault) -> Refusal {
+        match fault {
+            NotationFault::Memory => Refusal::Memory,
+            other => Refusal::Notation(other),
         }
-        GrammarFault::Undefined { name, span } => {
-            Reply::refused_name(alloc, Reason::Undefined, file, name.as_str(), span)
-        }
-        GrammarFault::TooManyParts => Reply::refused(alloc, Reason::TooManyParts),
-        GrammarFault::Memory => Err(AllocError),
     }
+}
+
+impl From<GrammarFault> for Refusal {
+    ghost use Rattle.std.specs.Prelude.{◌≡◌};
+    ghost use Rattle.peg_tool.specs.Faults.{of_grammar};
+
+    ghost from_gives = { λ fault refusal. refusal ≡ of_grammar fault };
+
+    fn from(fault: GrammarFault) -> Refusal {
+        match fault {
+            GrammarFault::Memory => Refusal::Memory,
+            other => Refusal::Grammar(other),
+        }
+    }
+}
+
+impl From<CheckFault> for Refusal {
+    ghost use Rattle.std.specs.Prelude.{◌≡◌};
+    ghost use Rattle.peg_tool.specs.Faults.{of_check};
+
+    ghost from_gives = { λ fault refusal. refusal ≡ of_check fault };
+
+    fn from(fault: CheckFault) -> Refusal {
+        match fault {
+            CheckFault::Memory => Refusal::Memory,
+            other => Refusal::NotWellFormed(other),
+        }
+    }
+}
+
+/// What `refusal_json` tells: why a grammar file, a start or a text is refused, or that an answer isn't printed.
+#[derive(Clone, Copy, Debug)]
+pub enum Fault<'a> {
+    /// The grammar file.
+    Refused(&'a Refusal),
+    /// No rule has the name of the start.
+    NoSuchStart(&'a str),
+    /// The parse takes more steps than were allowed.
+    StepLimit,
+    /// The tree has more levels than are printed nested.
+    TooDeep,
+    /// The text has more than 67,108,864 bytes.
+    TextTooLong,
 }

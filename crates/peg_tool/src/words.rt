@@ -1,9 +1,10 @@
 //! The words of a command line, and what they ask for.
-ghost use Rattle.std.specs.Prelude.{◌≡◌, ◌≢◌, [], IfOk};
+ghost use Rattle.std.specs.Prelude.{◌≡◌, ◌≢◌, ◌≤◌, [], IfOk};
 ghost use Rattle.peg_tool.specs.Words.{IsAsking};
 
+use crate::command_line::{MOST_MEMO, program};
 use clap::error::ErrorKind;
-use clap::{Arg, ArgMatches, Command, Error};
+use clap::{ArgMatches, Error};
 use std::alloc::{AllocError, Global};
 use thiserror::Error;
 
@@ -13,11 +14,26 @@ pub enum Words {
     /// There are no words: one input, with the grammar file and the text in it.
     Joined,
     /// Help, and this is its text.
-    Help { text: String },
+    Help {
+        text: String,
+    },
     /// The table of outcomes of the grammar file with this name.
-    Table { g: String },
+    Table {
+        g: String,
+    },
     /// Whether the grammar file with this name is well-formed, and why not.
-    Check { g: String },
+    Check {
+        g: String,
+    },
+    /// What a rule of the grammar file `g` makes of the text `t`. The rest is as in `Command::Parse`, `ParseOptions`.
+    Parse {
+        g: String,
+        t: String,
+        start: Option<String>,
+        memo: u32,
+        all: bool,
+        rows: bool,
+    },
 }
 
 /// Why the words of a command line ask for nothing.
@@ -64,24 +80,57 @@ fn command_of(alloc: Global, matches: &ArgMatches<'_>) -> Result<Words, WordsFau
 {
     match matches.subcommand() {
         Some(("check", words)) => Ok(Words::Check {
-            g: grammar_name(alloc, words)?,
+            g: file_name(alloc, words, "G")?,
         }),
+        Some(("parse", words)) => parse_of(alloc, words),
         Some((_, words)) => Ok(Words::Table {
-            g: grammar_name(alloc, words)?,
+            g: file_name(alloc, words, "G")?,
         }),
         None => Err(missing(alloc)),
     }
 }
 
-// The grammar file's name among the words of a command.
-fn grammar_name(alloc: Global, matches: &ArgMatches<'_>) -> Result<String, WordsFault> {
-    match matches.get_str("G") {
+// What the words of the command `parse` ask for.
+fn parse_of(alloc: Global, matches: &ArgMatches<'_>) -> Result<Words, WordsFault>
+    ensures { IfOk result IsAsking }
+{
+    Ok(Words::Parse {
+        g: file_name(alloc, matches, "G")?,
+        t: file_name(alloc, matches, "T")?,
+        start: start_name(alloc, matches)?,
+        memo: memo_size(alloc, matches)?,
+        all: matches.get_flag("all"),
+        rows: matches.get_flag("rows"),
+    })
+}
+
+// The file's name among the words of a command.
+fn file_name(alloc: Global, matches: &ArgMatches<'_>, id: &str) -> Result<String, WordsFault> {
+    match matches.get_str(id) {
         Some(name) => Ok(String::from_str(alloc, name)?),
         None => Err(missing(alloc)),
     }
 }
 
-// A command or its file is missing. The parser says so itself, with more words, so this comes from no words.
+// The name of the rule to start from, if one is given.
+fn start_name(alloc: Global, matches: &ArgMatches<'_>) -> Result<Option<String>, AllocError> {
+    match matches.get_str("start") {
+        Some(name) => Ok(Some(String::from_str(alloc, name)?)),
+        None => Ok(None),
+    }
+}
+
+// The size of the memo. The parser has seen to it that it is a number in its range.
+fn memo_size(alloc: Global, matches: &ArgMatches<'_>) -> Result<u32, WordsFault>
+    ensures { IfOk result (λ memo. memo ≤ 1000000) }
+{
+    match matches.get_one::<u32>("memo") {
+        Some(memo) if memo <= MOST_MEMO => Ok(memo),
+        _ => Err(missing(alloc)),
+    }
+}
+
+// A command, a file or a number is missing. The parser says so itself, with more words, so this comes from no words.
 fn missing(alloc: Global) -> WordsFault {
     match String::from_str(
         alloc,
@@ -106,72 +155,10 @@ fn told_by(alloc: Global, error: &Error) -> Result<Words, WordsFault>
     }
 }
 
-// The command line of the program.
-fn program<'a>(alloc: Global) -> Result<Command<'a>, AllocError> {
-    let table = table(alloc)?;
-    let check = check(alloc)?;
-    Command::new(alloc, "pegtool")
-        .about("Reads grammars in the notation of Ford's parsing expression grammars (POPL 2004).")
-        .after_help(PROGRAM_NOTES)
-        .no_binary_name(true)
-        .subcommand_required(true)
-        .disable_help_subcommand(true)
-        .subcommand(table)?
-        .subcommand(check)?
-        .bin_name("pegtool")
-}
-
-// The command `table`.
-fn table<'a>(alloc: Global) -> Result<Command<'a>, AllocError> {
-    Command::new(alloc, "table")
-        .about(
-            "Tells of each rule whether it can succeed on nothing, succeed on something, and fail",
-        )
-        .after_help(TABLE_NOTES)
-        .arg(grammar_file(alloc))
-}
-
-// The command `check`.
-fn check<'a>(alloc: Global) -> Result<Command<'a>, AllocError> {
-    Command::new(alloc, "check")
-        .about("Tells whether a grammar is well-formed, and if it isn't, why not and where")
-        .after_help(CHECK_NOTES)
-        .arg(grammar_file(alloc))
-}
-
-// The grammar file's name.
-fn grammar_file<'a>(alloc: Global) -> Arg<'a> {
-    Arg::new(alloc, "G").help("The grammar file").required(true)
-}
-
-// What stands below the program's help.
-const PROGRAM_NOTES: &str = "\
-With no words: reads a grammar file, a line `%%` and a text from standard input,
-and prints what the grammar's first rule makes of the text.
-
-Example: pegtool table grammar.peg
-
-In a class, `-]` makes the bracket the end of a range: `[a-]` isn't closed.
-Write `[-a]` for a dash or an a.";
-
-// What stands below the help of `table`.
-const TABLE_NOTES: &str = "\
-Prints one line of JSON with one entry for each rule, in order.
-
-Example: pegtool table grammar.peg";
-
-// What stands below the help of `check`.
-const CHECK_NOTES: &str = "\
-Prints one line of JSON: that the grammar is accepted, or a star or plus that
-would go round on nothing, or rules that use one another before anything is
-consumed. The status is 0 or 2.
-
-Example: pegtool check grammar.peg";
-
 #[cfg(test)]
 mod tests {
     use super::{Words, WordsFault, read_words};
-    use std::alloc::Global;
+    use std::alloc::{AllocError, Global};
     use std::process::Abort;
     use std::test::Fail;
 
@@ -213,27 +200,102 @@ mod tests {
         Ok(())
     }
 
+    // What is asked by the words of one text, apart by spaces, is this.
+    fn asks(rt: &impl Abort, alloc: Global, line: &str, expected: &Words) -> Result<(), Fail> {
+        let words: Vec<&str> = line.split(' ').collect(alloc)?;
+        let asked = read(alloc, &words).map_err(|_| "a fault")?;
+        assert!(rt; asked == *expected, "{line}");
+        Ok(())
+    }
+
+    // A parse of the text t by the grammar file g.
+    fn parse(
+        alloc: Global,
+        start: Option<&str>,
+        memo: u32,
+        all: bool,
+        rows: bool,
+    ) -> Result<Words, AllocError> {
+        let start = match start {
+            Some(name) => Some(String::from_str(alloc, name)?),
+            None => None,
+        };
+        let g = String::from_str(alloc, "g")?;
+        let t = String::from_str(alloc, "t")?;
+        Ok(Words::Parse {
+            g,
+            t,
+            start,
+            memo,
+            all,
+            rows,
+        })
+    }
+
+    #[test]
+    fn parse_has_its_options(rt: HostRuntime) -> Result<(), Fail> {
+        let alloc = rt.alloc();
+        let cases = [
+            ("parse g t", None, 4096, false, false),
+            ("parse g t --rows", None, 4096, false, true),
+            ("parse g --all t", None, 4096, true, false),
+            ("parse g t --memo 0", None, 0, false, false),
+            ("parse --memo=1000000 g t", None, 1_000_000, false, false),
+            ("parse g t --start Value", Some("Value"), 4096, false, false),
+            ("parse g t --start -a", Some("-a"), 4096, false, false),
+            (
+                "parse g t --start A --memo 7 --all --rows",
+                Some("A"),
+                7,
+                true,
+                true,
+            ),
+        ];
+        for (line, start, memo, all, rows) in cases {
+            let expected = parse(alloc, start, memo, all, rows)?;
+            asks(&rt, alloc, line, &expected)?;
+        }
+        Ok(())
+    }
+
     // The text that comes in place of a command, and whether it is help.
     fn told(alloc: Global, words: &[&str]) -> Option<(bool, String)> {
         match read(alloc, words) {
             Ok(Words::Help { text }) => Some((true, text)),
             Err(WordsFault::Usage { text }) => Some((false, text)),
             Ok(Words::Joined) => None,
-            Ok(Words::Table { g: _g } | Words::Check { g: _g }) => None,
+            Ok(Words::Table { .. } | Words::Check { .. } | Words::Parse { .. }) => None,
             Err(WordsFault::Memory) => None,
         }
     }
 
+    // The words ask for help, and its text has this part.
+    fn helps(rt: &impl Abort, alloc: Global, line: &str, part: &str) -> Result<(), Fail> {
+        let words: Vec<&str> = line.split(' ').collect(alloc)?;
+        let (is_help, text) = told(alloc, &words).ok_or("no text")?;
+        assert!(rt; is_help && text.contains(part), "{text}");
+        Ok(())
+    }
+
     #[test]
     fn help_is_told(rt: HostRuntime) -> Result<(), Fail> {
-        let (is_help, text) = told(rt.alloc(), &["--help"]).ok_or("no text")?;
-        assert!(rt; is_help && text.contains("Example: pegtool table grammar.peg"));
-        let (is_help, text) = told(rt.alloc(), &["-h"]).ok_or("no text")?;
-        assert!(rt; is_help && text.contains("Usage: pegtool"));
-        let (is_help, text) = told(rt.alloc(), &["table", "--help"]).ok_or("no text")?;
-        assert!(rt; is_help && text.contains("Usage: pegtool table <G>"));
-        let (is_help, text) = told(rt.alloc(), &["check", "--help"]).ok_or("no text")?;
-        assert!(rt; is_help && text.contains("Usage: pegtool check <G>"));
+        let cases = [
+            ("-h", "Usage: pegtool <COMMAND>"),
+            ("--help", "Example: pegtool parse grammar.peg text"),
+            ("check --help", "Usage: pegtool check <G>"),
+            ("check --help", "Example: pegtool check grammar.peg"),
+            ("table --help", "Usage: pegtool table <G>"),
+            ("table --help", "Example: pegtool table grammar.peg"),
+            ("parse --help", "Usage: pegtool parse [OPTIONS] <G> <T>"),
+            ("parse --help", "[default: 4096]"),
+            (
+                "parse --help",
+                "Example: pegtool parse grammar.peg text --start Value --all --rows",
+            ),
+        ];
+        for (line, part) in cases {
+            helps(&rt, rt.alloc(), line, part)?;
+        }
         Ok(())
     }
 
@@ -255,6 +317,17 @@ mod tests {
             ("table --all x", "unexpected argument '--all'"),
             ("--start", "unexpected argument '--start'"),
             ("help", "unrecognized subcommand 'help'"),
+            ("parse g", "<T>"),
+            ("parse g t u", "unexpected argument 'u'"),
+            ("parse g t --steps 1", "unexpected argument '--steps'"),
+            ("parse g t --memo", "a value is required for '--memo <N>'"),
+            ("parse g t --memo 1000001", "1000001 is not in 0..=1000000"),
+            ("parse g t --memo -1", "-1 is not in 0..=1000000"),
+            ("parse g t --memo x", "invalid value 'x' for '--memo <N>'"),
+            (
+                "parse g t --memo 1 --memo 2",
+                "'--memo <N>' cannot be used multiple times",
+            ),
         ];
         for (line, part) in cases {
             refused(&rt, rt.alloc(), line, part)?;

@@ -1,8 +1,11 @@
-//! `pegtool`: tells what the rules of a grammar file can do, and whether it is well-formed; without words, parses a text by
-//! a grammar file, both from standard input.
+//! `pegtool`: tells what the rules of a grammar file can do, whether it is well-formed, and what one makes of a text;
+//! with no words, parses a text by a grammar file, both from standard input.
 #![tactic(auto)]
 
-use peg_tool::{Command, Device, ToolFault, Words, WordsFault, read_words, run_joined, run_tool};
+use peg_tool::{
+    Command, Device, ParseOptions, ProgramFault, ToolFault, Words, WordsFault, read_words,
+    run_joined, run_tool,
+};
 use std::env::Env;
 use std::fs::Files;
 use std::io::{ErrorKind, Input};
@@ -15,25 +18,44 @@ const DONE: u8 = 0;
 /// The status where the words are no command line.
 const BAD_WORDS: u8 = 3;
 
-/// The status where a file can't be opened or read, or standard output can't be written.
-const FILE_FAULT: u8 = 4;
-
-/// The status where memory ran out.
+/// The status that the tool answers where memory ran out.
 const OUT_OF_MEMORY: u8 = 5;
 
 /// What is told of words that aren't UTF-8.
 const NOT_UTF8: &str = "error: a word isn't UTF-8\n\nFor more information, try '--help'.\n";
 
 fn main(rt: HostRuntime) -> ExitCode {
-    let status = match words(&rt) {
-        Ok(Words::Joined) => joined(&rt),
-        Ok(Words::Help { text }) => help(&rt, &text),
-        Ok(Words::Table { g }) => on_file(&rt, &g, Command::Table),
-        Ok(Words::Check { g }) => on_file(&rt, &g, Command::Check),
-        Err(WordsFault::Usage { text }) => bad_words(&rt, &text),
-        Err(WordsFault::Memory) => OUT_OF_MEMORY,
+    let status = match run(&rt) {
+        Ok(status) => status,
+        Err(fault) => tell(&rt, fault),
     };
     ExitCode::from(status)
+}
+
+// Does what the words behind the program's name ask for, and answers the status that goes with it.
+fn run<R: Env + Files + Input + Print + Eprint + AllocGlobal>(rt: &R) -> Result<u8, ProgramFault> {
+    match words(rt) {
+        Ok(Words::Joined) => joined(rt),
+        Ok(Words::Help { text }) => help(rt, &text),
+        Ok(Words::Table { g }) => on_file(rt, &g, &Command::Table),
+        Ok(Words::Check { g }) => on_file(rt, &g, &Command::Check),
+        Ok(
+            Words::Parse {
+                g,
+                t,
+                start,
+                memo,
+                all,
+                rows,
+            },
+        ) => {
+            let start = start.as_deref();
+            let options = ParseOptions { start, memo };
+            on_files(rt, &g, &t, &Command::Parse { options, all, rows })
+        }
+        Err(WordsFault::Usage { text }) => Ok(bad_words(rt, &text)),
+        Err(WordsFault::Memory) => Err(ProgramFault::Memory),
+    }
 }
 
 // What the words behind the program's name ask for.
@@ -53,11 +75,9 @@ fn words<R: Env + AllocGlobal>(rt: &R) -> Result<Words, WordsFault> {
 }
 
 // Prints the help.
-fn help<R: Print>(rt: &R, text: &str) -> u8 {
-    match rt.print(text) {
-        Ok(()) => DONE,
-        Err(_) => FILE_FAULT,
-    }
+fn help<R: Print>(rt: &R, text: &str) -> Result<u8, ProgramFault> {
+    rt.print(text)?;
+    Ok(DONE)
 }
 
 // Prints what is wrong with the words. The status tells it too, so it doesn't matter whether that can be printed.
@@ -66,31 +86,48 @@ fn bad_words<R: Eprint>(rt: &R, text: &str) -> u8 {
     BAD_WORDS
 }
 
+// Prints why there is no answer, and answers the status, which tells it too.
+fn tell<R: Eprint>(rt: &R, fault: ProgramFault) -> u8 {
+    let _ = eprintln!(rt; "{fault}");
+    fault.status()
+}
+
 // Reads a grammar file and a text from standard input, and prints what the first rule makes of the text.
-fn joined<R: Input + Print + AllocGlobal>(rt: &R) -> u8 {
+fn joined<R: Input + Print + AllocGlobal>(rt: &R) -> Result<u8, ProgramFault> {
     let mut input = Device::new(rt.reader());
     let mut output = Device::new(io::writer(rt));
-    status_of(run_joined(rt.alloc(), &mut input, &mut output))
+    answered(run_joined(rt.alloc(), &mut input, &mut output))
 }
 
-// Does what is asked on the grammar file with this name.
-fn on_file<R: Files + Print + AllocGlobal>(rt: &R, g: &str, command: Command) -> u8 {
-    match fs::open(rt, g) {
-        Ok(file) => {
-            let mut grammar = Device::new(file);
-            let mut text = Device::new(io::empty());
-            let mut output = Device::new(io::writer(rt));
-            status_of(run_tool(rt.alloc(), &mut grammar, &mut text, &mut output, &command))
-        }
-        Err(error) if error.kind() == ErrorKind::OutOfMemory => OUT_OF_MEMORY,
-        Err(_) => FILE_FAULT,
-    }
+// Does what is asked of the grammar file with this name alone.
+fn on_file<R: Files + Print + AllocGlobal>(
+    rt: &R,
+    g: &str,
+    command: &Command<'_>,
+) -> Result<u8, ProgramFault> {
+    let mut grammar = Device::new(fs::open(rt, g)?);
+    let mut text = Device::new(io::empty());
+    let mut output = Device::new(io::writer(rt));
+    answered(run_tool(rt.alloc(), &mut grammar, &mut text, &mut output, command))
 }
 
-// The status of a run.
-fn status_of(ended: Result<u8, ToolFault>) -> u8 {
-    match ended {
-        Ok(status) => status,
-        Err(_) => FILE_FAULT,
+// Does what is asked of the grammar file and the text with these names. Both are opened before one is read.
+fn on_files<R: Files + Print + AllocGlobal>(
+    rt: &R,
+    g: &str,
+    t: &str,
+    command: &Command<'_>,
+) -> Result<u8, ProgramFault> {
+    let mut grammar = Device::new(fs::open(rt, g)?);
+    let mut text = Device::new(fs::open(rt, t)?);
+    let mut output = Device::new(io::writer(rt));
+    answered(run_tool(rt.alloc(), &mut grammar, &mut text, &mut output, command))
+}
+
+// The status of a run, where memory didn't run out.
+fn answered(ended: Result<u8, ToolFault>) -> Result<u8, ProgramFault> {
+    match ended? {
+        OUT_OF_MEMORY => Err(ProgramFault::Memory),
+        status => Ok(status),
     }
 }

@@ -1,5 +1,5 @@
-//! Makes the tables of chains of 100,000 rules, for the script in bench/: with the word `forwards` each rule uses the next
-//! one, with `backwards` the one before, with `shuffled` one that stands elsewhere, and with no word all three.
+//! Makes the tables of chains of 100,000 rules, for the script in bench/: with the word `forwards` each rule uses the
+//! next one, with `backwards` the one before, with `shuffled` one that stands elsewhere, and with no word all three.
 #![tactic(auto)]
 
 ghost use Rattle.std.specs.Prelude.{◌<◌};

@@ -1,0 +1,158 @@
+//! The command line of the program: its commands, their arguments and the texts of help.
+use clap::{Arg, ArgAction, Command, value_parser};
+use std::alloc::{AllocError, Global};
+
+/// The largest memo that can be asked for.
+pub(crate) const MOST_MEMO: u32 = 1_000_000;
+
+/// The command line of the program.
+pub(crate) fn program<'a>(alloc: Global) -> Result<Command<'a>, AllocError> {
+    let check = check(alloc)?;
+    let table = table(alloc)?;
+    let parse = parse(alloc)?;
+    Command::new(alloc, "pegtool")
+        .about("Reads grammars in the notation of Ford's parsing expression grammars (POPL 2004).")
+        .after_help(PROGRAM_NOTES)
+        .no_binary_name(true)
+        .subcommand_required(true)
+        .disable_help_subcommand(true)
+        .subcommand(check)?
+        .subcommand(table)?
+        .subcommand(parse)?
+        .bin_name("pegtool")
+}
+
+// The command `check`.
+fn check<'a>(alloc: Global) -> Result<Command<'a>, AllocError> {
+    Command::new(alloc, "check")
+        .about("Tells whether a grammar is well-formed, and if it isn't, why not and where")
+        .after_help(CHECK_NOTES)
+        .arg(grammar_file(alloc))
+}
+
+// The command `table`.
+fn table<'a>(alloc: Global) -> Result<Command<'a>, AllocError> {
+    Command::new(alloc, "table")
+        .about(
+            "Tells of each rule whether it can succeed on nothing, succeed on something, and fail",
+        )
+        .after_help(TABLE_NOTES)
+        .arg(grammar_file(alloc))
+}
+
+// The command `parse`.
+fn parse<'a>(alloc: Global) -> Result<Command<'a>, AllocError> {
+    Command::new(alloc, "parse")
+        .about("Tells what a rule of a grammar makes of a text")
+        .after_help(PARSE_NOTES)
+        .arg(grammar_file(alloc))?
+        .arg(text_file(alloc))?
+        .arg(start_option(alloc))?
+        .arg(memo_option(alloc))?
+        .arg(all_flag(alloc))?
+        .arg(rows_flag(alloc))
+}
+
+// The grammar file's name.
+fn grammar_file<'a>(alloc: Global) -> Arg<'a> {
+    Arg::new(alloc, "G").help("The grammar file").required(true)
+}
+
+// The text's name.
+fn text_file<'a>(alloc: Global) -> Arg<'a> {
+    Arg::new(alloc, "T")
+        .help("The file of the text")
+        .required(true)
+}
+
+// The rule to start from. No rule's name begins with a hyphen, and one that does is told as no rule.
+fn start_option<'a>(alloc: Global) -> Arg<'a> {
+    Arg::new(alloc, "start")
+        .long("start")
+        .value_name("NAME")
+        .allow_hyphen_values(true)
+        .help("The rule to start from; if none is named, the file's first rule")
+}
+
+// How many results are kept.
+fn memo_option<'a>(alloc: Global) -> Arg<'a> {
+    Arg::new(alloc, "memo")
+        .long("memo")
+        .value_name("N")
+        .value_parser(value_parser!(u32).range(..=i64::from(MOST_MEMO)))
+        .allow_negative_numbers(true)
+        .default_value("4096")
+        .help("The most results of rules that may be kept, 0 to 1000000")
+}
+
+// Whether the whole text has to be consumed.
+fn all_flag<'a>(alloc: Global) -> Arg<'a> {
+    Arg::new(alloc, "all")
+        .long("all")
+        .action(ArgAction::SetTrue)
+        .help("Asks that the whole text is consumed: a match of less is partial, status 1")
+}
+
+// Whether the tree is printed by rows.
+fn rows_flag<'a>(alloc: Global) -> Arg<'a> {
+    Arg::new(alloc, "rows")
+        .long("rows")
+        .action(ArgAction::SetTrue)
+        .help("Prints the tree as a list of [level, rule, start, end], however deep it is")
+}
+
+// What stands below the program's help.
+const PROGRAM_NOTES: &str = "\
+With no words: reads a grammar file, a line `%%` and a text from standard input,
+and prints what the grammar's first rule makes of the text.
+
+Prints one line of JSON, and ends with a status:
+  0  matched, accepted, the table printed, or help
+  1  failed, or partial under --all
+  2  the grammar is refused
+  3  a fault of the command line, or the start is no rule
+  4  a file can't be opened or read, or the output can't be written
+  5  out of memory
+  6  the tree is too deep to be printed nested, or the text is too long
+
+Example: pegtool parse grammar.peg text
+
+In a class, `-]` makes the bracket the end of a range: `[a-]` isn't closed, and
+goes on to the next bracket, over the rules between. Write `[-a]` for a dash or
+an a.";
+
+// What stands below the help of `check`.
+const CHECK_NOTES: &str = "\
+Prints one line of JSON: that the grammar is accepted, or why it is refused: its
+text, its names, a star or plus that would go round on nothing, or rules that
+use one another before anything is consumed.
+
+Status: 0 accepted; 2 refused; 3 a fault of the command line; 4 a file can't be
+opened or read, or the output can't be written; 5 out of memory.
+
+Example: pegtool check grammar.peg";
+
+// What stands below the help of `table`.
+const TABLE_NOTES: &str = "\
+Prints one line of JSON with one entry for each rule, in order. The grammar need
+not be well-formed.
+
+Status: 0 the table printed; 2 the grammar is refused; 3 a fault of the command
+line; 4 a file can't be opened or read, or the output can't be written; 5 out of
+memory.
+
+Example: pegtool table grammar.peg";
+
+// What stands below the help of `parse`.
+const PARSE_NOTES: &str = "\
+Prints one line of JSON: how much of the text is consumed, the tree, the furthest
+place at which a terminal failed, and where those that failed there stand in the
+grammar file. A text has at most 67108864 bytes. A tree of more than 60 levels
+is printed with --rows alone.
+
+Status: 0 matched; 1 failed, or partial under --all; 2 the grammar is refused; 3 a
+fault of the command line, or the start is no rule; 4 a file can't be opened or
+read, or the output can't be written; 5 out of memory; 6 the tree is too deep to
+be printed nested, or the text is too long.
+
+Example: pegtool parse grammar.peg text --start Value --all --rows";
