@@ -1,23 +1,86 @@
 #!/usr/bin/env bash
-# Refuses each request for memory of the stored run in turn. Each run has to end with status 5 and print nothing, or
-# print the stored line with status 0; the last one meets no refusal.
+# Refuses each request for memory of runs of the built program in turn: of the Nth one, for N from 1 until a run makes
+# fewer. Each run has to end with status 5, print nothing, and tell `pegtool: out of memory` on standard error; or print
+# its line and end with its status, as it does where memory is there. Takes the program's path, by default the built one
+# (`cd crates/pegtool && rt run < stdin` builds it), and wants a C compiler for the library that refuses.
 set -u
-cd "$(dirname "$0")/../crates/pegtool"
-mkdir -p out
-want=$(cat stdout)
-for n in $(seq 1 1000); do
-  got=$(rt try --fail-alloc "$n" < stdin 2> out/refused.log)
-  status=$?
-  if [ "$status" = 5 ] && [ -z "$got" ]; then
-    echo "growth $n: status 5, nothing printed"
-  elif [ "$status" = 0 ] && [ "$got" = "$want" ]; then
-    echo "growth $n: the stored line"
-    made=$(sed -n 's/^allocations: //p' out/refused.log)
-    [ "$made" -lt "$n" ] && exit 0
-  else
-    echo "growth $n: WRONG, status $status: $got"
-    exit 1
-  fi
+cd "$(dirname "$0")/.."
+program=$(realpath "${1:-crates/pegtool/out/pegtool}")
+work=$(mktemp -d)
+trap 'rm -rf "$work"' EXIT
+cat > "$work/refuse.c" << 'C'
+#define _GNU_SOURCE
+#include <dlfcn.h>
+#include <fcntl.h>
+#include <stdlib.h>
+#include <unistd.h>
+
+static long made;
+
+/* Whether this request is the one to refuse; it is noted that it was met. */
+static int refused(void) {
+    char *which = getenv("REFUSE_NTH");
+    if (!which || ++made != atol(which)) return 0;
+    close(open(getenv("REFUSE_MET"), O_CREAT | O_WRONLY, 0600));
+    return 1;
+}
+
+void *malloc(size_t size) {
+    static void *(*real)(size_t);
+    if (!real) real = dlsym(RTLD_NEXT, "malloc");
+    return refused() ? NULL : real(size);
+}
+
+void *realloc(void *old, size_t size) {
+    static void *(*real)(void *, size_t);
+    if (!real) real = dlsym(RTLD_NEXT, "realloc");
+    return refused() ? NULL : real(old, size);
+}
+C
+cc -shared -fPIC -O1 -o "$work/refuse.so" "$work/refuse.c" -ldl || exit 1
+faults=0
+refuse() { # what the run is called, its input, and its words
+  want=$("$program" "${@:3}" < "$2" 2> /dev/null)
+  ends=$?
+  for n in $(seq 1 100000); do
+    rm -f "$work/met"
+    got=$(LD_PRELOAD="$work/refuse.so" REFUSE_NTH=$n REFUSE_MET="$work/met" "$program" "${@:3}" < "$2" 2> "$work/told")
+    status=$?
+    if [ ! -e "$work/met" ]; then
+      [ "$status" = "$ends" ] && [ "$got" = "$want" ] || { echo "$1: WRONG without a refusal"; faults=$((faults + 1)); }
+      echo "$1: $((n - 1)) growths"
+      return
+    fi
+    case "$status:$got:$(cat "$work/told")" in
+      "5::pegtool: out of memory" | "$ends:$want:"*) ;;
+      *) echo "$1, growth $n: WRONG, status $status: $got"; faults=$((faults + 1)) ;;
+    esac
+  done
+}
+file() { printf "$1" > "$work/$2"; }
+file "S <- 'a' S / 'b'\n" chain.peg
+file 'aab' chain.txt
+file "D <- &(A !'b') 'a'* B !.\nA <- 'a' A 'b' / ''\nB <- 'b' B 'c' / ''\n" counts.peg
+file 'aabbcc' counts.txt
+file "A <- B 'x'\nB <- 'y'? A\n" cycle.peg
+file "A <- ('a'*)*\n" loop.peg
+file "A <- B\nA <- 'x'\n" twice.peg
+file "A <- B\n" missing.peg
+file "A <- [a-]\n" open.peg
+file "A <- '(' A ')' 'x' / '(' A ')' 'y' / 'a'\n" prefix.peg
+file '(a)y' prefix.txt
+refuse 'stored run' crates/pegtool/stdin
+refuse 'parse, nested' /dev/null parse "$work/chain.peg" "$work/chain.txt"
+refuse 'parse, rows' /dev/null parse "$work/chain.peg" "$work/chain.txt" --rows
+refuse 'parse, counts' /dev/null parse "$work/counts.peg" "$work/counts.txt"
+refuse 'parse, prefix' /dev/null parse "$work/prefix.peg" "$work/prefix.txt" --all
+refuse 'parse, no start' /dev/null parse "$work/chain.peg" "$work/chain.txt" --start T
+refuse 'parse, left cycle' /dev/null parse "$work/cycle.peg" "$work/chain.txt"
+for grammar in chain counts cycle loop twice missing open; do
+  refuse "check, $grammar" /dev/null check "$work/$grammar.peg"
 done
-echo "WRONG, more than 1000 growths"
-exit 1
+refuse 'table, counts' /dev/null table "$work/counts.peg"
+refuse 'help' /dev/null --help
+refuse 'no command' /dev/null tables
+echo "$faults faults"
+[ "$faults" = 0 ]
