@@ -12,7 +12,6 @@ mod numbers;
 mod plain;
 #[cfg(test)]
 mod steps;
-mod terminals;
 #[cfg(test)]
 mod tests;
 mod total;
@@ -24,6 +23,5 @@ pub use expr::{Definition, Expr};
 pub use fault::GrammarFault;
 pub use grammar::{Grammar, MOST_PARTS};
 pub use plain::{MOST_TEXT_BYTES, PlainFault, plain_match};
-pub use terminals::terminal_spans;
 pub use total::{TotalFault, plain_total};
 pub use weights::weight;
