@@ -4,7 +4,7 @@
 # its line and end with its status, as it does where memory is there. Takes the program's path, by default the built one
 # (`cd crates/pegtool && rt run < stdin` builds it), and wants a C compiler for the library that refuses.
 set -u
-cd "$(dirname "$0")/.."
+cd "$(dirname "$0")/.." || exit 1
 program=$(realpath "${1:-crates/pegtool/out/pegtool}")
 work=$(mktemp -d)
 trap 'rm -rf "$work"' EXIT

@@ -10,7 +10,8 @@ use Rattle.std.proofs.lemmas.List.{ext_get_or, get_or-replicate, get_or-set_othe
 use Rattle.std.proofs.lemmas.List.FromFn.{length-map-range_with_len, get_or-map-range_with_len}
 use Rattle.std.proofs.lemmas.Nat.Bits.{bit_at-lt, bit_at-zero, bit_at_ones, bit_at_or, same_from_bits_below}
 use Rattle.std.proofs.lemmas.Nat.Bits.{bit_at_set_same, bit_at_set_other}
-use Rattle.peg_bytes.specs.ByteSet.{all_flags, bytes_of, flag_of, has}
+use Rattle.peg_bytes.specs.AllFlags.{all_flags}
+use Rattle.peg_bytes.specs.ByteSet.{bytes_of, flag_of, has}
 use Rattle.peg_bytes.specs.declared.byte_set.ByteSet.{ByteSet}
 
 -- a set has a flag for each byte

@@ -1,2 +1,2 @@
 pub mod ByteSetLemmas
-pub mod PlaceLemmas
+mod PlaceLemmas

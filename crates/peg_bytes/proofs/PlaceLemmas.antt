@@ -3,7 +3,8 @@ use Rattle.std.proofs.Common.{◌≡◌, ℕ, ◌+◌, ◌<◌, ◌≤◌, ◌==
 use Rattle.std.proofs.Common.{List, [], ◌∷◌, length, get_or, drop, filter, arith, refl, sym, ◌∙◌, ap, add-one, eqb-true}
 use Rattle.std.proofs.Math.Seq.{drop-cons}
 use Rattle.std.proofs.lemmas.Bool.{le-leb, lt-leb}
-use Rattle.peg_bytes.specs.Place.{carriage_return, line_feed, ends_line, line_ends}
+use Rattle.peg_bytes.specs.EndsLine.{ends_line}
+use Rattle.peg_bytes.specs.Place.{carriage_return, line_feed, line_ends}
 
 -- bytes that begin with LF begin with a line end of that byte
 line_ends-line_feed : (place : ℕ) (rest : List ℕ)

@@ -1,5 +1,6 @@
 -- A set of bytes, as definitions see it.
-use Rattle.std.specs.Prelude.{ℕ, ◌+◌, ◌/◌, ◌%◌, Bool, true, false, List, map, max, replicate, ◌==◌, bit_or, slice_index, slice_index_or}
+use Rattle.std.specs.Prelude.{ℕ, ◌+◌, ◌/◌, ◌%◌, Bool, true, false, List, map, max, replicate, ◌==◌, slice_index}
+use Rattle.std.specs.Prelude.{slice_index_or}
 use Rattle.std.specs.Int.{bit_at}
 use Rattle.std.specs.List.{list_any, range_with_len}
 use Rattle.peg_bytes.specs.declared.byte_set.ByteSet.{ByteSet}
@@ -19,11 +20,6 @@ flag_of words byte = bit_at (slice_index words (byte / 64)) (byte % 64) == 1
 -- the set that a `ByteSet` holds: the flags of the 256 bytes
 unfoldable pub bytes_of : ByteSet → Bytes
 bytes_of set = map (flag_of set.words) (range_with_len 0 256)
-
--- the flags of the four words in one word
-abbrev pub all_flags : List ℕ → ℕ
-all_flags words =
-    bit_or (bit_or (bit_or (slice_index words 0) (slice_index words 1)) (slice_index words 2)) (slice_index words 3)
 
 -- whether a set has any byte
 abbrev pub has_some : Bytes → Bool

@@ -1,3 +1,5 @@
+pub mod AllFlags
 pub mod ByteSet
+pub mod EndsLine
 pub mod Extent
 pub mod Place

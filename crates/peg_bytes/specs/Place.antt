@@ -1,6 +1,10 @@
 -- Lines and columns: where the line ends of a file end, and the line and column of a place.
-use Rattle.std.specs.Prelude.{ℕ, ◌+◌, ◌-◌, ◌==◌, nat_le, Bool, false, not, ◌&&◌, ◌||◌, if◌then◌else◌}
+use Rattle.std.specs.Prelude.{ℕ, ◌+◌, ◌-◌, ◌==◌, nat_le, ◌&&◌, ◌||◌, if◌then◌else◌}
 use Rattle.std.specs.Prelude.{List, [], ◌∷◌, length, filter}
+
+-- the greatest place whose line and column are told
+abbrev pub most_place : ℕ
+most_place = 2147483647
 
 -- the byte CR
 abbrev pub carriage_return : ℕ
@@ -30,16 +34,9 @@ last_or place [] = place
 last_or place (end ∷ ends) = last_or end ends
 
 -- the line of a place, from 1
-abbrev pub line_of : List ℕ → ℕ → ℕ
-line_of file at = 1 + length (ends_up_to file at)
+abbrev pub line_at : List ℕ → ℕ → ℕ
+line_at file at = 1 + length (ends_up_to file at)
 
 -- its column, from 1
-abbrev pub column_of : List ℕ → ℕ → ℕ
-column_of file at = 1 + (at - last_or 0 (ends_up_to file at))
-
--- whether a line end ends with the first of these bytes: LF, or CR that no LF follows
-abbrev pub ends_line : List ℕ → Bool
-ends_line [] = false
-ends_line (first ∷ []) = first == line_feed || first == carriage_return
-ends_line (first ∷ second ∷ rest) =
-    first == line_feed || (first == carriage_return && not (second == line_feed))
+abbrev pub column_at : List ℕ → ℕ → ℕ
+column_at file at = 1 + (at - last_or 0 (ends_up_to file at))

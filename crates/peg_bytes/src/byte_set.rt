@@ -8,7 +8,8 @@ pub struct ByteSet {
 }
 
 impl ByteSet {
-    ghost use Rattle.peg_bytes.specs.ByteSet.{all_flags, bytes_of, has};
+    ghost use Rattle.peg_bytes.specs.AllFlags.{all_flags};
+    ghost use Rattle.peg_bytes.specs.ByteSet.{bytes_of, has};
 
     /// The set with no byte.
     pub fn empty() -> ByteSet
@@ -88,39 +89,5 @@ impl ByteSet {
         ensures { result ≡ all_flags self.now.words }
     {
         self.words[0] | self.words[1] | self.words[2] | self.words[3]
-    }
-}
-
-#[cfg(test)]
-mod tests {
-    use super::*;
-
-    #[test]
-    fn a_range_goes_across_words(rt: HostRuntime) {
-        let set = ByteSet::range(60, 70);
-        for byte in 0..=255 {
-            assert_eq!(rt; set.contains(byte), 60 <= byte && byte <= 70, "{byte}");
-        }
-        assert!(rt; !set.is_empty());
-        assert!(rt; ByteSet::range(70, 60).is_empty());
-    }
-
-    #[test]
-    fn a_single_byte_is_alone(rt: HostRuntime) {
-        for byte in [0, 63, 64, 255] {
-            let set = ByteSet::single(byte);
-            assert!(rt; set.contains(byte));
-            assert!(rt; !set.contains(byte ^ 1));
-            assert_eq!(rt; set, ByteSet::range(byte, byte));
-        }
-    }
-
-    #[test]
-    fn a_union_has_the_bytes_of_both(rt: HostRuntime) {
-        let set = ByteSet::single(0).union(&ByteSet::range(200, 255));
-        assert!(rt; set.contains(0) && set.contains(200) && set.contains(255));
-        assert!(rt; !set.contains(1) && !set.contains(199));
-        assert!(rt; ByteSet::empty().union(&ByteSet::empty()).is_empty());
-        assert_eq!(rt; ByteSet::range(0, 255), ByteSet::full());
     }
 }

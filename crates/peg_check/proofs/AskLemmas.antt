@@ -5,11 +5,10 @@ use Rattle.std.proofs.lemmas.Option.{slice_get-map}
 use Rattle.peg_core.specs.CoreForm.{CoreForm, Rule, Seq, Choice, Star, Not}
 use Rattle.peg_core.specs.CoreLoops.{CoreMeets}
 use Rattle.peg_core.specs.CoreOutcomes.{CoreAsking, BodyIs, CoreWellFormedTable, IsCoreWellFormedIn}
-use Rattle.peg_core.specs.Layout.{Desugared, form_at}
+use Rattle.peg_core.specs.Layout.{bodies_of, Desugared, form_at}
 use Rattle.peg_check.specs.Asks.{AsksBy, asks_empty, asks_test, asks_body, asks_first, asks_both, asks_either, asks_again, asks_not, AreAsked}
-use Rattle.peg_check.specs.Exact.{bodies_of}
 use Rattle.peg_check.specs.Links.{GoesBy, LinkFits, link_at}
-use Rattle.peg_check.specs.Loops.{LoopsAt}
+use Rattle.peg_check.specs.EmptyLoops.{LoopsAt}
 use Rattle.peg_check.specs.Settled.{IsSettledIn}
 use Rattle.peg_check.specs.declared.link.Link.{Link}
 

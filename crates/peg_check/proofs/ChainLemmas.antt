@@ -4,45 +4,45 @@ use Rattle.std.proofs.lemmas.Bool.{cases_eq}
 use Rattle.std.proofs.lemmas.List.{get_or_append_left, get_or_at, get_or-set_other, get_or-set_same}
 use Rattle.std.proofs.lemmas.Option.{slice_get_within, get_or_from_slice_get, slice_get-get_or}
 use Rattle.peg_check.specs.Chains.{Leads, here, there}
-use Rattle.peg_check.specs.declared.uses.Use.{Use}
+use Rattle.peg_check.specs.declared.uses.ChainEntry.{ChainEntry}
 
 -- an entry is the same among more
-still-there : (entries : List Use) (e : Use) (at : ℕ) (entry : Use) → slice_get entries at ≡ Some entry
+still-there : (entries : List ChainEntry) (e : ChainEntry) (at : ℕ) (entry : ChainEntry) → slice_get entries at ≡ Some entry
     → slice_get (entries ++ e ∷ []) at ≡ Some entry
 still-there entries e at entry is =
     let within : at < length entries = slice_get_within entries at entry is in
     let longer : at < length (entries ++ e ∷ []) = omega (arith, length-append entries (e ∷ [])) in
     slice_get-get_or (entries ++ e ∷ []) at entry longer
-    ∙ ap (λ (x : Use). Some x) (get_or_append_left entries (e ∷ []) entry at within ∙ get_or_from_slice_get entries at entry entry is)
+    ∙ ap (λ (x : ChainEntry). Some x) (get_or_append_left entries (e ∷ []) entry at within ∙ get_or_from_slice_get entries at entry entry is)
 
 -- and the last is the new one
-last-there : (entries : List Use) (e : Use) → slice_get (entries ++ e ∷ []) (length entries) ≡ Some e
+last-there : (entries : List ChainEntry) (e : ChainEntry) → slice_get (entries ++ e ∷ []) (length entries) ≡ Some e
 last-there entries e =
     let longer : length entries < length (entries ++ e ∷ []) = omega (arith, length-append entries (e ∷ [])) in
     slice_get-get_or (entries ++ e ∷ []) (length entries) e longer
-    ∙ ap (λ (x : Use). Some x) (get_or_at entries e [] e (length entries) refl)
+    ∙ ap (λ (x : ChainEntry). Some x) (get_or_at entries e [] e (length entries) refl)
 
 -- chains stay
-Leads-push : (entries : List Use) (e : Use) (from user : ℕ) → Leads entries from user → Leads (entries ++ e ∷ []) from user
+Leads-push : (entries : List ChainEntry) (e : ChainEntry) (from user : ℕ) → Leads entries from user → Leads (entries ++ e ∷ []) from user
 Leads-push entries e _ _ (here at user entry is same) = here at user entry (still-there entries e at entry is) same
 Leads-push entries e _ _ (there at user entry is leads) =
     there at user entry (still-there entries e at entry is) (Leads-push entries e entry.older user leads)
 
 -- a chain leads to its newest entry's user, or on to the older ones
-pub Leads-next : (entries : List Use) (at user : ℕ) (entry : Use) → slice_get entries at ≡ Some entry
+pub Leads-next : (entries : List ChainEntry) (at user : ℕ) (entry : ChainEntry) → slice_get entries at ≡ Some entry
     → Leads entries (suc at) user → (entry.user ≡ user) ⊎ Leads entries entry.older user
 Leads-next entries _ _ entry is (here at user other found same) =
     let e : other ≡ entry = let s : Some other ≡ Some entry = sym found ∙ is in cc in
-    inl (ap (λ (x : Use). x.user) (sym e) ∙ same)
+    inl (ap (λ (x : ChainEntry). x.user) (sym e) ∙ same)
 Leads-next entries _ _ entry is (there at user other found leads) =
     let e : other ≡ entry = let s : Some other ≡ Some entry = sym found ∙ is in cc in
-    inr (subst (λ (x : Use). Leads entries x.older user) e leads)
+    inr (subst (λ (x : ChainEntry). Leads entries x.older user) e leads)
 
 -- no entry leads nowhere
-pub Leads-none : (entries : List Use) (user : ℕ) → Leads entries zero user → ⊥
+pub Leads-none : (entries : List ChainEntry) (user : ℕ) → Leads entries zero user → ⊥
 Leads-none entries user leads = elim leads [ ]
 
-module _ (newest : List ℕ) (entries grown : List Use) (part user last : ℕ) (within : part < length newest) (entry : Use)
+module _ (newest : List ℕ) (entries grown : List ChainEntry) (part user last : ℕ) (within : part < length newest) (entry : ChainEntry)
     (by : entry.user ≡ user) (older : entry.older ≡ get_or newest part 0) (more : grown ≡ entries ++ entry ∷ [])
     (is_last : last ≡ length entries + 1) where
   from_last : (u : ℕ) → Leads (entries ++ entry ∷ []) (suc (length entries)) u → Leads grown (get_or (set newest part last) part 0) u

@@ -1,14 +1,16 @@
-pub mod AskLemmas
-pub mod ChainLemmas
-pub mod LabelLemmas
-pub mod LinkLemmas
-pub mod LoopLemmas
-pub mod MetLemmas
-pub mod OutcomeTables
-pub mod OwnerLemmas
-pub mod PathLemmas
-pub mod Refutations
-pub mod SettledLemmas
-pub mod TrailLemmas
-pub mod Worklist
-pub mod Written
+mod AskLemmas
+mod ChainLemmas
+mod LabelLemmas
+mod LinkLemmas
+mod EmptyLoopLemmas
+mod MetLemmas
+mod OutcomeLemmas
+mod OutcomeTables
+mod OwnerLemmas
+mod PathLemmas
+mod Refutations
+mod SettledLemmas
+mod TrailLemmas
+mod VerdictLemmas
+mod Worklist
+mod WholeWrites

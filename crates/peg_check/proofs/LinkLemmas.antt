@@ -6,8 +6,7 @@ use Rattle.std.proofs.lemmas.Option.{slice_get-map}
 use Rattle.peg_bytes.specs.ByteSet.{Bytes, has, has_some}
 use Rattle.peg_core.specs.CoreForm.{Rule}
 use Rattle.peg_core.specs.CoreOutcomes.{CoreJudging, judge_body, core_can_table}
-use Rattle.peg_core.specs.Layout.{Desugared, form_at}
-use Rattle.peg_check.specs.Exact.{bodies_of}
+use Rattle.peg_core.specs.Layout.{bodies_of, Desugared, form_at}
 use Rattle.peg_check.specs.Links.{IsLinkOf, AreLinked}
 use Rattle.peg_check.specs.declared.link.Link.{Link}
 

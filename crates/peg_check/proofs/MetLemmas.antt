@@ -4,10 +4,9 @@ use Rattle.std.proofs.lemmas.List.Elements.{All-nil, All-cons, All-append}
 use Rattle.peg_core.specs.CoreForm.{Rule}
 use Rattle.peg_core.specs.CoreLoops.{CoreMeets, CoreMeetsFirst}
 use Rattle.peg_core.specs.CoreOutcomes.{BodyIs}
-use Rattle.peg_core.specs.Layout.{Desugared, form_at}
+use Rattle.peg_core.specs.Layout.{bodies_of, Desugared, form_at}
 use Rattle.peg_check.specs.Asks.{AsksBy}
-use Rattle.peg_check.specs.Exact.{bodies_of}
-use Rattle.peg_check.specs.Links.{GoesBy, parts_of}
+use Rattle.peg_check.specs.Links.{GoesBy, link_parts}
 use Rattle.peg_check.specs.declared.link.Link.{Link}
 use Rattle.peg_check.specs.declared.link.Link.TheVariants as link
 use Rattle.peg_check.proofs.AskLemmas.{body-form, AsksBy-part}
@@ -25,7 +24,7 @@ body-met core rule body there within = (
   λ other meets. subst (BodyIs (λ form. CoreMeets (bodies_of core) form other)) (sym (body-form core rule body there)) meets,
 )
 
-pub few-parts : (l : Link) → length (parts_of l) ≤ 2
+pub few-parts : (l : Link) → length (link_parts l) ≤ 2
 few-parts (link.Known known) = omega arith
 few-parts (link.Same part) = omega arith
 few-parts (link.Both first rest) = omega arith
@@ -33,7 +32,7 @@ few-parts (link.Either first rest) = omega arith
 few-parts (link.Again part) = omega arith
 few-parts (link.NotAhead part) = omega arith
 
-all-parts : (P : ℕ → Type 0) (l : Link) → ((part : ℕ) → GoesBy l part → P part) → All P (parts_of l)
+all-parts : (P : ℕ → Type 0) (l : Link) → ((part : ℕ) → GoesBy l part → P part) → All P (link_parts l)
 all-parts P (link.Known known) h = All-nil P
 all-parts P (link.Same part) h = All-cons P part [] (h part refl) (All-nil P)
 all-parts P (link.Both first rest) h =
@@ -46,9 +45,9 @@ all-parts P (link.NotAhead part) h = All-cons P part [] (h part refl) (All-nil P
 -- the parts of a form that is no use of a rule
 pub parts-met : (core : Desugared) (rule number : ℕ) (l : Link) (rest : List ℕ) → IsMetBy core rule number
     → AsksBy core number l → ((other : ℕ) → ¬ (form_at core.forms number ≡ Rule other)) → All (IsMetBy core rule) rest
-    → All (IsMetBy core rule) (rest ++ parts_of l)
+    → All (IsMetBy core rule) (rest ++ link_parts l)
 parts-met core rule number l rest met asks none all =
-    All-append (IsMetBy core rule) rest (parts_of l) all (all-parts (IsMetBy core rule) l by)
+    All-append (IsMetBy core rule) rest (link_parts l) all (all-parts (IsMetBy core rule) l by)
   where
     by : (part : ℕ) → GoesBy l part → IsMetBy core rule part
     by part goes =

@@ -5,14 +5,14 @@ use Rattle.std.proofs.lemmas.Bool.{cases_eq, false≢true}
 use Rattle.std.proofs.lemmas.List.{get_or_default, get_or-set_other, get_or-set_same}
 use Rattle.std.proofs.lemmas.List.Sums.{sum_by-set}
 use Rattle.std.proofs.lemmas.Option.{slice_get-map, slice_get_within, get_or_from_slice_get}
-use Rattle.peg_grammar.specs.AbstractOutcomes.{Can, CanAll, cannot}
-use Rattle.peg_grammar.proofs.RoundsLemmas.{or_right, CanAll-refl, CanAll-trans, CanAll-cannot, CanAll-both, CanAll-either, CanAll-again, CanAll-not_ahead}
+use Rattle.peg_ford.specs.AbstractOutcomes.{Can, CanAll, cannot}
+use Rattle.peg_ford.proofs.RoundsLemmas.{or_right, CanAll-refl, CanAll-trans, CanAll-cannot, CanAll-both, CanAll-either, CanAll-again, CanAll-not_ahead}
 use Rattle.peg_core.specs.CoreForm.{CoreForm}
 use Rattle.peg_core.specs.CoreOutcomes.{core_can_in, core_can_table}
-use Rattle.peg_core.specs.Layout.{Desugared, form_at}
+use Rattle.peg_core.specs.Layout.{bodies_of, Desugared, form_at}
 use Rattle.peg_core.proofs.CoreRounds.{core_can_in-more}
 use Rattle.peg_check.specs.Cans.{can_of, can_at, nothing_known}
-use Rattle.peg_check.specs.Exact.{bodies_of, IsExact}
+use Rattle.peg_check.specs.Exact.{IsExact}
 use Rattle.peg_check.specs.Links.{link_at, link_can, LinkFits, IsLinkOf, AreLinked}
 use Rattle.peg_check.specs.Steps.{added_to, looked_at, one_unless, unknown_of, unknown_in}
 use Rattle.peg_check.specs.declared.can.Can as code

@@ -7,10 +7,10 @@ use Rattle.peg_core.specs.CoreForm.{CoreForm}
 use Rattle.peg_core.specs.CoreLoops.{StandsIn}
 use Rattle.peg_core.specs.CoreOutcomes.{BodyIs}
 use Rattle.peg_core.specs.Layout.{Desugared, form_at}
-use Rattle.peg_core.specs.Nodes.{NodeFits, Spells, shape}
+use Rattle.peg_core.specs.CoreNodes.{NodeFits, Spells, shape}
 use Rattle.peg_core.specs.declared.node.Node.{Node}
 use Rattle.peg_core.specs.declared.node.Node.TheVariants as node
-use Rattle.peg_check.specs.Owners.{owner_of, IsOwned, Names, NamesFit, handed_down, IsUnder, HasOwnedParts, AreOwnersUpTo, AreHandedDownFrom, AreOwners}
+use Rattle.peg_check.specs.Owners.{owner_of, IsOwned, NamesPart, NamesFit, handed_down, IsUnder, HasOwnedParts, AreOwnersUpTo, AreHandedDownFrom, AreOwners}
 use Rattle.peg_check.proofs.AskLemmas.{body-form}
 
 -- ---- what a node names
@@ -28,7 +28,7 @@ NamesFit-node number rules terminals count (node.Star part) less fits = let a : 
 NamesFit-node number rules terminals count (node.Not part) less fits = let a : part < number = fits in omega arith
 
 -- what stands in a part stands in the form
-stands-part : (forms : List CoreForm) (origin : Extent) (n : Node) (part : ℕ) (form : CoreForm) → Names n part
+stands-part : (forms : List CoreForm) (origin : Extent) (n : Node) (part : ℕ) (form : CoreForm) → NamesPart n part
     → StandsIn form (form_at forms part) → StandsIn form (shape forms origin n)
 stands-part forms origin node.Empty part form names stands = absurd names
 stands-part forms origin (node.Test set terminal) part form names stands = absurd names
@@ -83,7 +83,7 @@ one-write : (owners : List ℕ) (part owner k : ℕ) → (part ≡ k) ⊎ (owner
 one-write owners part owner k =
     elim (cases_eq k part) [ inl is ↦ inl (sym is) | inr other ↦ inr (get_or-set_other owners part k owner 0 other) ]
 
-pub named-handed : (owners : List ℕ) (n : Node) (owner part : ℕ) → NamesFit (length owners) n → Names n part
+pub named-handed : (owners : List ℕ) (n : Node) (owner part : ℕ) → NamesFit (length owners) n → NamesPart n part
     → owner_of (handed_down owners n owner) part ≡ owner
 named-handed owners node.Empty owner part fits names = absurd names
 named-handed owners (node.Test s terminal) owner part fits names = absurd names
@@ -102,7 +102,7 @@ named-handed owners (node.Not only) owner part fits is =
     ap (owner_of (set owners only owner)) (sym is) ∙ get_or-set_same owners only owner 0 fits
 
 pub other-handed : (owners : List ℕ) (n : Node) (owner k : ℕ) → NamesFit (length owners) n
-    → Names n k ⊎ (owner_of (handed_down owners n owner) k ≡ owner_of owners k)
+    → NamesPart n k ⊎ (owner_of (handed_down owners n owner) k ≡ owner_of owners k)
 other-handed owners node.Empty owner k fits = inr refl
 other-handed owners (node.Test s terminal) owner k fits = inr refl
 other-handed owners (node.Rule rule) owner k fits = inr refl
@@ -135,7 +135,7 @@ module _ (core : Desugared) (owners : List ℕ) (number : ℕ) (n : Node) (withi
     new : List ℕ
     new = handed_down owners n (owner_of owners number)
 
-    named-owned : (part : ℕ) → Names n part → IsOwned core (handed_down owners n (owner_of owners number)) part
+    named-owned : (part : ℕ) → NamesPart n part → IsOwned core (handed_down owners n (owner_of owners number)) part
     named-owned part names =
         subst (λ o. o < length core.bodies) (sym (named-handed owners n (owner_of owners number) part below names)) owned
 
@@ -143,7 +143,7 @@ module _ (core : Desugared) (owners : List ℕ) (number : ℕ) (n : Node) (withi
     still-owned k had =
         elim (other-handed owners n (owner_of owners number) k below) [ inl names ↦ named-owned k names | inr same ↦ subst (λ o. o < length core.bodies) (sym same) had ]
 
-    part-under : (part : ℕ) → Names n part → IsUnder core part (owner_of owners number)
+    part-under : (part : ℕ) → NamesPart n part → IsUnder core part (owner_of owners number)
     part-under part names form stands =
         up_to.under number within owned form
         (subst (StandsIn form) (sym spells.1) (stands-part core.forms spells.0 n part form names stands))
@@ -172,7 +172,7 @@ module _ (core : Desugared) (owners : List ℕ) (number : ℕ) (n : Node) (withi
         not-before other =
             elim (other-handed owners n (owner_of owners number) k below) [ inl names ↦ absurd (before k from names) | inr same ↦ subst (λ o. o < length core.bodies) same had ]
           where
-            less : (part : ℕ) (m : Node) → NodeFits number (length core.bodies) (length core.spans) m → Names m part → part < number
+            less : (part : ℕ) (m : Node) → NodeFits number (length core.bodies) (length core.spans) m → NamesPart m part → part < number
             less part node.Empty f names = absurd names
             less part (node.Test s terminal) f names = absurd names
             less part (node.Rule rule) f names = absurd names
@@ -183,7 +183,7 @@ module _ (core : Desugared) (owners : List ℕ) (number : ℕ) (n : Node) (withi
             less part (node.Star only) f is = subst (λ p. p < number) is f
             less part (node.Not only) f is = subst (λ p. p < number) is f
 
-            before : (part : ℕ) → number ≤ part → Names n part → ⊥
+            before : (part : ℕ) → number ≤ part → NamesPart n part → ⊥
             before part at_least names = let small : part < number = less part n fits names in omega arith
 
         by : (k ≡ number) ⊎ (k ≡ number → ⊥) → HasOwnedParts core (handed_down owners n (owner_of owners number)) k
@@ -246,7 +246,7 @@ module _ (core : Desugared) (owners : List ℕ) (all : AreOwners core owners) wh
   found-by : (form : CoreForm) (number : ℕ) → number < length core.forms → IsOwned core owners number
       → (origin : Extent) (n : Node) → form_at core.forms number ≡ shape core.forms origin n
       → NodeFits number (length core.bodies) (length core.spans) n
-      → ((part : ℕ) → Names n part → part < number → StandsIn form (form_at core.forms part) → IsFound form)
+      → ((part : ℕ) → NamesPart n part → part < number → StandsIn form (form_at core.forms part) → IsFound form)
       → StandsIn form (shape core.forms origin n) → IsFound form
   found-by form number within owned origin node.Empty is fits later stands = (number, within, owned, is ∙ sym stands)
   found-by form number within owned origin (node.Test s terminal) is fits later stands =

@@ -1,11 +1,15 @@
 -- Paths grow at their ends; where a path comes back to one of its rules, it is a left cycle from there.
-use Rattle.std.proofs.Common.{◌≡◌, ℕ, zero, suc, ◌<◌, All, List, [], ◌∷◌, ◌++◌, Option, None, Some, drop, length, get_or, slice_get, refl, sym, subst, arith}
+use Rattle.std.proofs.Common.{◌≡◌, ◌≢◌, ℕ, zero, suc, ◌+◌, ◌-◌, ◌<◌, All, List, [], ◌∷◌, ◌++◌, Option, None, Some, drop, length, get_or, slice_get, refl, sym, ◌∙◌, subst, arith}
+use Rattle.std.proofs.lemmas.List.{get_or-drop, length-drop}
 use Rattle.std.proofs.lemmas.List.Elements.{All-cons, All-nil}
+use Rattle.std.proofs.lemmas.List.Kept.{AllPairs-cons}
+use Rattle.std.proofs.lemmas.List.Quantifiers.{all_pairs_push}
 use Rattle.std.proofs.lemmas.Option.{slice_get_within}
 use Rattle.peg_core.specs.CoreForm.{CoreForm}
 use Rattle.peg_core.specs.CoreLoops.{CoreMeets, CoreMeetsFirst, CoreMeetInTurn, IsCoreLeftCycle}
 use Rattle.peg_core.specs.CoreOutcomes.{BodyIs}
 use Rattle.peg_check.specs.Paths.{IsPath, IsFrom}
+use Rattle.peg_check.specs.Verdicts.{AllDiffer, IsSimpleLeftCycle}
 
 module _ (bodies : List CoreForm) where
   turn-push : (before : ℕ) (path : List ℕ) (rule next : ℕ) → CoreMeetInTurn bodies before (path ++ rule ∷ [])
@@ -34,6 +38,28 @@ module _ (bodies : List CoreForm) where
       → IsCoreLeftCycle bodies rest
   cycle-from path rule rest is from =
       subst (IsCoreLeftCycle bodies) (sym from.3) (cycle-at path rule from.0 is from.1 from.2)
+
+-- ---- numbers that differ
+
+pub AllDiffer-push : (numbers : List ℕ) (next : ℕ) → AllDiffer numbers → All (λ number. number ≢ next) numbers
+    → AllDiffer (numbers ++ next ∷ [])
+AllDiffer-push numbers next differ apart =
+    all_pairs_push (λ first second. first ≢ second) numbers next differ (λ k d within. apart k d within)
+
+pub AllDiffer-cons : (next : ℕ) (numbers : List ℕ) → All (λ number. next ≢ number) numbers → AllDiffer numbers
+    → AllDiffer (next ∷ numbers)
+AllDiffer-cons next numbers apart differ = AllPairs-cons (λ first second. first ≢ second) next numbers apart differ
+
+AllDiffer-drop : (numbers : List ℕ) (at : ℕ) → AllDiffer numbers → AllDiffer (drop at numbers)
+AllDiffer-drop numbers at differ i j d less within =
+    let counted : length (drop at numbers) ≡ length numbers - at = length-drop at numbers in
+    let apart = differ (at + i) (at + j) d (omega arith) (omega (arith, counted)) in
+    λ same. apart (sym (get_or-drop at numbers i d) ∙ (same ∙ get_or-drop at numbers j d))
+
+pub simple-cycle-from : (bodies : List CoreForm) (path : List ℕ) (rule : ℕ) (rest : List ℕ)
+    → IsPath bodies (path ++ rule ∷ []) → AllDiffer path → IsFrom path rule rest → IsSimpleLeftCycle bodies rest
+simple-cycle-from bodies path rule rest is differ from =
+    (cycle-from bodies path rule rest is from, subst AllDiffer (sym from.3) (AllDiffer-drop path from.0 differ))
 
 -- ---- the rules of a cycle have bodies
 

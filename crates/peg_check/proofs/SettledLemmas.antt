@@ -23,6 +23,18 @@ work-falls s t entries rest after one few =
     let e : suc s ≡ t = omega arith in
     omega (arith, suc-mul s (entries + 1), ap (λ n. n * (entries + 1)) e)
 
+-- what is marked now is marked, and so is what was before
+pub marked-now : (marks : List Bool) (number : ℕ) → number < length marks → is_marked (set marks number true) number ≡ true
+marked-now marks number within = get_or-set_same marks number true false within
+
+pub marked-still : (marks : List Bool) (number other : ℕ) → number < length marks → is_marked marks other ≡ true
+    → is_marked (set marks number true) other ≡ true
+marked-still marks number other within was = by (cases_eq other number)
+  where
+    by : (other ≡ number) ⊎ (other ≡ number → ⊥) → is_marked (set marks number true) other ≡ true
+    by (inl same) = subst (λ k. is_marked (set marks number true) k ≡ true) (sym same) (marked-now marks number within)
+    by (inr apart) = get_or-set_other marks number other true false apart ∙ was
+
 -- at first nothing is marked
 pub none-marked : (n number : ℕ) → is_marked (replicate n false) number ≡ false
 none-marked n number = by (cases_lt number n)

@@ -1,30 +1,37 @@
 -- The steps of a search grow at their end; back from a step there is a path to the start.
-use Rattle.std.proofs.Common.{◌≡◌, ℕ, ◌+◌, ◌<◌, ◌≤◌, ◌⊎◌, inl, inr, List, [], ◌∷◌, ◌++◌, length, get_or, refl, sym, ap, ◌∙◌, subst, arith, length-append}
+use Rattle.std.proofs.Common.{◌≡◌, ◌≢◌, ℕ, ◌+◌, ◌<◌, ◌≤◌, ◌⊎◌, inl, inr, All, Bool, true, List, [], ◌∷◌, ◌++◌, length, get_or, reverse, set, refl, sym, ap, ◌∙◌, subst, arith, length-append}
 use Rattle.std.proofs.lemmas.Bool.{cases_lt}
-use Rattle.std.proofs.lemmas.List.{get_or_append_left, get_or_at}
+use Rattle.std.proofs.lemmas.List.{get_or_append_left, get_or_at, reverse-append}
+use Rattle.std.proofs.lemmas.List.Elements.{All-cons}
 use Rattle.peg_core.specs.CoreLoops.{CoreMeetsFirst}
-use Rattle.peg_core.specs.Layout.{Desugared}
-use Rattle.peg_check.specs.Exact.{bodies_of}
-use Rattle.peg_check.specs.Trails.{no_step, rule_at, before_at, AreSteps}
+use Rattle.peg_core.specs.Layout.{bodies_of, Desugared}
+use Rattle.peg_check.specs.Paths.{IsPath}
+use Rattle.peg_check.specs.Settled.{is_marked}
+use Rattle.peg_check.specs.Trails.{no_step, rule_at, before_at, AreSeen, AreSteps}
 use Rattle.peg_check.specs.declared.shortest.Step.{Step}
+use Rattle.peg_check.specs.Verdicts.{AllDiffer}
+use Rattle.peg_check.proofs.PathLemmas.{AllDiffer-cons}
+use Rattle.peg_check.proofs.SettledLemmas.{marked-now, marked-still}
 
 module _ (steps : List Step) (step : Step) where
   -- what was there stays
   pub step-kept : (at : ℕ) → at < length steps → get_or (steps ++ step ∷ []) at no_step ≡ get_or steps at no_step
   step-kept at within = get_or_append_left steps (step ∷ []) no_step at within
 
-  step-last : (at : ℕ) → length steps ≡ at → get_or (steps ++ step ∷ []) at no_step ≡ step
+  pub step-last : (at : ℕ) → length steps ≡ at → get_or (steps ++ step ∷ []) at no_step ≡ step
   step-last at is = get_or_at steps step [] no_step at is
 
   pub AreSteps-push : (core : Desugared) (start : ℕ) → step.before < length steps → step.rule < length core.bodies
-      → CoreMeetsFirst (bodies_of core) (rule_at steps step.before) step.rule → AreSteps core start steps
+      → CoreMeetsFirst (bodies_of core) (rule_at steps step.before) step.rule
+      → ((at : ℕ) → at < length steps → rule_at steps at ≢ step.rule) → AreSteps core start steps
       → AreSteps core start (steps ++ step ∷ [])
-  AreSteps-push core start before rule meets are =
+  AreSteps-push core start before rule meets new are =
       record {
         some = omega (arith, are.some, longer);
         starts = ap (λ (s : Step). s.rule) (step-kept 0 are.some) ∙ are.starts;
         within = λ at below. by-rule at (cases_lt at (length steps)) below;
         after = λ at some below. by-before at some (cases_lt at (length steps)) below;
+        differ = λ at later less below. by-differ at later less (cases_lt later (length steps)) below;
         meets = λ at some below. by-meets at some (cases_lt at (length steps)) below;
       }
     where
@@ -48,6 +55,18 @@ module _ (steps : List Step) (step : Step) where
           let less : step.before < at = omega arith in
           subst (λ (s : Step). s.before < at) (sym (step-last at (end at past below))) less
 
+      kept : (at : ℕ) → at < length steps → rule_at (steps ++ step ∷ []) at ≡ rule_at steps at
+      kept at old = ap (λ (s : Step). s.rule) (step-kept at old)
+
+      by-differ : (at later : ℕ) → at < later → (later < length steps) ⊎ (length steps ≤ later)
+          → later < length (steps ++ step ∷ []) → rule_at (steps ++ step ∷ []) at ≢ rule_at (steps ++ step ∷ []) later
+      by-differ at later less (inl old) below =
+          λ same. are.differ at later less old (sym (kept at (omega arith)) ∙ (same ∙ kept later old))
+      by-differ at later less (inr past) below =
+          let last : length steps ≡ later = end later past below in
+          let old : at < length steps = omega (arith, last) in
+          λ same. new at old (sym (kept at old) ∙ (same ∙ ap (λ (s : Step). s.rule) (step-last later last)))
+
       by-meets : (at : ℕ) → 0 < at → (at < length steps) ⊎ (length steps ≤ at) → at < length (steps ++ step ∷ [])
           → CoreMeetsFirst (bodies_of core) (rule_at (steps ++ step ∷ []) (before_at (steps ++ step ∷ []) at)) (rule_at (steps ++ step ∷ []) at)
       by-meets at some (inl old) below =
@@ -57,6 +76,20 @@ module _ (steps : List Step) (step : Step) where
       by-meets at some (inr past) below =
           subst (λ (s : Step). CoreMeetsFirst (bodies_of core) (rule_at (steps ++ step ∷ []) s.before) s.rule) (sym (step-last at (end at past below)))
           (subst (λ (s : Step). CoreMeetsFirst (bodies_of core) s.rule step.rule) (sym (step-kept step.before before)) meets)
+
+-- a step whose rule is marked now
+pub AreSeen-push : (rules : List Bool) (steps : List Step) (step : Step) → step.rule < length rules → AreSeen rules steps
+    → AreSeen (set rules step.rule true) (steps ++ step ∷ [])
+AreSeen-push rules steps step within seen at below = by (cases_lt at (length steps))
+  where
+    by : (at < length steps) ⊎ (length steps ≤ at) → is_marked (set rules step.rule true) (rule_at (steps ++ step ∷ []) at) ≡ true
+    by (inl old) =
+        subst (λ (s : Step). is_marked (set rules step.rule true) s.rule ≡ true) (sym (step-kept steps step at old))
+        (marked-still rules step.rule (rule_at steps at) within (seen at old))
+    by (inr past) =
+        let last : length steps ≡ at = omega (arith, below, length-append steps (step ∷ [])) in
+        subst (λ (s : Step). is_marked (set rules step.rule true) s.rule ≡ true) (sym (step-last steps step at last))
+        (marked-now rules step.rule within)
 
 -- the first step
 pub AreSteps-first : (core : Desugared) (start : ℕ) (steps : List Step) → start < length core.bodies
@@ -68,5 +101,33 @@ AreSteps-first core start steps within is =
       starts = refl;
       within = λ at below. let zero_is : 0 ≡ at = omega arith in subst (λ k. rule_at (record { rule = start; before = 0 } ∷ []) k < length core.bodies) zero_is within;
       after = λ at some below. absurd (omega arith);
+      differ = λ at later less below. absurd (omega arith);
       meets = λ at some below. absurd (omega arith);
     })
+
+-- ---- back to the start
+
+-- the rule of a step after this one
+abbrev pub IsLaterRule : List Step → (at rule : ℕ) → Type 0
+IsLaterRule steps at rule = (later : ℕ) × (at < later) × (later < length steps) × (rule_at steps later ≡ rule)
+
+module _ (steps : List Step) (at before : ℕ) (rest : List ℕ) (less : before < at) (within : at < length steps)
+    (all : All (IsLaterRule steps at) rest) where
+  pub later-cons : All (IsLaterRule steps before) (rule_at steps at ∷ rest)
+  later-cons = All-cons (IsLaterRule steps before) (rule_at steps at) rest (at, less, within, refl)
+      (λ k d small. let h = all k d small in let after : at < h.0 = h.1 in (h.0, omega arith, h.2, h.3))
+
+  pub differ-cons : (core : Desugared) (start : ℕ) → AreSteps core start steps → AllDiffer (rule_at steps at ∷ rest)
+      → AllDiffer (rule_at steps before ∷ (rule_at steps at ∷ rest))
+  differ-cons core start are differ = AllDiffer-cons (rule_at steps before) (rule_at steps at ∷ rest)
+      (λ k d small same. let h = later-cons k d small in are.differ before h.0 h.1 h.2 (same ∙ sym h.3)) differ
+
+-- the path from a step's rule goes on from the rule of the step before it
+pub path-cons : (steps : List Step) (at : ℕ) (core : Desugared) (start : ℕ) (rest : List ℕ) → 0 < at → at < length steps
+    → AreSteps core start steps → IsPath (bodies_of core) (rule_at steps at ∷ (rest ++ start ∷ []))
+    → IsPath (bodies_of core) (rule_at steps (before_at steps at) ∷ ((rule_at steps at ∷ rest) ++ start ∷ []))
+path-cons steps at core start rest some within are is = (are.meets at some within, is)
+
+-- what was put at the end stands first in the reverse
+pub reverse-pushed : (path new : List ℕ) (rule : ℕ) → new ≡ path ++ rule ∷ [] → reverse new ≡ rule ∷ reverse path
+reverse-pushed path new rule is = ap reverse is ∙ reverse-append path (rule ∷ [])

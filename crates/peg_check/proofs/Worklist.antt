@@ -4,7 +4,7 @@ use Rattle.std.proofs.lemmas.Bool.{cases_eq}
 use Rattle.std.proofs.Math.Seq.{take-append_seam}
 use Rattle.std.proofs.lemmas.List.{get_or_append_left, get_or-set_other, get_or-set_same, length-set}
 use Rattle.std.proofs.lemmas.List.Elements.{All-contains, Contains-push, Contains-push_cases}
-use Rattle.peg_grammar.specs.AbstractOutcomes.{Can, CanAll, both, either, again, not_ahead}
+use Rattle.peg_ford.specs.AbstractOutcomes.{Can, CanAll, both, either, again, not_ahead}
 use Rattle.peg_check.specs.Cans.{can_of, can_at, nothing_known}
 use Rattle.peg_check.specs.Links.{link_at, link_can, GoesBy}
 use Rattle.peg_check.specs.Steps.{added_to, looked_at}

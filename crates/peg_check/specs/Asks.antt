@@ -1,12 +1,11 @@
--- What a core form asks for (Ford 2004, section 3.6), by numbers: the parts that his rules for well-formed expressions
--- ask for, and of a rule's use the rule's body.
+-- Describes code: what a core form asks for (Ford 2004, section 3.6), by numbers: the parts that his rules for
+-- well-formed expressions ask for, and of a rule's use the rule's body.
 use Rattle.std.specs.Prelude.{◌≡◌, ℕ, ◌<◌, List, Some, length, slice_get}
 use Rattle.peg_bytes.specs.ByteSet.{Bytes}
 use Rattle.peg_bytes.specs.Extent.{Extent}
 use Rattle.peg_core.specs.CoreForm.{Empty, Test, Rule, Seq, Choice, Star, Not}
 use Rattle.peg_core.specs.CoreOutcomes.{CoreGivesNothing}
-use Rattle.peg_core.specs.Layout.{Desugared, form_at}
-use Rattle.peg_check.specs.Exact.{bodies_of}
+use Rattle.peg_core.specs.Layout.{bodies_of, Desugared, form_at}
 use Rattle.peg_check.specs.Links.{link_at}
 use Rattle.peg_check.specs.declared.can.Can as code
 use Rattle.peg_check.specs.declared.link.Link.{Link}

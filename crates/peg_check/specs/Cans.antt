@@ -2,7 +2,7 @@
 use Rattle.std.specs.Prelude.{ℕ, Bool, false, List, slice_index_or}
 use Rattle.std.proofs.Common.{refl}
 use Rattle.std.specs.Coded.{Coded, code_by, coded×, coded_bool, coded_list}
-use Rattle.peg_grammar.specs.AbstractOutcomes.{Can}
+use Rattle.peg_ford.specs.AbstractOutcomes.{Can}
 use Rattle.peg_check.specs.declared.can.Can as code
 
 -- the three outcomes that a value in code tells

@@ -1,11 +1,10 @@
--- What a core form's outcomes depend on: those of the forms with some numbers.
+-- Describes code: what a core form's outcomes depend on: those of the forms with some numbers.
 use Rattle.std.specs.Prelude.{◌≡◌, ℕ, ◌<◌, ◌⊎◌, List, [], ◌∷◌, length, slice_index_or}
-use Rattle.peg_grammar.specs.AbstractOutcomes.{Can, both, either, again, not_ahead}
+use Rattle.peg_ford.specs.AbstractOutcomes.{Can, both, either, again, not_ahead}
 use Rattle.peg_core.specs.CoreForm.{CoreForm}
 use Rattle.peg_core.specs.CoreOutcomes.{CoreJudging, core_can_table}
-use Rattle.peg_core.specs.Layout.{Desugared, form_at}
+use Rattle.peg_core.specs.Layout.{bodies_of, Desugared, form_at}
 use Rattle.peg_check.specs.Cans.{can_of, nothing_known}
-use Rattle.peg_check.specs.Exact.{bodies_of}
 use Rattle.peg_check.specs.declared.link.Link.{Link}
 use Rattle.peg_check.specs.declared.link.Link.TheVariants as link
 
@@ -41,13 +40,13 @@ GoesBy (link.Again part) number = part ≡ number
 GoesBy (link.NotAhead part) number = part ≡ number
 
 -- the forms that a link goes by, in order
-abbrev pub parts_of : Link → List ℕ
-parts_of (link.Known known) = []
-parts_of (link.Same part) = part ∷ []
-parts_of (link.Both first rest) = first ∷ rest ∷ []
-parts_of (link.Either first rest) = first ∷ rest ∷ []
-parts_of (link.Again part) = part ∷ []
-parts_of (link.NotAhead part) = part ∷ []
+abbrev pub link_parts : Link → List ℕ
+link_parts (link.Known known) = []
+link_parts (link.Same part) = part ∷ []
+link_parts (link.Both first rest) = first ∷ rest ∷ []
+link_parts (link.Either first rest) = first ∷ rest ∷ []
+link_parts (link.Again part) = part ∷ []
+link_parts (link.NotAhead part) = part ∷ []
 
 -- a link tells of a form what Ford's rules tell of it, whatever forms can do
 pub record IsLinkOf (core : Desugared) (form : CoreForm) (link : Link) : Type 0 where

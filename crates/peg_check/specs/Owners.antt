@@ -1,13 +1,12 @@
--- Which rule a core form belongs to, by the forms' numbers; a number that is no rule's tells none.
+-- Describes code: which rule a core form belongs to, by the forms' numbers; a number that is no rule's tells none.
 use Rattle.std.specs.Prelude.{◌≡◌, ℕ, ◌<◌, ◌≤◌, ◌⊎◌, List, Some, length, slice_get, slice_index_or, slice_set}
 use Rattle.peg_core.specs.CoreForm.{CoreForm}
 use Rattle.peg_core.specs.CoreLoops.{StandsIn}
 use Rattle.peg_core.specs.CoreOutcomes.{BodyIs}
-use Rattle.peg_core.specs.Layout.{Desugared, form_at}
-use Rattle.peg_core.specs.Nodes.{NodeFits, Spells}
+use Rattle.peg_core.specs.Layout.{bodies_of, Desugared, form_at}
+use Rattle.peg_core.specs.CoreNodes.{NodeFits, Spells}
 use Rattle.peg_core.specs.declared.node.Node.{Node}
 use Rattle.peg_core.specs.declared.node.Node.TheVariants as node
-use Rattle.peg_check.specs.Exact.{bodies_of}
 
 -- the number that is kept for a form
 abbrev pub owner_of : List ℕ → ℕ → ℕ
@@ -18,14 +17,14 @@ abbrev pub IsOwned : Desugared → List ℕ → ℕ → Type 0
 IsOwned core owners number = owner_of owners number < length core.bodies
 
 -- a node names this number
-abbrev pub Names : Node → ℕ → Type 0
-Names node.Empty part = ⊥
-Names (node.Test set terminal) part = ⊥
-Names (node.Rule rule) part = ⊥
-Names (node.Seq first rest) part = (first ≡ part) ⊎ (rest ≡ part)
-Names (node.Choice first rest) part = (first ≡ part) ⊎ (rest ≡ part)
-Names (node.Star only) part = only ≡ part
-Names (node.Not only) part = only ≡ part
+abbrev pub NamesPart : Node → ℕ → Type 0
+NamesPart node.Empty part = ⊥
+NamesPart (node.Test set terminal) part = ⊥
+NamesPart (node.Rule rule) part = ⊥
+NamesPart (node.Seq first rest) part = (first ≡ part) ⊎ (rest ≡ part)
+NamesPart (node.Choice first rest) part = (first ≡ part) ⊎ (rest ≡ part)
+NamesPart (node.Star only) part = only ≡ part
+NamesPart (node.Not only) part = only ≡ part
 
 -- the numbers that a node names are below this one
 abbrev pub NamesFit : (count : ℕ) → Node → Type 0
@@ -58,7 +57,7 @@ pub record HasOwnedParts (core : Desugared) (owners : List ℕ) (number : ℕ) :
   pub node : Node
   pub spells : Spells core.forms number node
   pub fits : NodeFits number (length core.bodies) (length core.spans) node
-  pub owned : (part : ℕ) → Names node part → IsOwned core owners part
+  pub owned : (part : ℕ) → NamesPart node part → IsOwned core owners part
 
 -- what has an owner stands in its body, and that of the rules up to one have owners
 pub record AreOwnersUpTo (rules : ℕ) (core : Desugared) (owners : List ℕ) : Type 0 where

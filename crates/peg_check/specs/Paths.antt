@@ -1,4 +1,4 @@
--- Paths through rules, each of which meets the next one first.
+-- Describes code: paths through rules, each of which meets the next one first.
 use Rattle.std.specs.Prelude.{◌≡◌, ℕ, ◌<◌, List, [], ◌∷◌, drop, length, slice_index}
 use Rattle.peg_core.specs.CoreForm.{CoreForm}
 use Rattle.peg_core.specs.CoreLoops.{CoreMeetInTurn}

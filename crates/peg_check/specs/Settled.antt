@@ -1,5 +1,5 @@
--- Forms that are settled: all that they ask for is settled, in some number of rounds. The others ask for one that
--- isn't.
+-- Describes code: forms that are settled: all that they ask for is settled, in some number of rounds. The others ask
+-- for one that isn't.
 use Rattle.std.specs.Prelude.{◌≡◌, ℕ, zero, suc, ◌<◌, Bool, true, false, List, length, slice_index_or, slice_set}
 use Rattle.std.specs.List.{sum_by}
 use Rattle.peg_check.specs.Links.{GoesBy, link_at}

@@ -1,7 +1,7 @@
--- How what is known of the forms grows.
+-- Describes code: how what is known of the forms grows.
 use Rattle.std.specs.Prelude.{ℕ, ◌+◌, Bool, true, false, ◌||◌, List, slice_index_or, slice_set}
 use Rattle.std.specs.List.{sum_by}
-use Rattle.peg_grammar.specs.AbstractOutcomes.{Can}
+use Rattle.peg_ford.specs.AbstractOutcomes.{Can}
 use Rattle.peg_check.specs.Cans.{can_at, nothing_known}
 use Rattle.peg_check.specs.Links.{link_can}
 use Rattle.peg_check.specs.declared.can.Can as code

@@ -1,8 +1,8 @@
--- Steps of a search from rule to rule: each but the first comes after an earlier one.
-use Rattle.std.specs.Prelude.{◌≡◌, ℕ, ◌<◌, List, length, slice_index_or}
+-- Describes code: steps of a search from rule to rule: each but the first comes after an earlier one.
+use Rattle.std.specs.Prelude.{◌≡◌, ◌≢◌, ℕ, ◌<◌, Bool, true, List, length, slice_index_or}
 use Rattle.peg_core.specs.CoreLoops.{CoreMeetsFirst}
-use Rattle.peg_core.specs.Layout.{Desugared}
-use Rattle.peg_check.specs.Exact.{bodies_of}
+use Rattle.peg_core.specs.Layout.{bodies_of, Desugared}
+use Rattle.peg_check.specs.Settled.{is_marked}
 use Rattle.peg_check.specs.declared.shortest.Step.{Step}
 
 -- where there is no step
@@ -21,11 +21,17 @@ before_at steps at = (slice_index_or steps at no_step).before
 abbrev pub ComeAfter : List Step → Type 0
 ComeAfter steps = (at : ℕ) → 0 < at → at < length steps → before_at steps at < at
 
--- the steps of a search that starts at a rule: each but the first comes after one whose rule meets its own first
+-- the rule of each step is marked among the rules
+abbrev pub AreSeen : List Bool → List Step → Type 0
+AreSeen rules steps = (at : ℕ) → at < length steps → is_marked rules (rule_at steps at) ≡ true
+
+-- the steps of a search that starts at a rule: each but the first comes after one whose rule meets its own first, and
+-- no two have one rule
 pub record AreSteps (core : Desugared) (start : ℕ) (steps : List Step) : Type 0 where
   pub some : 0 < length steps
   pub starts : rule_at steps 0 ≡ start
   pub within : (at : ℕ) → at < length steps → rule_at steps at < length core.bodies
   pub after : ComeAfter steps
+  pub differ : (at later : ℕ) → at < later → later < length steps → rule_at steps at ≢ rule_at steps later
   pub meets : (at : ℕ) → 0 < at → at < length steps
       → CoreMeetsFirst (bodies_of core) (rule_at steps (before_at steps at)) (rule_at steps at)

@@ -1,11 +1,13 @@
--- Whether core forms are well-formed, and why not.
-use Rattle.std.specs.Prelude.{ℕ, ◌<◌, All}
-use Rattle.peg_bytes.specs.Extent.{extent}
+-- Whether core forms are well-formed, and why not; and the same of the grammar that they come of.
+use Rattle.std.specs.Prelude.{◌≢◌, ℕ, ◌<◌, List, All, AllPairs}
+use Rattle.peg_bytes.specs.Extent.{Extent, extent}
+use Rattle.peg_core.specs.CoreForm.{CoreForm}
 use Rattle.peg_core.specs.CoreLoops.{IsCoreEmptyLoop, IsCoreLeftCycle}
 use Rattle.peg_core.specs.CoreOutcomes.{IsCoreWellFormedIn, IsCoreWellFormed}
-use Rattle.peg_core.specs.Layout.{Desugared}
-use Rattle.peg_check.specs.Exact.{bodies_of}
-use Rattle.peg_check.specs.Loops.{HasNoEmptyLoop}
+use Rattle.peg_core.specs.Layout.{Desugared, bodies_of}
+use Rattle.peg_ford.specs.Loops.{IsEmptyLoop, IsLeftCycle}
+use Rattle.peg_ford.specs.Rules.{Rule}
+use Rattle.peg_ford.specs.WellFormed.{IsWellFormedGrammar}
 use Rattle.peg_check.specs.declared.fault.CheckFault.{CheckFault}
 use Rattle.peg_check.specs.declared.fault.CheckFault.TheVariants.{EmptyLoop, LeftRecursion, Memory}
 
@@ -17,12 +19,52 @@ AreWellFormed core = All (IsCoreWellFormed (bodies_of core)) core.forms
 abbrev pub AreWellFormedIn : ℕ → Desugared → Type 0
 AreWellFormedIn n core = All (IsCoreWellFormedIn (bodies_of core) n) core.forms
 
+-- some rule has an empty loop
+abbrev pub HasEmptyLoop : Desugared → Type 0
+HasEmptyLoop core = (rule : ℕ) × (origin : Extent) × IsCoreEmptyLoop (bodies_of core) rule origin
+
+-- no rule has an empty loop
+abbrev pub HasNoEmptyLoop : Desugared → Type 0
+HasNoEmptyLoop core = (rule : ℕ) (origin : Extent) → ¬ IsCoreEmptyLoop (bodies_of core) rule origin
+
+-- there is no left cycle
+abbrev pub HasNoLeftCycle : Desugared → Type 0
+HasNoLeftCycle core = (path : List ℕ) → ¬ IsCoreLeftCycle (bodies_of core) path
+
+-- no number stands there twice
+abbrev pub AllDiffer : List ℕ → Type 0
+AllDiffer numbers = AllPairs (λ first second. first ≢ second) numbers
+
+-- a left cycle that goes round once: no rule stands there twice
+abbrev pub IsSimpleLeftCycle : List CoreForm → List ℕ → Type 0
+IsSimpleLeftCycle bodies path = IsCoreLeftCycle bodies path × AllDiffer path
+
 -- Whether a fault is true of core forms. Out of memory may come of any.
 abbrev pub IsFaultOf : Desugared → CheckFault → Type 0
 IsFaultOf core (EmptyLoop rule span) = IsCoreEmptyLoop (bodies_of core) rule (extent span) × ¬ AreWellFormed core
 IsFaultOf core (LeftRecursion path) =
-    HasNoEmptyLoop core × IsCoreLeftCycle (bodies_of core) path.items × ¬ AreWellFormed core
+    HasNoEmptyLoop core × IsCoreLeftCycle (bodies_of core) path.items × ¬ AreWellFormed core × AllDiffer path.items
 IsFaultOf core Memory = Unit {0}
+
+-- a fault is of an empty loop
+abbrev pub TellsEmptyLoop : CheckFault → Type 0
+TellsEmptyLoop (EmptyLoop rule span) = Unit {0}
+TellsEmptyLoop (LeftRecursion path) = ⊥
+TellsEmptyLoop Memory = ⊥
+
+-- a fault is of a left cycle
+abbrev pub TellsLeftCycle : CheckFault → Type 0
+TellsLeftCycle (EmptyLoop rule span) = ⊥
+TellsLeftCycle (LeftRecursion path) = Unit {0}
+TellsLeftCycle Memory = ⊥
+
+-- Whether a fault is true of a grammar with these rules. Want of memory says nothing.
+abbrev pub IsIllFormedBy : List Rule → CheckFault → Type 0
+IsIllFormedBy rules (EmptyLoop rule span) = ¬ IsWellFormedGrammar rules × IsEmptyLoop rules rule (extent span)
+IsIllFormedBy rules (LeftRecursion path) =
+    ¬ IsWellFormedGrammar rules × ((rule : ℕ) (span : Extent) → ¬ IsEmptyLoop rules rule span)
+    × IsLeftCycle rules path.items × AllDiffer path.items
+IsIllFormedBy rules Memory = Unit {0}
 
 -- the rules that a fault names are among so many
 abbrev pub NamesRules : (count : ℕ) → CheckFault → Type 0

@@ -1,4 +1,4 @@
--- Visits of forms by a search down what they ask for.
+-- Describes code: visits of forms by a search down what they ask for.
 use Rattle.std.specs.Prelude.{ℕ, ◌<◌, All, List}
 use Rattle.peg_check.specs.declared.order.Visit.{Visit}
 

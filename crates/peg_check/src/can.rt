@@ -1,6 +1,6 @@
 //! Ford's abstract outcomes, and how those of a form follow from those of its parts.
 ghost use Rattle.std.specs.Prelude.{◌≡◌};
-ghost use Rattle.peg_grammar.specs.AbstractOutcomes.{again, both, either, not_ahead, succeeds};
+ghost use Rattle.peg_ford.specs.AbstractOutcomes.{again, both, either, not_ahead, succeeds};
 ghost use Rattle.peg_check.specs.Cans.{can_of};
 ghost use Rattle.peg_check.specs.Steps.{added_to};
 

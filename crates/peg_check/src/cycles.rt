@@ -1,12 +1,12 @@
 //! Left cycles: rules each of which meets the next one first, and the last the first (Ford 2004, section 3.6).
 ghost use Rattle.std.specs.Prelude.{◌≡◌, ℕ, ◌<◌, ⊤, Contains, false, length, slice_get, Some, IfOk, MatchOption};
 ghost use Rattle.peg_core.specs.CoreForm.{Rule};
-ghost use Rattle.peg_core.specs.CoreLoops.{CoreMeets, IsCoreLeftCycle};
-ghost use Rattle.peg_core.specs.Layout.{form_at};
+ghost use Rattle.peg_core.specs.CoreLoops.{CoreMeets};
+ghost use Rattle.peg_core.specs.Layout.{bodies_of, form_at};
 ghost use Rattle.peg_check.specs.Asks.{AreAsked};
-ghost use Rattle.peg_check.specs.Exact.{bodies_of};
 ghost use Rattle.peg_check.specs.Paths.{IsFrom};
 ghost use Rattle.peg_check.specs.Settled.{is_marked, AreSettled};
+ghost use Rattle.peg_check.specs.Verdicts.{IsSimpleLeftCycle};
 
 use crate::link::Link;
 use crate::settled::left_part;
@@ -27,7 +27,7 @@ pub(crate) fn cycle_from(
     requires count { length asks.now ≡ length core.now.forms }
     requires within { start < length core.now.forms }
     requires left { is_marked marks.now start ≡ false }
-    ensures { IfOk result (λ path. IsCoreLeftCycle (bodies_of core.now) path.items) }
+    ensures { IfOk result (λ path. IsSimpleLeftCycle (bodies_of core.now) path.items) }
 {
     let mut seen = vec![in alloc; false; core.rules() as usize]?;
     let mut path = Vec::new(alloc);

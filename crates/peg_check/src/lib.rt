@@ -15,12 +15,8 @@ mod settled;
 mod shortest;
 mod step;
 mod table;
-#[cfg(test)]
-mod tests;
 mod uses;
 mod verdict;
-#[cfg(test)]
-mod verdict_tests;
 
 pub use can::Can;
 pub use fault::CheckFault;

@@ -9,7 +9,7 @@ use peg_core::{Core, Node};
 use std::alloc::{AllocError, Global};
 
 /// A core form with a rule's use taken for the rule's body, and a test for what it can do.
-#[derive(Clone, Copy, Debug)]
+#[derive(Clone, Copy)]
 pub(crate) enum Link {
     /// It goes by no other form.
     Known(Can),

@@ -1,7 +1,7 @@
 //! Empty loops: stars and pluses whose part may succeed on nothing (Ford 2004, section 3.6).
 ghost use Rattle.std.specs.Prelude.{◌≡◌, ◌<◌, ◌⊎◌, length, IfOk, MatchOption, Some};
 ghost use Rattle.peg_check.specs.Exact.{IsExactTable};
-ghost use Rattle.peg_check.specs.Loops.{HasNone, IsLoop, LoopsAt};
+ghost use Rattle.peg_check.specs.EmptyLoops.{HasNone, IsLoop, LoopsAt};
 ghost use Rattle.peg_check.specs.Owners.{AreOwners, IsOwned};
 
 use crate::Table;
@@ -11,7 +11,7 @@ use peg_core::{Core, Node};
 use std::alloc::{AllocError, Global};
 
 /// A star or plus of a rule, and where it stands.
-#[derive(Clone, Copy, Debug)]
+#[derive(Clone, Copy)]
 pub(crate) struct Loop {
     pub(crate) rule: u32,
     pub(crate) span: Span,

@@ -2,8 +2,8 @@
 ghost use Rattle.std.specs.Prelude.{◌≡◌, ℕ, ◌<◌, ◌++◌, All, length, IfOk, OnOk};
 ghost use Rattle.peg_core.specs.CoreLoops.{CoreMeetsFirst};
 ghost use Rattle.peg_check.specs.Asks.{AreAsked};
-ghost use Rattle.peg_check.specs.Exact.{bodies_of};
-ghost use Rattle.peg_check.specs.Links.{parts_of};
+ghost use Rattle.peg_core.specs.Layout.{bodies_of};
+ghost use Rattle.peg_check.specs.Links.{link_parts};
 
 use crate::cycles::used_rule;
 use crate::link::Link;
@@ -46,7 +46,7 @@ pub(crate) fn met_by(
 
 // The forms that a link goes by are put behind others.
 fn push_parts(link: Link, pending: &mut Vec<u32>) -> Result<(), AllocError>
-    ensures { OnOk result (pending.new.items ≡ pending.old.items ++ parts_of link) }
+    ensures { OnOk result (pending.new.items ≡ pending.old.items ++ link_parts link) }
 {
     match link {
         Link::Known(_) => {}

@@ -9,7 +9,7 @@ use crate::link::Link;
 use std::alloc::{AllocError, Global};
 
 /// A form that is entered or, once all that it asks for was, left.
-#[derive(Clone, Copy, Debug)]
+#[derive(Clone, Copy)]
 pub(crate) struct Visit {
     number: u32,
     leaves: bool,

@@ -1,11 +1,11 @@
 //! The shortest left cycle from a rule, and of these the one whose rule numbers are least in order.
 ghost use Rattle.std.specs.Prelude.{◌≡◌, ℕ, ◌+◌, ◌<◌, ◌≤◌, ⊤, All, length, IfOk, OnOk, MatchOption};
-ghost use Rattle.peg_core.specs.CoreLoops.{CoreMeetsFirst, IsCoreLeftCycle};
-ghost use Rattle.peg_core.specs.Layout.{Desugared};
+ghost use Rattle.peg_core.specs.CoreLoops.{CoreMeetsFirst};
+ghost use Rattle.peg_core.specs.Layout.{bodies_of, Desugared};
 ghost use Rattle.peg_check.specs.Asks.{AreAsked};
-ghost use Rattle.peg_check.specs.Exact.{bodies_of};
 ghost use Rattle.peg_check.specs.Settled.{unmarked_in};
-ghost use Rattle.peg_check.specs.Trails.{AreSteps, ComeAfter, rule_at};
+ghost use Rattle.peg_check.specs.Trails.{AreSeen, AreSteps, ComeAfter, rule_at};
+ghost use Rattle.peg_check.specs.Verdicts.{IsSimpleLeftCycle};
 
 use crate::link::Link;
 use crate::met::met_by;
@@ -13,7 +13,7 @@ use peg_core::Core;
 use std::alloc::{AllocError, Global};
 
 /// A rule that a search came to, and the step at whose rule it was met first.
-#[derive(Clone, Copy, Debug)]
+#[derive(Clone, Copy)]
 pub(crate) struct Step {
     rule: u32,
     before: u32,
@@ -32,10 +32,11 @@ pub(crate) fn shortest_cycle(
     requires count { length asks.now ≡ length core.now.forms }
     requires within { start < length core.now.bodies }
     ensures { IfOk result (λ found.
-        MatchOption found ⊤ (λ path. IsCoreLeftCycle (bodies_of core.now) path.items)) }
+        MatchOption found ⊤ (λ path. IsSimpleLeftCycle (bodies_of core.now) path.items)) }
 {
     let mut forms = vec![in alloc; false; asks.len()]?;
     let mut rules = vec![in alloc; false; core.rules() as usize]?;
+    rules[start as usize] = true;
     let mut steps = vec![in alloc; Step {
         rule: start,
         before: 0
@@ -62,9 +63,10 @@ fn add_steps(
     requires within { All (λ rule. rule < length rules.old) met.now }
     requires before { before < length steps.old.items }
     ensures added { OnOk result ((core : Desugared) (start : ℕ) → length rules.old ≡ length core.bodies
-        → AreSteps core start steps.old.items
+        → AreSteps core start steps.old.items → AreSeen rules.old steps.old.items
         → All (CoreMeetsFirst (bodies_of core) (rule_at steps.old.items before)) met.now
         → AreSteps core start steps.new.items) }
+    ensures seen { OnOk result (AreSeen rules.old steps.old.items → AreSeen rules.new steps.new.items) }
     ensures longer { OnOk result (length steps.old.items ≤ length steps.new.items) }
     ensures room { OnOk result (length steps.new.items + unmarked_in rules.new
         ≡ length steps.old.items + unmarked_in rules.old) }
@@ -88,7 +90,7 @@ fn path_to(alloc: Global, steps: &[Step], end: usize) -> Result<Vec<u32>, AllocE
     requires after { ComeAfter steps.now }
     ensures { IfOk result (λ path. (core : Desugared) (start : ℕ) → AreSteps core start steps.now
         → CoreMeetsFirst (bodies_of core) (rule_at steps.now end) start
-        → IsCoreLeftCycle (bodies_of core) path.items) }
+        → IsSimpleLeftCycle (bodies_of core) path.items) }
 {
     let mut path = Vec::new(alloc);
     let mut at = end;

@@ -1,8 +1,11 @@
 //! The table of outcomes: what each core form can do.
-ghost use Rattle.std.specs.Prelude.{◌≡◌, ℕ, ◌<◌, ◌≤◌, All, Contains, length, slice_get, IfOk, Some};
+ghost use Rattle.std.specs.Prelude.{◌≡◌, ℕ, ◌<◌, ◌≤◌, List, All, Contains, length, slice_get, IfOk, Some};
+ghost use Rattle.peg_core.specs.CoreParts.{AreCoreFormsOf};
 ghost use Rattle.peg_core.specs.Layout.{most_forms};
 ghost use Rattle.peg_check.specs.Cans.{can_of};
-ghost use Rattle.peg_check.specs.Exact.{IsExactTable};
+ghost use Rattle.peg_check.specs.Exact.{IsExactTable, cans_of};
+ghost use Rattle.peg_ford.specs.RuleOutcomes.{AreOutcomes};
+ghost use Rattle.peg_ford.specs.Rules.{Rule};
 
 use crate::Can;
 use crate::link::links_of;
@@ -61,7 +64,11 @@ impl Table {
 /// form at most, and then the forms that go by that form are looked at again, so this takes time and memory linear in
 /// the number of forms.
 pub fn table_of(alloc: Global, core: &Core) -> Result<Table, AllocError>
-    ensures { IfOk result (λ table. IsExactTable core.now table) }
+    ensures exact { IfOk result (λ table. IsExactTable core.now table) }
+
+    // Of a grammar's core forms: the entries of the rules' bodies are the outcomes of the rules' expressions.
+    ensures rules { IfOk result (λ table. (rules : List Rule) → AreCoreFormsOf rules core.now
+        → AreOutcomes rules (cans_of core.now.bodies table)) }
 {
     let count = core.len();
     let links = links_of(alloc, core)?;

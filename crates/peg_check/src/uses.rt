@@ -9,17 +9,17 @@ use crate::link::Link;
 use std::alloc::{AllocError, Global};
 
 /// A form that goes by another one, and the entry before it of that one: entry n stands at n - 1, and 0 is none.
-#[derive(Clone, Copy, Debug)]
-pub(crate) struct Use {
+#[derive(Clone, Copy)]
+pub(crate) struct ChainEntry {
     user: u32,
     older: u32,
 }
 
 /// For each form, the newest entry of those that go by it; and the entries of all forms.
-#[derive(Debug, Drop)]
+#[derive(Drop)]
 pub(crate) struct Uses {
     newest: Vec<u32>,
-    entries: Vec<Use>,
+    entries: Vec<ChainEntry>,
 }
 
 /// Which forms go by each form, two entries a form at most.
@@ -74,7 +74,7 @@ impl Uses {
         ensures more { OnOk result (length self.new.entries.items ≡ length self.old.entries.items + 1) }
     {
         let older = self.newest[part as usize];
-        self.entries.push(Use { user, older })?;
+        self.entries.push(ChainEntry { user, older })?;
         self.newest[part as usize] = self.entries.len() as u32;
         Ok(())
     }

@@ -1,13 +1,18 @@
 //! Whether a grammar is well-formed, and why not.
-ghost use Rattle.std.specs.Prelude.{◌≡◌, ℕ, ◌<◌, ◌≤◌, ⊤, length, slice_index_or, IfOk, IfErr, OnOk, MatchOption};
-ghost use Rattle.peg_core.specs.CoreLoops.{IsCoreLeftCycle};
-ghost use Rattle.peg_core.specs.Layout.{most_forms};
+ghost use Rattle.std.specs.Prelude.{◌≡◌, ◌↔◌, ℕ, ◌<◌, ◌≤◌, ⊤, List, length, slice_index_or, MatchOption};
+ghost use Rattle.std.specs.Prelude.{IfOk, IfErr, IsErrAnd, IsErrOf, IsOk, OnOk};
+ghost use Rattle.peg_core.specs.CoreParts.{AreCoreFormsOf};
+ghost use Rattle.peg_core.specs.Layout.{bodies_of, most_forms};
 ghost use Rattle.peg_check.specs.Asks.{AreAsked};
-ghost use Rattle.peg_check.specs.Exact.{bodies_of, IsExactTable};
+ghost use Rattle.peg_check.specs.Exact.{IsExactTable};
 ghost use Rattle.peg_check.specs.Links.{LinkFits};
-ghost use Rattle.peg_check.specs.Loops.{NoneLoops};
-ghost use Rattle.peg_check.specs.Verdicts.{AreWellFormed, AreWellFormedIn, IsFaultOf, NamesRules};
+ghost use Rattle.peg_check.specs.EmptyLoops.{NoneLoops};
+ghost use Rattle.peg_check.specs.Verdicts.{AreWellFormed, AreWellFormedIn, HasEmptyLoop, HasNoEmptyLoop};
+ghost use Rattle.peg_check.specs.Verdicts.{HasNoLeftCycle, IsFaultOf, IsIllFormedBy, IsSimpleLeftCycle, NamesRules};
+ghost use Rattle.peg_check.specs.Verdicts.{TellsEmptyLoop, TellsLeftCycle};
 ghost use Rattle.peg_check.specs.declared.link.Link.{Link};
+ghost use Rattle.peg_ford.specs.Rules.{Rule};
+ghost use Rattle.peg_ford.specs.WellFormed.{IsWellFormedGrammar};
 
 use crate::asks::asks_of;
 use crate::components::{components_of, least_in_a_cycle};
@@ -47,6 +52,20 @@ pub fn check(alloc: Global, core: Core) -> Result<Checked, CheckFault>
     ensures rounds { OnOk result (AreWellFormedIn (length core.forms) core) }
     ensures refused { IfErr result (IsFaultOf core) }
     ensures named { IfErr result (NamesRules (length core.bodies)) }
+
+    // What is accepted has no empty loop and no left cycle; and each answer but want of memory comes exactly where it
+    // is the right one.
+    ensures no_empty_loop { OnOk result (HasNoEmptyLoop core) }
+    ensures no_left_cycle { OnOk result (HasNoLeftCycle core) }
+    ensures accepted_where { ¬ IsErrOf result CheckFault.Memory → (IsOk result ↔ AreWellFormed core) }
+    ensures empty_loop_where { ¬ IsErrOf result CheckFault.Memory
+        → (IsErrAnd result TellsEmptyLoop ↔ HasEmptyLoop core) }
+    ensures left_cycle_where { ¬ IsErrOf result CheckFault.Memory
+        → (IsErrAnd result TellsLeftCycle ↔ (HasNoEmptyLoop core × ¬ AreWellFormed core)) }
+
+    // Of a grammar's core forms, what is said is true of the grammar as written.
+    ensures grammar { (rules : List Rule) → AreCoreFormsOf rules core → OnOk result (IsWellFormedGrammar rules) }
+    ensures grammar_refused { (rules : List Rule) → AreCoreFormsOf rules core → IfErr result (IsIllFormedBy rules) }
 {
     judge(alloc, &core)?;
     Ok(Checked { core })
@@ -57,6 +76,7 @@ fn judge(alloc: Global, core: &Core) -> Result<(), CheckFault>
     ensures well_formed { OnOk result (AreWellFormedIn (length core.now.forms) core.now) }
     ensures refused { IfErr result (IsFaultOf core.now) }
     ensures named { IfErr result (NamesRules (length core.now.bodies)) }
+    ensures no_empty_loop { OnOk result (HasNoEmptyLoop core.now) }
 {
     let table = table_of(alloc, core)?;
     match empty_loop(alloc, core, &table)? {
@@ -74,7 +94,7 @@ fn left_cycle(alloc: Global, core: &Core, table: &Table) -> Result<Option<Vec<u3
     requires loops { NoneLoops core.now }
     ensures { IfOk result (λ found.
         MatchOption found (AreWellFormedIn (length core.now.forms) core.now)
-        (λ path. IsCoreLeftCycle (bodies_of core.now) path.items)) }
+        (λ path. IsSimpleLeftCycle (bodies_of core.now) path.items)) }
 {
     let asks = asks_of(alloc, core, table)?;
     let marks = settled_of(alloc, &asks)?;
@@ -98,7 +118,7 @@ fn least_cycle(alloc: Global, core: &Core, asks: &[Link]) -> Result<Option<Vec<u
     requires fit { (user : ℕ) (d : Link) → user < length asks.now
         → LinkFits (length asks.now) (slice_index_or asks.now user d) }
     ensures { IfOk result (λ found.
-        MatchOption found ⊤ (λ path. IsCoreLeftCycle (bodies_of core.now) path.items)) }
+        MatchOption found ⊤ (λ path. IsSimpleLeftCycle (bodies_of core.now) path.items)) }
 {
     let labels = components_of(alloc, asks)?;
     match least_in_a_cycle(core, &labels) {

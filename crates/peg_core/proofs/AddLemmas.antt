@@ -8,16 +8,16 @@ use Rattle.std.proofs.lemmas.List.Folds.{list_all-append}
 use Rattle.peg_bytes.specs.ByteSet.{all_bytes, bytes_of, has, only}
 use Rattle.peg_bytes.specs.Extent.{Extent}
 use Rattle.peg_bytes.specs.declared.byte_set.ByteSet.{ByteSet}
-use Rattle.peg_grammar.specs.Form.{Form, Forms, Literal, Class, Any, Name, Optional, Plus, And, End, Then, Reference, terminals, form_weight, forms_weight, names_used, names_used_by_all}
-use Rattle.peg_grammar.specs.Form as written
-use Rattle.peg_grammar.specs.Rules.{is_defined, names, meant}
-use Rattle.peg_grammar.specs.Rules as grammar
-use Rattle.peg_grammar.specs.Terminals.{terminal_extents, terminal_extents_of_all}
-use Rattle.peg_grammar.specs.Numbers.{first_from}
-use Rattle.peg_grammar.proofs.RulesLemmas.{terminals-weight, position-within, meant-position, meaning}
-use Rattle.peg_grammar.proofs.TerminalLemmas.{length-terminal_extents}
+use Rattle.peg_ford.specs.Form.{Form, Forms, Literal, Class, Any, Name, Optional, Plus, And, End, Then, Reference, terminals, form_weight, forms_weight, names_used, names_used_by_all}
+use Rattle.peg_ford.specs.Form as written
+use Rattle.peg_ford.specs.Rules.{is_defined, names, meant}
+use Rattle.peg_ford.specs.Rules as grammar
+use Rattle.peg_ford.specs.Terminals.{terminal_extents, terminal_extents_of_all}
+use Rattle.peg_ford.specs.Numbers.{first_from}
+use Rattle.peg_ford.proofs.RulesLemmas.{terminals-weight, position-within, meant-position, meaning}
+use Rattle.peg_ford.proofs.TerminalLemmas.{length-terminal_extents}
 use Rattle.peg_core.specs.CoreForm.{CoreForm, Test, Choice, Star, Not, all_in_order, one_of, tests_of, core_form, core_forms, number_of}
-use Rattle.peg_core.specs.CoreParts.{sequences_of, choices_of, optional_parts, plus_parts, and_parts, core_parts, core_parts_of_all, are_defined}
+use Rattle.peg_core.specs.CoreParts.{sequences_of, choices_of, optional_forms, plus_forms, and_forms, core_parts, core_parts_of_all, are_defined}
 use Rattle.peg_core.specs.Laid.{Lays, LaysAll, LaysForm, LaysForms}
 use Rattle.peg_core.specs.Layout.{Layout, form_at}
 use Rattle.peg_core.proofs.LaidLemmas.{Lays-then, form_at-kept, forms-kept, all_within-grown, length-sequences_of}
@@ -51,13 +51,13 @@ module _ (rules : List grammar.Rule) where
         let choices = choices_of (core_form rules terminal first) (core_forms rules later rest) in
         omega (arith, length-core_parts first terminal, length-core_parts_of_all rest later, length-choices_of (core_form rules terminal first) (core_forms rules later rest), length-append (parts ++ more) choices, length-append parts more)
     length-core_parts (Optional part span) terminal =
-        omega (arith, length-core_parts part terminal, length-append (core_parts rules terminal part) (optional_parts (core_form rules terminal part)))
+        omega (arith, length-core_parts part terminal, length-append (core_parts rules terminal part) (optional_forms (core_form rules terminal part)))
     length-core_parts (written.Star part span) terminal =
         omega (arith, length-core_parts part terminal, length-append (core_parts rules terminal part) (Star (core_form rules terminal part) span ∷ []))
     length-core_parts (Plus part span) terminal =
-        omega (arith, length-core_parts part terminal, length-append (core_parts rules terminal part) (plus_parts (core_form rules terminal part) span))
+        omega (arith, length-core_parts part terminal, length-append (core_parts rules terminal part) (plus_forms (core_form rules terminal part) span))
     length-core_parts (And part span) terminal =
-        omega (arith, length-core_parts part terminal, length-append (core_parts rules terminal part) (and_parts (core_form rules terminal part)))
+        omega (arith, length-core_parts part terminal, length-append (core_parts rules terminal part) (and_forms (core_form rules terminal part)))
     length-core_parts (written.Not part span) terminal =
         omega (arith, length-core_parts part terminal, length-append (core_parts rules terminal part) (Not (core_form rules terminal part) ∷ []))
 

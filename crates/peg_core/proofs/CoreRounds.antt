@@ -1,10 +1,10 @@
 -- What has a core record in n has the same in n + 1, and so two records of one form at one place are the same; what a
 -- form can do in n rounds it can do in n + 1, and what is well-formed in n is in n + 1.
 use Rattle.std.proofs.Common.{◌≡◌, ℕ, zero, suc, ◌+◌, List, Option, None, Some, ap, slice_get, option_map, zero-add, suc-add, add_comm}
-use Rattle.peg_grammar.specs.AbstractOutcomes.{CanAll, cannot}
-use Rattle.peg_grammar.specs.Record.{Record, repeated, if_failed, with_result, as_use}
-use Rattle.peg_grammar.proofs.RecordLemmas.{Extends, Extends-refl, Extends-none, Extends-map, Extends-and_then, Extends-then_at, Extends-or_else, Extends-repeated}
-use Rattle.peg_grammar.proofs.RoundsLemmas.{CanAll-refl, CanAll-cannot, CanAll-both, CanAll-either, CanAll-again, CanAll-not_ahead}
+use Rattle.peg_ford.specs.AbstractOutcomes.{CanAll, cannot}
+use Rattle.peg_ford.specs.Record.{Record, repeated, if_failed, with_result, as_use}
+use Rattle.peg_ford.proofs.RecordLemmas.{Extends, Extends-refl, Extends-none, Extends-map, Extends-and_then, Extends-then_at, Extends-or_else, Extends-repeated}
+use Rattle.peg_ford.proofs.RoundsLemmas.{CanAll-refl, CanAll-cannot, CanAll-both, CanAll-either, CanAll-again, CanAll-not_ahead}
 use Rattle.peg_core.specs.CoreForm.{CoreForm, Empty, Test, Rule, Seq, Choice, Star, Not}
 use Rattle.peg_core.specs.CoreRecord.{CoreTaking, core_table, core_record_in, IsCoreRecord}
 use Rattle.peg_core.specs.CoreOutcomes.{CoreJudging, judge_body, core_can_table, core_can_in, CoreAsking, BodyIs, CoreWellFormedTable, IsCoreWellFormedIn}

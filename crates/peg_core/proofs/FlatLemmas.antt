@@ -6,33 +6,34 @@ use Rattle.std.proofs.lemmas.List.Sums.{fold-append}
 use Rattle.peg_bytes.specs.Extent.{Extent, extent}
 use Rattle.peg_core.specs.CoreForm.{CoreForm, Empty, Seq, Choice, Star, Not}
 use Rattle.peg_core.specs.Layout.{form_at}
-use Rattle.peg_core.specs.Nodes.{shape, NodeFits, added, forms_of, AllFit, IsStarFrom}
+use Rattle.peg_core.specs.CoreNodes.{shape, NodeFits, IsStarFrom}
+use Rattle.peg_core.specs.FlatForms.{added, forms_of, AllFit}
 use Rattle.peg_core.specs.declared.node.Node.{Node}
 use Rattle.peg_core.specs.declared.node.Node.TheVariants as node
-use Rattle.peg_core.specs.declared.node.Part.{Part}
+use Rattle.peg_core.specs.declared.node.NodeAndOrigin.{NodeAndOrigin}
 
 -- the form of a part among others
-abbrev formed : List CoreForm → Part → CoreForm
+abbrev formed : List CoreForm → NodeAndOrigin → CoreForm
 formed forms part = shape forms (extent part.origin) part.node
 
-length-added : (forms : List CoreForm) (part : Part) → length (added forms part) ≡ length forms + 1
+length-added : (forms : List CoreForm) (part : NodeAndOrigin) → length (added forms part) ≡ length forms + 1
 length-added forms part = length-append forms (formed forms part ∷ [])
 
-length-fold_added : (start : List CoreForm) (parts : List Part)
+length-fold_added : (start : List CoreForm) (parts : List NodeAndOrigin)
     → length (fold added start parts) ≡ length start + length parts
 length-fold_added start [] = omega arith
 length-fold_added start (p ∷ ps) = omega (arith, length-fold_added (added start p) ps, length-added start p)
 
 -- there are as many forms as nodes
-pub length-forms_of : (parts : List Part) → length (forms_of parts) ≡ length parts
+pub length-forms_of : (parts : List NodeAndOrigin) → length (forms_of parts) ≡ length parts
 length-forms_of parts = omega (arith, length-fold_added [] parts)
 
 -- one more node is one more form
-pub forms_of-push : (parts : List Part) (part : Part) → forms_of (parts ++ part ∷ []) ≡ added (forms_of parts) part
+pub forms_of-push : (parts : List NodeAndOrigin) (part : NodeAndOrigin) → forms_of (parts ++ part ∷ []) ≡ added (forms_of parts) part
 forms_of-push parts part = fold-append added [] parts (part ∷ [])
 
 -- the forms so far keep their numbers
-kept : (start : List CoreForm) (parts : List Part) (k : ℕ) → k < length start
+kept : (start : List CoreForm) (parts : List NodeAndOrigin) (k : ℕ) → k < length start
     → form_at (fold added start parts) k ≡ form_at start k
 kept start [] k within = refl
 kept start (p ∷ ps) k within =
@@ -54,11 +55,11 @@ shape-same a b origin number rules terminals (node.Star part) fits same = λ i. 
 shape-same a b origin number rules terminals (node.Not part) fits same = λ i. Not (same part fits i)
 
 -- each node fits at its number, where the first has this one
-abbrev FitFrom : (first rules terminals : ℕ) → List Part → Type 0
+abbrev FitFrom : (first rules terminals : ℕ) → List NodeAndOrigin → Type 0
 FitFrom first rules terminals parts =
-    (k : ℕ) (d : Part) → k < length parts → NodeFits (first + k) rules terminals (get_or parts k d).node
+    (k : ℕ) (d : NodeAndOrigin) → k < length parts → NodeFits (first + k) rules terminals (get_or parts k d).node
 
-formed_at : (start : List CoreForm) (parts : List Part) (rules terminals k : ℕ) (d : Part)
+formed_at : (start : List CoreForm) (parts : List NodeAndOrigin) (rules terminals k : ℕ) (d : NodeAndOrigin)
     → FitFrom (length start) rules terminals parts → k < length parts
     → form_at (fold added start parts) (length start + k) ≡ formed (fold added start parts) (get_or parts k d)
 formed_at start [] rules terminals k d fit within = absurd (omega arith)
@@ -78,7 +79,7 @@ formed_at start (p ∷ ps) rules terminals (suc k) d fit within =
     ∙ formed_at (added start p) ps rules terminals k d later (omega arith)
 
 -- the form with a number is that of its node
-pub form_at-node : (parts : List Part) (rules terminals number : ℕ) (part : Part) → AllFit rules terminals parts
+pub form_at-node : (parts : List NodeAndOrigin) (rules terminals number : ℕ) (part : NodeAndOrigin) → AllFit rules terminals parts
     → number < length parts → part ≡ get_or parts number part
     → form_at (forms_of parts) number ≡ shape (forms_of parts) (extent part.origin) part.node
 form_at-node parts rules terminals number part fit within there =
@@ -88,10 +89,10 @@ form_at-node parts rules terminals number part fit within there =
     ∙ (formed_at [] parts rules terminals number part from_zero within ∙ ap (formed (forms_of parts)) (sym there))
 
 -- a node fits where it is one of many that do
-pub fits-at : (parts : List Part) (rules terminals number : ℕ) (part : Part) → AllFit rules terminals parts
+pub fits-at : (parts : List NodeAndOrigin) (rules terminals number : ℕ) (part : NodeAndOrigin) → AllFit rules terminals parts
     → number < length parts → part ≡ get_or parts number part → NodeFits number rules terminals part.node
 fits-at parts rules terminals number part fit within there =
-    subst (λ (p : Part). NodeFits number rules terminals p.node) (sym there) (fit number part within)
+    subst (λ (p : NodeAndOrigin). NodeFits number rules terminals p.node) (sym there) (fit number part within)
 
 -- with more terminals a node still fits
 fits-more : (number rules terminals more : ℕ) (n : Node) → terminals ≤ more → NodeFits number rules terminals n
@@ -104,22 +105,22 @@ fits-more number rules terminals more (node.Choice first rest) h fits = fits
 fits-more number rules terminals more (node.Star part) h fits = fits
 fits-more number rules terminals more (node.Not part) h fits = fits
 
-pub AllFit-more : (rules terminals more : ℕ) (parts : List Part) → terminals ≤ more → AllFit rules terminals parts
+pub AllFit-more : (rules terminals more : ℕ) (parts : List NodeAndOrigin) → terminals ≤ more → AllFit rules terminals parts
     → AllFit rules more parts
 AllFit-more rules terminals more parts h fit k d within =
     fits-more k rules terminals more (get_or parts k d).node h (fit k d within)
 
 -- one more node that fits
-pub AllFit-push : (rules terminals : ℕ) (parts : List Part) (part : Part) → AllFit rules terminals parts
+pub AllFit-push : (rules terminals : ℕ) (parts : List NodeAndOrigin) (part : NodeAndOrigin) → AllFit rules terminals parts
     → NodeFits (length parts) rules terminals part.node → AllFit rules terminals (parts ++ part ∷ [])
 AllFit-push rules terminals parts part fit here k d within =
     by (cases_lt k (length parts))
   where
     by : (k < length parts) ⊎ (length parts ≤ k) → NodeFits k rules terminals (get_or (parts ++ part ∷ []) k d).node
-    by (inl before) = subst (λ (p : Part). NodeFits k rules terminals p.node) (sym (get_or_append_left parts (part ∷ []) d k before)) (fit k d before)
+    by (inl before) = subst (λ (p : NodeAndOrigin). NodeFits k rules terminals p.node) (sym (get_or_append_left parts (part ∷ []) d k before)) (fit k d before)
     by (inr past) =
         let last : length parts ≡ k = omega (arith, length-append parts (part ∷ [])) in
-        subst (λ (p : Part). NodeFits k rules terminals p.node) (sym (get_or_at parts part [] d k last))
+        subst (λ (p : NodeAndOrigin). NodeFits k rules terminals p.node) (sym (get_or_at parts part [] d k last))
         (subst (λ n. NodeFits n rules terminals part.node) last here)
 
 -- a star's form is that of its node

@@ -1,15 +1,16 @@
-pub mod AddLemmas
+mod AddLemmas
+pub mod CoreRefutations
 pub mod CoreRounds
-pub mod FlatLemmas
-pub mod LaidLemmas
-pub mod Meanings
+mod FlatLemmas
+mod LaidLemmas
+mod Meanings
 pub mod PartsLemmas
-pub mod Reaches
-pub mod RuleLemmas
-pub mod Sets
+mod ReachedInSome
+mod RuleLemmas
+mod Sets
 pub mod StandingLemmas
 pub mod SugarLoops
 pub mod SugarMeets
 pub mod SugarOutcomes
-pub mod SugarRecords
-pub mod SugarWellFormed
+mod SugarRecords
+mod SugarWellFormed

@@ -1,8 +1,8 @@
 -- A name means a rule whose body's core form stands at the rule's number among the bodies.
 use Rattle.std.proofs.Common.{◌≡◌, ℕ, suc, ◌+◌, Bool, true, false, if◌then◌else◌, List, [], ◌∷◌, length, None, Some, option_map, unwrap_or, slice_get, bytes_eq, refl, sym, ap, ◌∙◌, zero-add, arith}
 use Rattle.std.proofs.lemmas.Option.{slice_get_past}
-use Rattle.peg_grammar.specs.Form.{terminals}
-use Rattle.peg_grammar.specs.Rules.{Rule, Meaning, meant_from, meant}
+use Rattle.peg_ford.specs.Form.{terminals}
+use Rattle.peg_ford.specs.Rules.{Rule, Meaning, meant_from, meant}
 use Rattle.peg_core.specs.CoreForm.{core_form, core_bodies_from, core_bodies, number_of}
 
 -- the meaning is of the rule with this number behind the first, whose body's core form stands there

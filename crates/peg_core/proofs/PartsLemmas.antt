@@ -5,13 +5,13 @@ use Rattle.std.proofs.lemmas.List.{map-append}
 use Rattle.std.proofs.lemmas.List.Elements.{All-nil, All-cons, All-head, All-tail, All-append, All-contains, All-weaker, All-push, All-map, Contains-append_left, Contains-append_right, Contains-push, filter-append}
 use Rattle.peg_bytes.specs.ByteSet.{only}
 use Rattle.peg_bytes.specs.Extent.{Extent}
-use Rattle.peg_grammar.specs.Form.{Form, Forms, Literal, Class, Any, Name, Optional, Plus, And, End, Then, terminals}
-use Rattle.peg_grammar.specs.Form as written
-use Rattle.peg_grammar.specs.Rules as grammar
-use Rattle.peg_grammar.specs.WellFormed.{IsWellFormedIn, IsWellFormed, IsWellFormedGrammar, below, below_all, subexpressions}
+use Rattle.peg_ford.specs.Form.{Form, Forms, Literal, Class, Any, Name, Optional, Plus, And, End, Then, terminals}
+use Rattle.peg_ford.specs.Form as written
+use Rattle.peg_ford.specs.Rules as grammar
+use Rattle.peg_ford.specs.WellFormed.{IsWellFormedIn, IsWellFormed, IsWellFormedGrammar, below, below_all, subexpressions}
 use Rattle.peg_core.specs.CoreForm.{CoreForm, Empty, Test, Seq, Choice, Star, Not, in_order, all_in_order, one_of, tests_of, core_form, core_forms, core_bodies}
 use Rattle.peg_core.specs.CoreOutcomes.{IsCoreWellFormedIn, IsCoreWellFormed}
-use Rattle.peg_core.specs.CoreParts.{sequences_from, sequences_of, choices_of, optional_parts, plus_parts, and_parts, core_parts, core_parts_of_all, core_parts_from, all_core_parts}
+use Rattle.peg_core.specs.CoreParts.{sequences_from, sequences_of, choices_of, optional_forms, plus_forms, and_forms, core_parts, core_parts_of_all, core_parts_from, all_core_parts}
 use Rattle.peg_core.specs.Subexpressions.{Numbered, numbered_as, numbered_below, numbered_below_all, numbered_in, numbered_from, numbered_subexpressions, core_stars, core_stars_of_all, core_stars_from, all_core_stars, is_star}
 use Rattle.peg_core.proofs.CoreRounds.{IsCoreWellFormedIn-later}
 use Rattle.peg_core.proofs.SugarWellFormed.{IsWellFormed-to_core, IsWellFormed-from_core}
@@ -96,9 +96,9 @@ module _ (rules : List grammar.Rule) where
     stand (Optional part span) t =
         let parts = core_parts rules t part in
         let form = core_form rules t part in
-        All-cons (Stands (parts ++ optional_parts form)) (numbered_as t (Optional part span)) (numbered_in t part)
-        (Contains-append_right parts (optional_parts form) (Choice form Empty) (Contains-push (Empty ∷ []) (Choice form Empty)))
-        (more-left parts (optional_parts form) (numbered_in t part) (stand part t))
+        All-cons (Stands (parts ++ optional_forms form)) (numbered_as t (Optional part span)) (numbered_in t part)
+        (Contains-append_right parts (optional_forms form) (Choice form Empty) (Contains-push (Empty ∷ []) (Choice form Empty)))
+        (more-left parts (optional_forms form) (numbered_in t part) (stand part t))
     stand (written.Star part span) t =
         let parts = core_parts rules t part in
         let form = core_form rules t part in
@@ -107,15 +107,15 @@ module _ (rules : List grammar.Rule) where
     stand (Plus part span) t =
         let parts = core_parts rules t part in
         let form = core_form rules t part in
-        All-cons (Stands (parts ++ plus_parts form span)) (numbered_as t (Plus part span)) (numbered_in t part)
-        (Contains-append_right parts (plus_parts form span) (Seq form (Star form span)) (Contains-push (Star form span ∷ []) (Seq form (Star form span))))
-        (more-left parts (plus_parts form span) (numbered_in t part) (stand part t))
+        All-cons (Stands (parts ++ plus_forms form span)) (numbered_as t (Plus part span)) (numbered_in t part)
+        (Contains-append_right parts (plus_forms form span) (Seq form (Star form span)) (Contains-push (Star form span ∷ []) (Seq form (Star form span))))
+        (more-left parts (plus_forms form span) (numbered_in t part) (stand part t))
     stand (And part span) t =
         let parts = core_parts rules t part in
         let form = core_form rules t part in
-        All-cons (Stands (parts ++ and_parts form)) (numbered_as t (And part span)) (numbered_in t part)
-        (Contains-append_right parts (and_parts form) (Not (Not form)) (Contains-push (Not form ∷ []) (Not (Not form))))
-        (more-left parts (and_parts form) (numbered_in t part) (stand part t))
+        All-cons (Stands (parts ++ and_forms form)) (numbered_as t (And part span)) (numbered_in t part)
+        (Contains-append_right parts (and_forms form) (Not (Not form)) (Contains-push (Not form ∷ []) (Not (Not form))))
+        (more-left parts (and_forms form) (numbered_in t part) (stand part t))
     stand (written.Not part span) t =
         let parts = core_parts rules t part in
         let form = core_form rules t part in
@@ -243,13 +243,13 @@ module _ (rules : List grammar.Rule) where
         (stars-both parts more (core_stars rules t first) (core_stars_of_all rules later rest) (stars first t) (stars_of_all rest later))
         (no-choice (core_form rules t first) (core_forms rules later rest))
     stars (Optional part span) t =
-        stars-only (core_parts rules t part) (optional_parts (core_form rules t part)) (core_stars rules t part) (stars part t) refl
+        stars-only (core_parts rules t part) (optional_forms (core_form rules t part)) (core_stars rules t part) (stars part t) refl
     stars (written.Star part span) t =
         stars-both (core_parts rules t part) (Star (core_form rules t part) span ∷ []) (core_stars rules t part) (Star (core_form rules t part) span ∷ []) (stars part t) refl
     stars (Plus part span) t =
-        stars-both (core_parts rules t part) (plus_parts (core_form rules t part) span) (core_stars rules t part) (Star (core_form rules t part) span ∷ []) (stars part t) refl
+        stars-both (core_parts rules t part) (plus_forms (core_form rules t part) span) (core_stars rules t part) (Star (core_form rules t part) span ∷ []) (stars part t) refl
     stars (And part span) t =
-        stars-only (core_parts rules t part) (and_parts (core_form rules t part)) (core_stars rules t part) (stars part t) refl
+        stars-only (core_parts rules t part) (and_forms (core_form rules t part)) (core_stars rules t part) (stars part t) refl
     stars (written.Not part span) t =
         stars-only (core_parts rules t part) (Not (core_form rules t part) ∷ []) (core_stars rules t part) (stars part t) refl
 
@@ -391,7 +391,7 @@ module _ (rules : List grammar.Rule) where
     rights (Optional part span) t all =
         let fine = All-tail Fine (Optional part span) (subexpressions part) all in
         let form = core_form rules t part in
-        All-append Right (core_parts rules t part) (optional_parts form) (rights part t fine)
+        All-append Right (core_parts rules t part) (optional_forms form) (rights part t fine)
         (All-cons Right Empty (Choice form Empty ∷ []) right-Empty
         (All-cons Right (Choice form Empty) [] (fine-right (Optional part span) t (All-head Fine (Optional part span) (subexpressions part) all)) (All-nil Right)))
     rights (written.Star part span) t all =
@@ -404,14 +404,14 @@ module _ (rules : List grammar.Rule) where
         let fine = All-tail Fine plus (subexpressions part) all in
         let here = All-head Fine plus (subexpressions part) all in
         let form = core_form rules t part in
-        All-append Right (core_parts rules t part) (plus_parts form span) (rights part t fine)
+        All-append Right (core_parts rules t part) (plus_forms form span) (rights part t fine)
         (All-cons Right (Star form span) (Seq form (Star form span) ∷ []) (fine-right (written.Star part span) t (plus-star part span here))
         (All-cons Right (Seq form (Star form span)) [] (fine-right plus t here) (All-nil Right)))
     rights (And part span) t all =
         let fine = All-tail Fine (And part span) (subexpressions part) all in
         let form = core_form rules t part in
         let right = fine-right part t (All-head Fine part (below part) fine) in
-        All-append Right (core_parts rules t part) (and_parts form) (rights part t fine)
+        All-append Right (core_parts rules t part) (and_forms form) (rights part t fine)
         (All-cons Right (Not form) (Not (Not form) ∷ []) (right-Not form right)
         (All-cons Right (Not (Not form)) [] (right-Not (Not form) (right-Not form right)) (All-nil Right)))
     rights (written.Not part span) t all =

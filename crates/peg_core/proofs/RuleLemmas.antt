@@ -4,11 +4,11 @@ use Rattle.std.specs.List.{list_all}
 use Rattle.std.proofs.lemmas.List.{map-append}
 use Rattle.std.proofs.lemmas.List.Elements.{All-nil, All-push}
 use Rattle.std.proofs.lemmas.List.Sums.{sum_by-cons}
-use Rattle.peg_grammar.specs.Form.{Form, Reference, terminals, form_weight}
-use Rattle.peg_grammar.specs.Grammar.{IsGrammar}
-use Rattle.peg_grammar.specs.Rules.{Rule, uses, is_defined, weight_of}
-use Rattle.peg_grammar.specs.Terminals.{terminal_extents, extents_of_terminals}
-use Rattle.peg_grammar.proofs.GrammarLemmas.{searches_from_IsGrammar}
+use Rattle.peg_ford.specs.Form.{Form, Reference, terminals, form_weight}
+use Rattle.peg_ford.specs.Grammar.{IsGrammar}
+use Rattle.peg_ford.specs.Rules.{Rule, uses, is_defined, weight_of}
+use Rattle.peg_ford.specs.Terminals.{terminal_extents, extents_of_terminals}
+use Rattle.peg_ford.proofs.GrammarLemmas.{searches_from_IsGrammar}
 use Rattle.peg_core.specs.CoreForm.{core_form, core_bodies_from, core_bodies}
 use Rattle.peg_core.specs.CoreParts.{core_parts, core_parts_from, all_core_parts, are_defined}
 use Rattle.peg_core.specs.Laid.{LaysForm}

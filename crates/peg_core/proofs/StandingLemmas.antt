@@ -1,9 +1,9 @@
 -- Each core form of a grammar stands in the body of a rule.
 use Rattle.std.proofs.Common.{ℕ, suc, ◌+◌, ◌⊎◌, inl, inr, All, List, [], ◌∷◌, ◌++◌, refl}
 use Rattle.std.proofs.lemmas.List.Elements.{All-nil, All-cons, All-append, All-weaker}
-use Rattle.peg_grammar.specs.Form.{Form, Forms, End, Then, terminals}
-use Rattle.peg_grammar.specs.Form as written
-use Rattle.peg_grammar.specs.Rules.{Rule as WrittenRule}
+use Rattle.peg_ford.specs.Form.{Form, Forms, End, Then, terminals}
+use Rattle.peg_ford.specs.Form as written
+use Rattle.peg_ford.specs.Rules.{Rule as WrittenRule}
 use Rattle.peg_core.specs.CoreForm.{CoreForm, Empty, Test, Rule, Seq, Choice, Star, Not, in_order, all_in_order, one_of, tests_of, core_form, core_forms, core_bodies, core_bodies_from}
 use Rattle.peg_core.specs.CoreLoops.{StandsIn, StandsInBody}
 use Rattle.peg_core.specs.CoreParts.{sequences_from, sequences_of, choices_of, core_parts, core_parts_of_all, core_parts_from, all_core_parts}

@@ -4,11 +4,11 @@ use Rattle.std.proofs.Common.{Option, None, Some, slice_get, refl, sym, ap, â—Œâ
 use Rattle.std.proofs.lemmas.List.Elements.{All-contains, All-weaker, All-map, Contains-append_left}
 use Rattle.std.proofs.lemmas.List.Elements.{Contains-append_right, Contains-push}
 use Rattle.peg_bytes.specs.Extent.{Extent}
-use Rattle.peg_grammar.specs.Form.{Form, Forms, Literal, Class, Any, Name, Optional, Plus, And, End, Then, terminals}
-use Rattle.peg_grammar.specs.Form as written_form
-use Rattle.peg_grammar.specs.Loops.{WritesLoop, IsEmptyLoop}
-use Rattle.peg_grammar.specs.Rules as grammar
-use Rattle.peg_grammar.specs.WellFormed.{below, below_all, subexpressions}
+use Rattle.peg_ford.specs.Form.{Form, Forms, Literal, Class, Any, Name, Optional, Plus, And, End, Then, terminals}
+use Rattle.peg_ford.specs.Form as written_form
+use Rattle.peg_ford.specs.Loops.{WritesLoop, IsEmptyLoop}
+use Rattle.peg_ford.specs.Rules as grammar
+use Rattle.peg_ford.specs.WellFormed.{below, below_all, subexpressions}
 use Rattle.peg_core.specs.CoreForm.{CoreForm, Empty, Test, Rule, Seq, Choice, Star, Not, in_order, all_in_order, one_of}
 use Rattle.peg_core.specs.CoreForm.{tests_of}
 use Rattle.peg_core.specs.CoreForm.{core_form, core_forms, core_bodies}

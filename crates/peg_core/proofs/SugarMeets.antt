@@ -2,12 +2,12 @@
 use Rattle.std.proofs.Common.{◌≡◌, ◌⊎◌, inl, inr, ℕ, zero, suc, ◌+◌, ◌<◌, List, [], ◌∷◌, ◌++◌, length}
 use Rattle.std.proofs.Common.{Option, None, Some, option_map, unwrap_or, slice_get, refl, sym, ap, ◌∙◌, subst, arith}
 use Rattle.std.proofs.lemmas.Option.{slice_get_within}
-use Rattle.peg_grammar.specs.AbstractOutcomes.{GivesNothing}
-use Rattle.peg_grammar.specs.Form.{Form, Forms, Literal, Class, Any, Name, Optional, Plus, And, End, Then, terminals}
-use Rattle.peg_grammar.specs.Form as written_form
-use Rattle.peg_grammar.specs.Loops.{Reaches, ItemsReach, SomeReaches, MeetsFirst, MeetInTurn, IsLeftCycle}
-use Rattle.peg_grammar.specs.Rules.{Meaning, meant}
-use Rattle.peg_grammar.specs.Rules as grammar
+use Rattle.peg_ford.specs.AbstractOutcomes.{GivesNothing}
+use Rattle.peg_ford.specs.Form.{Form, Forms, Literal, Class, Any, Name, Optional, Plus, And, End, Then, terminals}
+use Rattle.peg_ford.specs.Form as written_form
+use Rattle.peg_ford.specs.Loops.{Reaches, ItemsReach, SomeReaches, MeetsFirst, MeetInTurn, IsLeftCycle}
+use Rattle.peg_ford.specs.Rules.{Meaning, meant}
+use Rattle.peg_ford.specs.Rules as grammar
 use Rattle.peg_bytes.specs.ByteSet.{only}
 use Rattle.peg_core.specs.CoreForm.{CoreForm, Test, in_order, all_in_order, one_of, tests_of, number_of}
 use Rattle.peg_core.specs.CoreForm.{core_form, core_forms, core_bodies_from, core_bodies}

@@ -2,12 +2,12 @@
 use Rattle.std.proofs.Common.{◌≡◌, ℕ, zero, suc, ◌+◌, Bool, true, false, List, [], ◌∷◌, Option, None, Some, refl, sym, ap, subst, slice_get, zero-add, suc-add, add_comm}
 use Rattle.peg_bytes.specs.ByteSet.{only, all_bytes}
 use Rattle.peg_bytes.specs.Extent.{Extent}
-use Rattle.peg_grammar.specs.AbstractOutcomes.{Can, CanAll, cannot, only_nothing, something_or_fails, can_of_set, both, either, or_nothing, again, once_and_again, ahead, not_ahead, judge_items, judge_first, judge_meaning, can_table, can_in, GivesNothing, GivesSomething, CanFail}
-use Rattle.peg_grammar.specs.Form.{Form, Forms, Literal, Class, Any, Name, Optional, Plus, And, End, Then, terminals}
-use Rattle.peg_grammar.specs.Form as written_form
-use Rattle.peg_grammar.specs.Rules.{Meaning, meant}
-use Rattle.peg_grammar.specs.Rules as grammar
-use Rattle.peg_grammar.proofs.RoundsLemmas.{CanAll-refl, CanAll-trans, CanAll-cannot, CanAll-both, CanAll-either, CanAll-again, CanAll-not_ahead, CanAll-items, CanAll-first, can_in-more}
+use Rattle.peg_ford.specs.AbstractOutcomes.{Can, CanAll, cannot, only_nothing, something_or_fails, can_of_set, both, either, or_nothing, again, once_and_again, ahead, not_ahead, judge_items, judge_first, judge_meaning, can_table, can_in, GivesNothing, GivesSomething, CanFail}
+use Rattle.peg_ford.specs.Form.{Form, Forms, Literal, Class, Any, Name, Optional, Plus, And, End, Then, terminals}
+use Rattle.peg_ford.specs.Form as written_form
+use Rattle.peg_ford.specs.Rules.{Meaning, meant}
+use Rattle.peg_ford.specs.Rules as grammar
+use Rattle.peg_ford.proofs.RoundsLemmas.{CanAll-refl, CanAll-trans, CanAll-cannot, CanAll-both, CanAll-either, CanAll-again, CanAll-not_ahead, CanAll-items, CanAll-first, can_in-more}
 use Rattle.peg_core.specs.CoreForm.{CoreForm, Empty, Test, Rule, Seq, Choice, Star, Not, in_order, all_in_order, one_of, tests_of, number_of, core_form, core_forms, core_bodies}
 use Rattle.peg_core.specs.CoreOutcomes.{judge_body, core_can_table, core_can_in, CoreGivesNothing, CoreGivesSomething, CoreCanFail}
 use Rattle.peg_core.proofs.CoreRounds.{core_can_in-more}

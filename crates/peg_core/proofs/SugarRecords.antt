@@ -6,17 +6,17 @@ use Rattle.std.proofs.lemmas.List.{drop-drop}
 use Rattle.std.proofs.lemmas.List.Elements.{All-drop, All-head}
 use Rattle.peg_bytes.specs.ByteSet.{Bytes, has, only, all_bytes}
 use Rattle.peg_bytes.specs.Extent.{Extent}
-use Rattle.peg_grammar.specs.Form.{Form, Forms, Literal, Class, Any, Name, Optional, Plus, And, End, Then, terminals}
-use Rattle.peg_grammar.specs.Form as written_form
-use Rattle.peg_grammar.specs.Record.{Record, matched_at, failed_at, then_at, or_else, repeated, as_use, literal_at, byte_at, take_items, take_first, table, record_in, IsRecord}
-use Rattle.peg_grammar.specs.Rules.{Meaning, meant}
-use Rattle.peg_grammar.specs.Rules as grammar
-use Rattle.peg_grammar.proofs.RecordLemmas.{Extends-take_items, Extends-take_first, record_in-more}
+use Rattle.peg_ford.specs.Form.{Form, Forms, Literal, Class, Any, Name, Optional, Plus, And, End, Then, terminals}
+use Rattle.peg_ford.specs.Form as written_form
+use Rattle.peg_ford.specs.Record.{Record, matched_at, failed_at, then_at, or_else, repeated, as_use, literal_at, byte_at, take_items, take_first, table, record_in, IsRecord}
+use Rattle.peg_ford.specs.Rules.{Meaning, meant}
+use Rattle.peg_ford.specs.Rules as grammar
+use Rattle.peg_ford.proofs.RecordLemmas.{Extends-take_items, Extends-take_first, record_in-more}
 use Rattle.peg_core.specs.CoreForm.{CoreForm, Empty, Test, Rule, Seq, Choice, Star, Not, in_order, all_in_order, one_of, tests_of, number_of, core_form, core_forms, core_bodies}
 use Rattle.peg_core.specs.CoreRecord.{AreBytes, core_table, core_record_in, IsCoreRecord}
 use Rattle.peg_core.proofs.CoreRounds.{core_record_in-more, one_core_record}
 use Rattle.peg_core.proofs.Meanings.{number_of-meant, body-meant, body-unmeant}
-use Rattle.peg_core.proofs.Reaches.{Grows, Reaches, Reaches-some, Reaches-shift, Reaches-unshift, Reaches-same, Reaches-from, Reaches-none, Reaches-map, Reaches-then_at, Reaches-rounds, Reaches-or_else, then_at-nothing, after_both-nothing, unless, provided, unless-unless}
+use Rattle.peg_core.proofs.ReachedInSome.{Grows, IsReached, IsReached-some, IsReached-shift, IsReached-unshift, IsReached-same, IsReached-from, IsReached-none, IsReached-map, IsReached-then_at, IsReached-rounds, IsReached-or_else, then_at-nothing, after_both-nothing, unless, provided, unless-unless}
 use Rattle.peg_core.proofs.Sets.{has-only, has-all_bytes}
 
 same_test : (a b : ℕ) → (a == b) ≡ (b == a)
@@ -49,60 +49,60 @@ module _ (rules : List grammar.Rule) (text : List ℕ) where
 
   -- ---- what records of parts make of core forms
 
-  core-Empty : (place : ℕ) → Reaches (Some (matched_at place)) (core Empty place)
+  core-Empty : (place : ℕ) → IsReached (Some (matched_at place)) (core Empty place)
   unfolding core_record_in
-  core-Empty place = Reaches-shift (Some (matched_at place)) (core Empty place) (Reaches-some (matched_at place))
+  core-Empty place = IsReached-shift (Some (matched_at place)) (core Empty place) (IsReached-some (matched_at place))
 
-  core-Test : (set : Bytes) (terminal place : ℕ) → Reaches (Some (tested set terminal place)) (core (Test set terminal) place)
+  core-Test : (set : Bytes) (terminal place : ℕ) → IsReached (Some (tested set terminal place)) (core (Test set terminal) place)
   unfolding core_record_in
   core-Test set terminal place =
-      Reaches-shift (Some (tested set terminal place)) (core (Test set terminal) place)
-      (Reaches-some (tested set terminal place))
+      IsReached-shift (Some (tested set terminal place)) (core (Test set terminal) place)
+      (IsReached-some (tested set terminal place))
 
   core-Rule : (rule : ℕ) (body : CoreForm) (o : Option Record) (place : ℕ) → slice_get bodies rule ≡ Some body
-      → Reaches o (core body place) → Reaches (option_map (as_use rule place) o) (core (Rule rule) place)
+      → IsReached o (core body place) → IsReached (option_map (as_use rule place) o) (core (Rule rule) place)
   unfolding core_record_in
   core-Rule rule body o place is h =
-      Reaches-shift (option_map (as_use rule place) o) (core (Rule rule) place)
-      (Reaches-same (option_map (as_use rule place) o)
+      IsReached-shift (option_map (as_use rule place) o) (core (Rule rule) place)
+      (IsReached-same (option_map (as_use rule place) o)
       (λ n. option_map (as_use rule place) (core body place n))
       (λ n. option_and_then (λ (body : CoreForm). option_map (as_use rule place) (core body place n)) (slice_get bodies rule))
       (λ n. sym (ap (option_and_then (λ (body : CoreForm). option_map (as_use rule place) (core body place n))) is))
-      (Reaches-map (as_use rule place) o (core body place) h))
+      (IsReached-map (as_use rule place) o (core body place) h))
 
-  core-Seq : (a b : CoreForm) (o : Option Record) (next : ℕ → Option Record) (place : ℕ) → Reaches o (core a place)
-      → ((end : ℕ) → Reaches (next end) (core b end)) → Reaches (then_at o next) (core (Seq a b) place)
+  core-Seq : (a b : CoreForm) (o : Option Record) (next : ℕ → Option Record) (place : ℕ) → IsReached o (core a place)
+      → ((end : ℕ) → IsReached (next end) (core b end)) → IsReached (then_at o next) (core (Seq a b) place)
   unfolding core_record_in
   core-Seq a b o next place h k =
-      Reaches-shift (then_at o next) (core (Seq a b) place)
-      (Reaches-then_at o next (core a place) (λ n end. core b end n) (core-grows a place) (λ end. core-grows b end) h k)
+      IsReached-shift (then_at o next) (core (Seq a b) place)
+      (IsReached-then_at o next (core a place) (λ n end. core b end n) (core-grows a place) (λ end. core-grows b end) h k)
 
-  core-Choice : (a b : CoreForm) (o other : Option Record) (place : ℕ) → Reaches o (core a place)
-      → Reaches other (core b place) → Reaches (or_else o other) (core (Choice a b) place)
+  core-Choice : (a b : CoreForm) (o other : Option Record) (place : ℕ) → IsReached o (core a place)
+      → IsReached other (core b place) → IsReached (or_else o other) (core (Choice a b) place)
   unfolding core_record_in
   core-Choice a b o other place h k =
-      Reaches-shift (or_else o other) (core (Choice a b) place)
-      (Reaches-or_else o other (core a place) (core b place) (core-grows a place) (core-grows b place) h k)
+      IsReached-shift (or_else o other) (core (Choice a b) place)
+      (IsReached-or_else o other (core a place) (core b place) (core-grows a place) (core-grows b place) h k)
 
   core-Star : (a : CoreForm) (origin : Extent) (o : Option Record) (next : ℕ → Option Record) (place : ℕ)
-      → Reaches o (core a place) → ((end : ℕ) → Reaches (next end) (core (Star a origin) end))
-      → Reaches (rounds o place next) (core (Star a origin) place)
+      → IsReached o (core a place) → ((end : ℕ) → IsReached (next end) (core (Star a origin) end))
+      → IsReached (rounds o place next) (core (Star a origin) place)
   unfolding core_record_in
   core-Star a origin o next place h k =
-      Reaches-shift (rounds o place next) (core (Star a origin) place)
-      (Reaches-rounds o place next (core a place) (λ n end. core (Star a origin) end n) (core-grows a place)
+      IsReached-shift (rounds o place next) (core (Star a origin) place)
+      (IsReached-rounds o place next (core a place) (λ n end. core (Star a origin) end n) (core-grows a place)
       (λ end. core-grows (Star a origin) end) h k)
 
-  core-Not : (a : CoreForm) (o : Option Record) (place : ℕ) → Reaches o (core a place)
-      → Reaches (option_map (unless place) o) (core (Not a) place)
+  core-Not : (a : CoreForm) (o : Option Record) (place : ℕ) → IsReached o (core a place)
+      → IsReached (option_map (unless place) o) (core (Not a) place)
   unfolding core_record_in
   core-Not a o place h =
-      Reaches-shift (option_map (unless place) o) (core (Not a) place) (Reaches-map (unless place) o (core a place) h)
+      IsReached-shift (option_map (unless place) o) (core (Not a) place) (IsReached-map (unless place) o (core a place) h)
 
-  core-And : (a : CoreForm) (o : Option Record) (place : ℕ) → Reaches o (core a place)
-      → Reaches (option_map (provided place) o) (core (Not (Not a)) place)
+  core-And : (a : CoreForm) (o : Option Record) (place : ℕ) → IsReached o (core a place)
+      → IsReached (option_map (provided place) o) (core (Not (Not a)) place)
   core-And a o place h =
-      Reaches-from (option_map (provided place) o) (option_map (unless place) (option_map (unless place) o))
+      IsReached-from (option_map (provided place) o) (option_map (unless place) (option_map (unless place) o))
       (core (Not (Not a)) place) (sym (unless-unless place o))
       (core-Not (Not a) (option_map (unless place) o) place (core-Not a o place h))
 
@@ -137,16 +137,16 @@ module _ (rules : List grammar.Rule) (text : List ℕ) where
           (sym (has-only b c ∙ same_test c b))
 
   to_tests : (b : ℕ) (bs : List ℕ) (terminal place : ℕ)
-      → Reaches (Some (literal_at terminal place (b ∷ bs) (drop place text)))
+      → IsReached (Some (literal_at terminal place (b ∷ bs) (drop place text)))
       (core (in_order (Test (only b) terminal) (tests_of terminal bs)) place)
   to_tests b [] terminal place =
-      Reaches-from (Some (literal_at terminal place (b ∷ []) (drop place text))) (Some (tested (only b) terminal place))
+      IsReached-from (Some (literal_at terminal place (b ∷ []) (drop place text))) (Some (tested (only b) terminal place))
       (core (Test (only b) terminal) place)
       (literal-step terminal place b [] ∙ then_at-nothing (Some (tested (only b) terminal place)))
       (core-Test (only b) terminal place)
   to_tests b (c ∷ bs) terminal place =
       let next : ℕ → Option Record = λ end. Some (literal_at terminal end (c ∷ bs) (drop end text)) in
-      Reaches-from (Some (literal_at terminal place (b ∷ c ∷ bs) (drop place text)))
+      IsReached-from (Some (literal_at terminal place (b ∷ c ∷ bs) (drop place text)))
       (then_at (Some (tested (only b) terminal place)) next)
       (core (in_order (Test (only b) terminal) (tests_of terminal (c ∷ bs))) place)
       (literal-step terminal place b (c ∷ bs))
@@ -155,7 +155,7 @@ module _ (rules : List grammar.Rule) (text : List ℕ) where
       (λ end. to_tests c bs terminal end))
 
   to_literal : (bs : List ℕ) (terminal place : ℕ)
-      → Reaches (Some (literal_at terminal place bs (drop place text))) (core (all_in_order (tests_of terminal bs)) place)
+      → IsReached (Some (literal_at terminal place bs (drop place text))) (core (all_in_order (tests_of terminal bs)) place)
   to_literal [] terminal place = core-Empty place
   to_literal (b ∷ bs) terminal place = to_tests b bs terminal place
 
@@ -164,15 +164,15 @@ module _ (rules : List grammar.Rule) (text : List ℕ) where
   -- what is known of the records in n
   abbrev ToCore : ℕ → Type 0
   ToCore n = (e : Form) (terminal place : ℕ)
-      → Reaches (record_in rules text n e terminal place) (core (core_form rules terminal e) place)
+      → IsReached (record_in rules text n e terminal place) (core (core_form rules terminal e) place)
 
   module _ (n : ℕ) (h : ToCore n) where
     to_items : (items : Forms) (terminal place : ℕ)
-        → Reaches (take_items (record_in rules text n) items terminal place)
+        → IsReached (take_items (record_in rules text n) items terminal place)
         (core (all_in_order (core_forms rules terminal items)) place)
     to_items End terminal place = core-Empty place
     to_items (Then e End) terminal place =
-        Reaches-from (take_items (record_in rules text n) (Then e End) terminal place)
+        IsReached-from (take_items (record_in rules text n) (Then e End) terminal place)
         (record_in rules text n e terminal place) (core (core_form rules terminal e) place)
         (then_at-nothing (record_in rules text n e terminal place)) (h e terminal place)
     to_items (Then e (Then f rest)) terminal place =
@@ -182,7 +182,7 @@ module _ (rules : List grammar.Rule) (text : List ℕ) where
         (h e terminal place) (λ end. to_items (Then f rest) (terminal + terminals e) end)
 
     to_first : (e : Form) (rest : Forms) (terminal place : ℕ)
-        → Reaches (take_first (record_in rules text n) e rest terminal place)
+        → IsReached (take_first (record_in rules text n) e rest terminal place)
         (core (one_of (core_form rules terminal e) (core_forms rules (terminal + terminals e) rest)) place)
     to_first e End terminal place = h e terminal place
     to_first e (Then next rest) terminal place =
@@ -193,13 +193,13 @@ module _ (rules : List grammar.Rule) (text : List ℕ) where
         (h e terminal place) (to_first next rest (terminal + terminals e) place)
 
     to_meaning : (name : List ℕ) (place : ℕ) (meaning : Option Meaning) → meant rules name ≡ meaning
-        → Reaches
+        → IsReached
         (option_and_then (λ (m : Meaning). option_map (as_use m.rule place) (record_in rules text n m.body m.terminal place)) meaning)
         (core (Rule (number_of rules name)) place)
-    to_meaning name place None is = Reaches-none (core (Rule (number_of rules name)) place)
+    to_meaning name place None is = IsReached-none (core (Rule (number_of rules name)) place)
     to_meaning name place (Some m) is =
         let tried = record_in rules text n m.body m.terminal place in
-        Reaches-from (option_map (as_use m.rule place) tried) (option_map (as_use (number_of rules name) place) tried)
+        IsReached-from (option_map (as_use m.rule place) tried) (option_map (as_use (number_of rules name) place) tried)
         (core (Rule (number_of rules name)) place)
         (ap (λ rule. option_map (as_use rule place) tried) (sym (number_of-meant rules name m is)))
         (core-Rule (number_of rules name) (core_form rules m.terminal m.body) tried place (body-meant rules name m is)
@@ -220,11 +220,11 @@ module _ (rules : List grammar.Rule) (text : List ℕ) where
           ap (λ passes. if passes then matched_at (place + 1) else failed_at terminal place) (sym (has-all_bytes c within))
 
   to_core-table : AreBytes text → (n : ℕ) → ToCore n → (e : Form) (terminal place : ℕ)
-      → Reaches (table rules text (record_in rules text n) e terminal place) (core (core_form rules terminal e) place)
+      → IsReached (table rules text (record_in rules text n) e terminal place) (core (core_form rules terminal e) place)
   to_core-table bytes n h (Literal bs span) terminal place = to_literal bs terminal place
   to_core-table bytes n h (Class set span) terminal place = core-Test set terminal place
   to_core-table bytes n h (Any span) terminal place =
-      Reaches-from (Some (byte_at (λ byte. true) terminal place (drop place text)))
+      IsReached-from (Some (byte_at (λ byte. true) terminal place (drop place text)))
       (Some (tested all_bytes terminal place)) (core (Test all_bytes terminal) place)
       (ap Some (any_byte bytes terminal place)) (core-Test all_bytes terminal place)
   to_core-table bytes n h (Name name span) terminal place = to_meaning n h name place (meant rules name) refl
@@ -249,14 +249,14 @@ module _ (rules : List grammar.Rule) (text : List ℕ) where
 
   to_core : AreBytes text → (n : ℕ) → ToCore n
   unfolding record_in
-  to_core bytes zero = λ e terminal place. Reaches-none (core (core_form rules terminal e) place)
+  to_core bytes zero = λ e terminal place. IsReached-none (core (core_form rules terminal e) place)
   to_core bytes (suc n) = λ e terminal place. to_core-table bytes n (to_core bytes n) e terminal place
 
   -- ---- from a core form to the written expression
 
   abbrev FromCore : ℕ → Type 0
   FromCore n = (e : Form) (terminal place : ℕ)
-      → Reaches (core (core_form rules terminal e) place n) (written e terminal place)
+      → IsReached (core (core_form rules terminal e) place n) (written e terminal place)
 
   -- the table over the records in n
   abbrev tabled : ℕ → CoreForm → (place : ℕ) → Option Record
@@ -280,67 +280,67 @@ module _ (rules : List grammar.Rule) (text : List ℕ) where
       e rest terminal place
 
   -- the empty form as a part
-  from_empty : (n place : ℕ) → Reaches (core Empty place n) (λ m. Some (matched_at place))
+  from_empty : (n place : ℕ) → IsReached (core Empty place n) (λ m. Some (matched_at place))
   unfolding core_record_in
-  from_empty zero place = Reaches-none (λ m. Some (matched_at place))
-  from_empty (suc n) place = Reaches-some (matched_at place)
+  from_empty zero place = IsReached-none (λ m. Some (matched_at place))
+  from_empty (suc n) place = IsReached-some (matched_at place)
 
   module _ (n : ℕ) (h : FromCore n) where
     -- the rest of a sequence, and of a choice
     from_rest : (items : Forms) (span : Extent) (terminal place : ℕ)
-        → Reaches (core (all_in_order (core_forms rules terminal items)) place n) (items_in items terminal place)
+        → IsReached (core (all_in_order (core_forms rules terminal items)) place n) (items_in items terminal place)
     unfolding record_in
     from_rest items span terminal place =
-        Reaches-unshift (core (all_in_order (core_forms rules terminal items)) place n)
+        IsReached-unshift (core (all_in_order (core_forms rules terminal items)) place n)
         (written (written_form.Seq items span) terminal place) refl (h (written_form.Seq items span) terminal place)
 
     from_others : (e : Form) (rest : Forms) (span : Extent) (terminal place : ℕ)
-        → Reaches (core (one_of (core_form rules terminal e) (core_forms rules (terminal + terminals e) rest)) place n)
+        → IsReached (core (one_of (core_form rules terminal e) (core_forms rules (terminal + terminals e) rest)) place n)
         (first_in e rest terminal place)
     unfolding record_in
     from_others e rest span terminal place =
-        Reaches-unshift
+        IsReached-unshift
         (core (one_of (core_form rules terminal e) (core_forms rules (terminal + terminals e) rest)) place n)
         (written (written_form.Choice e rest span) terminal place) refl
         (h (written_form.Choice e rest span) terminal place)
 
     -- two and more alternatives
     from_first : (e next : Form) (rest : Forms) (span : Extent) (terminal place : ℕ)
-        → Reaches (tabled n (core_form rules terminal (written_form.Choice e (Then next rest) span)) place)
+        → IsReached (tabled n (core_form rules terminal (written_form.Choice e (Then next rest) span)) place)
         (first_in e (Then next rest) terminal place)
     from_first e next rest span terminal place =
         let later = terminal + terminals e in
         let tried = core (core_form rules terminal e) place n in
         let other = core (one_of (core_form rules later next) (core_forms rules (later + terminals next) rest)) place n in
-        Reaches-or_else tried other (written e terminal place) (first_in next rest later place)
+        IsReached-or_else tried other (written e terminal place) (first_in next rest later place)
         (written-grows e terminal place) (first-grows next rest later place) (h e terminal place)
         (from_others next rest span later place)
 
     from_meaning : (name : List ℕ) (span : Extent) (terminal place : ℕ) (meaning : Option Meaning)
         → meant rules name ≡ meaning
-        → Reaches (tabled n (Rule (number_of rules name)) place) (written (Name name span) terminal place)
+        → IsReached (tabled n (Rule (number_of rules name)) place) (written (Name name span) terminal place)
     unfolding record_in
     from_meaning name span terminal place None is =
         let rule = number_of rules name in
-        Reaches-from (tabled n (Rule rule) place) None (written (Name name span) terminal place)
+        IsReached-from (tabled n (Rule rule) place) None (written (Name name span) terminal place)
         (ap (option_and_then (λ (body : CoreForm). option_map (as_use rule place) (core body place n))) (body-unmeant rules name is))
-        (Reaches-none (written (Name name span) terminal place))
+        (IsReached-none (written (Name name span) terminal place))
     from_meaning name span terminal place (Some m) is =
         let rule = number_of rules name in
         let tried = core (core_form rules m.terminal m.body) place n in
-        Reaches-from (tabled n (Rule rule) place) (option_map (as_use rule place) tried) (written (Name name span) terminal place)
+        IsReached-from (tabled n (Rule rule) place) (option_map (as_use rule place) tried) (written (Name name span) terminal place)
         (ap (option_and_then (λ (body : CoreForm). option_map (as_use rule place) (core body place n))) (body-meant rules name m is))
-        (Reaches-shift (option_map (as_use rule place) tried) (written (Name name span) terminal place)
-        (Reaches-same (option_map (as_use rule place) tried)
+        (IsReached-shift (option_map (as_use rule place) tried) (written (Name name span) terminal place)
+        (IsReached-same (option_map (as_use rule place) tried)
         (λ k. option_map (as_use rule place) (written m.body m.terminal place k))
         (λ k. written (Name name span) terminal place (suc k))
         (λ k. ap (λ r. option_map (as_use r place) (written m.body m.terminal place k)) (number_of-meant rules name m is)
         ∙ sym (ap (option_and_then (λ (m : Meaning). option_map (as_use m.rule place) (written m.body m.terminal place k))) is))
-        (Reaches-map (as_use rule place) tried (written m.body m.terminal place) (h m.body m.terminal place))))
+        (IsReached-map (as_use rule place) tried (written m.body m.terminal place) (h m.body m.terminal place))))
 
     -- a literal's record is the only one
     from_literal : (bs : List ℕ) (span : Extent) (terminal place : ℕ)
-        → Reaches (tabled n (all_in_order (tests_of terminal bs)) place) (written (Literal bs span) terminal place)
+        → IsReached (tabled n (all_in_order (tests_of terminal bs)) place) (written (Literal bs span) terminal place)
     unfolding record_in core_record_in
     from_literal bs span terminal place r e =
         let r' : Record = literal_at terminal place bs (drop place text) in
@@ -353,81 +353,81 @@ module _ (rules : List grammar.Rule) (text : List ℕ) where
       unfolding record_in
 
       from_core-table : AreBytes text → (e : Form) (terminal place : ℕ)
-          → Reaches (tabled n (core_form rules terminal e) place) (written e terminal place)
+          → IsReached (tabled n (core_form rules terminal e) place) (written e terminal place)
       from_core-table bytes (Literal bs span) terminal place = from_literal bs span terminal place
       from_core-table bytes (Class set span) terminal place =
-          Reaches-shift (Some (tested set terminal place)) (written (Class set span) terminal place)
-          (Reaches-some (tested set terminal place))
+          IsReached-shift (Some (tested set terminal place)) (written (Class set span) terminal place)
+          (IsReached-some (tested set terminal place))
       from_core-table bytes (Any span) terminal place =
-          Reaches-shift (Some (tested all_bytes terminal place)) (written (Any span) terminal place)
-          (Reaches-same (Some (tested all_bytes terminal place)) (λ k. Some (tested all_bytes terminal place))
+          IsReached-shift (Some (tested all_bytes terminal place)) (written (Any span) terminal place)
+          (IsReached-same (Some (tested all_bytes terminal place)) (λ k. Some (tested all_bytes terminal place))
           (λ k. written (Any span) terminal place (suc k)) (λ k. ap Some (sym (any_byte bytes terminal place)))
-          (Reaches-some (tested all_bytes terminal place)))
+          (IsReached-some (tested all_bytes terminal place)))
       from_core-table bytes (Name name span) terminal place = from_meaning name span terminal place (meant rules name) refl
       from_core-table bytes (written_form.Seq items span) terminal place =
-          Reaches-shift (tabled n (all_in_order (core_forms rules terminal items)) place)
+          IsReached-shift (tabled n (all_in_order (core_forms rules terminal items)) place)
           (written (written_form.Seq items span) terminal place) (from_items bytes items span terminal place)
       from_core-table bytes (written_form.Choice first End span) terminal place =
-          Reaches-shift (tabled n (core_form rules terminal first) place)
+          IsReached-shift (tabled n (core_form rules terminal first) place)
           (written (written_form.Choice first End span) terminal place) (from_core-table bytes first terminal place)
       from_core-table bytes (written_form.Choice first (Then next rest) span) terminal place =
-          Reaches-shift (tabled n (core_form rules terminal (written_form.Choice first (Then next rest) span)) place)
+          IsReached-shift (tabled n (core_form rules terminal (written_form.Choice first (Then next rest) span)) place)
           (written (written_form.Choice first (Then next rest) span) terminal place)
           (from_first first next rest span terminal place)
       from_core-table bytes (Optional part span) terminal place =
           let tried = core (core_form rules terminal part) place n in
-          Reaches-shift (or_else tried (core Empty place n)) (written (Optional part span) terminal place)
-          (Reaches-or_else tried (core Empty place n) (written part terminal place) (λ m. Some (matched_at place))
+          IsReached-shift (or_else tried (core Empty place n)) (written (Optional part span) terminal place)
+          (IsReached-or_else tried (core Empty place n) (written part terminal place) (λ m. Some (matched_at place))
           (written-grows part terminal place) (λ m r e. e) (h part terminal place) (from_empty n place))
       from_core-table bytes (written_form.Star part span) terminal place =
           let star : Form = written_form.Star part span in
           let tried = core (core_form rules terminal part) place n in
           let next : ℕ → Option Record = λ end. core (core_form rules terminal star) end n in
-          Reaches-shift (rounds tried place next) (written star terminal place)
-          (Reaches-rounds tried place next (written part terminal place) (λ m end. written star terminal end m)
+          IsReached-shift (rounds tried place next) (written star terminal place)
+          (IsReached-rounds tried place next (written part terminal place) (λ m end. written star terminal end m)
           (written-grows part terminal place) (λ end. written-grows star terminal end) (h part terminal place)
           (λ end. h star terminal end))
       from_core-table bytes (Plus part span) terminal place =
           let star : Form = written_form.Star part span in
           let tried = core (core_form rules terminal part) place n in
           let next : ℕ → Option Record = λ end. core (core_form rules terminal star) end n in
-          Reaches-shift (then_at tried next) (written (Plus part span) terminal place)
-          (Reaches-then_at tried next (written part terminal place) (λ m end. written star terminal end m)
+          IsReached-shift (then_at tried next) (written (Plus part span) terminal place)
+          (IsReached-then_at tried next (written part terminal place) (λ m end. written star terminal end m)
           (written-grows part terminal place) (λ end. written-grows star terminal end) (h part terminal place)
           (λ end. h star terminal end))
       from_core-table bytes (And part span) terminal place =
           let not : Form = written_form.Not part span in
           let tried = core (core_form rules terminal not) place n in
           let parts = written part terminal place in
-          Reaches-shift (option_map (unless place) tried) (written (And part span) terminal place)
-          (Reaches-same (option_map (unless place) tried)
+          IsReached-shift (option_map (unless place) tried) (written (And part span) terminal place)
+          (IsReached-same (option_map (unless place) tried)
           (λ m. option_map (unless place) (option_map (unless place) (parts m)))
           (λ m. option_map (provided place) (parts m)) (λ m. unless-unless place (parts m))
-          (Reaches-map (unless place) tried (λ m. option_map (unless place) (parts m))
-          (Reaches-unshift tried (written not terminal place) refl (h not terminal place))))
+          (IsReached-map (unless place) tried (λ m. option_map (unless place) (parts m))
+          (IsReached-unshift tried (written not terminal place) refl (h not terminal place))))
       from_core-table bytes (written_form.Not part span) terminal place =
           let tried = core (core_form rules terminal part) place n in
-          Reaches-shift (option_map (unless place) tried) (written (written_form.Not part span) terminal place)
-          (Reaches-map (unless place) tried (written part terminal place) (h part terminal place))
+          IsReached-shift (option_map (unless place) tried) (written (written_form.Not part span) terminal place)
+          (IsReached-map (unless place) tried (written part terminal place) (h part terminal place))
 
       from_items : AreBytes text → (items : Forms) (span : Extent) (terminal place : ℕ)
-          → Reaches (tabled n (all_in_order (core_forms rules terminal items)) place) (items_in items terminal place)
-      from_items bytes End span terminal place = Reaches-some (matched_at place)
+          → IsReached (tabled n (all_in_order (core_forms rules terminal items)) place) (items_in items terminal place)
+      from_items bytes End span terminal place = IsReached-some (matched_at place)
       from_items bytes (Then e End) span terminal place =
-          Reaches-same (tabled n (core_form rules terminal e) place) (written e terminal place)
+          IsReached-same (tabled n (core_form rules terminal e) place) (written e terminal place)
           (items_in (Then e End) terminal place) (λ m. sym (then_at-nothing (written e terminal place m)))
           (from_core-table bytes e terminal place)
       from_items bytes (Then e (Then f rest)) span terminal place =
           let later = terminal + terminals e in
           let tried = core (core_form rules terminal e) place n in
           let next : ℕ → Option Record = λ end. core (all_in_order (core_forms rules later (Then f rest))) end n in
-          Reaches-then_at tried next (written e terminal place) (λ m end. items_in (Then f rest) later end m)
+          IsReached-then_at tried next (written e terminal place) (λ m end. items_in (Then f rest) later end m)
           (written-grows e terminal place) (λ end. items-grow (Then f rest) later end) (h e terminal place)
           (λ end. from_rest (Then f rest) span later end)
 
   from_core : AreBytes text → (n : ℕ) → FromCore n
   unfolding core_record_in
-  from_core bytes zero = λ e terminal place. Reaches-none (written e terminal place)
+  from_core bytes zero = λ e terminal place. IsReached-none (written e terminal place)
   from_core bytes (suc n) = λ e terminal place. from_core-table n (from_core bytes n) bytes e terminal place
 
 -- a written expression's record is its core form's

@@ -2,13 +2,13 @@
 use Rattle.std.proofs.Common.{◌≡◌, ℕ, zero, suc, ◌+◌, Bool, List, [], ◌∷◌, Option, None, Some, refl, sym, subst, slice_get, zero-add, suc-add, add_comm}
 use Rattle.peg_bytes.specs.ByteSet.{only, all_bytes}
 use Rattle.peg_bytes.specs.Extent.{Extent}
-use Rattle.peg_grammar.specs.AbstractOutcomes.{GivesNothing}
-use Rattle.peg_grammar.specs.Form.{Form, Forms, Literal, Class, Any, Name, Optional, Plus, And, End, Then, terminals}
-use Rattle.peg_grammar.specs.Form as written_form
-use Rattle.peg_grammar.specs.Rules.{Meaning, meant}
-use Rattle.peg_grammar.specs.Rules as grammar
-use Rattle.peg_grammar.specs.WellFormed.{ItemsAre, AllAre, MeaningIs, RepeatsWell, WellFormedTable, IsWellFormedIn, IsWellFormed}
-use Rattle.peg_grammar.proofs.RoundsLemmas.{ItemsAre-more, AllAre-more, IsWellFormedIn-more}
+use Rattle.peg_ford.specs.AbstractOutcomes.{GivesNothing}
+use Rattle.peg_ford.specs.Form.{Form, Forms, Literal, Class, Any, Name, Optional, Plus, And, End, Then, terminals}
+use Rattle.peg_ford.specs.Form as written_form
+use Rattle.peg_ford.specs.Rules.{Meaning, meant}
+use Rattle.peg_ford.specs.Rules as grammar
+use Rattle.peg_ford.specs.WellFormed.{ItemsAre, AllAre, MeaningIs, RepeatsWell, WellFormedTable, IsWellFormedIn, IsWellFormed}
+use Rattle.peg_ford.proofs.RoundsLemmas.{ItemsAre-more, AllAre-more, IsWellFormedIn-more}
 use Rattle.peg_core.specs.CoreForm.{CoreForm, Empty, Test, Rule, Seq, Choice, Star, Not, in_order, all_in_order, one_of, tests_of, number_of, core_form, core_forms, core_bodies}
 use Rattle.peg_core.specs.CoreOutcomes.{CoreGivesNothing, BodyIs, CoreWellFormedTable, IsCoreWellFormedIn, IsCoreWellFormed}
 use Rattle.peg_core.proofs.CoreRounds.{IsCoreWellFormedIn-more}

@@ -1,4 +1,5 @@
--- Core forms as data: each is told apart by its items in preorder.
+-- Describes code: core forms as data, as the views of types in code ask for it; each is told apart by its items in
+-- preorder.
 use Rattle.std.specs.Prelude.{◌≡◌, ℕ, zero, suc, List, [], ◌∷◌, ◌++◌}
 use Rattle.std.proofs.Common.{refl, ap, ◌∙◌, append_assoc, append-nil, sym}
 use Rattle.std.specs.Coded.{Coded, code_by, coded×, coded_ℕ, coded_bool, coded_list}
@@ -8,14 +9,14 @@ use Rattle.peg_core.specs.CoreForm.{CoreForm, Empty, Test, Rule, Seq, Choice, St
 use Rattle.peg_core.specs.Layout.{Layout, Desugared}
 
 -- which form it is, by a number, with its set and its two numbers, where it has them
-abbrev pub Item : Type 0
-Item = ℕ × (Bytes × (ℕ × ℕ))
+abbrev pub FormItem : Type 0
+FormItem = ℕ × (Bytes × (ℕ × ℕ))
 
-abbrev item_code : Coded Item
+abbrev item_code : Coded FormItem
 item_code = coded× coded_ℕ (coded× (coded_list coded_bool) (coded× coded_ℕ coded_ℕ))
 
 -- a form before its parts
-abbrev pub items_of : CoreForm → List Item
+abbrev pub items_of : CoreForm → List FormItem
 items_of Empty = (0, ([], (0, 0))) ∷ []
 items_of (Test set terminal) = (1, (set, (terminal, 0))) ∷ []
 items_of (Rule rule) = (2, ([], (rule, 0))) ∷ []
@@ -45,11 +46,11 @@ with_item (suc (suc (suc (suc (suc zero))))) set numbers forms =
 with_item (suc (suc (suc (suc (suc (suc kind)))))) set numbers forms = with_one forms Not
 
 -- the forms that items spell, found from the last item to the first
-abbrev pub forms_from : List Item → List CoreForm
+abbrev pub forms_from : List FormItem → List CoreForm
 forms_from [] = []
 forms_from (item ∷ items) = with_item item.0 item.1.0 item.1.1 (forms_from items)
 
-pub forms_from-items_of : (form : CoreForm) (items : List Item)
+pub forms_from-items_of : (form : CoreForm) (items : List FormItem)
     → forms_from (items_of form ++ items) ≡ form ∷ forms_from items
 forms_from-items_of Empty items = refl
 forms_from-items_of (Test set terminal) items = refl
@@ -79,7 +80,8 @@ first_of-items_of form =
     ∙ ap first_of (forms_from-items_of form [])
 
 abbrev pub form_code : Coded CoreForm
-form_code = code_by (List Item) (coded_list item_code) items_of (λ items. first_of (forms_from items)) first_of-items_of
+form_code =
+    code_by (List FormItem) (coded_list item_code) items_of (λ items. first_of (forms_from items)) first_of-items_of
 
 abbrev pub extent_code : Coded Extent
 extent_code =
@@ -87,7 +89,8 @@ extent_code =
 
 abbrev pub layout_code : Coded Layout
 layout_code =
-    code_by (ℕ × (List CoreForm × List Extent)) (coded× coded_ℕ (coded× (coded_list form_code) (coded_list extent_code)))
+    code_by (ℕ × (List CoreForm × List Extent))
+    (coded× coded_ℕ (coded× (coded_list form_code) (coded_list extent_code)))
     (λ l. (l.rules, (l.forms, l.spans))) (λ p. record { rules = p.0; forms = p.1.0; spans = p.1.1 }) (λ _. refl)
 
 abbrev pub desugared_code : Coded Desugared

@@ -2,10 +2,10 @@
 use Rattle.std.specs.Prelude.{ℕ, ◌+◌, List, [], ◌∷◌, map, length, option_map, unwrap_or}
 use Rattle.peg_bytes.specs.ByteSet.{Bytes, only, all_bytes}
 use Rattle.peg_bytes.specs.Extent.{Extent}
-use Rattle.peg_grammar.specs.Form.{Form, Forms, End, Then, terminals}
-use Rattle.peg_grammar.specs.Form as written
-use Rattle.peg_grammar.specs.Rules.{Meaning, meant}
-use Rattle.peg_grammar.specs.Rules as grammar
+use Rattle.peg_ford.specs.Form.{Form, Forms, End, Then, terminals}
+use Rattle.peg_ford.specs.Form as written
+use Rattle.peg_ford.specs.Rules.{Meaning, meant}
+use Rattle.peg_ford.specs.Rules as grammar
 
 -- the empty expression, a byte of a set, a rule by its number, a sequence, a choice, a star, a not-predicate; a test
 -- keeps its terminal's number, and a star where the star or plus that it came from stands

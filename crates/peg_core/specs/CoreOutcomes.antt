@@ -1,7 +1,7 @@
 -- Ford's abstract outcomes (Ford 2004, section 3.5) and well-formed expressions (section 3.6), by his own rules on core
 -- forms.
 use Rattle.std.specs.Prelude.{◌≡◌, ℕ, zero, suc, true, List, slice_get, Option, None, Some}
-use Rattle.peg_grammar.specs.AbstractOutcomes.{Can, cannot, only_nothing, can_of_set, both, either, again, not_ahead}
+use Rattle.peg_ford.specs.AbstractOutcomes.{Can, cannot, only_nothing, can_of_set, both, either, again, not_ahead}
 use Rattle.peg_core.specs.CoreForm.{CoreForm, Empty, Test, Rule, Seq, Choice, Star, Not}
 
 -- a way to judge a part: what a form can do

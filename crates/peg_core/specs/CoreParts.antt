@@ -1,14 +1,16 @@
 -- The core forms that a written expression is made of: those of its parts, and then its own, itself last. The part of a
 -- plus stands there once, and is named twice.
-use Rattle.std.specs.Prelude.{ℕ, ◌+◌, Bool, List, [], ◌∷◌, ◌++◌}
+use Rattle.std.specs.Prelude.{◌≡◌, ℕ, ◌+◌, Bool, List, [], ◌∷◌, ◌++◌}
 use Rattle.std.specs.List.{list_all}
 use Rattle.peg_bytes.specs.ByteSet.{all_bytes}
 use Rattle.peg_bytes.specs.Extent.{Extent}
-use Rattle.peg_grammar.specs.Form.{Form, Forms, End, Then, Reference, terminals}
-use Rattle.peg_grammar.specs.Form as written
-use Rattle.peg_grammar.specs.Rules.{is_defined}
-use Rattle.peg_grammar.specs.Rules as grammar
-use Rattle.peg_core.specs.CoreForm.{CoreForm, Empty, Test, Rule, Seq, Choice, Star, Not, in_order, one_of, tests_of, number_of, core_form, core_forms}
+use Rattle.peg_ford.specs.Form.{Form, Forms, End, Then, Reference, terminals}
+use Rattle.peg_ford.specs.Form as written
+use Rattle.peg_ford.specs.Rules.{is_defined}
+use Rattle.peg_ford.specs.Rules as grammar
+use Rattle.peg_core.specs.CoreForm.{CoreForm, Empty, Test, Rule, Seq, Choice, Star, Not, in_order, one_of, tests_of}
+use Rattle.peg_core.specs.CoreForm.{number_of, core_form, core_forms, core_bodies}
+use Rattle.peg_core.specs.Layout.{Desugared, bodies_of}
 
 -- the sequences that forms in order nest to, the shortest first
 abbrev pub sequences_from : CoreForm → List CoreForm → List CoreForm
@@ -26,16 +28,16 @@ choices_of first [] = []
 choices_of first (next ∷ rest) = choices_of next rest ++ Choice first (one_of next rest) ∷ []
 
 -- a part or nothing
-abbrev pub optional_parts : CoreForm → List CoreForm
-optional_parts part = Empty ∷ Choice part Empty ∷ []
+abbrev pub optional_forms : CoreForm → List CoreForm
+optional_forms part = Empty ∷ Choice part Empty ∷ []
 
 -- a part, and again
-abbrev pub plus_parts : CoreForm → Extent → List CoreForm
-plus_parts part origin = Star part origin ∷ Seq part (Star part origin) ∷ []
+abbrev pub plus_forms : CoreForm → Extent → List CoreForm
+plus_forms part origin = Star part origin ∷ Seq part (Star part origin) ∷ []
 
 -- not the predicate that there is none
-abbrev pub and_parts : CoreForm → List CoreForm
-and_parts part = Not part ∷ Not (Not part) ∷ []
+abbrev pub and_forms : CoreForm → List CoreForm
+and_forms part = Not part ∷ Not (Not part) ∷ []
 
 -- The core forms of an expression whose first terminal has this number.
 abbrev mutual
@@ -52,13 +54,13 @@ abbrev mutual
       ++ core_parts_of_all rules (terminal + terminals first) rest
       ++ choices_of (core_form rules terminal first) (core_forms rules (terminal + terminals first) rest)
   core_parts rules terminal (written.Optional part span) =
-      core_parts rules terminal part ++ optional_parts (core_form rules terminal part)
+      core_parts rules terminal part ++ optional_forms (core_form rules terminal part)
   core_parts rules terminal (written.Star part span) =
       core_parts rules terminal part ++ Star (core_form rules terminal part) span ∷ []
   core_parts rules terminal (written.Plus part span) =
-      core_parts rules terminal part ++ plus_parts (core_form rules terminal part) span
+      core_parts rules terminal part ++ plus_forms (core_form rules terminal part) span
   core_parts rules terminal (written.And part span) =
-      core_parts rules terminal part ++ and_parts (core_form rules terminal part)
+      core_parts rules terminal part ++ and_forms (core_form rules terminal part)
   core_parts rules terminal (written.Not part span) =
       core_parts rules terminal part ++ Not (core_form rules terminal part) ∷ []
 
@@ -76,6 +78,11 @@ core_parts_from rules terminal (rule ∷ more) =
 -- the core forms of all rules
 abbrev pub all_core_parts : List grammar.Rule → List CoreForm
 all_core_parts rules = core_parts_from rules 0 rules
+
+-- the forms are those of a grammar with these rules, and so are the rules' bodies
+pub record AreCoreFormsOf (rules : List grammar.Rule) (core : Desugared) : Type 0 where
+  pub forms : core.forms ≡ all_core_parts rules
+  pub bodies : bodies_of core ≡ core_bodies rules
 
 -- whether all names that are used are defined
 abbrev pub are_defined : List grammar.Rule → List Reference → Bool

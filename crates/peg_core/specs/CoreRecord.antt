@@ -1,7 +1,9 @@
 -- Ford's recognition relation on core forms (Ford 2004, section 3.3), with the same records as on written expressions.
-use Rattle.std.specs.Prelude.{◌≡◌, ℕ, zero, suc, ◌<◌, List, All, drop, slice_get, Option, None, Some, option_map, option_and_then}
+use Rattle.std.specs.Prelude.{◌≡◌, ℕ, zero, suc, ◌<◌, List, All, drop, slice_get}
+use Rattle.std.specs.Prelude.{Option, None, Some, option_map, option_and_then}
 use Rattle.peg_bytes.specs.ByteSet.{has}
-use Rattle.peg_grammar.specs.Record.{Record, matched_at, then_at, or_else, repeated, if_failed, with_result, byte_at, as_use}
+use Rattle.peg_ford.specs.Record.{Record, matched_at, then_at, or_else, repeated, if_failed, with_result}
+use Rattle.peg_ford.specs.Record.{byte_at, as_use}
 use Rattle.peg_core.specs.CoreForm.{CoreForm, Empty, Test, Rule, Seq, Choice, Star, Not}
 
 -- a text as a file has it: each number is a byte
@@ -21,7 +23,8 @@ core_table bodies text take (Rule rule) place =
 core_table bodies text take (Seq first rest) place = then_at (take first place) (λ end. take rest end)
 core_table bodies text take (Choice first rest) place = or_else (take first place) (take rest place)
 core_table bodies text take (Star part origin) place =
-    option_and_then (λ (round : Record). repeated round.result place round (λ end. take (Star part origin) end)) (take part place)
+    option_and_then (λ (round : Record). repeated round.result place round (λ end. take (Star part origin) end))
+    (take part place)
 core_table bodies text take (Not part) place =
     option_map (λ (r : Record). with_result r (if_failed r.result place)) (take part place)
 

@@ -1,6 +1,6 @@
 -- What a grammar's core forms are seen as, and what always holds of them.
 use Rattle.std.specs.Prelude.{◌≡◌, ℕ, ◌<◌, ◌≤◌, All, length, map, slice_index_or}
-use Rattle.peg_grammar.specs.Grammar.{most_parts}
+use Rattle.peg_ford.specs.Grammar.{most_parts}
 use Rattle.peg_core.specs.CoreLoops.{StandsInBody}
 use Rattle.peg_core.specs.Layout.{Desugared, form_at}
 use Rattle.peg_core.specs.declared.cores.Core.TheInside.{Inside}

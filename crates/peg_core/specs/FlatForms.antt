@@ -1,17 +1,33 @@
--- What a flat list of nodes is seen as, and what always holds of it.
-use Rattle.std.specs.Prelude.{◌≤◌, length, map}
+-- Describes code: what a flat list of nodes is seen as, and what always holds of it.
+use Rattle.std.specs.Prelude.{ℕ, ◌<◌, ◌≤◌, List, [], ◌∷◌, ◌++◌, fold, length, map, slice_index_or}
 use Rattle.peg_bytes.specs.Extent.{extent}
-use Rattle.peg_grammar.specs.Grammar.{most_parts}
+use Rattle.peg_ford.specs.Grammar.{most_parts}
 use Rattle.peg_core.specs.Layout.{Layout, most_forms}
-use Rattle.peg_core.specs.Nodes.{forms_of, AllFit}
+use Rattle.peg_core.specs.CoreForm.{CoreForm}
+use Rattle.peg_core.specs.CoreNodes.{NodeFits, shape}
 use Rattle.peg_core.specs.declared.flat.Flat.TheInside.{Inside}
+use Rattle.peg_core.specs.declared.node.NodeAndOrigin.{NodeAndOrigin}
 
--- the forms that the nodes stand for
+-- the forms with one more
+abbrev pub added : List CoreForm → NodeAndOrigin → List CoreForm
+added forms next = forms ++ shape forms (extent next.origin) next.node ∷ []
+
+-- the forms that nodes stand for, each by those before it
+abbrev pub forms_of : List NodeAndOrigin → List CoreForm
+forms_of nodes = fold added [] nodes
+
+-- each node fits at its number
+abbrev pub AllFit : (rules terminals : ℕ) → List NodeAndOrigin → Type 0
+AllFit rules terminals nodes =
+    (number : ℕ) (d : NodeAndOrigin) → number < length nodes
+    → NodeFits number rules terminals (slice_index_or nodes number d).node
+
+-- the forms, and where the terminals stand
 abbrev pub layout_of : Inside → Layout
-layout_of flat = record { rules = flat.rules; forms = forms_of flat.parts.items; spans = map extent flat.spans.items }
+layout_of flat = record { rules = flat.rules; forms = forms_of flat.nodes.items; spans = map extent flat.spans.items }
 
 -- each node fits at its number, and there are few enough of all
 pub record IsFlat (flat : Inside) : Type 0 where
-  pub fit : AllFit flat.rules (length flat.spans.items) flat.parts.items
-  pub few : length flat.parts.items ≤ most_forms
+  pub fit : AllFit flat.rules (length flat.spans.items) flat.nodes.items
+  pub few : length flat.nodes.items ≤ most_forms
   pub few_terminals : length flat.spans.items ≤ most_parts

@@ -1,9 +1,9 @@
--- How a flat list of core forms grows.
+-- Describes code: how a flat list of core forms grows.
 use Rattle.std.specs.Prelude.{◌≡◌, ℕ, ◌<◌, List, ◌++◌, All, length, map}
 use Rattle.peg_bytes.specs.Extent.{Extent}
-use Rattle.peg_grammar.specs.Form.{Form, Forms}
-use Rattle.peg_grammar.specs.Rules.{Rule}
-use Rattle.peg_grammar.specs.Terminals.{terminal_extents, terminal_extents_of_all}
+use Rattle.peg_ford.specs.Form.{Form, Forms}
+use Rattle.peg_ford.specs.Rules.{Rule}
+use Rattle.peg_ford.specs.Terminals.{terminal_extents, terminal_extents_of_all}
 use Rattle.peg_core.specs.CoreForm.{CoreForm, core_form, core_forms}
 use Rattle.peg_core.specs.CoreParts.{core_parts, core_parts_of_all}
 use Rattle.peg_core.specs.Layout.{Layout, form_at}
@@ -36,4 +36,5 @@ LaysForm rules e old number new =
 abbrev pub LaysForms : List Rule → Forms → Layout → List ℕ → Layout → Type 0
 LaysForms rules items old numbers new =
     let terminal = length old.spans in
-    LaysAll old (core_parts_of_all rules terminal items) (terminal_extents_of_all items) (core_forms rules terminal items) numbers new
+    LaysAll old (core_parts_of_all rules terminal items) (terminal_extents_of_all items)
+    (core_forms rules terminal items) numbers new

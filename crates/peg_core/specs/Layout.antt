@@ -1,7 +1,8 @@
 -- Core forms in a list, named by their numbers, as definitions see them.
-use Rattle.std.specs.Prelude.{ℕ, List, slice_index_or}
+use Rattle.std.specs.Prelude.{ℕ, ◌*◌, List, map, slice_index_or}
 use Rattle.peg_bytes.specs.Extent.{Extent}
 use Rattle.peg_core.specs.CoreForm.{CoreForm, Empty}
+use Rattle.peg_ford.specs.Grammar.{most_parts}
 
 -- how many rules there are, the form of each number, and where each terminal stands
 pub record Layout : Type 0 where
@@ -19,6 +20,10 @@ pub record Desugared : Type 0 where
 abbrev pub form_at : List CoreForm → ℕ → CoreForm
 form_at forms number = slice_index_or forms number Empty
 
+-- the rules' bodies as forms
+abbrev pub bodies_of : Desugared → List CoreForm
+bodies_of core = map (form_at core.forms) core.bodies
+
 -- the most forms of a grammar: two for each part of the greatest weight
 abbrev pub most_forms : ℕ
-most_forms = 8388608
+most_forms = 2 * most_parts

@@ -1,9 +1,9 @@
 -- The written subexpressions of rules, each with the number of its first terminal; and the core stars that come of
 -- them.
 use Rattle.std.specs.Prelude.{ℕ, ◌+◌, Bool, true, false, List, [], ◌∷◌, ◌++◌}
-use Rattle.peg_grammar.specs.Form.{Form, Forms, End, Then, terminals}
-use Rattle.peg_grammar.specs.Form as written
-use Rattle.peg_grammar.specs.Rules as grammar
+use Rattle.peg_ford.specs.Form.{Form, Forms, End, Then, terminals}
+use Rattle.peg_ford.specs.Form as written
+use Rattle.peg_ford.specs.Rules as grammar
 use Rattle.peg_core.specs.CoreForm.{CoreForm, Empty, Test, Rule, Seq, Choice, Star, Not, core_form}
 
 -- an expression, and the number of its first terminal

@@ -1,10 +1,10 @@
 //! The core forms of a grammar, as contracts see them: trees.
 ghost use Rattle.std.specs.Prelude.{◌≡◌, ℕ, ◌<◌, ◌≤◌, All, length, map, slice_get, slice_index_or, Some};
 ghost use Rattle.peg_bytes.specs.Extent.{Extent, extent};
-ghost use Rattle.peg_grammar.specs.Grammar.{most_parts};
+ghost use Rattle.peg_ford.specs.Grammar.{most_parts};
 ghost use Rattle.peg_core.specs.CoreLoops.{StandsInBody};
-ghost use Rattle.peg_core.specs.Layout.{form_at, most_forms};
-ghost use Rattle.peg_core.specs.Nodes.{NodeFits, IsStarFrom, Spells};
+ghost use Rattle.peg_core.specs.Layout.{bodies_of, form_at, most_forms};
+ghost use Rattle.peg_core.specs.CoreNodes.{NodeFits, IsStarFrom, Spells};
 
 use crate::Node;
 use crate::flat::Flat;
@@ -46,11 +46,13 @@ impl Core {
         Core { flat, bodies }
     }
 
-    /// How many core forms there are; each stands in the body of a rule. Takes constant time.
+    /// How many core forms there are; each rule's body is one, and each stands in the body of a rule. Takes constant
+    /// time.
     pub fn len(&self) -> u32
         ensures count { result ≡ length self.now.forms }
         ensures most { result ≤ most_forms }
-        ensures owned { All (StandsInBody (map (form_at self.now.forms) self.now.bodies)) self.now.forms }
+        ensures bodies { All (λ body. body < length self.now.forms) self.now.bodies }
+        ensures owned { All (StandsInBody (bodies_of self.now)) self.now.forms }
     {
         self.flat.len()
     }

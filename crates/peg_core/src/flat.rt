@@ -1,11 +1,11 @@
 //! A flat list of core forms: a form's parts have smaller numbers.
 ghost use Rattle.std.specs.Prelude.{◌≡◌, ◌<◌, ◌≤◌, [], ◌∷◌, ◌++◌, length, slice_get, IfOk, OnOk, Some};
 ghost use Rattle.peg_bytes.specs.Extent.{Extent, extent};
-ghost use Rattle.peg_grammar.specs.Grammar.{most_parts};
+ghost use Rattle.peg_ford.specs.Grammar.{most_parts};
 ghost use Rattle.peg_core.specs.Layout.{most_forms};
-ghost use Rattle.peg_core.specs.Nodes.{NodeFits, IsStarFrom, Spells, shape};
+ghost use Rattle.peg_core.specs.CoreNodes.{NodeFits, IsStarFrom, Spells, shape};
 
-use crate::node::{Node, Part};
+use crate::node::{Node, NodeAndOrigin};
 use peg_bytes::Span;
 use std::alloc::{AllocError, Global};
 use std::marker::Model;
@@ -14,7 +14,7 @@ use std::marker::Model;
 #[derive(Debug, Drop)]
 pub(crate) struct Flat {
     rules: u32,
-    parts: Vec<Part>,
+    nodes: Vec<NodeAndOrigin>,
     spans: Vec<Span>,
 }
 
@@ -40,7 +40,7 @@ impl Flat {
     {
         Flat {
             rules,
-            parts: Vec::new(alloc),
+            nodes: Vec::new(alloc),
             spans: Vec::new(alloc),
         }
     }
@@ -64,8 +64,8 @@ impl Flat {
         ensures put { OnOk result (self.new
             ≡ record self.old { forms = self.old.forms ++ shape self.old.forms (extent origin) node ∷ [] }) }
     {
-        let number = self.parts.len() as u32;
-        self.parts.push(Part { node, origin })?;
+        let number = self.nodes.len() as u32;
+        self.nodes.push(NodeAndOrigin { node, origin })?;
         Ok(number)
     }
 
@@ -74,7 +74,7 @@ impl Flat {
         ensures count { result ≡ length self.now.forms }
         ensures most { result ≤ most_forms }
     {
-        self.parts.len() as u32
+        self.nodes.len() as u32
     }
 
     /// How many terminals there are.
@@ -91,7 +91,7 @@ impl Flat {
         ensures form { Spells self.now.forms number result }
         ensures fits { NodeFits number self.now.rules (length self.now.spans) result }
     {
-        self.parts[number as usize].node
+        self.nodes[number as usize].node
     }
 
     /// Where the star or plus stands that a star came from.
@@ -100,7 +100,7 @@ impl Flat {
         requires star { (origin : Extent) × IsStarFrom self.now.forms number origin }
         ensures { IsStarFrom self.now.forms number (extent result) }
     {
-        self.parts[number as usize].origin
+        self.nodes[number as usize].origin
     }
 
     /// Where a terminal stands.

@@ -5,19 +5,19 @@ ghost use Rattle.peg_bytes.specs.Extent.{Extent};
 ghost use Rattle.peg_core.specs.CoreExamples.{nested_core, signs_core, all_core_can_in};
 ghost use Rattle.peg_core.specs.CoreForm.{Rule as use_of};
 ghost use Rattle.peg_core.specs.CoreForm.{CoreForm, core_bodies, core_form};
-ghost use Rattle.peg_core.specs.CoreLoops.{CoreMeetsFirst, IsCoreEmptyLoop, IsCoreLeftCycle};
+ghost use Rattle.peg_core.specs.CoreLoops.{CoreMeetsFirst, IsCoreEmptyLoop, IsCoreLeftCycle, StandsInBody};
 ghost use Rattle.peg_core.specs.CoreOutcomes.{core_can_in, CoreGivesNothing, CoreGivesSomething, CoreCanFail};
 ghost use Rattle.peg_core.specs.CoreOutcomes.{IsCoreWellFormedIn, IsCoreWellFormed};
 ghost use Rattle.peg_core.specs.CoreParts.{all_core_parts};
 ghost use Rattle.peg_core.specs.Subexpressions.{Numbered, numbered_subexpressions, all_core_stars, is_star};
 ghost use Rattle.peg_core.specs.CoreRecord.{AreBytes, core_record_in, IsCoreRecord};
-ghost use Rattle.peg_grammar.specs.AbstractOutcomes.{CanAll, GivesNothing, GivesSomething, CanFail};
-ghost use Rattle.peg_grammar.specs.Examples.{nested, nested_record, signs, signs_can};
-ghost use Rattle.peg_grammar.specs.Form.{Form};
-ghost use Rattle.peg_grammar.specs.Loops.{MeetsFirst, IsEmptyLoop, IsLeftCycle};
-ghost use Rattle.peg_grammar.specs.Record.{Record, IsRecord};
-ghost use Rattle.peg_grammar.specs.Rules.{Rule};
-ghost use Rattle.peg_grammar.specs.WellFormed.{IsWellFormed, IsWellFormedGrammar, subexpressions};
+ghost use Rattle.peg_ford.specs.AbstractOutcomes.{CanAll, GivesNothing, GivesSomething, CanFail};
+ghost use Rattle.peg_ford.specs.Examples.{nested, nested_record, signs, signs_can};
+ghost use Rattle.peg_ford.specs.Form.{Form};
+ghost use Rattle.peg_ford.specs.Loops.{MeetsFirst, IsEmptyLoop, IsLeftCycle};
+ghost use Rattle.peg_ford.specs.Record.{Record, IsRecord};
+ghost use Rattle.peg_ford.specs.Rules.{Rule};
+ghost use Rattle.peg_ford.specs.WellFormed.{IsWellFormed, IsWellFormedGrammar, subexpressions};
 
 /// What has a record in n has the same record in n + 1.
 pub fn a_core_record_stays()
@@ -89,6 +89,16 @@ pub fn core_forms_have_the_same_loops()
         → (IsLeftCycle rules path ↔ IsCoreLeftCycle (core_bodies rules) path) }
     ensures empty_loops { (rules : List Rule) (rule : ℕ) (span : Extent)
         → (IsEmptyLoop rules rule span ↔ IsCoreEmptyLoop (core_bodies rules) rule span) }
+{}
+
+/// Where each form that stands in a rule's body is well-formed, no rule has an empty loop, and there is no left cycle.
+pub fn well_formed_core_forms_have_no_loops()
+    ensures empty_loops { (bodies : List CoreForm)
+        → ((form : CoreForm) → StandsInBody bodies form → IsCoreWellFormed bodies form)
+        → (rule : ℕ) (origin : Extent) → ¬ IsCoreEmptyLoop bodies rule origin }
+    ensures left_cycles { (bodies : List CoreForm)
+        → ((form : CoreForm) → StandsInBody bodies form → IsCoreWellFormed bodies form)
+        → (path : List ℕ) → ¬ IsCoreLeftCycle bodies path }
 {}
 
 /// The definitions on grammars that were worked by hand: core forms, the record of a first rule, and outcomes.

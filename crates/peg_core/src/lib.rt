@@ -8,8 +8,6 @@ mod nest;
 mod node;
 mod signs;
 mod sugar;
-#[cfg(test)]
-mod tests;
 
 pub use cores::Core;
 pub use node::Node;

@@ -5,7 +5,7 @@ ghost use Rattle.peg_core.specs.CoreForm.{all_in_order, one_of, tests_of};
 ghost use Rattle.peg_core.specs.CoreParts.{sequences_of, choices_of};
 ghost use Rattle.peg_core.specs.Laid.{Lays, LaysAll};
 ghost use Rattle.peg_core.specs.Layout.{form_at, most_forms};
-ghost use Rattle.peg_grammar.specs.Grammar.{most_parts};
+ghost use Rattle.peg_ford.specs.Grammar.{most_parts};
 
 use crate::Node;
 use crate::flat::Flat;

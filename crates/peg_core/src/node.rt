@@ -22,7 +22,7 @@ pub enum Node {
 
 /// A node, and where the star or plus that it came from stands; the other nodes came from nowhere in particular.
 #[derive(Clone, Copy, Debug)]
-pub(crate) struct Part {
+pub(crate) struct NodeAndOrigin {
     pub(crate) node: Node,
     pub(crate) origin: Span,
 }

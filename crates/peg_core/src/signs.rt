@@ -3,10 +3,10 @@ ghost use Rattle.std.specs.Prelude.{◌+◌, ◌<◌, ◌≤◌, [], ◌∷◌, 
 ghost use Rattle.peg_bytes.specs.ByteSet.{all_bytes, bytes_of};
 ghost use Rattle.peg_bytes.specs.Extent.{extent};
 ghost use Rattle.peg_core.specs.CoreForm.{Empty, Rule, Seq, Choice, Star, Not, Test};
-ghost use Rattle.peg_core.specs.CoreParts.{optional_parts, plus_parts, and_parts};
+ghost use Rattle.peg_core.specs.CoreParts.{optional_forms, plus_forms, and_forms};
 ghost use Rattle.peg_core.specs.Laid.{Lays};
 ghost use Rattle.peg_core.specs.Layout.{form_at, most_forms};
-ghost use Rattle.peg_grammar.specs.Grammar.{most_parts};
+ghost use Rattle.peg_ford.specs.Grammar.{most_parts};
 
 use crate::Node;
 use crate::flat::Flat;
@@ -22,7 +22,7 @@ fn nowhere() -> Span {
 pub(crate) fn add_optional(part: u32, flat: &mut Flat) -> Result<u32, AllocError>
     requires room { length flat.old.forms + 2 ≤ most_forms }
     requires part { part < length flat.old.forms }
-    ensures { IfOk result (λ number. Lays flat.old (optional_parts (form_at flat.old.forms part)) []
+    ensures { IfOk result (λ number. Lays flat.old (optional_forms (form_at flat.old.forms part)) []
         (Choice (form_at flat.old.forms part) Empty) number flat.new) }
 {
     let empty = flat.push(Node::Empty, nowhere())?;
@@ -43,7 +43,7 @@ pub(crate) fn add_star(part: u32, flat: &mut Flat, origin: Span) -> Result<u32, 
 pub(crate) fn add_plus(part: u32, flat: &mut Flat, origin: Span) -> Result<u32, AllocError>
     requires room { length flat.old.forms + 2 ≤ most_forms }
     requires part { part < length flat.old.forms }
-    ensures { IfOk result (λ number. Lays flat.old (plus_parts (form_at flat.old.forms part) (extent origin)) []
+    ensures { IfOk result (λ number. Lays flat.old (plus_forms (form_at flat.old.forms part) (extent origin)) []
         (Seq (form_at flat.old.forms part) (Star (form_at flat.old.forms part) (extent origin))) number flat.new) }
 {
     let star = flat.push(Node::Star(part), origin)?;
@@ -54,7 +54,7 @@ pub(crate) fn add_plus(part: u32, flat: &mut Flat, origin: Span) -> Result<u32, 
 pub(crate) fn add_and(part: u32, flat: &mut Flat) -> Result<u32, AllocError>
     requires room { length flat.old.forms + 2 ≤ most_forms }
     requires part { part < length flat.old.forms }
-    ensures { IfOk result (λ number. Lays flat.old (and_parts (form_at flat.old.forms part)) []
+    ensures { IfOk result (λ number. Lays flat.old (and_forms (form_at flat.old.forms part)) []
         (Not (Not (form_at flat.old.forms part))) number flat.new) }
 {
     let not = flat.push(Node::Not(part), nowhere())?;

@@ -8,15 +8,15 @@ ghost use Rattle.peg_core.specs.CoreLoops.{CoreMeetsFirst, IsCoreEmptyLoop, IsCo
 ghost use Rattle.peg_core.specs.CoreOutcomes.{IsCoreWellFormed};
 ghost use Rattle.peg_core.specs.CoreParts.{all_core_parts, are_defined};
 ghost use Rattle.peg_core.specs.Laid.{Lays, LaysForm, LaysForms};
-ghost use Rattle.peg_core.specs.Layout.{form_at, most_forms};
+ghost use Rattle.peg_core.specs.Layout.{bodies_of, most_forms};
 ghost use Rattle.peg_core.specs.Subexpressions.{numbered_subexpressions, all_core_stars, is_star};
-ghost use Rattle.peg_grammar.specs.Form.{form_weight, forms, forms_weight, names_used, names_used_by_all};
-ghost use Rattle.peg_grammar.specs.Grammar.{most_parts};
+ghost use Rattle.peg_ford.specs.Form.{form_weight, forms, forms_weight, names_used, names_used_by_all};
+ghost use Rattle.peg_ford.specs.Grammar.{most_parts};
 ghost use Rattle.peg_grammar.specs.GrammarRules.{rules_in};
-ghost use Rattle.peg_grammar.specs.Loops.{MeetsFirst, IsEmptyLoop, IsLeftCycle};
-ghost use Rattle.peg_grammar.specs.Rules.{is_defined, weight_of};
-ghost use Rattle.peg_grammar.specs.Terminals.{extents_of_terminals};
-ghost use Rattle.peg_grammar.specs.WellFormed.{IsWellFormedGrammar};
+ghost use Rattle.peg_ford.specs.Loops.{MeetsFirst, IsEmptyLoop, IsLeftCycle};
+ghost use Rattle.peg_ford.specs.Rules.{is_defined, weight_of};
+ghost use Rattle.peg_ford.specs.Terminals.{extents_of_terminals};
+ghost use Rattle.peg_ford.specs.WellFormed.{IsWellFormedGrammar};
 ghost use Rattle.peg_grammar.specs.Written.{form_of};
 
 use crate::Core;
@@ -34,7 +34,8 @@ use std::alloc::{AllocError, Global};
 /// as expressions nest.
 pub fn desugar(alloc: Global, grammar: &Grammar) -> Result<Core, AllocError>
     ensures forms { IfOk result (λ core. core.forms ≡ all_core_parts (rules_in grammar.now)) }
-    ensures bodies { IfOk result (λ core. map (form_at core.forms) core.bodies ≡ core_bodies (rules_in grammar.now)) }
+    ensures bodies { IfOk result (λ core. bodies_of core ≡ core_bodies (rules_in grammar.now)) }
+    ensures count { IfOk result (λ core. length core.bodies ≡ length (rules_in grammar.now)) }
     ensures spans { IfOk result (λ core. core.spans ≡ extents_of_terminals (rules_in grammar.now)) }
     ensures few { IfOk result (λ core. length core.forms ≤ 2 * weight_of (rules_in grammar.now)) }
 
@@ -47,12 +48,12 @@ pub fn desugar(alloc: Global, grammar: &Grammar) -> Result<Core, AllocError>
         ↔ All (IsCoreWellFormed (core_bodies (rules_in grammar.now))) core.forms) }
     ensures meets { IfOk result (λ core. (first second : ℕ) → second < length core.bodies
         → (MeetsFirst (rules_in grammar.now) first second
-        ↔ CoreMeetsFirst (map (form_at core.forms) core.bodies) first second)) }
+        ↔ CoreMeetsFirst (bodies_of core) first second)) }
     ensures left_cycles { IfOk result (λ core. (path : List ℕ) → (IsLeftCycle (rules_in grammar.now) path
-        ↔ IsCoreLeftCycle (map (form_at core.forms) core.bodies) path)) }
+        ↔ IsCoreLeftCycle (bodies_of core) path)) }
     ensures empty_loops { IfOk result (λ core. (rule : ℕ) (span : Extent)
         → (IsEmptyLoop (rules_in grammar.now) rule span
-        ↔ IsCoreEmptyLoop (map (form_at core.forms) core.bodies) rule span)) }
+        ↔ IsCoreEmptyLoop (bodies_of core) rule span)) }
 {
     let mut flat = Flat::new(alloc, grammar.rules());
     let mut bodies = Vec::new(alloc);

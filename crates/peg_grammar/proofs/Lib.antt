@@ -1,27 +1,6 @@
-pub mod Ascending
-pub mod Derivations
-pub mod EachHasAResult
-pub mod EnoughDepth
-pub mod FineForms
-pub mod FurthestLemmas
-pub mod GrammarLemmas
-pub mod LoopFree
 pub mod LoopLemmas
-pub mod MeaningLemmas
-pub mod NameLists
-pub mod OutcomeLemmas
-pub mod RankedRules
-pub mod RankedTables
-pub mod RecordLemmas
-pub mod ResultSteps
-pub mod RoundsLemmas
-pub mod RulesLemmas
-pub mod SameParts
-pub mod SeenLemmas
-pub mod ShownOutcomes
-pub mod StableRounds
-pub mod States
-pub mod StepLemmas
-pub mod TerminalLemmas
-pub mod TreeRules
+mod NameLists
+mod OutcomeLemmas
+mod SeenLemmas
+mod StepLemmas
 pub mod WrittenForms

@@ -5,14 +5,14 @@ use Rattle.std.proofs.lemmas.List.{length-map}
 use Rattle.std.proofs.lemmas.List.Sums.{fold-append}
 use Rattle.peg_tree.specs.Rows.{rows_of}
 use Rattle.peg_tree.specs.Trees.{Trees, NoTrees, followed_by}
-use Rattle.peg_grammar.specs.Form.{Form, Forms, End, Then, forms, terminals}
-use Rattle.peg_grammar.specs.Furthest.{noted}
-use Rattle.peg_grammar.specs.Record.{Recognition, Record, Test, Use, Taking, matched_at, after_both, behind, followed, then_at, replaced, or_else, take_items, take_first}
-use Rattle.peg_grammar.specs.Record as recognition
-use Rattle.peg_grammar.specs.Seen.{Seen, trees_left, Tells}
+use Rattle.peg_ford.specs.Form.{Form, Forms, End, Then, forms, terminals}
+use Rattle.peg_ford.specs.FurthestPass.{noted}
+use Rattle.peg_ford.specs.Record.{Recognition, Record, Test, Use, Taking, matched_at, after_both, behind, followed, then_at, replaced, or_else, take_items, take_first}
+use Rattle.peg_ford.specs.Record as recognition
+use Rattle.peg_grammar.specs.Seen.{Seen, trees_left, Evaluates}
 use Rattle.peg_grammar.specs.declared.found.Stop.{Stop}
-use Rattle.peg_grammar.specs.declared.found.Stop.TheVariants.{Depth, Memory}
-use Rattle.peg_grammar.specs.declared.found.Verdict.TheVariants.{Matched, Failed}
+use Rattle.peg_grammar.specs.declared.found.Stop.TheVariants.{AtDepth, OutOfMemory}
+use Rattle.peg_grammar.specs.declared.found.Verdict.TheVariants.{EndsAt, Fails}
 use Rattle.peg_grammar.proofs.SeenLemmas.{prefixed, prefixed-prefixed, prefixed-none, result_of_failed, result_of_matched, rows_of-followed_by, seen}
 
 -- the expressions from one on are that one and those after it
@@ -42,7 +42,7 @@ items-start take all terminal place start = record {
 }
 
 module _ (take : Taking) (all : Forms) (terminal place : ℕ) (start : Seen) (e : Form) (rest : Forms) (next at : ℕ) (now then : Seen) (so_far : ItemsSoFar take all terminal place start (Then e rest) next at now) where
-  pub items-matched : (end : ℕ) → Tells (take e next at) now (Ok (Matched end)) then → ItemsSoFar take all terminal place start rest (next + terminals e) end then
+  pub items-matched : (end : ℕ) → Evaluates (take e next at) now (Ok (EndsAt end)) then → ItemsSoFar take all terminal place start rest (next + terminals e) end then
   items-matched end h =
       let m = result_of_matched h.0.result end h.2 in
       record {
@@ -53,7 +53,7 @@ module _ (take : Taking) (all : Forms) (terminal place : ℕ) (start : Seen) (e 
         noted_now = h.3 ∙ ((λ i. seen (fold noted ((so_far.noted_now i).furthest) h.0.tests) ((so_far.noted_now i).rows ++ rows_of (trees_left (m.1 i)))) ∙ (λ i. seen (sym (fold-append noted start.furthest so_far.tests h.0.tests) i) ((append_assoc start.rows (rows_of so_far.trees) (rows_of m.0) ∙ ap (λ l. start.rows ++ l) (sym (rows_of-followed_by so_far.trees m.0))) i)));
       }
 
-  pub items-failed : (cut : Seen) → cut ≡ seen then.furthest start.rows → Tells (take e next at) now (Ok Failed) then → Tells (take_items take all terminal place) start (Ok Failed) cut
+  pub items-failed : (cut : Seen) → cut ≡ seen then.furthest start.rows → Evaluates (take e next at) now (Ok Fails) then → Evaluates (take_items take all terminal place) start (Ok Fails) cut
   items-failed cut is h =
       let f = result_of_failed h.0.result h.2 in (
         record { result = recognition.Failed; tests = so_far.tests ++ h.0.tests; uses = so_far.uses ++ h.0.uses },
@@ -62,12 +62,12 @@ module _ (take : Taking) (all : Forms) (terminal place : ℕ) (start : Seen) (e 
         is ∙ ((λ i. seen ((h.3 i).furthest) (sym (append-nil start.rows) i)) ∙ ((λ i. seen (fold noted ((so_far.noted_now i).furthest) h.0.tests) (start.rows ++ [])) ∙ (λ i. seen (sym (fold-append noted start.furthest so_far.tests h.0.tests) i) (start.rows ++ [])))),
       )
 
-  pub items-stopped : (stop : Stop) → Tells (take e next at) now (Err stop) then → Tells (take_items take all terminal place) start (Err stop) then
-  items-stopped Depth h =
+  pub items-stopped : (stop : Stop) → Evaluates (take e next at) now (Err stop) then → Evaluates (take_items take all terminal place) start (Err stop) then
+  items-stopped AtDepth h =
       so_far.same ∙ ap (λ o. prefixed so_far.tests so_far.uses so_far.trees (then_at o (λ there. take_items take rest (next + terminals e) there))) h
-  items-stopped Memory h = tt
+  items-stopped OutOfMemory h = tt
 
-pub items-end : (take : Taking) (all : Forms) (terminal place : ℕ) (start : Seen) (next at : ℕ) (now : Seen) → ItemsSoFar take all terminal place start End next at now → Tells (take_items take all terminal place) start (Ok (Matched at)) now
+pub items-end : (take : Taking) (all : Forms) (terminal place : ℕ) (start : Seen) (next at : ℕ) (now : Seen) → ItemsSoFar take all terminal place start End next at now → Evaluates (take_items take all terminal place) start (Ok (EndsAt at)) now
 items-end take all terminal place start next at now so_far = (
   record { result = recognition.Matched at (followed_by so_far.trees NoTrees); tests = so_far.tests ++ []; uses = so_far.uses ++ [] },
   so_far.same,
@@ -111,7 +111,7 @@ pub record FailedSoFar (whole : Option Record) (take : Taking) (place : ℕ) (st
   pub noted_now : now ≡ seen (fold noted start.furthest tests) start.rows
 
 module _ (take : Taking) (e : Form) (rest : Forms) (terminal place : ℕ) (start then : Seen) where
-  pub choice-first_failed : Tells (take e terminal place) start (Ok Failed) then → FailedSoFar (take_first take e rest terminal place) take place start rest (terminal + terminals e) then
+  pub choice-first_failed : Evaluates (take e terminal place) start (Ok Fails) then → FailedSoFar (take_first take e rest terminal place) take place start rest (terminal + terminals e) then
   choice-first_failed h =
       let f = result_of_failed h.0.result h.2 in
       record {
@@ -121,18 +121,18 @@ module _ (take : Taking) (e : Form) (rest : Forms) (terminal place : ℕ) (start
         noted_now = h.3 ∙ (λ i. seen (fold noted start.furthest h.0.tests) ((ap (λ x. start.rows ++ rows_of (trees_left x)) f ∙ append-nil start.rows) i));
       }
 
-  pub choice-first_matched : (end : ℕ) → Tells (take e terminal place) start (Ok (Matched end)) then → Tells (take_first take e rest terminal place) start (Ok (Matched end)) then
+  pub choice-first_matched : (end : ℕ) → Evaluates (take e terminal place) start (Ok (EndsAt end)) then → Evaluates (take_first take e rest terminal place) start (Ok (EndsAt end)) then
   choice-first_matched end h =
       let m = result_of_matched h.0.result end h.2 in
       (h.0, take_first-any take e rest terminal place ∙ (ap (λ o. or_else o (take_any take rest (terminal + terminals e) place)) h.1 ∙ ap (λ x. replaced x h.0 (take_any take rest (terminal + terminals e) place)) m.1), h.2, h.3)
 
-  pub choice-first_stopped : (stop : Stop) → Tells (take e terminal place) start (Err stop) then → Tells (take_first take e rest terminal place) start (Err stop) then
-  choice-first_stopped Depth h =
+  pub choice-first_stopped : (stop : Stop) → Evaluates (take e terminal place) start (Err stop) then → Evaluates (take_first take e rest terminal place) start (Err stop) then
+  choice-first_stopped AtDepth h =
       take_first-any take e rest terminal place ∙ ap (λ o. or_else o (take_any take rest (terminal + terminals e) place)) h
-  choice-first_stopped Memory h = tt
+  choice-first_stopped OutOfMemory h = tt
 
 module _ (whole : Option Record) (take : Taking) (e : Form) (rest : Forms) (next place : ℕ) (start now then : Seen) (so_far : FailedSoFar whole take place start (Then e rest) next now) where
-  pub choice-next_failed : Tells (take e next place) now (Ok Failed) then → FailedSoFar whole take place start rest (next + terminals e) then
+  pub choice-next_failed : Evaluates (take e next place) now (Ok Fails) then → FailedSoFar whole take place start rest (next + terminals e) then
   choice-next_failed h =
       let f = result_of_failed h.0.result h.2 in
       record {
@@ -142,7 +142,7 @@ module _ (whole : Option Record) (take : Taking) (e : Form) (rest : Forms) (next
         noted_now = h.3 ∙ ((λ i. seen (fold noted ((so_far.noted_now i).furthest) h.0.tests) ((so_far.noted_now i).rows ++ rows_of (trees_left (f i)))) ∙ (λ i. seen (sym (fold-append noted start.furthest so_far.tests h.0.tests) i) (append-nil start.rows i)));
       }
 
-  pub choice-next_matched : (end : ℕ) → Tells (take e next place) now (Ok (Matched end)) then → Tells whole start (Ok (Matched end)) then
+  pub choice-next_matched : (end : ℕ) → Evaluates (take e next place) now (Ok (EndsAt end)) then → Evaluates whole start (Ok (EndsAt end)) then
   choice-next_matched end h =
       let m = result_of_matched h.0.result end h.2 in (
         record { result = h.0.result; tests = so_far.tests ++ h.0.tests; uses = so_far.uses ++ h.0.uses },
@@ -151,12 +151,12 @@ module _ (whole : Option Record) (take : Taking) (e : Form) (rest : Forms) (next
         h.3 ∙ ((λ i. seen (fold noted ((so_far.noted_now i).furthest) h.0.tests) ((so_far.noted_now i).rows ++ rows_of (trees_left h.0.result))) ∙ (λ i. seen (sym (fold-append noted start.furthest so_far.tests h.0.tests) i) (start.rows ++ rows_of (trees_left h.0.result)))),
       )
 
-  pub choice-next_stopped : (stop : Stop) → Tells (take e next place) now (Err stop) then → Tells whole start (Err stop) then
-  choice-next_stopped Depth h =
+  pub choice-next_stopped : (stop : Stop) → Evaluates (take e next place) now (Err stop) then → Evaluates whole start (Err stop) then
+  choice-next_stopped AtDepth h =
       so_far.same ∙ ap (λ o. failing so_far.tests so_far.uses (or_else o (take_any take rest (next + terminals e) place))) h
-  choice-next_stopped Memory h = tt
+  choice-next_stopped OutOfMemory h = tt
 
-pub choice-end : (whole : Option Record) (take : Taking) (next place : ℕ) (start now : Seen) → FailedSoFar whole take place start End next now → Tells whole start (Ok Failed) now
+pub choice-end : (whole : Option Record) (take : Taking) (next place : ℕ) (start now : Seen) → FailedSoFar whole take place start End next now → Evaluates whole start (Ok Fails) now
 choice-end whole take next place start now so_far = (
   record { result = recognition.Failed; tests = so_far.tests ++ []; uses = so_far.uses ++ [] },
   so_far.same,

@@ -2,18 +2,20 @@
 use Rattle.std.proofs.Common.{◌≡◌, ℕ, zero, suc, List, [], Option, None, Some, Ok, option_map, option_and_then, sym, ap, ◌∙◌, subst}
 use Rattle.peg_tree.specs.Rows.{rows_of, IsOneTree}
 use Rattle.peg_tree.specs.Trees.{Trees, NoTrees, Tree}
-use Rattle.peg_tree.specs.TreesOfRows.{trees_of, trees_of-rows_of}
+use Rattle.peg_tree.specs.TreesOfRows.{trees_of}
+use Rattle.peg_tree.specs.TreesCode.{trees_of-rows_of}
 use Rattle.peg_tree.specs.declared.outcome.Parsed.{Parsed}
 use Rattle.peg_tree.specs.declared.outcome.Parsed.TheVariants as parsed
-use Rattle.peg_grammar.specs.Furthest.{IsFurthest, furthest_of}
-use Rattle.peg_grammar.specs.Outcomes.{parsed_of, Leaves, IsParsed}
-use Rattle.peg_grammar.specs.Record.{Recognition, Record, as_tree, as_use, record_in, start_record}
-use Rattle.peg_grammar.specs.Record as recognition
-use Rattle.peg_grammar.specs.Rules.{Rule, Meaning, meant}
-use Rattle.peg_grammar.specs.Seen.{Seen, trees_left, Tells}
+use Rattle.peg_ford.specs.Furthest.{IsFurthest}
+use Rattle.peg_ford.specs.FurthestPass.{furthest_of}
+use Rattle.peg_grammar.specs.Outcomes.{parsed_of}
+use Rattle.peg_ford.specs.Record.{Recognition, Record, as_tree, as_use, record_in, start_record}
+use Rattle.peg_ford.specs.Record as recognition
+use Rattle.peg_ford.specs.Rules.{Rule, Meaning, meant}
+use Rattle.peg_grammar.specs.Seen.{Seen, trees_left, Evaluates, Leaves, IsParsed}
 use Rattle.peg_grammar.specs.declared.found.Verdict.{Verdict}
-use Rattle.peg_grammar.specs.declared.found.Verdict.TheVariants.{Matched, Failed}
-use Rattle.peg_grammar.proofs.FurthestLemmas.{furthest_of-is}
+use Rattle.peg_grammar.specs.declared.found.Verdict.TheVariants.{EndsAt, Fails}
+use Rattle.peg_ford.proofs.FurthestLemmas.{furthest_of-is}
 use Rattle.peg_grammar.proofs.SeenLemmas.{result_of_failed, result_of_matched, seen}
 
 -- what a rule leaves is one tree
@@ -44,21 +46,21 @@ abbrev pub nothing_seen : Seen
 nothing_seen = seen (record { far = 0; expected = [] }) []
 
 -- a match leaves one tree
-pub start-leaves : (rules : List Rule) (text : List ℕ) (n : ℕ) (name : List ℕ) (verdict : Verdict) (now : Seen) → Tells (start_record rules text n name) nothing_seen (Ok verdict) now → Leaves verdict now.rows
-start-leaves rules text n name Failed now h = tt
-start-leaves rules text n name (Matched end) now h =
+pub start-leaves : (rules : List Rule) (text : List ℕ) (n : ℕ) (name : List ℕ) (verdict : Verdict) (now : Seen) → Evaluates (start_record rules text n name) nothing_seen (Ok verdict) now → Leaves verdict now.rows
+start-leaves rules text n name Fails now h = tt
+start-leaves rules text n name (EndsAt end) now h =
     let m = result_of_matched h.0.result end h.2 in
     subst IsOneTree (sym ((λ i. (h.3 i).rows) ∙ ap (λ x. rows_of (trees_left x)) m.1)) (start-one rules text n name h.0 end m.0 h.1 m.1)
 
 -- the outcome's result is the record's
-pub start-parsed : (tried : Option Record) (verdict : Verdict) (now : Seen) (result : Parsed) → (h : Tells tried nothing_seen (Ok verdict) now) → IsParsed verdict now.rows result → result ≡ parsed_of h.0.result
-start-parsed tried Failed now result h e = e ∙ sym (ap parsed_of (result_of_failed h.0.result h.2))
-start-parsed tried (Matched end) now result h e =
+pub start-parsed : (tried : Option Record) (verdict : Verdict) (now : Seen) (result : Parsed) → (h : Evaluates tried nothing_seen (Ok verdict) now) → IsParsed verdict now.rows result → result ≡ parsed_of h.0.result
+start-parsed tried Fails now result h e = e ∙ sym (ap parsed_of (result_of_failed h.0.result h.2))
+start-parsed tried (EndsAt end) now result h e =
     let m = result_of_matched h.0.result end h.2 in
     e ∙ (ap (λ l. parsed.Matched end (trees_of l)) ((λ i. (h.3 i).rows) ∙ ap (λ x. rows_of (trees_left x)) m.1) ∙ (ap (parsed.Matched end) (trees_of-rows_of m.0) ∙ sym (ap parsed_of m.1)))
 
 -- the furthest failure that was kept is that of the record's tests
-pub start-furthest : (tried : Option Record) (verdict : Verdict) (now : Seen) → (h : Tells tried nothing_seen (Ok verdict) now) → IsFurthest h.0.tests now.furthest.far now.furthest.expected
+pub start-furthest : (tried : Option Record) (verdict : Verdict) (now : Seen) → (h : Evaluates tried nothing_seen (Ok verdict) now) → IsFurthest h.0.tests now.furthest.far now.furthest.expected
 start-furthest tried verdict now h =
     let same : now.furthest ≡ furthest_of h.0.tests = λ i. (h.3 i).furthest in
     subst (λ f. IsFurthest h.0.tests f.far f.expected) (sym same) (furthest_of-is h.0.tests)

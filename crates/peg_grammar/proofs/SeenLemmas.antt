@@ -3,16 +3,16 @@ use Rattle.std.proofs.Common.{◌≡◌, ◌≢◌, ℕ, zero, suc, ◌+◌, ◌
 use Rattle.std.proofs.lemmas.List.Sums.{fold-append}
 use Rattle.peg_tree.specs.Rows.{Row, rows_of}
 use Rattle.peg_tree.specs.Trees.{Trees, NoTrees, Tree, followed_by, nodes}
-use Rattle.peg_grammar.specs.Form.{Form}
-use Rattle.peg_grammar.specs.Furthest.{Furthest, noted}
-use Rattle.peg_grammar.specs.Record.{Recognition, Record, Test, Use, Taking, matched_at, after_both, behind, followed, then_at, replaced, or_else, repeated, if_matched, if_failed, with_result, as_tree, as_use, take_items, take_first, table, record_in}
-use Rattle.peg_grammar.specs.Record as recognition
-use Rattle.peg_grammar.specs.Rules.{Rule}
-use Rattle.peg_grammar.specs.Seen.{Seen, trees_left, verdict_of, with_record, Tells}
+use Rattle.peg_ford.specs.Form.{Form}
+use Rattle.peg_ford.specs.FurthestPass.{Furthest, noted}
+use Rattle.peg_ford.specs.Record.{Recognition, Record, Test, Use, Taking, matched_at, after_both, behind, followed, then_at, replaced, or_else, repeated, if_matched, if_failed, with_result, as_tree, as_use, take_items, take_first, table, record_in}
+use Rattle.peg_ford.specs.Record as recognition
+use Rattle.peg_ford.specs.Rules.{Rule}
+use Rattle.peg_grammar.specs.Seen.{Seen, trees_left, verdict_of, with_record, Evaluates}
 use Rattle.peg_grammar.specs.declared.found.Stop.{Stop}
-use Rattle.peg_grammar.specs.declared.found.Stop.TheVariants.{Depth, Memory}
+use Rattle.peg_grammar.specs.declared.found.Stop.TheVariants.{AtDepth, OutOfMemory}
 use Rattle.peg_grammar.specs.declared.found.Verdict.{Verdict}
-use Rattle.peg_grammar.specs.declared.found.Verdict.TheVariants.{Matched, Failed}
+use Rattle.peg_grammar.specs.declared.found.Verdict.TheVariants.{EndsAt, Fails}
 
 -- ---- rows and tests
 
@@ -36,11 +36,11 @@ after_tests s tests = fold noted s.furthest tests
 
 -- ---- the two verdicts
 
-pub result_of_failed : (result : Recognition) → verdict_of result ≡ Failed → result ≡ recognition.Failed
+pub result_of_failed : (result : Recognition) → verdict_of result ≡ Fails → result ≡ recognition.Failed
 result_of_failed recognition.Failed e = refl
 result_of_failed (recognition.Matched end trees) e = cc
 
-pub result_of_matched : (result : Recognition) (end : ℕ) → verdict_of result ≡ Matched end → (trees : Trees) × (result ≡ recognition.Matched end trees)
+pub result_of_matched : (result : Recognition) (end : ℕ) → verdict_of result ≡ EndsAt end → (trees : Trees) × (result ≡ recognition.Matched end trees)
 result_of_matched recognition.Failed end e = cc
 result_of_matched (recognition.Matched there trees) end e =
     let same : there ≡ end = cc in (trees, ap (λ n. recognition.Matched n trees) same)
@@ -52,19 +52,19 @@ module _ {A : Type 0} (f : Record → Option A) where
   and_then-none None e = refl
   and_then-none (Some r) e = cc
 
-pub stopped-and_then : (f : Record → Option Record) (tried : Option Record) (s t u : Seen) (stop : Stop) → Tells tried s (Err stop) t → Tells (option_and_then f tried) s (Err stop) u
-stopped-and_then f tried s t u Depth h = and_then-none f tried h
-stopped-and_then f tried s t u Memory h = tt
+pub stopped-and_then : (f : Record → Option Record) (tried : Option Record) (s t u : Seen) (stop : Stop) → Evaluates tried s (Err stop) t → Evaluates (option_and_then f tried) s (Err stop) u
+stopped-and_then f tried s t u AtDepth h = and_then-none f tried h
+stopped-and_then f tried s t u OutOfMemory h = tt
 
-pub stopped-map : (f : Record → Record) (tried : Option Record) (s t u : Seen) (stop : Stop) → Tells tried s (Err stop) t → Tells (option_map f tried) s (Err stop) u
-stopped-map f None s t u Depth h = refl
-stopped-map f (Some r) s t u Depth h = cc
-stopped-map f None s t u Memory h = tt
-stopped-map f (Some r) s t u Memory h = tt
+pub stopped-map : (f : Record → Record) (tried : Option Record) (s t u : Seen) (stop : Stop) → Evaluates tried s (Err stop) t → Evaluates (option_map f tried) s (Err stop) u
+stopped-map f None s t u AtDepth h = refl
+stopped-map f (Some r) s t u AtDepth h = cc
+stopped-map f None s t u OutOfMemory h = tt
+stopped-map f (Some r) s t u OutOfMemory h = tt
 
 -- ---- optional, predicates
 
-pub optional-matched : (tried : Option Record) (place end : ℕ) (s t : Seen) → Tells tried s (Ok (Matched end)) t → Tells (or_else tried (Some (matched_at place))) s (Ok (Matched end)) t
+pub optional-matched : (tried : Option Record) (place end : ℕ) (s t : Seen) → Evaluates tried s (Ok (EndsAt end)) t → Evaluates (or_else tried (Some (matched_at place))) s (Ok (EndsAt end)) t
 optional-matched tried place end s t h =
     let m = result_of_matched h.0.result end h.2 in
     (h.0, ap (λ o. or_else o (Some (matched_at place))) h.1 ∙ ap (λ x. replaced x h.0 (Some (matched_at place))) m.1, h.2, h.3)
@@ -74,7 +74,7 @@ pub after_failed : (r : Record) (s t : Seen) (place : ℕ) → r.result ≡ reco
 after_failed r s t place is e =
     e ∙ (λ i. seen (ap (after_tests s) (sym (append-nil r.tests)) i) (ap (λ x. s.rows ++ rows_of (trees_left x)) is i))
 
-pub optional-failed : (tried : Option Record) (place : ℕ) (s t : Seen) → Tells tried s (Ok Failed) t → Tells (or_else tried (Some (matched_at place))) s (Ok (Matched place)) t
+pub optional-failed : (tried : Option Record) (place : ℕ) (s t : Seen) → Evaluates tried s (Ok Fails) t → Evaluates (or_else tried (Some (matched_at place))) s (Ok (EndsAt place)) t
 optional-failed tried place s t h =
     let is = result_of_failed h.0.result h.2 in
     (after_both h.0 (matched_at place) (recognition.Matched place NoTrees), ap (λ o. or_else o (Some (matched_at place))) h.1 ∙ ap (λ x. replaced x h.0 (Some (matched_at place))) is, refl, after_failed h.0 s t place is h.3)
@@ -84,22 +84,22 @@ dropped : (r : Record) (s t : Seen) (result : Recognition) → trees_left result
 dropped r s t result none e u cut =
     cut ∙ (λ i. seen ((e i).furthest) (sym (append-nil s.rows) i)) ∙ ap (λ l. seen (fold noted s.furthest r.tests) (s.rows ++ rows_of l)) (sym none)
 
-pub and-matched : (tried : Option Record) (place end : ℕ) (s t u : Seen) → u ≡ seen t.furthest s.rows → Tells tried s (Ok (Matched end)) t → Tells (option_map (λ r. with_result r (if_matched r.result place)) tried) s (Ok (Matched place)) u
+pub and-matched : (tried : Option Record) (place end : ℕ) (s t u : Seen) → u ≡ seen t.furthest s.rows → Evaluates tried s (Ok (EndsAt end)) t → Evaluates (option_map (λ r. with_result r (if_matched r.result place)) tried) s (Ok (EndsAt place)) u
 and-matched tried place end s t u cut h =
     let m = result_of_matched h.0.result end h.2 in
     (with_result h.0 (recognition.Matched place NoTrees), ap (option_map (λ r. with_result r (if_matched r.result place))) h.1 ∙ ap (λ x. Some (with_result h.0 (if_matched x place))) m.1, refl, dropped h.0 s t (recognition.Matched place NoTrees) refl h.3 u cut)
 
-pub and-failed : (tried : Option Record) (place : ℕ) (s t : Seen) → Tells tried s (Ok Failed) t → Tells (option_map (λ r. with_result r (if_matched r.result place)) tried) s (Ok Failed) t
+pub and-failed : (tried : Option Record) (place : ℕ) (s t : Seen) → Evaluates tried s (Ok Fails) t → Evaluates (option_map (λ r. with_result r (if_matched r.result place)) tried) s (Ok Fails) t
 and-failed tried place s t h =
     let is = result_of_failed h.0.result h.2 in
     (with_result h.0 recognition.Failed, ap (option_map (λ r. with_result r (if_matched r.result place))) h.1 ∙ ap (λ x. Some (with_result h.0 (if_matched x place))) is, refl, h.3 ∙ ap (λ x. seen (fold noted s.furthest h.0.tests) (s.rows ++ rows_of (trees_left x))) is)
 
-pub not-matched : (tried : Option Record) (place end : ℕ) (s t u : Seen) → u ≡ seen t.furthest s.rows → Tells tried s (Ok (Matched end)) t → Tells (option_map (λ r. with_result r (if_failed r.result place)) tried) s (Ok Failed) u
+pub not-matched : (tried : Option Record) (place end : ℕ) (s t u : Seen) → u ≡ seen t.furthest s.rows → Evaluates tried s (Ok (EndsAt end)) t → Evaluates (option_map (λ r. with_result r (if_failed r.result place)) tried) s (Ok Fails) u
 not-matched tried place end s t u cut h =
     let m = result_of_matched h.0.result end h.2 in
     (with_result h.0 recognition.Failed, ap (option_map (λ r. with_result r (if_failed r.result place))) h.1 ∙ ap (λ x. Some (with_result h.0 (if_failed x place))) m.1, refl, dropped h.0 s t recognition.Failed refl h.3 u cut)
 
-pub not-failed : (tried : Option Record) (place : ℕ) (s t : Seen) → Tells tried s (Ok Failed) t → Tells (option_map (λ r. with_result r (if_failed r.result place)) tried) s (Ok (Matched place)) t
+pub not-failed : (tried : Option Record) (place : ℕ) (s t : Seen) → Evaluates tried s (Ok Fails) t → Evaluates (option_map (λ r. with_result r (if_failed r.result place)) tried) s (Ok (EndsAt place)) t
 not-failed tried place s t h =
     let is = result_of_failed h.0.result h.2 in
     (with_result h.0 (recognition.Matched place NoTrees), ap (option_map (λ r. with_result r (if_failed r.result place))) h.1 ∙ ap (λ x. Some (with_result h.0 (if_failed x place))) is, refl, h.3 ∙ ap (λ x. seen (fold noted s.furthest h.0.tests) (s.rows ++ rows_of (trees_left x))) is)
@@ -134,9 +134,9 @@ prefixed-none None = refl
 prefixed-none (Some r) = λ i. Some (record { result = behind-none r.result i; tests = r.tests; uses = r.uses })
 
 -- a part that matched, and then what is next
-pub followed-tells : (tried : Option Record) (next : ℕ → Option Record) (end : ℕ) (s t u : Seen) (verdict : Verdict) → Tells tried s (Ok (Matched end)) t → Tells (next end) t (Ok verdict) u → (verdict ≡ Failed → ⊥) → Tells (then_at tried next) s (Ok verdict) u
-followed-tells tried next end s t u Failed h k other = absurd (other refl)
-followed-tells tried next end s t u (Matched far) h k other =
+pub followed-evaluates : (tried : Option Record) (next : ℕ → Option Record) (end : ℕ) (s t u : Seen) (verdict : Verdict) → Evaluates tried s (Ok (EndsAt end)) t → Evaluates (next end) t (Ok verdict) u → (verdict ≡ Fails → ⊥) → Evaluates (then_at tried next) s (Ok verdict) u
+followed-evaluates tried next end s t u Fails h k other = absurd (other refl)
+followed-evaluates tried next end s t u (EndsAt far) h k other =
     let m = result_of_matched h.0.result end h.2 in
     let n = result_of_matched k.0.result far k.2 in
     (after_both h.0 k.0 (behind m.0 k.0.result), ap (λ o. then_at o next) h.1 ∙ (ap (λ x. followed x h.0 next) m.1 ∙ ap (option_map (λ more. after_both h.0 more (behind m.0 more.result))) k.1), ap (λ x. verdict_of (behind m.0 x)) n.1, k.3 ∙ (λ i. seen (fold noted ((h.3 i).furthest) k.0.tests) ((h.3 i).rows ++ rows_of (trees_left k.0.result))) ∙ (λ i. seen (sym (fold-append noted s.furthest h.0.tests k.0.tests) i) (rows_joined i)))
@@ -148,16 +148,16 @@ followed-tells tried next end s t u (Matched far) h k other =
         append_assoc s.rows (rows_of (trees_left h.0.result)) (rows_of (trees_left k.0.result)) ∙ ap (λ l. s.rows ++ l) (ap (λ x. rows_of (trees_left x) ++ rows_of (trees_left k.0.result)) m.1 ∙ (ap (λ x. rows_of m.0 ++ rows_of (trees_left x)) n.1 ∙ (sym (rows_of-followed_by m.0 n.0) ∙ ap (λ x. rows_of (trees_left (behind m.0 x))) (sym n.1))))
 
 -- the failed part of a sequence of two
-pub followed-failed : (tried : Option Record) (next : ℕ → Option Record) (s t : Seen) → Tells tried s (Ok Failed) t → Tells (then_at tried next) s (Ok Failed) t
+pub followed-failed : (tried : Option Record) (next : ℕ → Option Record) (s t : Seen) → Evaluates tried s (Ok Fails) t → Evaluates (then_at tried next) s (Ok Fails) t
 followed-failed tried next s t h =
     let is = result_of_failed h.0.result h.2 in
     (h.0, ap (λ o. then_at o next) h.1 ∙ ap (λ x. followed x h.0 next) is, h.2, h.3)
 
-pub followed-stopped : (tried : Option Record) (next : ℕ → Option Record) (end : ℕ) (s t u : Seen) (stop : Stop) → Tells tried s (Ok (Matched end)) t → Tells (next end) t (Err stop) u → Tells (then_at tried next) s (Err stop) u
-followed-stopped tried next end s t u Depth h k =
+pub followed-stopped : (tried : Option Record) (next : ℕ → Option Record) (end : ℕ) (s t u : Seen) (stop : Stop) → Evaluates tried s (Ok (EndsAt end)) t → Evaluates (next end) t (Err stop) u → Evaluates (then_at tried next) s (Err stop) u
+followed-stopped tried next end s t u AtDepth h k =
     let m = result_of_matched h.0.result end h.2 in
     ap (λ o. then_at o next) h.1 ∙ (ap (λ x. followed x h.0 next) m.1 ∙ ap (option_map (λ more. after_both h.0 more (behind m.0 more.result))) k)
-followed-stopped tried next end s t u Memory h k = tt
+followed-stopped tried next end s t u OutOfMemory h k = tt
 
 -- ---- the depths of a record
 

@@ -8,17 +8,17 @@ use Rattle.std.specs.declared.vec.Vec.{Vec}
 use Rattle.peg_tree.specs.Rows.{Row, row_of, rows_of}
 use Rattle.peg_tree.specs.Trees.{Trees, NoTrees, nodes}
 use Rattle.peg_tree.specs.declared.row.TreeNode.{TreeNode}
-use Rattle.peg_grammar.specs.Form.{Form, Star}
+use Rattle.peg_ford.specs.Form.{Form, Star}
 use Rattle.peg_grammar.specs.Found.{furthest_in, seen_in}
-use Rattle.peg_grammar.specs.Record.{Recognition, Record, Taking, matched_at, after_both, behind, followed, then_at, replaced, repeated, as_tree, as_use, table, record_in}
-use Rattle.peg_grammar.specs.Record as recognition
-use Rattle.peg_grammar.specs.Rules.{Rule}
-use Rattle.peg_grammar.specs.Seen.{Seen, trees_left, verdict_of, Tells}
+use Rattle.peg_ford.specs.Record.{Recognition, Record, Taking, matched_at, after_both, behind, followed, then_at, replaced, repeated, as_tree, as_use, table, record_in}
+use Rattle.peg_ford.specs.Record as recognition
+use Rattle.peg_ford.specs.Rules.{Rule}
+use Rattle.peg_grammar.specs.Seen.{Seen, trees_left, verdict_of, Evaluates}
 use Rattle.peg_grammar.specs.declared.found.Found.{Found}
 use Rattle.peg_grammar.specs.declared.found.Stop.{Stop}
 use Rattle.peg_grammar.specs.declared.found.Verdict.{Verdict}
-use Rattle.peg_grammar.specs.declared.found.Verdict.TheVariants.{Matched, Failed}
-use Rattle.peg_grammar.proofs.SeenLemmas.{seen, result_of_failed, result_of_matched, after_failed, followed-tells, followed-stopped, length-rows_of}
+use Rattle.peg_grammar.specs.declared.found.Verdict.TheVariants.{EndsAt, Fails}
+use Rattle.peg_grammar.proofs.SeenLemmas.{seen, result_of_failed, result_of_matched, after_failed, followed-evaluates, followed-stopped, length-rows_of}
 
 -- rows that are cut back to where they were
 pub cut_back : (s t : Found) (kept : Vec TreeNode Global) (from : ℕ) (more : List Row) → from ≡ length s.rows.items → kept.items ≡ take from t.rows.items → map row_of t.rows.items ≡ map row_of s.rows.items ++ more → seen_in (record { furthest = t.furthest; rows = kept }) ≡ seen (furthest_in t.furthest) (map row_of s.rows.items)
@@ -31,48 +31,48 @@ cut_back s t kept from more is_from is_kept grown =
 abbrev pub round_at : Option Record → ℕ → (ℕ → Option Record) → Option Record
 round_at tried place next = option_and_then (λ round. repeated round.result place round next) tried
 
-pub rounds-failed : (tried : Option Record) (place : ℕ) (next : ℕ → Option Record) (s t : Seen) → Tells tried s (Ok Failed) t → Tells (round_at tried place next) s (Ok (Matched place)) t
+pub rounds-failed : (tried : Option Record) (place : ℕ) (next : ℕ → Option Record) (s t : Seen) → Evaluates tried s (Ok Fails) t → Evaluates (round_at tried place next) s (Ok (EndsAt place)) t
 rounds-failed tried place next s t h =
     let is = result_of_failed h.0.result h.2 in
     (after_both h.0 (matched_at place) (recognition.Matched place NoTrees), ap (λ o. round_at o place next) h.1 ∙ ap (λ x. repeated x place h.0 next) is, refl, after_failed h.0 s t place is h.3)
 
 -- a round never fails, where what is next never does
-repeated-matches : (tried : Option Record) (place : ℕ) (next : ℕ → Option Record) → ((end : ℕ) (r : Record) → next end ≡ Some r → verdict_of r.result ≢ Failed) → (r : Record) → round_at tried place next ≡ Some r → verdict_of r.result ≢ Failed
+repeated-matches : (tried : Option Record) (place : ℕ) (next : ℕ → Option Record) → ((end : ℕ) (r : Record) → next end ≡ Some r → verdict_of r.result ≢ Fails) → (r : Record) → round_at tried place next ≡ Some r → verdict_of r.result ≢ Fails
 repeated-matches None place next h r e = cc
 repeated-matches (Some round) place next h r e = by round.result e
   where
-    some : (more : Option Record) (trees : Trees) → ((m : Record) → more ≡ Some m → verdict_of m.result ≢ Failed) → option_map (λ more. after_both round more (behind trees more.result)) more ≡ Some r → verdict_of r.result ≢ Failed
+    some : (more : Option Record) (trees : Trees) → ((m : Record) → more ≡ Some m → verdict_of m.result ≢ Fails) → option_map (λ more. after_both round more (behind trees more.result)) more ≡ Some r → verdict_of r.result ≢ Fails
     some None trees k e f = cc
     some (Some m) trees k e f = fails m.result (k m refl) (let same : after_both round m (behind trees m.result) ≡ r = cc in ap (λ r. verdict_of r.result) same ∙ f)
       where
-        fails : (x : Recognition) → verdict_of x ≢ Failed → verdict_of (behind trees x) ≡ Failed → ⊥
+        fails : (x : Recognition) → verdict_of x ≢ Fails → verdict_of (behind trees x) ≡ Fails → ⊥
         fails recognition.Failed other e = other refl
         fails (recognition.Matched end more) other e = cc
 
-    by : (x : Recognition) → repeated x place round next ≡ Some r → verdict_of r.result ≢ Failed
+    by : (x : Recognition) → repeated x place round next ≡ Some r → verdict_of r.result ≢ Fails
     by recognition.Failed e f =
         let same : after_both round (matched_at place) (recognition.Matched place NoTrees) ≡ r = cc in
-        let bad : Matched place ≡ Failed = ap (λ r. verdict_of r.result) same ∙ f in cc
+        let bad : EndsAt place ≡ Fails = ap (λ r. verdict_of r.result) same ∙ f in cc
     by (recognition.Matched end trees) e f = some (next end) trees (h end) e f
 
-pub star-matches : (rules : List Rule) (text : List ℕ) (n : ℕ) (part : Form) (span : Rattle.peg_bytes.specs.Extent.Extent) (terminal place : ℕ) (r : Record) → record_in rules text n (Star part span) terminal place ≡ Some r → verdict_of r.result ≢ Failed
+pub star-matches : (rules : List Rule) (text : List ℕ) (n : ℕ) (part : Form) (span : Rattle.peg_bytes.specs.Extent.Extent) (terminal place : ℕ) (r : Record) → record_in rules text n (Star part span) terminal place ≡ Some r → verdict_of r.result ≢ Fails
 unfolding record_in
 star-matches rules text zero part span terminal place r e = cc
 star-matches rules text (suc n) part span terminal place r e =
     repeated-matches (record_in rules text n part terminal place) place (λ end. record_in rules text n (Star part span) terminal end) (λ end. star-matches rules text n part span terminal end) r e
 
 -- the part, and then something that never fails
-pub then-tells : (tried : Option Record) (next : ℕ → Option Record) (end : ℕ) (s t u : Seen) (result : Result Verdict Stop) → ((r : Record) → next end ≡ Some r → verdict_of r.result ≢ Failed) → Tells tried s (Ok (Matched end)) t → Tells (next end) t result u → Tells (then_at tried next) s result u
-then-tells tried next end s t u (Ok Failed) never h k = absurd (never k.0 k.1 k.2)
-then-tells tried next end s t u (Ok (Matched far)) never h k =
-    followed-tells tried next end s t u (Matched far) h k (λ e. cc)
-then-tells tried next end s t u (Err stop) never h k = followed-stopped tried next end s t u stop h k
+pub then-evaluates : (tried : Option Record) (next : ℕ → Option Record) (end : ℕ) (s t u : Seen) (result : Result Verdict Stop) → ((r : Record) → next end ≡ Some r → verdict_of r.result ≢ Fails) → Evaluates tried s (Ok (EndsAt end)) t → Evaluates (next end) t result u → Evaluates (then_at tried next) s result u
+then-evaluates tried next end s t u (Ok Fails) never h k = absurd (never k.0 k.1 k.2)
+then-evaluates tried next end s t u (Ok (EndsAt far)) never h k =
+    followed-evaluates tried next end s t u (EndsAt far) h k (λ e. cc)
+then-evaluates tried next end s t u (Err stop) never h k = followed-stopped tried next end s t u stop h k
 
-pub rounds-tells : (tried : Option Record) (place : ℕ) (next : ℕ → Option Record) (end : ℕ) (s t u : Seen) (result : Result Verdict Stop) → ((r : Record) → next end ≡ Some r → verdict_of r.result ≢ Failed) → Tells tried s (Ok (Matched end)) t → Tells (next end) t result u → Tells (round_at tried place next) s result u
-rounds-tells tried place next end s t u result never h k =
+pub rounds-evaluates : (tried : Option Record) (place : ℕ) (next : ℕ → Option Record) (end : ℕ) (s t u : Seen) (result : Result Verdict Stop) → ((r : Record) → next end ≡ Some r → verdict_of r.result ≢ Fails) → Evaluates tried s (Ok (EndsAt end)) t → Evaluates (next end) t result u → Evaluates (round_at tried place next) s result u
+rounds-evaluates tried place next end s t u result never h k =
     let m = result_of_matched h.0.result end h.2 in
     let same : round_at tried place next ≡ then_at tried next = ap (λ o. round_at o place next) h.1 ∙ (ap (λ x. repeated x place h.0 next) m.1 ∙ (sym (ap (λ x. followed x h.0 next) m.1) ∙ sym (ap (λ o. then_at o next) h.1))) in
-    subst (λ o. Tells o s result u) (sym same) (then-tells tried next end s t u result never h k)
+    subst (λ o. Evaluates o s result u) (sym same) (then-evaluates tried next end s t u result never h k)
 
 -- ---- a rule
 
@@ -88,12 +88,12 @@ grown s t pushed node rows push e =
     e ∙ (ap (λ l. map row_of l ++ rows) push ∙ (ap (λ l. l ++ rows) (map-append row_of s.rows.items (node ∷ [])) ∙ append_assoc (map row_of s.rows.items) (row_of node ∷ []) rows))
 
 module _ (tried : Option Record) (rule place : ℕ) (s t : Found) (pushed : Vec TreeNode Global) (node : TreeNode) (push : pushed.items ≡ s.rows.items ++ (node ∷ [])) (from : ℕ) (is_from : from ≡ length s.rows.items) where
-  pub rule-failed : (kept : Vec TreeNode Global) → kept.items ≡ take from t.rows.items → Tells tried (seen_in (record { furthest = s.furthest; rows = pushed })) (Ok Failed) (seen_in t) → Tells (option_map (as_use rule place) tried) (seen_in s) (Ok Failed) (seen_in (record { furthest = t.furthest; rows = kept }))
+  pub rule-failed : (kept : Vec TreeNode Global) → kept.items ≡ take from t.rows.items → Evaluates tried (seen_in (record { furthest = s.furthest; rows = pushed })) (Ok Fails) (seen_in t) → Evaluates (option_map (as_use rule place) tried) (seen_in s) (Ok Fails) (seen_in (record { furthest = t.furthest; rows = kept }))
   rule-failed kept is_kept h =
       let is = result_of_failed h.0.result h.2 in
       (as_use rule place h.0, ap (option_map (as_use rule place)) h.1, ap (λ x. verdict_of (as_tree rule place x)) is, cut_back s t kept from (row_of node ∷ rows_of (trees_left h.0.result)) is_from is_kept (grown s t pushed node (rows_of (trees_left h.0.result)) push (λ i. (h.3 i).rows)) ∙ (λ i. seen ((h.3 i).furthest) ((sym (append-nil (map row_of s.rows.items)) ∙ sym (ap (λ x. map row_of s.rows.items ++ rows_of (trees_left (as_tree rule place x))) is)) i)))
 
-  pub rule-matched : (end : ℕ) (now : TreeNode) (size : ℕ) → row_of now ≡ record { rule = rule; start = place; end = end; size = size } → size ≡ length t.rows.items - from → (set_rows : Vec TreeNode Global) → set_rows.items ≡ set t.rows.items from now → Tells tried (seen_in (record { furthest = s.furthest; rows = pushed })) (Ok (Matched end)) (seen_in t) → Tells (option_map (as_use rule place) tried) (seen_in s) (Ok (Matched end)) (seen_in (record { furthest = t.furthest; rows = set_rows }))
+  pub rule-matched : (end : ℕ) (now : TreeNode) (size : ℕ) → row_of now ≡ record { rule = rule; start = place; end = end; size = size } → size ≡ length t.rows.items - from → (set_rows : Vec TreeNode Global) → set_rows.items ≡ set t.rows.items from now → Evaluates tried (seen_in (record { furthest = s.furthest; rows = pushed })) (Ok (EndsAt end)) (seen_in t) → Evaluates (option_map (as_use rule place) tried) (seen_in s) (Ok (EndsAt end)) (seen_in (record { furthest = t.furthest; rows = set_rows }))
   rule-matched end now size is_row is_size set_rows is_set h =
       (as_use rule place h.0, ap (option_map (as_use rule place)) h.1, ap (λ x. verdict_of (as_tree rule place x)) m.1, λ i. seen ((h.3 i).furthest) (rows i))
     where

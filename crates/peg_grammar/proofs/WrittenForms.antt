@@ -6,8 +6,8 @@ use Rattle.std.specs.declared.string.String.{String}
 use Rattle.std.specs.declared.vec.Vec.{Vec}
 use Rattle.peg_bytes.specs.Extent.{extent}
 use Rattle.peg_bytes.specs.declared.span.Span.{Span}
-use Rattle.peg_grammar.specs.Form as form
-use Rattle.peg_grammar.specs.Form.{Form, forms}
+use Rattle.peg_ford.specs.Form as form
+use Rattle.peg_ford.specs.Form.{Form, forms}
 use Rattle.peg_grammar.specs.Written.{form_of, node_form}
 use Rattle.peg_grammar.specs.declared.expr.Expr.{Expr}
 use Rattle.peg_grammar.specs.declared.expr.Expr.TheViews.{Seq, Choice, Optional, Star, Plus, And, Not}

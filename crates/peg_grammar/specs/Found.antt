@@ -1,7 +1,7 @@
--- What of a `Found` definitions see.
+-- Describes code: what of a `Found` definitions see.
 use Rattle.std.specs.Prelude.{map}
 use Rattle.peg_tree.specs.Rows.{row_of}
-use Rattle.peg_grammar.specs.Furthest as definition
+use Rattle.peg_ford.specs.FurthestPass as definition
 use Rattle.peg_grammar.specs.Seen.{Seen}
 use Rattle.peg_grammar.specs.declared.found.Found.{Found}
 use Rattle.peg_grammar.specs.declared.found.Furthest.{Furthest}

@@ -1,16 +1,12 @@
 -- What an outcome says of a record.
 use Rattle.std.specs.Prelude.{◌≡◌, ℕ, List, Option, Some}
-use Rattle.peg_tree.specs.Rows.{Row, IsOneTree}
-use Rattle.peg_tree.specs.TreesOfRows.{trees_of}
 use Rattle.peg_tree.specs.declared.outcome.Outcome.{Outcome}
 use Rattle.peg_tree.specs.declared.outcome.Parsed.{Parsed}
 use Rattle.peg_tree.specs.declared.outcome.Parsed.TheVariants.{Matched, Failed}
-use Rattle.peg_grammar.specs.Furthest.{IsFurthest}
-use Rattle.peg_grammar.specs.Record.{Recognition, Record, start_record}
-use Rattle.peg_grammar.specs.Record as recognition
-use Rattle.peg_grammar.specs.Rules.{Rule}
-use Rattle.peg_grammar.specs.declared.found.Verdict.{Verdict}
-use Rattle.peg_grammar.specs.declared.found.Verdict.TheVariants as verdict
+use Rattle.peg_ford.specs.Furthest.{IsFurthest}
+use Rattle.peg_ford.specs.Record.{Recognition, Record, start_record}
+use Rattle.peg_ford.specs.Record as recognition
+use Rattle.peg_ford.specs.Rules.{Rule}
 
 -- whether it matched, up to where, and the trees that are left
 abbrev pub parsed_of : Recognition → Parsed
@@ -20,18 +16,9 @@ parsed_of (recognition.Matched end trees) = Matched end trees
 -- there is a record, and the outcome has its result and the furthest of its failed tests
 abbrev pub Answers : Option Record → Outcome → Type 0
 Answers tried outcome =
-    (r : Record) × (tried ≡ Some r) × (outcome.result ≡ parsed_of r.result) × IsFurthest r.tests outcome.far outcome.expected.items
+    (r : Record) × (tried ≡ Some r) × (outcome.result ≡ parsed_of r.result)
+    × IsFurthest r.tests outcome.far outcome.expected.items
 
 -- the outcome of a grammar on a text, from a start: that of Ford's record, the record in some n
 abbrev pub IsOutcome : List Rule → List ℕ → List ℕ → Outcome → Type 0
 IsOutcome rules text start outcome = (n : ℕ) × Answers (start_record rules text n start) outcome
-
--- a match leaves the rows of one tree
-abbrev pub Leaves : Verdict → List Row → Type 0
-Leaves verdict.Failed rows = Unit {0}
-Leaves (verdict.Matched end) rows = IsOneTree rows
-
--- the verdict, with the trees that the rows spell
-abbrev pub IsParsed : Verdict → List Row → Parsed → Type 0
-IsParsed verdict.Failed rows parsed = parsed ≡ Failed
-IsParsed (verdict.Matched end) rows parsed = parsed ≡ Matched end (trees_of rows)

@@ -1,8 +1,8 @@
--- What the plain evaluator takes its parts from.
+-- Describes code: what the plain evaluator takes its parts from.
 use Rattle.std.specs.Prelude.{ℕ, List, Option, option_map, option_and_then, slice_get, slice_index}
 use Rattle.peg_grammar.specs.GrammarRules.{rules_in}
-use Rattle.peg_grammar.specs.Record.{Record, Taking, as_use, record_in, table}
-use Rattle.peg_grammar.specs.Rules.{Rule}
+use Rattle.peg_ford.specs.Record.{Record, Taking, as_use, record_in, table}
+use Rattle.peg_ford.specs.Rules.{Rule}
 use Rattle.peg_grammar.specs.declared.plain.Plain.{Plain}
 
 -- the text that is looked at
@@ -20,4 +20,6 @@ table_in plain depth = table (rules_in plain.grammar.now) (text_of plain) (taken
 -- what comes of a rule with this number at a place, as a use of it, where its expression is taken in a depth
 abbrev pub used_in : Plain → ℕ → (rule place : ℕ) → Option Record
 used_in plain depth rule place =
-    option_and_then (λ (r : Rule). option_map (as_use rule place) (taken_in plain depth r.body (slice_index plain.first.now rule) place)) (slice_get (rules_in plain.grammar.now) rule)
+    option_and_then (λ (r : Rule). option_map (as_use rule place)
+    (taken_in plain depth r.body (slice_index plain.first.now rule) place))
+    (slice_get (rules_in plain.grammar.now) rule)

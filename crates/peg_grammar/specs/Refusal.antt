@@ -1,10 +1,11 @@
 -- Why definitions are refused.
 use Rattle.std.specs.Prelude.{◌≡◌, ◌<◌, List, [], None, Some, string_bytes}
 use Rattle.peg_bytes.specs.Extent.{extent}
-use Rattle.peg_grammar.specs.Rules.{Rule, weight_of}
-use Rattle.peg_grammar.specs.Grammar.{IsGrammar, most_parts, first_duplicate, first_undefined}
+use Rattle.peg_ford.specs.Rules.{Rule, weight_of}
+use Rattle.peg_ford.specs.Grammar.{IsGrammar, most_parts, first_duplicate, first_undefined}
 use Rattle.peg_grammar.specs.declared.fault.GrammarFault.{GrammarFault}
-use Rattle.peg_grammar.specs.declared.fault.GrammarFault.TheVariants.{NoRule, Duplicate, Undefined, TooManyParts, Memory}
+use Rattle.peg_grammar.specs.declared.fault.GrammarFault.TheVariants.{NoRule, Duplicate, Undefined, TooManyParts}
+use Rattle.peg_grammar.specs.declared.fault.GrammarFault.TheVariants.{Memory}
 
 -- Whether a fault is true of rules. Out of memory may come of any.
 abbrev pub Refuses : List Rule → GrammarFault → Type 0

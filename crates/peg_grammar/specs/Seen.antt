@@ -1,14 +1,17 @@
--- What the plain evaluator notes on its way, and what it answers.
+-- Describes code: what the plain evaluator notes on its way, and what it answers.
 use Rattle.std.specs.Prelude.{◌≡◌, ℕ, ◌≤◌, List, ◌++◌, fold, Option, None, Some, Result, Ok, Err}
-use Rattle.peg_tree.specs.Rows.{Row, rows_of}
+use Rattle.peg_tree.specs.Rows.{Row, rows_of, IsOneTree}
 use Rattle.peg_tree.specs.Trees.{Trees, NoTrees}
-use Rattle.peg_grammar.specs.Furthest.{Furthest, noted}
-use Rattle.peg_grammar.specs.Record.{Recognition, Record}
-use Rattle.peg_grammar.specs.Record as recognition
+use Rattle.peg_tree.specs.TreesOfRows.{trees_of}
+use Rattle.peg_tree.specs.declared.outcome.Parsed.{Parsed}
+use Rattle.peg_tree.specs.declared.outcome.Parsed.TheVariants as parsed
+use Rattle.peg_ford.specs.FurthestPass.{Furthest, noted}
+use Rattle.peg_ford.specs.Record.{Recognition, Record}
+use Rattle.peg_ford.specs.Record as recognition
 use Rattle.peg_grammar.specs.declared.found.Stop.{Stop}
-use Rattle.peg_grammar.specs.declared.found.Stop.TheVariants.{Depth, Memory}
+use Rattle.peg_grammar.specs.declared.found.Stop.TheVariants.{AtDepth, OutOfMemory}
 use Rattle.peg_grammar.specs.declared.found.Verdict.{Verdict}
-use Rattle.peg_grammar.specs.declared.found.Verdict.TheVariants.{Matched, Failed}
+use Rattle.peg_grammar.specs.declared.found.Verdict.TheVariants.{EndsAt, Fails}
 
 -- the furthest failure so far, and the rows of the trees so far
 pub record Seen : Type 0 where
@@ -22,21 +25,33 @@ trees_left (recognition.Matched end trees) = trees
 
 -- whether it matched, and up to where
 abbrev pub verdict_of : Recognition → Verdict
-verdict_of recognition.Failed = Failed
-verdict_of (recognition.Matched end trees) = Matched end
+verdict_of recognition.Failed = Fails
+verdict_of (recognition.Matched end trees) = EndsAt end
 
 -- after a record: its failed tests are noted, and the rows of its trees stand at the end
 abbrev pub with_record : Seen → Record → Seen
-with_record seen r = record { furthest = fold noted seen.furthest r.tests; rows = seen.rows ++ rows_of (trees_left r.result) }
+with_record seen r =
+    record { furthest = fold noted seen.furthest r.tests; rows = seen.rows ++ rows_of (trees_left r.result) }
 
 -- what an evaluation answers: the verdict of the record, which has been noted; that the depth is used, where there is
 -- no record; or that memory ran out
-abbrev pub Tells : Option Record → Seen → Result Verdict Stop → Seen → Type 0
-Tells tried old (Ok verdict) new = (r : Record) × (tried ≡ Some r) × (verdict_of r.result ≡ verdict) × (new ≡ with_record old r)
-Tells tried old (Err Depth) new = tried ≡ None
-Tells tried old (Err Memory) new = Unit {0}
+abbrev pub Evaluates : Option Record → Seen → Result Verdict Stop → Seen → Type 0
+Evaluates tried old (Ok verdict) new =
+    (r : Record) × (tried ≡ Some r) × (verdict_of r.result ≡ verdict) × (new ≡ with_record old r)
+Evaluates tried old (Err AtDepth) new = tried ≡ None
+Evaluates tried old (Err OutOfMemory) new = Unit {0}
 
 -- a match from this place ends there or later, within a text of this length
 abbrev pub EndsWithin : (place len : ℕ) → Verdict → Type 0
-EndsWithin place len (Matched end) = (place ≤ end) × (end ≤ len)
-EndsWithin place len Failed = Unit {0}
+EndsWithin place len (EndsAt end) = (place ≤ end) × (end ≤ len)
+EndsWithin place len Fails = Unit {0}
+
+-- a match leaves the rows of one tree
+abbrev pub Leaves : Verdict → List Row → Type 0
+Leaves Fails rows = Unit {0}
+Leaves (EndsAt end) rows = IsOneTree rows
+
+-- the verdict, with the trees that the rows spell
+abbrev pub IsParsed : Verdict → List Row → Parsed → Type 0
+IsParsed Fails rows result = result ≡ parsed.Failed
+IsParsed (EndsAt end) rows result = result ≡ parsed.Matched end (trees_of rows)

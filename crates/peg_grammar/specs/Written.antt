@@ -2,11 +2,12 @@
 use Rattle.std.specs.Prelude.{List, map, string_bytes}
 use Rattle.peg_bytes.specs.ByteSet.{bytes_of}
 use Rattle.peg_bytes.specs.Extent.{extent}
-use Rattle.peg_grammar.specs.Form as form
-use Rattle.peg_grammar.specs.Form.{Form, forms}
-use Rattle.peg_grammar.specs.Rules.{Rule}
+use Rattle.peg_ford.specs.Form as form
+use Rattle.peg_ford.specs.Form.{Form, forms}
+use Rattle.peg_ford.specs.Rules.{Rule}
 use Rattle.peg_grammar.specs.declared.expr.Expr.{Expr}
-use Rattle.peg_grammar.specs.declared.expr.Expr.TheOpen.{Expr-F, Literal, Class, Any, Name, Seq, Choice, Optional, Star, Plus, And, Not}
+use Rattle.peg_grammar.specs.declared.expr.Expr.TheOpen.{Expr-F, Literal, Class, Any, Name, Seq, Choice, Optional, Star}
+use Rattle.peg_grammar.specs.declared.expr.Expr.TheOpen.{Plus, And, Not}
 use Rattle.peg_grammar.specs.declared.expr.Expr.TheFolds.{fold-Expr}
 use Rattle.peg_grammar.specs.declared.expr.Definition.{Definition}
 
@@ -30,7 +31,8 @@ form_of = fold-Expr Form node_form
 
 -- the rule that a `Definition` stands for
 abbrev pub rule_of : Definition → Rule
-rule_of definition = record { name = string_bytes definition.name; span = extent definition.span; body = form_of definition.body }
+rule_of definition =
+    record { name = string_bytes definition.name; span = extent definition.span; body = form_of definition.body }
 
 -- the rules that definitions stand for
 abbrev pub rules_of : List Definition → List Rule

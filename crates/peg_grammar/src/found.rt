@@ -1,7 +1,7 @@
 //! What the plain evaluator notes on its way.
 ghost use Rattle.std.specs.Prelude.{◌≡◌, ◌<◌, ◌↔◌, All, IsTrue, OnOk};
 ghost use Rattle.std.specs.List.Sorted.{IsStrictlyIncreasing};
-ghost use Rattle.peg_grammar.specs.Furthest.{insert_ascending};
+ghost use Rattle.peg_ford.specs.FurthestPass.{insert_ascending};
 
 use peg_tree::TreeNode;
 use std::alloc::{AllocError, AllocFailed, Global};
@@ -9,36 +9,36 @@ use std::alloc::{AllocError, AllocFailed, Global};
 /// Whether an expression matched, and up to which place.
 #[derive(Clone, Copy, Debug, PartialEq, Eq)]
 pub(crate) enum Verdict {
-    Matched { end: u32 },
-    Failed,
+    EndsAt { end: u32 },
+    Fails,
 }
 
 /// Why an evaluation ended early.
 #[derive(Clone, Copy, Debug, PartialEq, Eq)]
 pub(crate) enum Stop {
-    Depth,
-    Memory,
+    AtDepth,
+    OutOfMemory,
 }
 
 impl From<AllocError> for Stop {
     ghost use Rattle.std.specs.Prelude.{◌≡◌};
-    ghost use Rattle.peg_grammar.specs.declared.found.Stop.TheVariants.{Memory};
+    ghost use Rattle.peg_grammar.specs.declared.found.Stop.TheVariants.{OutOfMemory};
 
-    ghost from_gives = { λ _ stop. stop ≡ Memory };
+    ghost from_gives = { λ _ stop. stop ≡ OutOfMemory };
 
     fn from(_error: AllocError) -> Stop {
-        Stop::Memory
+        Stop::OutOfMemory
     }
 }
 
 impl<T: Drop> From<AllocFailed<T>> for Stop {
     ghost use Rattle.std.specs.Prelude.{◌≡◌};
-    ghost use Rattle.peg_grammar.specs.declared.found.Stop.TheVariants.{Memory};
+    ghost use Rattle.peg_grammar.specs.declared.found.Stop.TheVariants.{OutOfMemory};
 
-    ghost from_gives = { λ _ stop. stop ≡ Memory };
+    ghost from_gives = { λ _ stop. stop ≡ OutOfMemory };
 
     fn from(_error: AllocFailed<T>) -> Stop {
-        Stop::Memory
+        Stop::OutOfMemory
     }
 }
 
@@ -60,8 +60,8 @@ pub(crate) struct Found {
 impl Furthest {
     ghost use Rattle.std.specs.Prelude.{◌≡◌, OnOk};
     ghost use Rattle.peg_grammar.specs.Found.{furthest_in};
-    ghost use Rattle.peg_grammar.specs.Furthest.{noted};
-    ghost use Rattle.peg_grammar.specs.Record.{test_of};
+    ghost use Rattle.peg_ford.specs.FurthestPass.{noted};
+    ghost use Rattle.peg_ford.specs.Record.{test_of};
 
     /// Notes that the test of a terminal failed at a place.
     pub(crate) fn note(&mut self, terminal: u32, place: u32) -> Result<(), AllocError>

@@ -1,11 +1,13 @@
 //! The names that definitions give and use.
-ghost use Rattle.std.specs.Prelude.{◌≡◌, List, [], ◌∷◌, ◌++◌, None, false, bytes_eq, find, length, map, position, string_bytes, ◌<◌, IfErr, IfOk, IfSome, OnOk, option_map};
+ghost use Rattle.std.specs.Prelude.{◌≡◌, List, [], ◌∷◌, ◌++◌, None, false, bytes_eq, find, length, map, position};
+ghost use Rattle.std.specs.Prelude.{string_bytes, ◌<◌, IfErr, IfOk, IfSome, OnOk, option_map};
 ghost use Rattle.std.specs.List.{list_any};
-ghost use Rattle.peg_grammar.specs.Form.{forms, names_used, names_used_by_all};
-ghost use Rattle.peg_grammar.specs.Grammar.{IsGrammar, first_duplicate};
-ghost use Rattle.peg_grammar.specs.Names.{is_unknown, names_in, reference_of};
+ghost use Rattle.peg_ford.specs.Form.{forms, names_used, names_used_by_all};
+ghost use Rattle.peg_ford.specs.Grammar.{IsGrammar, first_duplicate};
+ghost use Rattle.peg_ford.specs.Grammar.{is_unknown};
+ghost use Rattle.peg_grammar.specs.Names.{names_in, reference_of};
 ghost use Rattle.peg_grammar.specs.Refusal.{Refuses};
-ghost use Rattle.peg_grammar.specs.Rules.{names as names_of, uses};
+ghost use Rattle.peg_ford.specs.Rules.{names as names_of, uses};
 ghost use Rattle.peg_grammar.specs.Written.{form_of, rules_of};
 
 use crate::{Definition, Expr, GrammarFault};

@@ -1,7 +1,7 @@
 //! The numbers of terminals: literals, classes and dots, from 0 in written order.
 ghost use Rattle.std.specs.Prelude.{◌≡◌, ◌<◌, ◌^◌, map, IfOk};
-ghost use Rattle.peg_grammar.specs.Form.{forms, terminals, terminals_of_all};
-ghost use Rattle.peg_grammar.specs.Numbers.{first_from, terminals_of};
+ghost use Rattle.peg_ford.specs.Form.{forms, terminals, terminals_of_all};
+ghost use Rattle.peg_ford.specs.Numbers.{first_from, terminals_of};
 ghost use Rattle.peg_grammar.specs.Written.{form_of, rules_of};
 
 use crate::{Definition, Expr};

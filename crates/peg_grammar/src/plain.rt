@@ -3,10 +3,12 @@
 ghost use Rattle.std.specs.Prelude.{◌≡◌, ◌≤◌, ◌<◌, ◌↔◌, map, length, IfOk, IsErrOf, None};
 ghost use Rattle.peg_tree.specs.Rows.{row_of};
 ghost use Rattle.peg_grammar.specs.GrammarRules.{rules_in};
-ghost use Rattle.peg_grammar.specs.Numbers.{first_from};
-ghost use Rattle.peg_grammar.specs.Outcomes.{Answers, Leaves, IsParsed};
-ghost use Rattle.peg_grammar.specs.Record.{start_record};
-ghost use Rattle.peg_grammar.specs.Rules.{name_of};
+ghost use Rattle.peg_ford.specs.Numbers.{first_from};
+ghost use Rattle.peg_grammar.specs.Limits.{most_text_bytes};
+ghost use Rattle.peg_grammar.specs.Outcomes.{Answers};
+ghost use Rattle.peg_ford.specs.Record.{start_record};
+ghost use Rattle.peg_ford.specs.Rules.{name_of};
+ghost use Rattle.peg_grammar.specs.Seen.{Leaves, IsParsed};
 
 use crate::found::{Found, Furthest, Stop, Verdict};
 use crate::numbers::{count_of, first_terminals};
@@ -14,18 +16,22 @@ use crate::{Expr, Grammar};
 use peg_bytes::{ByteSet, Span};
 use peg_tree::{Outcome, Parsed, Tree, TreeNode};
 use std::alloc::{AllocError, Global};
+use thiserror::Error;
 
 /// The most bytes that a text may have.
 pub const MOST_TEXT_BYTES: usize = 67_108_864;
 
 /// Why `plain_match` has no answer.
-#[derive(Clone, Copy, Debug, PartialEq, Eq)]
+#[derive(Clone, Copy, Debug, PartialEq, Eq, Error)]
 pub enum PlainFault {
-    /// The text has more than 67,108,864 bytes.
+    /// The text has more than `MOST_TEXT_BYTES` bytes.
+    #[error("the text is too long")]
     TextTooLong,
     /// The cases of recognition nest deeper than was allowed.
+    #[error("the cases of recognition nest too deep")]
     DepthUsed,
-    /// A growth was refused.
+    /// Memory ran out.
+    #[error("out of memory")]
     Memory,
 }
 
@@ -51,7 +57,7 @@ pub fn plain_match(
     depth: u64,
 ) -> Result<Outcome, PlainFault>
     requires { start < length (rules_in grammar.now) }
-    ensures long { IsErrOf result PlainFault.TextTooLong ↔ (67108864 < length text.now) }
+    ensures long { IsErrOf result PlainFault.TextTooLong ↔ (most_text_bytes < length text.now) }
     ensures outcome { IfOk result (Answers
         (start_record (rules_in grammar.now) text.now depth (name_of (rules_in grammar.now) start))) }
     ensures deep { IsErrOf result PlainFault.DepthUsed → start_record (rules_in grammar.now) text.now depth
@@ -74,8 +80,8 @@ pub fn plain_match(
         rows: Vec::new(alloc),
     };
     match plain.start(&mut found, start, depth) {
-        Err(Stop::Depth) => Err(PlainFault::DepthUsed),
-        Err(Stop::Memory) => Err(PlainFault::Memory),
+        Err(Stop::AtDepth) => Err(PlainFault::DepthUsed),
+        Err(Stop::OutOfMemory) => Err(PlainFault::Memory),
         Ok(verdict) => Ok(outcome_of(verdict, found)),
     }
 }
@@ -86,7 +92,7 @@ struct Plain<'a> {
     grammar: &'a Grammar,
     first: &'a [u32],
     text: &'a [u8],
-    ghost short: { length text.now ≤ 67108864 },
+    ghost short: { length text.now ≤ most_text_bytes },
     ghost numbered: { first.now ≡ first_from 0 (rules_in grammar.now) },
 }
 
@@ -94,14 +100,15 @@ impl<'a> Plain<'a> {
     ghost use Rattle.std.specs.Prelude.{◌≡◌, ℕ, ◌+◌, ◌<◌, ◌≤◌, map, length, drop, IfOk, Some, true, string_bytes};
     ghost use Rattle.peg_bytes.specs.ByteSet.{has, bytes_of};
     ghost use Rattle.peg_bytes.specs.Extent.{Extent};
-    ghost use Rattle.peg_grammar.specs.Form.{Name, Seq, Choice, Optional, Star, Plus, And, Not, forms, terminals, terminals_of_all};
+    ghost use Rattle.peg_ford.specs.Form.{Name, Seq, Choice, Optional, Star, Plus, And, Not, forms, terminals};
+    ghost use Rattle.peg_ford.specs.Form.{terminals_of_all};
     ghost use Rattle.peg_grammar.specs.Found.{seen_in};
-    ghost use Rattle.peg_grammar.specs.Grammar.{most_parts};
+    ghost use Rattle.peg_ford.specs.Grammar.{most_parts};
     ghost use Rattle.peg_grammar.specs.GrammarRules.{rules_in};
     ghost use Rattle.peg_grammar.specs.Plain.{text_of, taken_in, table_in, used_in};
-    ghost use Rattle.peg_grammar.specs.Record.{literal_at, byte_at, start_record, take_items, take_first};
-    ghost use Rattle.peg_grammar.specs.Rules.{name_of};
-    ghost use Rattle.peg_grammar.specs.Seen.{Tells, EndsWithin};
+    ghost use Rattle.peg_ford.specs.Record.{literal_at, byte_at, start_record, take_items, take_first};
+    ghost use Rattle.peg_ford.specs.Rules.{name_of};
+    ghost use Rattle.peg_grammar.specs.Seen.{Evaluates, EndsWithin};
     ghost use Rattle.peg_grammar.specs.Written.{form_of};
 
     /// What a literal makes of the bytes from a place on.
@@ -113,7 +120,7 @@ impl<'a> Plain<'a> {
         place: u32,
     ) -> Result<Verdict, Stop>
         requires { place ≤ length (text_of self.now) }
-        ensures tells { Tells (Some (literal_at terminal place bytes.now (drop place (text_of self.now))))
+        ensures evaluates { Evaluates (Some (literal_at terminal place bytes.now (drop place (text_of self.now))))
             (seen_in found.old) result (seen_in found.new) }
         ensures within { IfOk result (EndsWithin place (length (text_of self.now))) }
     {
@@ -121,11 +128,11 @@ impl<'a> Plain<'a> {
         for (at, byte) in bytes.iter().enumerate() {
             if at >= rest.len() || rest[at] != *byte {
                 found.furthest.note(terminal, place + at as u32)?;
-                return Ok(Verdict::Failed);
+                return Ok(Verdict::Fails);
             }
         }
         let end = place + bytes.len() as u32;
-        Ok(Verdict::Matched { end })
+        Ok(Verdict::EndsAt { end })
     }
 
     /// What a class makes of the byte at a place.
@@ -137,30 +144,31 @@ impl<'a> Plain<'a> {
         place: u32,
     ) -> Result<Verdict, Stop>
         requires { place ≤ length (text_of self.now) }
-        ensures tells { Tells (Some (byte_at (has (bytes_of set.now)) terminal place (drop place (text_of self.now))))
+        ensures evaluates { Evaluates
+            (Some (byte_at (has (bytes_of set.now)) terminal place (drop place (text_of self.now))))
             (seen_in found.old) result (seen_in found.new) }
         ensures within { IfOk result (EndsWithin place (length (text_of self.now))) }
     {
         let at = place as usize;
         if at < self.text.len() && set.contains(self.text[at]) {
-            return Ok(Verdict::Matched { end: place + 1 });
+            return Ok(Verdict::EndsAt { end: place + 1 });
         }
         found.furthest.note(terminal, place)?;
-        Ok(Verdict::Failed)
+        Ok(Verdict::Fails)
     }
 
     /// What a dot makes of the byte at a place.
     fn any(&self, found: &mut Found, terminal: u32, place: u32) -> Result<Verdict, Stop>
         requires { place ≤ length (text_of self.now) }
-        ensures tells { Tells (Some (byte_at (λ byte. true) terminal place (drop place (text_of self.now))))
+        ensures evaluates { Evaluates (Some (byte_at (λ byte. true) terminal place (drop place (text_of self.now))))
             (seen_in found.old) result (seen_in found.new) }
         ensures within { IfOk result (EndsWithin place (length (text_of self.now))) }
     {
         if (place as usize) < self.text.len() {
-            return Ok(Verdict::Matched { end: place + 1 });
+            return Ok(Verdict::EndsAt { end: place + 1 });
         }
         found.furthest.note(terminal, place)?;
-        Ok(Verdict::Failed)
+        Ok(Verdict::Fails)
     }
 
     /// What an expression makes of the bytes from a place on, its first terminal having this number. A failed
@@ -176,12 +184,12 @@ impl<'a> Plain<'a> {
     ) -> Result<Verdict, Stop>
         requires place { place ≤ length (text_of self.now) }
         requires few { terminal + terminals (form_of expr.now) ≤ most_parts }
-        ensures tells { Tells (taken_in self.now depth (form_of expr.now) terminal place)
+        ensures evaluates { Evaluates (taken_in self.now depth (form_of expr.now) terminal place)
             (seen_in found.old) result (seen_in found.new) }
         ensures within { IfOk result (EndsWithin place (length (text_of self.now))) }
     {
         if depth == 0 {
-            return Err(Stop::Depth);
+            return Err(Stop::AtDepth);
         }
         self.case(found, expr, terminal, place, depth - 1)
     }
@@ -198,7 +206,7 @@ impl<'a> Plain<'a> {
     ) -> Result<Verdict, Stop>
         requires place { place ≤ length (text_of self.now) }
         requires few { terminal + terminals (form_of expr.now) ≤ most_parts }
-        ensures tells { Tells (table_in self.now depth (form_of expr.now) terminal place)
+        ensures evaluates { Evaluates (table_in self.now depth (form_of expr.now) terminal place)
             (seen_in found.old) result (seen_in found.new) }
         ensures within { IfOk result (EndsWithin place (length (text_of self.now))) }
     {
@@ -231,7 +239,8 @@ impl<'a> Plain<'a> {
     ) -> Result<Verdict, Stop>
         requires place { place ≤ length (text_of self.now) }
         requires few { terminal + terminals_of_all (forms (map form_of items.now)) ≤ most_parts }
-        ensures tells { (span : Extent) → Tells (table_in self.now depth (Seq (forms (map form_of items.now)) span) terminal place)
+        ensures evaluates { (span : Extent) → Evaluates
+            (table_in self.now depth (Seq (forms (map form_of items.now)) span) terminal place)
             (seen_in found.old) result (seen_in found.new) }
         ensures within { IfOk result (EndsWithin place (length (text_of self.now))) }
     {
@@ -241,17 +250,17 @@ impl<'a> Plain<'a> {
         for item in items {
             match self.expression(found, item, terminal, at, depth) {
                 Err(stop) => return Err(stop),
-                Ok(Verdict::Failed) => {
+                Ok(Verdict::Fails) => {
                     found.rows.truncate(from);
-                    return Ok(Verdict::Failed);
+                    return Ok(Verdict::Fails);
                 }
-                Ok(Verdict::Matched { end }) => {
+                Ok(Verdict::EndsAt { end }) => {
                     at = end;
                     terminal += count_of(item);
                 }
             }
         }
-        Ok(Verdict::Matched { end: at })
+        Ok(Verdict::EndsAt { end: at })
     }
 
     /// The first alternative that matches, each tried at the same place.
@@ -266,25 +275,27 @@ impl<'a> Plain<'a> {
         depth: u64,
     ) -> Result<Verdict, Stop>
         requires place { place ≤ length (text_of self.now) }
-        requires few { terminal + (terminals (form_of first.now) + terminals_of_all (forms (map form_of rest.now))) ≤ most_parts }
-        ensures tells { (span : Extent) → Tells (table_in self.now depth (Choice (form_of first.now) (forms (map form_of rest.now)) span) terminal place)
+        requires few { terminal + (terminals (form_of first.now) + terminals_of_all (forms (map form_of rest.now)))
+            ≤ most_parts }
+        ensures evaluates { (span : Extent) → Evaluates
+            (table_in self.now depth (Choice (form_of first.now) (forms (map form_of rest.now)) span) terminal place)
             (seen_in found.old) result (seen_in found.new) }
         ensures within { IfOk result (EndsWithin place (length (text_of self.now))) }
     {
         match self.expression(found, first, terminal, place, depth) {
             Err(stop) => return Err(stop),
-            Ok(Verdict::Matched { end }) => return Ok(Verdict::Matched { end }),
-            Ok(Verdict::Failed) => {}
+            Ok(Verdict::EndsAt { end }) => return Ok(Verdict::EndsAt { end }),
+            Ok(Verdict::Fails) => {}
         }
         let mut terminal = terminal + count_of(first);
         for next in rest {
             match self.expression(found, next, terminal, place, depth) {
                 Err(stop) => return Err(stop),
-                Ok(Verdict::Matched { end }) => return Ok(Verdict::Matched { end }),
-                Ok(Verdict::Failed) => terminal += count_of(next),
+                Ok(Verdict::EndsAt { end }) => return Ok(Verdict::EndsAt { end }),
+                Ok(Verdict::Fails) => terminal += count_of(next),
             }
         }
-        Ok(Verdict::Failed)
+        Ok(Verdict::Fails)
     }
 
     /// The part, or nothing where it fails.
@@ -299,14 +310,15 @@ impl<'a> Plain<'a> {
     ) -> Result<Verdict, Stop>
         requires place { place ≤ length (text_of self.now) }
         requires few { terminal + terminals (form_of part.now) ≤ most_parts }
-        ensures tells { (span : Extent) → Tells (table_in self.now depth (Optional (form_of part.now) span) terminal place)
+        ensures evaluates { (span : Extent) → Evaluates
+            (table_in self.now depth (Optional (form_of part.now) span) terminal place)
             (seen_in found.old) result (seen_in found.new) }
         ensures within { IfOk result (EndsWithin place (length (text_of self.now))) }
     {
         match self.expression(found, part, terminal, place, depth) {
             Err(stop) => Err(stop),
-            Ok(Verdict::Failed) => Ok(Verdict::Matched { end: place }),
-            Ok(Verdict::Matched { end }) => Ok(Verdict::Matched { end }),
+            Ok(Verdict::Fails) => Ok(Verdict::EndsAt { end: place }),
+            Ok(Verdict::EndsAt { end }) => Ok(Verdict::EndsAt { end }),
         }
     }
 
@@ -322,14 +334,15 @@ impl<'a> Plain<'a> {
     ) -> Result<Verdict, Stop>
         requires place { place ≤ length (text_of self.now) }
         requires few { terminal + terminals (form_of part.now) ≤ most_parts }
-        ensures tells { (span : Extent) → Tells (table_in self.now depth (Star (form_of part.now) span) terminal place)
+        ensures evaluates { (span : Extent) → Evaluates
+            (table_in self.now depth (Star (form_of part.now) span) terminal place)
             (seen_in found.old) result (seen_in found.new) }
         ensures within { IfOk result (EndsWithin place (length (text_of self.now))) }
     {
         match self.expression(found, part, terminal, place, depth) {
             Err(stop) => Err(stop),
-            Ok(Verdict::Failed) => Ok(Verdict::Matched { end: place }),
-            Ok(Verdict::Matched { end }) => self.star(found, part, terminal, end, depth),
+            Ok(Verdict::Fails) => Ok(Verdict::EndsAt { end: place }),
+            Ok(Verdict::EndsAt { end }) => self.star(found, part, terminal, end, depth),
         }
     }
 
@@ -345,12 +358,13 @@ impl<'a> Plain<'a> {
     ) -> Result<Verdict, Stop>
         requires place { place ≤ length (text_of self.now) }
         requires few { terminal + terminals (form_of part.now) ≤ most_parts }
-        ensures tells { (span : Extent) → Tells (taken_in self.now depth (Star (form_of part.now) span) terminal place)
+        ensures evaluates { (span : Extent) → Evaluates
+            (taken_in self.now depth (Star (form_of part.now) span) terminal place)
             (seen_in found.old) result (seen_in found.new) }
         ensures within { IfOk result (EndsWithin place (length (text_of self.now))) }
     {
         if depth == 0 {
-            return Err(Stop::Depth);
+            return Err(Stop::AtDepth);
         }
         self.rounds(found, part, terminal, place, depth - 1)
     }
@@ -367,14 +381,15 @@ impl<'a> Plain<'a> {
     ) -> Result<Verdict, Stop>
         requires place { place ≤ length (text_of self.now) }
         requires few { terminal + terminals (form_of part.now) ≤ most_parts }
-        ensures tells { (span : Extent) → Tells (table_in self.now depth (Plus (form_of part.now) span) terminal place)
+        ensures evaluates { (span : Extent) → Evaluates
+            (table_in self.now depth (Plus (form_of part.now) span) terminal place)
             (seen_in found.old) result (seen_in found.new) }
         ensures within { IfOk result (EndsWithin place (length (text_of self.now))) }
     {
         match self.expression(found, part, terminal, place, depth) {
             Err(stop) => Err(stop),
-            Ok(Verdict::Failed) => Ok(Verdict::Failed),
-            Ok(Verdict::Matched { end }) => self.star(found, part, terminal, end, depth),
+            Ok(Verdict::Fails) => Ok(Verdict::Fails),
+            Ok(Verdict::EndsAt { end }) => self.star(found, part, terminal, end, depth),
         }
     }
 
@@ -390,17 +405,18 @@ impl<'a> Plain<'a> {
     ) -> Result<Verdict, Stop>
         requires place { place ≤ length (text_of self.now) }
         requires few { terminal + terminals (form_of part.now) ≤ most_parts }
-        ensures tells { (span : Extent) → Tells (table_in self.now depth (And (form_of part.now) span) terminal place)
+        ensures evaluates { (span : Extent) → Evaluates
+            (table_in self.now depth (And (form_of part.now) span) terminal place)
             (seen_in found.old) result (seen_in found.new) }
         ensures within { IfOk result (EndsWithin place (length (text_of self.now))) }
     {
         let from = found.rows.len();
         match self.expression(found, part, terminal, place, depth) {
             Err(stop) => Err(stop),
-            Ok(Verdict::Failed) => Ok(Verdict::Failed),
-            Ok(Verdict::Matched { .. }) => {
+            Ok(Verdict::Fails) => Ok(Verdict::Fails),
+            Ok(Verdict::EndsAt { .. }) => {
                 found.rows.truncate(from);
-                Ok(Verdict::Matched { end: place })
+                Ok(Verdict::EndsAt { end: place })
             }
         }
     }
@@ -417,17 +433,18 @@ impl<'a> Plain<'a> {
     ) -> Result<Verdict, Stop>
         requires place { place ≤ length (text_of self.now) }
         requires few { terminal + terminals (form_of part.now) ≤ most_parts }
-        ensures tells { (span : Extent) → Tells (table_in self.now depth (Not (form_of part.now) span) terminal place)
+        ensures evaluates { (span : Extent) → Evaluates
+            (table_in self.now depth (Not (form_of part.now) span) terminal place)
             (seen_in found.old) result (seen_in found.new) }
         ensures within { IfOk result (EndsWithin place (length (text_of self.now))) }
     {
         let from = found.rows.len();
         match self.expression(found, part, terminal, place, depth) {
             Err(stop) => Err(stop),
-            Ok(Verdict::Failed) => Ok(Verdict::Matched { end: place }),
-            Ok(Verdict::Matched { .. }) => {
+            Ok(Verdict::Fails) => Ok(Verdict::EndsAt { end: place }),
+            Ok(Verdict::EndsAt { .. }) => {
                 found.rows.truncate(from);
-                Ok(Verdict::Failed)
+                Ok(Verdict::Fails)
             }
         }
     }
@@ -436,12 +453,13 @@ impl<'a> Plain<'a> {
     #[cycle(plain)]
     fn name(&self, found: &mut Found, name: &str, place: u32, depth: u64) -> Result<Verdict, Stop>
         requires { place ≤ length (text_of self.now) }
-        ensures tells { (span : Extent) (terminal : ℕ) → Tells (table_in self.now depth (Name name.now span) terminal place)
+        ensures evaluates { (span : Extent) (terminal : ℕ) → Evaluates
+            (table_in self.now depth (Name name.now span) terminal place)
             (seen_in found.old) result (seen_in found.new) }
         ensures within { IfOk result (EndsWithin place (length (text_of self.now))) }
     {
         match self.grammar.rule_number(name) {
-            None => Err(Stop::Depth),
+            None => Err(Stop::AtDepth),
             Some(rule) => self.rule(found, rule, place, depth),
         }
     }
@@ -451,7 +469,8 @@ impl<'a> Plain<'a> {
     fn rule(&self, found: &mut Found, rule: u32, place: u32, depth: u64) -> Result<Verdict, Stop>
         requires place { place ≤ length (text_of self.now) }
         requires rule { rule < length (rules_in self.now.grammar.now) }
-        ensures tells { Tells (used_in self.now depth rule place) (seen_in found.old) result (seen_in found.new) }
+        ensures evaluates { Evaluates (used_in self.now depth rule place)
+            (seen_in found.old) result (seen_in found.new) }
         ensures within { IfOk result (EndsWithin place (length (text_of self.now))) }
     {
         let from = found.rows.len();
@@ -461,15 +480,15 @@ impl<'a> Plain<'a> {
         let terminal = self.first[rule as usize];
         match self.expression(found, self.grammar.body(rule), terminal, place, depth) {
             Err(stop) => Err(stop),
-            Ok(Verdict::Failed) => {
+            Ok(Verdict::Fails) => {
                 found.rows.truncate(from);
-                Ok(Verdict::Failed)
+                Ok(Verdict::Fails)
             }
-            Ok(Verdict::Matched { end }) => {
+            Ok(Verdict::EndsAt { end }) => {
                 let size = (found.rows.len() - from) as u64;
                 let span = Span::new(place, end);
                 found.rows[from] = TreeNode { rule, span, size };
-                Ok(Verdict::Matched { end })
+                Ok(Verdict::EndsAt { end })
             }
         }
     }
@@ -477,11 +496,11 @@ impl<'a> Plain<'a> {
     /// What the use of a rule at the text's front makes of it.
     fn start(&self, found: &mut Found, rule: u32, depth: u64) -> Result<Verdict, Stop>
         requires { rule < length (rules_in self.now.grammar.now) }
-        ensures { Tells (start_record (rules_in self.now.grammar.now) (text_of self.now) depth
+        ensures { Evaluates (start_record (rules_in self.now.grammar.now) (text_of self.now) depth
             (name_of (rules_in self.now.grammar.now) rule)) (seen_in found.old) result (seen_in found.new) }
     {
         if depth == 0 {
-            return Err(Stop::Depth);
+            return Err(Stop::AtDepth);
         }
         self.name(found, self.grammar.rule_name(rule), 0, depth - 1)
     }
@@ -497,8 +516,8 @@ fn outcome_of(verdict: Verdict, found: Found) -> Outcome
     let Found { furthest, rows } = found;
     let Furthest { far, expected } = furthest;
     let result = match verdict {
-        Verdict::Failed => Parsed::Failed,
-        Verdict::Matched { end } => Parsed::Matched {
+        Verdict::Fails => Parsed::Failed,
+        Verdict::EndsAt { end } => Parsed::Matched {
             end,
             tree: Tree::from_rows(rows),
         },

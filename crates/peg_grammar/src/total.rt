@@ -1,20 +1,24 @@
 //! The plain evaluator without a bound: on a well-formed grammar the recursion ends by itself.
 ghost use Rattle.std.specs.Prelude.{◌<◌, ◌↔◌, length, IfOk, IsErrOf};
 ghost use Rattle.peg_grammar.specs.GrammarRules.{rules_in};
+ghost use Rattle.peg_grammar.specs.Limits.{most_text_bytes};
 ghost use Rattle.peg_grammar.specs.Outcomes.{IsOutcome};
-ghost use Rattle.peg_grammar.specs.Rules.{name_of};
-ghost use Rattle.peg_grammar.specs.WellFormed.{IsWellFormedGrammar};
+ghost use Rattle.peg_ford.specs.Rules.{name_of};
+ghost use Rattle.peg_ford.specs.WellFormed.{IsWellFormedGrammar};
 
 use crate::{Grammar, PlainFault, plain_match};
 use peg_tree::Outcome;
 use std::alloc::Global;
+use thiserror::Error;
 
 /// Why `plain_total` has no answer.
-#[derive(Clone, Copy, Debug, PartialEq, Eq)]
+#[derive(Clone, Copy, Debug, PartialEq, Eq, Error)]
 pub enum TotalFault {
-    /// The text has more than 67,108,864 bytes.
+    /// The text has more than `MOST_TEXT_BYTES` bytes.
+    #[error("the text is too long")]
     TextTooLong,
-    /// A growth was refused.
+    /// Memory ran out.
+    #[error("out of memory")]
     Memory,
 }
 
@@ -29,7 +33,7 @@ pub fn plain_total(
 ) -> Result<Outcome, TotalFault>
     requires start { start < length (rules_in grammar.now) }
     requires well_formed { ∥ IsWellFormedGrammar (rules_in grammar.now) ∥₁ }
-    ensures long { IsErrOf result TotalFault.TextTooLong ↔ (67108864 < length text.now) }
+    ensures long { IsErrOf result TotalFault.TextTooLong ↔ (most_text_bytes < length text.now) }
     ensures outcome { IfOk result (IsOutcome (rules_in grammar.now) text.now (name_of (rules_in grammar.now) start)) }
 {
     match plain_match(alloc, grammar, text, start, u64::MAX) {

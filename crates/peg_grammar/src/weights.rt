@@ -1,7 +1,7 @@
 //! How much a grammar holds.
 ghost use Rattle.std.specs.Prelude.{◌≡◌, ◌-◌, ◌^◌, map, min};
-ghost use Rattle.peg_grammar.specs.Form.{form_weight, forms, forms_weight};
-ghost use Rattle.peg_grammar.specs.Rules.{weight_of};
+ghost use Rattle.peg_ford.specs.Form.{form_weight, forms, forms_weight};
+ghost use Rattle.peg_ford.specs.Rules.{weight_of};
 ghost use Rattle.peg_grammar.specs.Written.{form_of, rules_of};
 
 use crate::{Definition, Expr};

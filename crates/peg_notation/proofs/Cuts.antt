@@ -3,8 +3,8 @@
 use Rattle.std.proofs.Common.{◌≡◌, ℕ, zero, suc, max, ◌-◌, ◌<◌, ◌≤◌, Bool, true, false, List, [], ◌∷◌, length, drop, length-drop, ◌⊎◌, inl, inr}
 use Rattle.std.proofs.Common.{Result, Ok, Err, if◌then◌else◌, refl, sym, ap, ◌∙◌, subst, arith}
 use Rattle.std.proofs.lemmas.Bool.{cases_lt}
-use Rattle.peg_notation.specs.Reader.{Halt, Unexpected, TooDeep, Part, Parts, Reading, and_read, no_more, and_parts, many_behind, many}
-use Rattle.peg_notation.specs.Tokens.{Lexeme}
+use Rattle.peg_notation.specs.Reader.{Halt, Unexpected, TooDeep, FormRead, FormsRead, Reading, and_read, no_more, and_form, many_behind, many}
+use Rattle.peg_lexer.specs.Tokens.{Lexeme}
 use Rattle.peg_notation.proofs.Repeats.{many_behind-drop}
 
 -- it is found too deep
@@ -112,39 +112,39 @@ cut-both {X} {Y} {Z} dx dy dz most put same next cut_next (Err (TooDeep at)) y l
 
 -- readings, one behind the other, cut alike
 pub cut-many : (begins : List Lexeme → Bool) (read cut_read : Reading) (most : ℕ)
-    → ((before : ℕ) (lexemes : List Lexeme) → IsCut (λ (p : Part). p.depth) most (read before lexemes)
-    (cut_read before lexemes)) → ((before : ℕ) (lexemes : List Lexeme) (p : Part) → read before lexemes ≡ Ok p
+    → ((before : ℕ) (lexemes : List Lexeme) → IsCut (λ (p : FormRead). p.depth) most (read before lexemes)
+    (cut_read before lexemes)) → ((before : ℕ) (lexemes : List Lexeme) (p : FormRead) → read before lexemes ≡ Ok p
     → 0 < p.taken) → (n before : ℕ) (lexemes : List Lexeme) → length lexemes ≤ n
-    → IsCut (λ (p : Parts). p.depth) most (many begins read before lexemes) (many begins cut_read before lexemes)
+    → IsCut (λ (p : FormsRead). p.depth) most (many begins read before lexemes) (many begins cut_read before lexemes)
 unfolding many_behind
 cut-many begins read cut_read most cuts some n before [] few = (λ _. refl, λ over. absurd (omega arith))
 cut-many begins read cut_read most cuts some zero before (l ∷ rest) few = absurd (omega arith)
 cut-many begins read cut_read most cuts some (suc n) before (l ∷ rest) few =
     by (begins (l ∷ rest))
-    (cut-both (λ (p : Part). p.depth) (λ (p : Parts). p.depth) (λ (p : Parts). p.depth) most and_parts (λ x y. refl)
-    (λ (p : Part). many_behind begins read p.last rest (p.taken - 1))
-    (λ (p : Part). many_behind begins cut_read p.last rest (p.taken - 1)) (read before (l ∷
+    (cut-both (λ (p : FormRead). p.depth) (λ (p : FormsRead). p.depth) (λ (p : FormsRead). p.depth) most and_form (λ x y. refl)
+    (λ (p : FormRead). many_behind begins read p.last rest (p.taken - 1))
+    (λ (p : FormRead). many_behind begins cut_read p.last rest (p.taken - 1)) (read before (l ∷
     rest)) (cut_read before (l ∷ rest))
     (λ p is.
     let positive : 0 < p.taken = some before (l ∷ rest) p is in
     let fewer : length (drop (p.taken - 1) rest) ≤ n = omega (arith, length-drop (p.taken - 1) rest) in
     let it = cut-many begins read cut_read most cuts some n p.last (drop (p.taken - 1) rest) fewer in
-    subst (λ (x : Result Parts Halt). IsCut (λ (q : Parts). q.depth) most x
+    subst (λ (x : Result FormsRead Halt). IsCut (λ (q : FormsRead). q.depth) most x
     (many_behind begins cut_read p.last rest (p.taken - 1)))
     (sym (many_behind-drop begins read p.last rest (p.taken - 1)))
-    (subst (λ (y : Result Parts Halt). IsCut (λ (q : Parts). q.depth) most
+    (subst (λ (y : Result FormsRead Halt). IsCut (λ (q : FormsRead). q.depth) most
     (many begins read p.last (drop (p.taken - 1) rest)) y)
     (sym (many_behind-drop begins cut_read p.last rest (p.taken - 1))) it))
     (cuts before (l ∷ rest)))
   where
-    by : (t : Bool) → IsCut (λ (p : Parts). p.depth) most
-        (and_read (read before (l ∷ rest)) (λ (p : Part). and_read (many_behind begins read p.last rest (p.taken - 1))
-        (λ (q : Parts). Ok (and_parts p q)))) (and_read (cut_read before (l ∷
-        rest)) (λ (p : Part). and_read (many_behind begins cut_read p.last rest (p.taken - 1))
-        (λ (q : Parts). Ok (and_parts p q)))) → IsCut (λ (p : Parts). p.depth) most (if t then and_read (read before (l ∷
-        rest)) (λ (p : Part). and_read (many_behind begins read p.last rest (p.taken - 1))
-        (λ (q : Parts). Ok (and_parts p q))) else Ok (no_more before)) (if t then and_read (cut_read before (l ∷
-        rest)) (λ (p : Part). and_read (many_behind begins cut_read p.last rest (p.taken - 1))
-        (λ (q : Parts). Ok (and_parts p q))) else Ok (no_more before))
+    by : (t : Bool) → IsCut (λ (p : FormsRead). p.depth) most
+        (and_read (read before (l ∷ rest)) (λ (p : FormRead). and_read (many_behind begins read p.last rest (p.taken - 1))
+        (λ (q : FormsRead). Ok (and_form p q)))) (and_read (cut_read before (l ∷
+        rest)) (λ (p : FormRead). and_read (many_behind begins cut_read p.last rest (p.taken - 1))
+        (λ (q : FormsRead). Ok (and_form p q)))) → IsCut (λ (p : FormsRead). p.depth) most (if t then and_read (read before (l ∷
+        rest)) (λ (p : FormRead). and_read (many_behind begins read p.last rest (p.taken - 1))
+        (λ (q : FormsRead). Ok (and_form p q))) else Ok (no_more before)) (if t then and_read (cut_read before (l ∷
+        rest)) (λ (p : FormRead). and_read (many_behind begins cut_read p.last rest (p.taken - 1))
+        (λ (q : FormsRead). Ok (and_form p q))) else Ok (no_more before))
     by true it = it
     by false it = (λ _. refl, λ over. absurd (omega arith))

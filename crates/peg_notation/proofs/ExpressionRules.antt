@@ -4,28 +4,28 @@ use Rattle.std.proofs.Common.{Option, None, Some, Result, Ok, Err, refl, sym, ap
 use Rattle.std.proofs.lemmas.List.{drop-drop}
 use Rattle.peg_bytes.specs.Extent.{Extent, between}
 use Rattle.peg_tree.specs.Trees.{Trees, NoTrees, Tree, followed_by}
-use Rattle.peg_grammar.specs.Form as form
-use Rattle.peg_grammar.specs.Form.{Form, Name}
-use Rattle.peg_grammar.specs.Record.{Failed, Matched}
-use Rattle.peg_grammar.proofs.Derivations.{Derives, DerivesItems}
-use Rattle.peg_notation.specs.Figure.{figure, sequence_body, expression_body}
-use Rattle.peg_notation.specs.FigureRules as rule
-use Rattle.peg_notation.specs.Lexical.{text_of}
-use Rattle.peg_notation.specs.Pieces.{Piece}
-use Rattle.peg_notation.specs.Reader.{Halt, Unexpected, TooDeep, Part, Parts, Reading, place_of, starts_with_arrow, kind_begins, begins_prefix, and_read, many, primary, suffix, prefix, sequence_part, sequence, is_slash, starts_with_slash, behind, alternative, choice_part, expression, expression_in}
-use Rattle.peg_notation.specs.Spelled.{Spelling, Expression, text_end, spelled, expressions_in, sequence_spelled, choice_spelled}
-use Rattle.peg_notation.specs.Tokens.{Lexeme}
-use Rattle.peg_notation.specs.declared.token.TokenKind.{TokenKind}
-use Rattle.peg_notation.specs.declared.token.TokenKind.TheVariants as kind
-use Rattle.peg_notation.proofs.FigureNames.{sequence-meant, expression-meant}
-use Rattle.peg_notation.proofs.Lexemes.{lexeme_at}
-use Rattle.peg_notation.proofs.PieceSizes.{blank-these}
+use Rattle.peg_ford.specs.Form as form
+use Rattle.peg_ford.specs.Form.{Form, Name}
+use Rattle.peg_ford.specs.Record.{Failed, Matched}
+use Rattle.peg_ford.proofs.Derivations.{Derives, DerivesItems}
+use Rattle.peg_figure.specs.Figure.{figure, sequence_body, expression_body}
+use Rattle.peg_figure.specs.FigureRules as rule
+use Rattle.peg_lexer.specs.Lexical.{text_of}
+use Rattle.peg_lexer.specs.Pieces.{Piece}
+use Rattle.peg_notation.specs.Reader.{Halt, Unexpected, TooDeep, FormRead, FormsRead, Reading, place_of, starts_with_arrow, kind_begins, begins_prefix, and_read, many, primary, suffix, prefix, whole_sequence, sequence, is_slash, starts_with_slash, behind, alternative, whole_choice, expression, expression_in}
+use Rattle.peg_figure.specs.Spelled.{Spelling, Expression, text_end, spelled, expressions_in, sequence_spelled, choice_spelled}
+use Rattle.peg_lexer.specs.Tokens.{Lexeme}
+use Rattle.peg_lexer.specs.declared.token.TokenKind.{TokenKind}
+use Rattle.peg_lexer.specs.declared.token.TokenKind.TheVariants as kind
+use Rattle.peg_figure.proofs.FigureNames.{sequence-meant, expression-meant}
+use Rattle.peg_lexer.proofs.Lexemes.{lexeme_at}
+use Rattle.peg_lexer.proofs.PieceSizes.{blank-these}
 use Rattle.peg_notation.proofs.PrefixRules.{prefix-exact}
 use Rattle.peg_notation.proofs.Readings.{followed-none, ExactAny, ReadsAt, ExactAt, IsStuck, Good, node_at, place-is}
 use Rattle.peg_notation.proofs.Repeats.{ExactRound, Rounds, ExactMany, rounds}
 use Rattle.peg_notation.proofs.Streams.{Stream, here, not_here, none_here}
-use Rattle.peg_notation.proofs.Takes.{spelled-followed, text_end-followed, nesting-followed}
-use Rattle.peg_notation.proofs.Texts.{FindsToken, behind_text}
+use Rattle.peg_lexer.proofs.Takes.{spelled-followed, text_end-followed, nesting-followed}
+use Rattle.peg_lexer.proofs.Texts.{FindsToken, behind_text}
 
 -- ---- where a prefix begins
 
@@ -97,14 +97,14 @@ prefix_rounds : (file : List ℕ) (most : ℕ) (inner : Option Reading) → Good
 prefix_rounds file most inner good = record {
   none = λ p lexemes stream few none.
       let it = none_begins file inner p lexemes stream none in
-      subst (λ (x : Result Part Halt). ExactAny file (codes "Prefix") p lexemes x) it.1
+      subst (λ (x : Result FormRead Halt). ExactAny file (codes "Prefix") p lexemes x) it.1
       (prefix-exact file most inner good p lexemes stream few) (between 140 146);
   one = λ before p lexemes stream few begins.
       by p lexemes stream begins (prefix file inner lexemes) refl
       (prefix-exact file most inner good p lexemes stream few);
 }
   where
-    by : (p : ℕ) (lexemes : List Lexeme) → Stream file p lexemes → begins_prefix lexemes ≡ true → (x : Result Part Halt)
+    by : (p : ℕ) (lexemes : List Lexeme) → Stream file p lexemes → begins_prefix lexemes ≡ true → (x : Result FormRead Halt)
         → prefix file inner lexemes ≡ x → ExactAny file (codes "Prefix") p lexemes x
         → ExactRound file (Name (codes "Prefix") (between 140 146)) (between 140 147) p lexemes x
     by p lexemes stream begins (Ok part) is e = record {
@@ -139,13 +139,13 @@ sequence-exact file most inner good before p lexemes stream few =
     by (many begins_prefix (λ b. prefix file inner) before lexemes)
     (rounds (prefix_rounds file most inner good) (length lexemes) before p lexemes (omega arith) stream few refl)
   where
-    by : (x : Result Parts Halt) → ExactMany file (Name (codes "Prefix") (between 140 146))
+    by : (x : Result FormsRead Halt) → ExactMany file (Name (codes "Prefix") (between 140 146))
         (between 140 147) before p lexemes x → ExactAt file (codes "Sequence") before p lexemes
-        (and_read x (λ (parts : Parts). Ok (sequence_part before (place_of (length file) lexemes) parts)))
+        (and_read x (λ (parts : FormsRead). Ok (whole_sequence before (place_of (length file) lexemes) parts)))
     by (Ok parts) m =
-        subst (λ start. ReadsAt file (codes "Sequence") before p lexemes (sequence_part before start parts))
+        subst (λ start. ReadsAt file (codes "Sequence") before p lexemes (whole_sequence before start parts))
         (sym (place-is stream))
-        (node_at before _ sequence-meant.1 refl refl m.derives (sequence_part before p parts)
+        (node_at before _ sequence-meant.1 refl refl m.derives (whole_sequence before p parts)
         (ap (λ (forms : List Form). Expression (sequence_spelled before (between p parts.last) forms) ∷ [])
         (ap expressions_in (m.spells before) ∙ expressions-all parts.forms))
         m.ends m.nests m.left)
@@ -185,9 +185,9 @@ stuck_slash file q stuck span =
     ]
 
 one_alternative : (file : List ℕ) (p : ℕ) (piece : Piece) (rest : List Lexeme) → text_of kind.Slash (drop p file)
-    ≡ Some piece → (x : Result Part Halt) → ExactAt file (codes "Sequence") (p + piece.length)
+    ≡ Some piece → (x : Result FormRead Halt) → ExactAt file (codes "Sequence") (p + piece.length)
     (behind_text file p piece.length) rest x → ExactRound file slash_sequence (between 110 127) p
-    (lexeme_at kind.Slash p piece.length ∷ rest) (and_read x (λ (part : Part). Ok (behind 1 part)))
+    (lexeme_at kind.Slash p piece.length ∷ rest) (and_read x (λ (part : FormRead). Ok (behind 1 part)))
 one_alternative file p piece rest found (Ok part) e =
     let s : FindsToken file rule.slash (codes "SLASH") (between 111 116) p piece = here kind.Slash piece
     (between 111 116) found in
@@ -246,12 +246,12 @@ alternative_rounds file most inner good = record {
     reads before p [] stream few begins = cc
     reads before p (_ ∷ more) (Stream.next k piece lexeme found is rest) few begins =
         subst (λ (l : Lexeme). ExactRound file slash_sequence (between 110 127) p (l ∷
-        more) (and_read (sequence file inner l.text.end more) (λ (part : Part). Ok (behind 1 part)))) (sym is)
+        more) (and_read (sequence file inner l.text.end more) (λ (part : FormRead). Ok (behind 1 part)))) (sym is)
         (by k found (ap (λ (l : Lexeme). is_slash l.kind) (sym is) ∙ begins))
       where
         by : (k : TokenKind) → text_of k (drop p file) ≡ Some piece → is_slash k ≡ true
             → ExactRound file slash_sequence (between 110 127) p (lexeme_at k p piece.length ∷
-            more) (and_read (sequence file inner (p + piece.length) more) (λ (part : Part). Ok (behind 1 part)))
+            more) (and_read (sequence file inner (p + piece.length) more) (λ (part : FormRead). Ok (behind 1 part)))
         by kind.Slash there slash =
             one_alternative file p piece more there (sequence file inner (p + piece.length) more)
             (sequence-exact file most inner good (p + piece.length) (behind_text file p piece.length) more rest
@@ -272,17 +272,17 @@ alternative_rounds file most inner good = record {
 -- ---- Expression
 
 -- a sequence and alternatives behind it
-both_parts : (file : List ℕ) (before p : ℕ) (lexemes : List Lexeme) (first : Part)
-    → (e : ReadsAt file (codes "Sequence") before p lexemes first) → (x : Result Parts Halt)
+both_parts : (file : List ℕ) (before p : ℕ) (lexemes : List Lexeme) (first : FormRead)
+    → (e : ReadsAt file (codes "Sequence") before p lexemes first) → (x : Result FormsRead Halt)
     → ExactMany file slash_sequence (between 110 127) first.last e.end (drop first.taken lexemes) x
-    → ExactAt file (codes "Expression") before p lexemes (and_read x (λ (more : Parts). Ok (choice_part p first more)))
+    → ExactAt file (codes "Expression") before p lexemes (and_read x (λ (more : FormsRead). Ok (whole_choice p first more)))
 unfolding expression_body
 both_parts file before p lexemes first e (Ok more) m =
     node_at before _ expression-meant.1 refl refl
     (Derives.sequence
     (DerivesItems.items_then (e.derives _) (DerivesItems.items_then m.derives DerivesItems.items_none refl)
     (ap (λ (t : Trees). Matched m.end (followed_by e.trees t)) (sym (followed-none m.trees)))))
-    (choice_part p first more)
+    (whole_choice p first more)
     (ap (λ (forms : List Form). Expression (choice_spelled (between p more.last) forms) ∷ [])
     (ap expressions_in
     (spelled-followed file before e.trees m.trees
@@ -311,17 +311,17 @@ unfolding expression_body
 expression-exact file most inner good before p lexemes stream few =
     by (sequence file inner before lexemes) (sequence-exact file most inner good before p lexemes stream few)
   where
-    by : (x : Result Part Halt) → ExactAt file (codes "Sequence") before p lexemes x
+    by : (x : Result FormRead Halt) → ExactAt file (codes "Sequence") before p lexemes x
         → ExactAt file (codes "Expression") before p lexemes
-        (and_read x (λ (first : Part). and_read (many starts_with_slash (alternative file inner) first.last
-        (drop first.taken lexemes)) (λ (more : Parts). Ok (choice_part (place_of (length file) lexemes) first more))))
+        (and_read x (λ (first : FormRead). and_read (many starts_with_slash (alternative file inner) first.last
+        (drop first.taken lexemes)) (λ (more : FormsRead). Ok (whole_choice (place_of (length file) lexemes) first more))))
     by (Ok first) e =
         let fewer : length (drop first.taken lexemes) ≤ most = omega (arith, length-drop first.taken lexemes) in
         let m = rounds (alternative_rounds file most inner good) (length (drop first.taken lexemes)) first.last e.end
         (drop first.taken lexemes) (omega arith) e.left fewer refl in
         subst (λ start. ExactAt file (codes "Expression") before p lexemes
         (and_read (many starts_with_slash (alternative file inner) first.last (drop first.taken lexemes))
-        (λ (more : Parts). Ok (choice_part start first more)))) (sym (place-is stream))
+        (λ (more : FormsRead). Ok (whole_choice start first more)))) (sym (place-is stream))
         (both_parts file before p lexemes first e (many starts_with_slash (alternative file inner) first.last
         (drop first.taken lexemes)) m)
     by (Err (Unexpected at)) stops = record {

@@ -5,33 +5,33 @@ use Rattle.std.proofs.lemmas.Bool.{cases_lt}
 use Rattle.std.proofs.lemmas.List.Sums.{sum_by-cons}
 use Rattle.peg_bytes.specs.Extent.{between}
 use Rattle.peg_tree.specs.Trees.{Trees}
-use Rattle.peg_grammar.specs.Form.{Name}
-use Rattle.peg_grammar.specs.Record.{Failed, Matched}
-use Rattle.peg_grammar.proofs.Derivations.{Derives, one_result}
-use Rattle.peg_notation.specs.Figure.{figure}
-use Rattle.peg_notation.specs.Notation.{Matches, IsInNotation, most_file_bytes}
-use Rattle.peg_notation.specs.Pieces.{Piece}
-use Rattle.peg_notation.specs.Reader.{Halt, Unexpected, TooDeep, Rules, grammar}
-use Rattle.peg_notation.specs.ReaderCode.{IsText, AreTexts, TellsFault}
+use Rattle.peg_ford.specs.Form.{Name}
+use Rattle.peg_ford.specs.Record.{Failed, Matched}
+use Rattle.peg_ford.proofs.Derivations.{Derives, one_result}
+use Rattle.peg_figure.specs.Figure.{figure}
+use Rattle.peg_figure.specs.Notation.{Matches, IsInNotation, IsReading, most_file_bytes}
+use Rattle.peg_lexer.specs.Pieces.{Piece}
+use Rattle.peg_notation.specs.Reader.{Halt, Unexpected, TooDeep, RulesRead, grammar}
+use Rattle.peg_notation.specs.ReaderCode.{IsText, AreTexts, ConveysHalt}
 use Rattle.peg_notation.specs.Reads.{most_open, fault_of, Reads, IsReadingWithin, NestsDeeper, IsTokenPlace, one_if_open, opens, one_if_close, closes, IsOneTooMany}
 use Rattle.peg_notation.specs.Spans.{RuleLiesIn, AnswerLiesIn}
-use Rattle.peg_notation.specs.Spelled.{nesting}
-use Rattle.peg_notation.specs.Tokens.{Lexeme, IsTokens, Lexes}
-use Rattle.peg_notation.specs.declared.fault.LexFault.{LexFault}
-use Rattle.peg_notation.specs.declared.fault.LexFault.TheVariants.{FileTooLong, Syntax, Memory}
+use Rattle.peg_figure.specs.Nesting.{nesting}
+use Rattle.peg_lexer.specs.Tokens.{Lexeme, IsTokens, Lexes}
+use Rattle.peg_lexer.specs.declared.fault.LexFault.{LexFault}
+use Rattle.peg_lexer.specs.declared.fault.LexFault.TheVariants.{FileTooLong, Syntax, Memory}
 use Rattle.peg_notation.specs.declared.fault.NotationFault.{NotationFault}
 use Rattle.peg_notation.specs.declared.fault.NotationFault.TheVariants as answer
 use Rattle.peg_notation.proofs.Cuts.{IsCut}
 use Rattle.peg_notation.proofs.GrammarRules.{ExactFile, first_place, grammar-exact}
-use Rattle.peg_notation.proofs.Lexemes.{lexeme_at, matches}
+use Rattle.peg_lexer.proofs.Lexemes.{lexeme_at, matches}
 use Rattle.peg_notation.proofs.MatchedTokens.{derives, fault_not_matched}
 use Rattle.peg_notation.proofs.Places.{IsPlace, StopsAt, grammar-stops}
 use Rattle.peg_notation.proofs.Reached.{Runs, IsDeepAt, token-order, texts-within, texts-from}
 use Rattle.peg_notation.proofs.ReachedRules.{RulesReach, grammar-reaches}
 use Rattle.peg_notation.proofs.ReaderCuts.{grammar-cut}
-use Rattle.peg_notation.proofs.SpacingRules.{finds-spacing}
+use Rattle.peg_lexer.proofs.SpacingRules.{finds-spacing}
 use Rattle.peg_notation.proofs.Streams.{Stream, stream}
-use Rattle.peg_notation.proofs.Texts.{behind_text}
+use Rattle.peg_lexer.proofs.Texts.{behind_text}
 
 -- ---- tokens
 
@@ -147,20 +147,27 @@ too_many most file lexemes at tokens deep =
 
 -- a reading is the figure's, where it is read with as many parentheses as there are tokens and nests no deeper than is
 -- allowed
-read_within : (file : List ℕ) (most : ℕ) (all cut : Result Rules Halt) → ExactFile file all
-    → IsCut (λ (p : Rules). p.depth) most all cut → (read : Rules) → cut ≡ Ok read → IsReadingWithin most file read.rules
+read_within : (file : List ℕ) (most : ℕ) (all cut : Result RulesRead Halt) → ExactFile file all
+    → IsCut (λ (p : RulesRead). p.depth) most all cut → (read : RulesRead) → cut ≡ Ok read → IsReadingWithin most file read.rules
 read_within file most (Ok x) cut exact is read found = by (cases_lt most x.depth)
   where
+    flat : (end : ℕ) (trees : Trees) → Matches file (codes "Grammar") 0 end trees → x.depth ≤ most → nesting trees ≤ most
+    flat end trees m shallow =
+        let same : Matched end trees ≡ Matched exact.end exact.trees = one_result (derives m) (exact.derives (between 0 0)) in
+        let one : trees ≡ exact.trees = cc in
+        omega (arith, ap nesting one, exact.nests)
+
     by : (most < x.depth) ⊎ (x.depth ≤ most) → IsReadingWithin most file read.rules
     by (inr shallow) =
         let same : Ok x ≡ Ok read = sym (is.0 shallow) ∙ found in
-        let it : x ≡ read = cc in (
+        let it : x ≡ read = cc in
+        let reading : IsReading file read.rules = (
           exact.end,
           exact.trees,
           matches (exact.derives (between 0 0)),
-          omega (arith, exact.nests),
-          ap (λ (r : Rules). r.rules) (sym it) ∙ exact.spells,
-        )
+          ap (λ (r : RulesRead). r.rules) (sym it) ∙ exact.spells,
+        ) in
+        (reading, λ end trees m. flat end trees m shallow)
     by (inl deep) = absurd (let bad = sym found ∙ (is.1 deep).1 in cc)
 read_within file most (Err (Unexpected at)) cut exact (inl same) read found = absurd (let bad = sym found ∙ same in cc)
 read_within file most (Err (Unexpected at)) cut exact (inr deep) read found = absurd (let bad = sym found ∙ deep.1 in cc)
@@ -171,8 +178,8 @@ not_matched : (file : List ℕ) → ((span : Rattle.peg_bytes.specs.Extent.Exten
 not_matched file fails end trees m =
     let bad : Matched end trees ≡ Failed = one_result (derives m) (fails (between 0 0)) in cc
 
-not_read : (file : List ℕ) (most : ℕ) (all cut : Result Rules Halt) → ExactFile file all
-    → IsCut (λ (p : Rules). p.depth) most all cut → (at : ℕ) → cut ≡ Err (Unexpected at) → ¬ IsInNotation file
+not_read : (file : List ℕ) (most : ℕ) (all cut : Result RulesRead Halt) → ExactFile file all
+    → IsCut (λ (p : RulesRead). p.depth) most all cut → (at : ℕ) → cut ≡ Err (Unexpected at) → ¬ IsInNotation file
 not_read file most (Ok x) cut exact is at found m = by (cases_lt most x.depth)
   where
     by : (most < x.depth) ⊎ (x.depth ≤ most) → ⊥
@@ -181,8 +188,8 @@ not_read file most (Ok x) cut exact is at found m = by (cases_lt most x.depth)
 not_read file most (Err (Unexpected other)) cut exact is at found m = not_matched file exact m.0 m.1 m.2
 not_read file most (Err (TooDeep other)) cut exact is at found m = exact
 
-nests_deeper : (file : List ℕ) (most : ℕ) (all cut : Result Rules Halt) → ExactFile file all
-    → IsCut (λ (p : Rules). p.depth) most all cut → (at : ℕ) → cut ≡ Err (TooDeep at) → NestsDeeper most file
+nests_deeper : (file : List ℕ) (most : ℕ) (all cut : Result RulesRead Halt) → ExactFile file all
+    → IsCut (λ (p : RulesRead). p.depth) most all cut → (at : ℕ) → cut ≡ Err (TooDeep at) → NestsDeeper most file
 nests_deeper file most (Ok x) cut exact is at found end trees m = by (cases_lt most x.depth)
   where
     by : (most < x.depth) ⊎ (x.depth ≤ most) → most < nesting trees
@@ -196,8 +203,8 @@ nests_deeper file most (Err (TooDeep other)) cut exact is at found end trees m =
 
 -- What is read of the tokens of a file with so many parentheses at most.
 pub record OfTokens (file : List ℕ) (most : ℕ) (lexemes : List Lexeme) : Type 0 where
-  pub read : (r : Rules) → grammar file most lexemes ≡ Ok r → IsReadingWithin most file r.rules
-  pub lies : (r : Rules) → grammar file most lexemes ≡ Ok r → All (RuleLiesIn (length file)) r.rules
+  pub read : (r : RulesRead) → grammar file most lexemes ≡ Ok r → IsReadingWithin most file r.rules
+  pub lies : (r : RulesRead) → grammar file most lexemes ≡ Ok r → All (RuleLiesIn (length file)) r.rules
   pub unread : (at : ℕ) → grammar file most lexemes ≡ Err (Unexpected at) → (¬ IsInNotation file) × IsTokenPlace file at
   pub deep : (at : ℕ) → grammar file most lexemes ≡ Err (TooDeep at) → NestsDeeper most file × IsOneTooMany most file at
 
@@ -206,23 +213,23 @@ answers file most lexemes tokens =
     let all = grammar file (length lexemes) lexemes in
     let cut = grammar file most lexemes in
     let exact : ExactFile file all = grammar-exact file (length lexemes) lexemes (tokens-stream file lexemes tokens) (omega arith) in
-    let is : IsCut (λ (p : Rules). p.depth) most all cut = grammar-cut file (length lexemes) most lexemes in
+    let is : IsCut (λ (p : RulesRead). p.depth) most all cut = grammar-cut file (length lexemes) most lexemes in
     let reach : RulesReach file most lexemes cut = grammar-reaches file most 0 lexemes (tokens-texts file lexemes tokens) in
     record {
       read = λ r found. read_within file most all cut exact is r found;
-      lies = λ r found. subst (λ (x : Result Rules Halt). RulesReach file most lexemes x) found reach;
+      lies = λ r found. subst (λ (x : Result RulesRead Halt). RulesReach file most lexemes x) found reach;
       unread = λ at found. (
         not_read file most all cut exact is at found,
         (
           lexemes,
           tokens,
           token_place (length file) lexemes at
-              (subst (λ (x : Result Rules Halt). StopsAt (length file) lexemes x) found (grammar-stops file most lexemes)),
+              (subst (λ (x : Result RulesRead Halt). StopsAt (length file) lexemes x) found (grammar-stops file most lexemes)),
         ),
       );
       deep = λ at found. (
         nests_deeper file most all cut exact is at found,
-        too_many most file lexemes at tokens (subst (λ (x : Result Rules Halt). RulesReach file most lexemes x) found reach),
+        too_many most file lexemes at tokens (subst (λ (x : Result RulesRead Halt). RulesReach file most lexemes x) found reach),
       );
     }
 
@@ -239,7 +246,7 @@ lexing_lies file Memory is = tt
 
 -- what the reader answers on the tokens of a file is what reading the file answers
 pub fault_reads : (file : List ℕ) (lexemes : List Lexeme) (fault : NotationFault) → length file ≤ most_file_bytes
-    → IsTokens file lexemes → TellsFault (grammar file most_open lexemes) fault → Reads file (Err fault)
+    → IsTokens file lexemes → ConveysHalt (grammar file most_open lexemes) fault → Reads file (Err fault)
 fault_reads file lexemes answer.FileTooLong short tokens is = absurd is
 fault_reads file lexemes (answer.Syntax at) short tokens is =
     let it = (answers file most_open lexemes tokens).unread at is in (short, it.0, inr it.1)
@@ -263,15 +270,15 @@ runs_within file (Runs.shut {lexeme = lexeme} is run) from texts = runs_within f
 runs_within file (Runs.other {lexeme = lexeme} is too run) from texts = runs_within file run lexeme.text.end texts.2
 
 pub fault_lies : (file : List ℕ) (lexemes : List Lexeme) (fault : NotationFault) → IsTokens file lexemes
-    → TellsFault (grammar file most_open lexemes) fault → AnswerLiesIn (length file) (Err fault)
+    → ConveysHalt (grammar file most_open lexemes) fault → AnswerLiesIn (length file) (Err fault)
 fault_lies file lexemes answer.FileTooLong tokens is = tt
 fault_lies file lexemes (answer.Syntax at) tokens is =
     starts_within file 0 lexemes at (tokens-texts file lexemes tokens)
-    (subst (λ (x : Result Rules Halt). StopsAt (length file) lexemes x) is (grammar-stops file most_open lexemes))
+    (subst (λ (x : Result RulesRead Halt). StopsAt (length file) lexemes x) is (grammar-stops file most_open lexemes))
 fault_lies file lexemes (answer.TooNested at) tokens is =
     let texts = tokens-texts file lexemes tokens in
     let deep : IsDeepAt most_open 0 lexemes at =
-    subst (λ (x : Result Rules Halt). RulesReach file most_open lexemes x) is (grammar-reaches file most_open 0 lexemes texts) in
+    subst (λ (x : Result RulesRead Halt). RulesReach file most_open lexemes x) is (grammar-reaches file most_open 0 lexemes texts) in
     let left = runs_within file deep.runs 0 texts in
     omega (
       arith,

@@ -4,29 +4,30 @@ use Rattle.std.proofs.Common.{None, Some, Result, Ok, Err, refl, sym, ap, ◌∙
 use Rattle.std.proofs.lemmas.List.{drop_all}
 use Rattle.peg_bytes.specs.Extent.{Extent, between}
 use Rattle.peg_tree.specs.Trees.{Trees, NoTrees, Tree, followed_by}
-use Rattle.peg_grammar.specs.Form as form
-use Rattle.peg_grammar.specs.Form.{Form, Name, Star}
-use Rattle.peg_grammar.specs.Record.{Failed, Matched}
-use Rattle.peg_grammar.specs.Rules.{Rule}
-use Rattle.peg_grammar.proofs.Derivations.{Derives, DerivesItems, any_here, any_at_end}
-use Rattle.peg_notation.specs.Figure.{figure, definition_body, grammar_body, end_of_file_body}
-use Rattle.peg_notation.specs.FigureRules as rule
-use Rattle.peg_notation.specs.Lexical.{text_of, spacing}
-use Rattle.peg_notation.specs.Pieces.{Piece}
-use Rattle.peg_notation.specs.Reader.{Halt, Unexpected, TooDeep, Part, starts_with_arrow, is_arrow, and_read, expression_in, RulePart, Rules, and_rules, rule_of, definition_behind, definition_of, definition, definitions_behind, grammar}
-use Rattle.peg_notation.specs.Spelled.{Spelling, Definition, Word, Expression, text_end, part, spelled, definition_spelled, rules_in, rules_spelled, nesting}
-use Rattle.peg_notation.specs.Tokens.{Lexeme}
-use Rattle.peg_notation.specs.declared.token.TokenKind.{TokenKind}
-use Rattle.peg_notation.specs.declared.token.TokenKind.TheVariants as kind
+use Rattle.peg_ford.specs.Form as form
+use Rattle.peg_ford.specs.Form.{Form, Name, Star}
+use Rattle.peg_ford.specs.Record.{Failed, Matched}
+use Rattle.peg_ford.specs.Rules.{Rule}
+use Rattle.peg_ford.proofs.Derivations.{Derives, DerivesItems, any_here, any_at_end}
+use Rattle.peg_figure.specs.Figure.{figure, definition_body, grammar_body, end_of_file_body}
+use Rattle.peg_figure.specs.FigureRules as rule
+use Rattle.peg_lexer.specs.Lexical.{text_of, spacing}
+use Rattle.peg_lexer.specs.Pieces.{Piece}
+use Rattle.peg_notation.specs.Reader.{Halt, Unexpected, TooDeep, FormRead, starts_with_arrow, is_arrow, and_read, expression_in, RuleRead, RulesRead, and_rules, rule_of, definition_behind, definition_of, definition, definitions_behind, grammar}
+use Rattle.peg_figure.specs.Spelled.{Spelling, Definition, Word, Expression, text_end, part, spelled, definition_spelled, rules_in, rules_spelled}
+use Rattle.peg_figure.specs.Nesting.{nesting}
+use Rattle.peg_lexer.specs.Tokens.{Lexeme}
+use Rattle.peg_lexer.specs.declared.token.TokenKind.{TokenKind}
+use Rattle.peg_lexer.specs.declared.token.TokenKind.TheVariants as kind
 use Rattle.peg_notation.proofs.ExpressionRules.{expression_in-exact}
-use Rattle.peg_notation.proofs.FigureNames.{grammar-meant, definition-meant, end_of_file-meant}
-use Rattle.peg_notation.proofs.Lexemes.{lexeme_at}
-use Rattle.peg_notation.proofs.PieceSizes.{blank-these}
+use Rattle.peg_figure.proofs.FigureNames.{grammar-meant, definition-meant, end_of_file-meant}
+use Rattle.peg_lexer.proofs.Lexemes.{lexeme_at}
+use Rattle.peg_lexer.proofs.PieceSizes.{blank-these}
 use Rattle.peg_notation.proofs.Readings.{followed-none, ExactAt, Stops, IsStuck}
-use Rattle.peg_notation.proofs.SpacingRules.{FindsSpacing, finds-spacing}
+use Rattle.peg_lexer.proofs.SpacingRules.{FindsSpacing, finds-spacing}
 use Rattle.peg_notation.proofs.Streams.{Stream, here, not_here, none_here, nothing_left}
-use Rattle.peg_notation.proofs.Takes.{spelled-followed, nesting-followed}
-use Rattle.peg_notation.proofs.Texts.{FindsToken, behind_text}
+use Rattle.peg_lexer.proofs.Takes.{spelled-followed, nesting-followed}
+use Rattle.peg_lexer.proofs.Texts.{FindsToken, behind_text}
 
 -- ---- the end of the file
 
@@ -51,7 +52,7 @@ ended_here {file} {p} last span =
 -- ---- Definition
 
 -- a definition at a place
-pub record ReadsRule (file : List ℕ) (p : ℕ) (lexemes : List Lexeme) (part_read : RulePart) : Type 0 where
+pub record ReadsRule (file : List ℕ) (p : ℕ) (lexemes : List Lexeme) (part_read : RuleRead) : Type 0 where
   pub end : ℕ
   pub trees : Trees
   pub left : Stream file end (drop part_read.taken lexemes)
@@ -61,7 +62,7 @@ pub record ReadsRule (file : List ℕ) (p : ℕ) (lexemes : List Lexeme) (part_r
   pub some : 0 < part_read.taken
 
 -- what is read is matched; where none is read the rule fails, or goes no further than a token that nothing can follow
-abbrev pub ExactRule : (file : List ℕ) (p : ℕ) (lexemes : List Lexeme) → Result RulePart Halt → Type 0
+abbrev pub ExactRule : (file : List ℕ) (p : ℕ) (lexemes : List Lexeme) → Result RuleRead Halt → Type 0
 ExactRule file p lexemes (Ok part_read) = ReadsRule file p lexemes part_read
 ExactRule file p lexemes (Err (Unexpected at)) =
     ((span : Extent) → Derives figure file (Name (codes "Definition") span) p Failed) ⊎ Stops file
@@ -88,10 +89,10 @@ no_arrow piece found fails span =
 -- a name, an arrow and an expression
 definition_read : (file : List ℕ) (p : ℕ) (piece : Piece) → text_of kind.Ident (drop p file) ≡ Some piece
     → (arrow : Piece) → text_of kind.Arrow (drop (behind_text file p piece.length) file) ≡ Some arrow
-    → (rest : List Lexeme) → let q : ℕ = behind_text file p piece.length in (x : Result Part Halt)
+    → (rest : List Lexeme) → let q : ℕ = behind_text file p piece.length in (x : Result FormRead Halt)
     → ExactAt file (codes "Expression") (q + arrow.length) (behind_text file q arrow.length) rest x
     → ExactRule file p (lexeme_at kind.Ident p piece.length ∷ lexeme_at kind.Arrow q arrow.length ∷
-    rest) (and_read x (λ (body : Part). Ok (rule_of file (lexeme_at kind.Ident p piece.length) body)))
+    rest) (and_read x (λ (body : FormRead). Ok (rule_of file (lexeme_at kind.Ident p piece.length) body)))
 unfolding definition_body
 definition_read file p piece found arrow there rest (Ok body) e =
     let q : ℕ = behind_text file p piece.length in
@@ -240,7 +241,7 @@ stuck_name file q stuck span =
     ]
 
 -- definitions up to the end of the file
-pub record ReadsRules (file : List ℕ) (p : ℕ) (read : Rules) : Type 0 where
+pub record ReadsRules (file : List ℕ) (p : ℕ) (read : RulesRead) : Type 0 where
   pub trees : Trees
   pub derives : Derives figure file (Star (Name (codes "Definition") (between 19 29)) (between 19 30)) p
       (Matched (length file) trees)
@@ -255,7 +256,7 @@ pub record StopsEarly (file : List ℕ) (p : ℕ) : Type 0 where
       (Matched end trees)
   pub more : (span : Extent) → Derives figure file (Name (codes "EndOfFile") span) end Failed
 
-abbrev pub ExactRules : (file : List ℕ) (p : ℕ) → Result Rules Halt → Type 0
+abbrev pub ExactRules : (file : List ℕ) (p : ℕ) → Result RulesRead Halt → Type 0
 ExactRules file p (Ok read) = ReadsRules file p read
 ExactRules file p (Err (Unexpected at)) = StopsEarly file p
 ExactRules file p (Err (TooDeep at)) = ⊥
@@ -270,9 +271,9 @@ definitions_behind-drop file most (l ∷ rest) zero = refl
 definitions_behind-drop file most (l ∷ rest) (suc skipped) = definitions_behind-drop file most rest skipped
 
 -- one definition and those behind it
-more_rules : (file : List ℕ) (p : ℕ) (lexemes : List Lexeme) (first : RulePart) → (e : ReadsRule file p lexemes first)
-    → (x : Result Rules Halt) → ExactRules file e.end x
-    → ExactRules file p (and_read x (λ (more : Rules). Ok (and_rules first more)))
+more_rules : (file : List ℕ) (p : ℕ) (lexemes : List Lexeme) (first : RuleRead) → (e : ReadsRule file p lexemes first)
+    → (x : Result RulesRead Halt) → ExactRules file e.end x
+    → ExactRules file p (and_read x (λ (more : RulesRead). Ok (and_rules first more)))
 more_rules file p lexemes first e (Ok more) m = record {
   trees = followed_by e.trees m.trees;
   derives = Derives.star_more (e.derives (between 19 29)) m.derives refl;
@@ -319,7 +320,7 @@ definitions file most (suc n) p (l ∷ rest) few stream within =
     (λ part_read e.
     let one : part_read.taken ≡ suc (part_read.taken - 1) = omega (arith, e.some) in
     let same : drop part_read.taken (l ∷ rest) ≡ drop (part_read.taken - 1) rest = ap (λ k. drop k (l ∷ rest)) one in
-    subst (λ (x : Result Rules Halt). ExactRules file e.end x)
+    subst (λ (x : Result RulesRead Halt). ExactRules file e.end x)
     (ap (λ ls. definitions_behind file most ls 0) same ∙ sym
     (definitions_behind-drop file most rest (part_read.taken - 1)))
     (definitions file most n e.end (drop part_read.taken (l ∷ rest))
@@ -338,11 +339,11 @@ definitions file most (suc n) p (l ∷ rest) few stream within =
     a_token : Stream file p (l ∷ rest) → (k : TokenKind) × (piece : Piece) × (text_of k (drop p file) ≡ Some piece)
     a_token (Stream.next k piece lexeme found is more) = (k, piece, found)
 
-    step : (x : Result RulePart Halt) → ExactRule file p (l ∷ rest) x
-        → ((part_read : RulePart) → (e : ReadsRule file p (l ∷ rest) part_read)
+    step : (x : Result RuleRead Halt) → ExactRule file p (l ∷ rest) x
+        → ((part_read : RuleRead) → (e : ReadsRule file p (l ∷ rest) part_read)
         → ExactRules file e.end (definitions_behind file most rest (part_read.taken - 1)))
-        → ExactRules file p (and_read x (λ (first : RulePart). and_read
-        (definitions_behind file most rest (first.taken - 1)) (λ (more : Rules). Ok (and_rules first more))))
+        → ExactRules file p (and_read x (λ (first : RuleRead). and_read
+        (definitions_behind file most rest (first.taken - 1)) (λ (more : RulesRead). Ok (and_rules first more))))
     step (Ok part_read) e later =
         more_rules file p (l ∷ rest) part_read e (definitions_behind file most rest (part_read.taken - 1))
         (later part_read e)
@@ -359,7 +360,7 @@ rules-all [] = refl
 rules-all (r ∷ rules) = ap (λ (more : List Rule). r ∷ more) (rules-all rules)
 
 -- the figure matches a file, and its tree spells these rules
-pub record ReadsFile (file : List ℕ) (read : Rules) : Type 0 where
+pub record ReadsFile (file : List ℕ) (read : RulesRead) : Type 0 where
   pub end : ℕ
   pub trees : Trees
   pub derives : (span : Extent) → Derives figure file (Name (codes "Grammar") span) 0 (Matched end trees)
@@ -367,7 +368,7 @@ pub record ReadsFile (file : List ℕ) (read : Rules) : Type 0 where
   pub nests : nesting trees ≡ read.depth
 
 -- what is read is matched, and where nothing is read the figure doesn't match
-abbrev pub ExactFile : List ℕ → Result Rules Halt → Type 0
+abbrev pub ExactFile : List ℕ → Result RulesRead Halt → Type 0
 ExactFile file (Ok read) = ReadsFile file read
 ExactFile file (Err (Unexpected at)) = (span : Extent) → Derives figure file (Name (codes "Grammar") span) 0 Failed
 ExactFile file (Err (TooDeep at)) = ⊥
@@ -387,9 +388,9 @@ grammar_fails file items span =
     Derives.name_failed grammar-meant.1 (Derives.sequence (DerivesItems.items_then gap.derives items refl))
 
 -- one definition and those behind it, up to the end
-grammar_read : (file : List ℕ) (lexemes : List Lexeme) (first : RulePart)
-    → (e : ReadsRule file (first_place file) lexemes first) → (x : Result Rules Halt) → ExactRules file e.end x
-    → ExactFile file (and_read x (λ (more : Rules). Ok (and_rules first more)))
+grammar_read : (file : List ℕ) (lexemes : List Lexeme) (first : RuleRead)
+    → (e : ReadsRule file (first_place file) lexemes first) → (x : Result RulesRead Halt) → ExactRules file e.end x
+    → ExactFile file (and_read x (λ (more : RulesRead). Ok (and_rules first more)))
 unfolding grammar_body
 grammar_read file lexemes first e (Ok more) m =
     let gap : FindsSpacing file (between 11 18) 0 = finds-spacing file (between 11 18) 0 in
@@ -444,17 +445,17 @@ grammar-exact file most (l ∷ rest) stream few =
     (λ part_read e.
     let one : part_read.taken ≡ suc (part_read.taken - 1) = omega (arith, e.some) in
     let same : drop part_read.taken (l ∷ rest) ≡ drop (part_read.taken - 1) rest = ap (λ k. drop k (l ∷ rest)) one in
-    subst (λ (x : Result Rules Halt). ExactRules file e.end x)
+    subst (λ (x : Result RulesRead Halt). ExactRules file e.end x)
     (ap (λ ls. definitions_behind file most ls 0) same ∙ sym
     (definitions_behind-drop file most rest (part_read.taken - 1)))
     (definitions file most (length (drop part_read.taken (l ∷ rest))) e.end (drop part_read.taken (l ∷ rest))
     (omega arith) e.left (omega (arith, length-drop part_read.taken (l ∷ rest)))))
   where
-    step : (x : Result RulePart Halt) → ExactRule file (first_place file) (l ∷ rest) x
-        → ((part_read : RulePart) → (e : ReadsRule file (first_place file) (l ∷ rest) part_read)
+    step : (x : Result RuleRead Halt) → ExactRule file (first_place file) (l ∷ rest) x
+        → ((part_read : RuleRead) → (e : ReadsRule file (first_place file) (l ∷ rest) part_read)
         → ExactRules file e.end (definitions_behind file most rest (part_read.taken - 1)))
-        → ExactFile file (and_read x (λ (first : RulePart). and_read
-        (definitions_behind file most rest (first.taken - 1)) (λ (more : Rules). Ok (and_rules first more))))
+        → ExactFile file (and_read x (λ (first : RuleRead). and_read
+        (definitions_behind file most rest (first.taken - 1)) (λ (more : RulesRead). Ok (and_rules first more))))
     step (Ok part_read) e later =
         grammar_read file (l ∷ rest) part_read e (definitions_behind file most rest (part_read.taken - 1))
         (later part_read e)

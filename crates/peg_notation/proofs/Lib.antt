@@ -1,31 +1,19 @@
-pub mod Classes
-pub mod Cuts
-pub mod ExpressionRules
-pub mod FigureNames
-pub mod FigureWellFormed
-pub mod FileAnswers
-pub mod GrammarRules
-pub mod Lexemes
-pub mod ManyLoops
-pub mod MatchedTokens
-pub mod OneLexing
-pub mod PieceLemmas
-pub mod PieceSizes
-pub mod Places
-pub mod PrefixRules
-pub mod PrimaryRule
-pub mod Progress
-pub mod Reached
-pub mod ReachedRules
-pub mod ReaderCuts
-pub mod ReaderSteps
-pub mod Readings
-pub mod Repeats
-pub mod SpacingRules
-pub mod Streams
-pub mod Takes
-pub mod TextRules
-pub mod Texts
-pub mod TokenRules
-pub mod TokenTexts
-pub mod TokenValues
+mod Cuts
+mod ExpressionRules
+mod FileAnswers
+pub mod FirstRule
+mod GrammarRules
+mod ManyLoops
+mod MatchedTokens
+mod Places
+mod PrefixRules
+mod PrimaryRule
+mod Progress
+mod Reached
+mod ReachedRules
+mod ReaderCuts
+mod ReaderSteps
+mod Readings
+mod Repeats
+mod Streams
+mod TokenTexts

@@ -3,21 +3,21 @@ use Rattle.std.proofs.Common.{◌≡◌, ◌⊎◌, inl, inr, ℕ, ◌≤◌, fa
 use Rattle.std.proofs.Common.{Some, refl, sym, ap, ◌∙◌, subst, arith, length-drop}
 use Rattle.peg_bytes.specs.Extent.{Extent, between}
 use Rattle.peg_tree.specs.Trees.{Trees}
-use Rattle.peg_grammar.specs.Form.{Form, Forms, Literal, Class, Any, Name, Seq, Choice, Optional, Star, Plus, And, Not, End, Then}
-use Rattle.peg_grammar.specs.Record.{Recognition, Failed, Matched, behind}
-use Rattle.peg_grammar.specs.Rules.{Meaning, meant}
-use Rattle.peg_grammar.proofs.Derivations.{Derives, DerivesItems, DerivesFirst, recorded, derived}
-use Rattle.peg_grammar.proofs.ResultSteps.{begins_with, passes_any}
-use Rattle.peg_grammar.proofs.TerminalLemmas.{record_in-ends}
-use Rattle.peg_notation.specs.Figure.{figure, grammar_body, definition_body, expression_body, sequence_body, prefix_body, suffix_body, primary_body, end_of_file_body}
-use Rattle.peg_notation.specs.Notation.{Matches, IsInNotation}
-use Rattle.peg_notation.specs.Spelled.{text_end}
-use Rattle.peg_notation.specs.Tokens.{rule_of_kind, Lexeme, Lexemes, IsTokens, IsLexingFault}
-use Rattle.peg_notation.specs.declared.token.TokenKind.{TokenKind}
-use Rattle.peg_notation.specs.declared.token.TokenKind.TheVariants as kind
-use Rattle.peg_notation.proofs.FigureNames.{grammar-meant, definition-meant, expression-meant, sequence-meant, prefix-meant, suffix-meant, primary-meant, end_of_file-meant}
-use Rattle.peg_notation.proofs.Lexemes.{matches}
-use Rattle.peg_notation.proofs.OneLexing.{tokens_or_fault}
+use Rattle.peg_ford.specs.Form.{Form, Forms, Literal, Class, Any, Name, Seq, Choice, Optional, Star, Plus, And, Not, End, Then}
+use Rattle.peg_ford.specs.Record.{Recognition, Failed, Matched, behind}
+use Rattle.peg_ford.specs.Rules.{Meaning, meant}
+use Rattle.peg_ford.proofs.Derivations.{Derives, DerivesItems, DerivesFirst, recorded, derived}
+use Rattle.peg_ford.proofs.ResultSteps.{begins_with, passes_any}
+use Rattle.peg_ford.proofs.TerminalLemmas.{record_in-ends}
+use Rattle.peg_figure.specs.Figure.{figure, grammar_body, definition_body, expression_body, sequence_body, prefix_body, suffix_body, primary_body, end_of_file_body}
+use Rattle.peg_figure.specs.Notation.{Matches, IsInNotation}
+use Rattle.peg_figure.specs.Spelled.{text_end}
+use Rattle.peg_lexer.specs.Tokens.{rule_of_kind, Lexeme, Lexemes, IsTokens, IsLexingFault}
+use Rattle.peg_lexer.specs.declared.token.TokenKind.{TokenKind}
+use Rattle.peg_lexer.specs.declared.token.TokenKind.TheVariants as kind
+use Rattle.peg_figure.proofs.FigureNames.{grammar-meant, definition-meant, expression-meant, sequence-meant, prefix-meant, suffix-meant, primary-meant, end_of_file-meant}
+use Rattle.peg_lexer.proofs.Lexemes.{matches}
+use Rattle.peg_lexer.proofs.OneLexing.{tokens_or_fault}
 
 -- ---- expressions over tokens
 

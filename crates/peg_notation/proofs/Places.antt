@@ -2,13 +2,13 @@
 use Rattle.std.proofs.Common.{◌≡◌, ℕ, zero, suc, ◌-◌, Bool, true, false, List, [], ◌∷◌, length, drop, refl}
 use Rattle.std.proofs.Common.{Option, None, Some, Result, Ok, Err, if◌then◌else◌}
 use Rattle.peg_bytes.specs.Extent.{Extent}
-use Rattle.peg_grammar.specs.Form as form
-use Rattle.peg_grammar.specs.Form.{Form}
-use Rattle.peg_notation.specs.Reader.{Halt, Unexpected, TooDeep, Part, Parts, Reading, place_of, starts_with_arrow, begins_prefix, and_read, one_token, no_more, and_parts, close_of, closed, parenthesized, named, primary_of, primary, then_suffix, suffix, with_prefix, prefix_sign, prefix_of, prefix, many_behind, many, sequence_part, sequence, starts_with_slash, behind, alternative, choice_part, expression, expression_in, RulePart, Rules, and_rules, rule_of, definition_behind, definition_of, definition, definitions_behind, grammar}
-use Rattle.peg_notation.specs.Spelled.{part}
-use Rattle.peg_notation.specs.Tokens.{Lexeme}
-use Rattle.peg_notation.specs.declared.token.TokenKind.{TokenKind}
-use Rattle.peg_notation.specs.declared.token.TokenKind.TheVariants as kind
+use Rattle.peg_ford.specs.Form as form
+use Rattle.peg_ford.specs.Form.{Form}
+use Rattle.peg_notation.specs.Reader.{Halt, Unexpected, TooDeep, FormRead, FormsRead, Reading, place_of, starts_with_arrow, begins_prefix, and_read, one_token, no_more, and_form, close_of, closed, parenthesized, named, primary_of, primary, then_suffix, suffix, with_prefix, prefix_sign, prefix_of, prefix, many_behind, many, whole_sequence, sequence, starts_with_slash, behind, alternative, whole_choice, expression, expression_in, RuleRead, RulesRead, and_rules, rule_of, definition_behind, definition_of, definition, definitions_behind, grammar}
+use Rattle.peg_figure.specs.Spelled.{part}
+use Rattle.peg_lexer.specs.Tokens.{Lexeme}
+use Rattle.peg_lexer.specs.declared.token.TokenKind.{TokenKind}
+use Rattle.peg_lexer.specs.declared.token.TokenKind.TheVariants as kind
 
 -- the end of a file of this length, or the start of one of its tokens
 pub data IsPlace (size : ℕ) : List Lexeme → ℕ → Type 0 where
@@ -51,7 +51,7 @@ stops_next size lexemes (Err (TooDeep at)) next is more = tt
 
 -- ---- Primary
 
-close_of-stops : (size : ℕ) (inside : Part) (lexeme : Lexeme) (more : List Lexeme) (k : TokenKind)
+close_of-stops : (size : ℕ) (inside : FormRead) (lexeme : Lexeme) (more : List Lexeme) (k : TokenKind)
     → StopsAt size (lexeme ∷ more) (close_of size inside lexeme more k)
 close_of-stops size inside lexeme more kind.Close = tt
 close_of-stops size inside lexeme more kind.Ident = IsPlace.later (place_of-is size more)
@@ -67,7 +67,7 @@ close_of-stops size inside lexeme more kind.Plus = IsPlace.first refl
 close_of-stops size inside lexeme more kind.Open = IsPlace.first refl
 close_of-stops size inside lexeme more kind.Dot = IsPlace.first refl
 
-closed-stops : (size : ℕ) (inside : Part) (lexemes : List Lexeme) → StopsAt size lexemes (closed size inside lexemes)
+closed-stops : (size : ℕ) (inside : FormRead) (lexemes : List Lexeme) → StopsAt size lexemes (closed size inside lexemes)
 closed-stops size inside [] = IsPlace.the_end refl
 closed-stops size inside (lexeme ∷ more) = close_of-stops size inside lexeme more lexeme.kind
 
@@ -80,7 +80,7 @@ parenthesized-stops : (size : ℕ) (inner : Option Reading) → InnerStops size 
     → (opening : Lexeme) (rest : List Lexeme) → StopsAt size rest (parenthesized inner size opening rest)
 parenthesized-stops size None is opening rest = tt
 parenthesized-stops size (Some read) is opening rest =
-    stops_next size rest (read opening.text.end rest) (λ (inside : Part). closed size inside (drop inside.taken rest))
+    stops_next size rest (read opening.text.end rest) (λ (inside : FormRead). closed size inside (drop inside.taken rest))
     (is opening.text.end rest) (λ inside. stops_drop size inside.taken rest
     (closed size inside (drop inside.taken rest)) (closed-stops size inside (drop inside.taken rest)))
 
@@ -126,7 +126,7 @@ suffix-stops : (file : List ℕ) (inner : Option Reading) → InnerStops (length
 unfolding suffix
 suffix-stops file inner is lexemes =
     stops_next (length file) lexemes (primary file inner lexemes)
-    (λ (p : Part). Ok (then_suffix (place_of (length file) lexemes) p (drop p.taken lexemes)))
+    (λ (p : FormRead). Ok (then_suffix (place_of (length file) lexemes) p (drop p.taken lexemes)))
     (primary-stops file inner is lexemes) (λ p. tt)
 
 prefix_of-stops : (file : List ℕ) (inner : Option Reading) → InnerStops (length file) inner
@@ -135,9 +135,9 @@ prefix_of-stops : (file : List ℕ) (inner : Option Reading) → InnerStops (len
 prefix_of-stops file inner is lexeme rest None = suffix-stops file inner is (lexeme ∷ rest)
 prefix_of-stops file inner is lexeme rest (Some sign) =
     stops_later (length file) lexeme rest (and_read (suffix file inner rest)
-    (λ (p : Part). Ok (with_prefix lexeme.text.start sign p)))
+    (λ (p : FormRead). Ok (with_prefix lexeme.text.start sign p)))
     (stops_next (length file) rest (suffix file inner rest)
-    (λ (p : Part). Ok (with_prefix lexeme.text.start sign p)) (suffix-stops file inner is rest) (λ p. tt))
+    (λ (p : FormRead). Ok (with_prefix lexeme.text.start sign p)) (suffix-stops file inner is rest) (λ p. tt))
 
 prefix-stops : (file : List ℕ) (inner : Option Reading) → InnerStops (length file) inner → (lexemes : List Lexeme)
     → StopsAt (length file) lexemes (prefix file inner lexemes)
@@ -155,19 +155,19 @@ unfolding many_behind
 many-stops size begins read is before [] skipped = tt
 many-stops size begins read is before (lexeme ∷ rest) zero =
     by (begins (lexeme ∷ rest)) (stops_next size (lexeme ∷ rest) (read before (lexeme ∷
-    rest)) (λ (p : Part). and_read (many_behind begins read p.last rest (p.taken - 1))
-    (λ (q : Parts). Ok (and_parts p q))) (is before (lexeme ∷ rest))
+    rest)) (λ (p : FormRead). and_read (many_behind begins read p.last rest (p.taken - 1))
+    (λ (q : FormsRead). Ok (and_form p q))) (is before (lexeme ∷ rest))
     (λ p. stops_next size (lexeme ∷ rest) (many_behind begins read p.last rest (p.taken - 1))
-    (λ (q : Parts). Ok (and_parts p q)) (stops_later size lexeme rest
+    (λ (q : FormsRead). Ok (and_form p q)) (stops_later size lexeme rest
     (many_behind begins read p.last rest (p.taken - 1)) (many-stops size begins read is p.last rest (p.taken - 1)))
     (λ q. tt)))
   where
     by : (t : Bool) → StopsAt size (lexeme ∷ rest) (and_read (read before (lexeme ∷
-        rest)) (λ (p : Part). and_read (many_behind begins read p.last rest (p.taken - 1))
-        (λ (q : Parts). Ok (and_parts p q)))) → StopsAt size (lexeme ∷
+        rest)) (λ (p : FormRead). and_read (many_behind begins read p.last rest (p.taken - 1))
+        (λ (q : FormsRead). Ok (and_form p q)))) → StopsAt size (lexeme ∷
         rest) (if t then and_read (read before (lexeme ∷ rest))
-        (λ (p : Part). and_read (many_behind begins read p.last rest (p.taken - 1))
-        (λ (q : Parts). Ok (and_parts p q))) else Ok (no_more before))
+        (λ (p : FormRead). and_read (many_behind begins read p.last rest (p.taken - 1))
+        (λ (q : FormsRead). Ok (and_form p q))) else Ok (no_more before))
     by true it = it
     by false it = tt
 many-stops size begins read is before (lexeme ∷ rest) (suc skipped) =
@@ -179,7 +179,7 @@ sequence-stops : (file : List ℕ) (inner : Option Reading) → InnerStops (leng
 unfolding sequence
 sequence-stops file inner is before lexemes =
     stops_next (length file) lexemes (many begins_prefix (λ b. prefix file inner) before lexemes)
-    (λ (p : Parts). Ok (sequence_part before (place_of (length file) lexemes) p))
+    (λ (p : FormsRead). Ok (whole_sequence before (place_of (length file) lexemes) p))
     (many-stops (length file) begins_prefix (λ b. prefix file inner)
     (λ b ls. prefix-stops file inner is ls) before lexemes 0) (λ p. tt)
 
@@ -189,18 +189,18 @@ unfolding alternative
 alternative-stops file inner is before [] = IsPlace.the_end refl
 alternative-stops file inner is before (slash ∷ rest) =
     stops_later (length file) slash rest (and_read (sequence file inner slash.text.end rest)
-    (λ (p : Part). Ok (behind 1 p))) (stops_next (length file) rest (sequence file inner slash.text.end rest)
-    (λ (p : Part). Ok (behind 1 p)) (sequence-stops file inner is slash.text.end rest) (λ p. tt))
+    (λ (p : FormRead). Ok (behind 1 p))) (stops_next (length file) rest (sequence file inner slash.text.end rest)
+    (λ (p : FormRead). Ok (behind 1 p)) (sequence-stops file inner is slash.text.end rest) (λ p. tt))
 
 expression-stops : (file : List ℕ) (inner : Option Reading) → InnerStops (length file) inner
     → (before : ℕ) (lexemes : List Lexeme) → StopsAt (length file) lexemes (expression file inner before lexemes)
 expression-stops file inner is before lexemes =
     stops_next (length file) lexemes (sequence file inner before lexemes)
-    (λ (a : Part). and_read (many starts_with_slash (alternative file inner) a.last (drop a.taken lexemes))
-    (λ (more : Parts). Ok (choice_part (place_of (length file) lexemes) a more)))
+    (λ (a : FormRead). and_read (many starts_with_slash (alternative file inner) a.last (drop a.taken lexemes))
+    (λ (more : FormsRead). Ok (whole_choice (place_of (length file) lexemes) a more)))
     (sequence-stops file inner is before lexemes)
     (λ a. stops_next (length file) lexemes (many starts_with_slash (alternative file inner) a.last
-    (drop a.taken lexemes)) (λ (more : Parts). Ok (choice_part (place_of (length file) lexemes) a more))
+    (drop a.taken lexemes)) (λ (more : FormsRead). Ok (whole_choice (place_of (length file) lexemes) a more))
     (stops_drop (length file) a.taken lexemes (many starts_with_slash (alternative file inner) a.last
     (drop a.taken lexemes)) (many-stops (length file) starts_with_slash (alternative file inner)
     (alternative-stops file inner is) a.last (drop a.taken lexemes) 0)) (λ more. tt))
@@ -220,9 +220,9 @@ behind-stops file most name [] t = IsPlace.the_end refl
 behind-stops file most name (arrow ∷ rest) false = IsPlace.first refl
 behind-stops file most name (arrow ∷ rest) true =
     stops_later (length file) arrow rest (and_read (expression_in file most arrow.text.end rest)
-    (λ (body : Part). Ok (rule_of file name body)))
+    (λ (body : FormRead). Ok (rule_of file name body)))
     (stops_next (length file) rest (expression_in file most arrow.text.end rest)
-    (λ (body : Part). Ok (rule_of file name body)) (expression_in-stops file most arrow.text.end rest) (λ body. tt))
+    (λ (body : FormRead). Ok (rule_of file name body)) (expression_in-stops file most arrow.text.end rest) (λ body. tt))
 
 definition_of-stops : (file : List ℕ) (most : ℕ) (lexeme : Lexeme) (rest : List Lexeme) (k : TokenKind)
     → StopsAt (length file) (lexeme ∷ rest) (definition_of file most lexeme rest k)
@@ -254,10 +254,10 @@ unfolding definitions_behind
 definitions-stops file most [] skipped = tt
 definitions-stops file most (lexeme ∷ rest) zero =
     stops_next (length file) (lexeme ∷ rest) (definition file most (lexeme ∷ rest))
-    (λ (a : RulePart). and_read (definitions_behind file most rest (a.taken - 1))
-    (λ (more : Rules). Ok (and_rules a more))) (definition-stops file most (lexeme ∷ rest))
+    (λ (a : RuleRead). and_read (definitions_behind file most rest (a.taken - 1))
+    (λ (more : RulesRead). Ok (and_rules a more))) (definition-stops file most (lexeme ∷ rest))
     (λ a. stops_next (length file) (lexeme ∷ rest) (definitions_behind file most rest (a.taken - 1))
-    (λ (more : Rules). Ok (and_rules a more)) (stops_later (length file) lexeme rest
+    (λ (more : RulesRead). Ok (and_rules a more)) (stops_later (length file) lexeme rest
     (definitions_behind file most rest (a.taken - 1)) (definitions-stops file most rest (a.taken - 1)))
     (λ more. tt))
 definitions-stops file most (lexeme ∷ rest) (suc skipped) =

@@ -4,26 +4,26 @@ use Rattle.std.proofs.Common.{Option, Some, Result, Ok, Err, refl, sym, ap, ◌�
 use Rattle.std.proofs.lemmas.List.{drop-drop}
 use Rattle.peg_bytes.specs.Extent.{Extent, between}
 use Rattle.peg_tree.specs.Trees.{Trees, followed_by}
-use Rattle.peg_grammar.specs.Form as form
-use Rattle.peg_grammar.specs.Form.{Form, Name}
-use Rattle.peg_grammar.specs.Record.{Failed, Matched}
-use Rattle.peg_grammar.proofs.Derivations.{Derives, DerivesItems, DerivesFirst}
-use Rattle.peg_notation.specs.Figure.{figure, suffix_body, prefix_body}
-use Rattle.peg_notation.specs.FigureRules as rule
-use Rattle.peg_notation.specs.Lexical.{text_of}
-use Rattle.peg_notation.specs.Pieces.{Piece}
-use Rattle.peg_notation.specs.Reader.{Halt, Unexpected, TooDeep, Part, Reading, place_of, and_read, primary, then_suffix, suffix, with_prefix, prefix_of, prefix_sign, prefix}
-use Rattle.peg_notation.specs.Spelled.{Spelling, Expression, Sign, text_end, spelled, signed}
-use Rattle.peg_notation.specs.Tokens.{Lexeme}
-use Rattle.peg_notation.specs.declared.token.TokenKind.{TokenKind}
-use Rattle.peg_notation.specs.declared.token.TokenKind.TheVariants as kind
-use Rattle.peg_notation.proofs.FigureNames.{suffix-meant, prefix-meant}
-use Rattle.peg_notation.proofs.Lexemes.{lexeme_at}
+use Rattle.peg_ford.specs.Form as form
+use Rattle.peg_ford.specs.Form.{Form, Name}
+use Rattle.peg_ford.specs.Record.{Failed, Matched}
+use Rattle.peg_ford.proofs.Derivations.{Derives, DerivesItems, DerivesFirst}
+use Rattle.peg_figure.specs.Figure.{figure, suffix_body, prefix_body}
+use Rattle.peg_figure.specs.FigureRules as rule
+use Rattle.peg_lexer.specs.Lexical.{text_of}
+use Rattle.peg_lexer.specs.Pieces.{Piece}
+use Rattle.peg_notation.specs.Reader.{Halt, Unexpected, TooDeep, FormRead, Reading, place_of, and_read, primary, then_suffix, suffix, with_prefix, prefix_of, prefix_sign, prefix}
+use Rattle.peg_figure.specs.Spelled.{Spelling, Expression, Sign, text_end, spelled, signed}
+use Rattle.peg_lexer.specs.Tokens.{Lexeme}
+use Rattle.peg_lexer.specs.declared.token.TokenKind.{TokenKind}
+use Rattle.peg_lexer.specs.declared.token.TokenKind.TheVariants as kind
+use Rattle.peg_figure.proofs.FigureNames.{suffix-meant, prefix-meant}
+use Rattle.peg_lexer.proofs.Lexemes.{lexeme_at}
 use Rattle.peg_notation.proofs.PrimaryRule.{primary-exact}
 use Rattle.peg_notation.proofs.Readings.{followed-none, ReadsAny, ExactAny, Good, node_any, place-is}
 use Rattle.peg_notation.proofs.Streams.{Stream, here, not_here, none_here}
-use Rattle.peg_notation.proofs.Takes.{spelled-followed, text_end-followed, nesting-followed}
-use Rattle.peg_notation.proofs.Texts.{FindsToken, behind_text}
+use Rattle.peg_lexer.proofs.Takes.{spelled-followed, text_end-followed, nesting-followed}
+use Rattle.peg_lexer.proofs.Texts.{FindsToken, behind_text}
 
 -- ---- Suffix
 
@@ -32,7 +32,7 @@ after_one : (lexemes : List Lexeme) (taken : ℕ) → drop (taken + 1) lexemes �
 after_one lexemes taken = sym (drop-drop 1 taken lexemes)
 
 -- no sign behind the primary
-no_suffix : (file : List ℕ) (p : ℕ) (lexemes : List Lexeme) (part : Part)
+no_suffix : (file : List ℕ) (p : ℕ) (lexemes : List Lexeme) (part : FormRead)
     → (e : ReadsAny file (codes "Primary") p lexemes part)
     → ((span : Extent) → Derives figure file (Name (codes "QUESTION") span) e.end Failed)
     → ((span : Extent) → Derives figure file (Name (codes "STAR") span) e.end Failed)
@@ -49,7 +49,7 @@ no_suffix file p lexemes part e question star plus =
     part (λ before. ap (signed (between p part.last)) (e.spells before)) e.ends e.nests e.some e.left
 
 -- a sign behind the primary
-one_suffix : (file : List ℕ) (p : ℕ) (lexemes : List Lexeme) (part : Part)
+one_suffix : (file : List ℕ) (p : ℕ) (lexemes : List Lexeme) (part : FormRead)
     → (e : ReadsAny file (codes "Primary") p lexemes part)
     → {number : ℕ} {used : List ℕ} {span : Extent} {piece : Piece} (sign : Form → Extent → Form) (rest : List Lexeme)
     → (it : FindsToken file number used span e.end piece)
@@ -80,7 +80,7 @@ one_suffix file p lexemes part e {number} {used} {span} {piece} sign rest it spe
     (omega (arith, nesting-followed e.trees it.trees, e.nests, it.flat)) (omega arith)
     left
 
-suffix_read : (file : List ℕ) (p : ℕ) (lexemes : List Lexeme) (part : Part)
+suffix_read : (file : List ℕ) (p : ℕ) (lexemes : List Lexeme) (part : FormRead)
     → (e : ReadsAny file (codes "Primary") p lexemes part) → (left : List Lexeme) → drop part.taken lexemes ≡ left
     → Stream file e.end left → ReadsAny file (codes "Suffix") p lexemes (then_suffix p part left)
 unfolding suffix_body
@@ -158,9 +158,9 @@ unfolding suffix suffix_body
 suffix-exact file most inner good p lexemes stream few =
     by (primary file inner lexemes) (primary-exact file most inner good p lexemes stream few)
   where
-    by : (x : Result Part Halt) → ExactAny file (codes "Primary") p lexemes x
+    by : (x : Result FormRead Halt) → ExactAny file (codes "Primary") p lexemes x
         → ExactAny file (codes "Suffix") p lexemes (and_read x
-        (λ (part : Part). Ok (then_suffix (place_of (length file) lexemes) part (drop part.taken lexemes))))
+        (λ (part : FormRead). Ok (then_suffix (place_of (length file) lexemes) part (drop part.taken lexemes))))
     by (Ok part) e =
         subst (λ start. ReadsAny file (codes "Suffix") p lexemes (then_suffix start part (drop part.taken lexemes)))
         (sym (place-is stream)) (suffix_read file p lexemes part e (drop part.taken lexemes) refl e.left)
@@ -173,7 +173,7 @@ suffix-exact file most inner good p lexemes stream few =
 -- no sign before the suffix
 no_prefix : (file : List ℕ) (p : ℕ) (lexemes : List Lexeme)
     → ((span : Extent) → Derives figure file (Name (codes "AND") span) p Failed)
-    → ((span : Extent) → Derives figure file (Name (codes "NOT") span) p Failed) → (x : Result Part Halt)
+    → ((span : Extent) → Derives figure file (Name (codes "NOT") span) p Failed) → (x : Result FormRead Halt)
     → ExactAny file (codes "Suffix") p lexemes x → ExactAny file (codes "Prefix") p lexemes x
 unfolding prefix_body
 no_prefix file p lexemes ands nots (Ok part) e =
@@ -196,9 +196,9 @@ one_prefix : (file : List ℕ) (p : ℕ) (lexeme : Lexeme)
     → (it : FindsToken file number used span p piece) → ((before : ℕ) → spelled file before it.trees ≡ Sign sign ∷ [])
     → Derives figure file (form.Optional (form.Choice (Name (codes "AND") (between 159 162))
     (form.Then (Name (codes "NOT") (between 165 168)) form.End) (between 159 168)) (between 158 170)) p
-    (Matched (behind_text file p piece.length) it.trees) → (x : Result Part Halt)
+    (Matched (behind_text file p piece.length) it.trees) → (x : Result FormRead Halt)
     → ExactAny file (codes "Suffix") (behind_text file p piece.length) more x
-    → ExactAny file (codes "Prefix") p (lexeme ∷ more) (and_read x (λ (part : Part). Ok (with_prefix p sign part)))
+    → ExactAny file (codes "Prefix") p (lexeme ∷ more) (and_read x (λ (part : FormRead). Ok (with_prefix p sign part)))
 unfolding prefix_body
 one_prefix file p lexeme more {number} {used} {span} {piece} sign it spells d (Ok part) e =
     node_any _ prefix-meant.1 refl refl

@@ -4,27 +4,28 @@ use Rattle.std.proofs.Common.{Option, None, Some, Result, Ok, Err, option_map, u
 use Rattle.std.proofs.lemmas.List.{drop-drop}
 use Rattle.peg_bytes.specs.Extent.{Extent, between}
 use Rattle.peg_tree.specs.Trees.{Trees, NoTrees, Tree, followed_by}
-use Rattle.peg_grammar.specs.Form as form
-use Rattle.peg_grammar.specs.Form.{Form, Name, Not, End, Then}
-use Rattle.peg_grammar.specs.Record.{Failed, Matched}
-use Rattle.peg_grammar.proofs.Derivations.{Derives, DerivesItems, DerivesFirst}
-use Rattle.peg_notation.specs.Figure.{figure, primary_body}
-use Rattle.peg_notation.specs.FigureRules as rule
-use Rattle.peg_notation.specs.Lexical.{text_of}
-use Rattle.peg_notation.specs.Pieces.{Piece}
-use Rattle.peg_notation.specs.Ranges.{class_of}
-use Rattle.peg_notation.specs.Reader.{Halt, Unexpected, TooDeep, Part, Reading, pieces_of, and_read, closed, parenthesized, primary, primary_of, starts_with_arrow}
-use Rattle.peg_notation.specs.Spelled.{Spelling, Expression, bytes_in, ranges_in, part, text_end, spelled, node_spelled, primary_spelled, nesting, has_open}
-use Rattle.peg_notation.specs.Tokens.{Lexeme, rule_of_kind}
-use Rattle.peg_notation.specs.declared.token.TokenKind.{TokenKind}
-use Rattle.peg_notation.specs.declared.token.TokenKind.TheVariants as kind
-use Rattle.peg_notation.proofs.FigureNames.{primary-meant}
-use Rattle.peg_notation.proofs.Lexemes.{lexeme_at}
-use Rattle.peg_notation.proofs.PieceSizes.{blank-these}
-use Rattle.peg_notation.proofs.Takes.{spelled-followed, text_end-followed, nesting-followed}
+use Rattle.peg_ford.specs.Form as form
+use Rattle.peg_ford.specs.Form.{Form, Name, Not, End, Then}
+use Rattle.peg_ford.specs.Record.{Failed, Matched}
+use Rattle.peg_ford.proofs.Derivations.{Derives, DerivesItems, DerivesFirst}
+use Rattle.peg_figure.specs.Figure.{figure, primary_body}
+use Rattle.peg_figure.specs.FigureRules as rule
+use Rattle.peg_lexer.specs.Lexical.{text_of}
+use Rattle.peg_lexer.specs.Pieces.{Piece}
+use Rattle.peg_figure.specs.Ranges.{class_of}
+use Rattle.peg_notation.specs.Reader.{Halt, Unexpected, TooDeep, FormRead, Reading, pieces_of, and_read, closed, parenthesized, primary, primary_of, starts_with_arrow}
+use Rattle.peg_figure.specs.Spelled.{Spelling, Expression, bytes_in, ranges_in, part, text_end, spelled, node_spelled, primary_spelled}
+use Rattle.peg_figure.specs.Nesting.{nesting, has_open}
+use Rattle.peg_lexer.specs.Tokens.{Lexeme, rule_of_kind}
+use Rattle.peg_lexer.specs.declared.token.TokenKind.{TokenKind}
+use Rattle.peg_lexer.specs.declared.token.TokenKind.TheVariants as kind
+use Rattle.peg_figure.proofs.FigureNames.{primary-meant}
+use Rattle.peg_lexer.proofs.Lexemes.{lexeme_at}
+use Rattle.peg_lexer.proofs.PieceSizes.{blank-these}
+use Rattle.peg_lexer.proofs.Takes.{spelled-followed, text_end-followed, nesting-followed}
 use Rattle.peg_notation.proofs.Readings.{followed-none, has_open-followed, ReadsAny, ExactAny, ExactAt, ReadsAt, IsStuck, Good}
 use Rattle.peg_notation.proofs.Streams.{Stream, number_of, here, not_here, none_here}
-use Rattle.peg_notation.proofs.Texts.{FindsToken, behind_text}
+use Rattle.peg_lexer.proofs.Texts.{FindsToken, behind_text}
 
 -- ---- Primary in general
 
@@ -244,7 +245,7 @@ behind_both opening more taken =
     ap (λ n. drop n (opening ∷ more)) same ∙ sym (drop-drop 1 taken more)
 
 -- an expression in parentheses
-parentheses : (file : List ℕ) (p : ℕ) (piece : Piece) (more : List Lexeme) (part : Part)
+parentheses : (file : List ℕ) (p : ℕ) (piece : Piece) (more : List Lexeme) (part : FormRead)
     → text_of kind.Open (drop p file) ≡ Some piece → (e : ReadsAt file (codes "Expression") (p + piece.length)
     (behind_text file p piece.length) more part) → (closing : Piece) (rest : List Lexeme)
     → text_of kind.Close (drop e.end file) ≡ Some closing → drop part.taken more
@@ -316,7 +317,7 @@ parentheses file p piece more part found e closing rest there left_is left =
     }
 
 -- where the parenthesis doesn't close, CLOSE fails
-no_close : (file : List ℕ) (p : ℕ) (piece : Piece) (more : List Lexeme) (part : Part) → text_of kind.Open (drop p file)
+no_close : (file : List ℕ) (p : ℕ) (piece : Piece) (more : List Lexeme) (part : FormRead) → text_of kind.Open (drop p file)
     ≡ Some piece → (e : ReadsAt file (codes "Expression") (p + piece.length)
     (behind_text file p piece.length) more part) → ((span : Extent)
     → Derives figure file (Name (codes "CLOSE") span) e.end Failed) → (span : Extent)
@@ -325,7 +326,7 @@ no_close file p piece more part found e fails =
     open_fails file p piece found (λ span next. DerivesItems.items_then (e.derives span)
     (DerivesItems.items_failed (fails next)) refl)
 
-close_read : (file : List ℕ) (p : ℕ) (piece : Piece) (more : List Lexeme) (part : Part)
+close_read : (file : List ℕ) (p : ℕ) (piece : Piece) (more : List Lexeme) (part : FormRead)
     → text_of kind.Open (drop p file) ≡ Some piece → (e : ReadsAt file (codes "Expression") (p + piece.length)
     (behind_text file p piece.length) more part) → (lexemes : List Lexeme) → drop part.taken more ≡ lexemes
     → Stream file e.end lexemes → ExactAny file (codes "Primary") p (lexeme_at kind.Open p piece.length ∷
@@ -391,9 +392,9 @@ open_primary file most p piece more (Some read) good few found rest =
     by (read (p + piece.length) more) (good (p + piece.length) (behind_text file p piece.length) more rest
     (omega arith))
   where
-    by : (x : Result Part Halt) → ExactAt file (codes "Expression") (p + piece.length)
+    by : (x : Result FormRead Halt) → ExactAt file (codes "Expression") (p + piece.length)
         (behind_text file p piece.length) more x → ExactAny file (codes "Primary") p (lexeme_at kind.Open p piece.length ∷
-        more) (and_read x (λ (inside : Part). closed (length file) inside (drop inside.taken more)))
+        more) (and_read x (λ (inside : FormRead). closed (length file) inside (drop inside.taken more)))
     by (Ok inside) e = close_read file p piece more inside found e (drop inside.taken more) refl e.left
     by (Err (Unexpected at)) stops =
         open_fails file p piece found (λ span next. DerivesItems.items_then (stops.derives span)

@@ -2,20 +2,20 @@
 use Rattle.std.proofs.Common.{◌≡◌, ℕ, ◌<◌, ◌≤◌, Bool, true, false, List, [], ◌∷◌, length, drop, subst, arith}
 use Rattle.std.proofs.Common.{Option, None, Some, Result, Ok, Err, if◌then◌else◌}
 use Rattle.peg_bytes.specs.Extent.{Extent}
-use Rattle.peg_grammar.specs.Form as form
-use Rattle.peg_grammar.specs.Form.{Form}
-use Rattle.peg_notation.specs.Reader.{Halt, Unexpected, Part, Reading, place_of, starts_with_arrow, and_read, one_token, close_of, closed, parenthesized, named, primary_of, primary, with_suffix, then_suffix, suffix_sign, suffix, with_prefix, prefix_sign, prefix_of, prefix}
-use Rattle.peg_notation.specs.Spelled.{part}
-use Rattle.peg_notation.specs.Tokens.{Lexeme}
-use Rattle.peg_notation.specs.declared.token.TokenKind.{TokenKind}
-use Rattle.peg_notation.specs.declared.token.TokenKind.TheVariants as kind
+use Rattle.peg_ford.specs.Form as form
+use Rattle.peg_ford.specs.Form.{Form}
+use Rattle.peg_notation.specs.Reader.{Halt, Unexpected, FormRead, Reading, place_of, starts_with_arrow, and_read, one_token, close_of, closed, parenthesized, named, primary_of, primary, with_suffix, then_suffix, suffix_sign, suffix, with_prefix, prefix_sign, prefix_of, prefix}
+use Rattle.peg_figure.specs.Spelled.{part}
+use Rattle.peg_lexer.specs.Tokens.{Lexeme}
+use Rattle.peg_lexer.specs.declared.token.TokenKind.{TokenKind}
+use Rattle.peg_lexer.specs.declared.token.TokenKind.TheVariants as kind
 
 -- a part of this many tokens and more
-abbrev Takes : Result Part Halt → Type 0
+abbrev Takes : Result FormRead Halt → Type 0
 Takes (Ok p) = 0 < p.taken
 Takes (Err halt) = Unit {0}
 
-close_of-takes : (size : ℕ) (inside : Part) (lexeme : Lexeme) (more : List Lexeme) (k : TokenKind)
+close_of-takes : (size : ℕ) (inside : FormRead) (lexeme : Lexeme) (more : List Lexeme) (k : TokenKind)
     → Takes (close_of size inside lexeme more k)
 close_of-takes size inside lexeme more kind.Close = omega arith
 close_of-takes size inside lexeme more kind.Ident = tt
@@ -31,7 +31,7 @@ close_of-takes size inside lexeme more kind.Plus = tt
 close_of-takes size inside lexeme more kind.Open = tt
 close_of-takes size inside lexeme more kind.Dot = tt
 
-closed-takes : (size : ℕ) (inside : Part) (lexemes : List Lexeme) → Takes (closed size inside lexemes)
+closed-takes : (size : ℕ) (inside : FormRead) (lexemes : List Lexeme) → Takes (closed size inside lexemes)
 closed-takes size inside [] = tt
 closed-takes size inside (lexeme ∷ more) = close_of-takes size inside lexeme more lexeme.kind
 
@@ -40,7 +40,7 @@ parenthesized-takes : (inner : Option Reading) (size : ℕ) (opening : Lexeme) (
 parenthesized-takes None size opening rest = tt
 parenthesized-takes (Some read) size opening rest = by (read opening.text.end rest)
   where
-    by : (x : Result Part Halt) → Takes (and_read x (λ (inside : Part). closed size inside (drop inside.taken rest)))
+    by : (x : Result FormRead Halt) → Takes (and_read x (λ (inside : FormRead). closed size inside (drop inside.taken rest)))
     by (Ok inside) = closed-takes size inside (drop inside.taken rest)
     by (Err halt) = tt
 
@@ -74,7 +74,7 @@ primary-takes file inner [] = tt
 primary-takes file inner (lexeme ∷ rest) = primary_of-takes file inner lexeme rest lexeme.kind
 
 -- a suffix adds a token or none
-then_suffix-takes : (start : ℕ) (p : Part) (lexemes : List Lexeme) → p.taken ≤ (then_suffix start p lexemes).taken
+then_suffix-takes : (start : ℕ) (p : FormRead) (lexemes : List Lexeme) → p.taken ≤ (then_suffix start p lexemes).taken
 then_suffix-takes start p [] = omega arith
 then_suffix-takes start p (lexeme ∷ more) = by (suffix_sign lexeme.kind)
   where
@@ -86,7 +86,7 @@ suffix-takes : (file : List ℕ) (inner : Option Reading) (lexemes : List Lexeme
 unfolding suffix
 suffix-takes file inner lexemes = by (primary file inner lexemes) (primary-takes file inner lexemes)
   where
-    by : (x : Result Part Halt) → Takes x → Takes (and_read x (λ (p : Part). Ok
+    by : (x : Result FormRead Halt) → Takes x → Takes (and_read x (λ (p : FormRead). Ok
         (then_suffix (place_of (length file) lexemes) p (drop p.taken lexemes))))
     by (Ok p) some =
         omega (arith, some, then_suffix-takes (place_of (length file) lexemes) p (drop p.taken lexemes))
@@ -97,7 +97,7 @@ prefix_of-takes : (file : List ℕ) (inner : Option Reading) (lexeme : Lexeme) (
 prefix_of-takes file inner lexeme rest None = suffix-takes file inner (lexeme ∷ rest)
 prefix_of-takes file inner lexeme rest (Some sign) = by (suffix file inner rest)
   where
-    by : (x : Result Part Halt) → Takes (and_read x (λ (p : Part). Ok (with_prefix lexeme.text.start sign p)))
+    by : (x : Result FormRead Halt) → Takes (and_read x (λ (p : FormRead). Ok (with_prefix lexeme.text.start sign p)))
     by (Ok p) = omega arith
     by (Err halt) = tt
 
@@ -107,7 +107,7 @@ prefix-takes file inner [] = suffix-takes file inner []
 prefix-takes file inner (lexeme ∷ rest) = prefix_of-takes file inner lexeme rest (prefix_sign lexeme.kind)
 
 -- a prefix that is read has a token
-pub prefix-some : (file : List ℕ) (inner : Option Reading) (lexemes : List Lexeme) (p : Part)
+pub prefix-some : (file : List ℕ) (inner : Option Reading) (lexemes : List Lexeme) (p : FormRead)
     → prefix file inner lexemes ≡ Ok p → 0 < p.taken
 prefix-some file inner lexemes p is =
-    let P : Result Part Halt → Type 0 = λ x. Takes x in subst P is (prefix-takes file inner lexemes)
+    let P : Result FormRead Halt → Type 0 = λ x. Takes x in subst P is (prefix-takes file inner lexemes)

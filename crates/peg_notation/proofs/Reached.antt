@@ -4,19 +4,19 @@ use Rattle.std.proofs.Common.{◌≡◌, ℕ, suc, ◌+◌, ◌<◌, ◌≤◌, 
 use Rattle.std.proofs.Common.{Option, None, Some, option_map, Result, Ok, Err, if◌then◌else◌, refl, sym, ap, ◌∙◌, subst, arith}
 use Rattle.std.proofs.lemmas.List.{drop-drop}
 use Rattle.peg_bytes.specs.Extent.{Extent, between}
-use Rattle.peg_grammar.specs.Form as form
-use Rattle.peg_grammar.specs.Form.{Form, Forms, forms}
-use Rattle.peg_notation.specs.Lexical.{text_of}
-use Rattle.peg_notation.specs.Pieces.{Piece}
-use Rattle.peg_notation.specs.Ranges.{class_of}
-use Rattle.peg_notation.specs.Reader.{Halt, Unexpected, TooDeep, Part, Reading, place_of, starts_with_arrow, and_read, one_token, pieces_of, close_of, closed, parenthesized, named, primary_of, primary, suffix_sign, with_suffix, then_suffix, suffix, with_prefix, prefix_sign, prefix_of, prefix}
+use Rattle.peg_ford.specs.Form as form
+use Rattle.peg_ford.specs.Form.{Form, Forms, forms}
+use Rattle.peg_lexer.specs.Lexical.{text_of}
+use Rattle.peg_lexer.specs.Pieces.{Piece}
+use Rattle.peg_figure.specs.Ranges.{class_of}
+use Rattle.peg_notation.specs.Reader.{Halt, Unexpected, TooDeep, FormRead, Reading, place_of, starts_with_arrow, and_read, one_token, pieces_of, close_of, closed, parenthesized, named, primary_of, primary, suffix_sign, with_suffix, then_suffix, suffix, with_prefix, prefix_sign, prefix_of, prefix}
 use Rattle.peg_notation.specs.ReaderCode.{AreTexts}
 use Rattle.peg_notation.specs.Reads.{one_if_open, one_if_close}
 use Rattle.peg_notation.specs.Spans.{LiesIn, FormLiesIn}
-use Rattle.peg_notation.specs.Spelled.{part, bytes_in, ranges_in}
-use Rattle.peg_notation.specs.Tokens.{Lexeme}
-use Rattle.peg_notation.specs.declared.token.TokenKind.{TokenKind}
-use Rattle.peg_notation.specs.declared.token.TokenKind.TheVariants as kind
+use Rattle.peg_figure.specs.Spelled.{part, bytes_in, ranges_in}
+use Rattle.peg_lexer.specs.Tokens.{Lexeme}
+use Rattle.peg_lexer.specs.declared.token.TokenKind.{TokenKind}
+use Rattle.peg_lexer.specs.declared.token.TokenKind.TheVariants as kind
 
 -- ---- texts
 
@@ -90,7 +90,7 @@ deep-behind runs deep = record {
 -- ---- what is reached
 
 -- by an expression of some tokens
-pub record Taken (file : List ℕ) (most a : ℕ) (lexemes : List Lexeme) (p : Part) : Type 0 where
+pub record Taken (file : List ℕ) (most a : ℕ) (lexemes : List Lexeme) (p : FormRead) : Type 0 where
   pub form : FormLiesIn (length file) p.form
   pub some : 0 < p.taken
   pub order : place_of (length file) lexemes ≤ p.last
@@ -98,19 +98,19 @@ pub record Taken (file : List ℕ) (most a : ℕ) (lexemes : List Lexeme) (p : P
   pub runs : Runs most a lexemes a (drop p.taken lexemes)
 
 -- by an expression behind a token whose text ends at a place
-pub record Reached (file : List ℕ) (most a before : ℕ) (lexemes : List Lexeme) (p : Part) : Type 0 where
+pub record Reached (file : List ℕ) (most a before : ℕ) (lexemes : List Lexeme) (p : FormRead) : Type 0 where
   pub form : FormLiesIn (length file) p.form
   pub after : before ≤ p.last
   pub order : 0 < p.taken → place_of (length file) lexemes ≤ p.last
   pub behind : AreTexts file p.last (drop p.taken lexemes)
   pub runs : Runs most a lexemes a (drop p.taken lexemes)
 
-abbrev pub Takes : (file : List ℕ) (most a : ℕ) (lexemes : List Lexeme) → Result Part Halt → Type 0
+abbrev pub Takes : (file : List ℕ) (most a : ℕ) (lexemes : List Lexeme) → Result FormRead Halt → Type 0
 Takes file most a lexemes (Ok p) = Taken file most a lexemes p
 Takes file most a lexemes (Err (Unexpected at)) = Unit {0}
 Takes file most a lexemes (Err (TooDeep at)) = IsDeepAt most a lexemes at
 
-abbrev pub Reaches : (file : List ℕ) (most a before : ℕ) (lexemes : List Lexeme) → Result Part Halt → Type 0
+abbrev pub Reaches : (file : List ℕ) (most a before : ℕ) (lexemes : List Lexeme) → Result FormRead Halt → Type 0
 Reaches file most a before lexemes (Ok p) = Reached file most a before lexemes p
 Reaches file most a before lexemes (Err (Unexpected at)) = Unit {0}
 Reaches file most a before lexemes (Err (TooDeep at)) = IsDeepAt most a lexemes at
@@ -136,7 +136,7 @@ one_token-takes file most a from lexeme rest f texts lies opens closes = record 
 }
 
 -- a parenthesis that closes, behind what stood inside
-shut-takes : (file : List ℕ) (most a from : ℕ) (opening : Lexeme) (rest : List Lexeme) (inside : Part) (lexeme : Lexeme)
+shut-takes : (file : List ℕ) (most a from : ℕ) (opening : Lexeme) (rest : List Lexeme) (inside : FormRead) (lexeme : Lexeme)
     (more : List Lexeme) → AreTexts file from (opening ∷ rest) → opening.kind ≡ kind.Open → a < most
     → Reached file most (suc a) opening.text.end rest inside → drop inside.taken rest ≡ lexeme ∷ more → lexeme.kind ≡ kind.Close
     → Taken file most a (opening ∷ rest) (record { form = inside.form; taken = inside.taken + 2; last = lexeme.text.end; depth = inside.depth + 1 })
@@ -154,7 +154,7 @@ shut-takes file most a from opening rest inside lexeme more texts opens less e l
       runs = Runs.opened opens less (runs-then over (subst (Runs most (suc a) (lexeme ∷ more) a) gone (Runs.shut closes Runs.stays)));
     }
 
-close_of-takes : (file : List ℕ) (most a from : ℕ) (opening : Lexeme) (rest : List Lexeme) (inside : Part) (lexeme : Lexeme)
+close_of-takes : (file : List ℕ) (most a from : ℕ) (opening : Lexeme) (rest : List Lexeme) (inside : FormRead) (lexeme : Lexeme)
     (more : List Lexeme) → AreTexts file from (opening ∷ rest) → opening.kind ≡ kind.Open → a < most
     → Reached file most (suc a) opening.text.end rest inside → drop inside.taken rest ≡ lexeme ∷ more
     → (k : TokenKind) → lexeme.kind ≡ k → Takes file most a (opening ∷ rest) (close_of (length file) inside lexeme more k)
@@ -173,7 +173,7 @@ close_of-takes file most a from opening rest inside lexeme more texts opens less
 close_of-takes file most a from opening rest inside lexeme more texts opens less e left kind.Open is = tt
 close_of-takes file most a from opening rest inside lexeme more texts opens less e left kind.Dot is = tt
 
-closed-takes : (file : List ℕ) (most a from : ℕ) (opening : Lexeme) (rest : List Lexeme) (inside : Part)
+closed-takes : (file : List ℕ) (most a from : ℕ) (opening : Lexeme) (rest : List Lexeme) (inside : FormRead)
     → AreTexts file from (opening ∷ rest) → opening.kind ≡ kind.Open → a < most
     → Reached file most (suc a) opening.text.end rest inside → (left : List Lexeme) → drop inside.taken rest ≡ left
     → Takes file most a (opening ∷ rest) (closed (length file) inside left)
@@ -194,8 +194,8 @@ parenthesized-takes file most a from None is opening rest texts opens = record {
 parenthesized-takes file most a from (Some read) is opening rest texts opens =
     by (read opening.text.end rest) (is.1 opening.text.end rest texts.2)
   where
-    by : (x : Result Part Halt) → Reaches file most (suc a) opening.text.end rest x → Takes file most a (opening ∷ rest)
-        (and_read x (λ (inside : Part). closed (length file) inside (drop inside.taken rest)))
+    by : (x : Result FormRead Halt) → Reaches file most (suc a) opening.text.end rest x → Takes file most a (opening ∷ rest)
+        (and_read x (λ (inside : FormRead). closed (length file) inside (drop inside.taken rest)))
     by (Ok inside) e = closed-takes file most a from opening rest inside texts opens is.0 e (drop inside.taken rest) refl
     by (Err (Unexpected at)) e = tt
     by (Err (TooDeep at)) e = deep-behind (Runs.opened opens is.0 Runs.stays) e
@@ -244,7 +244,7 @@ primary-takes file most a from inner e (lexeme ∷ rest) texts =
 -- ---- Suffix and Prefix
 
 -- a sign behind an expression
-signed-takes : (file : List ℕ) (most a : ℕ) (lexemes : List Lexeme) (p : Part) → Taken file most a lexemes p
+signed-takes : (file : List ℕ) (most a : ℕ) (lexemes : List Lexeme) (p : FormRead) → Taken file most a lexemes p
     → (lexeme : Lexeme) (more : List Lexeme) → drop p.taken lexemes ≡ lexeme ∷ more → one_if_open lexeme.kind ≡ 0
     → one_if_close lexeme.kind ≡ 0 → (sign : Form → Extent → Form)
     → ((f : Form) (span : Extent) → FormLiesIn (length file) f → LiesIn (length file) span → FormLiesIn (length file) (sign f span))
@@ -264,7 +264,7 @@ signed-takes file most a lexemes p e lexeme more left opens closes sign lies =
       runs = runs-then over (subst (Runs most a (lexeme ∷ more) a) gone (Runs.other opens closes Runs.stays));
     }
 
-sign_of-takes : (file : List ℕ) (most a : ℕ) (lexemes : List Lexeme) (p : Part) → Taken file most a lexemes p
+sign_of-takes : (file : List ℕ) (most a : ℕ) (lexemes : List Lexeme) (p : FormRead) → Taken file most a lexemes p
     → (lexeme : Lexeme) (more : List Lexeme) → drop p.taken lexemes ≡ lexeme ∷ more → (k : TokenKind) → lexeme.kind ≡ k
     → Taken file most a lexemes (with_suffix (place_of (length file) lexemes) p lexeme (suffix_sign k))
 sign_of-takes file most a lexemes p e lexeme more left kind.Question is =
@@ -284,7 +284,7 @@ sign_of-takes file most a lexemes p e lexeme more left kind.Open is = e
 sign_of-takes file most a lexemes p e lexeme more left kind.Close is = e
 sign_of-takes file most a lexemes p e lexeme more left kind.Dot is = e
 
-then_suffix-takes : (file : List ℕ) (most a : ℕ) (lexemes : List Lexeme) (p : Part) → Taken file most a lexemes p
+then_suffix-takes : (file : List ℕ) (most a : ℕ) (lexemes : List Lexeme) (p : FormRead) → Taken file most a lexemes p
     → (left : List Lexeme) → drop p.taken lexemes ≡ left
     → Taken file most a lexemes (then_suffix (place_of (length file) lexemes) p left)
 then_suffix-takes file most a lexemes p e [] left = e
@@ -296,8 +296,8 @@ unfolding suffix
 suffix-takes file most a from inner is lexemes texts =
     by (primary file inner lexemes) (primary-takes file most a from inner is lexemes texts)
   where
-    by : (x : Result Part Halt) → Takes file most a lexemes x → Takes file most a lexemes
-        (and_read x (λ (p : Part). Ok (then_suffix (place_of (length file) lexemes) p (drop p.taken lexemes))))
+    by : (x : Result FormRead Halt) → Takes file most a lexemes x → Takes file most a lexemes
+        (and_read x (λ (p : FormRead). Ok (then_suffix (place_of (length file) lexemes) p (drop p.taken lexemes))))
     by (Ok p) e = then_suffix-takes file most a lexemes p e (drop p.taken lexemes) refl
     by (Err (Unexpected at)) e = tt
     by (Err (TooDeep at)) e = e
@@ -311,8 +311,8 @@ prefixed-takes : (file : List ℕ) (most a from : ℕ) (inner : Option Reading) 
 prefixed-takes file most a from inner is lexeme rest texts opens closes sign lies =
     by (suffix file inner rest) (suffix-takes file most a lexeme.text.end inner is rest texts.2)
   where
-    by : (x : Result Part Halt) → Takes file most a rest x → Takes file most a (lexeme ∷ rest)
-        (and_read x (λ (p : Part). Ok (with_prefix lexeme.text.start sign p)))
+    by : (x : Result FormRead Halt) → Takes file most a rest x → Takes file most a (lexeme ∷ rest)
+        (and_read x (λ (p : FormRead). Ok (with_prefix lexeme.text.start sign p)))
     by (Ok p) e =
         let order : lexeme.text.start ≤ p.last =
         omega (arith, token-order file from lexeme rest texts, texts-place file lexeme.text.end rest texts.2, e.order) in

@@ -4,15 +4,15 @@ use Rattle.std.proofs.Common.{Option, None, Some, Result, Ok, Err, if◌then◌e
 use Rattle.std.proofs.lemmas.List.{drop-drop}
 use Rattle.std.proofs.lemmas.List.Elements.{All-cons}
 use Rattle.peg_bytes.specs.Extent.{between}
-use Rattle.peg_grammar.specs.Form.{Form, forms}
-use Rattle.peg_notation.specs.Reader.{Halt, Unexpected, TooDeep, Part, Parts, Reading, place_of, is_arrow, starts_with_arrow, begins_prefix, and_read, no_more, and_parts, prefix, many_behind, many, sequence_part, sequence, starts_with_slash, is_slash, behind, alternative, choice_part, expression, expression_in, RulePart, Rules, and_rules, rule_of, definition_behind, definition_of, definition, definitions_behind, grammar}
+use Rattle.peg_ford.specs.Form.{Form, forms}
+use Rattle.peg_notation.specs.Reader.{Halt, Unexpected, TooDeep, FormRead, FormsRead, Reading, place_of, is_arrow, starts_with_arrow, begins_prefix, and_read, no_more, and_form, prefix, many_behind, many, whole_sequence, sequence, starts_with_slash, is_slash, behind, alternative, whole_choice, expression, expression_in, RuleRead, RulesRead, and_rules, rule_of, definition_behind, definition_of, definition, definitions_behind, grammar}
 use Rattle.peg_notation.specs.ReaderCode.{AreTexts}
 use Rattle.peg_notation.specs.Reads.{one_if_open, one_if_close}
 use Rattle.peg_notation.specs.Spans.{FormLiesIn, FormsLieIn, RuleLiesIn}
-use Rattle.peg_notation.specs.Spelled.{sequence_spelled, choice_spelled}
-use Rattle.peg_notation.specs.Tokens.{Lexeme}
-use Rattle.peg_notation.specs.declared.token.TokenKind.{TokenKind}
-use Rattle.peg_notation.specs.declared.token.TokenKind.TheVariants as kind
+use Rattle.peg_figure.specs.Spelled.{sequence_spelled, choice_spelled}
+use Rattle.peg_lexer.specs.Tokens.{Lexeme}
+use Rattle.peg_lexer.specs.declared.token.TokenKind.{TokenKind}
+use Rattle.peg_lexer.specs.declared.token.TokenKind.TheVariants as kind
 use Rattle.peg_notation.proofs.GrammarRules.{definitions_behind-drop}
 use Rattle.peg_notation.proofs.Reached.{token-order, token-lies, texts-within, texts-from, texts-place, Runs, runs-then, IsDeepAt, deep-behind, Taken, Reached, Takes, Reaches, InnerReaches, prefix-takes}
 use Rattle.peg_notation.proofs.Repeats.{many_behind-drop}
@@ -20,7 +20,7 @@ use Rattle.peg_notation.proofs.Repeats.{many_behind-drop}
 -- ---- several in a row
 
 -- by expressions one behind the other
-pub record Passes (file : List ℕ) (most a before : ℕ) (lexemes : List Lexeme) (p : Parts) : Type 0 where
+pub record Passes (file : List ℕ) (most a before : ℕ) (lexemes : List Lexeme) (p : FormsRead) : Type 0 where
   pub forms : FormsLieIn (length file) (forms p.forms)
   pub after : before ≤ p.last
   pub some : 0 < length p.forms → 0 < p.taken
@@ -28,7 +28,7 @@ pub record Passes (file : List ℕ) (most a before : ℕ) (lexemes : List Lexeme
   pub behind : AreTexts file p.last (drop p.taken lexemes)
   pub runs : Runs most a lexemes a (drop p.taken lexemes)
 
-abbrev pub PassesAll : (file : List ℕ) (most a before : ℕ) (lexemes : List Lexeme) → Result Parts Halt → Type 0
+abbrev pub PassesAll : (file : List ℕ) (most a before : ℕ) (lexemes : List Lexeme) → Result FormsRead Halt → Type 0
 PassesAll file most a before lexemes (Ok p) = Passes file most a before lexemes p
 PassesAll file most a before lexemes (Err (Unexpected at)) = Unit {0}
 PassesAll file most a before lexemes (Err (TooDeep at)) = IsDeepAt most a lexemes at
@@ -44,9 +44,9 @@ none-passes file most a before lexemes texts = record {
   runs = Runs.stays;
 }
 
-one-passes : (file : List ℕ) (most a before : ℕ) (lexemes : List Lexeme) → AreTexts file before lexemes → (p : Part)
-    → Taken file most a lexemes p → (x : Result Parts Halt) → PassesAll file most a p.last (drop p.taken lexemes) x
-    → PassesAll file most a before lexemes (and_read x (λ (parts : Parts). Ok (and_parts p parts)))
+one-passes : (file : List ℕ) (most a before : ℕ) (lexemes : List Lexeme) → AreTexts file before lexemes → (p : FormRead)
+    → Taken file most a lexemes p → (x : Result FormsRead Halt) → PassesAll file most a p.last (drop p.taken lexemes) x
+    → PassesAll file most a before lexemes (and_read x (λ (parts : FormsRead). Ok (and_form p parts)))
 one-passes file most a before lexemes texts p e (Ok parts) m =
     let at : drop parts.taken (drop p.taken lexemes) ≡ drop (p.taken + parts.taken) lexemes = drop-drop parts.taken p.taken lexemes in
     record {
@@ -78,23 +78,23 @@ many-passes file most a begins read is (suc n) before (l ∷ rest) few texts =
     let one : p.taken ≡ suc (p.taken - 1) = omega (arith, e.some) in
     let same : drop p.taken (l ∷ rest) ≡ drop (p.taken - 1) rest = ap (λ k. drop k (l ∷ rest)) one in
     let fewer : length (drop p.taken (l ∷ rest)) ≤ n = omega (arith, length-drop p.taken (l ∷ rest), e.some) in
-    subst (λ (x : Result Parts Halt). PassesAll file most a p.last (drop p.taken (l ∷ rest)) x)
+    subst (λ (x : Result FormsRead Halt). PassesAll file most a p.last (drop p.taken (l ∷ rest)) x)
     (ap (many begins read p.last) same ∙ sym (many_behind-drop begins read p.last rest (p.taken - 1)))
     (many-passes file most a begins read is n p.last (drop p.taken (l ∷ rest)) fewer e.behind))
   where
-    step : (x : Result Part Halt) → Takes file most a (l ∷ rest) x → ((p : Part) → (e : Taken file most a (l ∷ rest) p)
+    step : (x : Result FormRead Halt) → Takes file most a (l ∷ rest) x → ((p : FormRead) → (e : Taken file most a (l ∷ rest) p)
         → PassesAll file most a p.last (drop p.taken (l ∷ rest)) (many_behind begins read p.last rest (p.taken - 1)))
-        → PassesAll file most a before (l ∷ rest) (and_read x (λ (p : Part). and_read
-        (many_behind begins read p.last rest (p.taken - 1)) (λ (parts : Parts). Ok (and_parts p parts))))
+        → PassesAll file most a before (l ∷ rest) (and_read x (λ (p : FormRead). and_read
+        (many_behind begins read p.last rest (p.taken - 1)) (λ (parts : FormsRead). Ok (and_form p parts))))
     step (Ok p) e later =
         one-passes file most a before (l ∷ rest) texts p e (many_behind begins read p.last rest (p.taken - 1)) (later p e)
     step (Err (Unexpected at)) e later = tt
     step (Err (TooDeep at)) e later = e
 
-    by : (t : Bool) → begins (l ∷ rest) ≡ t → ((p : Part) → (e : Taken file most a (l ∷ rest) p)
+    by : (t : Bool) → begins (l ∷ rest) ≡ t → ((p : FormRead) → (e : Taken file most a (l ∷ rest) p)
         → PassesAll file most a p.last (drop p.taken (l ∷ rest)) (many_behind begins read p.last rest (p.taken - 1)))
-        → PassesAll file most a before (l ∷ rest) (if t then and_read (read before (l ∷ rest)) (λ (p : Part). and_read
-        (many_behind begins read p.last rest (p.taken - 1)) (λ (parts : Parts). Ok (and_parts p parts))) else Ok (no_more before))
+        → PassesAll file most a before (l ∷ rest) (if t then and_read (read before (l ∷ rest)) (λ (p : FormRead). and_read
+        (many_behind begins read p.last rest (p.taken - 1)) (λ (parts : FormsRead). Ok (and_form p parts))) else Ok (no_more before))
     by true begun later = step (read before (l ∷ rest)) (is before (l ∷ rest) texts begun) later
     by false begun later = none-passes file most a before (l ∷ rest) texts
 
@@ -120,8 +120,8 @@ unfolding sequence
 sequence-reaches file most a inner is before lexemes texts =
     by (many begins_prefix (λ b. prefix file inner) before lexemes) (items-pass file most a inner is before lexemes texts)
   where
-    by : (x : Result Parts Halt) → PassesAll file most a before lexemes x → Reaches file most a before lexemes
-        (and_read x (λ (parts : Parts). Ok (sequence_part before (place_of (length file) lexemes) parts)))
+    by : (x : Result FormsRead Halt) → PassesAll file most a before lexemes x → Reaches file most a before lexemes
+        (and_read x (λ (parts : FormsRead). Ok (whole_sequence before (place_of (length file) lexemes) parts)))
     by (Ok parts) e = record {
       form =
           sequence_form-lies (length file) before (place_of (length file) lexemes) parts.last parts.forms e.forms
@@ -173,8 +173,8 @@ alternative-takes file most a inner is before [] texts begun = tt
 alternative-takes file most a inner is before (slash ∷ rest) texts begun =
     by (sequence file inner slash.text.end rest) (sequence-reaches file most a inner is slash.text.end rest texts.2)
   where
-    by : (x : Result Part Halt) → Reaches file most a slash.text.end rest x
-        → Takes file most a (slash ∷ rest) (and_read x (λ (p : Part). Ok (behind 1 p)))
+    by : (x : Result FormRead Halt) → Reaches file most a slash.text.end rest x
+        → Takes file most a (slash ∷ rest) (and_read x (λ (p : FormRead). Ok (behind 1 p)))
     by (Ok p) e =
         let count : 1 + p.taken ≡ suc p.taken = omega arith in
         let gone : drop p.taken rest ≡ drop (1 + p.taken) (slash ∷ rest) = ap (λ n. drop n (slash ∷ rest)) (sym count) in
@@ -215,9 +215,9 @@ pub expression-reaches : (file : List ℕ) (most a : ℕ) (inner : Option Readin
 expression-reaches file most a inner is before lexemes texts =
     by (sequence file inner before lexemes) (sequence-reaches file most a inner is before lexemes texts)
   where
-    more_reach : (p : Part) → Reached file most a before lexemes p → (x : Result Parts Halt)
+    more_reach : (p : FormRead) → Reached file most a before lexemes p → (x : Result FormsRead Halt)
         → PassesAll file most a p.last (drop p.taken lexemes) x → Reaches file most a before lexemes
-        (and_read x (λ (more : Parts). Ok (choice_part (place_of (length file) lexemes) p more)))
+        (and_read x (λ (more : FormsRead). Ok (whole_choice (place_of (length file) lexemes) p more)))
     more_reach p e (Ok more) m =
         let at : drop more.taken (drop p.taken lexemes) ≡ drop (p.taken + more.taken) lexemes = drop-drop more.taken p.taken lexemes in
         let order : 0 < p.taken + more.taken → place_of (length file) lexemes ≤ more.last =
@@ -234,9 +234,9 @@ expression-reaches file most a inner is before lexemes texts =
     more_reach p e (Err (Unexpected at)) m = tt
     more_reach p e (Err (TooDeep at)) m = deep-behind e.runs m
 
-    by : (x : Result Part Halt) → Reaches file most a before lexemes x → Reaches file most a before lexemes
-        (and_read x (λ (p : Part). and_read (many starts_with_slash (alternative file inner) p.last (drop p.taken lexemes))
-        (λ (more : Parts). Ok (choice_part (place_of (length file) lexemes) p more))))
+    by : (x : Result FormRead Halt) → Reaches file most a before lexemes x → Reaches file most a before lexemes
+        (and_read x (λ (p : FormRead). and_read (many starts_with_slash (alternative file inner) p.last (drop p.taken lexemes))
+        (λ (more : FormsRead). Ok (whole_choice (place_of (length file) lexemes) p more))))
     by (Ok p) e =
         more_reach p e (many starts_with_slash (alternative file inner) p.last (drop p.taken lexemes))
         (alternatives-pass file most a inner is p.last (drop p.taken lexemes) e.behind)
@@ -255,13 +255,13 @@ expression_in-reaches file most (suc n) a left before lexemes texts =
 -- ---- Definition and Grammar
 
 -- by a rule
-pub record RuleReached (file : List ℕ) (most : ℕ) (lexemes : List Lexeme) (r : RulePart) : Type 0 where
+pub record RuleReached (file : List ℕ) (most : ℕ) (lexemes : List Lexeme) (r : RuleRead) : Type 0 where
   pub lies : RuleLiesIn (length file) r.rule
   pub some : 0 < r.taken
   pub behind : AreTexts file 0 (drop r.taken lexemes)
   pub runs : Runs most 0 lexemes 0 (drop r.taken lexemes)
 
-abbrev pub RuleReaches : (file : List ℕ) (most : ℕ) (lexemes : List Lexeme) → Result RulePart Halt → Type 0
+abbrev pub RuleReaches : (file : List ℕ) (most : ℕ) (lexemes : List Lexeme) → Result RuleRead Halt → Type 0
 RuleReaches file most lexemes (Ok r) = RuleReached file most lexemes r
 RuleReaches file most lexemes (Err (Unexpected at)) = Unit {0}
 RuleReaches file most lexemes (Err (TooDeep at)) = IsDeepAt most 0 lexemes at
@@ -280,8 +280,8 @@ behind-reaches file most from name (arrow ∷ rest) texts is true next =
         let kinds = arrow-other arrow.kind next in
         Runs.other (ap one_if_open is) (ap one_if_close is) (Runs.other kinds.0 kinds.1 Runs.stays)
 
-    by : (x : Result Part Halt) → Reaches file most 0 arrow.text.end rest x → RuleReaches file most (name ∷ arrow ∷ rest)
-        (and_read x (λ (body : Part). Ok (rule_of file name body)))
+    by : (x : Result FormRead Halt) → Reaches file most 0 arrow.text.end rest x → RuleReaches file most (name ∷ arrow ∷ rest)
+        (and_read x (λ (body : FormRead). Ok (rule_of file name body)))
     by (Ok body) e =
         let count : 2 + body.taken ≡ suc (suc body.taken) = omega arith in
         let gone : drop body.taken rest ≡ drop (2 + body.taken) (name ∷ arrow ∷ rest) =
@@ -321,7 +321,7 @@ definition-reaches file most from (lexeme ∷ rest) texts =
     definition_of-reaches file most from lexeme rest texts lexeme.kind refl
 
 -- by all rules
-abbrev pub RulesReach : (file : List ℕ) (most : ℕ) (lexemes : List Lexeme) → Result Rules Halt → Type 0
+abbrev pub RulesReach : (file : List ℕ) (most : ℕ) (lexemes : List Lexeme) → Result RulesRead Halt → Type 0
 RulesReach file most lexemes (Ok read) = All (RuleLiesIn (length file)) read.rules
 RulesReach file most lexemes (Err (Unexpected at)) = Unit {0}
 RulesReach file most lexemes (Err (TooDeep at)) = IsDeepAt most 0 lexemes at
@@ -337,22 +337,22 @@ definitions-reach file most (suc n) from (l ∷ rest) few texts =
     let one : r.taken ≡ suc (r.taken - 1) = omega (arith, e.some) in
     let same : drop r.taken (l ∷ rest) ≡ drop (r.taken - 1) rest = ap (λ k. drop k (l ∷ rest)) one in
     let fewer : length (drop r.taken (l ∷ rest)) ≤ n = omega (arith, length-drop r.taken (l ∷ rest), e.some) in
-    subst (λ (x : Result Rules Halt). RulesReach file most (drop r.taken (l ∷ rest)) x)
+    subst (λ (x : Result RulesRead Halt). RulesReach file most (drop r.taken (l ∷ rest)) x)
     (ap (λ ls. definitions_behind file most ls 0) same ∙ sym (definitions_behind-drop file most rest (r.taken - 1)))
     (definitions-reach file most n 0 (drop r.taken (l ∷ rest)) fewer e.behind))
   where
-    both : (r : RulePart) → RuleReached file most (l ∷ rest) r → (x : Result Rules Halt)
+    both : (r : RuleRead) → RuleReached file most (l ∷ rest) r → (x : Result RulesRead Halt)
         → RulesReach file most (drop r.taken (l ∷ rest)) x
-        → RulesReach file most (l ∷ rest) (and_read x (λ (more : Rules). Ok (and_rules r more)))
+        → RulesReach file most (l ∷ rest) (and_read x (λ (more : RulesRead). Ok (and_rules r more)))
     both r e (Ok more) m = All-cons (RuleLiesIn (length file)) r.rule more.rules e.lies m
     both r e (Err (Unexpected at)) m = tt
     both r e (Err (TooDeep at)) m = deep-behind e.runs m
 
-    by : (x : Result RulePart Halt) → RuleReaches file most (l ∷ rest) x
-        → ((r : RulePart) → RuleReached file most (l ∷ rest) r
+    by : (x : Result RuleRead Halt) → RuleReaches file most (l ∷ rest) x
+        → ((r : RuleRead) → RuleReached file most (l ∷ rest) r
         → RulesReach file most (drop r.taken (l ∷ rest)) (definitions_behind file most rest (r.taken - 1)))
-        → RulesReach file most (l ∷ rest) (and_read x (λ (first : RulePart). and_read
-        (definitions_behind file most rest (first.taken - 1)) (λ (more : Rules). Ok (and_rules first more))))
+        → RulesReach file most (l ∷ rest) (and_read x (λ (first : RuleRead). and_read
+        (definitions_behind file most rest (first.taken - 1)) (λ (more : RulesRead). Ok (and_rules first more))))
     by (Ok r) e later = both r e (definitions_behind file most rest (r.taken - 1)) (later r e)
     by (Err (Unexpected at)) e later = tt
     by (Err (TooDeep at)) e later = e

@@ -2,11 +2,11 @@
 use Rattle.std.proofs.Common.{◌≡◌, ℕ, zero, suc, ◌-◌, ◌<◌, ◌≤◌, ◌≢◌, List, [], ◌∷◌, length, drop, take, get_or, true}
 use Rattle.std.proofs.Common.{Option, Result, Ok, Err, refl, sym, ap, ◌∙◌, subst, arith}
 use Rattle.peg_bytes.specs.Extent.{extent}
-use Rattle.peg_notation.specs.Reader.{Halt, Unexpected, TooDeep, Part, Parts, Reading, place_of, and_read, many, begins_prefix, starts_with_slash, parenthesized, closed, primary, suffix, prefix, sequence_part, sequence, alternative, choice_part, expression, expression_in, RulePart, rule_of, definition_behind, definitions_behind, grammar, starts_with_arrow}
-use Rattle.peg_notation.specs.ReaderCode.{lexemes, AreTexts, inner_of, TellsFault}
+use Rattle.peg_notation.specs.Reader.{Halt, Unexpected, TooDeep, FormRead, FormsRead, Reading, place_of, and_read, many, begins_prefix, starts_with_slash, parenthesized, closed, primary, suffix, prefix, whole_sequence, sequence, alternative, whole_choice, expression, expression_in, RuleRead, rule_of, definition_behind, definitions_behind, grammar, starts_with_arrow}
+use Rattle.peg_notation.specs.ReaderCode.{lexemes, AreTexts, inner_of, ConveysHalt}
 use Rattle.peg_notation.specs.Spans.{LiesIn}
-use Rattle.peg_notation.specs.Tokens.{Lexeme, lexeme_of}
-use Rattle.peg_notation.specs.declared.token.Token.{Token}
+use Rattle.peg_lexer.specs.Tokens.{Lexeme, lexeme_of}
+use Rattle.peg_lexer.specs.declared.token.Token.{Token}
 use Rattle.peg_notation.specs.declared.fault.NotationFault.{NotationFault}
 use Rattle.peg_notation.specs.declared.fault.NotationFault.TheVariants.{FileTooLong, Syntax, TooNested, Memory}
 use Rattle.peg_notation.proofs.ManyLoops.{SoFar, so_far-halt}
@@ -15,8 +15,8 @@ use Rattle.peg_notation.proofs.ReachedRules.{Passes, PassesAll, items-pass, alte
 use Rattle.peg_notation.proofs.TokenTexts.{lexemes-behind}
 
 -- a fault is passed on
-pub fault_passes : {X Y : Type 0} (x : Result X Halt) (next : X → Result Y Halt) (fault : NotationFault) → TellsFault x fault
-    → TellsFault (and_read x next) fault
+pub fault_passes : {X Y : Type 0} (x : Result X Halt) (next : X → Result Y Halt) (fault : NotationFault) → ConveysHalt x fault
+    → ConveysHalt (and_read x next) fault
 fault_passes x next FileTooLong is = is
 fault_passes {X} {Y} x next (Syntax at) is = ap (λ (r : Result X Halt). and_read r next) is
 fault_passes {X} {Y} x next (TooNested at) is = ap (λ (r : Result X Halt). and_read r next) is
@@ -24,7 +24,7 @@ fault_passes x next Memory is = tt
 
 -- a fault of the part is that of the whole, where each halt of the part is one of the whole
 pub fault_same : {X Y : Type 0} (x : Result X Halt) (y : Result Y Halt) (fault : NotationFault)
-    → ((halt : Halt) → x ≡ Err halt → y ≡ Err halt) → TellsFault x fault → TellsFault y fault
+    → ((halt : Halt) → x ≡ Err halt → y ≡ Err halt) → ConveysHalt x fault → ConveysHalt y fault
 fault_same x y FileTooLong same is = is
 fault_same x y (Syntax at) same is = same (Unexpected at) is
 fault_same x y (TooNested at) same is = same (TooDeep at) is
@@ -41,11 +41,11 @@ expression_in-is file (suc n) before lexemes = refl
 pub parenthesized-is : (file : List ℕ) (left : ℕ) → left ≢ 0 → (size : ℕ) (opening : Lexeme) (rest : List Lexeme)
     → parenthesized (inner_of file left) size opening rest
     ≡ and_read (expression file (inner_of file (left - 1)) opening.text.end rest)
-    (λ (inside : Part). closed size inside (drop inside.taken rest))
+    (λ (inside : FormRead). closed size inside (drop inside.taken rest))
 parenthesized-is file zero some size opening rest = absurd (some refl)
 parenthesized-is file (suc n) some size opening rest =
     let less : n ≡ suc n - 1 = omega arith in
-    ap (λ (x : Result Part Halt). and_read x (λ (inside : Part). closed size inside (drop inside.taken rest)))
+    ap (λ (x : Result FormRead Halt). and_read x (λ (inside : FormRead). closed size inside (drop inside.taken rest)))
     (expression_in-is file n opening.text.end rest
     ∙ ap (λ k. expression file (inner_of file k) opening.text.end rest) less)
 
@@ -83,96 +83,96 @@ inner-reaches file (suc n) = (omega arith, expression_in-reaches file (suc n) n 
 
 -- a predicate's sign stands before the end of its part
 pub prefix_order : (file : List ℕ) (left : ℕ) (tokens : List Token) (sign : Token) → 1 ≤ length tokens
-    → sign ≡ get_or tokens 0 sign → AreTexts file 0 (lexemes tokens) → (part : Part)
+    → sign ≡ get_or tokens 0 sign → AreTexts file 0 (lexemes tokens) → (part : FormRead)
     → suffix file (inner_of file left) (lexemes (take (length tokens - 1) (drop 1 tokens))) ≡ Ok part
     → sign.span.start ≤ part.last
 prefix_order file left tokens sign long is texts part read =
     let rest = lexemes (take (length tokens - 1) (drop 1 tokens)) in
     let all = front_texts file 0 tokens sign long is texts in
     let reached : Taken file left 0 rest part =
-    subst (λ (x : Result Part Halt). Takes file left 0 rest x) read
+    subst (λ (x : Result FormRead Halt). Takes file left 0 rest x) read
     (suffix-takes file left 0 sign.span.end (inner_of file left) (inner-reaches file left) rest all.2) in
     omega (arith, token-order file 0 (lexeme_of sign) rest all, texts-place file sign.span.end rest all.2, reached.order)
 
 -- what is read as Primary ends no earlier than it starts, and the tokens behind it stand behind it
-pub primary_taken : (file : List ℕ) (left : ℕ) (lexemes : List Lexeme) → AreTexts file 0 lexemes → (part : Part)
+pub primary_taken : (file : List ℕ) (left : ℕ) (lexemes : List Lexeme) → AreTexts file 0 lexemes → (part : FormRead)
     → primary file (inner_of file left) lexemes ≡ Ok part → Taken file left 0 lexemes part
 primary_taken file left lexemes texts part read =
-    subst (λ (x : Result Part Halt). Takes file left 0 lexemes x) read
+    subst (λ (x : Result FormRead Halt). Takes file left 0 lexemes x) read
     (primary-takes file left 0 0 (inner_of file left) (inner-reaches file left) lexemes texts)
 
-pub items_order : (file : List ℕ) (left before : ℕ) (lexemes : List Lexeme) → AreTexts file before lexemes → (parts : Parts)
+pub items_order : (file : List ℕ) (left before : ℕ) (lexemes : List Lexeme) → AreTexts file before lexemes → (parts : FormsRead)
     → many begins_prefix (λ b. prefix file (inner_of file left)) before lexemes ≡ Ok parts → 0 < length parts.forms
     → place_of (length file) lexemes ≤ parts.last
 items_order file left before lexemes texts parts read some =
     let passed : Passes file left 0 before lexemes parts =
-    subst (λ (x : Result Parts Halt). PassesAll file left 0 before lexemes x) read
+    subst (λ (x : Result FormsRead Halt). PassesAll file left 0 before lexemes x) read
     (items-pass file left 0 (inner_of file left) (inner-reaches file left) before lexemes texts) in
     passed.order (passed.some some)
 
 pub choice_order : (file : List ℕ) (left before : ℕ) (lexemes : List Lexeme) → AreTexts file before lexemes
-    → (first : Part) → sequence file (inner_of file left) before lexemes ≡ Ok first → (more : Parts)
+    → (first : FormRead) → sequence file (inner_of file left) before lexemes ≡ Ok first → (more : FormsRead)
     → many starts_with_slash (alternative file (inner_of file left)) first.last (drop first.taken lexemes) ≡ Ok more
     → 0 < length more.forms → place_of (length file) lexemes ≤ more.last
 choice_order file left before lexemes texts first read more read_more some =
     let inner = inner_of file left in
     let one : Reached file left 0 before lexemes first =
-    subst (λ (x : Result Part Halt). Reaches file left 0 before lexemes x) read
+    subst (λ (x : Result FormRead Halt). Reaches file left 0 before lexemes x) read
     (sequence-reaches file left 0 inner (inner-reaches file left) before lexemes texts) in
     let passed : Passes file left 0 first.last (drop first.taken lexemes) more =
-    subst (λ (x : Result Parts Halt). PassesAll file left 0 first.last (drop first.taken lexemes) x) read_more
+    subst (λ (x : Result FormsRead Halt). PassesAll file left 0 first.last (drop first.taken lexemes) x) read_more
     (alternatives-pass file left 0 inner (inner-reaches file left) first.last (drop first.taken lexemes) one.behind) in
     both-order file lexemes first.taken more.taken first.last more.last one.order passed.after passed.order
     (omega (arith, passed.some some))
 
 -- ---- faults inside loops
 
-pub sequence_fault : (file : List ℕ) (inner : Option Reading) (before : ℕ) (lexemes : List Lexeme) (parts : Parts)
+pub sequence_fault : (file : List ℕ) (inner : Option Reading) (before : ℕ) (lexemes : List Lexeme) (parts : FormsRead)
     (fault : NotationFault) → SoFar begins_prefix (λ b. prefix file inner) before lexemes parts
-    → begins_prefix (drop parts.taken lexemes) ≡ true → TellsFault (prefix file inner (drop parts.taken lexemes)) fault
-    → TellsFault (sequence file inner before lexemes) fault
+    → begins_prefix (drop parts.taken lexemes) ≡ true → ConveysHalt (prefix file inner (drop parts.taken lexemes)) fault
+    → ConveysHalt (sequence file inner before lexemes) fault
 unfolding sequence
 sequence_fault file inner before lexemes parts fault so_far begun is =
     fault_passes (many begins_prefix (λ b. prefix file inner) before lexemes)
-    (λ (p : Parts). Ok (sequence_part before (place_of (length file) lexemes) p)) fault
+    (λ (p : FormsRead). Ok (whole_sequence before (place_of (length file) lexemes) p)) fault
     (fault_same (prefix file inner (drop parts.taken lexemes)) (many begins_prefix (λ b. prefix file inner) before lexemes) fault
     (λ halt same. so_far-halt begins_prefix (λ b. prefix file inner) before lexemes parts halt so_far refl begun same) is)
 
-pub expression_fault : (file : List ℕ) (inner : Option Reading) (before : ℕ) (lexemes : List Lexeme) (first : Part) (more : Parts)
+pub expression_fault : (file : List ℕ) (inner : Option Reading) (before : ℕ) (lexemes : List Lexeme) (first : FormRead) (more : FormsRead)
     (fault : NotationFault) → sequence file inner before lexemes ≡ Ok first
     → SoFar starts_with_slash (alternative file inner) first.last (drop first.taken lexemes) more
     → starts_with_slash (drop more.taken (drop first.taken lexemes)) ≡ true
-    → TellsFault (alternative file inner more.last (drop more.taken (drop first.taken lexemes))) fault
-    → TellsFault (expression file inner before lexemes) fault
+    → ConveysHalt (alternative file inner more.last (drop more.taken (drop first.taken lexemes))) fault
+    → ConveysHalt (expression file inner before lexemes) fault
 expression_fault file inner before lexemes first more fault read so_far begun is =
     let rest = drop first.taken lexemes in
     fault_same (many starts_with_slash (alternative file inner) first.last rest) (expression file inner before lexemes) fault
-    (λ halt same. ap (λ (x : Result Part Halt). and_read x (λ (p : Part). and_read
+    (λ halt same. ap (λ (x : Result FormRead Halt). and_read x (λ (p : FormRead). and_read
     (many starts_with_slash (alternative file inner) p.last (drop p.taken lexemes))
-    (λ (q : Parts). Ok (choice_part (place_of (length file) lexemes) p q)))) read
-    ∙ ap (λ (x : Result Parts Halt). and_read x (λ (q : Parts). Ok (choice_part (place_of (length file) lexemes) first q))) same)
+    (λ (q : FormsRead). Ok (whole_choice (place_of (length file) lexemes) p q)))) read
+    ∙ ap (λ (x : Result FormsRead Halt). and_read x (λ (q : FormsRead). Ok (whole_choice (place_of (length file) lexemes) first q))) same)
     (fault_same (alternative file inner more.last (drop more.taken rest))
     (many starts_with_slash (alternative file inner) first.last rest) fault
     (λ halt same. so_far-halt starts_with_slash (alternative file inner) first.last rest more halt so_far refl begun same) is)
 
 -- ---- what is read in all
 
-pub sequence_read : (file : List ℕ) (inner : Option Reading) (before : ℕ) (lexemes : List Lexeme) (parts : Parts)
+pub sequence_read : (file : List ℕ) (inner : Option Reading) (before : ℕ) (lexemes : List Lexeme) (parts : FormsRead)
     → many begins_prefix (λ b. prefix file inner) before lexemes ≡ Ok parts
-    → sequence file inner before lexemes ≡ Ok (sequence_part before (place_of (length file) lexemes) parts)
+    → sequence file inner before lexemes ≡ Ok (whole_sequence before (place_of (length file) lexemes) parts)
 unfolding sequence
 sequence_read file inner before lexemes parts read =
-    ap (λ (x : Result Parts Halt). and_read x (λ (p : Parts). Ok (sequence_part before (place_of (length file) lexemes) p))) read
+    ap (λ (x : Result FormsRead Halt). and_read x (λ (p : FormsRead). Ok (whole_sequence before (place_of (length file) lexemes) p))) read
 
-pub expression_read : (file : List ℕ) (inner : Option Reading) (before : ℕ) (lexemes : List Lexeme) (first : Part) (more : Parts)
+pub expression_read : (file : List ℕ) (inner : Option Reading) (before : ℕ) (lexemes : List Lexeme) (first : FormRead) (more : FormsRead)
     → sequence file inner before lexemes ≡ Ok first
     → many starts_with_slash (alternative file inner) first.last (drop first.taken lexemes) ≡ Ok more
-    → expression file inner before lexemes ≡ Ok (choice_part (place_of (length file) lexemes) first more)
+    → expression file inner before lexemes ≡ Ok (whole_choice (place_of (length file) lexemes) first more)
 expression_read file inner before lexemes first more read read_more =
-    ap (λ (x : Result Part Halt). and_read x (λ (p : Part). and_read
+    ap (λ (x : Result FormRead Halt). and_read x (λ (p : FormRead). and_read
     (many starts_with_slash (alternative file inner) p.last (drop p.taken lexemes))
-    (λ (q : Parts). Ok (choice_part (place_of (length file) lexemes) p q)))) read
-    ∙ ap (λ (x : Result Parts Halt). and_read x (λ (q : Parts). Ok (choice_part (place_of (length file) lexemes) first q))) read_more
+    (λ (q : FormsRead). Ok (whole_choice (place_of (length file) lexemes) p q)))) read
+    ∙ ap (λ (x : Result FormsRead Halt). and_read x (λ (q : FormsRead). Ok (whole_choice (place_of (length file) lexemes) first q))) read_more
 
 pub ruleset faults = (fault_passes)
 
@@ -180,28 +180,28 @@ pub ruleset faults = (fault_passes)
 behind_is : (file : List ℕ) (most : ℕ) (name : Lexeme) (lexemes : List Lexeme) (arrow : Lexeme) (more : List Lexeme)
     → lexemes ≡ arrow ∷ more → starts_with_arrow lexemes ≡ true
     → definition_behind file most name lexemes (starts_with_arrow lexemes)
-    ≡ and_read (expression file (inner_of file most) arrow.text.end more) (λ (body : Part). Ok (rule_of file name body))
+    ≡ and_read (expression file (inner_of file most) arrow.text.end more) (λ (body : FormRead). Ok (rule_of file name body))
 behind_is file most name lexemes arrow more front next =
     ap (definition_behind file most name lexemes) next
     ∙ (ap (λ l. definition_behind file most name l true) front
-    ∙ ap (λ (x : Result Part Halt). and_read x (λ (body : Part). Ok (rule_of file name body)))
+    ∙ ap (λ (x : Result FormRead Halt). and_read x (λ (body : FormRead). Ok (rule_of file name body)))
     (expression_in-is file most arrow.text.end more))
 
 pub behind_fault : (file : List ℕ) (most : ℕ) (name : Lexeme) (lexemes : List Lexeme) (arrow : Lexeme) (more : List Lexeme)
     (fault : NotationFault) → lexemes ≡ arrow ∷ more → starts_with_arrow lexemes ≡ true
-    → TellsFault (expression file (inner_of file most) arrow.text.end more) fault
-    → TellsFault (definition_behind file most name lexemes (starts_with_arrow lexemes)) fault
+    → ConveysHalt (expression file (inner_of file most) arrow.text.end more) fault
+    → ConveysHalt (definition_behind file most name lexemes (starts_with_arrow lexemes)) fault
 behind_fault file most name lexemes arrow more fault front next is =
-    subst (λ (x : Result RulePart Halt). TellsFault x fault) (sym (behind_is file most name lexemes arrow more front next))
-    (fault_passes (expression file (inner_of file most) arrow.text.end more) (λ (body : Part). Ok (rule_of file name body)) fault is)
+    subst (λ (x : Result RuleRead Halt). ConveysHalt x fault) (sym (behind_is file most name lexemes arrow more front next))
+    (fault_passes (expression file (inner_of file most) arrow.text.end more) (λ (body : FormRead). Ok (rule_of file name body)) fault is)
 
 pub behind_read : (file : List ℕ) (most : ℕ) (name : Lexeme) (lexemes : List Lexeme) (arrow : Lexeme) (more : List Lexeme)
-    (body : Part) → lexemes ≡ arrow ∷ more → starts_with_arrow lexemes ≡ true
+    (body : FormRead) → lexemes ≡ arrow ∷ more → starts_with_arrow lexemes ≡ true
     → expression file (inner_of file most) arrow.text.end more ≡ Ok body
     → definition_behind file most name lexemes (starts_with_arrow lexemes) ≡ Ok (rule_of file name body)
 behind_read file most name lexemes arrow more body front next read =
     behind_is file most name lexemes arrow more front next
-    ∙ ap (λ (x : Result Part Halt). and_read x (λ (body : Part). Ok (rule_of file name body))) read
+    ∙ ap (λ (x : Result FormRead Halt). and_read x (λ (body : FormRead). Ok (rule_of file name body))) read
 
 -- a file of some tokens is its rules
 pub grammar-is : (file : List ℕ) (most : ℕ) (lexemes : List Lexeme) → 0 < length lexemes

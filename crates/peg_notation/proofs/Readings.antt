@@ -4,19 +4,20 @@ use Rattle.std.proofs.Common.{◌≡◌, ℕ, max, ◌+◌, ◌<◌, Bool, true,
 use Rattle.std.proofs.Common.{Option, None, Some, Result, Ok, Err, if◌then◌else◌, ◌==◌, refl, sym, ap, ◌∙◌, arith, append-nil}
 use Rattle.peg_bytes.specs.Extent.{Extent}
 use Rattle.peg_tree.specs.Trees.{Trees, NoTrees, Tree, followed_by}
-use Rattle.peg_grammar.specs.Form.{Name}
-use Rattle.peg_grammar.specs.Record.{Failed, Matched}
-use Rattle.peg_grammar.specs.Rules.{Meaning, meant}
-use Rattle.peg_grammar.proofs.Derivations.{Derives}
-use Rattle.peg_notation.specs.Figure.{figure}
-use Rattle.peg_notation.specs.FigureRules as rule
-use Rattle.peg_notation.specs.Lexical.{text_of}
-use Rattle.peg_notation.specs.Pieces.{Piece}
-use Rattle.peg_notation.specs.Reader.{Halt, Unexpected, TooDeep, Part, Reading, place_of}
-use Rattle.peg_notation.specs.Spelled.{Expression, text_end, node_spelled, spelled, nesting, has_open}
-use Rattle.peg_notation.specs.Tokens.{Lexeme}
-use Rattle.peg_notation.specs.declared.token.TokenKind.{TokenKind}
-use Rattle.peg_notation.specs.declared.token.TokenKind.TheVariants.{And, Not, Open}
+use Rattle.peg_ford.specs.Form.{Name}
+use Rattle.peg_ford.specs.Record.{Failed, Matched}
+use Rattle.peg_ford.specs.Rules.{Meaning, meant}
+use Rattle.peg_ford.proofs.Derivations.{Derives}
+use Rattle.peg_figure.specs.Figure.{figure}
+use Rattle.peg_figure.specs.FigureRules as rule
+use Rattle.peg_lexer.specs.Lexical.{text_of}
+use Rattle.peg_lexer.specs.Pieces.{Piece}
+use Rattle.peg_notation.specs.Reader.{Halt, Unexpected, TooDeep, FormRead, Reading, place_of}
+use Rattle.peg_figure.specs.Spelled.{Expression, text_end, node_spelled, spelled}
+use Rattle.peg_figure.specs.Nesting.{nesting, has_open}
+use Rattle.peg_lexer.specs.Tokens.{Lexeme}
+use Rattle.peg_lexer.specs.declared.token.TokenKind.{TokenKind}
+use Rattle.peg_lexer.specs.declared.token.TokenKind.TheVariants.{And, Not, Open}
 use Rattle.peg_notation.proofs.Streams.{Stream}
 
 -- ---- trees in a row
@@ -37,7 +38,7 @@ has_open-followed (Tree r start end children rest) b = by (r == rule.open_sign) 
 -- ---- rules whose value doesn't depend on what stands before them
 
 -- a rule matches an expression at a place, and the tokens behind it are left
-pub record ReadsAny (file used : List ℕ) (p : ℕ) (lexemes : List Lexeme) (part : Part) : Type 0 where
+pub record ReadsAny (file used : List ℕ) (p : ℕ) (lexemes : List Lexeme) (part : FormRead) : Type 0 where
   pub end : ℕ
   pub trees : Trees
   pub left : Stream file end (drop part.taken lexemes)
@@ -48,7 +49,7 @@ pub record ReadsAny (file used : List ℕ) (p : ℕ) (lexemes : List Lexeme) (pa
   pub some : 0 < part.taken
 
 -- what is read is matched, and where nothing is read the rule fails
-abbrev pub ExactAny : (file used : List ℕ) (p : ℕ) (lexemes : List Lexeme) → Result Part Halt → Type 0
+abbrev pub ExactAny : (file used : List ℕ) (p : ℕ) (lexemes : List Lexeme) → Result FormRead Halt → Type 0
 ExactAny file used p lexemes (Ok part) = ReadsAny file used p lexemes part
 ExactAny file used p lexemes (Err (Unexpected at)) = (span : Extent) → Derives figure file (Name used span) p Failed
 ExactAny file used p lexemes (Err (TooDeep at)) = ⊥
@@ -56,7 +57,7 @@ ExactAny file used p lexemes (Err (TooDeep at)) = ⊥
 -- ---- rules that never fail
 
 -- a rule matches an expression at a place, behind a token whose text ends at another
-pub record ReadsAt (file used : List ℕ) (before p : ℕ) (lexemes : List Lexeme) (part : Part) : Type 0 where
+pub record ReadsAt (file used : List ℕ) (before p : ℕ) (lexemes : List Lexeme) (part : FormRead) : Type 0 where
   pub end : ℕ
   pub trees : Trees
   pub left : Stream file end (drop part.taken lexemes)
@@ -79,7 +80,7 @@ pub record Stops (file used : List ℕ) (p : ℕ) : Type 0 where
   pub derives : (span : Extent) → Derives figure file (Name used span) p (Matched end trees)
   pub stuck : IsStuck file end
 
-abbrev pub ExactAt : (file used : List ℕ) (before p : ℕ) (lexemes : List Lexeme) → Result Part Halt → Type 0
+abbrev pub ExactAt : (file used : List ℕ) (before p : ℕ) (lexemes : List Lexeme) → Result FormRead Halt → Type 0
 ExactAt file used before p lexemes (Ok part) = ReadsAt file used before p lexemes part
 ExactAt file used before p lexemes (Err (Unexpected at)) = Stops file used p
 ExactAt file used before p lexemes (Err (TooDeep at)) = ⊥
@@ -96,7 +97,7 @@ Good file most (Some read) =
 -- a match of a rule's body is one tree of the rule
 pub node_any : {file used : List ℕ} {p end : ℕ} {t : Trees} {lexemes : List Lexeme} (m : Meaning) → meant figure used
     ≡ Some m → (m.rule == rule.spacing) ≡ false → (m.rule == rule.primary) ≡ false
-    → Derives figure file m.body p (Matched end t) → (part : Part)
+    → Derives figure file m.body p (Matched end t) → (part : FormRead)
     → ((before : ℕ) → node_spelled file m.rule before p end part.last (spelled file before t) ≡ Expression part.form ∷
     []) → ((before : ℕ) → text_end before t ≡ part.last) → nesting t ≡ part.depth → 0 < part.taken
     → Stream file end (drop part.taken lexemes) → ReadsAny file used p lexemes part
@@ -117,7 +118,7 @@ node_any {file} {used} {p} {end} {t} {lexemes} m known no_spacing no_primary d p
 
 pub node_at : {file used : List ℕ} {p end : ℕ} {t : Trees} {lexemes : List Lexeme} (before : ℕ) (m : Meaning)
     → meant figure used ≡ Some m → (m.rule == rule.spacing) ≡ false → (m.rule == rule.primary) ≡ false
-    → Derives figure file m.body p (Matched end t) → (part : Part)
+    → Derives figure file m.body p (Matched end t) → (part : FormRead)
     → node_spelled file m.rule before p end part.last (spelled file before t) ≡ Expression part.form ∷ []
     → text_end before t ≡ part.last → nesting t ≡ part.depth → Stream file end (drop part.taken lexemes)
     → ReadsAt file used before p lexemes part

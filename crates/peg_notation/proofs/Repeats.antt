@@ -4,16 +4,17 @@ use Rattle.std.proofs.Common.{Result, Ok, Err, if◌then◌else◌, refl, sym, a
 use Rattle.std.proofs.lemmas.List.{drop-drop}
 use Rattle.peg_bytes.specs.Extent.{Extent}
 use Rattle.peg_tree.specs.Trees.{Trees, NoTrees, followed_by}
-use Rattle.peg_grammar.specs.Form.{Form, Star}
-use Rattle.peg_grammar.specs.Record.{Failed, Matched}
-use Rattle.peg_grammar.proofs.Derivations.{Derives}
-use Rattle.peg_notation.specs.Figure.{figure}
-use Rattle.peg_notation.specs.Reader.{Halt, Unexpected, TooDeep, Part, Parts, Reading, and_read, no_more, and_parts, many_behind, many}
-use Rattle.peg_notation.specs.Spelled.{Spelling, Expression, text_end, spelled, nesting}
-use Rattle.peg_notation.specs.Tokens.{Lexeme}
+use Rattle.peg_ford.specs.Form.{Form, Star}
+use Rattle.peg_ford.specs.Record.{Failed, Matched}
+use Rattle.peg_ford.proofs.Derivations.{Derives}
+use Rattle.peg_figure.specs.Figure.{figure}
+use Rattle.peg_notation.specs.Reader.{Halt, Unexpected, TooDeep, FormRead, FormsRead, Reading, and_read, no_more, and_form, many_behind, many}
+use Rattle.peg_figure.specs.Spelled.{Spelling, Expression, text_end, spelled}
+use Rattle.peg_figure.specs.Nesting.{nesting}
+use Rattle.peg_lexer.specs.Tokens.{Lexeme}
 use Rattle.peg_notation.proofs.Readings.{IsStuck}
 use Rattle.peg_notation.proofs.Streams.{Stream}
-use Rattle.peg_notation.proofs.Takes.{spelled-followed, text_end-followed, nesting-followed}
+use Rattle.peg_lexer.proofs.Takes.{spelled-followed, text_end-followed, nesting-followed}
 
 -- skipping tokens is dropping them
 pub many_behind-drop : (begins : List Lexeme → Bool) (read : Reading) (before : ℕ) (lexemes : List Lexeme) (skipped : ℕ)
@@ -25,7 +26,7 @@ many_behind-drop begins read before (l ∷ rest) zero = refl
 many_behind-drop begins read before (l ∷ rest) (suc skipped) = many_behind-drop begins read before rest skipped
 
 -- one round: an expression, whatever stands before it
-pub record ReadsRound (file : List ℕ) (element : Form) (p : ℕ) (lexemes : List Lexeme) (part : Part) : Type 0 where
+pub record ReadsRound (file : List ℕ) (element : Form) (p : ℕ) (lexemes : List Lexeme) (part : FormRead) : Type 0 where
   pub end : ℕ
   pub trees : Trees
   pub left : Stream file end (drop part.taken lexemes)
@@ -43,7 +44,7 @@ pub record StarStops (file : List ℕ) (element : Form) (span : Extent) (p : ℕ
   pub stuck : IsStuck file end
 
 abbrev pub ExactRound : (file : List ℕ) (element : Form) (span : Extent) (p : ℕ) (lexemes : List Lexeme)
-    → Result Part Halt → Type 0
+    → Result FormRead Halt → Type 0
 ExactRound file element span p lexemes (Ok part) = ReadsRound file element p lexemes part
 ExactRound file element span p lexemes (Err (Unexpected at)) = StarStops file element span p
 ExactRound file element span p lexemes (Err (TooDeep at)) = ⊥
@@ -58,7 +59,7 @@ pub record Rounds (file : List ℕ) (element : Form) (span : Extent) (begins : L
 
 -- all rounds: expressions behind a token whose text ends at a place
 pub record ReadsMany (file : List ℕ) (element : Form) (span : Extent) (before p : ℕ) (lexemes : List Lexeme)
-    (parts : Parts) : Type 0 where
+    (parts : FormsRead) : Type 0 where
   pub end : ℕ
   pub trees : Trees
   pub left : Stream file end (drop parts.taken lexemes)
@@ -68,7 +69,7 @@ pub record ReadsMany (file : List ℕ) (element : Form) (span : Extent) (before 
   pub nests : nesting trees ≡ parts.depth
 
 abbrev pub ExactMany : (file : List ℕ) (element : Form) (span : Extent) (before p : ℕ) (lexemes : List Lexeme)
-    → Result Parts Halt → Type 0
+    → Result FormsRead Halt → Type 0
 ExactMany file element span before p lexemes (Ok parts) = ReadsMany file element span before p lexemes parts
 ExactMany file element span before p lexemes (Err (Unexpected at)) = StarStops file element span p
 ExactMany file element span before p lexemes (Err (TooDeep at)) = ⊥
@@ -88,9 +89,9 @@ no_round {file} {element} {span} {p} before lexemes stream fails = record {
 
 -- one round and those behind it
 more_rounds : {file : List ℕ} {element : Form} (span : Extent) {p : ℕ} (before : ℕ) (lexemes : List Lexeme)
-    (part : Part) → (e : ReadsRound file element p lexemes part) → (x : Result Parts Halt)
+    (part : FormRead) → (e : ReadsRound file element p lexemes part) → (x : Result FormsRead Halt)
     → ExactMany file element span part.last e.end (drop part.taken lexemes) x
-    → ExactMany file element span before p lexemes (and_read x (λ (parts : Parts). Ok (and_parts part parts)))
+    → ExactMany file element span before p lexemes (and_read x (λ (parts : FormsRead). Ok (and_form part parts)))
 more_rounds {file} {element} span {p} before lexemes part e (Ok parts) m = record {
   end = m.end;
   trees = followed_by e.trees m.trees;
@@ -128,28 +129,28 @@ rounds {file} {element} {span} {begins} {read} {most} r (suc n) before p (l ∷ 
     let same : drop part.taken (l ∷ rest) ≡ drop (part.taken - 1) rest = ap (λ k. drop k (l ∷ rest)) one in
     let fewer : length (drop part.taken (l ∷ rest)) ≤ n = omega (arith, length-drop part.taken (l ∷ rest), e.some) in
     let still : length (drop part.taken (l ∷ rest)) ≤ most = omega (arith, length-drop part.taken (l ∷ rest), e.some) in
-    subst (λ (x : Result Parts Halt). ExactMany file element span part.last e.end (drop part.taken (l ∷ rest)) x)
+    subst (λ (x : Result FormsRead Halt). ExactMany file element span part.last e.end (drop part.taken (l ∷ rest)) x)
     (ap (many begins read part.last) same ∙ sym (many_behind-drop begins read part.last rest (part.taken - 1)))
     (rounds r n part.last e.end (drop part.taken (l ∷ rest)) fewer e.left still empty))
   where
-    step : (x : Result Part Halt) → ExactRound file element span p (l ∷ rest) x
-        → ((part : Part) → (e : ReadsRound file element p (l ∷ rest) part)
+    step : (x : Result FormRead Halt) → ExactRound file element span p (l ∷ rest) x
+        → ((part : FormRead) → (e : ReadsRound file element p (l ∷ rest) part)
         → ExactMany file element span part.last e.end (drop part.taken (l ∷
         rest)) (many_behind begins read part.last rest (part.taken - 1)))
         → ExactMany file element span before p (l ∷ rest)
-        (and_read x (λ (part : Part). and_read (many_behind begins read part.last rest (part.taken - 1))
-        (λ (parts : Parts). Ok (and_parts part parts))))
+        (and_read x (λ (part : FormRead). and_read (many_behind begins read part.last rest (part.taken - 1))
+        (λ (parts : FormsRead). Ok (and_form part parts))))
     step (Ok part) e later =
         more_rounds span before (l ∷ rest) part e (many_behind begins read part.last rest (part.taken - 1))
         (later part e)
     step (Err (Unexpected at)) stops later = stops
     step (Err (TooDeep at)) e later = absurd e
 
-    by : (t : Bool) → begins (l ∷ rest) ≡ t → ((part : Part) → (e : ReadsRound file element p (l ∷ rest) part)
+    by : (t : Bool) → begins (l ∷ rest) ≡ t → ((part : FormRead) → (e : ReadsRound file element p (l ∷ rest) part)
         → ExactMany file element span part.last e.end (drop part.taken (l ∷
         rest)) (many_behind begins read part.last rest (part.taken - 1)))
         → ExactMany file element span before p (l ∷ rest) (if t then and_read (read before (l ∷
-        rest)) (λ (part : Part). and_read (many_behind begins read part.last rest (part.taken - 1))
-        (λ (parts : Parts). Ok (and_parts part parts))) else Ok (no_more before))
+        rest)) (λ (part : FormRead). and_read (many_behind begins read part.last rest (part.taken - 1))
+        (λ (parts : FormsRead). Ok (and_form part parts))) else Ok (no_more before))
     by true is later = step (read before (l ∷ rest)) (r.one before p (l ∷ rest) stream within is) later
     by false is later = no_round before (l ∷ rest) stream (r.none p (l ∷ rest) stream within is)

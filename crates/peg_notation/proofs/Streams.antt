@@ -4,20 +4,20 @@ use Rattle.std.proofs.Common.{Option, None, Some, refl, sym, ap, ◌∙◌, subs
 use Rattle.std.proofs.lemmas.List.{drop_all}
 use Rattle.peg_bytes.specs.Extent.{Extent, between}
 use Rattle.peg_tree.specs.Trees.{Trees}
-use Rattle.peg_grammar.specs.Form.{Name}
-use Rattle.peg_grammar.specs.Record.{Recognition, Failed, Matched}
-use Rattle.peg_grammar.proofs.Derivations.{Derives, derived, one_result}
-use Rattle.peg_notation.specs.Figure.{figure}
-use Rattle.peg_notation.specs.FigureRules as rule
-use Rattle.peg_notation.specs.Lexical.{text_of, kind_of, identifier, literal, quoted, class}
-use Rattle.peg_notation.specs.Pieces.{Piece}
-use Rattle.peg_notation.specs.Spelled.{text_end}
-use Rattle.peg_notation.specs.Tokens.{rule_of_kind, Lexeme, IsLexeme, Lexemes}
-use Rattle.peg_notation.specs.declared.token.TokenKind.{TokenKind}
-use Rattle.peg_notation.specs.declared.token.TokenKind.TheVariants.{Ident, Literal, Class, Arrow, Slash, And, Not, Question, Star, Plus, Open, Close, Dot}
-use Rattle.peg_notation.proofs.Lexemes.{lexeme_at, kinds_apart}
-use Rattle.peg_notation.proofs.Texts.{TakesToken, FindsToken, behind_text}
-use Rattle.peg_notation.proofs.TokenRules as rules
+use Rattle.peg_ford.specs.Form.{Name}
+use Rattle.peg_ford.specs.Record.{Recognition, Failed, Matched}
+use Rattle.peg_ford.proofs.Derivations.{Derives, derived, one_result}
+use Rattle.peg_figure.specs.Figure.{figure}
+use Rattle.peg_figure.specs.FigureRules as rule
+use Rattle.peg_lexer.specs.Lexical.{text_of, kind_of, identifier, literal, quoted, class}
+use Rattle.peg_lexer.specs.Pieces.{Piece}
+use Rattle.peg_figure.specs.Spelled.{text_end}
+use Rattle.peg_lexer.specs.Tokens.{rule_of_kind, Lexeme, IsLexeme, Lexemes}
+use Rattle.peg_lexer.specs.declared.token.TokenKind.{TokenKind}
+use Rattle.peg_lexer.specs.declared.token.TokenKind.TheVariants.{Ident, Literal, Class, Arrow, Slash, And, Not, Question, Star, Plus, Open, Close, Dot}
+use Rattle.peg_lexer.proofs.Lexemes.{lexeme_at, kinds_apart}
+use Rattle.peg_lexer.proofs.Texts.{TakesToken, FindsToken, behind_text}
+use Rattle.peg_lexer.proofs.TokenRules as rules
 
 -- the number of the figure's rule of a kind
 abbrev pub number_of : TokenKind → ℕ

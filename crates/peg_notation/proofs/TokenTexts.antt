@@ -3,18 +3,18 @@ use Rattle.std.proofs.Common.{◌≡◌, ℕ, ◌+◌, ◌-◌, List, take, drop
 use Rattle.std.proofs.Common.{refl, sym, ap, ◌∙◌, subst, arith}
 use Rattle.std.proofs.lemmas.List.{drop-map, take_all}
 use Rattle.std.specs.Str.{IsUtf8}
-use Rattle.peg_notation.specs.Lexical.{identifier, literal, class, text_of}
-use Rattle.peg_notation.specs.LexicalCode.{spells_of}
-use Rattle.peg_notation.specs.Pieces.{Piece}
+use Rattle.peg_lexer.specs.Lexical.{identifier, literal, class, text_of}
+use Rattle.peg_lexer.specs.LexicalCode.{spells_of}
+use Rattle.peg_lexer.specs.Pieces.{Piece}
 use Rattle.peg_notation.specs.Reader.{pieces_of}
 use Rattle.peg_notation.specs.ReaderCode.{IsText, lexemes}
-use Rattle.peg_notation.specs.Spelled.{part}
-use Rattle.peg_notation.specs.Tokens.{Lexeme, lexeme_of}
-use Rattle.peg_notation.specs.declared.token.Token.{Token}
-use Rattle.peg_notation.specs.declared.token.TokenKind.{TokenKind}
-use Rattle.peg_notation.specs.declared.token.TokenKind.TheVariants as kind
-use Rattle.peg_notation.proofs.PieceLemmas.{from, from-drop}
-use Rattle.peg_notation.proofs.TokenValues.{name-is_text}
+use Rattle.peg_figure.specs.Spelled.{part}
+use Rattle.peg_lexer.specs.Tokens.{Lexeme, lexeme_of}
+use Rattle.peg_lexer.specs.declared.token.Token.{Token}
+use Rattle.peg_lexer.specs.declared.token.TokenKind.{TokenKind}
+use Rattle.peg_lexer.specs.declared.token.TokenKind.TheVariants as kind
+use Rattle.peg_lexer.proofs.PieceLemmas.{from, from-drop}
+use Rattle.peg_lexer.proofs.TokenValues.{name-is_text}
 
 some_text : (start end : ℕ) (x : Option Piece) → option_map (λ (piece : Piece). start + piece.length) x ≡ Some end
     → IsTrue (is_some x)

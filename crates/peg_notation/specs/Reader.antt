@@ -1,18 +1,21 @@
--- What stands at the front of tokens, by functions that mirror the figure's rules from Grammar to Primary. The private
--- functions of the reader are described in these words; that they say what the figure says is proved.
-use Rattle.std.specs.Prelude.{ℕ, zero, suc, max, ◌+◌, ◌-◌, Bool, true, false, List, [], ◌∷◌, length, drop, Option, None, Some}
+-- Describes code: what stands at the front of tokens, by functions that mirror the figure's rules from Grammar to
+-- Primary. The private functions of the reader are described in these words; that they say what the figure says is
+-- proved.
+use Rattle.std.specs.Prelude.{ℕ, zero, suc, max, ◌+◌, ◌-◌, Bool, true, false, List, [], ◌∷◌, length, drop, Option}
+use Rattle.std.specs.Prelude.{None, Some}
 use Rattle.std.specs.Prelude.{Result, Ok, Err, option_map, unwrap_or, if◌then◌else◌}
 use Rattle.peg_bytes.specs.Extent.{Extent, between}
-use Rattle.peg_grammar.specs.Form as form
-use Rattle.peg_grammar.specs.Form.{Form}
-use Rattle.peg_grammar.specs.Rules.{Rule}
-use Rattle.peg_notation.specs.Lexical.{text_of}
-use Rattle.peg_notation.specs.Pieces.{Piece}
-use Rattle.peg_notation.specs.Ranges.{class_of}
-use Rattle.peg_notation.specs.Spelled.{Spelling, bytes_in, ranges_in, part, sequence_spelled, choice_spelled}
-use Rattle.peg_notation.specs.Tokens.{Lexeme}
-use Rattle.peg_notation.specs.declared.token.TokenKind.{TokenKind}
-use Rattle.peg_notation.specs.declared.token.TokenKind.TheVariants.{Ident, Literal, Class, Arrow, Slash, And, Not, Question, Star, Plus, Open, Close, Dot}
+use Rattle.peg_ford.specs.Form as form
+use Rattle.peg_ford.specs.Form.{Form}
+use Rattle.peg_ford.specs.Rules.{Rule}
+use Rattle.peg_lexer.specs.Lexical.{text_of}
+use Rattle.peg_lexer.specs.Pieces.{Piece}
+use Rattle.peg_figure.specs.Ranges.{class_of}
+use Rattle.peg_figure.specs.Spelled.{Spelling, bytes_in, ranges_in, part, sequence_spelled, choice_spelled}
+use Rattle.peg_lexer.specs.Tokens.{Lexeme}
+use Rattle.peg_lexer.specs.declared.token.TokenKind.{TokenKind}
+use Rattle.peg_lexer.specs.declared.token.TokenKind.TheVariants.{Ident, Literal, Class, Arrow, Slash, And, Not}
+use Rattle.peg_lexer.specs.declared.token.TokenKind.TheVariants.{Question, Star, Plus, Open, Close, Dot}
 
 -- why reading stops: at a place no file goes on so, or a parenthesis is one too many
 pub data Halt : Type 0 where
@@ -21,14 +24,14 @@ pub data Halt : Type 0 where
 
 -- an expression that was read, how many tokens it has, where the text of the last token before what is next ends, and
 -- how deep its parentheses nest
-pub record Part : Type 0 where
+pub record FormRead : Type 0 where
   pub form : Form
   pub taken : ℕ
   pub last : ℕ
   pub depth : ℕ
 
 -- expressions that were read, in order
-pub record Parts : Type 0 where
+pub record FormsRead : Type 0 where
   pub forms : List Form
   pub taken : ℕ
   pub last : ℕ
@@ -36,7 +39,7 @@ pub record Parts : Type 0 where
 
 -- a way to read an expression, given where the text of the token before it ends
 abbrev pub Reading : Type 0
-Reading = (before : ℕ) → List Lexeme → Result Part Halt
+Reading = (before : ℕ) → List Lexeme → Result FormRead Halt
 
 -- ---- tokens
 
@@ -83,39 +86,39 @@ and_read (Ok x) next = next x
 and_read (Err halt) next = Err halt
 
 -- an expression of one token
-abbrev pub one_token : Form → Lexeme → Result Part Halt
+abbrev pub one_token : Form → Lexeme → Result FormRead Halt
 one_token value lexeme = Ok (record { form = value; taken = 1; last = lexeme.text.end; depth = 0 })
 
 -- an expression behind so many tokens
-abbrev pub behind : (taken : ℕ) → Part → Part
+abbrev pub behind : (taken : ℕ) → FormRead → FormRead
 behind taken part = record part { taken = taken + part.taken }
 
 -- ---- Primary
 
 -- A parenthesis that closes; where a name stands in its place, the arrow behind that is what can't stand there.
-abbrev pub close_of : (size : ℕ) → Part → Lexeme → List Lexeme → TokenKind → Result Part Halt
+abbrev pub close_of : (size : ℕ) → FormRead → Lexeme → List Lexeme → TokenKind → Result FormRead Halt
 close_of size inside lexeme more Close =
     Ok (record { form = inside.form; taken = inside.taken + 2; last = lexeme.text.end; depth = inside.depth + 1 })
 close_of size inside lexeme more Ident = Err (Unexpected (place_of size more))
 close_of size inside lexeme more _ = Err (Unexpected lexeme.text.start)
 
-abbrev pub closed : (size : ℕ) → Part → List Lexeme → Result Part Halt
+abbrev pub closed : (size : ℕ) → FormRead → List Lexeme → Result FormRead Halt
 closed size inside [] = Err (Unexpected size)
 closed size inside (lexeme ∷ more) = close_of size inside lexeme more lexeme.kind
 
 -- what stands inside parentheses, if there may be more of them
-abbrev pub parenthesized : Option Reading → (size : ℕ) → Lexeme → List Lexeme → Result Part Halt
+abbrev pub parenthesized : Option Reading → (size : ℕ) → Lexeme → List Lexeme → Result FormRead Halt
 parenthesized None size opening rest = Err (TooDeep opening.text.start)
 parenthesized (Some inner) size opening rest =
-    and_read (inner opening.text.end rest) (λ (inside : Part). closed size inside (drop inside.taken rest))
+    and_read (inner opening.text.end rest) (λ (inside : FormRead). closed size inside (drop inside.taken rest))
 
 -- a name that isn't followed by an arrow
-abbrev pub named : List ℕ → Lexeme → List Lexeme → Result Part Halt
+abbrev pub named : List ℕ → Lexeme → List Lexeme → Result FormRead Halt
 named file lexeme rest =
     if starts_with_arrow rest then Err (Unexpected (place_of (length file) rest)) else one_token
     (form.Name (part file lexeme.text.start lexeme.text.end) lexeme.text) lexeme
 
-abbrev pub primary_of : List ℕ → Option Reading → Lexeme → List Lexeme → TokenKind → Result Part Halt
+abbrev pub primary_of : List ℕ → Option Reading → Lexeme → List Lexeme → TokenKind → Result FormRead Halt
 primary_of file inner lexeme rest Ident = named file lexeme rest
 primary_of file inner lexeme rest Literal = one_token (form.Literal
     (bytes_in (pieces_of file lexeme)) lexeme.text) lexeme
@@ -125,7 +128,7 @@ primary_of file inner lexeme rest Dot = one_token (form.Any lexeme.text) lexeme
 primary_of file inner lexeme rest Open = parenthesized inner (length file) lexeme rest
 primary_of file inner lexeme rest _ = Err (Unexpected lexeme.text.start)
 
-unfoldable pub primary : List ℕ → Option Reading → List Lexeme → Result Part Halt
+unfoldable pub primary : List ℕ → Option Reading → List Lexeme → Result FormRead Halt
 primary file inner [] = Err (Unexpected (length file))
 primary file inner (lexeme ∷ rest) = primary_of file inner lexeme rest lexeme.kind
 
@@ -137,7 +140,7 @@ suffix_sign Star = Some form.Star
 suffix_sign Plus = Some form.Plus
 suffix_sign _ = None
 
-abbrev pub with_suffix : (start : ℕ) → Part → Lexeme → Option (Form → Extent → Form) → Part
+abbrev pub with_suffix : (start : ℕ) → FormRead → Lexeme → Option (Form → Extent → Form) → FormRead
 with_suffix start part lexeme None = part
 with_suffix start part lexeme (Some sign) =
     record {
@@ -148,13 +151,13 @@ with_suffix start part lexeme (Some sign) =
       depth = part.depth;
     }
 
-abbrev pub then_suffix : (start : ℕ) → Part → List Lexeme → Part
+abbrev pub then_suffix : (start : ℕ) → FormRead → List Lexeme → FormRead
 then_suffix start part [] = part
 then_suffix start part (lexeme ∷ more) = with_suffix start part lexeme (suffix_sign lexeme.kind)
 
-unfoldable pub suffix : List ℕ → Option Reading → List Lexeme → Result Part Halt
+unfoldable pub suffix : List ℕ → Option Reading → List Lexeme → Result FormRead Halt
 suffix file inner lexemes =
-    and_read (primary file inner lexemes) (λ (part : Part). Ok (then_suffix (place_of (length file) lexemes) part
+    and_read (primary file inner lexemes) (λ (part : FormRead). Ok (then_suffix (place_of (length file) lexemes) part
     (drop part.taken lexemes)))
 
 abbrev pub prefix_sign : TokenKind → Option (Form → Extent → Form)
@@ -162,7 +165,7 @@ prefix_sign And = Some form.And
 prefix_sign Not = Some form.Not
 prefix_sign _ = None
 
-abbrev pub with_prefix : (start : ℕ) → (Form → Extent → Form) → Part → Part
+abbrev pub with_prefix : (start : ℕ) → (Form → Extent → Form) → FormRead → FormRead
 with_prefix start sign part =
     record {
       form = sign part.form
@@ -172,23 +175,24 @@ with_prefix start sign part =
       depth = part.depth;
     }
 
-abbrev pub prefix_of : List ℕ → Option Reading → Lexeme → List Lexeme → Option (Form → Extent → Form) → Result Part Halt
+abbrev pub prefix_of : List ℕ → Option Reading → Lexeme → List Lexeme → Option (Form → Extent → Form)
+    → Result FormRead Halt
 prefix_of file inner lexeme rest None = suffix file inner (lexeme ∷ rest)
 prefix_of file inner lexeme rest (Some sign) =
-    and_read (suffix file inner rest) (λ (part : Part). Ok (with_prefix lexeme.text.start sign part))
+    and_read (suffix file inner rest) (λ (part : FormRead). Ok (with_prefix lexeme.text.start sign part))
 
-unfoldable pub prefix : List ℕ → Option Reading → List Lexeme → Result Part Halt
+unfoldable pub prefix : List ℕ → Option Reading → List Lexeme → Result FormRead Halt
 prefix file inner [] = suffix file inner []
 prefix file inner (lexeme ∷ rest) = prefix_of file inner lexeme rest (prefix_sign lexeme.kind)
 
 -- ---- Sequence and Expression
 
 -- no more expressions
-abbrev pub no_more : (last : ℕ) → Parts
+abbrev pub no_more : (last : ℕ) → FormsRead
 no_more last = record { forms = []; taken = 0; last = last; depth = 0 }
 
-abbrev pub and_parts : Part → Parts → Parts
-and_parts part parts =
+abbrev pub and_form : FormRead → FormsRead → FormsRead
+and_form part parts =
     record {
       forms = part.form ∷
           parts.forms;
@@ -199,19 +203,19 @@ and_parts part parts =
 
 -- readings, one behind the other, as long as one begins, behind so many tokens
 unfoldable pub many_behind : (List Lexeme → Bool) → Reading → (before : ℕ) → List Lexeme → (skipped : ℕ)
-    → Result Parts Halt
+    → Result FormsRead Halt
 many_behind begins read before [] skipped = Ok (no_more before)
 many_behind begins read before (lexeme ∷ rest) zero =
     if begins (lexeme ∷ rest) then and_read (read before (lexeme ∷ rest))
-    (λ (part : Part). and_read (many_behind begins read part.last rest (part.taken - 1))
-    (λ (parts : Parts). Ok (and_parts part parts))) else Ok (no_more before)
+    (λ (part : FormRead). and_read (many_behind begins read part.last rest (part.taken - 1))
+    (λ (parts : FormsRead). Ok (and_form part parts))) else Ok (no_more before)
 many_behind begins read before (lexeme ∷ rest) (suc skipped) = many_behind begins read before rest skipped
 
-abbrev pub many : (List Lexeme → Bool) → Reading → (before : ℕ) → List Lexeme → Result Parts Halt
+abbrev pub many : (List Lexeme → Bool) → Reading → (before : ℕ) → List Lexeme → Result FormsRead Halt
 many begins read before lexemes = many_behind begins read before lexemes 0
 
-abbrev pub sequence_part : (before start : ℕ) → Parts → Part
-sequence_part before start parts =
+abbrev pub whole_sequence : (before start : ℕ) → FormsRead → FormRead
+whole_sequence before start parts =
     record {
       form = sequence_spelled before
           (between start parts.last) parts.forms;
@@ -223,7 +227,7 @@ sequence_part before start parts =
 unfoldable pub sequence : List ℕ → Option Reading → Reading
 sequence file inner before lexemes =
     and_read (many begins_prefix (λ before. prefix file inner) before lexemes)
-    (λ (parts : Parts). Ok (sequence_part before (place_of (length file) lexemes) parts))
+    (λ (parts : FormsRead). Ok (whole_sequence before (place_of (length file) lexemes) parts))
 
 abbrev pub is_slash : TokenKind → Bool
 is_slash Slash = true
@@ -237,10 +241,10 @@ starts_with_slash (lexeme ∷ lexemes) = is_slash lexeme.kind
 unfoldable pub alternative : List ℕ → Option Reading → Reading
 alternative file inner before [] = Err (Unexpected (length file))
 alternative file inner before (slash ∷ rest) =
-    and_read (sequence file inner slash.text.end rest) (λ (part : Part). Ok (behind 1 part))
+    and_read (sequence file inner slash.text.end rest) (λ (part : FormRead). Ok (behind 1 part))
 
-abbrev pub choice_part : (start : ℕ) → Part → Parts → Part
-choice_part start first more =
+abbrev pub whole_choice : (start : ℕ) → FormRead → FormsRead → FormRead
+whole_choice start first more =
     record {
       form = choice_spelled (between start more.last)
           (first.form ∷
@@ -252,9 +256,9 @@ choice_part start first more =
 
 abbrev pub expression : List ℕ → Option Reading → Reading
 expression file inner before lexemes =
-    and_read (sequence file inner before lexemes) (λ (first : Part). and_read
+    and_read (sequence file inner before lexemes) (λ (first : FormRead). and_read
     (many starts_with_slash (alternative file inner) first.last (drop first.taken lexemes))
-    (λ (more : Parts). Ok (choice_part (place_of (length file) lexemes) first more)))
+    (λ (more : FormsRead). Ok (whole_choice (place_of (length file) lexemes) first more)))
 
 -- an expression in which so many parentheses may be open at once
 unfoldable pub expression_in : List ℕ → ℕ → Reading
@@ -264,47 +268,55 @@ expression_in file (suc n) = expression file (Some (expression_in file n))
 -- ---- Definition and Grammar
 
 -- a rule that was read, and how many tokens it has
-pub record RulePart : Type 0 where
+pub record RuleRead : Type 0 where
   pub rule : Rule
   pub taken : ℕ
   pub depth : ℕ
 
 -- the rules that were read
-pub record Rules : Type 0 where
+pub record RulesRead : Type 0 where
   pub rules : List Rule
   pub depth : ℕ
 
-abbrev pub and_rules : RulePart → Rules → Rules
+abbrev pub and_rules : RuleRead → RulesRead → RulesRead
 and_rules first more = record { rules = first.rule ∷ more.rules; depth = max first.depth more.depth }
 
-abbrev pub rule_of : List ℕ → Lexeme → Part → RulePart
+abbrev pub rule_of : List ℕ → Lexeme → FormRead → RuleRead
 rule_of file name part_read =
-    record { rule = record { name = part file name.text.start name.text.end; span = name.text; body = part_read.form }; taken = 2 + part_read.taken; depth = part_read.depth }
+    record {
+      rule = record {
+        name = part file name.text.start name.text.end;
+        span = name.text;
+        body = part_read.form;
+      };
+      taken = 2 + part_read.taken;
+      depth = part_read.depth;
+    }
 
 -- an arrow and an expression behind a name
-abbrev pub definition_behind : List ℕ → (most : ℕ) → Lexeme → List Lexeme → Bool → Result RulePart Halt
+abbrev pub definition_behind : List ℕ → (most : ℕ) → Lexeme → List Lexeme → Bool → Result RuleRead Halt
 definition_behind file most name [] arrow_next = Err (Unexpected (length file))
 definition_behind file most name (arrow ∷ rest) false = Err (Unexpected arrow.text.start)
 definition_behind file most name (arrow ∷ rest) true =
-    and_read (expression_in file most arrow.text.end rest) (λ (body : Part). Ok (rule_of file name body))
+    and_read (expression_in file most arrow.text.end rest) (λ (body : FormRead). Ok (rule_of file name body))
 
-abbrev pub definition_of : List ℕ → (most : ℕ) → Lexeme → List Lexeme → TokenKind → Result RulePart Halt
+abbrev pub definition_of : List ℕ → (most : ℕ) → Lexeme → List Lexeme → TokenKind → Result RuleRead Halt
 definition_of file most lexeme rest Ident = definition_behind file most lexeme rest (starts_with_arrow rest)
 definition_of file most lexeme rest _ = Err (Unexpected lexeme.text.start)
 
-unfoldable pub definition : List ℕ → (most : ℕ) → List Lexeme → Result RulePart Halt
+unfoldable pub definition : List ℕ → (most : ℕ) → List Lexeme → Result RuleRead Halt
 definition file most [] = Err (Unexpected (length file))
 definition file most (lexeme ∷ rest) = definition_of file most lexeme rest lexeme.kind
 
 -- definitions, one behind the other, up to the end, behind so many tokens
-unfoldable pub definitions_behind : List ℕ → (most : ℕ) → List Lexeme → (skipped : ℕ) → Result Rules Halt
+unfoldable pub definitions_behind : List ℕ → (most : ℕ) → List Lexeme → (skipped : ℕ) → Result RulesRead Halt
 definitions_behind file most [] skipped = Ok (record { rules = []; depth = 0 })
 definitions_behind file most (lexeme ∷ rest) zero =
-    and_read (definition file most (lexeme ∷ rest)) (λ (first : RulePart). and_read
-    (definitions_behind file most rest (first.taken - 1)) (λ (more : Rules). Ok (and_rules first more)))
+    and_read (definition file most (lexeme ∷ rest)) (λ (first : RuleRead). and_read
+    (definitions_behind file most rest (first.taken - 1)) (λ (more : RulesRead). Ok (and_rules first more)))
 definitions_behind file most (lexeme ∷ rest) (suc skipped) = definitions_behind file most rest skipped
 
 -- one definition at least
-unfoldable pub grammar : List ℕ → (most : ℕ) → List Lexeme → Result Rules Halt
+unfoldable pub grammar : List ℕ → (most : ℕ) → List Lexeme → Result RulesRead Halt
 grammar file most [] = Err (Unexpected (length file))
 grammar file most (lexeme ∷ rest) = definitions_behind file most (lexeme ∷ rest) 0

@@ -1,4 +1,4 @@
--- The file that a `Reader` reads.
+-- Describes code: the file that a `Reader` reads.
 use Rattle.std.specs.Prelude.{ℕ, List}
 use Rattle.peg_notation.specs.declared.reader.Reader.{Reader}
 

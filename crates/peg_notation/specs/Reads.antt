@@ -1,34 +1,37 @@
 -- What reading a grammar file answers: its definitions, or why it is refused and where.
-use Rattle.std.specs.Prelude.{◌≡◌, ◌⊎◌, ℕ, ◌+◌, ◌<◌, ◌≤◌, List, ◌∷◌, ◌++◌, map, length, take, sum_by, codes, Contains, Result, Ok, Err}
+use Rattle.std.specs.Prelude.{◌≡◌, ◌⊎◌, ℕ, ◌+◌, ◌<◌, ◌≤◌, List, ◌∷◌, ◌++◌, map, length, take, sum_by, codes, Contains}
+use Rattle.std.specs.Prelude.{Result, Ok, Err}
 use Rattle.std.specs.declared.alloc.Global.{Global}
 use Rattle.std.specs.declared.vec.Vec.{Vec}
-use Rattle.peg_grammar.specs.Rules.{Rule}
+use Rattle.peg_ford.specs.Rules.{Rule}
 use Rattle.peg_grammar.specs.Written.{rules_of}
 use Rattle.peg_grammar.specs.declared.expr.Definition.{Definition}
 use Rattle.peg_tree.specs.Trees.{Trees}
-use Rattle.peg_notation.specs.Notation.{Matches, IsInNotation, most_file_bytes}
-use Rattle.peg_notation.specs.Spelled.{rules_spelled, nesting}
-use Rattle.peg_notation.specs.Tokens.{Lexeme, IsTokens, IsLexingFault}
-use Rattle.peg_notation.specs.declared.fault.LexFault.{LexFault}
-use Rattle.peg_notation.specs.declared.fault.LexFault.TheVariants as lexing
+use Rattle.peg_figure.specs.Notation.{Matches, IsInNotation, IsReading, most_file_bytes}
+use Rattle.peg_figure.specs.Nesting.{nesting}
+use Rattle.peg_lexer.specs.Tokens.{Lexeme, IsTokens, IsLexingFault}
+use Rattle.peg_lexer.specs.declared.fault.LexFault.{LexFault}
+use Rattle.peg_lexer.specs.declared.fault.LexFault.TheVariants as lexing
 use Rattle.peg_notation.specs.declared.fault.NotationFault.{NotationFault}
 use Rattle.peg_notation.specs.declared.fault.NotationFault.TheVariants.{FileTooLong, Syntax, TooNested, Memory}
-use Rattle.peg_notation.specs.declared.token.TokenKind.{TokenKind}
-use Rattle.peg_notation.specs.declared.token.TokenKind.TheVariants.{Open, Close}
+use Rattle.peg_lexer.specs.declared.token.TokenKind.{TokenKind}
+use Rattle.peg_lexer.specs.declared.token.TokenKind.TheVariants.{Open, Close}
 
 -- the most parentheses that may be open at once
 abbrev pub most_open : ℕ
 most_open = 200
 
--- a file is in the notation with parentheses that nest no deeper than this, and its reading are these rules
-abbrev pub IsReadingWithin : (most : ℕ) → List ℕ → List Rule → Type 0
-IsReadingWithin most file rules =
-    (end : ℕ) × (trees : Trees) × Matches file (codes "Grammar") 0 end trees × (nesting trees ≤ most)
-    × (rules ≡ rules_spelled file trees)
+-- where a file is in the notation, its parentheses nest no deeper than this
+abbrev pub NestsWithin : (most : ℕ) → List ℕ → Type 0
+NestsWithin most file = (end : ℕ) (trees : Trees) → Matches file (codes "Grammar") 0 end trees → nesting trees ≤ most
 
 -- where a file is in the notation, its parentheses nest deeper than this
 abbrev pub NestsDeeper : (most : ℕ) → List ℕ → Type 0
 NestsDeeper most file = (end : ℕ) (trees : Trees) → Matches file (codes "Grammar") 0 end trees → most < nesting trees
+
+-- these rules are the reading of a file that nests no deeper than this
+abbrev pub IsReadingWithin : (most : ℕ) → List ℕ → List Rule → Type 0
+IsReadingWithin most file rules = IsReading file rules × NestsWithin most file
 
 -- ---- places
 

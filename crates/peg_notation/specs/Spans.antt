@@ -3,8 +3,9 @@ use Rattle.std.specs.Prelude.{ℕ, ◌≤◌, All, Result, Ok, Err}
 use Rattle.std.specs.declared.alloc.Global.{Global}
 use Rattle.std.specs.declared.vec.Vec.{Vec}
 use Rattle.peg_bytes.specs.Extent.{Extent}
-use Rattle.peg_grammar.specs.Form.{Form, Forms, Literal, Class, Any, Name, Seq, Choice, Optional, Star, Plus, And, Not, End, Then}
-use Rattle.peg_grammar.specs.Rules.{Rule}
+use Rattle.peg_ford.specs.Form.{Form, Forms, Literal, Class, Any, Name, Seq, Choice, Optional, Star, Plus, And, Not}
+use Rattle.peg_ford.specs.Form.{End, Then}
+use Rattle.peg_ford.specs.Rules.{Rule}
 use Rattle.peg_grammar.specs.Written.{rules_of}
 use Rattle.peg_grammar.specs.declared.expr.Definition.{Definition}
 use Rattle.peg_notation.specs.declared.fault.NotationFault.{NotationFault}

@@ -3,10 +3,10 @@ ghost use Rattle.std.specs.Prelude.{length};
 ghost use Rattle.peg_notation.specs.Reads.{Reads};
 ghost use Rattle.peg_notation.specs.Spans.{AnswerLiesIn};
 
-use crate::fault::{LexFault, NotationFault};
-use crate::lexer::lex;
+use crate::fault::NotationFault;
 use crate::reader::Reader;
 use peg_grammar::Definition;
+use peg_lexer::lex;
 use std::alloc::Global;
 
 /// The definitions of a grammar file, in order (Ford 2004, section 2.1): `FileTooLong` for over `MOST_FILE_BYTES`

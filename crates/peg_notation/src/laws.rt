@@ -1,27 +1,17 @@
 //! Laws of the definitions. Each function does nothing; its contract is the law.
-ghost use Rattle.std.specs.Prelude.{◌≡◌, ℕ, List, length};
-ghost use Rattle.peg_grammar.specs.Grammar.{IsGrammar};
-ghost use Rattle.peg_grammar.specs.WellFormed.{IsWellFormedGrammar};
-ghost use Rattle.peg_notation.specs.Figure.{figure};
-ghost use Rattle.peg_notation.specs.Tokens.{Lexeme, IsTokens, IsLexingFault};
+ghost use Rattle.std.specs.Prelude.{◌≡◌, ◌≢◌, ℕ, List, []};
+ghost use Rattle.peg_ford.specs.Rules.{Rule};
+ghost use Rattle.peg_figure.specs.Notation.{IsReading};
+ghost use Rattle.peg_notation.specs.Reads.{most_open};
 
-/// The figure has 29 rules.
-pub fn the_figure_has_29_rules()
-    ensures { length figure ≡ 29 }
+use crate::rules::MOST_OPEN;
+
+/// The most open parentheses that the code takes are those that the definitions name.
+pub fn open_parentheses_have_a_most()
+    ensures { MOST_OPEN ≡ most_open }
 {}
 
-/// The figure is a grammar, and a well-formed one (Ford 2004, section 3.6).
-pub fn the_figure_is_well_formed()
-    ensures grammar { IsGrammar figure }
-    ensures well_formed { IsWellFormedGrammar figure }
-{}
-
-/// A file has one list of tokens at most and one lexing fault at most, and not both.
-pub fn a_file_has_tokens_or_one_fault()
-    ensures tokens { (file : List ℕ) (first second : List Lexeme)
-        → IsTokens file first → IsTokens file second → first ≡ second }
-    ensures fault { (file : List ℕ) (at other : ℕ)
-        → IsLexingFault file at → IsLexingFault file other → at ≡ other }
-    ensures not_both { (file : List ℕ) (lexemes : List Lexeme) (at : ℕ)
-        → IsTokens file lexemes → IsLexingFault file at → ⊥ }
+/// The reading of a file has a rule.
+pub fn a_reading_has_a_rule()
+    ensures { (file : List ℕ) (rules : List Rule) → IsReading file rules → rules ≢ [] }
 {}

@@ -1,31 +1,15 @@
-//! The notation of grammar files: Ford's figure 1, its tokens, and what files spell.
+//! The notation of grammar files: reads a file of it, by its tokens, as Ford's figure 1 says.
 #![tactic(auto)]
 
-mod builders;
+mod expressions;
 mod fault;
-mod figure_rules;
 mod file;
-mod front;
 pub mod laws;
-mod lexer;
-mod parts;
-mod ranges;
-#[cfg(test)]
-mod read_tests;
 mod reader;
 mod rules;
-mod spacing;
-#[cfg(test)]
-mod tests;
-mod text;
-mod text_of_figure;
-mod token;
-mod values;
 
-pub use fault::{LexFault, NotationFault};
-pub use figure_rules::figure;
+pub use fault::NotationFault;
 pub use file::read;
-pub use lexer::{MOST_FILE_BYTES, lex};
+pub use peg_figure::{figure, figure_text};
+pub use peg_lexer::{LexFault, MOST_FILE_BYTES, Token, TokenKind, lex};
 pub use rules::MOST_OPEN;
-pub use text_of_figure::figure_text;
-pub use token::{Token, TokenKind};

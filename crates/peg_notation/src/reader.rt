@@ -3,24 +3,24 @@ ghost use Rattle.std.specs.Prelude.{◌≡◌, ℕ, ◌+◌, ◌-◌, ◌<◌, �
 ghost use Rattle.std.specs.Str.{IsUtf8};
 ghost use Rattle.peg_bytes.specs.ByteSet.{bytes_of};
 ghost use Rattle.peg_bytes.specs.Extent.{extent};
-ghost use Rattle.peg_grammar.specs.Form.{And, Not, Name, Literal, Class, Any};
+ghost use Rattle.peg_ford.specs.Form.{And, Not, Name, Literal, Class, Any};
 ghost use Rattle.peg_grammar.specs.Written.{form_of};
-ghost use Rattle.peg_notation.specs.Notation.{most_file_bytes};
-ghost use Rattle.peg_notation.specs.Ranges.{class_of};
+ghost use Rattle.peg_figure.specs.Notation.{most_file_bytes};
+ghost use Rattle.peg_figure.specs.Ranges.{class_of};
 ghost use Rattle.peg_notation.specs.Reader.{starts_with_arrow, starts_with_slash, begins_prefix, place_of, pieces_of};
 ghost use Rattle.peg_notation.specs.Reader.{one_token, closed, parenthesized, named, primary, suffix_sign, with_suffix};
-ghost use Rattle.peg_notation.specs.Reader.{then_suffix, suffix, with_prefix, prefix, sequence, alternative, expression};
-ghost use Rattle.peg_notation.specs.ReaderCode.{lexemes, IsText, AreTexts, part_seen, inner_of, Tells};
+ghost use Rattle.peg_notation.specs.Reader.{then_suffix, suffix, with_prefix, prefix, sequence, alternative};
+ghost use Rattle.peg_notation.specs.Reader.{expression};
+ghost use Rattle.peg_notation.specs.ReaderCode.{lexemes, IsText, AreTexts, form_seen, inner_of, Conveys};
 ghost use Rattle.peg_notation.specs.Spans.{LiesIn};
-ghost use Rattle.peg_notation.specs.Spelled.{bytes_in, ranges_in};
-ghost use Rattle.peg_notation.specs.Tokens.{lexeme_of};
+ghost use Rattle.peg_figure.specs.Spelled.{bytes_in, ranges_in};
+ghost use Rattle.peg_lexer.specs.Tokens.{lexeme_of};
 
+use crate::expressions::{ReadExpr, ReadExprs};
 use crate::fault::NotationFault;
-use crate::parts::{Part, Parts};
-use crate::token::{Token, TokenKind};
-use crate::values::{class_bytes, literal_bytes, name_text};
 use peg_bytes::{ByteSet, Span};
 use peg_grammar::Expr;
+use peg_lexer::{Token, TokenKind, class_bytes, literal_bytes, name_text};
 use std::alloc::{AllocError, Global};
 
 /// What is read: a file, whose tokens are given call by call.
@@ -110,14 +110,15 @@ impl<'a> Reader<'a> {
         before: u32,
         tokens: &[Token],
         left: usize,
-    ) -> Result<Part, NotationFault>
+    ) -> Result<ReadExpr, NotationFault>
         requires texts { AreTexts (file_of self.now) before (lexemes tokens.now) }
-        ensures read { Tells part_seen (expression (file_of self.now) (inner_of (file_of self.now) left) before (lexemes tokens.now)) result }
+        ensures read { Conveys form_seen
+            (expression (file_of self.now) (inner_of (file_of self.now) left) before (lexemes tokens.now)) result }
         ensures fits { IfOk result (λ part. part.taken ≤ length tokens.now) }
         ensures shallow { IfOk result (λ part. part.depth ≤ left) }
     {
         let first = self.sequence(before, tokens, left)?;
-        let mut more = Parts::none(self.alloc, first.last);
+        let mut more = ReadExprs::none(self.alloc, first.last);
         let rest = behind(tokens, first.taken);
         'alternatives: while starts_with_slash(behind(rest, more.taken)) {
             let alternative = self.alternative(behind(rest, more.taken), left)?;
@@ -129,9 +130,10 @@ impl<'a> Reader<'a> {
     // A slash, and the sequence behind it.
     #[cycle(reader)]
     #[tactic(auto, using(crate::proofs::ReaderSteps::faults), unfolding(crate::specs::Reader::alternative))]
-    fn alternative(&self, tokens: &[Token], left: usize) -> Result<Part, NotationFault>
+    fn alternative(&self, tokens: &[Token], left: usize) -> Result<ReadExpr, NotationFault>
         requires texts { AreTexts (file_of self.now) 0 (lexemes tokens.now) }
-        ensures read { (before : ℕ) → Tells part_seen (alternative (file_of self.now) (inner_of (file_of self.now) left) before (lexemes tokens.now)) result }
+        ensures read { (before : ℕ) → Conveys form_seen
+            (alternative (file_of self.now) (inner_of (file_of self.now) left) before (lexemes tokens.now)) result }
         ensures fits { IfOk result (λ part. part.taken ≤ length tokens.now) }
         ensures some { IfOk result (λ part. 0 < part.taken) }
         ensures shallow { IfOk result (λ part. part.depth ≤ left) }
@@ -139,7 +141,7 @@ impl<'a> Reader<'a> {
         match tokens {
             [slash, ..] => {
                 let part = self.sequence(slash.span.end, &tokens[1..], left)?;
-                Ok(Part {
+                Ok(ReadExpr {
                     taken: 1 + part.taken,
                     ..part
                 })
@@ -151,13 +153,19 @@ impl<'a> Reader<'a> {
     // Expressions with or without signs, one behind the other.
     #[cycle(reader)]
     #[tactic(auto, using(crate::proofs::ReaderSteps::faults), unfolding(crate::specs::Reader::sequence))]
-    fn sequence(&self, before: u32, tokens: &[Token], left: usize) -> Result<Part, NotationFault>
+    fn sequence(
+        &self,
+        before: u32,
+        tokens: &[Token],
+        left: usize,
+    ) -> Result<ReadExpr, NotationFault>
         requires texts { AreTexts (file_of self.now) before (lexemes tokens.now) }
-        ensures read { Tells part_seen (sequence (file_of self.now) (inner_of (file_of self.now) left) before (lexemes tokens.now)) result }
+        ensures read { Conveys form_seen
+            (sequence (file_of self.now) (inner_of (file_of self.now) left) before (lexemes tokens.now)) result }
         ensures fits { IfOk result (λ part. part.taken ≤ length tokens.now) }
         ensures shallow { IfOk result (λ part. part.depth ≤ left) }
     {
-        let mut items = Parts::none(self.alloc, before);
+        let mut items = ReadExprs::none(self.alloc, before);
         'items: while begins_prefix(behind(tokens, items.taken)) {
             let item = self.prefix(behind(tokens, items.taken), left)?;
             items.add(item)?;
@@ -168,9 +176,10 @@ impl<'a> Reader<'a> {
     // An expression with a suffix, or a predicate of one.
     #[cycle(reader)]
     #[tactic(auto, using(crate::proofs::ReaderSteps::faults), unfolding(crate::specs::Reader::prefix))]
-    fn prefix(&self, tokens: &[Token], left: usize) -> Result<Part, NotationFault>
+    fn prefix(&self, tokens: &[Token], left: usize) -> Result<ReadExpr, NotationFault>
         requires texts { AreTexts (file_of self.now) 0 (lexemes tokens.now) }
-        ensures read { Tells part_seen (prefix (file_of self.now) (inner_of (file_of self.now) left) (lexemes tokens.now)) result }
+        ensures read { Conveys form_seen
+            (prefix (file_of self.now) (inner_of (file_of self.now) left) (lexemes tokens.now)) result }
         ensures fits { IfOk result (λ part. part.taken ≤ length tokens.now) }
         ensures some { IfOk result (λ part. 0 < part.taken) }
         ensures shallow { IfOk result (λ part. part.depth ≤ left) }
@@ -189,16 +198,16 @@ impl<'a> Reader<'a> {
     }
 
     // The predicate `&` of an expression.
-    fn and(&self, sign: Token, part: Part) -> Result<Part, AllocError>
+    fn and(&self, sign: Token, part: ReadExpr) -> Result<ReadExpr, AllocError>
         requires few { part.taken < 2 ^ 63 }
         requires order { sign.span.start ≤ part.last }
-        ensures { IfOk result (λ whole. part_seen whole ≡ with_prefix sign.span.start And (part_seen part)) }
+        ensures { IfOk result (λ whole. form_seen whole ≡ with_prefix sign.span.start And (form_seen part)) }
     {
         let expression = Expr::And {
             part: Box::new(self.alloc, part.expression)?,
             span: Span::new(sign.span.start, part.last),
         };
-        Ok(Part {
+        Ok(ReadExpr {
             expression,
             taken: 1 + part.taken,
             last: part.last,
@@ -207,16 +216,16 @@ impl<'a> Reader<'a> {
     }
 
     // The predicate `!` of an expression.
-    fn not(&self, sign: Token, part: Part) -> Result<Part, AllocError>
+    fn not(&self, sign: Token, part: ReadExpr) -> Result<ReadExpr, AllocError>
         requires few { part.taken < 2 ^ 63 }
         requires order { sign.span.start ≤ part.last }
-        ensures { IfOk result (λ whole. part_seen whole ≡ with_prefix sign.span.start Not (part_seen part)) }
+        ensures { IfOk result (λ whole. form_seen whole ≡ with_prefix sign.span.start Not (form_seen part)) }
     {
         let expression = Expr::Not {
             part: Box::new(self.alloc, part.expression)?,
             span: Span::new(sign.span.start, part.last),
         };
-        Ok(Part {
+        Ok(ReadExpr {
             expression,
             taken: 1 + part.taken,
             last: part.last,
@@ -227,9 +236,10 @@ impl<'a> Reader<'a> {
     // An expression, with the sign behind it if there is one.
     #[cycle(reader)]
     #[tactic(auto, using(crate::proofs::ReaderSteps::faults), unfolding(crate::specs::Reader::suffix))]
-    fn suffix(&self, tokens: &[Token], left: usize) -> Result<Part, NotationFault>
+    fn suffix(&self, tokens: &[Token], left: usize) -> Result<ReadExpr, NotationFault>
         requires texts { AreTexts (file_of self.now) 0 (lexemes tokens.now) }
-        ensures read { Tells part_seen (suffix (file_of self.now) (inner_of (file_of self.now) left) (lexemes tokens.now)) result }
+        ensures read { Conveys form_seen
+            (suffix (file_of self.now) (inner_of (file_of self.now) left) (lexemes tokens.now)) result }
         ensures fits { IfOk result (λ part. part.taken ≤ length tokens.now) }
         ensures some { IfOk result (λ part. 0 < part.taken) }
         ensures shallow { IfOk result (λ part. part.depth ≤ left) }
@@ -240,11 +250,16 @@ impl<'a> Reader<'a> {
     }
 
     // An expression with the sign that is next, if one is; `start` is where it starts.
-    fn then_suffix(&self, start: u32, rest: &[Token], part: Part) -> Result<Part, AllocError>
+    fn then_suffix(
+        &self,
+        start: u32,
+        rest: &[Token],
+        part: ReadExpr,
+    ) -> Result<ReadExpr, AllocError>
         requires few { part.taken < 2 ^ 63 }
         requires order { start ≤ part.last }
         requires texts { AreTexts (file_of self.now) part.last (lexemes rest.now) }
-        ensures { IfOk result (λ whole. part_seen whole ≡ then_suffix start (part_seen part) (lexemes rest.now)) }
+        ensures { IfOk result (λ whole. form_seen whole ≡ then_suffix start (form_seen part) (lexemes rest.now)) }
     {
         match rest {
             [sign, ..] => self.with_suffix(start, *sign, part),
@@ -253,14 +268,14 @@ impl<'a> Reader<'a> {
     }
 
     // An expression with this token behind it, if it is a sign.
-    fn with_suffix(&self, start: u32, sign: Token, part: Part) -> Result<Part, AllocError>
+    fn with_suffix(&self, start: u32, sign: Token, part: ReadExpr) -> Result<ReadExpr, AllocError>
         requires few { part.taken < 2 ^ 63 }
         requires order { start ≤ sign.span.end }
-        ensures { IfOk result (λ whole. part_seen whole
-            ≡ with_suffix start (part_seen part) (lexeme_of sign) (suffix_sign sign.kind)) }
+        ensures { IfOk result (λ whole. form_seen whole
+            ≡ with_suffix start (form_seen part) (lexeme_of sign) (suffix_sign sign.kind)) }
     {
         let span = Span::new(start, sign.span.end);
-        let Part {
+        let ReadExpr {
             expression,
             taken,
             last,
@@ -280,7 +295,7 @@ impl<'a> Reader<'a> {
                 span,
             },
             _ => {
-                return Ok(Part {
+                return Ok(ReadExpr {
                     expression,
                     taken,
                     last,
@@ -288,7 +303,7 @@ impl<'a> Reader<'a> {
                 });
             }
         };
-        Ok(Part {
+        Ok(ReadExpr {
             expression,
             taken: taken + 1,
             last: sign.span.end,
@@ -299,9 +314,10 @@ impl<'a> Reader<'a> {
     // A name, a literal, a class or a dot, or an expression in parentheses.
     #[cycle(reader)]
     #[tactic(auto, using(crate::proofs::ReaderSteps::faults), unfolding(crate::specs::Reader::primary))]
-    fn primary(&self, tokens: &[Token], left: usize) -> Result<Part, NotationFault>
+    fn primary(&self, tokens: &[Token], left: usize) -> Result<ReadExpr, NotationFault>
         requires texts { AreTexts (file_of self.now) 0 (lexemes tokens.now) }
-        ensures read { Tells part_seen (primary (file_of self.now) (inner_of (file_of self.now) left) (lexemes tokens.now)) result }
+        ensures read { Conveys form_seen
+            (primary (file_of self.now) (inner_of (file_of self.now) left) (lexemes tokens.now)) result }
         ensures fits { IfOk result (λ part. part.taken ≤ length tokens.now) }
         ensures some { IfOk result (λ part. 0 < part.taken) }
         ensures shallow { IfOk result (λ part. part.depth ≤ left) }
@@ -320,11 +336,11 @@ impl<'a> Reader<'a> {
     }
 
     // A name that isn't that of the next definition.
-    fn name(&self, token: Token, rest: &[Token]) -> Result<Part, NotationFault>
+    fn name(&self, token: Token, rest: &[Token]) -> Result<ReadExpr, NotationFault>
         requires text { IsText (file_of self.now) (lexeme_of token) }
         requires inside { LiesIn (length (file_of self.now)) (extent token.span) }
         requires ident { token.kind ≡ TokenKind.Ident }
-        ensures { Tells part_seen (named (file_of self.now) (lexeme_of token) (lexemes rest.now)) result }
+        ensures { Conveys form_seen (named (file_of self.now) (lexeme_of token) (lexemes rest.now)) result }
     {
         if starts_with_arrow(rest) {
             return Err(self.unexpected(rest));
@@ -338,12 +354,13 @@ impl<'a> Reader<'a> {
     }
 
     // The bytes that a literal spells.
-    fn literal(&self, token: Token) -> Result<Part, AllocError>
+    fn literal(&self, token: Token) -> Result<ReadExpr, AllocError>
         requires text { IsText (file_of self.now) (lexeme_of token) }
         requires inside { LiesIn (length (file_of self.now)) (extent token.span) }
         requires literal { token.kind ≡ TokenKind.Literal }
-        ensures { IfOk result (λ part. Ok (part_seen part) ≡ one_token
-            (Literal (bytes_in (pieces_of (file_of self.now) (lexeme_of token))) (extent token.span)) (lexeme_of token)) }
+        ensures { IfOk result (λ part. Ok (form_seen part) ≡ one_token
+            (Literal (bytes_in (pieces_of (file_of self.now) (lexeme_of token))) (extent token.span))
+            (lexeme_of token)) }
     {
         let span = token.span;
         let bytes = literal_bytes(self.alloc, &self.file[span.start as usize..])?;
@@ -351,11 +368,11 @@ impl<'a> Reader<'a> {
     }
 
     // The set of bytes that a class spells.
-    fn class(&self, token: Token) -> Result<Part, AllocError>
+    fn class(&self, token: Token) -> Result<ReadExpr, AllocError>
         requires text { IsText (file_of self.now) (lexeme_of token) }
         requires inside { LiesIn (length (file_of self.now)) (extent token.span) }
         requires class { token.kind ≡ TokenKind.Class }
-        ensures { IfOk result (λ part. Ok (part_seen part) ≡ one_token
+        ensures { IfOk result (λ part. Ok (form_seen part) ≡ one_token
             (Class (class_of (ranges_in (pieces_of (file_of self.now) (lexeme_of token)))) (extent token.span))
             (lexeme_of token)) }
     {
@@ -372,9 +389,9 @@ impl<'a> Reader<'a> {
         opening: Token,
         rest: &[Token],
         left: usize,
-    ) -> Result<Part, NotationFault>
+    ) -> Result<ReadExpr, NotationFault>
         requires texts { AreTexts (file_of self.now) opening.span.end (lexemes rest.now) }
-        ensures read { Tells part_seen (parenthesized (inner_of (file_of self.now) left) (length (file_of self.now))
+        ensures read { Conveys form_seen (parenthesized (inner_of (file_of self.now) left) (length (file_of self.now))
             (lexeme_of opening) (lexemes rest.now)) result }
         ensures fits { IfOk result (λ part. part.taken ≤ 1 + length rest.now) }
         ensures some { IfOk result (λ part. 0 < part.taken) }
@@ -390,17 +407,18 @@ impl<'a> Reader<'a> {
     }
 
     // The parenthesis that closes; where a name stands in its place, what can't stand there is the arrow behind it.
-    fn closed(&self, rest: &[Token], inside: Part) -> Result<Part, NotationFault>
+    fn closed(&self, rest: &[Token], inside: ReadExpr) -> Result<ReadExpr, NotationFault>
         requires few { inside.taken < 2 ^ 63 }
         requires shallow { inside.depth + 1 < 2 ^ 64 }
-        ensures read { Tells part_seen (closed (length (file_of self.now)) (part_seen inside) (lexemes rest.now)) result }
+        ensures read { Conveys form_seen
+            (closed (length (file_of self.now)) (form_seen inside) (lexemes rest.now)) result }
         ensures fits { IfOk result (λ part. part.taken ≤ inside.taken + 1 + length rest.now) }
         ensures some { IfOk result (λ part. 0 < part.taken) }
         ensures depth { IfOk result (λ part. part.depth ≡ inside.depth + 1) }
     {
         match rest {
             [closing, ..] => match closing.kind {
-                TokenKind::Close => Ok(Part {
+                TokenKind::Close => Ok(ReadExpr {
                     expression: inside.expression,
                     taken: inside.taken + 2,
                     last: closing.span.end,
@@ -415,10 +433,10 @@ impl<'a> Reader<'a> {
 }
 
 // An expression of one token.
-fn one_token(expression: Expr, token: Token) -> Part
-    ensures { Ok (part_seen result) ≡ one_token (form_of expression) (lexeme_of token) }
+fn one_token(expression: Expr, token: Token) -> ReadExpr
+    ensures { Ok (form_seen result) ≡ one_token (form_of expression) (lexeme_of token) }
 {
-    Part {
+    ReadExpr {
         expression,
         taken: 1,
         last: token.span.end,

@@ -2,16 +2,15 @@
 ghost use Rattle.std.specs.Prelude.{◌≡◌, ◌+◌, ◌<◌, ◌≤◌, length, IfOk};
 ghost use Rattle.peg_bytes.specs.Extent.{extent};
 ghost use Rattle.peg_notation.specs.Reader.{starts_with_arrow, definition_behind, definition, grammar};
-ghost use Rattle.peg_notation.specs.ReaderCode.{lexemes, IsText, AreTexts, rule_seen, rules_seen, Tells};
+ghost use Rattle.peg_notation.specs.ReaderCode.{lexemes, IsText, AreTexts, rule_seen, rules_seen, Conveys};
 ghost use Rattle.peg_notation.specs.Reads.{most_open};
 ghost use Rattle.peg_notation.specs.Spans.{LiesIn};
-ghost use Rattle.peg_notation.specs.Tokens.{lexeme_of};
+ghost use Rattle.peg_lexer.specs.Tokens.{lexeme_of};
 
 use crate::fault::NotationFault;
 use crate::reader::{Reader, behind, starts_with_arrow};
-use crate::token::{Token, TokenKind};
-use crate::values::name_text;
 use peg_grammar::Definition;
+use peg_lexer::{Token, TokenKind, name_text};
 
 /// The most parentheses that may be open at once.
 pub const MOST_OPEN: usize = 200;
@@ -40,7 +39,7 @@ impl<'a> Reader<'a> {
     #[tactic(auto, unfolding(crate::specs::Reader::grammar))]
     pub(crate) fn grammar(&self, tokens: &[Token]) -> Result<ReadRules, NotationFault>
         requires { AreTexts (file_of self.now) 0 (lexemes tokens.now) }
-        ensures { Tells rules_seen (grammar (file_of self.now) most_open (lexemes tokens.now)) result }
+        ensures { Conveys rules_seen (grammar (file_of self.now) most_open (lexemes tokens.now)) result }
     {
         if tokens.is_empty() {
             return Err(self.unexpected(tokens));
@@ -61,7 +60,7 @@ impl<'a> Reader<'a> {
     #[tactic(auto, unfolding(crate::specs::Reader::definition))]
     fn definition(&self, tokens: &[Token]) -> Result<ReadRule, NotationFault>
         requires { AreTexts (file_of self.now) 0 (lexemes tokens.now) }
-        ensures read { Tells rule_seen (definition (file_of self.now) most_open (lexemes tokens.now)) result }
+        ensures read { Conveys rule_seen (definition (file_of self.now) most_open (lexemes tokens.now)) result }
         ensures fits { IfOk result (λ rule. rule.taken ≤ length tokens.now) }
         ensures some { IfOk result (λ rule. 0 < rule.taken) }
     {
@@ -79,7 +78,7 @@ impl<'a> Reader<'a> {
         requires inside { LiesIn (length (file_of self.now)) (extent name.span) }
         requires ident { name.kind ≡ TokenKind.Ident }
         requires texts { AreTexts (file_of self.now) name.span.end (lexemes rest.now) }
-        ensures read { Tells rule_seen (definition_behind (file_of self.now) most_open (lexeme_of name)
+        ensures read { Conveys rule_seen (definition_behind (file_of self.now) most_open (lexeme_of name)
             (lexemes rest.now) (starts_with_arrow (lexemes rest.now))) result }
         ensures fits { IfOk result (λ rule. rule.taken ≤ 1 + length rest.now) }
         ensures some { IfOk result (λ rule. 0 < rule.taken) }

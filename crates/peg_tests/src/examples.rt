@@ -1,4 +1,5 @@
-//! The grammars of the folder `examples` at the top, over their texts.
+//! The grammars of the folder `examples` at the top, over their texts. Its `same.py` sees to it that they are the same
+//! here and there.
 use peg_tool::{Command, Device, run_joined, run_tool};
 use std::alloc::{AllocError, Global};
 use std::process::Abort;
@@ -111,9 +112,14 @@ fn joined(alloc: Global, grammar: &[u8], text: &[u8]) -> Result<Vec<u8>, AllocEr
     Ok(input)
 }
 
-// Each text is matched whole, or fails.
-fn ends(rt: &impl Abort, alloc: Global, grammar: &[u8], texts: &[(&[u8], u8)]) -> Result<(), Fail> {
-    for (text, status) in texts {
+// Each text, which stands behind its file's name, is matched whole, or fails.
+fn ends(
+    rt: &impl Abort,
+    alloc: Global,
+    grammar: &[u8],
+    texts: &[(&str, &[u8], u8)],
+) -> Result<(), Fail> {
+    for (name, text, status) in texts {
         let input = joined(alloc, grammar, text)?;
         let mut written = Vec::new(alloc);
         let ended = run_joined(
@@ -121,7 +127,7 @@ fn ends(rt: &impl Abort, alloc: Global, grammar: &[u8], texts: &[(&[u8], u8)]) -
             &mut Device::new(input.as_slice()),
             &mut Device::new(&mut written),
         )?;
-        assert_eq!(rt; ended, *status, "on {text:?}");
+        assert_eq!(rt; ended, *status, "on {name}");
     }
     Ok(())
 }
@@ -268,68 +274,88 @@ fn the_table_of_uri(rt: HostRuntime) -> Result<(), Fail> {
 
 #[test]
 fn the_texts_of_arithmetic(rt: HostRuntime) -> Result<(), Fail> {
-    let texts: [(&[u8], u8); 4] = [
-        (b"((7))", 0),
-        (b"1 + 2*(3 - 40) / 5", 0),
-        (b"1 + ", 1),
-        (b"2 3", 1),
+    let texts: [(&str, &[u8], u8); 4] = [
+        ("match_parentheses.txt", b"((7))", 0),
+        ("match_signs.txt", b"1 + 2*(3 - 40) / 5", 0),
+        ("no_match_end.txt", b"1 + ", 1),
+        ("no_match_two_numbers.txt", b"2 3", 1),
     ];
     ends(&rt, rt.alloc(), ARITHMETIC, &texts)
 }
 
 #[test]
 fn the_texts_of_csv(rt: HostRuntime) -> Result<(), Fail> {
-    let texts: [(&[u8], u8); 4] = [
-        (b"", 0),
-        (b"name,size\r\n\"a \"\"b\"\", c\",12\r\n,", 0),
-        (b"a,\"b\n", 1),
-        (b"a\"b", 1),
+    let texts: [(&str, &[u8], u8); 4] = [
+        ("match_nothing.txt", b"", 0),
+        (
+            "match_quotes.txt",
+            b"name,size\r\n\"a \"\"b\"\", c\",12\r\n,",
+            0,
+        ),
+        ("no_match_open_quote.txt", b"a,\"b\n", 1),
+        ("no_match_quote_inside.txt", b"a\"b", 1),
     ];
     ends(&rt, rt.alloc(), CSV, &texts)
 }
 
 #[test]
 fn the_texts_of_ini(rt: HostRuntime) -> Result<(), Fail> {
-    let texts: [(&[u8], u8); 4] = [
-        (b" # alone", 0),
-        (b"; mail\n[server]\nhost = example.org\nport=25\n\n", 0),
-        (b"= 1", 1),
-        (b"[server\nhost = a\n", 1),
+    let texts: [(&str, &[u8], u8); 4] = [
+        ("match_comment.txt", b" # alone", 0),
+        (
+            "match_section.txt",
+            b"; mail\n[server]\nhost = example.org\nport=25\n\n",
+            0,
+        ),
+        ("no_match_no_key.txt", b"= 1", 1),
+        ("no_match_open_bracket.txt", b"[server\nhost = a\n", 1),
     ];
     ends(&rt, rt.alloc(), INI, &texts)
 }
 
 #[test]
 fn the_texts_of_json(rt: HostRuntime) -> Result<(), Fail> {
-    let texts: [(&[u8], u8); 5] = [
-        (b" \"\" ", 0),
-        (b"{\"a\": [1, -2.5e3, true, null], \"b\\u00e9\": {}}", 0),
-        (b"[1,]", 1),
-        (b"01", 1),
-        (b"\"a\nb\"", 1),
+    let texts: [(&str, &[u8], u8); 5] = [
+        ("match_empty_string.txt", b" \"\" ", 0),
+        (
+            "match_object.txt",
+            b"{\"a\": [1, -2.5e3, true, null], \"b\\u00e9\": {}}",
+            0,
+        ),
+        ("no_match_comma.txt", b"[1,]", 1),
+        ("no_match_leading_zero.txt", b"01", 1),
+        ("no_match_line_end.txt", b"\"a\nb\"", 1),
     ];
     ends(&rt, rt.alloc(), JSON, &texts)
 }
 
 #[test]
 fn the_texts_of_notation(rt: HostRuntime) -> Result<(), Fail> {
-    let texts: [(&[u8], u8); 4] = [
-        (b"A <-", 0),
-        (b"A <- B / \"c\"* # d\nB <- [e-g] !.\n", 0),
-        (b"A <- [a-]", 1),
-        (b"A <- (B", 1),
+    let texts: [(&str, &[u8], u8); 4] = [
+        ("match_empty_body.txt", b"A <-", 0),
+        (
+            "match_two_rules.txt",
+            b"A <- B / \"c\"* # d\nB <- [e-g] !.\n",
+            0,
+        ),
+        ("no_match_open_class.txt", b"A <- [a-]", 1),
+        ("no_match_open_parenthesis.txt", b"A <- (B", 1),
     ];
     ends(&rt, rt.alloc(), NOTATION, &texts)
 }
 
 #[test]
 fn the_texts_of_uri(rt: HostRuntime) -> Result<(), Fail> {
-    let texts: [(&[u8], u8); 5] = [
-        (b"file:///etc/hosts", 0),
-        (b"http://user@example.org:80/a/b?c=%20d#e", 0),
-        (b"mailto:a@b.org", 0),
-        (b"http://a/%2", 1),
-        (b"//example.org/", 1),
+    let texts: [(&str, &[u8], u8); 5] = [
+        ("match_file.txt", b"file:///etc/hosts", 0),
+        (
+            "match_http.txt",
+            b"http://user@example.org:80/a/b?c=%20d#e",
+            0,
+        ),
+        ("match_mailto.txt", b"mailto:a@b.org", 0),
+        ("no_match_half_escape.txt", b"http://a/%2", 1),
+        ("no_match_no_scheme.txt", b"//example.org/", 1),
     ];
     ends(&rt, rt.alloc(), URI, &texts)
 }

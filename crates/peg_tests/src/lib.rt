@@ -21,3 +21,5 @@ mod parse;
 mod parser;
 #[cfg(test)]
 mod tool;
+#[cfg(test)]
+mod words;

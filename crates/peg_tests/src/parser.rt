@@ -1,7 +1,5 @@
 //! Calls of the parser: answers and refusals as a caller gets them.
-use peg_grammar::GrammarFault;
-use peg_notation::NotationFault;
-use peg_tool::{Fault, ParseFault, ParseOptions, Parser, Refusal, answer_json, refusal_json};
+use peg_tool::{Fault, ParseFault, ParseOptions, Parser, answer_json, refusal_json};
 use std::alloc::Global;
 use std::process::Abort;
 use std::test::Fail;
@@ -101,32 +99,5 @@ fn a_start_that_is_no_rule_is_told_by_its_name(rt: HostRuntime) -> Result<(), Fa
         let told = refusal_json(alloc, &Fault::NoSuchStart(name), file, &["S"])?;
         assert!(rt; told.as_str() == line, "{told}");
     }
-    Ok(())
-}
-
-#[test]
-fn limits_of_a_file_are_told_by_their_names(rt: HostRuntime) -> Result<(), Fail> {
-    let alloc = rt.alloc();
-    let no_rule = Refusal::Grammar(GrammarFault::NoRule);
-    let told = refusal_json(alloc, &Fault::Refused(&no_rule), b"", &[])?;
-    assert!(rt; told.as_str() == "{\"refusal\":\"NoRule\"}", "{told}");
-    let heavy = Refusal::Grammar(GrammarFault::TooManyParts);
-    let told = refusal_json(alloc, &Fault::Refused(&heavy), b"", &[])?;
-    assert!(rt; told.as_str() == "{\"refusal\":\"TooManyParts\"}", "{told}");
-    let long = Refusal::Notation(NotationFault::FileTooLong);
-    let told = refusal_json(alloc, &Fault::Refused(&long), b"", &[])?;
-    assert!(rt; told.as_str() == "{\"refusal\":\"FileTooLong\"}", "{told}");
-    Ok(())
-}
-
-#[test]
-fn limits_of_a_parse_are_told_by_their_names(rt: HostRuntime) -> Result<(), Fail> {
-    let alloc = rt.alloc();
-    let told = refusal_json(alloc, &Fault::StepLimit, b"", &[])?;
-    assert!(rt; told.as_str() == "{\"refusal\":\"StepLimit\"}", "{told}");
-    let told = refusal_json(alloc, &Fault::TooDeep, b"", &[])?;
-    assert!(rt; told.as_str() == "{\"refusal\":\"TooDeep\"}", "{told}");
-    let told = refusal_json(alloc, &Fault::TextTooLong, b"", &[])?;
-    assert!(rt; told.as_str() == "{\"refusal\":\"TextTooLong\"}", "{told}");
     Ok(())
 }

@@ -1,16 +1,5 @@
-pub mod AcceptLemmas
-pub mod AnswerLemmas
-pub mod CheckLemmas
-pub mod FirstRule
-pub mod JudgeLemmas
-pub mod NameLemmas
-pub mod OutcomeFits
-pub mod OutcomeLemmas
-pub mod ParseLemmas
-pub mod PrintLemmas
-pub mod RefusalLemmas
-pub mod RunLemmas
-pub mod SplitLaws
-pub mod StartLemmas
-pub mod TableLemmas
-pub mod TransferLemmas
+mod EndLemmas
+mod JudgeLemmas
+mod ParsedLines
+mod ProgramLemmas
+mod RunLemmas

@@ -2,24 +2,25 @@
 use Rattle.std.proofs.Common.{◌≡◌, ℕ, ◌+◌, ◌<◌, ◌≤◌, Bool, inl, inr, List, ◌++◌, length, Option, None, Some, Result, Ok, Err, IfOk, string_bytes}
 use Rattle.std.proofs.Common.{IfSome, refl, sym, ap, ◌∙◌, subst, append-nil, length-append, length-take, arith}
 use Rattle.std.proofs.lemmas.Bool.{cases_lt}
-use Rattle.std.specs.Io.KnownBytes.{Consumes, IsAtEnd, Appends}
-use Rattle.peg_grammar.specs.Rules.{Rule}
-use Rattle.peg_notation.specs.Notation.{most_file_bytes}
-use Rattle.peg_tool.specs.Asked.{asked_task}
-use Rattle.peg_tool.specs.Answers.{Answers, most_joined_bytes, unread, untaken, tabled, ill_formed, accepted, parsed}
-use Rattle.peg_tool.specs.Cause.{FileTooLong}
-use Rattle.peg_tool.specs.Parses.{ParsesTo, most_text_bytes, text_too_long, no_such_start, failed, too_many_levels, matched}
-use Rattle.peg_tool.specs.Printed.{IsLineOf, IsPrinted, IsPrintedJoined, Tells, TellsInPart}
-use Rattle.peg_tool.specs.Refusals.{Accepts, file_too_long, not_in_the_notation, too_nested}
-use Rattle.peg_tool.specs.Reply.{Reply, Refused, line_of, status_of}
-use Rattle.peg_tool.specs.Split.{IsSplit, at_separator, without_separator}
-use Rattle.peg_tool.specs.Task.{Task, IsTextOf, default_task, start_named}
-use Rattle.peg_tool.specs.Transfer.{AppendsProperPrefix}
-use Rattle.peg_tool.specs.declared.parse_text.Asked.{Asked}
-use Rattle.peg_tool.specs.declared.printed.Printed.{Printed}
-use Rattle.peg_tool.specs.declared.transfer.ReadFault.{ReadFault}
-use Rattle.std.specs.declared.alloc.AllocError.{AllocError}
-use Rattle.peg_tool.proofs.SplitLaws.{TellsSplit, separator_in_front, separator_further, front_split}
+use Rattle.std.specs.Io.KnownBytes.{Consumes, IsAtEnd}
+use Rattle.peg_figure.specs.Notation.{most_file_bytes}
+use Rattle.peg_ford.specs.Rules.{Rule}
+use Rattle.peg_io.specs.declared.transfer.ReadFault.{ReadFault}
+use Rattle.peg_io.specs.Split.{IsSplit, at_separator, without_separator}
+use Rattle.peg_io.proofs.SplitLaws.{TellsSplit, separator_in_front, separator_further, front_split}
+use Rattle.peg_parser.specs.Accepts.{Accepts}
+use Rattle.peg_parser.specs.Cause.{Cause, FileTooLong}
+use Rattle.peg_parser.specs.Refusals.{IsNoGrammar, IsIllFormed, file_too_long, not_in_the_notation, too_nested, a_name_twice}
+use Rattle.peg_parser.specs.Refusals.{a_name_missing, too_many_parts, empty_loop, left_recursion}
+use Rattle.peg_grammar.specs.Limits.{most_text_bytes}
+use Rattle.peg_reply.specs.Lines.{IsLineOf}
+use Rattle.peg_reply.specs.Parses.{ParsesTo, text_too_long, no_such_start, failed, too_many_levels, matched}
+use Rattle.peg_reply.specs.Reply.{Reply, Refused, printed_line, status_of}
+use Rattle.peg_reply.specs.Statuses.{code_of}
+use Rattle.peg_reply.specs.declared.line.Line.{Line}
+use Rattle.peg_tool.specs.Replies.{RepliesTo, IsPrinted, IsPrintedJoined, most_joined_bytes, no_grammar, tabled, ill_formed}
+use Rattle.peg_tool.specs.Replies.{accepted, parsed}
+use Rattle.peg_tool.specs.Task.{Task, TableTask, CheckTask, ParseTask, IsTextOf, default_task}
 
 -- ---- texts over the limit
 
@@ -38,27 +39,35 @@ ParsesTo-longer rules text more start all rows reply long longer (matched within
     absurd (omega (arith, long, within))
 
 -- the same for any task
-Answers-longer : (file text more : List ℕ) (task : Task) (reply : Reply) → most_text_bytes < length text
-    → most_text_bytes < length more → Answers file text task reply → Answers file more task reply
-Answers-longer file text more task reply long longer (unread is) = unread is
-Answers-longer file text more task reply long longer (untaken read is) = untaken read is
-Answers-longer file text more task reply long longer (tabled read taken are) = tabled read taken are
-Answers-longer file text more task reply long longer (ill_formed checks read taken is) = ill_formed checks read taken is
-Answers-longer file text more task reply long longer (accepted accepts) = accepted accepts
-Answers-longer file text more task reply long longer (parsed {rules} {start} {all} {rows} accepts is) =
+RepliesTo-longer : (file text more : List ℕ) (task : Task) (reply : Reply) → most_text_bytes < length text
+    → most_text_bytes < length more → RepliesTo file text task reply → RepliesTo file more task reply
+RepliesTo-longer file text more task reply long longer (no_grammar is) = no_grammar is
+RepliesTo-longer file text more task reply long longer (tabled read taken are) = tabled read taken are
+RepliesTo-longer file text more task reply long longer (ill_formed checks is) = ill_formed checks is
+RepliesTo-longer file text more task reply long longer (accepted accepts) = accepted accepts
+RepliesTo-longer file text more task reply long longer (parsed {rules} {start} {all} {rows} accepts is) =
     parsed accepts (ParsesTo-longer rules text more start all rows reply long longer is)
 
 -- ---- files over the limit
 
 -- a file over the limit is refused for that alone
 over-reply : (file text : List ℕ) (task : Task) (reply : Reply) → most_file_bytes < length file
-    → Answers file text task reply → reply ≡ Refused FileTooLong
-over-reply file text task reply long (unread (file_too_long over)) = refl
-over-reply file text task reply long (unread (not_in_the_notation within none at)) = absurd (omega (arith, long, within))
-over-reply file text task reply long (unread (too_nested within deep at)) = absurd (omega (arith, long, within))
-over-reply file text task reply long (untaken read is) = absurd (omega (arith, long, read.within))
+    → RepliesTo file text task reply → reply ≡ Refused FileTooLong
+over-reply file text task reply long (no_grammar is) = by is
+  where
+    by : {cause : Cause} → IsNoGrammar file cause → Refused cause ≡ Refused FileTooLong
+    by (file_too_long over) = refl
+    by (not_in_the_notation within none at) = absurd (omega (arith, long, within))
+    by (too_nested within deep at) = absurd (omega (arith, long, within))
+    by (a_name_twice read twice) = absurd (omega (arith, long, read.within))
+    by (a_name_missing read once missing) = absurd (omega (arith, long, read.within))
+    by (too_many_parts read whole over) = absurd (omega (arith, long, read.within))
 over-reply file text task reply long (tabled read taken are) = absurd (omega (arith, long, read.within))
-over-reply file text task reply long (ill_formed checks read taken is) = absurd (omega (arith, long, read.within))
+over-reply file text task reply long (ill_formed checks is) = by is
+  where
+    by : {cause : Cause} → IsIllFormed file cause → Refused cause ≡ Refused FileTooLong
+    by (empty_loop number span read taken ill loop) = absurd (omega (arith, long, read.within))
+    by (left_recursion path read taken ill none cycle once) = absurd (omega (arith, long, read.within))
 over-reply file text task reply long (accepted accepts) = absurd (omega (arith, long, accepts.read.within))
 over-reply file text task reply long (parsed accepts is) = absurd (omega (arith, long, accepts.read.within))
 
@@ -68,8 +77,8 @@ over-printed : (file text other more : List ℕ) (task : Task) (line : List ℕ)
 over-printed file text other more task line status long longer is =
     let same = over-reply file text task is.0 long is.1 in (
       Refused FileTooLong,
-      unread (file_too_long longer),
-      is.2 ∙ ap (line_of file) same,
+      no_grammar (file_too_long longer),
+      is.2 ∙ ap (printed_line file) same,
       is.3 ∙ ap status_of same,
     )
 
@@ -96,7 +105,7 @@ separated-printed file text rest task line status long is = elim (cases_lt most_
   | inr within ↦
       let more : most_text_bytes < length text = omega (arith, long, within) in
       let all : most_text_bytes < length (text ++ rest) = omega (arith, more, length-append text rest) in
-      (is.0, Answers-longer file text (text ++ rest) task is.0 more all is.1, is.2, is.3)
+      (is.0, RepliesTo-longer file text (text ++ rest) task is.0 more all is.1, is.2, is.3)
 ]
 
 -- what is printed for a front over both limits together is what is printed for the whole input
@@ -134,38 +143,25 @@ right-held IsRight most front (Some input) (Some rest) held line status consumed
       | inr full ↦ subst (λ l. IsRight l line status) (sym consumed) (front held rest line status full given)
     ]
 
--- a right line that is written whole, and one that is written in part
-pub tells-written : (IsRight : List ℕ → List ℕ → ℕ → Type 0) (left old new : Option (List ℕ)) (line : List ℕ)
-    (status : ℕ) → IfSome left (λ input. IsRight input line status) → Appends old new line
-    → IfSome left (λ input. Tells (IsRight input) old new status)
-tells-written IsRight None old new line status right written = tt
-tells-written IsRight (Some input) old new line status right written = inl (line, right, written)
-
-pub tells-in_part : (IsRight : List ℕ → List ℕ → ℕ → Type 0) (left old new : Option (List ℕ)) (line : List ℕ)
-    (status : ℕ) → IfSome left (λ input. IsRight input line status) → AppendsProperPrefix old new line
-    → IfSome left (λ input. TellsInPart (IsRight input) old new)
-tells-in_part IsRight None old new line status right written = tt
-tells-in_part IsRight (Some input) old new line status right written =
-    (line, status, written.0, right, written.1, written.2)
-
 -- ---- parses
 
 -- the line of a parse by an accepted file is that of its task
-pub told-parsed : (file text : List ℕ) (rules : List Rule) (asked : Asked) (line : List ℕ) (status : ℕ)
-    → Accepts file rules
-    → IsLineOf file (ParsesTo rules text (start_named asked.options) asked.all asked.rows) line status
-    → IsPrinted (asked_task asked) file text line status
-told-parsed file text rules asked line status accepts is = (is.0, parsed accepts is.1, is.2, is.3)
+pub parsed-printed : (file text : List ℕ) (rules : List Rule) (start : Option (List ℕ)) (all rows : Bool)
+    (line : List ℕ) (status : ℕ) → Accepts file rules → IsLineOf file (ParsesTo rules text start all rows) line status
+    → IsPrinted (ParseTask start all rows) file text line status
+parsed-printed file text rules start all rows line status accepts is = (is.0, parsed accepts is.1, is.2, is.3)
 
-pub parse-printed : (result : Result Printed AllocError) (file text : List ℕ) (rules : List Rule) (asked : Asked)
-    (task : Task) → task ≡ asked_task asked → Accepts file rules
-    → IfOk result (λ told. IsLineOf file (ParsesTo rules text (start_named asked.options) asked.all asked.rows)
-    (string_bytes told.line) told.status)
-    → IfOk result (λ told. IsPrinted task file text (string_bytes told.line) told.status)
-parse-printed (Ok told) file text rules asked task same accepts is =
-    subst (λ (t : Task). IsPrinted t file text (string_bytes told.line) told.status) (sym same)
-    (told-parsed file text rules asked (string_bytes told.line) told.status accepts is)
-parse-printed (Err why) file text rules asked task same accepts is = tt
+-- what is told of the text that is read is told of the text
+pub parsed-told : (result : Result Line ReadFault) (file : List ℕ) (left : Option (List ℕ)) (bytes : List ℕ)
+    (rules : List Rule) (start : Option (List ℕ)) (all rows : Bool) → IsTextOf (ParseTask start all rows) file left bytes
+    → Accepts file rules
+    → IfOk result (λ line. IfSome left (λ text.
+    IsPrinted (ParseTask start all rows) file text (string_bytes line.text) (code_of line.status)))
+    → IfOk result (λ line. IsPrinted (ParseTask start all rows) file bytes (string_bytes line.text) (code_of line.status))
+parsed-told (Ok line) file left bytes rules start all rows is accepts told =
+    subst (λ (text : Option (List ℕ)). IfSome text (λ read.
+    IsPrinted (ParseTask start all rows) file read (string_bytes line.text) (code_of line.status))) (is rules accepts) told
+parsed-told (Err why) file left bytes rules start all rows is accepts told = tt
 
 -- what is printed for a front that is over the limit of a text is what is printed for the whole text
 pub IsPrinted-text_front : (task : Task) (file front rest line : List ℕ) (status : ℕ)
@@ -173,7 +169,7 @@ pub IsPrinted-text_front : (task : Task) (file front rest line : List ℕ) (stat
     → IsPrinted task file (front ++ rest) line status
 IsPrinted-text_front task file front rest line status long is = (
   is.0,
-  Answers-longer file front (front ++ rest) task is.0 (omega arith) (omega (arith, length-append front rest)) is.1,
+  RepliesTo-longer file front (front ++ rest) task is.0 (omega arith) (omega (arith, length-append front rest)) is.1,
   is.2,
   is.3,
 )
@@ -194,27 +190,50 @@ accepts-whole file new held rules consumed end accepts =
     subst (λ (l : List ℕ). Accepts l rules)
     (sym (whole-held file new held (most_file_bytes + 1) consumed end (omega (arith, accepts.read.within)))) accepts
 
--- what holds where a file isn't accepted needs no proof where it is
-pub unless-accepted : (left new : Option (List ℕ)) (held : List ℕ) (rules : List Rule) (X : Type 0) → Consumes left new held
-    → (length held < most_file_bytes + 1 → IsAtEnd new) → Accepts held rules
-    → IfSome left (λ file. ((others : List Rule) → ¬ Accepts file others) → X)
-unless-accepted None new held rules X consumed end accepts = tt
-unless-accepted (Some file) new held rules X consumed end accepts =
-    λ none. absurd (none rules (accepts-whole file new held rules consumed end accepts))
+-- where a whole file isn't accepted, what is held of it isn't either
+pub held-unaccepted : (left new : Option (List ℕ)) (held : List ℕ) (X : Type 0) → Consumes left new held
+    → (length held < most_file_bytes + 1 → IsAtEnd new) → (((rules : List Rule) → ¬ Accepts held rules) → X)
+    → IfSome left (λ file. ((rules : List Rule) → ¬ Accepts file rules) → X)
+held-unaccepted None new held X consumed end then = tt
+held-unaccepted (Some file) new held X consumed end then =
+    λ none. then (λ rules accepts. none rules (accepts-whole file new held rules consumed end accepts))
 
--- what is told of the text that is read is told of the text, for the whole file
-pub parsed-told : (result : Result Printed ReadFault) (left new text : Option (List ℕ)) (held bytes : List ℕ)
-    (rules : List Rule) (asked : Asked) (task : Task) → task ≡ asked_task asked → IsTextOf task text bytes
-    → Consumes left new held → (length held < most_file_bytes + 1 → IsAtEnd new) → Accepts held rules
-    → ((file : List ℕ) → Accepts file rules → IfOk result (λ told. IfSome text (λ read.
-    IsPrinted (asked_task asked) file read (string_bytes told.line) told.status)))
-    → IfOk result (λ told. IfSome left (λ file. IsPrinted task file bytes (string_bytes told.line) told.status))
-parsed-told (Err why) left new text held bytes rules asked task same of_text consumed end accepts told_of = tt
-parsed-told (Ok told) None new text held bytes rules asked task same of_text consumed end accepts told_of = tt
-parsed-told (Ok told) (Some file) new text held bytes rules asked task same of_text consumed end accepts told_of =
-    let there : text ≡ Some bytes = subst (λ (t : Task). IsTextOf t text bytes) same of_text in
-    let told_of_file = told_of file (accepts-whole file new held rules consumed end accepts) in
-    let line = string_bytes told.line in
-    subst (λ (t : Task). IsPrinted t file bytes line told.status) (sym same)
-    (subst (λ (t : Option (List ℕ)). IfSome t (λ read. IsPrinted (asked_task asked) file read line told.status)) there
-    told_of_file)
+-- ---- lines for whole files
+
+-- a line is right for a task on a file, whatever its text may be
+abbrev pub IsRightFor : Task → (text : Option (List ℕ)) → (file line : List ℕ) → ℕ → Type 0
+IsRightFor task text file line status = (bytes : List ℕ) → IsTextOf task file text bytes → IsPrinted task file bytes line status
+
+-- of a front that is over the limit of a file any text is the task's
+any_text : (task : Task) (text : Option (List ℕ)) (file bytes : List ℕ) → most_file_bytes < length file
+    → IsTextOf task file text bytes
+any_text TableTask text file bytes long = tt
+any_text CheckTask text file bytes long = tt
+any_text (ParseTask start all rows) text file bytes long =
+    λ rules accepts. absurd (omega (arith, long, accepts.read.within))
+
+pub IsRightFor-front : (task : Task) (text : Option (List ℕ)) (front rest line : List ℕ) (status : ℕ)
+    → most_file_bytes + 1 ≤ length front → IsRightFor task text front line status
+    → IsRightFor task text (front ++ rest) line status
+IsRightFor-front task text front rest line status long right bytes is =
+    IsPrinted-front task bytes front rest line status long (right bytes (any_text task text front bytes (omega arith)))
+
+-- a line that is right for the bytes that are held of a file is right for the file
+pub line-held : (task : Task) (text left new : Option (List ℕ)) (held line : List ℕ) (status : ℕ)
+    → Consumes left new held → length held ≤ most_file_bytes + 1 → (length held < most_file_bytes + 1 → IsAtEnd new)
+    → IsRightFor task text held line status → IfSome left (λ file. IsRightFor task text file line status)
+line-held task text left new held line status consumed within end right =
+    right-held (IsRightFor task text) (most_file_bytes + 1) (IsRightFor-front task text) left new held line status
+    consumed within end right
+
+-- the same of what may be a line
+pub told-held : (result : Result Line ReadFault) (task : Task) (text left new : Option (List ℕ)) (held : List ℕ)
+    → Consumes left new held → length held ≤ most_file_bytes + 1 → (length held < most_file_bytes + 1 → IsAtEnd new)
+    → ((bytes : List ℕ) → IsTextOf task held text bytes
+    → IfOk result (λ line. IsPrinted task held bytes (string_bytes line.text) (code_of line.status)))
+    → IfSome left (λ file. (bytes : List ℕ) → IsTextOf task file text bytes
+    → IfOk result (λ line. IsPrinted task file bytes (string_bytes line.text) (code_of line.status)))
+told-held (Ok line) task text left new held consumed within end right =
+    line-held task text left new held (string_bytes line.text) (code_of line.status) consumed within end right
+told-held (Err why) task text None new held consumed within end right = tt
+told-held (Err why) task text (Some file) new held consumed within end right = λ bytes is. tt

@@ -1,14 +1,16 @@
--- What a grammar file alone decides about a task.
-use Rattle.std.specs.Prelude.{◌≡◌, ℕ, List, string_bytes}
-use Rattle.peg_tool.specs.Asked.{asked_task}
-use Rattle.peg_tool.specs.Parser.{rules_of}
-use Rattle.peg_tool.specs.Printed.{IsPrinted}
-use Rattle.peg_tool.specs.Refusals.{Accepts}
-use Rattle.peg_tool.specs.Task.{Task}
+-- Describes code: what a grammar file that has to be accepted decides.
+use Rattle.std.specs.Prelude.{ℕ, List, string_bytes}
+use Rattle.peg_parser.specs.Accepts.{Accepts}
+use Rattle.peg_parser.specs.Parser.{parser_rules}
+use Rattle.peg_reply.specs.Statuses.{code_of}
+use Rattle.peg_tool.specs.Replies.{IsPrinted}
+use Rattle.peg_tool.specs.Task.{Task, Checks}
 use Rattle.peg_tool.specs.declared.judge.Judged.{Judged}
-use Rattle.peg_tool.specs.declared.judge.Judged.TheVariants.{Told, Ready}
+use Rattle.peg_tool.specs.declared.judge.Judged.TheVariants.{Accepted, Refused}
 
--- the line of the reply, whatever the text; or the parser of an accepted file, where a text is to be parsed
-abbrev pub Judges : (file : List ℕ) → Task → Judged → Type 0
-Judges file task (Told printed) = (text : List ℕ) → IsPrinted task file text (string_bytes printed.line) printed.status
-Judges file task (Ready parser asked) = (task ≡ asked_task asked) × Accepts file (rules_of parser)
+-- the parser of an accepted file; or the line that tells why it is refused, whatever the text and the task
+abbrev pub Judges : (file : List ℕ) → Judged → Type 0
+Judges file (Accepted parser) = Accepts file (parser_rules parser)
+Judges file (Refused line) =
+    (task : Task) (text : List ℕ) → Checks task
+    → IsPrinted task file text (string_bytes line.text) (code_of line.status)

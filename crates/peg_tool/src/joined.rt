@@ -1,18 +1,17 @@
 //! The tool over one input: a grammar file, a line `%%` and a text.
 ghost use Rattle.std.specs.Prelude.{◌≡◌, ◌≤◌, ◌↔◌, true, false, length, IfOk, IfSome, IsErrOf, string_bytes};
 ghost use Rattle.std.specs.Io.KnownBytes.{Keeps};
-ghost use Rattle.peg_tool.specs.Answers.{most_joined_bytes};
-ghost use Rattle.peg_tool.specs.Printed.{IsPrintedJoined, Tells, TellsInPart};
-ghost use Rattle.peg_tool.specs.Transfer.{ConsumesAtMost};
+ghost use Rattle.peg_io.specs.Transfer.{ConsumesAtMost};
+ghost use Rattle.peg_reply.specs.Statuses.{code_of};
+ghost use Rattle.peg_tool.specs.Replies.{IsPrintedJoined, most_joined_bytes};
+ghost use Rattle.peg_tool.specs.Written.{Prints, PrintsInPart};
 
-use crate::device::{Sink, Source};
+use crate::ending::{ToolFault, finish};
 use crate::judge::{Judged, judge};
-use crate::options::{DEFAULT_MEMO, ParseOptions};
-use crate::parse_text::parse_line;
-use crate::parts::split;
-use crate::printed::{OUT_OF_MEMORY, Printed, ToolFault};
-use crate::tool::Command;
-use crate::transfer::{ReadFault, read_up_to};
+use crate::parse::parse_line;
+use peg_io::{ReadFault, Sink, Source, read_up_to, split};
+use peg_parser::{DEFAULT_MEMO, ParseOptions};
+use peg_reply::{Line, TreeForm};
 use std::alloc::{AllocError, Global};
 
 /// The most bytes of the input that are held: over the limits of a grammar file and of a text together.
@@ -28,32 +27,26 @@ pub fn run_joined<G: Source, W: Sink>(
 ) -> Result<u8, ToolFault>
     requires input_works { G.failed input.old ≡ false }
     requires output_works { W.failed output.old ≡ false }
-    ensures answer { IfOk result (λ status. IfSome (G.left input.old) (λ bytes.
-        Tells (IsPrintedJoined bytes) (W.written output.old) (W.written output.new) status)) }
+    ensures answer { IfSome (G.left input.old) (λ bytes. IfOk result (λ status.
+        Prints (IsPrintedJoined bytes) (W.written output.old) (W.written output.new) status)) }
     ensures held { ConsumesAtMost (G.left input.old) (G.left input.new) most_joined_bytes }
 
     // What fails outside, and only that, is told, and what is written then.
     ensures read_fault { IsErrOf result ToolFault.ReadFault ↔ (G.failed input.new ≡ true) }
     ensures nothing_written { IsErrOf result ToolFault.ReadFault → Keeps (W.written output.old) (W.written output.new) }
     ensures write_fault { IsErrOf result ToolFault.WriteFault ↔ (W.failed output.new ≡ true) }
-    ensures partly_written { IsErrOf result ToolFault.WriteFault → IfSome (G.left input.old) (λ bytes.
-        TellsInPart (IsPrintedJoined bytes) (W.written output.old) (W.written output.new)) }
+    ensures partly_written { IfSome (G.left input.old) (λ bytes. IsErrOf result ToolFault.WriteFault
+        → PrintsInPart (IsPrintedJoined bytes) (W.written output.old) (W.written output.new)) }
 {
-    match read_and_part(alloc, input) {
-        Ok(printed) => match printed.write(output) {
-            Ok(status) => Ok(status),
-            Err(_) => Err(ToolFault::WriteFault),
-        },
-        Err(ReadFault::Memory) => Ok(OUT_OF_MEMORY),
-        Err(ReadFault::Device) => Err(ToolFault::ReadFault),
-    }
+    let told = line_of(alloc, input);
+    finish(output, told)
 }
 
-// Reads an input, and tells its line and status.
-fn read_and_part<G: Source>(alloc: Global, input: &mut G) -> Result<Printed, ReadFault>
+// Reads an input, and tells its line.
+fn line_of<G: Source>(alloc: Global, input: &mut G) -> Result<Line, ReadFault>
     requires { G.failed input.old ≡ false }
-    ensures answer { IfOk result (λ told. IfSome (G.left input.old) (λ bytes.
-        IsPrintedJoined bytes (string_bytes told.line) told.status)) }
+    ensures answer { IfSome (G.left input.old) (λ bytes. IfOk result (λ line.
+        IsPrintedJoined bytes (string_bytes line.text) (code_of line.status))) }
     ensures held { ConsumesAtMost (G.left input.old) (G.left input.new) most_joined_bytes }
     ensures device { IsErrOf result ReadFault.Device ↔ (G.failed input.new ≡ true) }
 {
@@ -61,22 +54,25 @@ fn read_and_part<G: Source>(alloc: Global, input: &mut G) -> Result<Printed, Rea
     Ok(line_for(alloc, &bytes)?)
 }
 
-// The line and the status of an input that is held.
-fn line_for(alloc: Global, input: &[u8]) -> Result<Printed, AllocError>
+// The line of an input that is held.
+fn line_for(alloc: Global, input: &[u8]) -> Result<Line, AllocError>
     requires { length input.now ≤ most_joined_bytes }
-    ensures { IfOk result (λ told. IsPrintedJoined input.now (string_bytes told.line) told.status) }
+    ensures { IfOk result (λ line. IsPrintedJoined input.now (string_bytes line.text) (code_of line.status)) }
 {
     let (file, text) = split(input);
-    let command = Command::Parse {
-        options: ParseOptions {
-            start: None,
-            memo: DEFAULT_MEMO,
-        },
-        all: false,
-        rows: false,
+    let options = ParseOptions {
+        start: None,
+        memo: DEFAULT_MEMO,
     };
-    match judge(alloc, file, &command)? {
-        Judged::Told(printed) => Ok(printed),
-        Judged::Ready(parser, asked) => parse_line(alloc, &parser, text, asked),
+    match judge(alloc, file)? {
+        Judged::Accepted(parser) => parse_line(
+            alloc,
+            &parser,
+            text,
+            &options,
+            false,
+            TreeForm::Nested,
+        ),
+        Judged::Refused(line) => Ok(line),
     }
 }

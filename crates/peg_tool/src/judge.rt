@@ -1,184 +1,73 @@
-//! What a grammar file alone decides about a command.
-ghost use Rattle.std.specs.Prelude.{◌≡◌, ◌≢◌, ℕ, ◌≤◌, true, List, All, length, map, IfOk, IfSome, is_some, string_bytes};
-ghost use Rattle.serde_json.specs.View.{view};
-ghost use Rattle.peg_check.specs.Verdicts.{NamesRules};
+//! What a grammar file alone decides.
+ghost use Rattle.std.specs.Prelude.{◌≡◌, ℕ, ◌≤◌, List, length, IfOk, string_bytes};
+ghost use Rattle.peg_bytes.specs.Place.{most_place};
 ghost use Rattle.peg_grammar.specs.GrammarRules.{rules_in};
-ghost use Rattle.peg_grammar.specs.Rules.{names};
-ghost use Rattle.peg_notation.specs.Spans.{RuleLiesIn};
-ghost use Rattle.peg_tool.specs.Asked.{asked_task};
-ghost use Rattle.peg_tool.specs.Cause.{cause_status};
-ghost use Rattle.peg_tool.specs.Early.{IsEarly};
-ghost use Rattle.peg_tool.specs.Faults.{FaultNames, StartsIn, fault_cause};
+ghost use Rattle.peg_parser.specs.Accepts.{IsRead, IsTaken};
+ghost use Rattle.peg_reply.specs.Statuses.{code_of};
 ghost use Rattle.peg_tool.specs.Judged.{Judges};
-ghost use Rattle.peg_tool.specs.Printed.{IsPrinted};
-ghost use Rattle.peg_tool.specs.Refusals.{IsIllFormedBy, IsRead, IsRefusedBy, IsTaken};
-ghost use Rattle.peg_tool.specs.Reply.{Accepted, Refused, accepted_data, line_of, status_of};
-ghost use Rattle.peg_tool.specs.Task.{Checks, CheckTask, TableTask, Task, task_of};
+ghost use Rattle.peg_tool.specs.Replies.{IsPrinted};
+ghost use Rattle.peg_tool.specs.Task.{CheckTask, TableTask};
 
-use crate::accept::{checked_core, grammar_of};
-use crate::parse_text::Asked;
-use crate::parser::Parser;
-use crate::printed::Printed;
-use crate::refusal::{Fault, Refusal};
-use crate::refusal_text::refusal_json;
-use crate::table_text::table_json;
-use crate::tool::Command;
-use peg_check::{CheckFault, table_of};
+use peg_check::table_of;
 use peg_core::desugar;
 use peg_grammar::Grammar;
-use serde_json::{Value, json};
+use peg_parser::{Parser, Refusal, grammar_of};
+use peg_reply::{Line, accepted_line, refused_line, table_line};
 use std::alloc::{AllocError, Global};
 
-/// What the grammar file alone decides.
+/// What comes of a grammar file that has to be accepted.
 #[derive(Drop)]
-pub(crate) enum Judged<'a> {
-    /// The line, whatever the text is.
-    Told(Printed),
-    /// The file is accepted, and a text is to be parsed.
-    Ready(Parser, Asked<'a>),
+pub(crate) enum Judged {
+    /// Its parser.
+    Accepted(Parser),
+    /// The line that tells why it is refused.
+    Refused(Line),
 }
 
-/// What a grammar file decides about a command.
-pub(crate) fn judge<'a>(
-    alloc: Global,
-    file: &[u8],
-    command: &Command<'a>,
-) -> Result<Judged<'a>, AllocError>
-    requires { length file.now ≤ 2147483647 }
-    ensures { IfOk result (Judges file.now (task_of command.now)) }
+/// The parser of a grammar file, or the line that tells why it is refused.
+pub(crate) fn judge(alloc: Global, file: &[u8]) -> Result<Judged, AllocError>
+    requires { length file.now ≤ most_place }
+    ensures { IfOk result (Judges file.now) }
 {
-    match grammar_of(alloc, file) {
-        Ok(grammar) => match command {
-            Command::Table => Ok(Judged::Told(tabled(alloc, &grammar)?)),
-            Command::Check => Ok(Judged::Told(checked(alloc, file, &grammar)?)),
-            Command::Parse { options, all, rows } => {
-                let (options, all, rows) = (*options, *all, *rows);
-                ready(alloc, file, grammar, Asked { options, all, rows })
-            }
-        },
+    match Parser::from_file(alloc, file) {
+        Ok(parser) => Ok(Judged::Accepted(parser)),
         Err(Refusal::Memory) => Err(AllocError),
-        Err(refusal) => Ok(Judged::Told(refused(alloc, file, &refusal)?)),
+        Err(refusal) => Ok(Judged::Refused(refused_line(alloc, file, &refusal)?)),
     }
 }
 
-// Why a file is refused before the check.
-fn refused(alloc: Global, file: &[u8], refusal: &Refusal) -> Result<Printed, AllocError>
-    requires short { length file.now ≤ 2147483647 }
-    requires refused { IsRefusedBy file.now refusal.now }
-    requires early { IsEarly file.now refusal.now }
-    requires told { refusal.now ≢ Refusal.Memory }
-    ensures { (text : List ℕ) (task : Task) → IfOk result
-        (λ told. IsPrinted task file.now text (string_bytes told.line) told.status) }
+/// The line that tells whether a grammar file is accepted.
+pub(crate) fn check_file(alloc: Global, file: &[u8]) -> Result<Line, AllocError>
+    requires { length file.now ≤ most_place }
+    ensures { (text : List ℕ) → IfOk result
+        (λ line. IsPrinted CheckTask file.now text (string_bytes line.text) (code_of line.status)) }
 {
-    print_fault(alloc, &Fault::Refused(refusal), file, &[])
+    match judge(alloc, file)? {
+        Judged::Accepted(parser) => accepted_line(alloc, parser.grammar().rules()),
+        Judged::Refused(line) => Ok(line),
+    }
 }
 
-// The table of a grammar.
-fn tabled(alloc: Global, grammar: &Grammar) -> Result<Printed, AllocError>
+/// The line of a grammar file's table.
+pub(crate) fn table_file(alloc: Global, file: &[u8]) -> Result<Line, AllocError>
+    requires { length file.now ≤ most_place }
+    ensures { (text : List ℕ) → IfOk result
+        (λ line. IsPrinted TableTask file.now text (string_bytes line.text) (code_of line.status)) }
+{
+    match grammar_of(alloc, file) {
+        Ok(grammar) => tabled(alloc, &grammar),
+        Err(Refusal::Memory) => Err(AllocError),
+        Err(refusal) => refused_line(alloc, file, &refusal),
+    }
+}
+
+// The line of a grammar's table.
+fn tabled(alloc: Global, grammar: &Grammar) -> Result<Line, AllocError>
     requires { IsTaken (rules_in grammar.now) }
-    ensures { (file text : List ℕ) → IsRead file (rules_in grammar.now)
-        → IfOk result (λ told. IsPrinted TableTask file text (string_bytes told.line) told.status) }
+    ensures { (file text : List ℕ) → IsRead file (rules_in grammar.now) → IfOk result
+        (λ line. IsPrinted TableTask file text (string_bytes line.text) (code_of line.status)) }
 {
     let core = desugar(alloc, grammar)?;
     let table = table_of(alloc, &core)?;
-    Printed::new(table_json(alloc, grammar, &core, &table)?, 0)
-}
-
-// Whether a grammar is accepted.
-fn checked(alloc: Global, file: &[u8], grammar: &Grammar) -> Result<Printed, AllocError>
-    requires read { IsRead file.now (rules_in grammar.now) }
-    requires taken { IsTaken (rules_in grammar.now) }
-    requires inside { All (RuleLiesIn (length file.now)) (rules_in grammar.now) }
-    ensures { (text : List ℕ) → IfOk result
-        (λ told. IsPrinted CheckTask file.now text (string_bytes told.line) told.status) }
-{
-    match checked_core(alloc, grammar) {
-        Ok(_) => accepted(alloc, grammar.rules()),
-        Err(CheckFault::Memory) => Err(AllocError),
-        Err(fault) => ill_formed(alloc, file, grammar, fault),
-    }
-}
-
-// The parser of a grammar, or why it isn't accepted.
-fn ready<'a>(
-    alloc: Global,
-    file: &[u8],
-    grammar: Grammar,
-    asked: Asked<'a>,
-) -> Result<Judged<'a>, AllocError>
-    requires read { IsRead file.now (rules_in grammar) }
-    requires taken { IsTaken (rules_in grammar) }
-    requires inside { All (RuleLiesIn (length file.now)) (rules_in grammar) }
-    ensures { IfOk result (Judges file.now (asked_task asked.entry)) }
-{
-    match checked_core(alloc, &grammar) {
-        Ok(checked) => Ok(Judged::Ready(Parser::of(grammar, checked), asked)),
-        Err(CheckFault::Memory) => Err(AllocError),
-        Err(fault) => Ok(Judged::Told(ill_formed(alloc, file, &grammar, fault)?)),
-    }
-}
-
-// That a grammar of so many rules is accepted.
-fn accepted(alloc: Global, rules: u32) -> Result<Printed, AllocError>
-    ensures { (file : List ℕ) → IfOk result (λ told.
-        (string_bytes told.line ≡ line_of file (Accepted rules)) × (told.status ≡ status_of (Accepted rules))) }
-{
-    let value = accepted_value(alloc, rules)?;
-    Printed::new(value.to_string(alloc)?, 0)
-}
-
-// The object that says so.
-fn accepted_value(alloc: Global, rules: u32) -> Result<Value, AllocError>
-    ensures { IfOk result (λ value. view value ≡ accepted_data rules) }
-{
-    json!(in alloc; {"result": "accepted", "rules": rules})
-}
-
-// Why a grammar isn't well-formed.
-fn ill_formed(
-    alloc: Global,
-    file: &[u8],
-    grammar: &Grammar,
-    fault: CheckFault,
-) -> Result<Printed, AllocError>
-    requires read { IsRead file.now (rules_in grammar.now) }
-    requires taken { IsTaken (rules_in grammar.now) }
-    requires inside { All (RuleLiesIn (length file.now)) (rules_in grammar.now) }
-    requires fault { IsIllFormedBy (rules_in grammar.now) fault }
-    requires named { NamesRules (length (rules_in grammar.now)) fault }
-    requires told { fault ≢ CheckFault.Memory }
-    ensures { (task : Task) (text : List ℕ) → Checks task
-        → IfOk result (λ told. IsPrinted task file.now text (string_bytes told.line) told.status) }
-{
-    let names = names_of(alloc, grammar)?;
-    let refusal = Refusal::NotWellFormed(fault);
-    print_fault(alloc, &Fault::Refused(&refusal), file, &names)
-}
-
-// The names of a grammar's rules, in order.
-fn names_of(alloc: Global, grammar: &Grammar) -> Result<Vec<&str>, AllocError>
-    ensures { IfOk result (λ list. map (λ name. name.now) list.items ≡ names (rules_in grammar.now)) }
-{
-    let mut list = Vec::new(alloc);
-    for rule in 0..grammar.rules() {
-        list.push(grammar.rule_name(rule))?;
-    }
-    Ok(list)
-}
-
-/// The line and the status of a fault.
-pub(crate) fn print_fault(
-    alloc: Global,
-    fault: &Fault<'_>,
-    file: &[u8],
-    names: &[&str],
-) -> Result<Printed, AllocError>
-    requires told { is_some (fault_cause (map (λ name. name.now) names.now) fault.now) ≡ true }
-    requires short { length file.now ≤ 2147483647 }
-    requires places { IfSome (fault_cause (map (λ name. name.now) names.now) fault.now) (StartsIn (length file.now)) }
-    requires rules { FaultNames (length names.now) fault.now }
-    ensures { IfOk result (λ told. IfSome (fault_cause (map (λ name. name.now) names.now) fault.now) (λ cause.
-        (string_bytes told.line ≡ line_of file.now (Refused cause)) × (told.status ≡ cause_status cause))) }
-{
-    Printed::new(refusal_json(alloc, fault, file, names)?, fault.status())
+    table_line(alloc, grammar, &core, &table)
 }

@@ -1,38 +1,20 @@
 //! The tool: a grammar file and a text in, one line of JSON out.
 #![tactic(auto)]
 
-mod accept;
-mod answer_text;
-mod command_line;
-mod device;
+mod command;
+mod ending;
 mod joined;
 mod judge;
-mod options;
-mod parse_text;
-mod parser;
-mod parts;
-mod printed;
+mod parse;
 mod program;
-mod refusal;
-mod refusal_text;
-mod table_text;
 mod tool;
-mod transfer;
-mod words;
 
-pub use answer_text::answer_json;
-pub use device::{Device, DeviceFault, Sink, Source};
+pub use command::Command;
+pub use ending::ToolFault;
 pub use joined::run_joined;
-pub use options::ParseOptions;
-pub use parser::{Answer, ParseFault, Parser};
-pub use parts::split;
-pub use printed::ToolFault;
-pub use program::ProgramFault;
-pub use refusal::{Fault, Refusal};
-pub use refusal_text::refusal_json;
-pub use table_text::table_json;
-pub use tool::{Command, run_tool};
-pub use words::{Words, WordsFault, read_words};
-
-#[cfg(test)]
-mod answer_tests;
+pub use peg_io::{Device, DeviceFault, OpenFault, Opener, Sink, Source, split};
+pub use peg_parser::{Answer, ParseFault, ParseOptions, Parser, Refusal};
+pub use peg_reply::{Fault, Status, answer_json, refusal_json, table_json};
+pub use peg_words::{Words, WordsFault, read_words};
+pub use program::{ProgramFault, run_words};
+pub use tool::run_tool;

@@ -1,10 +1,20 @@
-//! Why the program ends without an answer.
-ghost use Rattle.std.specs.Prelude.{◌≡◌};
+//! What the words of a command line lead to, and why the program ends without an answer.
+ghost use Rattle.std.specs.Prelude.{◌≡◌, ◌≢◌, ℕ, false, List, IfSome, string_bytes};
+ghost use Rattle.peg_tool.specs.Commands.{task_of};
+ghost use Rattle.peg_tool.specs.Leads.{Leads, Outcome, IsHelp, answer_of};
+ghost use Rattle.peg_tool.specs.Replies.{IsPrinted};
+ghost use Rattle.peg_tool.specs.Task.{IsParse};
 
-use crate::printed::ToolFault;
-use std::alloc::AllocError;
+use crate::command::Command;
+use crate::ending::ToolFault;
+use crate::joined::run_joined;
+use crate::tool::run_tool;
+use peg_io::{Device, OpenFault, Opener, Sink, Source, write_all_bytes};
+use peg_parser::ParseOptions;
+use peg_reply::Status;
+use peg_words::Words;
+use std::alloc::Global;
 use std::io;
-use std::io::ErrorKind;
 use thiserror::Error;
 
 /// Why the program ends without an answer. Its text is what the program prints on standard error.
@@ -24,85 +34,131 @@ impl ProgramFault {
         ensures file { self ≡ ProgramFault.File → result ≡ 4 }
         ensures memory { self ≡ ProgramFault.Memory → result ≡ 5 }
     {
-        match self {
-            ProgramFault::File => 4,
-            ProgramFault::Memory => 5,
-        }
+        let status = match self {
+            ProgramFault::File => Status::File,
+            ProgramFault::Memory => Status::Memory,
+        };
+        status.code()
     }
 }
 
-impl From<AllocError> for ProgramFault {
+impl From<OpenFault> for ProgramFault {
     ghost use Rattle.std.specs.Prelude.{◌≡◌};
-    ghost use Rattle.peg_tool.specs.declared.program.ProgramFault.TheVariants.{Memory};
+    ghost use Rattle.peg_tool.specs.Leads.{of_open};
 
-    ghost from_gives = { λ _ fault. fault ≡ Memory };
+    ghost from_gives = { λ opening fault. fault ≡ of_open opening };
 
-    fn from(_error: AllocError) -> ProgramFault {
-        ProgramFault::Memory
-    }
-}
-
-impl From<ToolFault> for ProgramFault {
-    ghost use Rattle.std.specs.Prelude.{◌≡◌};
-    ghost use Rattle.peg_tool.specs.declared.program.ProgramFault.TheVariants.{File};
-
-    ghost from_gives = { λ _ fault. fault ≡ File };
-
-    fn from(_fault: ToolFault) -> ProgramFault {
-        ProgramFault::File
-    }
-}
-
-impl From<io::Error> for ProgramFault {
-    ghost use Rattle.std.specs.Prelude.{◌≡◌, ◌≢◌};
-    ghost use Rattle.std.specs.IoError.{error_kind};
-    ghost use Rattle.std.specs.declared.io.ErrorKind.TheVariants.{OutOfMemory};
-    ghost use Rattle.peg_tool.specs.declared.program.ProgramFault.TheVariants.{File, Memory};
-
-    ghost from_gives = { λ error fault. (error_kind error ≡ OutOfMemory → fault ≡ Memory)
-        × (error_kind error ≢ OutOfMemory → fault ≡ File) };
-
-    fn from(error: io::Error) -> ProgramFault {
-        match error.kind() {
-            ErrorKind::OutOfMemory => ProgramFault::Memory,
-            _ => ProgramFault::File,
+    fn from(fault: OpenFault) -> ProgramFault {
+        match fault {
+            OpenFault::File => ProgramFault::File,
+            OpenFault::Memory => ProgramFault::Memory,
         }
     }
 }
 
-#[cfg(test)]
-mod tests {
-    use super::ProgramFault;
-    use crate::printed::ToolFault;
-    use std::alloc::AllocError;
-    use std::io;
-    use std::io::ErrorKind;
-    use std::test::Fail;
-
-    #[test]
-    fn faults_have_their_status_and_text(rt: HostRuntime) -> Result<(), Fail> {
-        let cases = [
-            (ProgramFault::File, 4, "pegtool: file fault"),
-            (ProgramFault::Memory, 5, "pegtool: out of memory"),
-        ];
-        for (fault, status, expected) in cases {
-            assert_eq!(rt; fault.status(), status);
-            let text = format!(in rt.alloc(); "{fault}")?;
-            assert_eq!(rt; text.as_str(), expected);
+/// Does what the words of a command line ask for, over files by their names, an input and an output, and answers the
+/// status; the grammar file is opened first, then the text. `File` where a file can't be opened or read or the output
+/// can't be written; `Memory`, with nothing written, where memory ran out. No device may have failed before.
+pub fn run_words<O: Opener, I: Source, W: Sink>(
+    alloc: Global,
+    files: &O,
+    input: &mut I,
+    output: &mut W,
+    words: &Words,
+) -> Result<u8, ProgramFault>
+    requires input_works { I.failed input.old ≡ false }
+    requires output_works { W.failed output.old ≡ false }
+    ensures leads { Leads words.now (O.holds files.now) (I.left input.old) (W.written output.old) (W.written output.new)
+        result }
+    ensures unread { words.now ≢ Words.Joined → input.new ≡ input.old }
+{
+    match words {
+        Words::Joined => answered(run_joined(alloc, input, output)),
+        Words::Help { text } => help(output, text),
+        Words::Table { g } => on_file(alloc, files, output, g, &Command::Table),
+        Words::Check { g } => on_file(alloc, files, output, g, &Command::Check),
+        Words::Parse {
+            g,
+            t,
+            start,
+            memo,
+            all,
+            rows,
+        } => {
+            let options = ParseOptions {
+                start: start.as_deref(),
+                memo: *memo,
+            };
+            let (all, rows) = (*all, *rows);
+            on_files(
+                alloc,
+                files,
+                output,
+                g,
+                t,
+                &Command::Parse { options, all, rows },
+            )
         }
-        Ok(())
     }
+}
 
-    #[test]
-    fn only_want_of_memory_is_told_as_such(rt: HostRuntime) {
-        let memory = io::Error::from(ErrorKind::OutOfMemory);
-        assert_eq!(rt; ProgramFault::from(memory), ProgramFault::Memory);
-        let missing = io::Error::from(ErrorKind::NotFound);
-        assert_eq!(rt; ProgramFault::from(missing), ProgramFault::File);
-        assert_eq!(rt; ProgramFault::from(AllocError), ProgramFault::Memory);
-        assert_eq!(rt;
-            ProgramFault::from(ToolFault::ReadFault),
-            ProgramFault::File
-        );
+// Prints the help.
+fn help<W: Sink>(output: &mut W, text: &str) -> Result<u8, ProgramFault>
+    requires { W.failed output.old ≡ false }
+    ensures { Outcome (IsHelp text.now) (W.written output.old) (W.written output.new) result }
+{
+    if text.is_empty() {
+        return Ok(Status::Done.code());
+    }
+    match write_all_bytes(output, text.as_bytes()) {
+        Ok(()) => Ok(Status::Done.code()),
+        Err(_) => Err(ProgramFault::File),
+    }
+}
+
+// Does what is asked of the grammar file with this name alone.
+fn on_file<O: Opener, W: Sink>(
+    alloc: Global,
+    files: &O,
+    output: &mut W,
+    g: &str,
+    command: &Command<'_>,
+) -> Result<u8, ProgramFault>
+    requires works { W.failed output.old ≡ false }
+    requires alone { ¬ IsParse (task_of command.now) }
+    ensures { IfSome (O.holds files.now g.now) (λ file. (text : List ℕ)
+        → Outcome (IsPrinted (task_of command.now) file text) (W.written output.old) (W.written output.new) result) }
+{
+    let mut grammar = files.open(g)?;
+    let mut text = Device::new(io::empty());
+    answered(run_tool(alloc, &mut grammar, &mut text, output, command))
+}
+
+// Does what is asked of the grammar file and the text with these names. Both are opened before one is read.
+fn on_files<O: Opener, W: Sink>(
+    alloc: Global,
+    files: &O,
+    output: &mut W,
+    g: &str,
+    t: &str,
+    command: &Command<'_>,
+) -> Result<u8, ProgramFault>
+    requires { W.failed output.old ≡ false }
+    ensures { IfSome (O.holds files.now g.now) (λ file. IfSome (O.holds files.now t.now) (λ text.
+        Outcome (IsPrinted (task_of command.now) file text) (W.written output.old) (W.written output.new) result)) }
+{
+    let mut grammar = files.open(g)?;
+    let mut text = files.open(t)?;
+    answered(run_tool(alloc, &mut grammar, &mut text, output, command))
+}
+
+// The answer of a run of the tool, whose want of memory is a fault of the program.
+fn answered(ended: Result<u8, ToolFault>) -> Result<u8, ProgramFault>
+    ensures { result ≡ answer_of ended }
+{
+    match ended {
+        Ok(status) if status == Status::Memory.code() => Err(ProgramFault::Memory),
+        Ok(status) => Ok(status),
+        Err(_) => Err(ProgramFault::File),
     }
 }

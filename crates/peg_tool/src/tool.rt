@@ -1,42 +1,31 @@
 //! The tool over a grammar file and a text that are read apart.
-ghost use Rattle.std.specs.Prelude.{◌≡◌, ◌⊎◌, ℕ, ◌↔◌, ◌+◌, true, false, List, IfOk, IfSome, IsErrOf, string_bytes};
+ghost use Rattle.std.specs.Prelude.{◌≡◌, ◌⊎◌, ℕ, ◌≤◌, ◌↔◌, ◌+◌, true};
+ghost use Rattle.std.specs.Prelude.{false, List, IfOk, IfSome, IsErrOf, length, string_bytes};
+ghost use Rattle.peg_bytes.specs.Place.{most_place};
 ghost use Rattle.std.specs.Io.KnownBytes.{Keeps};
-ghost use Rattle.peg_grammar.specs.Rules.{Rule};
-ghost use Rattle.peg_notation.specs.Notation.{most_file_bytes};
-ghost use Rattle.peg_tool.specs.Asked.{asked_task};
-ghost use Rattle.peg_tool.specs.Parser.{rules_of};
-ghost use Rattle.peg_tool.specs.Parses.{most_text_bytes};
-ghost use Rattle.peg_tool.specs.Printed.{IsPrinted, Tells, TellsInPart};
-ghost use Rattle.peg_tool.specs.Refusals.{Accepts};
-ghost use Rattle.peg_tool.specs.Task.{Checks, IsParse, IsTextOf, task_of};
-ghost use Rattle.peg_tool.specs.Transfer.{ConsumesAtMost};
+ghost use Rattle.peg_figure.specs.Notation.{most_file_bytes};
+ghost use Rattle.peg_ford.specs.Rules.{Rule};
+ghost use Rattle.peg_io.specs.Transfer.{ConsumesAtMost};
+ghost use Rattle.peg_parser.specs.Accepts.{Accepts};
+ghost use Rattle.peg_parser.specs.Parser.{parser_rules, start_named};
+ghost use Rattle.peg_grammar.specs.Limits.{most_text_bytes};
+ghost use Rattle.peg_reply.specs.Statuses.{code_of};
+ghost use Rattle.peg_reply.specs.TreeForms.{is_rows};
+ghost use Rattle.peg_tool.specs.Commands.{task_of};
+ghost use Rattle.peg_tool.specs.Replies.{IsPrinted};
+ghost use Rattle.peg_tool.specs.Task.{IsParse, IsTextOf, ParseTask};
+ghost use Rattle.peg_tool.specs.Written.{Prints, PrintsInPart};
 
-use crate::device::{Sink, Source};
-use crate::judge::{Judged, judge};
-use crate::options::ParseOptions;
-use crate::parse_text::{Asked, parse_line};
-use crate::parser::Parser;
-use crate::printed::{OUT_OF_MEMORY, Printed, ToolFault};
-use crate::transfer::{ReadFault, read_up_to};
+use crate::command::Command;
+use crate::ending::{ToolFault, finish};
+use crate::judge::{Judged, check_file, judge, table_file};
+use crate::parse::parse_line;
 use peg_grammar::MOST_TEXT_BYTES;
+use peg_io::{ReadFault, Sink, Source, read_up_to};
 use peg_notation::MOST_FILE_BYTES;
+use peg_parser::{ParseOptions, Parser};
+use peg_reply::{Line, TreeForm};
 use std::alloc::Global;
-
-/// What is asked of the tool.
-#[derive(Clone, Copy, Debug, PartialEq, Eq)]
-pub enum Command<'a> {
-    /// The table of outcomes: what the expression of each rule can do.
-    Table,
-    /// Whether the grammar is well-formed, and why not.
-    Check,
-    /// What a rule of the grammar makes of a text: with `all`, a match of less than the whole is told as partial; with
-    /// `rows` the tree is told by its nodes in preorder, and else nested.
-    Parse {
-        options: ParseOptions<'a>,
-        all: bool,
-        rows: bool,
-    },
-}
 
 /// Reads a grammar file, does what is asked and writes the answer as one line of JSON. Answers the status that goes
 /// with it; 5, with nothing written, where memory runs out. No device may have failed before. It holds at most
@@ -52,9 +41,9 @@ pub fn run_tool<G: Source, T: Source, W: Sink>(
     requires grammar_works { G.failed grammar.old ≡ false }
     requires text_works { T.failed text.old ≡ false }
     requires output_works { W.failed output.old ≡ false }
-    ensures answer { (bytes : List ℕ) → IsTextOf (task_of command.now) (T.left text.old) bytes
-        → IfOk result (λ status. IfSome (G.left grammar.old) (λ file.
-        Tells (IsPrinted (task_of command.now) file bytes) (W.written output.old) (W.written output.new) status)) }
+    ensures answer { IfSome (G.left grammar.old) (λ file. (bytes : List ℕ)
+        → IsTextOf (task_of command.now) file (T.left text.old) bytes → IfOk result (λ status.
+        Prints (IsPrinted (task_of command.now) file bytes) (W.written output.old) (W.written output.new) status)) }
     ensures held { ConsumesAtMost (G.left grammar.old) (G.left grammar.new) (most_file_bytes + 1) }
     ensures text_held { ConsumesAtMost (T.left text.old) (T.left text.new) (most_text_bytes + 1) }
     ensures unread { ¬ IsParse (task_of command.now) → text.new ≡ text.old }
@@ -66,32 +55,26 @@ pub fn run_tool<G: Source, T: Source, W: Sink>(
         ↔ ((G.failed grammar.new ≡ true) ⊎ (T.failed text.new ≡ true)) }
     ensures nothing_written { IsErrOf result ToolFault.ReadFault → Keeps (W.written output.old) (W.written output.new) }
     ensures write_fault { IsErrOf result ToolFault.WriteFault ↔ (W.failed output.new ≡ true) }
-    ensures partly_written { (bytes : List ℕ) → IsTextOf (task_of command.now) (T.left text.old) bytes
-        → IsErrOf result ToolFault.WriteFault → IfSome (G.left grammar.old) (λ file.
-        TellsInPart (IsPrinted (task_of command.now) file bytes) (W.written output.old) (W.written output.new)) }
+    ensures partly_written { IfSome (G.left grammar.old) (λ file. (bytes : List ℕ)
+        → IsTextOf (task_of command.now) file (T.left text.old) bytes → IsErrOf result ToolFault.WriteFault
+        → PrintsInPart (IsPrinted (task_of command.now) file bytes) (W.written output.old) (W.written output.new)) }
 {
-    match read_and_tell(alloc, grammar, text, command) {
-        Ok(printed) => match printed.write(output) {
-            Ok(status) => Ok(status),
-            Err(_) => Err(ToolFault::WriteFault),
-        },
-        Err(ReadFault::Memory) => Ok(OUT_OF_MEMORY),
-        Err(ReadFault::Device) => Err(ToolFault::ReadFault),
-    }
+    let told = line_of(alloc, grammar, text, command);
+    finish(output, told)
 }
 
-// Reads what a command needs, and tells its line and status.
-fn read_and_tell<G: Source, T: Source>(
+// Reads what a command needs, and tells its line.
+fn line_of<G: Source, T: Source>(
     alloc: Global,
     grammar: &mut G,
     text: &mut T,
     command: &Command<'_>,
-) -> Result<Printed, ReadFault>
+) -> Result<Line, ReadFault>
     requires grammar_works { G.failed grammar.old ≡ false }
     requires text_works { T.failed text.old ≡ false }
-    ensures answer { (bytes : List ℕ) → IsTextOf (task_of command.now) (T.left text.old) bytes
-        → IfOk result (λ told. IfSome (G.left grammar.old) (λ file.
-        IsPrinted (task_of command.now) file bytes (string_bytes told.line) told.status)) }
+    ensures answer { IfSome (G.left grammar.old) (λ file. (bytes : List ℕ)
+        → IsTextOf (task_of command.now) file (T.left text.old) bytes → IfOk result (λ line.
+        IsPrinted (task_of command.now) file bytes (string_bytes line.text) (code_of line.status))) }
     ensures held { ConsumesAtMost (G.left grammar.old) (G.left grammar.new) (most_file_bytes + 1) }
     ensures text_held { ConsumesAtMost (T.left text.old) (T.left text.new) (most_text_bytes + 1) }
     ensures unread { ¬ IsParse (task_of command.now) → text.new ≡ text.old }
@@ -101,26 +84,56 @@ fn read_and_tell<G: Source, T: Source>(
         ↔ ((G.failed grammar.new ≡ true) ⊎ (T.failed text.new ≡ true)) }
 {
     let file = read_up_to(alloc, grammar, MOST_FILE_BYTES + 1)?;
-    match judge(alloc, &file, command)? {
-        Judged::Told(printed) => Ok(printed),
-        Judged::Ready(parser, asked) => read_and_parse(alloc, &parser, text, asked),
+    match command {
+        Command::Table => Ok(table_file(alloc, &file)?),
+        Command::Check => Ok(check_file(alloc, &file)?),
+        Command::Parse { options, all, rows } => {
+            parsed(alloc, &file, text, options, *all, TreeForm::of(*rows))
+        }
     }
 }
 
-// Reads a text, and tells the line and the status of its parse.
+// Reads a text for an accepted file, and tells the line of its parse; else why the file is refused.
+fn parsed<T: Source>(
+    alloc: Global,
+    file: &[u8],
+    text: &mut T,
+    options: &ParseOptions<'_>,
+    all: bool,
+    form: TreeForm,
+) -> Result<Line, ReadFault>
+    requires short { length file.now ≤ most_place }
+    requires works { T.failed text.old ≡ false }
+    ensures answer { (bytes : List ℕ)
+        → IsTextOf (ParseTask (start_named options.now) all (is_rows form)) file.now (T.left text.old) bytes
+        → IfOk result (λ line. IsPrinted (ParseTask (start_named options.now) all (is_rows form)) file.now bytes
+        (string_bytes line.text) (code_of line.status)) }
+    ensures held { ConsumesAtMost (T.left text.old) (T.left text.new) (most_text_bytes + 1) }
+    ensures refused { ((rules : List Rule) → ¬ Accepts file.now rules) → text.new ≡ text.old }
+    ensures device { IsErrOf result ReadFault.Device ↔ (T.failed text.new ≡ true) }
+{
+    match judge(alloc, file)? {
+        Judged::Accepted(parser) => read_and_parse(alloc, &parser, text, options, all, form),
+        Judged::Refused(line) => Ok(line),
+    }
+}
+
+// Reads a text, and tells the line of its parse.
 fn read_and_parse<T: Source>(
     alloc: Global,
     parser: &Parser,
     text: &mut T,
-    asked: Asked<'_>,
-) -> Result<Printed, ReadFault>
+    options: &ParseOptions<'_>,
+    all: bool,
+    form: TreeForm,
+) -> Result<Line, ReadFault>
     requires { T.failed text.old ≡ false }
-    ensures answer { (file : List ℕ) → Accepts file (rules_of parser.now) → IfOk result (λ told.
-        IfSome (T.left text.old) (λ bytes.
-        IsPrinted (asked_task asked.entry) file bytes (string_bytes told.line) told.status)) }
+    ensures answer { (file : List ℕ) → Accepts file (parser_rules parser.now) → IfOk result (λ line.
+        IfSome (T.left text.old) (λ bytes. IsPrinted (ParseTask (start_named options.now) all (is_rows form)) file bytes
+        (string_bytes line.text) (code_of line.status))) }
     ensures held { ConsumesAtMost (T.left text.old) (T.left text.new) (most_text_bytes + 1) }
     ensures device { IsErrOf result ReadFault.Device ↔ (T.failed text.new ≡ true) }
 {
     let bytes = read_up_to(alloc, text, MOST_TEXT_BYTES + 1)?;
-    Ok(parse_line(alloc, parser, &bytes, asked)?)
+    Ok(parse_line(alloc, parser, &bytes, options, all, form)?)
 }

@@ -5,7 +5,8 @@ use Rattle.std.proofs.lemmas.List.{length-append, length-drop, length-map, drop_
 use Rattle.peg_tree.specs.declared.row.TreeNode.{TreeNode}
 use Rattle.peg_tree.specs.Trees.{Trees, NoTrees, Tree, nodes, followed_by}
 use Rattle.peg_tree.specs.Rows.{Row, row_of, rows_of, IsOneTree}
-use Rattle.peg_tree.specs.TreesOfRows.{first_trees, trees_after, trees_of, IsForest, trees_of-rows_of, first_trees-none}
+use Rattle.peg_tree.specs.TreesOfRows.{first_trees, trees_after, trees_of, IsForest}
+use Rattle.peg_tree.specs.TreesCode.{trees_of-rows_of, first_trees-none}
 
 -- there are as many rows as nodes
 pub length-rows_of : (trees : Trees) → length (rows_of trees) ≡ nodes trees

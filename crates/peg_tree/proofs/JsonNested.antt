@@ -5,92 +5,93 @@ use Rattle.serde_json.specs.Data.{Data}
 use Rattle.serde_json.specs.View.{view}
 use Rattle.peg_tree.specs.declared.nested.Built.{Built}
 use Rattle.peg_tree.specs.declared.row.TreeNode.{TreeNode}
-use Rattle.peg_tree.specs.Built.{Part, part_of, parts_of, parts_of_trees, taken, left_after}
+use Rattle.peg_tree.specs.Built.{SizedObject, object_of, objects_of, objects_of_trees, taken, left_after}
 use Rattle.peg_tree.specs.Json.{node_data, nested_data}
 use Rattle.peg_tree.specs.Names.{name_at}
 use Rattle.peg_tree.specs.Rows.{Row, row_of, IsOneTree}
 use Rattle.peg_tree.specs.Trees.{Trees, NoTrees, Tree, nodes}
-use Rattle.peg_tree.specs.TreesOfRows.{trees_of, first_trees, trees_after, IsForest, trees_of-rows_of}
+use Rattle.peg_tree.specs.TreesOfRows.{trees_of, first_trees, trees_after, IsForest}
+use Rattle.peg_tree.specs.TreesCode.{trees_of-rows_of}
 use Rattle.peg_tree.proofs.Forests.{IsForest-size, rows_from}
 
 module _ (names : List (List ℕ)) where
-  -- of the parts of trees, those that are taken are the leading trees
-  pub taken-parts_of_trees : (count : ℕ) (trees : Trees) → taken count (parts_of_trees names trees) ≡ nested_data names (first_trees count trees)
-  taken-parts_of_trees count NoTrees = refl
-  taken-parts_of_trees count (Tree rule start end children rest) =
-      by (nat_le (1 + nodes children) count) (taken-parts_of_trees (count - (1 + nodes children)) rest)
+  -- of the objects of trees, those that are taken are the leading trees
+  pub taken-objects_of_trees : (count : ℕ) (trees : Trees) → taken count (objects_of_trees names trees) ≡ nested_data names (first_trees count trees)
+  taken-objects_of_trees count NoTrees = refl
+  taken-objects_of_trees count (Tree rule start end children rest) =
+      by (nat_le (1 + nodes children) count) (taken-objects_of_trees (count - (1 + nodes children)) rest)
     where
-      by : (b : Bool) → taken (count - (1 + nodes children)) (parts_of_trees names rest) ≡ nested_data names (first_trees (count - (1 + nodes children)) rest)
-          → (if b then node_data (name_at names rule) start end (nested_data names children) ∷ taken (count - (1 + nodes children)) (parts_of_trees names rest) else [])
+      by : (b : Bool) → taken (count - (1 + nodes children)) (objects_of_trees names rest) ≡ nested_data names (first_trees (count - (1 + nodes children)) rest)
+          → (if b then node_data (name_at names rule) start end (nested_data names children) ∷ taken (count - (1 + nodes children)) (objects_of_trees names rest) else [])
           ≡ nested_data names (if b then Tree rule start end children (first_trees (count - (1 + nodes children)) rest) else NoTrees)
       by true h = ap (λ l. node_data (name_at names rule) start end (nested_data names children) ∷ l) h
       by false h = refl
 
   -- and those that stay are the trees after them
-  pub left_after-parts_of_trees : (count : ℕ) (trees : Trees) → left_after count (parts_of_trees names trees) ≡ parts_of_trees names (trees_after count trees)
-  left_after-parts_of_trees count NoTrees = refl
-  left_after-parts_of_trees count (Tree rule start end children rest) =
-      by (nat_le (1 + nodes children) count) (left_after-parts_of_trees (count - (1 + nodes children)) rest)
+  pub left_after-objects_of_trees : (count : ℕ) (trees : Trees) → left_after count (objects_of_trees names trees) ≡ objects_of_trees names (trees_after count trees)
+  left_after-objects_of_trees count NoTrees = refl
+  left_after-objects_of_trees count (Tree rule start end children rest) =
+      by (nat_le (1 + nodes children) count) (left_after-objects_of_trees (count - (1 + nodes children)) rest)
     where
-      by : (b : Bool) → left_after (count - (1 + nodes children)) (parts_of_trees names rest) ≡ parts_of_trees names (trees_after (count - (1 + nodes children)) rest)
-          → (if b then left_after (count - (1 + nodes children)) (parts_of_trees names rest) else parts_of_trees names (Tree rule start end children rest))
-          ≡ parts_of_trees names (if b then trees_after (count - (1 + nodes children)) rest else Tree rule start end children rest)
+      by : (b : Bool) → left_after (count - (1 + nodes children)) (objects_of_trees names rest) ≡ objects_of_trees names (trees_after (count - (1 + nodes children)) rest)
+          → (if b then left_after (count - (1 + nodes children)) (objects_of_trees names rest) else objects_of_trees names (Tree rule start end children rest))
+          ≡ objects_of_trees names (if b then trees_after (count - (1 + nodes children)) rest else Tree rule start end children rest)
       by true h = h
       by false h = refl
 
-  parts_of-push : (stack : List Built) (built : Built) → parts_of (stack ++ built ∷ []) ≡ part_of built ∷ parts_of stack
-  parts_of-push stack built = ap (map part_of) (reverse-append stack (built ∷ []))
+  objects_of-push : (stack : List Built) (built : Built) → objects_of (stack ++ built ∷ []) ≡ object_of built ∷ objects_of stack
+  objects_of-push stack built = ap (map object_of) (reverse-append stack (built ∷ []))
 
   -- the row before the trees that are built takes those that its size covers
-  pub parts_of-more : (rows : List TreeNode) (at next : ℕ) (node : TreeNode) → next ≡ at + 1 → at < length rows → node ≡ get_or rows at node
+  pub objects_of-more : (rows : List TreeNode) (at next : ℕ) (node : TreeNode) → next ≡ at + 1 → at < length rows → node ≡ get_or rows at node
       → IsForest (map row_of (drop at rows))
       → (stack left more : List Built) (children : List Data) (built : Built)
-      → parts_of stack ≡ parts_of_trees names (trees_of (map row_of (drop next rows)))
-      → children ≡ taken (node.size - 1) (parts_of stack) → parts_of left ≡ left_after (node.size - 1) (parts_of stack)
+      → objects_of stack ≡ objects_of_trees names (trees_of (map row_of (drop next rows)))
+      → children ≡ taken (node.size - 1) (objects_of stack) → objects_of left ≡ left_after (node.size - 1) (objects_of stack)
       → view built.value ≡ node_data (name_at names node.rule) node.span.start node.span.end children → built.size ≡ node.size
       → more ≡ left ++ built ∷ []
-      → parts_of more ≡ parts_of_trees names (trees_of (map row_of (drop at rows)))
-  parts_of-more rows at next node step within is forest stack left more children built same took stays made sized pushed =
+      → objects_of more ≡ objects_of_trees names (trees_of (map row_of (drop at rows)))
+  objects_of-more rows at next node step within is forest stack left more children built same took stays made sized pushed =
       let after = trees_of (map row_of (drop (at + 1) rows)) in
       let row = rows_from rows at node within is in
-      let same' : parts_of stack ≡ parts_of_trees names after = same ∙ ap (λ n. parts_of_trees names (trees_of (map row_of (drop n rows)))) step in
+      let same' : objects_of stack ≡ objects_of_trees names after = same ∙ ap (λ n. objects_of_trees names (trees_of (map row_of (drop n rows)))) step in
       let size : 1 + nodes (first_trees (node.size - 1) after) ≡ node.size = IsForest-size (row_of node) (map row_of (drop (at + 1) rows)) (subst IsForest row forest) in
-      let inside : children ≡ nested_data names (first_trees (node.size - 1) after) = took ∙ ap (taken (node.size - 1)) same' ∙ taken-parts_of_trees (node.size - 1) after in
+      let inside : children ≡ nested_data names (first_trees (node.size - 1) after) = took ∙ ap (taken (node.size - 1)) same' ∙ taken-objects_of_trees (node.size - 1) after in
       let value : view built.value ≡ node_data (name_at names node.rule) node.span.start node.span.end (nested_data names (first_trees (node.size - 1) after)) =
       made ∙ ap (node_data (name_at names node.rule) node.span.start node.span.end) inside in
-      let rest : parts_of left ≡ parts_of_trees names (trees_after (node.size - 1) after) = stays ∙ ap (left_after (node.size - 1)) same' ∙ left_after-parts_of_trees (node.size - 1) after in
-      ap parts_of pushed ∙ parts_of-push left built
-      ∙ ap (λ d. (d, built.size) ∷ parts_of left) value
-      ∙ ap (λ n. (node_data (name_at names node.rule) node.span.start node.span.end (nested_data names (first_trees (node.size - 1) after)), n) ∷ parts_of left) (sized ∙ sym size)
+      let rest : objects_of left ≡ objects_of_trees names (trees_after (node.size - 1) after) = stays ∙ ap (left_after (node.size - 1)) same' ∙ left_after-objects_of_trees (node.size - 1) after in
+      ap objects_of pushed ∙ objects_of-push left built
+      ∙ ap (λ d. (d, built.size) ∷ objects_of left) value
+      ∙ ap (λ n. (node_data (name_at names node.rule) node.span.start node.span.end (nested_data names (first_trees (node.size - 1) after)), n) ∷ objects_of left) (sized ∙ sym size)
       ∙ ap (λ l. (node_data (name_at names node.rule) node.span.start node.span.end (nested_data names (first_trees (node.size - 1) after)), 1 + nodes (first_trees (node.size - 1) after)) ∷ l) rest
-      ∙ ap (λ l. parts_of_trees names (trees_of l)) (sym row)
+      ∙ ap (λ l. objects_of_trees names (trees_of l)) (sym row)
 
-  -- the objects of trees are those of their parts
-  nested_data-parts : (trees : Trees) → nested_data names trees ≡ map (λ (p : Part). p.0) (parts_of_trees names trees)
-  nested_data-parts NoTrees = refl
-  nested_data-parts (Tree rule start end children rest) = ap (λ l. node_data (name_at names rule) start end (nested_data names children) ∷ l) (nested_data-parts rest)
+  -- nested data are the objects of trees without their sizes
+  nested_data-objects : (trees : Trees) → nested_data names trees ≡ map (λ (p : SizedObject). p.0) (objects_of_trees names trees)
+  nested_data-objects NoTrees = refl
+  nested_data-objects (Tree rule start end children rest) = ap (λ l. node_data (name_at names rule) start end (nested_data names children) ∷ l) (nested_data-objects rest)
 
-  -- the parts of one tree are one part
-  one_part : (rows : List Row) → IsOneTree rows → length (parts_of_trees names (trees_of rows)) ≡ 1
-  one_part rows one =
-      ap (λ rows. length (parts_of_trees names (trees_of rows))) one.spelled
-      ∙ ap (λ trees. length (parts_of_trees names trees)) (trees_of-rows_of (Tree one.rule one.start one.end one.children NoTrees))
+  -- the objects of one tree are one
+  one_object : (rows : List Row) → IsOneTree rows → length (objects_of_trees names (trees_of rows)) ≡ 1
+  one_object rows one =
+      ap (λ rows. length (objects_of_trees names (trees_of rows))) one.spelled
+      ∙ ap (λ trees. length (objects_of_trees names trees)) (trees_of-rows_of (Tree one.rule one.start one.end one.children NoTrees))
 
-  no_parts : {X : Type 0} (xs : List X) → length xs ≡ 0 → xs ≡ []
-  no_parts [] e = refl
-  no_parts (x ∷ xs) e = absurd (omega arith)
+  no_objects : {X : Type 0} (xs : List X) → length xs ≡ 0 → xs ≡ []
+  no_objects [] e = refl
+  no_objects (x ∷ xs) e = absurd (omega arith)
 
   -- at the end one object is left, the tree's
-  pub last_part : (rows : List Row) → IsOneTree rows → (stack left : List Built) (root : Built) → parts_of stack ≡ parts_of_trees names (trees_of rows)
+  pub last_object : (rows : List Row) → IsOneTree rows → (stack left : List Built) (root : Built) → objects_of stack ≡ objects_of_trees names (trees_of rows)
       → stack ≡ left ++ root ∷ [] → nested_data names (trees_of rows) ≡ view root.value ∷ []
-  last_part rows one stack left root same popped =
-      let whole : part_of root ∷ parts_of left ≡ parts_of_trees names (trees_of rows) = sym (ap parts_of popped ∙ parts_of-push left root) ∙ same in
-      let count : 1 + length (parts_of left) ≡ 1 = (let h : suc (length (parts_of left)) ≡ 1 = ap length whole ∙ one_part rows one in omega arith) in
-      let none : parts_of left ≡ [] = no_parts (parts_of left) (omega arith) in
-      nested_data-parts (trees_of rows) ∙ ap (map (λ (p : Part). p.0)) (sym whole) ∙ ap (λ l. view root.value ∷ map (λ (p : Part). p.0) l) none
+  last_object rows one stack left root same popped =
+      let whole : object_of root ∷ objects_of left ≡ objects_of_trees names (trees_of rows) = sym (ap objects_of popped ∙ objects_of-push left root) ∙ same in
+      let count : 1 + length (objects_of left) ≡ 1 = (let h : suc (length (objects_of left)) ≡ 1 = ap length whole ∙ one_object rows one in omega arith) in
+      let none : objects_of left ≡ [] = no_objects (objects_of left) (omega arith) in
+      nested_data-objects (trees_of rows) ∙ ap (map (λ (p : SizedObject). p.0)) (sym whole) ∙ ap (λ l. view root.value ∷ map (λ (p : SizedObject). p.0) l) none
 
   -- before the end some object is there
-  pub some_part : (rows : List Row) → IsOneTree rows → (stack : List Built) → parts_of stack ≡ parts_of_trees names (trees_of rows) → stack ≡ [] → ⊥
-  some_part rows one stack same empty =
-      let count : length (parts_of []) ≡ 1 = ap (λ l. length (parts_of l)) (sym empty) ∙ ap length same ∙ one_part rows one in
+  pub some_object : (rows : List Row) → IsOneTree rows → (stack : List Built) → objects_of stack ≡ objects_of_trees names (trees_of rows) → stack ≡ [] → ⊥
+  some_object rows one stack same empty =
+      let count : length (objects_of []) ≡ 1 = ap (λ l. length (objects_of l)) (sym empty) ∙ ap length same ∙ one_object rows one in
       omega arith

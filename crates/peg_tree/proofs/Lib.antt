@@ -1,6 +1,6 @@
-pub mod Forests
-pub mod JsonNested
-pub mod JsonRows
-pub mod LevelRows
-pub mod NodeRows
-pub mod PartRows
+mod Forests
+mod JsonNested
+mod JsonRows
+mod LevelRows
+mod NodeRows
+mod PartRows

@@ -7,7 +7,8 @@ use Rattle.peg_tree.specs.declared.row.TreeNode.{TreeNode}
 use Rattle.peg_tree.specs.Parts.{rows_in, length_of, IsPart, AreParts, greatest_level, level_in, level_of_parts, length_of_parts}
 use Rattle.peg_tree.specs.Rows.{Row, row_of, rows_of, IsOneTree}
 use Rattle.peg_tree.specs.Trees.{Trees, NoTrees, Tree, nodes, levels}
-use Rattle.peg_tree.specs.TreesOfRows.{trees_of, first_trees, trees_after, IsForest, trees_of-rows_of}
+use Rattle.peg_tree.specs.TreesOfRows.{trees_of, first_trees, trees_after, IsForest}
+use Rattle.peg_tree.specs.TreesCode.{trees_of-rows_of}
 use Rattle.peg_tree.proofs.Forests.{length-rows_of, IsForest-rows_of, IsForest-size, IsForest-from_one_tree}
 
 -- the levels of trees under so many levels more

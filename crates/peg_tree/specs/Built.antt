@@ -1,4 +1,5 @@
--- What the pass that nests JSON objects has built: the objects of trees side by side, each with its number of nodes.
+-- Describes code: what the pass that nests JSON objects has built, the objects of trees side by side, each with its
+-- number of nodes.
 use Rattle.std.specs.Prelude.{ℕ, ◌+◌, ◌-◌, List, [], ◌∷◌, map, reverse, nat_le, if◌then◌else◌}
 use Rattle.serde_json.specs.Data.{Data}
 use Rattle.serde_json.specs.View.{view}
@@ -7,30 +8,32 @@ use Rattle.peg_tree.specs.Names.{name_at}
 use Rattle.peg_tree.specs.Trees.{Trees, NoTrees, Tree, nodes}
 use Rattle.peg_tree.specs.declared.nested.Built.{Built}
 
--- the JSON of a tree, and how many nodes it has
-abbrev pub Part : Type 0
-Part = Data × ℕ
+-- the JSON object of a tree, and how many nodes the tree has
+abbrev pub SizedObject : Type 0
+SizedObject = Data × ℕ
 
 -- what a `Built` holds
-abbrev pub part_of : Built → Part
-part_of built = (view built.value, built.size)
+abbrev pub object_of : Built → SizedObject
+object_of built = (view built.value, built.size)
 
--- the parts on a stack, the top first
-abbrev pub parts_of : List Built → List Part
-parts_of stack = map part_of (reverse stack)
+-- the objects on a stack, the top first
+abbrev pub objects_of : List Built → List SizedObject
+objects_of stack = map object_of (reverse stack)
 
--- the parts of trees
-abbrev pub parts_of_trees : List (List ℕ) → Trees → List Part
-parts_of_trees names NoTrees = []
-parts_of_trees names (Tree rule start end children rest) =
-    (node_data (name_at names rule) start end (nested_data names children), 1 + nodes children) ∷ parts_of_trees names rest
+-- the objects of trees
+abbrev pub objects_of_trees : List (List ℕ) → Trees → List SizedObject
+objects_of_trees names NoTrees = []
+objects_of_trees names (Tree rule start end children rest) =
+    (node_data (name_at names rule) start end (nested_data names children), 1 + nodes children)
+    ∷ objects_of_trees names rest
 
--- of the leading parts, as many as count nodes hold
-abbrev pub taken : ℕ → List Part → List Data
+-- of the leading objects, as many as count nodes hold
+abbrev pub taken : ℕ → List SizedObject → List Data
 taken count [] = []
-taken count (part ∷ parts) = if nat_le part.1 count then part.0 ∷ taken (count - part.1) parts else []
+taken count (object ∷ objects) = if nat_le object.1 count then object.0 ∷ taken (count - object.1) objects else []
 
--- the parts after those
-abbrev pub left_after : ℕ → List Part → List Part
+-- the objects after those
+abbrev pub left_after : ℕ → List SizedObject → List SizedObject
 left_after count [] = []
-left_after count (part ∷ parts) = if nat_le part.1 count then left_after (count - part.1) parts else part ∷ parts
+left_after count (object ∷ objects) =
+    if nat_le object.1 count then left_after (count - object.1) objects else object ∷ objects

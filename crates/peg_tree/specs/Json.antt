@@ -5,10 +5,15 @@ use Rattle.serde_json.specs.View.{items_of}
 use Rattle.peg_tree.specs.Names.{name_at}
 use Rattle.peg_tree.specs.Trees.{Trees, NoTrees, Tree}
 
+-- the most levels of a tree that is printed nested
+abbrev pub most_levels : ℕ
+most_levels = 60
+
 -- a node as its level, its rule's name, and where it starts and ends
 abbrev pub row_data : (level : ℕ) → (name : List ℕ) → (start end : ℕ) → Data
 row_data level name start end =
-    array (item (number (unsigned level)) (item (string name) (item (number (unsigned start)) (item (number (unsigned end)) no_items))))
+    array (item (number (unsigned level)) (item (string name)
+    (item (number (unsigned start)) (item (number (unsigned end)) no_items))))
 
 -- the nodes of trees in preorder, where the roots have this level
 abbrev pub rows_data : List (List ℕ) → ℕ → Trees → List Data

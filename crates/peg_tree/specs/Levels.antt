@@ -1,4 +1,4 @@
--- The levels of nodes, and of the rows that the nodes make.
+-- Describes code: the levels of nodes, and of the rows that the nodes make, as one pass over the rows finds them.
 use Rattle.std.specs.Prelude.{ℕ, ◌+◌, List, [], ◌∷◌, ◌++◌, length, nat_le, if◌then◌else◌}
 use Rattle.peg_tree.specs.Trees.{Trees, NoTrees, Tree}
 use Rattle.peg_tree.specs.Rows.{Row}

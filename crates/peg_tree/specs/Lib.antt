@@ -1,4 +1,3 @@
-pub use Rattle.peg_bytes.specs.Extent
 pub mod Built
 pub mod Json
 pub mod Levels
@@ -7,4 +6,5 @@ pub mod Nodes
 pub mod Parts
 pub mod Rows
 pub mod Trees
+pub mod TreesCode
 pub mod TreesOfRows

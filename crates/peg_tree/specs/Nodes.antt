@@ -45,4 +45,5 @@ child_at trees number place = number + 1 + nodes_before place (node_at trees num
 -- each rule's number is below the bound
 abbrev pub RulesBelow : ℕ → Trees → Type 0
 RulesBelow bound NoTrees = Unit {0}
-RulesBelow bound (Tree rule start end children rest) = (rule < bound) × RulesBelow bound children × RulesBelow bound rest
+RulesBelow bound (Tree rule start end children rest) =
+    (rule < bound) × RulesBelow bound children × RulesBelow bound rest

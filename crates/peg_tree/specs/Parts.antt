@@ -1,4 +1,5 @@
--- Parts of a tree's rows: trees side by side, and the level of their roots.
+-- Describes code: parts of a tree's rows, as the count of its levels takes them apart: trees side by side, and the
+-- level of their roots.
 use Rattle.std.specs.Prelude.{ℕ, ◌+◌, ◌-◌, ◌^◌, ◌<◌, ◌≤◌, List, [], ◌∷◌, drop, length, max, take}
 use Rattle.peg_tree.specs.Rows.{Row}
 use Rattle.peg_tree.specs.Trees.{Trees, NoTrees, Tree}

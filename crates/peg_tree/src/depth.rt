@@ -47,7 +47,8 @@ fn taken_apart(rows: &[TreeNode], part: Part) -> Halves
     ensures sizes { length_of result.large + length_of result.small + 1 ≡ length_of part }
     ensures few { length_of result.small ≤ length_of result.large }
     ensures level { level_in (map row_of rows.now) part
-        ≡ max part.level (max (level_in (map row_of rows.now) result.large) (level_in (map row_of rows.now) result.small)) }
+        ≡ max part.level (max (level_in (map row_of rows.now) result.large)
+        (level_in (map row_of rows.now) result.small)) }
 {
     let root = rows[part.from];
     let middle = part.from + root.size as usize;

@@ -20,6 +20,3 @@ pub use outcome::{Outcome, Parsed};
 pub use row::TreeNode;
 pub use shape::one_tree;
 pub use tree::Tree;
-
-#[cfg(test)]
-mod tests;

@@ -1,8 +1,8 @@
 //! Trees as nested JSON objects, without recursion.
 ghost use Rattle.std.specs.Prelude.{◌≡◌, ◌<◌, ◌≤◌, ◌∷◌, ◌++◌, ◌↔◌, [], IfOk, OnOk, IfSome, IfNone, length, map};
 ghost use Rattle.serde_json.specs.View.{view};
-ghost use Rattle.peg_tree.specs.Json.{node_data, nested_data};
-ghost use Rattle.peg_tree.specs.Built.{part_of, parts_of, taken, left_after};
+ghost use Rattle.peg_tree.specs.Json.{most_levels, node_data, nested_data};
+ghost use Rattle.peg_tree.specs.Built.{object_of, objects_of, taken, left_after};
 ghost use Rattle.peg_tree.specs.Names.{name_at};
 ghost use Rattle.peg_tree.specs.Nodes.{RulesBelow};
 ghost use Rattle.peg_tree.specs.Trees.{levels};
@@ -10,14 +10,19 @@ ghost use Rattle.peg_tree.specs.Trees.{levels};
 use crate::{Names, Tree, TreeNode};
 use serde_json::{Value, json};
 use std::alloc::{AllocError, Global};
+use thiserror::Error;
 
 /// How many levels nested JSON may have.
 pub const MOST_LEVELS: usize = 60;
 
-/// Why a tree isn't written as nested JSON: it has more than `MOST_LEVELS` levels, or memory ran out.
-#[derive(Clone, Copy, Debug, PartialEq, Eq)]
+/// Why a tree isn't written as nested JSON.
+#[derive(Clone, Copy, Debug, PartialEq, Eq, Error)]
 pub enum JsonFault {
+    /// It has more than `MOST_LEVELS` levels.
+    #[error("the tree has too many levels")]
     TooDeep,
+    /// Memory ran out.
+    #[error("out of memory")]
     Memory,
 }
 
@@ -36,8 +41,8 @@ impl From<AllocError> for JsonFault {
 pub fn nested_json<N: Names>(alloc: Global, tree: &Tree, names: &N) -> Result<Value, JsonFault>
     requires { RulesBelow (length (N.names names.now)) tree.now }
     ensures value { IfOk result (λ value. nested_data (N.names names.now) tree.now ≡ view value ∷ []) }
-    ensures shallow { OnOk result (levels tree.now ≤ MOST_LEVELS) }
-    ensures too_deep { (result ≡ Err JsonFault.TooDeep) ↔ (MOST_LEVELS < levels tree.now) }
+    ensures shallow { OnOk result (levels tree.now ≤ most_levels) }
+    ensures too_deep { (result ≡ Err JsonFault.TooDeep) ↔ (most_levels < levels tree.now) }
 {
     if tree.depth() > MOST_LEVELS {
         return Err(JsonFault::TooDeep);
@@ -81,8 +86,9 @@ fn take_children(
     stack: &mut Vec<Built>,
     count: u64,
 ) -> Result<Vec<Value>, AllocError>
-    ensures taken { IfOk result (λ children. map view children.items ≡ taken count (parts_of stack.old.items)) }
-    ensures left { IfOk result (λ children. parts_of stack.new.items ≡ left_after count (parts_of stack.old.items)) }
+    ensures taken { IfOk result (λ children. map view children.items ≡ taken count (objects_of stack.old.items)) }
+    ensures left { IfOk result (λ children. objects_of stack.new.items
+        ≡ left_after count (objects_of stack.old.items)) }
 {
     let mut children = Vec::new(alloc);
     let mut left = count;
@@ -95,12 +101,12 @@ fn take_children(
 
 // Takes the top of the stack, where it has at most so many nodes.
 fn pop_within(stack: &mut Vec<Built>, most: u64) -> Option<Built>
-    ensures some { IfSome result (λ built. parts_of stack.old.items ≡ part_of built ∷ parts_of stack.new.items) }
+    ensures some { IfSome result (λ built. objects_of stack.old.items ≡ object_of built ∷ objects_of stack.new.items) }
     ensures few { IfSome result (λ built. built.size ≤ most) }
     ensures shorter { IfSome result (λ built. length stack.new.items < length stack.old.items) }
     ensures same { IfNone result (stack.new.items ≡ stack.old.items) }
-    ensures none { IfNone result (taken most (parts_of stack.old.items) ≡ []) }
-    ensures rest { IfNone result (left_after most (parts_of stack.old.items) ≡ parts_of stack.old.items) }
+    ensures none { IfNone result (taken most (objects_of stack.old.items) ≡ []) }
+    ensures rest { IfNone result (left_after most (objects_of stack.old.items) ≡ objects_of stack.old.items) }
 {
     match stack.last() {
         Some(top) if top.size <= most => stack.pop(),

@@ -21,7 +21,8 @@ impl Model for Tree {
     ghost use Rattle.std.specs.Prelude.{map};
     ghost use Rattle.peg_tree.specs.Rows.{row_of, IsOneTree};
     ghost use Rattle.peg_tree.specs.Trees.{Trees};
-    ghost use Rattle.peg_tree.specs.TreesOfRows.{trees_of, trees_code};
+    ghost use Rattle.peg_tree.specs.TreesCode.{trees_code};
+    ghost use Rattle.peg_tree.specs.TreesOfRows.{trees_of};
 
     ghost Value = { Trees };
 

@@ -1,6 +1,7 @@
 use Rattle.std.proofs.Common.{◌≡◌, ◌+◌, ◌<◌, length, drop, arith, sym, ◌∙◌, ap}
 use Rattle.std.proofs.lemmas.List.{take_rest}
-use Rattle.peg_bytes.specs.Place.{ends_line, last_or}
+use Rattle.peg_bytes.specs.EndsLine.{ends_line}
+use Rattle.peg_bytes.specs.Place.{last_or}
 use Rattle.peg_bytes.proofs.PlaceLemmas.{ends_within, ends_within-behind, ends_within-one, ends_within-none}
 use Rattle.peg_bytes.proofs.line_column.place.Goals as goal
 use Rattle.peg_bytes.proofs.line_column.place.Goals.{then-ends_line, else-ends_line}

@@ -1,7 +1,6 @@
 use Rattle.std.proofs.Common.{◌≡◌, ℕ, ◌<◌, false, length}
 use Rattle.peg_core.specs.CoreLoops.{CoreMeets}
-use Rattle.peg_core.specs.Layout.{form_at}
-use Rattle.peg_check.specs.Exact.{bodies_of}
+use Rattle.peg_core.specs.Layout.{bodies_of, form_at}
 use Rattle.peg_check.specs.Settled.{is_marked}
 use Rattle.peg_check.proofs.cycles.met_first.Given as goal
 

@@ -1,8 +1,8 @@
 use Rattle.std.proofs.Common.{Bool, true, false, sym, ap, ◌∙◌}
 use Rattle.peg_bytes.specs.ByteSet.{bytes_of}
-use Rattle.peg_grammar.specs.AbstractOutcomes.{Can}
+use Rattle.peg_ford.specs.AbstractOutcomes.{Can}
 use Rattle.peg_core.specs.CoreOutcomes.{core_can_table}
-use Rattle.peg_check.specs.Exact.{bodies_of}
+use Rattle.peg_core.specs.Layout.{bodies_of}
 use Rattle.peg_check.proofs.LinkLemmas.{not-empty, rule-is}
 use Rattle.peg_check.proofs.link.link_of.Goals as goal
 

@@ -1,11 +1,10 @@
 use Rattle.std.proofs.Common.{◌≡◌, ℕ, All, Option, None, Some, MatchOption, List, length, subst, arith}
 use Rattle.peg_core.specs.CoreLoops.{StandsInBody}
-use Rattle.peg_core.specs.Layout.{Desugared}
-use Rattle.peg_check.specs.Exact.{bodies_of}
-use Rattle.peg_check.specs.Loops.{HasNone, IsLoop, NoneLoopsBelow}
+use Rattle.peg_core.specs.Layout.{bodies_of, Desugared}
+use Rattle.peg_check.specs.EmptyLoops.{HasNone, IsLoop, NoneLoopsBelow}
 use Rattle.peg_check.specs.Owners.{AreOwners}
 use Rattle.peg_check.specs.declared.loops.Loop.{Loop}
-use Rattle.peg_check.proofs.LoopLemmas.{none-named, none-loops}
+use Rattle.peg_check.proofs.EmptyLoopLemmas.{none-named, none-loops}
 use Rattle.peg_check.proofs.loops.empty_loop.Goals as goal
 
 whole : (core : Desugared) (owners : List ℕ) (found : Option Loop) (number : ℕ) → number ≡ length core.forms

@@ -1,5 +1,5 @@
 use Rattle.std.proofs.Common.{MatchOption}
-use Rattle.peg_check.specs.Loops.{IsLoop, NoneLoopsBelow}
+use Rattle.peg_check.specs.EmptyLoops.{IsLoop, NoneLoopsBelow}
 use Rattle.peg_check.proofs.loops.empty_loop.Given as goal
 
 -- one of the forms so far is an empty loop, or none is

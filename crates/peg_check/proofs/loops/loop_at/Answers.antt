@@ -2,11 +2,10 @@ use Rattle.std.proofs.Common.{◌≡◌, sym, ◌∙◌, subst, arith, true}
 use Rattle.peg_bytes.specs.Extent.{extent}
 use Rattle.peg_core.specs.CoreForm.{Star}
 use Rattle.peg_core.specs.CoreOutcomes.{CoreGivesNothing}
-use Rattle.peg_core.specs.Layout.{form_at}
+use Rattle.peg_core.specs.Layout.{bodies_of, form_at}
 use Rattle.peg_check.specs.Cans.{can_of}
-use Rattle.peg_check.specs.Exact.{bodies_of}
 use Rattle.peg_check.specs.Owners.{owner_of, IsOwned}
-use Rattle.peg_check.proofs.LoopLemmas.{loop-named}
+use Rattle.peg_check.proofs.EmptyLoopLemmas.{loop-named}
 use Rattle.peg_check.proofs.loops.loop_at.Goals as goal
 
 pub returns-else-not-of : goal.returns-else-not-of

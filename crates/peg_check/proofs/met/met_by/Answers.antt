@@ -3,7 +3,7 @@ use Rattle.std.proofs.lemmas.List.{length-set}
 use Rattle.std.proofs.lemmas.List.Elements.{All-pop, All-push}
 use Rattle.std.proofs.lemmas.List.Sorted.{All-permutation}
 use Rattle.peg_core.specs.CoreLoops.{CoreMeets, CoreMeetsFirst}
-use Rattle.peg_check.specs.Exact.{bodies_of}
+use Rattle.peg_core.specs.Layout.{bodies_of}
 use Rattle.peg_check.specs.Links.{link_at}
 use Rattle.peg_check.proofs.MetLemmas.{IsMetBy, parts-met}
 use Rattle.peg_check.proofs.met.met_by.Goals as goal

@@ -1,6 +1,6 @@
 use Rattle.std.proofs.Common.{◌≡◌, ◌+◌, ◌*◌, ◌<◌, All, length}
 use Rattle.peg_core.specs.CoreLoops.{CoreMeetsFirst}
-use Rattle.peg_check.specs.Exact.{bodies_of}
+use Rattle.peg_core.specs.Layout.{bodies_of}
 use Rattle.peg_check.specs.Settled.{unmarked_in}
 use Rattle.peg_check.proofs.MetLemmas.{IsMetBy}
 use Rattle.peg_check.proofs.met.met_by.Given as goal

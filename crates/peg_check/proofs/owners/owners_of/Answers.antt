@@ -2,7 +2,7 @@ use Rattle.std.proofs.Common.{◌≡◌, ◌-◌, ◌+◌, ◌<◌, length, sym,
 use Rattle.std.proofs.lemmas.List.{get_or_default}
 use Rattle.peg_check.specs.Owners.{owner_of, IsOwned, AreOwnersUpTo, AreHandedDownFrom, handed_down}
 use Rattle.peg_check.proofs.OwnerLemmas.{length-handed, AreOwnersUpTo-handed, AreHandedDownFrom-handed}
-use Rattle.peg_check.proofs.Written.{whole-written}
+use Rattle.peg_check.proofs.WholeWrites.{whole-written}
 use Rattle.peg_check.proofs.owners.owners_of.Goals as goal
 
 pub loop-number-preserved-then-owner-rules : goal.loop-number-preserved-then-owner-rules

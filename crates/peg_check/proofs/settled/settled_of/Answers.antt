@@ -8,7 +8,7 @@ use Rattle.peg_check.specs.declared.link.Link.TheVariants as link
 use Rattle.peg_check.specs.Cans.{nothing_known}
 use Rattle.peg_check.proofs.SettledLemmas.{fewer-unmarked, work-falls, none-marked, most-unmarked, Rounds, Rounds-all, AreWaiting, Rounds-marked, AreWaiting-same, AreWaiting-marked}
 use Rattle.peg_check.proofs.Worklist.{all_taken, last_taken}
-use Rattle.peg_check.proofs.Written.{whole-written}
+use Rattle.peg_check.proofs.WholeWrites.{whole-written}
 use Rattle.peg_check.proofs.settled.settled_of.Goals as goal
 use Rattle.peg_check.proofs.settled.settled_of.Goals.{In-Some, After-settle-more}
 

@@ -1,9 +1,10 @@
-use Rattle.std.proofs.Common.{ℕ, ◌<◌, ◌∷◌, ◌++◌, [], length, reverse}
+use Rattle.std.proofs.Common.{ℕ, ◌<◌, All, ◌∷◌, ◌++◌, [], length, reverse}
 use Rattle.peg_core.specs.CoreLoops.{CoreMeetsFirst}
-use Rattle.peg_core.specs.Layout.{Desugared}
-use Rattle.peg_check.specs.Exact.{bodies_of}
+use Rattle.peg_core.specs.Layout.{bodies_of, Desugared}
 use Rattle.peg_check.specs.Paths.{IsPath}
 use Rattle.peg_check.specs.Trails.{AreSteps, rule_at}
+use Rattle.peg_check.specs.Verdicts.{AllDiffer}
+use Rattle.peg_check.proofs.TrailLemmas.{IsLaterRule}
 use Rattle.peg_check.proofs.shortest.path_to.Given as goal
 
 -- from this step's rule, through those that were put there, last first, there is a path to the start
@@ -11,6 +12,8 @@ abbrev pub invariant-loop-at : goal.invariant-loop-at
 invariant-loop-at l = record {
   within : l.at < length l.steps;
   path : (core : Desugared) (start : ℕ) → AreSteps core start l.steps → CoreMeetsFirst (bodies_of core) (rule_at l.steps l.end) start → IsPath (bodies_of core) (rule_at l.steps l.at ∷ (reverse l.path.items ++ start ∷ []));
+  later : All (IsLaterRule l.steps l.at) (reverse l.path.items);
+  differ : (core : Desugared) (start : ℕ) → AreSteps core start l.steps → AllDiffer (rule_at l.steps l.at ∷ reverse l.path.items);
 }
 
 abbrev pub decreases-loop-at : goal.decreases-loop-at

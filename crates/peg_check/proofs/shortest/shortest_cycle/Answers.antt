@@ -1,13 +1,13 @@
-use Rattle.std.proofs.Common.{◌≡◌, ◌<◌, All, List, eqb, length, get_or, refl, sym, ap, ◌∙◌, subst, arith}
+use Rattle.std.proofs.Common.{◌≡◌, ◌<◌, All, Bool, List, eqb, length, get_or, refl, sym, ap, ◌∙◌, subst, arith}
 use Rattle.std.proofs.lemmas.Bool.Decides.{Decides-eqb}
 use Rattle.std.proofs.lemmas.List.{get_or_default}
 use Rattle.std.proofs.lemmas.List.Elements.{All-contains, Contains-from_at, contains_decides}
 use Rattle.peg_core.specs.CoreLoops.{CoreMeetsFirst}
-use Rattle.peg_check.specs.Exact.{bodies_of}
+use Rattle.peg_core.specs.Layout.{bodies_of}
 use Rattle.peg_check.specs.Settled.{unmarked_in}
-use Rattle.peg_check.specs.Trails.{no_step, rule_at, AreSteps}
+use Rattle.peg_check.specs.Trails.{no_step, rule_at, AreSeen, AreSteps}
 use Rattle.peg_check.specs.declared.shortest.Step.{Step}
-use Rattle.peg_check.proofs.Written.{whole-written}
+use Rattle.peg_check.proofs.WholeWrites.{whole-written}
 use Rattle.peg_check.proofs.shortest.shortest_cycle.Goals as goal
 use Rattle.peg_check.proofs.shortest.shortest_cycle.Goals.{In_ok-met}
 
@@ -45,10 +45,12 @@ steps-preserved c =
     let seen : length c.met_by.new.seen ≡ length forms = omega (arith, c.in_ok-met.ensures.seen, c.steps.invariant.forms) in
     let forms_now = whole-written c.steps.forms.len forms c.met_by.new.seen c.met_by.new.seen c.steps.forms.ok.0 refl seen in
     let rules_now = whole-written c.steps.rules.len rules c.add_steps.new.rules c.add_steps.new.rules c.steps.rules.ok.0 refl many in
+    let seen_was = subst (λ (r : List Bool). AreSeen r steps) (sym c.deref_mut-in-steps.ensures.value) c.steps.invariant.seen in
     record {
       forms = ap length forms_now ∙ c.in_ok-met.ensures.seen;
       rules = ap length rules_now ∙ (many ∙ c.steps.invariant.rules);
       at = omega (arith, within, c.in_ok-add_steps.ensures.longer);
-      steps = c.in_ok-add_steps.ensures.added core start (ap length c.deref_mut-in-steps.ensures.value ∙ c.steps.invariant.rules) c.steps.invariant.steps (subst (All (CoreMeetsFirst (bodies_of core) (rule_at steps c.steps.at))) (sym c.deref-in-steps.ensures.value) (met at));
+      steps = c.in_ok-add_steps.ensures.added core start (ap length c.deref_mut-in-steps.ensures.value ∙ c.steps.invariant.rules) c.steps.invariant.steps seen_was (subst (All (CoreMeetsFirst (bodies_of core) (rule_at steps c.steps.at))) (sym c.deref-in-steps.ensures.value) (met at));
+      seen = subst (λ (r : List Bool). AreSeen r c.add_steps.new.steps.items) (sym rules_now) (c.in_ok-add_steps.ensures.seen seen_was);
       room = omega (arith, c.in_ok-add_steps.ensures.room, ap unmarked_in rules_now, ap unmarked_in c.deref_mut-in-steps.ensures.value, c.steps.invariant.room);
     }

@@ -1,6 +1,6 @@
 use Rattle.std.proofs.Common.{◌≡◌, ◌+◌, ◌-◌, ◌≤◌, length}
 use Rattle.peg_check.specs.Settled.{unmarked_in}
-use Rattle.peg_check.specs.Trails.{AreSteps}
+use Rattle.peg_check.specs.Trails.{AreSeen, AreSteps}
 use Rattle.peg_check.proofs.shortest.shortest_cycle.Given as goal
 
 abbrev pub invariant-steps : goal.invariant-steps
@@ -9,7 +9,8 @@ invariant-steps l = record {
   rules : length l.rules.items ≡ length l.core.bodies;
   at : l.at ≤ length l.steps.items;
   steps : AreSteps l.core l.start l.steps.items;
-  room : length l.steps.items + unmarked_in l.rules.items ≡ length l.core.bodies + 1;
+  seen : AreSeen l.rules.items l.steps.items;
+  room : length l.steps.items + unmarked_in l.rules.items ≡ length l.core.bodies;
 }
 
 -- the steps that are still to be looked at, and the rules that may become steps

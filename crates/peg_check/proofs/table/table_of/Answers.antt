@@ -1,17 +1,19 @@
-use Rattle.std.proofs.Common.{◌≡◌, ℕ, ◌<◌, ◌++◌, inl, inr, All, List, length, take, drop, get_or, sym, ap, ◌∙◌, subst, arith}
+use Rattle.std.proofs.Common.{◌≡◌, ℕ, ◌<◌, ◌++◌, inl, inr, All, List, length, map, take, drop, get_or, sym, ap, ◌∙◌, subst, arith}
 use Rattle.std.proofs.lemmas.Bool.{OnFalse_at}
 use Rattle.std.proofs.lemmas.List.{length-map, length-set}
 use Rattle.peg_core.specs.Layout.{form_at}
 use Rattle.peg_check.specs.Cans.{can_of, can_at, nothing_known}
+use Rattle.peg_check.specs.Exact.{IsExactTable}
 use Rattle.peg_check.specs.Links.{LinkFits, GoesBy, IsLinkOf, link_at, link_can}
 use Rattle.peg_check.specs.Steps.{added_to, looked_at}
 use Rattle.peg_check.specs.declared.can.Can as code
 use Rattle.peg_check.specs.declared.link.Link.{Link}
 use Rattle.peg_check.specs.declared.link.Link.TheVariants as link
+use Rattle.peg_check.proofs.OutcomeLemmas.{table-outcomes}
 use Rattle.peg_check.proofs.OutcomeTables.{linked_at, link_at_read, Holds, Holds-looked, AreClosed, exact}
 use Rattle.peg_check.proofs.Worklist.{AreAwaited, awaited-same, awaited-more, all_taken, last_taken, whole-looked, whole-same}
 use Rattle.peg_check.proofs.table.table_of.Goals as goal
-use Rattle.peg_check.proofs.table.table_of.Goals.{After-look_again-more}
+use Rattle.peg_check.proofs.table.table_of.Goals.{After-look_again-more, After-drop-links-2}
 
 pub uses_of-requires-clause-few : goal.uses_of-requires-clause-few
 uses_of-requires-clause-few c =
@@ -110,8 +112,9 @@ looks-preserved c =
       awaited = subst (λ (l : List code.Can). AreAwaited (length core.forms) links l after) (sym now) (awaited-more (length core.forms) links cans number below pending rest taken c.looks.invariant.awaited after c.in_ok-add_users.ensures.kept users);
     }
 
-pub returns : goal.returns
-returns c =
+-- an exact table
+exact_table : (c : After-drop-links-2) → IsExactTable c.args.core.now (map can_of c.looks.entries.items)
+exact_table c =
     let core = c.args.core.now in
     let links = c.in_ok-links.links.items in
     let cans = c.looks.entries.items in
@@ -121,3 +124,12 @@ returns c =
       count = length-map cans can_of ∙ c.looks.invariant.count;
       exact = exact core links cans c.in_ok-links.ensures.count c.looks.invariant.count c.in_ok-links.ensures.linked closed c.looks.invariant.holds;
     }
+
+pub returns-clause-exact : goal.returns-clause-exact
+returns-clause-exact c = exact_table c
+
+-- each body is one of the forms
+pub returns-clause-rules : goal.returns-clause-rules
+returns-clause-rules c = λ rules are.
+    table-outcomes rules c.args.core.now (map can_of c.looks.entries.items) are c.len-count.ensures.bodies
+    (exact_table c)

@@ -1,13 +1,12 @@
 use Rattle.std.proofs.Common.{◌≡◌, ◌<◌, All, Option, Vec, Global, ℕ, MatchOption, Some, length, subst}
 use Rattle.std.proofs.lemmas.List.{length-map}
 use Rattle.peg_core.specs.CoreForm.{CoreForm, Star}
-use Rattle.peg_core.specs.CoreLoops.{StandsIn, IsCoreLeftCycle}
+use Rattle.peg_core.specs.CoreLoops.{StandsIn}
 use Rattle.peg_core.specs.CoreOutcomes.{CoreGivesNothing}
-use Rattle.peg_core.specs.Layout.{Desugared, form_at}
+use Rattle.peg_core.specs.Layout.{bodies_of, Desugared, form_at}
 use Rattle.peg_bytes.specs.Extent.{extent}
-use Rattle.peg_check.specs.Exact.{bodies_of}
-use Rattle.peg_check.specs.Loops.{HasNone, IsLoop}
-use Rattle.peg_check.specs.Verdicts.{AreWellFormedIn}
+use Rattle.peg_check.specs.EmptyLoops.{HasNone, IsLoop}
+use Rattle.peg_check.specs.Verdicts.{AreWellFormedIn, IsSimpleLeftCycle}
 use Rattle.peg_check.specs.declared.loops.Loop.{Loop}
 use Rattle.peg_check.proofs.PathLemmas.{has-body, cycle-bodies}
 use Rattle.peg_check.proofs.Refutations.{loop-refuted, cycle-refuted}
@@ -38,21 +37,21 @@ returns-in-Some-clause-named c =
 
 -- the cycle that was found, where one was
 named : (core : Desugared) (o : Option (Vec ℕ Global)) (path : Vec ℕ Global) → o ≡ Some path
-    → MatchOption o (AreWellFormedIn (length core.forms) core) (λ p. IsCoreLeftCycle (bodies_of core) p.items)
-    → IsCoreLeftCycle (bodies_of core) path.items
+    → MatchOption o (AreWellFormedIn (length core.forms) core) (λ p. IsSimpleLeftCycle (bodies_of core) p.items)
+    → IsSimpleLeftCycle (bodies_of core) path.items
 named core o path is h =
-    subst (λ (p : Option (Vec ℕ Global)). MatchOption p (AreWellFormedIn (length core.forms) core) (λ q. IsCoreLeftCycle (bodies_of core) q.items)) is h
+    subst (λ (p : Option (Vec ℕ Global)). MatchOption p (AreWellFormedIn (length core.forms) core) (λ q. IsSimpleLeftCycle (bodies_of core) q.items)) is h
 
 pub returns-in-Some-2-clause-refused : goal.returns-in-Some-2-clause-refused
 returns-in-Some-2-clause-refused c =
     let core = c.args.core.now in
     let none : HasNone core = subst (λ (o : Option Loop). MatchOption o (HasNone core) (IsLoop core)) c.in-None.is c.in_ok-rule.ensures in
     let cycle = named core c.in_ok-path-in-None.field-0 c.in-Some-2.path c.in-Some-2.is c.in_ok-path-in-None.ensures in
-    (none.0, cycle, cycle-refuted core c.in-Some-2.path.items cycle)
+    (none.0, cycle.0, cycle-refuted core c.in-Some-2.path.items cycle.0, cycle.1)
 
 pub returns-in-Some-2-clause-named : goal.returns-in-Some-2-clause-named
 returns-in-Some-2-clause-named c =
     let core = c.args.core.now in
     let cycle = named core c.in_ok-path-in-None.field-0 c.in-Some-2.path c.in-Some-2.is c.in_ok-path-in-None.ensures in
     subst (λ n. All (λ rule. rule < n) c.in-Some-2.path.items) (counted core)
-    (cycle-bodies (bodies_of core) c.in-Some-2.path.items cycle)
+    (cycle-bodies (bodies_of core) c.in-Some-2.path.items cycle.0)

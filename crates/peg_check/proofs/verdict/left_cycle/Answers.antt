@@ -3,7 +3,7 @@ use Rattle.std.proofs.lemmas.List.{get_or_default}
 use Rattle.peg_core.specs.CoreForm.{Empty}
 use Rattle.peg_core.specs.CoreOutcomes.{IsCoreWellFormedIn}
 use Rattle.peg_check.specs.Cans.{nothing_known}
-use Rattle.peg_check.specs.Exact.{bodies_of}
+use Rattle.peg_core.specs.Layout.{bodies_of}
 use Rattle.peg_check.specs.Links.{LinkFits, link_at}
 use Rattle.peg_check.specs.Settled.{is_marked, IsSettledIn, AreSettled}
 use Rattle.peg_check.specs.declared.link.Link.{Link}

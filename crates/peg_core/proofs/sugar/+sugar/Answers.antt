@@ -1,8 +1,8 @@
 use Rattle.std.proofs.Common.{rules as search_rules, ◌≡◌, ℕ, ◌+◌, ◌<◌, ◌≤◌, List, [], ◌∷◌, length, map, get_or, drop, IfOk, true, sym, ap, ◌∙◌, subst, arith}
 use denote.Param.Weighed.{most, at_most}
 use Rattle.peg_bytes.specs.Extent.{extent}
-use Rattle.peg_grammar.specs.Form as form
-use Rattle.peg_grammar.specs.Form.{Form, End, Then, forms, form_weight, forms_weight, names_used, names_used_by_all}
+use Rattle.peg_ford.specs.Form as form
+use Rattle.peg_ford.specs.Form.{Form, End, Then, forms, form_weight, forms_weight, names_used, names_used_by_all}
 use Rattle.peg_grammar.specs.GrammarRules.{rules_in}
 use Rattle.peg_grammar.specs.Written.{form_of}
 use Rattle.peg_grammar.specs.declared.expr.Expr.{Expr}
@@ -11,7 +11,7 @@ use Rattle.peg_grammar.proofs.LoopLemmas.{forms-drop}
 use Rattle.peg_grammar.proofs.WrittenForms.{form_of-Seq, form_of-Choice, form_of-Optional, form_of-Star, form_of-Plus, form_of-And, form_of-Not}
 use Rattle.peg_grammar.proofs.expr.Expr.TheLaws.{the_size}
 use Rattle.peg_core.specs.CoreForm.{CoreForm, Empty, Seq, Choice, Star, Not, all_in_order, one_of}
-use Rattle.peg_core.specs.CoreParts.{are_defined, optional_parts, plus_parts, and_parts, sequences_of, choices_of}
+use Rattle.peg_core.specs.CoreParts.{are_defined, optional_forms, plus_forms, and_forms, sequences_of, choices_of}
 use Rattle.peg_core.specs.Laid.{Lays, LaysForm}
 use Rattle.peg_core.specs.Layout.{form_at}
 use Rattle.peg_core.proofs.AddLemmas.{SoFar, SoFar-more, LaysForm-room, LaysForm-few, LaysForms-room, Lays-sign, Lays-sequence, Lays-choice, are_defined-left, are_defined-right}
@@ -34,7 +34,7 @@ add-returns-in_ok-add-in-Optional t c =
     let mid = c.add-in-Optional.new.flat in
     let new = c.add_optional.new.flat in
     let part = c.in_ok-add-in-Optional.field-0 in
-    let parts : CoreForm → List CoreForm = optional_parts in
+    let parts : CoreForm → List CoreForm = optional_forms in
     let whole : CoreForm → CoreForm = λ f. Choice f Empty in
     subst (λ f. IfOk c.add_optional.result (λ number. LaysForm rules f old number new)) (sym same)
     (if_ok (λ number. Lays mid (parts (form_at mid.forms part)) [] (whole (form_at mid.forms part)) number new)
@@ -78,7 +78,7 @@ add-returns-in_ok-add-in-Plus t c =
     let mid = c.add-in-Plus.new.flat in
     let new = c.add_plus.new.flat in
     let part = c.in_ok-add-in-Plus.field-0 in
-    let parts : CoreForm → List CoreForm = λ f. plus_parts f (extent c.in-Plus.span) in
+    let parts : CoreForm → List CoreForm = λ f. plus_forms f (extent c.in-Plus.span) in
     let whole : CoreForm → CoreForm = λ f. Seq f (Star f (extent c.in-Plus.span)) in
     subst (λ f. IfOk c.add_plus.result (λ number. LaysForm rules f old number new)) (sym same)
     (if_ok (λ number. Lays mid (parts (form_at mid.forms part)) [] (whole (form_at mid.forms part)) number new)
@@ -100,7 +100,7 @@ add-returns-in_ok-add-in-And t c =
     let mid = c.add-in-And.new.flat in
     let new = c.add_and.new.flat in
     let part = c.in_ok-add-in-And.field-0 in
-    let parts : CoreForm → List CoreForm = and_parts in
+    let parts : CoreForm → List CoreForm = and_forms in
     let whole : CoreForm → CoreForm = λ f. Not (Not f) in
     subst (λ f. IfOk c.add_and.result (λ number. LaysForm rules f old number new)) (sym same)
     (if_ok (λ number. Lays mid (parts (form_at mid.forms part)) [] (whole (form_at mid.forms part)) number new)

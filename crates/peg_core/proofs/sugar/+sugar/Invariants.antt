@@ -1,6 +1,6 @@
 use Rattle.std.proofs.Common.{◌≡◌, ◌+◌, ◌*◌, ◌≤◌, true, length, map, drop}
-use Rattle.peg_grammar.specs.Form.{forms, forms_weight, names_used_by_all}
-use Rattle.peg_grammar.specs.Grammar.{most_parts}
+use Rattle.peg_ford.specs.Form.{forms, forms_weight, names_used_by_all}
+use Rattle.peg_ford.specs.Grammar.{most_parts}
 use Rattle.peg_grammar.specs.GrammarRules.{rules_in}
 use Rattle.peg_grammar.specs.Written.{form_of}
 use Rattle.peg_core.specs.CoreParts.{are_defined}

@@ -4,17 +4,17 @@ use Rattle.std.proofs.lemmas.List.{drop_all, length-map}
 use Rattle.std.proofs.Math.Logic.{∥∥₁_elim}
 use mathlib.Core.Bool.{Bool-set}
 use Rattle.std.proofs.lemmas.List.Sums.{sum_by-cons}
-use Rattle.peg_grammar.specs.Form.{form_weight, names_used}
+use Rattle.peg_ford.specs.Form.{form_weight, names_used}
 use Rattle.peg_grammar.specs.GrammarRules.{rules_in}
-use Rattle.peg_grammar.specs.Loops.{MeetsFirst, IsEmptyLoop, IsLeftCycle}
-use Rattle.peg_grammar.specs.Rules.{Rule, uses}
+use Rattle.peg_ford.specs.Loops.{MeetsFirst, IsEmptyLoop, IsLeftCycle}
+use Rattle.peg_ford.specs.Rules.{Rule, uses}
 use Rattle.peg_grammar.specs.Written.{form_of}
 use Rattle.peg_core.specs.CoreForm.{core_form, core_bodies, core_bodies_from}
 use Rattle.peg_core.specs.CoreLoops.{StandsInBody, CoreMeetsFirst, IsCoreEmptyLoop, IsCoreLeftCycle}
 use Rattle.peg_core.specs.CoreOutcomes.{IsCoreWellFormed}
 use Rattle.peg_core.specs.CoreParts.{are_defined, all_core_parts, core_parts_from}
 use Rattle.peg_core.specs.Subexpressions.{Numbered, numbered_subexpressions, is_star}
-use Rattle.peg_grammar.specs.WellFormed.{IsWellFormedGrammar}
+use Rattle.peg_ford.specs.WellFormed.{IsWellFormedGrammar}
 use Rattle.peg_core.specs.Laid.{LaysForm}
 use Rattle.peg_core.specs.Layout.{Layout, Desugared, form_at}
 use Rattle.peg_core.proofs.AddLemmas.{LaysForm-room, LaysForm-few, are_defined-left, are_defined-right}
@@ -166,6 +166,11 @@ bodies_within c second within =
     let rules = rules_in c.args.grammar.now in
     let mapped = length-map c.new.result.bodies (form_at c.new.result.forms) in
     omega (arith, within, mapped, ap length (are_bodies c), length-core_bodies rules)
+
+pub returns-clause-count : goal.returns-clause-count
+returns-clause-count c =
+    let mapped = length-map c.new.result.bodies (form_at c.new.result.forms) in
+    sym mapped ∙ (ap length (are_bodies c) ∙ length-core_bodies (rules_in c.args.grammar.now))
 
 pub returns-clause-meets : goal.returns-clause-meets
 returns-clause-meets c = λ first second within.

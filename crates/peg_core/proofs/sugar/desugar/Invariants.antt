@@ -1,7 +1,7 @@
 use Rattle.std.proofs.Common.{◌≡◌, ◌+◌, ◌*◌, ◌≤◌, true, length, drop}
-use Rattle.peg_grammar.specs.Grammar.{most_parts}
+use Rattle.peg_ford.specs.Grammar.{most_parts}
 use Rattle.peg_grammar.specs.GrammarRules.{rules_in}
-use Rattle.peg_grammar.specs.Rules.{uses}
+use Rattle.peg_ford.specs.Rules.{uses}
 use Rattle.peg_core.specs.CoreParts.{are_defined}
 use Rattle.peg_core.specs.Layout.{most_forms}
 use Rattle.peg_core.proofs.RuleLemmas.{body_weights, RulesSoFar}

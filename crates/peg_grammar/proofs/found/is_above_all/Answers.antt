@@ -1,6 +1,6 @@
 use Rattle.std.proofs.Common.{◌<◌, ℕ, ◌-◌, ◌≤◌, length, arith, get_or, subst, sym}
 use Rattle.std.proofs.lemmas.Bool.Decides.{nat_tests}
-use Rattle.peg_grammar.proofs.Ascending.{increasing-rises}
+use Rattle.peg_ford.proofs.Ascending.{increasing-rises}
 use Rattle.peg_grammar.proofs.found.is_above_all.Goals as goal
 
 -- the last one is the greatest

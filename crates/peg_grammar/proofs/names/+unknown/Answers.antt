@@ -6,8 +6,9 @@ use Rattle.peg_bytes.specs.declared.span.Span.{Span}
 use Rattle.peg_grammar.specs.declared.expr.Expr.{Expr}
 use Rattle.peg_grammar.specs.declared.expr.Expr.TheViews.{Choice}
 use Rattle.peg_grammar.proofs.WrittenForms.{form_of-Choice}
-use Rattle.peg_grammar.specs.Form.{forms, names_used, names_used_by_all}
-use Rattle.peg_grammar.specs.Names.{is_unknown, names_in, reference_of}
+use Rattle.peg_ford.specs.Form.{forms, names_used, names_used_by_all}
+use Rattle.peg_ford.specs.Grammar.{is_unknown}
+use Rattle.peg_grammar.specs.Names.{names_in, reference_of}
 use Rattle.peg_grammar.specs.Written.{form_of}
 use Rattle.peg_grammar.proofs.NameLists.{find_front, find_rest, found_here, found_later}
 use Rattle.peg_grammar.proofs.names.+unknown.Goals as goal

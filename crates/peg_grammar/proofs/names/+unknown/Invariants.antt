@@ -1,6 +1,7 @@
 use Rattle.std.proofs.Common.{◌≡◌, drop, find, map}
-use Rattle.peg_grammar.specs.Form.{forms, names_used_by_all}
-use Rattle.peg_grammar.specs.Names.{is_unknown, names_in}
+use Rattle.peg_ford.specs.Form.{forms, names_used_by_all}
+use Rattle.peg_ford.specs.Grammar.{is_unknown}
+use Rattle.peg_grammar.specs.Names.{names_in}
 use Rattle.peg_grammar.specs.Written.{form_of}
 use Rattle.peg_grammar.proofs.names.+unknown.Given as goal
 

@@ -1,10 +1,10 @@
 use Rattle.std.proofs.Common.{◌≡◌, ◌≢◌, ◌==◌, Bool, false, List, [], ◌∷◌, length, find, sym, ap, ◌∙◌}
 use Rattle.std.proofs.lemmas.Bool.{true≢false}
-use Rattle.peg_grammar.specs.Names.{is_unknown}
-use Rattle.peg_grammar.specs.Rules.{uses}
+use Rattle.peg_ford.specs.Grammar.{is_unknown}
+use Rattle.peg_ford.specs.Rules.{uses}
 use Rattle.peg_grammar.specs.Written.{rules_of}
 use Rattle.peg_grammar.specs.declared.expr.Definition.{Definition}
-use Rattle.peg_grammar.proofs.GrammarLemmas.{IsGrammar-from_searches}
+use Rattle.peg_ford.proofs.GrammarLemmas.{IsGrammar-from_searches}
 use Rattle.peg_grammar.proofs.names.checked_names.Goals as goal
 
 -- definitions that are not empty stand for some rule

@@ -1,7 +1,7 @@
 use Rattle.std.proofs.Common.{◌≡◌, take, drop}
-use Rattle.peg_grammar.specs.Grammar.{duplicate_after, first_duplicate}
+use Rattle.peg_ford.specs.Grammar.{duplicate_after, first_duplicate}
 use Rattle.peg_grammar.specs.Names.{names_in}
-use Rattle.peg_grammar.specs.Rules.{names}
+use Rattle.peg_ford.specs.Rules.{names}
 use Rattle.peg_grammar.specs.Written.{rules_of}
 use Rattle.peg_grammar.proofs.names.distinct_names.Given as goal
 

@@ -1,6 +1,7 @@
 use Rattle.std.proofs.Common.{◌≡◌, drop, find}
-use Rattle.peg_grammar.specs.Names.{is_unknown, names_in}
-use Rattle.peg_grammar.specs.Rules.{uses}
+use Rattle.peg_ford.specs.Grammar.{is_unknown}
+use Rattle.peg_grammar.specs.Names.{names_in}
+use Rattle.peg_ford.specs.Rules.{uses}
 use Rattle.peg_grammar.specs.Written.{rules_of}
 use Rattle.peg_grammar.proofs.names.first_unknown.Given as goal
 

@@ -1,6 +1,6 @@
 use Rattle.std.proofs.Common.{◌≡◌, ℕ, ◌+◌, ◌<◌, ◌≤◌, List, map, length, get_or, drop, sym, ap, subst, arith}
 use denote.Param.Weighed.{most, at_most}
-use Rattle.peg_grammar.specs.Form.{forms, terminals, terminals_of_all}
+use Rattle.peg_ford.specs.Form.{forms, terminals, terminals_of_all}
 use Rattle.peg_grammar.specs.Written.{form_of}
 use Rattle.peg_grammar.specs.declared.expr.Expr.{Expr}
 use Rattle.peg_grammar.proofs.LoopLemmas.{forms-drop}

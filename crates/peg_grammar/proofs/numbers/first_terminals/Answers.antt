@@ -1,8 +1,8 @@
 use Rattle.std.proofs.Common.{◌≡◌, ℕ, zero, suc, ◌+◌, ◌<◌, List, [], ◌∷◌, ◌++◌, length, get_or, drop, sym, ap, ◌∙◌, suc-add, append_assoc, arith}
 use Rattle.std.proofs.lemmas.List.Sums.{sum_by-cons}
-use Rattle.peg_grammar.specs.Form.{terminals}
-use Rattle.peg_grammar.specs.Numbers.{first_from, terminals_of}
-use Rattle.peg_grammar.specs.Rules.{Rule}
+use Rattle.peg_ford.specs.Form.{terminals}
+use Rattle.peg_ford.specs.Numbers.{first_from, terminals_of}
+use Rattle.peg_ford.specs.Rules.{Rule}
 use Rattle.peg_grammar.specs.Written.{form_of, rule_of, rules_of}
 use Rattle.peg_grammar.specs.declared.expr.Definition.{Definition}
 use Rattle.peg_grammar.proofs.numbers.first_terminals.Goals as goal

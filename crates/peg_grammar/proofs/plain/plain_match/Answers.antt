@@ -2,12 +2,12 @@ use Rattle.std.proofs.Common.{map, ap, subst, Ok, arith}
 use Rattle.peg_tree.specs.Rows.{row_of}
 use Rattle.peg_grammar.specs.Found.{seen_in}
 use Rattle.peg_grammar.specs.GrammarRules.{rules_in}
-use Rattle.peg_grammar.specs.Numbers.{terminals_of}
-use Rattle.peg_grammar.specs.Record.{start_record}
-use Rattle.peg_grammar.specs.Rules.{name_of}
-use Rattle.peg_grammar.specs.Seen.{Tells}
+use Rattle.peg_ford.specs.Numbers.{terminals_of}
+use Rattle.peg_ford.specs.Record.{start_record}
+use Rattle.peg_ford.specs.Rules.{name_of}
+use Rattle.peg_grammar.specs.Seen.{Evaluates}
 use Rattle.peg_grammar.proofs.OutcomeLemmas.{start-leaves, start-parsed, start-furthest}
-use Rattle.peg_grammar.proofs.RulesLemmas.{terminals_of-weight}
+use Rattle.peg_ford.proofs.RulesLemmas.{terminals_of-weight}
 use Rattle.peg_grammar.proofs.SeenLemmas.{seen}
 use Rattle.peg_grammar.proofs.plain.plain_match.Goals as goal
 
@@ -19,13 +19,13 @@ first_terminals-requires c =
 pub outcome_of-requires : goal.outcome_of-requires
 outcome_of-requires c =
     let tried = start_record (rules_in c.args.grammar.now) c.args.text.now c.args.depth (name_of (rules_in c.args.grammar.now) c.args.start) in
-    let h = subst (λ s. Tells tried s (Ok c.in-Ok.verdict) (seen_in c.start.new.found)) (λ i. seen (record { far = 0; expected = c.new.ensures.items i }) (map row_of (c.new-2.ensures.items i))) c.in-Ok.ensures in
+    let h = subst (λ s. Evaluates tried s (Ok c.in-Ok.verdict) (seen_in c.start.new.found)) (λ i. seen (record { far = 0; expected = c.new.ensures.items i }) (map row_of (c.new-2.ensures.items i))) c.in-Ok.ensures in
     start-leaves (rules_in c.args.grammar.now) c.args.text.now c.args.depth (name_of (rules_in c.args.grammar.now) c.args.start) c.in-Ok.verdict (seen_in c.start.new.found) h
 
 pub returns-clause-outcome : goal.returns-clause-outcome
 returns-clause-outcome c =
     let tried = start_record (rules_in c.args.grammar.now) c.args.text.now c.args.depth (name_of (rules_in c.args.grammar.now) c.args.start) in
     let now = seen_in c.start.new.found in
-    let h = subst (λ s. Tells tried s (Ok c.in-Ok.verdict) now) (λ i. seen (record { far = 0; expected = c.new.ensures.items i }) (map row_of (c.new-2.ensures.items i))) c.in-Ok.ensures in
+    let h = subst (λ s. Evaluates tried s (Ok c.in-Ok.verdict) now) (λ i. seen (record { far = 0; expected = c.new.ensures.items i }) (map row_of (c.new-2.ensures.items i))) c.in-Ok.ensures in
     let furthest = start-furthest tried c.in-Ok.verdict now h in
     (h.0, h.1, start-parsed tried c.in-Ok.verdict now c.outcome_of.result.result h c.outcome_of.ensures.parsed, rw (c.outcome_of.ensures.far, c.outcome_of.ensures.expected) furthest)

@@ -1,9 +1,23 @@
-use Rattle.std.proofs.Common.{◌≡◌, ◌<◌, ◌≤◌, ◌∙◌, length, ap, Err, arith}
+use Rattle.std.proofs.Common.{◌≡◌, ℕ, ◌+◌, ◌*◌, ◌<◌, ◌≤◌, ◌∙◌, List, length, ap, Err, arith}
 use Rattle.std.proofs.Math.Logic.{∥∥₁_elim}
+use Rattle.std.proofs.lemmas.Nat.{mul-le}
+use Rattle.peg_ford.specs.Depth.{most_cases}
+use Rattle.peg_ford.specs.Grammar.{most_parts}
+use Rattle.peg_ford.specs.Rules.{Rule, weight_of}
+use Rattle.peg_ford.proofs.EnoughDepth.{start-within}
 use Rattle.peg_grammar.specs.GrammarRules.{rules_in}
+use Rattle.peg_grammar.specs.Limits.{most_text_bytes}
 use Rattle.peg_grammar.specs.declared.plain.PlainFault.TheVariants.{DepthUsed}
-use Rattle.peg_grammar.proofs.EnoughDepth.{start-within}
 use Rattle.peg_grammar.proofs.total.plain_total.Goals as goal
+
+-- a grammar's states on a text are fewer than the greatest depth
+depth-enough : (rules : List Rule) (text : List ℕ) → weight_of rules ≤ most_parts → length text ≤ most_text_bytes
+    → most_cases rules text ≤ 18446744073709551615
+depth-enough rules text light short =
+    let most =
+    mul-le (1 + 2 * weight_of rules) (length text + 1) 8388609 67108865 (omega (arith, light))
+    (omega (arith, short)) in
+    omega (arith, most)
 
 pub unreachable-requires : goal.unreachable-requires
 unreachable-requires c =
@@ -11,9 +25,9 @@ unreachable-requires c =
     let text = c.args.text.now in
     let why : c.plain_match.result ≡ Err DepthUsed =
     c.in-Err-DepthUsed.is ∙ ap (λ f. Err f) c.in-Err-DepthUsed.field-0-is in
-    let not_long : 67108864 < length text → ⊥ = λ long. let told = c.plain_match.ensures.long.1 long in cc in
-    let short : length text ≤ 67108864 = grind (arith, not_long) in
+    let not_long : most_text_bytes < length text → ⊥ = λ long. let told = c.plain_match.ensures.long.1 long in cc in
+    let short : length text ≤ most_text_bytes = grind (arith, not_long) in
     ∥∥₁_elim c.requires.well_formed (hlevel)
     (λ grammar.
-    start-within rules text c.args.start c.requires.start grammar c.args.grammar.now.light short
-    (c.plain_match.ensures.deep why))
+    start-within rules text c.args.start 18446744073709551615 c.requires.start grammar
+    (depth-enough rules text c.args.grammar.now.light short) (c.plain_match.ensures.deep why))

@@ -1,5 +1,5 @@
 use Rattle.std.proofs.Common.{◌≡◌, ◌+◌, ◌-◌, ◌^◌, ◌≤◌, drop, map, min}
-use Rattle.peg_grammar.specs.Form.{forms, forms_weight}
+use Rattle.peg_ford.specs.Form.{forms, forms_weight}
 use Rattle.peg_grammar.specs.Written.{form_of}
 use Rattle.peg_grammar.proofs.weights.+weight.Given as goal
 

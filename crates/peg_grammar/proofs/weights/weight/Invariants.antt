@@ -1,5 +1,5 @@
 use Rattle.std.proofs.Common.{◌≡◌, ◌+◌, ◌-◌, ◌^◌, ◌≤◌, drop, min}
-use Rattle.peg_grammar.specs.Rules.{weight_of}
+use Rattle.peg_ford.specs.Rules.{weight_of}
 use Rattle.peg_grammar.specs.Written.{rules_of}
 use Rattle.peg_grammar.proofs.weights.weight.Given as goal
 

@@ -1,10 +1,25 @@
-use Rattle.std.proofs.Common.{string_bytes}
-use Rattle.peg_tool.specs.Printed.{IsPrintedJoined}
-use Rattle.peg_tool.proofs.RunLemmas.{tells-in_part}
+use Rattle.peg_tool.specs.Replies.{IsPrintedJoined}
+use Rattle.peg_tool.proofs.EndLemmas.{input-prints, input-in_part, ends-read, ends-nothing}
 use Rattle.peg_tool.proofs.joined.run_joined.Goals as goal
 
-pub returns-in-Ok-clause-partly_written : goal.returns-in-Ok-clause-partly_written
-returns-in-Ok-clause-partly_written g c told =
-    tells-in_part IsPrintedJoined (g.G.Source.left c.args.input.now) (g.W.Sink.written c.args.output.now)
-    (g.W.Sink.written c.write.new.output) (string_bytes c.in-Ok.printed.line) c.in-Ok.printed.status
-    c.in-Ok.ensures.answer c.in-Err.ensures.cut
+pub returns-clause-answer : goal.returns-clause-answer
+returns-clause-answer g c =
+    input-prints IsPrintedJoined (g.G.Source.left c.args.input.now) (g.W.Sink.written c.args.output.now)
+    (g.W.Sink.written c.finish.new.output) c.line_of-told.result c.finish.result c.finish.ensures.ends
+    c.line_of-told.ensures.answer
+
+pub returns-clause-read_fault : goal.returns-clause-read_fault
+returns-clause-read_fault g c =
+    ends-read (g.W.Sink.written c.args.output.now) (g.W.Sink.written c.finish.new.output) c.line_of-told.result
+    c.finish.result _ c.finish.ensures.ends c.line_of-told.ensures.device
+
+pub returns-clause-nothing_written : goal.returns-clause-nothing_written
+returns-clause-nothing_written g c =
+    ends-nothing (g.W.Sink.written c.args.output.now) (g.W.Sink.written c.finish.new.output) c.line_of-told.result
+    c.finish.result c.finish.ensures.ends
+
+pub returns-clause-partly_written : goal.returns-clause-partly_written
+returns-clause-partly_written g c =
+    input-in_part IsPrintedJoined (g.G.Source.left c.args.input.now) (g.W.Sink.written c.args.output.now)
+    (g.W.Sink.written c.finish.new.output) c.line_of-told.result c.finish.result c.finish.ensures.ends
+    c.line_of-told.ensures.answer

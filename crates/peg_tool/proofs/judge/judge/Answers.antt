@@ -1,19 +1,13 @@
-use Rattle.std.proofs.Common.{subst, sym, ap, string_bytes}
-use Rattle.peg_tool.specs.Printed.{IsPrinted}
-use Rattle.peg_tool.specs.Task.{Task, task_of}
+use Rattle.std.proofs.Common.{length}
+use Rattle.peg_parser.specs.Refusals.{Refuses}
+use Rattle.peg_tool.proofs.JudgeLemmas.{told-tellable, judged-refused}
 use Rattle.peg_tool.proofs.judge.judge.Goals as goal
 
-pub returns-in-Table : goal.returns-in-Table
-returns-in-Table c text =
-    let told = c.in_ok-tabled-in-Table.field-0 in
-    subst (λ (task : Task). IsPrinted task c.args.file.now text (string_bytes told.line) told.status)
-    (sym (ap task_of c.in-Table.is)) (c.in_ok-tabled-in-Table.ensures c.args.file.now text c.in-Ok.ensures.read)
+pub refused_line-requires-clause-tellable : goal.refused_line-requires-clause-tellable
+refused_line-requires-clause-tellable c =
+    told-tellable (Refuses c.args.file.now) (length c.args.file.now) c.in-Err.refusal c.in-Err.ensures.refused
 
-pub returns-in-Check : goal.returns-in-Check
-returns-in-Check c text =
-    let told = c.in_ok-checked-in-Check.field-0 in
-    subst (λ (task : Task). IsPrinted task c.args.file.now text (string_bytes told.line) told.status)
-    (sym (ap task_of c.in-Check.is)) (c.in_ok-checked-in-Check.ensures text)
-
-pub returns : goal.returns
-returns c text = c.in_ok-refused-in-Err.ensures text (task_of c.args.command.now)
+pub returns-in_ok-refused_line-in-Err : goal.returns-in_ok-refused_line-in-Err
+returns-in_ok-refused_line-in-Err c =
+    judged-refused c.args.file.now (length c.args.file.now) c.in-Err.refusal c.in_ok-refused_line-in-Err.field-0
+    c.in-Err.ensures.refused c.in_ok-refused_line-in-Err.ensures

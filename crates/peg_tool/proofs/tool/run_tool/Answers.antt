@@ -1,11 +1,29 @@
-use Rattle.std.proofs.Common.{List, ℕ, string_bytes}
-use Rattle.peg_tool.specs.Printed.{IsPrinted}
-use Rattle.peg_tool.specs.Task.{task_of}
-use Rattle.peg_tool.proofs.RunLemmas.{tells-in_part}
+use Rattle.peg_tool.specs.Commands.{task_of}
+use Rattle.peg_tool.specs.Replies.{IsPrinted}
+use Rattle.peg_tool.specs.Task.{IsTextOf}
+use Rattle.peg_tool.proofs.EndLemmas.{file-prints, file-in_part, ends-read, ends-nothing}
 use Rattle.peg_tool.proofs.tool.run_tool.Goals as goal
 
-pub returns-in-Ok-clause-partly_written : goal.returns-in-Ok-clause-partly_written
-returns-in-Ok-clause-partly_written g c bytes of_text told =
-    tells-in_part (λ (file line : List ℕ) (status : ℕ). IsPrinted (task_of c.args.command.now) file bytes line status)
-    (g.G.Source.left c.args.grammar.now) (g.W.Sink.written c.args.output.now) (g.W.Sink.written c.write.new.output)
-    (string_bytes c.in-Ok.printed.line) c.in-Ok.printed.status (c.in-Ok.ensures.answer bytes of_text) c.in-Err.ensures.cut
+pub returns-clause-answer : goal.returns-clause-answer
+returns-clause-answer g c =
+    let task = task_of c.args.command.now in
+    file-prints (λ file bytes. IsTextOf task file (g.T.Source.left c.args.text.now) bytes) (IsPrinted task)
+    (g.G.Source.left c.args.grammar.now) (g.W.Sink.written c.args.output.now) (g.W.Sink.written c.finish.new.output)
+    c.line_of-told.result c.finish.result c.finish.ensures.ends c.line_of-told.ensures.answer
+
+pub returns-clause-read_fault : goal.returns-clause-read_fault
+returns-clause-read_fault g c =
+    ends-read (g.W.Sink.written c.args.output.now) (g.W.Sink.written c.finish.new.output) c.line_of-told.result
+    c.finish.result _ c.finish.ensures.ends c.line_of-told.ensures.device
+
+pub returns-clause-nothing_written : goal.returns-clause-nothing_written
+returns-clause-nothing_written g c =
+    ends-nothing (g.W.Sink.written c.args.output.now) (g.W.Sink.written c.finish.new.output) c.line_of-told.result
+    c.finish.result c.finish.ensures.ends
+
+pub returns-clause-partly_written : goal.returns-clause-partly_written
+returns-clause-partly_written g c =
+    let task = task_of c.args.command.now in
+    file-in_part (λ file bytes. IsTextOf task file (g.T.Source.left c.args.text.now) bytes) (IsPrinted task)
+    (g.G.Source.left c.args.grammar.now) (g.W.Sink.written c.args.output.now) (g.W.Sink.written c.finish.new.output)
+    c.line_of-told.result c.finish.result c.finish.ensures.ends c.line_of-told.ensures.answer

@@ -1,11 +1,11 @@
 use Rattle.std.proofs.Common.{◌≡◌, ◌-◌, arith, ap, refl, sym, ◌∙◌, drop, length, map}
 use Rattle.serde_json.specs.View.{view}
-use Rattle.peg_tree.specs.Built.{parts_of, parts_of_trees}
+use Rattle.peg_tree.specs.Built.{objects_of, objects_of_trees}
 use Rattle.peg_tree.specs.Json.{nested_data}
 use Rattle.peg_tree.specs.Rows.{row_of}
 use Rattle.peg_tree.specs.TreesOfRows.{trees_of}
 use Rattle.peg_tree.proofs.Forests.{IsForest-from_one_tree, drop_forest, size_counts}
-use Rattle.peg_tree.proofs.JsonNested.{parts_of-more, last_part}
+use Rattle.peg_tree.proofs.JsonNested.{objects_of-more, last_object}
 use Rattle.peg_tree.proofs.JsonRows.{rule_below}
 use Rattle.peg_tree.proofs.nested.nested.Goals as goal
 
@@ -27,7 +27,7 @@ loop-at-preserved g c =
     let forest = drop_forest rows (c.loop-at.at - 1) (IsForest-from_one_tree (map row_of rows) c.rows-rows.ensures.tree) in
     record {
       within = omega arith;
-      built = parts_of-more (g.N.Names.names c.args.names.now) rows (c.loop-at.at - 1) c.loop-at.at c.index-rows-at.result (omega arith) (omega arith) c.index-rows-at.is forest
+      built = objects_of-more (g.N.Names.names c.args.names.now) rows (c.loop-at.at - 1) c.loop-at.at c.index-rows-at.result (omega arith) (omega arith) c.index-rows-at.is forest
           c.loop-at.stack.items c.take_children.new.stack.items c.push.new.self.items (map view c.in_ok-children.children.items)
           (record { value = c.in_ok-value.value; size = c.index-rows-at.result.size })
           c.loop-at.invariant.built c.in_ok-children.ensures.taken c.in_ok-children.ensures.left c.in_ok-value.ensures refl c.in_ok-push.ensures.items;
@@ -38,7 +38,7 @@ returns g c =
     let rows = c.rows-rows.result.now in
     let names = g.N.Names.names c.args.names.now in
     let start : c.loop-at.at ≡ 0 = omega arith in
-    let whole : parts_of c.loop-at.stack.items ≡ parts_of_trees names (trees_of (map row_of rows)) =
-    c.loop-at.invariant.built ∙ ap (λ n. parts_of_trees names (trees_of (map row_of (drop n rows)))) start in
+    let whole : objects_of c.loop-at.stack.items ≡ objects_of_trees names (trees_of (map row_of rows)) =
+    c.loop-at.invariant.built ∙ ap (λ n. objects_of_trees names (trees_of (map row_of (drop n rows)))) start in
     ap (nested_data names) (sym c.rows-rows.ensures.same)
-    ∙ last_part names (map row_of rows) c.rows-rows.ensures.tree c.loop-at.stack.items c.pop.new.self.items c.in-Some.root whole c.in-Some.ensures.items
+    ∙ last_object names (map row_of rows) c.rows-rows.ensures.tree c.loop-at.stack.items c.pop.new.self.items c.in-Some.root whole c.in-Some.ensures.items

@@ -1,13 +1,13 @@
 use Rattle.std.proofs.Common.{◌≡◌, ◌++◌, length, map}
 use Rattle.serde_json.specs.View.{view}
-use Rattle.peg_tree.specs.Built.{parts_of, taken, left_after}
+use Rattle.peg_tree.specs.Built.{objects_of, taken, left_after}
 use Rattle.peg_tree.proofs.nested.take_children.Given as goal
 
 -- what is taken so far, and what is taken of the rest, is what is taken of all
 abbrev pub invariant-loop-built : goal.invariant-loop-built
 invariant-loop-built l = record {
-  all : map view l.children.items ++ taken l.left (parts_of l.stack.items) ≡ taken l.count (parts_of l.initial.stack.items);
-  rest : left_after l.left (parts_of l.stack.items) ≡ left_after l.count (parts_of l.initial.stack.items);
+  all : map view l.children.items ++ taken l.left (objects_of l.stack.items) ≡ taken l.count (objects_of l.initial.stack.items);
+  rest : left_after l.left (objects_of l.stack.items) ≡ left_after l.count (objects_of l.initial.stack.items);
 }
 
 abbrev pub decreases-loop-built : goal.decreases-loop-built

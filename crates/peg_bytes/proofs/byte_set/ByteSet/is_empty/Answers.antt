@@ -1,6 +1,6 @@
 use Rattle.std.proofs.Common.{◌<◌, ◌^◌, false, arith, refl, sym, ◌∙◌}
 use Rattle.std.proofs.lemmas.Bool.{eqb-true, eq-eqb}
-use Rattle.peg_bytes.specs.ByteSet.{all_flags}
+use Rattle.peg_bytes.specs.AllFlags.{all_flags}
 use Rattle.peg_bytes.proofs.ByteSetLemmas.{all_flags-none, flag_of-none, has-bytes_of, has-from_flags}
 use Rattle.peg_bytes.proofs.byte_set.ByteSet.is_empty.Goals as goal
 

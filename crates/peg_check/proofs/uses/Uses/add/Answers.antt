@@ -1,6 +1,6 @@
 use Rattle.std.proofs.Common.{◌≡◌, ◌+◌, ◌∷◌, [], ap, refl, length, get_or, arith, length-append}
 use Rattle.std.proofs.lemmas.Grind.{common_steps}
-use Rattle.peg_check.specs.declared.uses.Use.{Use}
+use Rattle.peg_check.specs.declared.uses.ChainEntry.{ChainEntry}
 use Rattle.peg_check.proofs.ChainLemmas.{user-added, users-kept}
 use Rattle.peg_check.proofs.uses.Uses.add.Goals as goal
 
@@ -8,7 +8,7 @@ pub returns-clause-kept : goal.returns-clause-kept
 returns-clause-kept c =
     let newest = c.args.self.now.newest.items in
     let entries = c.args.self.now.entries.items in
-    let entry : Use = record { user = c.args.user; older = c.index-older.result.now } in
+    let entry : ChainEntry = record { user = c.args.user; older = c.index-older.result.now } in
     let older : c.index-older.result.now ≡ get_or newest c.args.part 0 = grind (arith, common_steps) in
     let counted : c.len.result ≡ length entries + 1 = omega (arith, ap length c.in_ok-push.ensures.items, length-append entries (entry ∷ []), c.push.new.self.ok.0, c.len.ensures) in
     users-kept newest entries c.push.new.self.items c.args.part c.args.user c.len.result c.requires.fits entry refl older c.in_ok-push.ensures.items counted
@@ -17,7 +17,7 @@ pub returns-clause-added : goal.returns-clause-added
 returns-clause-added c =
     let newest = c.args.self.now.newest.items in
     let entries = c.args.self.now.entries.items in
-    let entry : Use = record { user = c.args.user; older = c.index-older.result.now } in
+    let entry : ChainEntry = record { user = c.args.user; older = c.index-older.result.now } in
     let older : c.index-older.result.now ≡ get_or newest c.args.part 0 = grind (arith, common_steps) in
     let counted : c.len.result ≡ length entries + 1 = omega (arith, ap length c.in_ok-push.ensures.items, length-append entries (entry ∷ []), c.push.new.self.ok.0, c.len.ensures) in
     user-added newest entries c.push.new.self.items c.args.part c.args.user c.len.result c.requires.fits entry refl older c.in_ok-push.ensures.items counted

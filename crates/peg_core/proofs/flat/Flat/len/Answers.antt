@@ -5,5 +5,5 @@ use Rattle.peg_core.proofs.flat.Flat.len.Goals as goal
 
 pub returns-clause-count : goal.returns-clause-count
 returns-clause-count c =
-    c.len.ensures ∙ (c.self.inside.parts.ok.0 ∙ (sym (length-forms_of c.self.inside.parts.items)
+    c.len.ensures ∙ (c.self.inside.nodes.ok.0 ∙ (sym (length-forms_of c.self.inside.nodes.items)
     ∙ ap (λ (l : Layout). length l.forms) c.self.view_is))

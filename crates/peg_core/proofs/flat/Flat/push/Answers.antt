@@ -2,18 +2,19 @@ use Rattle.std.proofs.Common.{◌≡◌, ◌+◌, ◌∷◌, [], length, map, sy
 use Rattle.std.proofs.lemmas.List.{length-map}
 use Rattle.peg_bytes.specs.Extent.{extent}
 use Rattle.peg_core.specs.Layout.{Layout}
-use Rattle.peg_core.specs.Nodes.{NodeFits, AllFit, forms_of}
-use Rattle.peg_core.specs.declared.node.Part.{Part}
+use Rattle.peg_core.specs.CoreNodes.{NodeFits}
+use Rattle.peg_core.specs.FlatForms.{AllFit, forms_of}
+use Rattle.peg_core.specs.declared.node.NodeAndOrigin.{NodeAndOrigin}
 use Rattle.peg_core.proofs.FlatLemmas.{length-forms_of, AllFit-push}
 use Rattle.peg_core.proofs.flat.Flat.push.Goals as goal
 
 pub invariant_of-self-2 : goal.invariant_of-self-2
 invariant_of-self-2 c =
     let inside = c.self.inside in
-    let items = inside.parts.items in
+    let items = inside.nodes.items in
     let spans = inside.spans.items in
     let n = c.args.node in
-    let part : Part = record { node = n; origin = c.args.origin } in
+    let part : NodeAndOrigin = record { node = n; origin = c.args.origin } in
     let many : length items ≡ length c.args.self.now.forms = sym (length-forms_of items) ∙ ap (λ (l : Layout). length l.forms) c.self.view_is in
     let seen : NodeFits (length (forms_of items)) inside.rules (length (map extent spans)) n = subst (λ (l : Layout). NodeFits (length l.forms) l.rules (length l.spans) n) (sym c.self.view_is) c.requires.fits in
     let counted : NodeFits (length (forms_of items)) inside.rules (length spans) n = subst (λ k. NodeFits (length (forms_of items)) inside.rules k n) (length-map spans extent) seen in
@@ -28,5 +29,5 @@ invariant_of-self-2 c =
 
 pub returns-clause-number : goal.returns-clause-number
 returns-clause-number c =
-    c.len-number.ensures ∙ (c.self.inside.parts.ok.0 ∙ (sym (length-forms_of c.self.inside.parts.items)
+    c.len-number.ensures ∙ (c.self.inside.nodes.ok.0 ∙ (sym (length-forms_of c.self.inside.nodes.items)
     ∙ ap (λ (l : Layout). length l.forms) c.self.view_is))

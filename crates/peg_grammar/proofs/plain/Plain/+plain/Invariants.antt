@@ -1,9 +1,9 @@
 use Rattle.std.proofs.Common.{◌≡◌, ◌+◌, ◌*◌, ◌≤◌, map, length, drop}
-use Rattle.peg_grammar.specs.Form.{forms, terminals_of_all}
+use Rattle.peg_ford.specs.Form.{forms, terminals_of_all}
 use Rattle.peg_grammar.specs.Found.{seen_in}
-use Rattle.peg_grammar.specs.Grammar.{most_parts}
+use Rattle.peg_ford.specs.Grammar.{most_parts}
 use Rattle.peg_grammar.specs.Plain.{text_of, taken_in}
-use Rattle.peg_grammar.specs.Record.{take_first}
+use Rattle.peg_ford.specs.Record.{take_first}
 use Rattle.peg_grammar.specs.Written.{form_of}
 use Rattle.peg_grammar.proofs.LoopLemmas.{ItemsSoFar, FailedSoFar}
 use Rattle.peg_grammar.proofs.plain.Plain.+plain.Given as goal

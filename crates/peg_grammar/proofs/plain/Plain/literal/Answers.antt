@@ -5,10 +5,10 @@ use Rattle.std.proofs.lemmas.Bool.Decides.{nat_tests}
 use Rattle.std.proofs.lemmas.List.{take_rest}
 use Rattle.peg_tree.specs.Rows.{row_of}
 use Rattle.peg_grammar.specs.Found.{seen_in}
-use Rattle.peg_grammar.specs.Furthest.{noted}
-use Rattle.peg_grammar.specs.Record.{Record, literal_at, matched_at, failed_at, test_of}
-use Rattle.peg_grammar.specs.Seen.{Seen, Tells}
-use Rattle.peg_grammar.specs.declared.found.Verdict.TheVariants.{Matched, Failed}
+use Rattle.peg_ford.specs.FurthestPass.{noted}
+use Rattle.peg_ford.specs.Record.{Record, literal_at, matched_at, failed_at, test_of}
+use Rattle.peg_grammar.specs.Seen.{Seen, Evaluates}
+use Rattle.peg_grammar.specs.declared.found.Verdict.TheVariants.{EndsAt, Fails}
 use Rattle.peg_grammar.proofs.SeenLemmas.{seen}
 use Rattle.peg_grammar.proofs.plain.Plain.literal.Goals as goal
 use Rattle.peg_grammar.proofs.plain.Plain.literal.Goals.{then-at-rest-via-then-at-rest, then-at-rest-via-else-at-rest+then-rest-at}
@@ -54,13 +54,13 @@ module _ (terminal place : ℕ) (bytes rest : List ℕ) (i : ℕ) where
       let end : length bytes ≤ i = omega arith in
       ap (λ l. literal_at terminal (place + i) l (drop i rest)) (drop_of_length-le bytes end) ∙ ap (λ n. matched_at (place + n)) e
 
-tells-failed : (r : Record) (old now : Seen) (terminal place : ℕ) → r ≡ failed_at terminal place
-    → now ≡ seen (noted old.furthest (test_of terminal place)) old.rows → Tells (Some r) old (Ok Failed) now
-tells-failed r old now terminal place e h =
+evaluates-failed : (r : Record) (old now : Seen) (terminal place : ℕ) → r ≡ failed_at terminal place
+    → now ≡ seen (noted old.furthest (test_of terminal place)) old.rows → Evaluates (Some r) old (Ok Fails) now
+evaluates-failed r old now terminal place e h =
     (failed_at terminal place, ap Some e, refl, h ∙ ap (seen (noted old.furthest (test_of terminal place))) (sym (append-nil old.rows)))
 
-tells-matched : (r : Record) (old now : Seen) (end : ℕ) → r ≡ matched_at end → now ≡ old → Tells (Some r) old (Ok (Matched end)) now
-tells-matched r old now end e h = (matched_at end, ap Some e, refl, h ∙ ap (seen old.furthest) (sym (append-nil old.rows)))
+evaluates-matched : (r : Record) (old now : Seen) (end : ℕ) → r ≡ matched_at end → now ≡ old → Evaluates (Some r) old (Ok (EndsAt end)) now
+evaluates-matched r old now end e h = (matched_at end, ap Some e, refl, h ∙ ap (seen old.furthest) (sym (append-nil old.rows)))
 
 -- the slice from a place on is the text from there on
 pub loop-at-init : goal.loop-at-init
@@ -72,8 +72,8 @@ loop-at-init c =
       same = λ j. literal_at c.args.terminal (sym (add-zero c.args.place) j) c.args.bytes.now (sym (take_rest text c.args.place) j);
     }
 
-pub returns-then-at-rest-clause-tells : goal.returns-then-at-rest-clause-tells
-returns-then-at-rest-clause-tells c =
+pub returns-then-at-rest-clause-evaluates : goal.returns-then-at-rest-clause-evaluates
+returns-then-at-rest-clause-evaluates c =
     let terminal = c.args.terminal in
     let place = c.args.place in
     let bytes = c.args.bytes.now in
@@ -84,7 +84,7 @@ returns-then-at-rest-clause-tells c =
     let stops : from terminal place bytes rest at at ≡ failed_at terminal (place + at) =
     elim c.then-at-rest.branch [ then-at-rest-via-then-at-rest w ↦ from-missing terminal place bytes rest at inside w.if-at-rest.true | then-at-rest-via-else-at-rest+then-rest-at w ↦ from-other terminal place bytes rest at inside w.if-at-rest.false w.if-rest-at.true ] in
     let after : Seen → Seen = λ s. seen (noted s.furthest (test_of terminal (place + at))) s.rows in
-    tells-failed (literal_at terminal place bytes (drop place text)) (seen_in c.args.found.now) _ terminal (place + at)
+    evaluates-failed (literal_at terminal place bytes (drop place text)) (seen_in c.args.found.now) _ terminal (place + at)
     (c.loop-at.invariant.same ∙ stops) ((λ j. seen (c.in_ok-note.ensures j) (map row_of c.loop-at.found.rows.items)) ∙ ap after c.loop-at.invariant.kept)
 
 pub loop-at-preserved : goal.loop-at-preserved
@@ -96,13 +96,13 @@ loop-at-preserved c =
     let step = from-next c.args.terminal place bytes rest c.loop-at.at c.loop-at-test.true c.if-at-rest.false c.if-rest-at.false in
     record { kept = c.loop-at.invariant.kept; within = omega arith; same = c.loop-at.invariant.same ∙ step }
 
-pub returns-clause-tells : goal.returns-clause-tells
-returns-clause-tells c =
+pub returns-clause-evaluates : goal.returns-clause-evaluates
+returns-clause-evaluates c =
     let terminal = c.args.terminal in
     let place = c.args.place in
     let bytes = c.args.bytes.now in
     let text = c.args.self.now.text.now in
     let rest = take (length text - place) (drop place text) in
     let ends = from-end terminal place bytes rest c.loop-at.at (omega arith) in
-    tells-matched (literal_at terminal place bytes (drop place text)) (seen_in c.args.found.now) _ (place + length bytes)
+    evaluates-matched (literal_at terminal place bytes (drop place text)) (seen_in c.args.found.now) _ (place + length bytes)
     (c.loop-at.invariant.same ∙ ends) c.loop-at.invariant.kept

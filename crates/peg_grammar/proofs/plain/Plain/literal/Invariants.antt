@@ -1,7 +1,7 @@
 use Rattle.std.proofs.Common.{◌≡◌, ◌+◌, ◌≤◌, length, drop}
 use Rattle.peg_grammar.specs.Found.{seen_in}
 use Rattle.peg_grammar.specs.Plain.{text_of}
-use Rattle.peg_grammar.specs.Record.{literal_at}
+use Rattle.peg_ford.specs.Record.{literal_at}
 use Rattle.peg_grammar.proofs.plain.Plain.literal.Given as goal
 
 -- the bytes so far are those of the text, and nothing has been noted

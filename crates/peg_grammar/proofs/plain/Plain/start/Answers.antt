@@ -1,11 +1,11 @@
 use Rattle.std.proofs.Common.{◌-◌, ap, ◌∙◌, sym, subst}
 use Rattle.peg_bytes.specs.Extent.{between}
-use Rattle.peg_grammar.specs.Form.{Name}
+use Rattle.peg_ford.specs.Form.{Name}
 use Rattle.peg_grammar.specs.Found.{seen_in}
 use Rattle.peg_grammar.specs.GrammarRules.{rules_in}
 use Rattle.peg_grammar.specs.Plain.{text_of, table_in}
-use Rattle.peg_grammar.specs.Rules.{name_of}
-use Rattle.peg_grammar.specs.Seen.{Tells}
+use Rattle.peg_ford.specs.Rules.{name_of}
+use Rattle.peg_grammar.specs.Seen.{Evaluates}
 use Rattle.peg_grammar.proofs.SeenLemmas.{record_in-positive, record_in-none}
 use Rattle.peg_grammar.proofs.plain.Plain.start.Goals as goal
 
@@ -16,4 +16,4 @@ returns-then-depth-eq0 c =
 pub returns : goal.returns
 returns c =
     let same = record_in-positive (rules_in c.args.self.now.grammar.now) (text_of c.args.self.now) c.args.depth (Name (name_of (rules_in c.args.self.now.grammar.now) c.args.rule) (between 0 0)) 0 0 c.if-depth-eq0.false ∙ ap (λ n. table_in c.args.self.now (c.args.depth - 1) (Name n (between 0 0)) 0 0) (sym c.rule_name.ensures) in
-    subst (λ o. Tells o (seen_in c.args.found.now) c.name.result (seen_in c.name.new.found)) (sym same) (c.name.ensures.tells (between 0 0) 0)
+    subst (λ o. Evaluates o (seen_in c.args.found.now) c.name.result (seen_in c.name.new.found)) (sym same) (c.name.ensures.evaluates (between 0 0) 0)

@@ -1,10 +1,10 @@
 use Rattle.std.proofs.Common.{rules, ◌≡◌, ◌+◌, ◌-◌, length, drop, Ok, Result, refl, sym, ap, ◌∙◌, subst, arith}
 use Rattle.std.proofs.lemmas.List.{length-map}
 use Rattle.peg_grammar.specs.Written.{form_of}
-use Rattle.peg_notation.specs.Reader.{Part, Parts, Halt, and_read, begins_prefix, starts_with_slash, closed, parenthesized, many, prefix, sequence, alternative, expression, sequence_part, choice_part}
-use Rattle.peg_notation.specs.ReaderCode.{lexemes, AreTexts, part_seen, parts_seen, inner_of, Tells, TellsFault}
+use Rattle.peg_notation.specs.Reader.{FormRead, FormsRead, Halt, and_read, begins_prefix, starts_with_slash, closed, parenthesized, many, prefix, sequence, alternative, expression, whole_sequence, whole_choice}
+use Rattle.peg_notation.specs.ReaderCode.{lexemes, AreTexts, form_seen, forms_seen, inner_of, Conveys, ConveysHalt}
 use Rattle.peg_notation.specs.ReaderFile.{file_of}
-use Rattle.peg_notation.specs.Tokens.{lexeme_of}
+use Rattle.peg_lexer.specs.Tokens.{lexeme_of}
 use Rattle.peg_notation.proofs.ManyLoops.{SoFar, so_far-one, so_far-all}
 use Rattle.peg_notation.proofs.ReaderSteps.{fault_passes, parenthesized-is, texts-behind, front_lies, prefix_order, primary_taken, items_order, choice_order, sequence_fault, expression_fault, sequence_read, expression_read}
 use Rattle.peg_notation.proofs.reader.Reader.+reader.Goals as goal
@@ -28,10 +28,10 @@ parenthesized-returns-in_err-inside-clause-read t c =
     let file = file_of c.args.self.now in
     let rest = lexemes c.args.rest.now in
     let is = parenthesized-is file c.args.left c.if-left-eq0.false (length file) (lexeme_of c.args.opening) rest in
-    let told : TellsFault (parenthesized (inner_of file c.args.left) (length file) (lexeme_of c.args.opening) rest) c.in_err-inside.field-0.0 =
-    subst (λ (x : Result Part Halt). TellsFault x c.in_err-inside.field-0.0) (sym is)
+    let told : ConveysHalt (parenthesized (inner_of file c.args.left) (length file) (lexeme_of c.args.opening) rest) c.in_err-inside.field-0.0 =
+    subst (λ (x : Result FormRead Halt). ConveysHalt x c.in_err-inside.field-0.0) (sym is)
     (fault_passes (expression file (inner_of file (c.args.left - 1)) c.args.opening.span.end rest)
-    (λ (inside : Part). closed (length file) inside (drop inside.taken rest)) c.in_err-inside.field-0.0 c.in_err-inside.ensures.read) in
+    (λ (inside : FormRead). closed (length file) inside (drop inside.taken rest)) c.in_err-inside.field-0.0 c.in_err-inside.ensures.read) in
     search (rules, told)
 
 pub parenthesized-returns-clause-read : goal.parenthesized-returns-clause-read
@@ -39,34 +39,34 @@ parenthesized-returns-clause-read t c =
     let file = file_of c.args.self.now in
     let rest = lexemes c.args.rest.now in
     let is = parenthesized-is file c.args.left c.if-left-eq0.false (length file) (lexeme_of c.args.opening) rest in
-    let read = ap (λ (x : Result Part Halt). and_read x (λ (inside : Part). closed (length file) inside (drop inside.taken rest)))
+    let read = ap (λ (x : Result FormRead Halt). and_read x (λ (inside : FormRead). closed (length file) inside (drop inside.taken rest)))
     c.in_ok-inside.ensures.read in
-    subst (λ (x : Result Part Halt). Tells part_seen x c.closed.result)
-    (ap (closed (length file) (part_seen c.in_ok-inside.inside)) c.behind.ensures.tokens ∙ sym (is ∙ read)) c.closed.ensures.read
+    subst (λ (x : Result FormRead Halt). Conveys form_seen x c.closed.result)
+    (ap (closed (length file) (form_seen c.in_ok-inside.inside)) c.behind.ensures.tokens ∙ sym (is ∙ read)) c.closed.ensures.read
 
 -- ---- Suffix and Prefix
 
 pub suffix-then_suffix-requires-clause-order : goal.suffix-then_suffix-requires-clause-order
 suffix-then_suffix-requires-clause-order t c =
     let file = file_of c.args.self.now in
-    let e = primary_taken file c.args.left (lexemes c.args.tokens.now) c.requires.texts (part_seen c.in_ok-part.part) c.in_ok-part.ensures.read in
+    let e = primary_taken file c.args.left (lexemes c.args.tokens.now) c.requires.texts (form_seen c.in_ok-part.part) c.in_ok-part.ensures.read in
     omega (arith, e.order, c.place_of-start.ensures)
 
 pub suffix-then_suffix-requires-clause-texts : goal.suffix-then_suffix-requires-clause-texts
 suffix-then_suffix-requires-clause-texts t c =
     let file = file_of c.args.self.now in
-    let e = primary_taken file c.args.left (lexemes c.args.tokens.now) c.requires.texts (part_seen c.in_ok-part.part) c.in_ok-part.ensures.read in
+    let e = primary_taken file c.args.left (lexemes c.args.tokens.now) c.requires.texts (form_seen c.in_ok-part.part) c.in_ok-part.ensures.read in
     subst (AreTexts file c.in_ok-part.part.last) (sym c.behind.ensures.tokens) e.behind
 
 pub prefix-and-requires-clause-order : goal.prefix-and-requires-clause-order
 prefix-and-requires-clause-order t c =
     prefix_order (file_of c.args.self.now) c.args.left c.args.tokens.now c.sign-item.result c.in-len1-up.len_at_least c.sign-item.is
-    c.requires.texts (part_seen c.in_ok-part-in-len1-up.part) c.in_ok-part-in-len1-up.ensures.read
+    c.requires.texts (form_seen c.in_ok-part-in-len1-up.part) c.in_ok-part-in-len1-up.ensures.read
 
 pub prefix-not-requires-clause-order : goal.prefix-not-requires-clause-order
 prefix-not-requires-clause-order t c =
     prefix_order (file_of c.args.self.now) c.args.left c.args.tokens.now c.sign-item-2.result c.in-len1-up.len_at_least c.sign-item-2.is
-    c.requires.texts (part_seen c.in_ok-part-in-len1-up-2.part) c.in_ok-part-in-len1-up-2.ensures.read
+    c.requires.texts (form_seen c.in_ok-part-in-len1-up-2.part) c.in_ok-part-in-len1-up-2.ensures.read
 
 -- ---- Sequence
 
@@ -83,9 +83,9 @@ sequence-returns-in_err-item-clause-read t c =
     let inner = inner_of file c.args.left in
     let ls = lexemes c.args.tokens.now in
     let begun = ap begins_prefix (sym c.behind.ensures.tokens) ∙ (sym c.begins_prefix.ensures ∙ c.items-test.true) in
-    let told : TellsFault (sequence file inner c.args.before ls) c.in_err-item.field-0.0 =
-    sequence_fault file inner c.args.before ls (parts_seen c.items.items) c.in_err-item.field-0.0 c.items.invariant.so_far begun
-    (subst (λ l. TellsFault (prefix file inner l) c.in_err-item.field-0.0) c.behind-in-items.ensures.tokens c.in_err-item.ensures.read) in
+    let told : ConveysHalt (sequence file inner c.args.before ls) c.in_err-item.field-0.0 =
+    sequence_fault file inner c.args.before ls (forms_seen c.items.items) c.in_err-item.field-0.0 c.items.invariant.so_far begun
+    (subst (λ l. ConveysHalt (prefix file inner l) c.in_err-item.field-0.0) c.behind-in-items.ensures.tokens c.in_err-item.ensures.read) in
     search (rules, told)
 
 pub sequence-items-preserved : goal.sequence-items-preserved
@@ -93,16 +93,16 @@ sequence-items-preserved t c =
     let file = file_of c.args.self.now in
     let inner = inner_of file c.args.left in
     let ls = lexemes c.args.tokens.now in
-    let part = part_seen c.in_ok-item.item in
+    let part = form_seen c.in_ok-item.item in
     let begun = ap begins_prefix (sym c.behind.ensures.tokens) ∙ (sym c.begins_prefix.ensures ∙ c.items-test.true) in
     let read = ap (prefix file inner) (sym c.behind-in-items.ensures.tokens) ∙ c.in_ok-item.ensures.read in
-    let next = so_far-one begins_prefix (λ b. prefix file inner) c.args.before ls (parts_seen c.items.items) part
+    let next = so_far-one begins_prefix (λ b. prefix file inner) c.args.before ls (forms_seen c.items.items) part
     c.items.invariant.so_far refl begun read c.in_ok-item.ensures.some in
-    let taken : c.add.new.self.taken ≡ c.items.items.taken + c.in_ok-item.item.taken = ap (λ (p : Parts). p.taken) c.in_ok-add.ensures in
+    let taken : c.add.new.self.taken ≡ c.items.items.taken + c.in_ok-item.item.taken = ap (λ (p : FormsRead). p.taken) c.in_ok-add.ensures in
     record {
-      so_far = subst (λ (p : Parts). SoFar begins_prefix (λ b. prefix file inner) c.args.before ls p) (sym c.in_ok-add.ensures) next;
+      so_far = subst (λ (p : FormsRead). SoFar begins_prefix (λ b. prefix file inner) c.args.before ls p) (sym c.in_ok-add.ensures) next;
       fits = omega (arith, taken, c.in_ok-item.ensures.fits, c.behind-in-items.ensures.len, c.items.invariant.fits);
-      shallow = omega (arith, ap (λ (p : Parts). p.depth) c.in_ok-add.ensures, c.in_ok-item.ensures.shallow, c.items.invariant.shallow);
+      shallow = omega (arith, ap (λ (p : FormsRead). p.depth) c.in_ok-add.ensures, c.in_ok-item.ensures.shallow, c.items.invariant.shallow);
     }
 
 pub sequence-into_sequence-requires : goal.sequence-into_sequence-requires
@@ -111,8 +111,8 @@ sequence-into_sequence-requires t c long =
     let inner = inner_of file c.args.left in
     let ls = lexemes c.args.tokens.now in
     let ended = ap begins_prefix (sym c.behind.ensures.tokens) ∙ (sym c.begins_prefix.ensures ∙ c.items-test.false) in
-    let all = so_far-all begins_prefix (λ b. prefix file inner) c.args.before ls (parts_seen c.items.items) c.items.invariant.so_far ended in
-    let order = items_order file c.args.left c.args.before ls c.requires.texts (parts_seen c.items.items) all
+    let all = so_far-all begins_prefix (λ b. prefix file inner) c.args.before ls (forms_seen c.items.items) c.items.invariant.so_far ended in
+    let order = items_order file c.args.left c.args.before ls c.requires.texts (forms_seen c.items.items) all
     (omega (arith, long, length-map c.items.items.expressions.items form_of)) in
     omega (arith, order, c.place_of.ensures)
 
@@ -122,9 +122,9 @@ sequence-returns-clause-read t c =
     let inner = inner_of file c.args.left in
     let ls = lexemes c.args.tokens.now in
     let ended = ap begins_prefix (sym c.behind.ensures.tokens) ∙ (sym c.begins_prefix.ensures ∙ c.items-test.false) in
-    let all = so_far-all begins_prefix (λ b. prefix file inner) c.args.before ls (parts_seen c.items.items) c.items.invariant.so_far ended in
-    sequence_read file inner c.args.before ls (parts_seen c.items.items) all
-    ∙ ap (λ (p : Part). Ok p) (ap (λ start. sequence_part c.args.before start (parts_seen c.items.items)) (sym c.place_of.ensures)
+    let all = so_far-all begins_prefix (λ b. prefix file inner) c.args.before ls (forms_seen c.items.items) c.items.invariant.so_far ended in
+    sequence_read file inner c.args.before ls (forms_seen c.items.items) all
+    ∙ ap (λ (p : FormRead). Ok p) (ap (λ start. whole_sequence c.args.before start (forms_seen c.items.items)) (sym c.place_of.ensures)
     ∙ sym c.into_sequence.ensures)
 
 -- ---- Expression
@@ -145,16 +145,16 @@ expression-returns-in_err-alternative-clause-read t c =
     let file = file_of c.args.self.now in
     let inner = inner_of file c.args.left in
     let ls = lexemes c.args.tokens.now in
-    let first = part_seen c.in_ok-first.first in
-    let more = parts_seen c.alternatives.more in
+    let first = form_seen c.in_ok-first.first in
+    let more = forms_seen c.alternatives.more in
     let fault = c.in_err-alternative.field-0.0 in
     let rest = c.behind-rest.ensures.tokens in
     let begun = ap (λ l. starts_with_slash (drop more.taken l)) (sym rest) ∙ (ap starts_with_slash (sym c.behind.ensures.tokens)
     ∙ (sym c.starts_with_slash.ensures ∙ c.alternatives-test.true)) in
-    let told : TellsFault (expression file inner c.args.before ls) fault =
+    let told : ConveysHalt (expression file inner c.args.before ls) fault =
     expression_fault file inner c.args.before ls first more fault c.in_ok-first.ensures.read
     (subst (λ l. SoFar starts_with_slash (alternative file inner) first.last l more) rest c.alternatives.invariant.so_far) begun
-    (subst (λ l. TellsFault (alternative file inner more.last l) fault)
+    (subst (λ l. ConveysHalt (alternative file inner more.last l) fault)
     (c.behind-in-alternatives.ensures.tokens ∙ ap (drop more.taken) rest) (c.in_err-alternative.ensures.read more.last)) in
     search (rules, told)
 
@@ -164,17 +164,17 @@ expression-alternatives-preserved t c =
     let inner = inner_of file c.args.left in
     let rest = lexemes c.behind-rest.result.now in
     let last = c.in_ok-first.first.last in
-    let more = parts_seen c.alternatives.more in
-    let part = part_seen c.in_ok-alternative.alternative in
+    let more = forms_seen c.alternatives.more in
+    let part = form_seen c.in_ok-alternative.alternative in
     let begun = ap starts_with_slash (sym c.behind.ensures.tokens) ∙ (sym c.starts_with_slash.ensures ∙ c.alternatives-test.true) in
     let read = ap (alternative file inner more.last) (sym c.behind-in-alternatives.ensures.tokens) ∙ c.in_ok-alternative.ensures.read more.last in
     let next = so_far-one starts_with_slash (alternative file inner) last rest more part
     c.alternatives.invariant.so_far refl begun read c.in_ok-alternative.ensures.some in
-    let taken : c.add.new.self.taken ≡ more.taken + part.taken = ap (λ (p : Parts). p.taken) c.in_ok-add.ensures in
+    let taken : c.add.new.self.taken ≡ more.taken + part.taken = ap (λ (p : FormsRead). p.taken) c.in_ok-add.ensures in
     record {
-      so_far = subst (λ (p : Parts). SoFar starts_with_slash (alternative file inner) last rest p) (sym c.in_ok-add.ensures) next;
+      so_far = subst (λ (p : FormsRead). SoFar starts_with_slash (alternative file inner) last rest p) (sym c.in_ok-add.ensures) next;
       fits = omega (arith, taken, c.in_ok-alternative.ensures.fits, c.behind-in-alternatives.ensures.len, c.alternatives.invariant.fits);
-      shallow = omega (arith, ap (λ (p : Parts). p.depth) c.in_ok-add.ensures, c.in_ok-alternative.ensures.shallow, c.alternatives.invariant.shallow);
+      shallow = omega (arith, ap (λ (p : FormsRead). p.depth) c.in_ok-add.ensures, c.in_ok-alternative.ensures.shallow, c.alternatives.invariant.shallow);
     }
 
 pub expression-into_choice-requires-clause-order : goal.expression-into_choice-requires-clause-order
@@ -182,8 +182,8 @@ expression-into_choice-requires-clause-order t c long =
     let file = file_of c.args.self.now in
     let inner = inner_of file c.args.left in
     let ls = lexemes c.args.tokens.now in
-    let first = part_seen c.in_ok-first.first in
-    let more = parts_seen c.alternatives.more in
+    let first = form_seen c.in_ok-first.first in
+    let more = forms_seen c.alternatives.more in
     let rest = c.behind-rest.ensures.tokens in
     let ended = ap starts_with_slash (sym c.behind.ensures.tokens) ∙ (sym c.starts_with_slash.ensures ∙ c.alternatives-test.false) in
     let all = ap (λ l. many starts_with_slash (alternative file inner) first.last l) (sym rest)
@@ -197,11 +197,11 @@ expression-returns-clause-read t c =
     let file = file_of c.args.self.now in
     let inner = inner_of file c.args.left in
     let ls = lexemes c.args.tokens.now in
-    let first = part_seen c.in_ok-first.first in
-    let more = parts_seen c.alternatives.more in
+    let first = form_seen c.in_ok-first.first in
+    let more = forms_seen c.alternatives.more in
     let rest = c.behind-rest.ensures.tokens in
     let ended = ap starts_with_slash (sym c.behind.ensures.tokens) ∙ (sym c.starts_with_slash.ensures ∙ c.alternatives-test.false) in
     let all = ap (λ l. many starts_with_slash (alternative file inner) first.last l) (sym rest)
     ∙ so_far-all starts_with_slash (alternative file inner) first.last (lexemes c.behind-rest.result.now) more c.alternatives.invariant.so_far ended in
     expression_read file inner c.args.before ls first more c.in_ok-first.ensures.read all
-    ∙ ap (λ (p : Part). Ok p) (ap (λ start. choice_part start first more) (sym c.place_of.ensures) ∙ sym c.in_ok-into_choice.ensures)
+    ∙ ap (λ (p : FormRead). Ok p) (ap (λ start. whole_choice start first more) (sym c.place_of.ensures) ∙ sym c.in_ok-into_choice.ensures)

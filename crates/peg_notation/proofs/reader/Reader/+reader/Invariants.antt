@@ -1,6 +1,6 @@
 use Rattle.std.proofs.Common.{◌+◌, ◌-◌, ◌*◌, ◌≤◌, length}
 use Rattle.peg_notation.specs.Reader.{begins_prefix, starts_with_slash, prefix, alternative}
-use Rattle.peg_notation.specs.ReaderCode.{lexemes, inner_of, parts_seen}
+use Rattle.peg_notation.specs.ReaderCode.{lexemes, inner_of, forms_seen}
 use Rattle.peg_notation.specs.ReaderFile.{file_of}
 use Rattle.peg_notation.proofs.ManyLoops.{SoFar}
 use Rattle.peg_notation.proofs.reader.Reader.+reader.Given as goal
@@ -32,7 +32,7 @@ invariant-expression-alternatives l =
     let inner = inner_of (file_of l.self) l.left in
     record {
       so_far : SoFar starts_with_slash (alternative (file_of l.self) inner) l.first.last
-          (lexemes l.rest) (parts_seen l.more);
+          (lexemes l.rest) (forms_seen l.more);
       fits : l.more.taken ≤ length l.rest;
       shallow : l.more.depth ≤ l.left;
     }
@@ -42,7 +42,7 @@ abbrev pub invariant-sequence-items : goal.invariant-sequence-items
 invariant-sequence-items l =
     let inner = inner_of (file_of l.self) l.left in
     record {
-      so_far : SoFar begins_prefix (λ b. prefix (file_of l.self) inner) l.before (lexemes l.tokens) (parts_seen l.items);
+      so_far : SoFar begins_prefix (λ b. prefix (file_of l.self) inner) l.before (lexemes l.tokens) (forms_seen l.items);
       fits : l.items.taken ≤ length l.tokens;
       shallow : l.items.depth ≤ l.left;
     }

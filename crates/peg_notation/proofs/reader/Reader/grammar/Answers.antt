@@ -4,10 +4,10 @@ use Rattle.std.proofs.lemmas.Bool.Decides.{nat_tests}
 use Rattle.std.proofs.lemmas.List.{length-map, map_push}
 use Rattle.peg_grammar.specs.Written.{rule_of, rules_of}
 use Rattle.peg_notation.specs.Reader.{definition, grammar}
-use Rattle.peg_notation.specs.ReaderCode.{lexemes, AreTexts, rule_seen, TellsFault}
+use Rattle.peg_notation.specs.ReaderCode.{lexemes, AreTexts, rule_seen, ConveysHalt}
 use Rattle.peg_notation.specs.ReaderFile.{file_of}
 use Rattle.peg_notation.specs.Reads.{most_open}
-use Rattle.peg_notation.specs.Tokens.{lexeme_of}
+use Rattle.peg_lexer.specs.Tokens.{lexeme_of}
 use Rattle.peg_notation.proofs.ManyLoops.{RulesSoFar, rules-one, rules-all, rules-halt}
 use Rattle.peg_notation.proofs.ReaderSteps.{texts-behind, fault_same, grammar-is}
 use Rattle.peg_notation.proofs.reader.Reader.grammar.Goals as goal
@@ -28,11 +28,11 @@ returns-in_err-rule c =
     let left : 0 < length (drop c.rules.taken ls) = omega (arith, size, length-drop c.rules.taken ls, c.rules-test.true) in
     let some : 0 < length ls = omega (arith, size, c.rules-test.true) in
     let fault = c.in_err-rule.field-0.0 in
-    let told : TellsFault (grammar file most_open ls) fault =
+    let told : ConveysHalt (grammar file most_open ls) fault =
     fault_same (definition file most_open (drop c.rules.taken ls)) (grammar file most_open ls) fault
     (λ halt same. grammar-is file most_open ls some
     ∙ rules-halt file most_open ls c.rules.taken (rules_of c.rules.definitions.items) c.rules.depth halt c.rules.invariant.so_far left same)
-    (subst (λ l. TellsFault (definition file most_open l) fault) c.behind.ensures.tokens c.in_err-rule.ensures.read) in
+    (subst (λ l. ConveysHalt (definition file most_open l) fault) c.behind.ensures.tokens c.in_err-rule.ensures.read) in
     search (rules, told)
 
 pub rules-preserved : goal.rules-preserved

@@ -1,5 +1,5 @@
 use Rattle.peg_notation.specs.ReaderFile.{file_of}
-use Rattle.peg_notation.specs.Tokens.{lexeme_of}
+use Rattle.peg_lexer.specs.Tokens.{lexeme_of}
 use Rattle.peg_notation.proofs.TokenTexts.{name-here}
 use Rattle.peg_notation.proofs.reader.Reader.name.Goals as goal
 

@@ -1,0 +1,69 @@
+#!/usr/bin/env bash
+# Runs `rt ci` and prints, crate by crate, how many seconds its proof, its tests' proof and its must-fail edits took, by
+# the clock and of the processors. It looks at the provers that run once a second: what takes less isn't seen.
+set -u
+cd "$(dirname "$0")/.." || exit 1
+exec python3 - "$PWD" << 'PYTHON'
+import os
+import subprocess
+import sys
+import time
+
+TICKS = os.sysconf("SC_CLK_TCK")
+root = sys.argv[1]
+
+
+def provers():
+    """The provers that run: the process, the crate, what is proved, and the seconds of processor time so far."""
+    for pid in filter(str.isdigit, os.listdir("/proc")):
+        try:
+            with open(f"/proc/{pid}/cmdline", "rb") as file:
+                words = file.read().decode(errors="replace").split("\0")
+            if not words[0].endswith("/rattle") or "--crate-name" not in words:
+                continue
+            folder = os.readlink(f"/proc/{pid}/cwd")
+            with open(f"/proc/{pid}/stat", encoding="utf-8") as file:
+                fields = file.read().rpartition(")")[2].split()
+        except OSError:
+            continue
+        crate = words[words.index("--crate-name") + 1]
+        if not folder.startswith(f"{root}/"):
+            kind = "edits"
+        elif "--test" in words or "--tests" in words or any(word.endswith("_tests.o") for word in words):
+            kind = "tests"
+        else:
+            kind = "proof"
+        yield pid, crate, kind, (int(fields[11]) + int(fields[12])) / TICKS
+
+
+def main():
+    clock, used = {}, {}
+    began = time.time()
+    gate = subprocess.Popen(["rt", "ci"], stdout=subprocess.PIPE, stderr=subprocess.STDOUT, text=True)
+    os.set_blocking(gate.stdout.fileno(), False)
+    last = ""
+    while gate.poll() is None:
+        seen = set()
+        for pid, crate, kind, seconds in provers():
+            seen.add((crate, kind))
+            used[pid, crate, kind] = seconds
+        for key in seen:
+            clock[key] = clock.get(key, 0) + 1
+        last = (gate.stdout.read() or "").strip() or last
+        time.sleep(1)
+    last = (gate.stdout.read() or "").strip() or last
+    spent = {}
+    for (_, crate, kind), seconds in used.items():
+        spent[crate, kind] = spent.get((crate, kind), 0) + seconds
+    kinds = ["proof", "tests", "edits"]
+    print("| Crate | Proof | Tests | Edits |\n|---|---|---|---|")
+    for crate in sorted({crate for crate, _ in spent}):
+        cells = [f"{clock.get((crate, kind), 0)} ({spent.get((crate, kind), 0):.0f})" for kind in kinds]
+        print(f"| {crate} | {' | '.join(cells)} |")
+    print(f"{time.time() - began:.0f} seconds by the clock, {sum(spent.values()):.0f} of the processors")
+    print(last.split("\n")[-1])
+    return gate.returncode
+
+
+sys.exit(main())
+PYTHON

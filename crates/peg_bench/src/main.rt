@@ -1,0 +1,28 @@
+//! Runs what the scripts in bench/ time: the first word names it, and the second says on what. With no first word that
+//! it knows, it prints which there are.
+#![tactic(auto)]
+
+mod cycles;
+mod files;
+mod grammars;
+mod rules;
+mod tables;
+mod trees;
+
+use std::{env, io};
+
+fn main(rt: HostRuntime) -> io::Result<()> {
+    let alloc = rt.alloc();
+    let bench = env::args(&rt)?.nth(1);
+    let bench = bench.as_ref().map_or("", |w| w.as_str());
+    let word = env::args(&rt)?.nth(2);
+    let word = word.as_ref().map_or("", |w| w.as_str());
+    match bench {
+        "grammar" => grammars::run(&rt, alloc, word),
+        "tree" => trees::run(&rt, alloc, word),
+        "notation" => files::run(&rt, alloc, word),
+        "check" => cycles::run(&rt, alloc, word),
+        "table" => tables::run(&rt, alloc, word),
+        _ => println!(rt; "words: grammar, tree, notation, check or table, and on what"),
+    }
+}

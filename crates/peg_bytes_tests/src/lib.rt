@@ -1,0 +1,9 @@
+//! Tests of spans, of places by line and column, and of sets of bytes.
+#![tactic(auto)]
+
+#[cfg(test)]
+mod byte_set;
+#[cfg(test)]
+mod line_column;
+#[cfg(test)]
+mod span;

@@ -1,0 +1,84 @@
+-- What a fault that is true of core forms tells of them, and of the grammar that they come of.
+use Rattle.std.proofs.Common.{◌↔◌, ℕ, List, All, Result, Ok, Err, IfErr, IsErrAnd, IsErrOf, IsOk, OnOk, refl, sym, subst}
+use Rattle.peg_bytes.specs.Extent.{Extent, extent}
+use Rattle.peg_core.specs.CoreForm.{CoreForm, core_bodies}
+use Rattle.peg_core.specs.CoreLoops.{IsCoreEmptyLoop, IsCoreLeftCycle}
+use Rattle.peg_core.specs.CoreOutcomes.{IsCoreWellFormed}
+use Rattle.peg_core.specs.CoreParts.{AreCoreFormsOf}
+use Rattle.peg_core.specs.Layout.{Desugared, bodies_of}
+use Rattle.peg_core.proofs.PartsLemmas.{grammar-right, grammar-fine}
+use Rattle.peg_core.proofs.SugarLoops.{IsEmptyLoop-to_core, IsEmptyLoop-from_core}
+use Rattle.peg_core.proofs.SugarMeets.{IsLeftCycle-from_core}
+use Rattle.peg_ford.specs.Loops.{IsEmptyLoop}
+use Rattle.peg_ford.specs.Rules.{Rule}
+use Rattle.peg_ford.specs.WellFormed.{IsWellFormedGrammar}
+use Rattle.peg_check.specs.Verdicts.{AreWellFormed, HasEmptyLoop, HasNoEmptyLoop, IsFaultOf, IsIllFormedBy}
+use Rattle.peg_check.specs.Verdicts.{TellsEmptyLoop, TellsLeftCycle}
+use Rattle.peg_check.specs.declared.fault.CheckFault.{CheckFault}
+use Rattle.peg_check.specs.declared.fault.CheckFault.TheVariants.{EmptyLoop, LeftRecursion, Memory}
+
+-- ---- each answer but want of memory comes where it is the right one
+
+module _ {A : Type 0} (core : Desugared) where
+  pub empty_loop-where : (answer : Result A CheckFault) → OnOk answer (HasNoEmptyLoop core)
+      → IfErr answer (IsFaultOf core) → (IsErrOf answer Memory → ⊥)
+      → (IsErrAnd answer TellsEmptyLoop ↔ HasEmptyLoop core)
+  empty_loop-where (Ok checked) none fault some = (λ tells. absurd tells, λ has. absurd (none has.0 has.1 has.2))
+  empty_loop-where (Err (EmptyLoop rule span)) none fault some =
+      (λ tells. (rule, extent span, fault.0), λ has. tt)
+  empty_loop-where (Err (LeftRecursion path)) none fault some =
+      (λ tells. absurd tells, λ has. absurd (fault.0 has.0 has.1 has.2))
+  empty_loop-where (Err Memory) none fault some = absurd (some refl)
+
+  pub left_cycle-where : (answer : Result A CheckFault) → OnOk answer (AreWellFormed core)
+      → IfErr answer (IsFaultOf core) → (IsErrOf answer Memory → ⊥)
+      → (IsErrAnd answer TellsLeftCycle ↔ (HasNoEmptyLoop core × (AreWellFormed core → ⊥)))
+  left_cycle-where (Ok checked) all fault some = (λ tells. absurd tells, λ none. absurd (none.1 all))
+  left_cycle-where (Err (EmptyLoop rule span)) all fault some =
+      (λ tells. absurd tells, λ none. absurd (none.0 rule (extent span) fault.0))
+  left_cycle-where (Err (LeftRecursion path)) all fault some = (λ tells. (fault.0, fault.2), λ none. tt)
+  left_cycle-where (Err Memory) all fault some = absurd (some refl)
+
+  pub accepted-where : (answer : Result A CheckFault) → OnOk answer (AreWellFormed core)
+      → IfErr answer (IsFaultOf core) → (IsErrOf answer Memory → ⊥) → (IsOk answer ↔ AreWellFormed core)
+  accepted-where (Ok checked) all fault some = (λ ok. all, λ fine. refl)
+  accepted-where (Err (EmptyLoop rule span)) all fault some = (λ ok. cc, λ fine. absurd (fault.1 fine))
+  accepted-where (Err (LeftRecursion path)) all fault some = (λ ok. cc, λ fine. absurd (fault.2 fine))
+  accepted-where (Err Memory) all fault some = absurd (some refl)
+
+-- ---- the grammar
+
+module _ (rules : List Rule) (core : Desugared) (are : AreCoreFormsOf rules core) where
+  pub grammar-from_core : AreWellFormed core → IsWellFormedGrammar rules
+  grammar-from_core all =
+      grammar-fine rules
+      (subst (λ (forms : List CoreForm). All (IsCoreWellFormed (core_bodies rules)) forms) are.forms
+      (subst (λ (bodies : List CoreForm). All (IsCoreWellFormed bodies) core.forms) are.bodies all))
+
+  core-from_grammar : IsWellFormedGrammar rules → AreWellFormed core
+  core-from_grammar all =
+      subst (λ (bodies : List CoreForm). All (IsCoreWellFormed bodies) core.forms) (sym are.bodies)
+      (subst (λ (forms : List CoreForm). All (IsCoreWellFormed (core_bodies rules)) forms) (sym are.forms)
+      (grammar-right rules all))
+
+  loop-from_core : (rule : ℕ) (span : Extent) → IsCoreEmptyLoop (bodies_of core) rule span → IsEmptyLoop rules rule span
+  loop-from_core rule span loop =
+      IsEmptyLoop-from_core rules span rule
+      (subst (λ (bodies : List CoreForm). IsCoreEmptyLoop bodies rule span) are.bodies loop)
+
+  loop-to_core : (rule : ℕ) (span : Extent) → IsEmptyLoop rules rule span → IsCoreEmptyLoop (bodies_of core) rule span
+  loop-to_core rule span loop =
+      subst (λ (bodies : List CoreForm). IsCoreEmptyLoop bodies rule span) (sym are.bodies)
+      (IsEmptyLoop-to_core rules span rule loop)
+
+  pub ill_formed-from_core : (why : CheckFault) → IsFaultOf core why → IsIllFormedBy rules why
+  ill_formed-from_core (EmptyLoop rule span) fault =
+      (λ all. fault.1 (core-from_grammar all), loop-from_core rule (extent span) fault.0)
+  ill_formed-from_core (LeftRecursion path) fault = (
+    λ all. fault.2 (core-from_grammar all),
+    λ rule span loop. fault.0 rule span (loop-to_core rule span loop),
+    IsLeftCycle-from_core rules path.items
+        (subst (λ (bodies : List CoreForm). IsCoreLeftCycle bodies path.items) are.bodies fault.1),
+    fault.3,
+  )
+  ill_formed-from_core Memory fault = tt

@@ -1,0 +1,3 @@
+mod ClassSets
+pub mod FigureNames
+mod FigureWellFormed

@@ -1,0 +1,13 @@
+-- Describes code: the figure's rules in the three parts that the code puts together.
+use Rattle.std.specs.Prelude.{List, take, drop}
+use Rattle.peg_ford.specs.Rules.{Rule}
+use Rattle.peg_figure.specs.Figure.{figure}
+
+abbrev pub first_ten : List Rule
+first_ten = take 10 figure
+
+abbrev pub next_ten : List Rule
+next_ten = take 10 (drop 10 figure)
+
+abbrev pub last_nine : List Rule
+last_nine = drop 20 figure

@@ -1,0 +1,15 @@
+-- How deep the parentheses of a tree of the figure nest.
+use Rattle.std.specs.Prelude.{ℕ, ◌+◌, Bool, false, max, if◌then◌else◌, ◌==◌, ◌&&◌, ◌||◌}
+use Rattle.peg_tree.specs.Trees.{Trees, NoTrees, Tree}
+use Rattle.peg_figure.specs.FigureRules as figure
+
+-- whether one of the trees is of OPEN
+abbrev pub has_open : Trees → Bool
+has_open NoTrees = false
+has_open (Tree rule start end children rest) = rule == figure.open_sign || has_open rest
+
+-- the greatest number of Primary nodes with an OPEN child on one path of the trees
+abbrev pub nesting : Trees → ℕ
+nesting NoTrees = 0
+nesting (Tree rule start end children rest) =
+    max ((if rule == figure.primary && has_open children then 1 else 0) + nesting children) (nesting rest)

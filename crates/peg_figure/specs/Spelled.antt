@@ -1,0 +1,170 @@
+-- What a tree of the figure spells: bytes, ranges, names, expressions and rules, with their places in the file (the
+-- meaning that Ford 2004, section 2.1 gives to the notation).
+use Rattle.std.specs.Prelude.{ℕ, ◌+◌, ◌-◌, ◌*◌, Bool, List, [], ◌∷◌, ◌++◌, fold, take, drop, if◌then◌else◌, ◌==◌}
+use Rattle.std.specs.Prelude.{◌&&◌, nat_le, slice_get, unwrap_or}
+use Rattle.peg_bytes.specs.Extent.{Extent, between}
+use Rattle.peg_tree.specs.Trees.{Trees, NoTrees, Tree}
+use Rattle.peg_ford.specs.Form.{Form, Literal, Class, Any, Name, Seq, Choice, Optional, Star, Plus, And, Not, End}
+use Rattle.peg_ford.specs.Form.{forms}
+use Rattle.peg_ford.specs.Rules.{Rule}
+use Rattle.peg_figure.specs.FigureRules as figure
+use Rattle.peg_figure.specs.Ranges.{Range, range, class_of}
+
+-- a piece of what a tree spells
+pub data Spelling : Type 0 where
+  Byte : (byte : ℕ) → Spelling
+  Bytes : (bytes : Range) → Spelling
+  Word : (name : List ℕ) → (span : Extent) → Spelling
+  Sign : (form : Form → Extent → Form) → Spelling
+  Expression : (form : Form) → Spelling
+  Definition : (rule : Rule) → Spelling
+
+-- ---- bytes
+
+abbrev pub is_octal : ℕ → Bool
+is_octal byte = nat_le 48 byte && nat_le byte 55
+
+-- the number that octal digits spell
+abbrev pub octal : List ℕ → ℕ
+octal digits = fold (λ n digit. n * 8 + (digit - 48)) 0 digits
+
+-- `\n`, `\r` and `\t` spell 10, 13 and 9; any other sign behind a backslash spells itself
+abbrev pub escaped : ℕ → ℕ
+escaped sign = if sign == 110 then 10 else (if sign == 114 then 13 else (if sign == 116 then 9 else sign))
+
+-- the byte that the text of a Char spells: a byte alone spells itself, and behind a backslash stands a sign or octal
+-- digits; no Char has no text
+abbrev pub byte_spelled : List ℕ → ℕ
+byte_spelled [] = 0
+byte_spelled (byte ∷ []) = byte
+byte_spelled (backslash ∷ sign ∷ digits) = if is_octal sign then octal (sign ∷ digits) else escaped sign
+
+-- ---- the pieces of one kind, in order
+
+abbrev pub bytes_in : List Spelling → List ℕ
+bytes_in [] = []
+bytes_in (Byte byte ∷ pieces) = byte ∷ bytes_in pieces
+bytes_in (_ ∷ pieces) = bytes_in pieces
+
+abbrev pub ranges_in : List Spelling → List Range
+ranges_in [] = []
+ranges_in (Bytes bytes ∷ pieces) = bytes ∷ ranges_in pieces
+ranges_in (_ ∷ pieces) = ranges_in pieces
+
+abbrev pub expressions_in : List Spelling → List Form
+expressions_in [] = []
+expressions_in (Expression form ∷ pieces) = form ∷ expressions_in pieces
+expressions_in (_ ∷ pieces) = expressions_in pieces
+
+abbrev pub rules_in : List Spelling → List Rule
+rules_in [] = []
+rules_in (Definition rule ∷ pieces) = rule ∷ rules_in pieces
+rules_in (_ ∷ pieces) = rules_in pieces
+
+-- ---- what each rule's node makes of what its children spell
+--
+-- Each node of the figure's trees has children of the forms that are told here. The equations for other lists of pieces
+-- only make the functions total.
+
+-- one piece
+abbrev pub alone : Spelling → List Spelling
+alone piece = piece ∷ []
+
+-- a Range: two bytes spell the range from one to the other, a byte alone spells itself; no Range has none or three
+abbrev pub range_spelled : List ℕ → Range
+range_spelled [] = range 1 0
+range_spelled (byte ∷ []) = range byte byte
+range_spelled (low ∷ high ∷ _) = range low high
+
+-- a Primary: a name alone is the use of a rule; parentheses, literals, classes and dots are what their parts spell
+abbrev pub primary_spelled : List Spelling → List Spelling
+primary_spelled (Word name span ∷ []) = Expression (Name name span) ∷ []
+primary_spelled pieces = pieces
+
+-- a Suffix or a Prefix: an expression with the sign behind or before it, if there is one; without one it is itself
+abbrev pub signed : Extent → List Spelling → List Spelling
+signed span (Expression form ∷ Sign sign ∷ []) = Expression (sign form span) ∷ []
+signed span (Sign sign ∷ Expression form ∷ []) = Expression (sign form span) ∷ []
+signed span pieces = pieces
+
+-- a Sequence: none or several expressions are a sequence; none stand where the token before them ends
+abbrev pub sequence_spelled : (before : ℕ) → Extent → List Form → Form
+sequence_spelled before span [] = Seq End (between before before)
+sequence_spelled before span (form ∷ []) = form
+sequence_spelled before span (first ∷ second ∷ more) = Seq (forms (first ∷ second ∷ more)) span
+
+-- an Expression: several sequences are a choice, one is itself; no Expression has none
+abbrev pub choice_spelled : Extent → List Form → Form
+choice_spelled span [] = Seq End span
+choice_spelled span (form ∷ []) = form
+choice_spelled span (first ∷ second ∷ more) = Choice first (forms (second ∷ more)) span
+
+-- a Definition: a name and its expression; no Definition has anything else
+abbrev pub definition_spelled : List Spelling → List Spelling
+definition_spelled (Word name span ∷ Expression form ∷ []) = Definition
+    (record { name = name; span = span; body = form }) ∷ []
+definition_spelled pieces = pieces
+
+-- ---- trees
+
+-- Where the text before a place ends, without its spacing: each token ends with a Spacing, so it ends where the last
+-- Spacing of the trees starts; without one, where the token before them ends.
+abbrev pub text_end : (before : ℕ) → Trees → ℕ
+text_end before NoTrees = before
+text_end before (Tree rule start end children rest) =
+    text_end (if rule == figure.spacing then start else text_end before children) rest
+
+-- a part of the file
+abbrev pub part : List ℕ → (start end : ℕ) → List ℕ
+part file start end = take (end - start) (drop start file)
+
+-- What a node of each rule spells, rule by rule in the figure's order: given where the token before the node ends,
+-- where the node starts and ends, where its text ends without spacing, and what its children spell.
+abbrev pub node_spellings : List ℕ → (before start end last : ℕ) → List Spelling → List (List Spelling)
+node_spellings file before start end last inner =
+    inner  -- Grammar
+    ∷ definition_spelled inner  -- Definition
+    ∷ alone (Expression (choice_spelled (between start last) (expressions_in inner)))  -- Expression
+    ∷ alone (Expression (sequence_spelled before (between start last) (expressions_in inner)))  -- Sequence
+    ∷ signed (between start last) inner  -- Prefix
+    ∷ signed (between start last) inner  -- Suffix
+    ∷ primary_spelled inner  -- Primary
+    ∷ alone (Word (part file start last) (between start last))  -- Identifier
+    ∷ inner  -- IdentStart
+    ∷ inner  -- IdentCont
+    ∷ alone (Expression (Literal (bytes_in inner) (between start last)))  -- Literal
+    ∷ alone (Expression (Class (class_of (ranges_in inner)) (between start last)))  -- Class
+    ∷ alone (Bytes (range_spelled (bytes_in inner)))  -- Range
+    ∷ alone (Byte (byte_spelled (part file start end)))  -- Char
+    ∷ inner  -- LEFTARROW
+    ∷ inner  -- SLASH
+    ∷ alone (Sign And)  -- AND
+    ∷ alone (Sign Not)  -- NOT
+    ∷ alone (Sign Optional)  -- QUESTION
+    ∷ alone (Sign Star)  -- STAR
+    ∷ alone (Sign Plus)  -- PLUS
+    ∷ inner  -- OPEN
+    ∷ inner  -- CLOSE
+    ∷ alone (Expression (Any (between start last)))  -- DOT
+    ∷ inner  -- Spacing
+    ∷ inner  -- Comment
+    ∷ inner  -- Space
+    ∷ inner  -- EndOfLine
+    ∷ inner  -- EndOfFile
+    ∷ []
+
+-- what a node of the rule of this number spells; there is no rule but those of the figure
+abbrev pub node_spelled : List ℕ → (rule before start end last : ℕ) → List Spelling → List Spelling
+node_spelled file rule before start end last inner =
+    unwrap_or (slice_get (node_spellings file before start end last inner) rule) inner
+
+-- what trees spell, where the token before them ends at a place
+abbrev pub spelled : List ℕ → (before : ℕ) → Trees → List Spelling
+spelled file before NoTrees = []
+spelled file before (Tree rule start end children rest) =
+    node_spelled file rule before start end (text_end before children) (spelled file before children)
+    ++ spelled file (text_end before (Tree rule start end children NoTrees)) rest
+
+-- the definitions that a tree of Grammar spells
+abbrev pub rules_spelled : List ℕ → Trees → List Rule
+rules_spelled file trees = rules_in (spelled file 0 trees)

@@ -1,0 +1,564 @@
+//! Ford's figure 1 as definitions, rule by rule.
+ghost use Rattle.std.specs.Prelude.{◌≡◌, IfOk};
+ghost use Rattle.peg_grammar.specs.Written.{form_of, rules_of};
+ghost use Rattle.peg_figure.specs.Figure.{figure};
+ghost use Rattle.peg_figure.specs.Figure.{primary_name, primary_parentheses, literal_single, literal_double};
+ghost use Rattle.peg_figure.specs.Figure.{char_sign, char_three_digits, char_two_digits, char_alone};
+ghost use Rattle.peg_figure.specs.FigureParts.{first_ten, next_ten, last_nine};
+ghost use Rattle.peg_figure.specs.Figure.{grammar_body, definition_body, expression_body, sequence_body, prefix_body};
+ghost use Rattle.peg_figure.specs.Figure.{suffix_body, primary_body, identifier_body, ident_start_body};
+ghost use Rattle.peg_figure.specs.Figure.{ident_cont_body};
+ghost use Rattle.peg_figure.specs.Figure.{literal_body, class_body, range_body, char_body};
+ghost use Rattle.peg_figure.specs.Figure.{spacing_body};
+ghost use Rattle.peg_figure.specs.Figure.{comment_body, space_body, end_of_line_body, end_of_file_body};
+
+use crate::builders::{
+    any, choice, class, definition, literal, name, not, optional, plus, seq, sign, star,
+};
+use crate::ranges::range;
+use peg_grammar::{Definition, Expr};
+use std::alloc::{AllocError, Global};
+
+/// The definitions of Ford's figure 1 (Ford 2004, section 2.1), with the places that they have in `figure_text`.
+#[tactic(auto, unfolding(crate::specs::Figure::figure))]
+pub fn figure(alloc: Global) -> Result<Vec<Definition>, AllocError>
+    ensures { IfOk result (λ definitions. rules_of definitions.items ≡ figure) }
+{
+    let mut rules = first_ten(alloc)?;
+    rules.append(&mut next_ten(alloc)?)?;
+    rules.append(&mut last_nine(alloc)?)?;
+    Ok(rules)
+}
+
+// The figure's first ten rules: grammars, expressions and names.
+#[tactic(auto, unfolding(crate::specs::Figure::figure))]
+fn first_ten(alloc: Global) -> Result<Vec<Definition>, AllocError>
+    ensures { IfOk result (λ definitions. rules_of definitions.items ≡ first_ten) }
+{
+    Ok(vec![in alloc;
+        definition(alloc, "Grammar", 0, 7, grammar_body(alloc)?)?,
+        definition(alloc, "Definition", 41, 51, definition_body(alloc)?)?,
+        definition(alloc, "Expression", 87, 97, expression_body(alloc)?)?,
+        definition(alloc, "Sequence", 128, 136, sequence_body(alloc)?)?,
+        definition(alloc, "Prefix", 148, 154, prefix_body(alloc)?)?,
+        definition(alloc, "Suffix", 178, 184, suffix_body(alloc)?)?,
+        definition(alloc, "Primary", 222, 229, primary_body(alloc)?)?,
+        definition(alloc, "Identifier", 303, 313, identifier_body(alloc)?)?,
+        definition(alloc, "IdentStart", 347, 357, ident_start_body(alloc)?)?,
+        definition(alloc, "IdentCont", 371, 380, ident_cont_body(alloc)?)?,
+    ]?)
+}
+
+// Its next ten: literals, classes and signs.
+#[tactic(auto, unfolding(crate::specs::Figure::figure))]
+fn next_ten(alloc: Global) -> Result<Vec<Definition>, AllocError>
+    ensures { IfOk result (λ definitions. rules_of definitions.items ≡ next_ten) }
+{
+    Ok(vec![in alloc;
+        definition(alloc, "Literal", 403, 410, literal_body(alloc)?)?,
+        definition(alloc, "Class", 474, 479, class_body(alloc)?)?,
+        definition(alloc, "Range", 513, 518, range_body(alloc)?)?,
+        definition(alloc, "Char", 543, 547, char_body(alloc)?)?,
+        definition(alloc, "LEFTARROW", 622, 631, sign(alloc, b"<-", 635, 639)?)?,
+        definition(alloc, "SLASH", 648, 653, sign(alloc, b"/", 657, 660)?)?,
+        definition(alloc, "AND", 669, 672, sign(alloc, b"&", 676, 679)?)?,
+        definition(alloc, "NOT", 688, 691, sign(alloc, b"!", 695, 698)?)?,
+        definition(alloc, "QUESTION", 707, 715, sign(alloc, b"?", 719, 722)?)?,
+        definition(alloc, "STAR", 731, 735, sign(alloc, b"*", 739, 742)?)?,
+    ]?)
+}
+
+// Its last nine: signs and spacing.
+#[tactic(auto, unfolding(crate::specs::Figure::figure))]
+fn last_nine(alloc: Global) -> Result<Vec<Definition>, AllocError>
+    ensures { IfOk result (λ definitions. rules_of definitions.items ≡ last_nine) }
+{
+    Ok(vec![in alloc;
+        definition(alloc, "PLUS", 751, 755, sign(alloc, b"+", 759, 762)?)?,
+        definition(alloc, "OPEN", 771, 775, sign(alloc, b"(", 779, 782)?)?,
+        definition(alloc, "CLOSE", 791, 796, sign(alloc, b")", 800, 803)?)?,
+        definition(alloc, "DOT", 812, 815, sign(alloc, b".", 819, 822)?)?,
+        definition(alloc, "Spacing", 831, 838, spacing_body(alloc)?)?,
+        definition(alloc, "Comment", 861, 868, comment_body(alloc)?)?,
+        definition(alloc, "Space", 902, 907, space_body(alloc)?)?,
+        definition(alloc, "EndOfLine", 934, 943, end_of_line_body(alloc)?)?,
+        definition(alloc, "EndOfFile", 968, 977, end_of_file_body(alloc)?)?,
+    ]?)
+}
+
+// Grammar <- Spacing Definition+ EndOfFile
+#[tactic(auto, unfolding(crate::specs::Figure::grammar_body))]
+fn grammar_body(alloc: Global) -> Result<Expr, AllocError>
+    ensures { IfOk result (λ body. form_of body ≡ grammar_body) }
+{
+    Ok(seq(
+        vec![in alloc;
+            name(alloc, "Spacing", 11, 18)?,
+            plus(alloc, name(alloc, "Definition", 19, 29)?, 19, 30)?,
+            name(alloc, "EndOfFile", 31, 40)?,
+        ]?,
+        11,
+        40,
+    ))
+}
+
+// Definition <- Identifier LEFTARROW Expression
+#[tactic(auto, unfolding(crate::specs::Figure::definition_body))]
+fn definition_body(alloc: Global) -> Result<Expr, AllocError>
+    ensures { IfOk result (λ body. form_of body ≡ definition_body) }
+{
+    Ok(seq(
+        vec![in alloc;
+            name(alloc, "Identifier", 55, 65)?,
+            name(alloc, "LEFTARROW", 66, 75)?,
+            name(alloc, "Expression", 76, 86)?,
+        ]?,
+        55,
+        86,
+    ))
+}
+
+// Expression <- Sequence (SLASH Sequence)*
+#[tactic(auto, unfolding(crate::specs::Figure::expression_body))]
+fn expression_body(alloc: Global) -> Result<Expr, AllocError>
+    ensures { IfOk result (λ body. form_of body ≡ expression_body) }
+{
+    let slash_sequence = seq(
+        vec![in alloc;
+            name(alloc, "SLASH", 111, 116)?,
+            name(alloc, "Sequence", 117, 125)?,
+        ]?,
+        111,
+        125,
+    );
+    let more = star(alloc, slash_sequence, 110, 127)?;
+    Ok(seq(
+        vec![in alloc; name(alloc, "Sequence", 101, 109)?, more]?,
+        101,
+        127,
+    ))
+}
+
+// Sequence <- Prefix*
+#[tactic(auto, unfolding(crate::specs::Figure::sequence_body))]
+fn sequence_body(alloc: Global) -> Result<Expr, AllocError>
+    ensures { IfOk result (λ body. form_of body ≡ sequence_body) }
+{
+    star(alloc, name(alloc, "Prefix", 140, 146)?, 140, 147)
+}
+
+// Prefix <- (AND / NOT)? Suffix
+#[tactic(auto, unfolding(crate::specs::Figure::prefix_body))]
+fn prefix_body(alloc: Global) -> Result<Expr, AllocError>
+    ensures { IfOk result (λ body. form_of body ≡ prefix_body) }
+{
+    let sign = choice(
+        alloc,
+        name(alloc, "AND", 159, 162)?,
+        vec![in alloc; name(alloc, "NOT", 165, 168)?]?,
+        159,
+        168,
+    )?;
+    let maybe_sign = optional(alloc, sign, 158, 170)?;
+    Ok(seq(
+        vec![in alloc; maybe_sign, name(alloc, "Suffix", 171, 177)?]?,
+        158,
+        177,
+    ))
+}
+
+// Suffix <- Primary (QUESTION / STAR / PLUS)?
+#[tactic(auto, unfolding(crate::specs::Figure::suffix_body))]
+fn suffix_body(alloc: Global) -> Result<Expr, AllocError>
+    ensures { IfOk result (λ body. form_of body ≡ suffix_body) }
+{
+    let sign = choice(
+        alloc,
+        name(alloc, "QUESTION", 197, 205)?,
+        vec![in alloc;
+            name(alloc, "STAR", 208, 212)?,
+            name(alloc, "PLUS", 215, 219)?,
+        ]?,
+        197,
+        219,
+    )?;
+    let maybe_sign = optional(alloc, sign, 196, 221)?;
+    Ok(seq(
+        vec![in alloc; name(alloc, "Primary", 188, 195)?, maybe_sign]?,
+        188,
+        221,
+    ))
+}
+
+// Primary <- Identifier !LEFTARROW / OPEN Expression CLOSE / Literal / Class / DOT
+#[tactic(auto, unfolding(crate::specs::Figure::primary_body))]
+fn primary_body(alloc: Global) -> Result<Expr, AllocError>
+    ensures { IfOk result (λ body. form_of body ≡ primary_body) }
+{
+    choice(
+        alloc,
+        primary_name(alloc)?,
+        vec![in alloc;
+            primary_parentheses(alloc)?,
+            name(alloc, "Literal", 281, 288)?,
+            name(alloc, "Class", 291, 296)?,
+            name(alloc, "DOT", 299, 302)?,
+        ]?,
+        233,
+        302,
+    )
+}
+
+// Identifier !LEFTARROW
+fn primary_name(alloc: Global) -> Result<Expr, AllocError>
+    ensures { IfOk result (λ part. form_of part ≡ primary_name) }
+{
+    Ok(seq(
+        vec![in alloc;
+            name(alloc, "Identifier", 233, 243)?,
+            not(alloc, name(alloc, "LEFTARROW", 245, 254)?, 244, 254)?,
+        ]?,
+        233,
+        254,
+    ))
+}
+
+// OPEN Expression CLOSE
+fn primary_parentheses(alloc: Global) -> Result<Expr, AllocError>
+    ensures { IfOk result (λ part. form_of part ≡ primary_parentheses) }
+{
+    Ok(seq(
+        vec![in alloc;
+            name(alloc, "OPEN", 257, 261)?,
+            name(alloc, "Expression", 262, 272)?,
+            name(alloc, "CLOSE", 273, 278)?,
+        ]?,
+        257,
+        278,
+    ))
+}
+
+// Identifier <- IdentStart IdentCont* Spacing
+#[tactic(auto, unfolding(crate::specs::Figure::identifier_body))]
+fn identifier_body(alloc: Global) -> Result<Expr, AllocError>
+    ensures { IfOk result (λ body. form_of body ≡ identifier_body) }
+{
+    Ok(seq(
+        vec![in alloc;
+            name(alloc, "IdentStart", 317, 327)?,
+            star(alloc, name(alloc, "IdentCont", 328, 337)?, 328, 338)?,
+            name(alloc, "Spacing", 339, 346)?,
+        ]?,
+        317,
+        346,
+    ))
+}
+
+// IdentStart <- [a-zA-Z_]
+#[tactic(auto, unfolding(crate::specs::Figure::ident_start_body))]
+fn ident_start_body(alloc: Global) -> Result<Expr, AllocError>
+    ensures { IfOk result (λ body. form_of body ≡ ident_start_body) }
+{
+    Ok(class(
+        &[range(b'a', b'z'), range(b'A', b'Z'), range(b'_', b'_')],
+        361,
+        370,
+    ))
+}
+
+// IdentCont <- IdentStart / [0-9]
+#[tactic(auto, unfolding(crate::specs::Figure::ident_cont_body))]
+fn ident_cont_body(alloc: Global) -> Result<Expr, AllocError>
+    ensures { IfOk result (λ body. form_of body ≡ ident_cont_body) }
+{
+    choice(
+        alloc,
+        name(alloc, "IdentStart", 384, 394)?,
+        vec![in alloc; class(&[range(b'0', b'9')], 397, 402)]?,
+        384,
+        402,
+    )
+}
+
+// Literal <- ['] (!['] Char)* ['] Spacing / ["] (!["] Char)* ["] Spacing
+#[tactic(auto, unfolding(crate::specs::Figure::literal_body))]
+fn literal_body(alloc: Global) -> Result<Expr, AllocError>
+    ensures { IfOk result (λ body. form_of body ≡ literal_body) }
+{
+    choice(
+        alloc,
+        literal_single(alloc)?,
+        vec![in alloc; literal_double(alloc)?]?,
+        414,
+        473,
+    )
+}
+
+// ['] (!['] Char)* ['] Spacing
+fn literal_single(alloc: Global) -> Result<Expr, AllocError>
+    ensures { IfOk result (λ part. form_of part ≡ literal_single) }
+{
+    let one_char = seq(
+        vec![in alloc;
+            not(alloc, class(&[range(b'\'', b'\'')], 420, 423), 419, 423)?,
+            name(alloc, "Char", 424, 428)?,
+        ]?,
+        419,
+        428,
+    );
+    let chars = star(alloc, one_char, 418, 430)?;
+    Ok(seq(
+        vec![in alloc;
+            class(&[range(b'\'', b'\'')], 414, 417),
+            chars,
+            class(&[range(b'\'', b'\'')], 431, 434),
+            name(alloc, "Spacing", 435, 442)?,
+        ]?,
+        414,
+        442,
+    ))
+}
+
+// ["] (!["] Char)* ["] Spacing
+fn literal_double(alloc: Global) -> Result<Expr, AllocError>
+    ensures { IfOk result (λ part. form_of part ≡ literal_double) }
+{
+    let one_char = seq(
+        vec![in alloc;
+            not(alloc, class(&[range(b'"', b'"')], 451, 454), 450, 454)?,
+            name(alloc, "Char", 455, 459)?,
+        ]?,
+        450,
+        459,
+    );
+    let chars = star(alloc, one_char, 449, 461)?;
+    Ok(seq(
+        vec![in alloc;
+            class(&[range(b'"', b'"')], 445, 448),
+            chars,
+            class(&[range(b'"', b'"')], 462, 465),
+            name(alloc, "Spacing", 466, 473)?,
+        ]?,
+        445,
+        473,
+    ))
+}
+
+// Class <- '[' (!']' Range)* ']' Spacing
+#[tactic(auto, unfolding(crate::specs::Figure::class_body))]
+fn class_body(alloc: Global) -> Result<Expr, AllocError>
+    ensures { IfOk result (λ body. form_of body ≡ class_body) }
+{
+    let one_range = seq(
+        vec![in alloc;
+            not(alloc, literal(alloc, b"]", 489, 492)?, 488, 492)?,
+            name(alloc, "Range", 493, 498)?,
+        ]?,
+        488,
+        498,
+    );
+    let ranges = star(alloc, one_range, 487, 500)?;
+    Ok(seq(
+        vec![in alloc;
+            literal(alloc, b"[", 483, 486)?,
+            ranges,
+            literal(alloc, b"]", 501, 504)?,
+            name(alloc, "Spacing", 505, 512)?,
+        ]?,
+        483,
+        512,
+    ))
+}
+
+// Range <- Char '-' Char / Char
+#[tactic(auto, unfolding(crate::specs::Figure::range_body))]
+fn range_body(alloc: Global) -> Result<Expr, AllocError>
+    ensures { IfOk result (λ body. form_of body ≡ range_body) }
+{
+    let from_to = seq(
+        vec![in alloc;
+            name(alloc, "Char", 522, 526)?,
+            literal(alloc, b"-", 527, 530)?,
+            name(alloc, "Char", 531, 535)?,
+        ]?,
+        522,
+        535,
+    );
+    choice(
+        alloc,
+        from_to,
+        vec![in alloc; name(alloc, "Char", 538, 542)?]?,
+        522,
+        542,
+    )
+}
+
+// Char <- '\\' [nrt'"\[\]\\] / '\\' [0-2][0-7][0-7] / '\\' [0-7][0-7]? / !'\\' .
+#[tactic(auto, unfolding(crate::specs::Figure::char_body))]
+fn char_body(alloc: Global) -> Result<Expr, AllocError>
+    ensures { IfOk result (λ body. form_of body ≡ char_body) }
+{
+    choice(
+        alloc,
+        char_sign(alloc)?,
+        vec![in alloc;
+            char_three_digits(alloc)?,
+            char_two_digits(alloc)?,
+            char_alone(alloc)?,
+        ]?,
+        551,
+        621,
+    )
+}
+
+// '\\' [nrt'"\[\]\\]
+fn char_sign(alloc: Global) -> Result<Expr, AllocError>
+    ensures { IfOk result (λ part. form_of part ≡ char_sign) }
+{
+    let signs = class(
+        &[
+            range(b'n', b'n'),
+            range(b'r', b'r'),
+            range(b't', b't'),
+            range(b'\'', b'\''),
+            range(b'"', b'"'),
+            range(b'[', b'['),
+            range(b']', b']'),
+            range(b'\\', b'\\'),
+        ],
+        556,
+        569,
+    );
+    Ok(seq(
+        vec![in alloc; literal(alloc, b"\\", 551, 555)?, signs]?,
+        551,
+        569,
+    ))
+}
+
+// '\\' [0-2][0-7][0-7]
+fn char_three_digits(alloc: Global) -> Result<Expr, AllocError>
+    ensures { IfOk result (λ part. form_of part ≡ char_three_digits) }
+{
+    Ok(seq(
+        vec![in alloc;
+            literal(alloc, b"\\", 572, 576)?,
+            class(&[range(b'0', b'2')], 577, 582),
+            class(&[range(b'0', b'7')], 582, 587),
+            class(&[range(b'0', b'7')], 587, 592),
+        ]?,
+        572,
+        592,
+    ))
+}
+
+// '\\' [0-7][0-7]?
+fn char_two_digits(alloc: Global) -> Result<Expr, AllocError>
+    ensures { IfOk result (λ part. form_of part ≡ char_two_digits) }
+{
+    Ok(seq(
+        vec![in alloc;
+            literal(alloc, b"\\", 595, 599)?,
+            class(&[range(b'0', b'7')], 600, 605),
+            optional(alloc, class(&[range(b'0', b'7')], 605, 610), 605, 611)?,
+        ]?,
+        595,
+        611,
+    ))
+}
+
+// !'\\' .
+fn char_alone(alloc: Global) -> Result<Expr, AllocError>
+    ensures { IfOk result (λ part. form_of part ≡ char_alone) }
+{
+    Ok(seq(
+        vec![in alloc;
+            not(alloc, literal(alloc, b"\\", 615, 619)?, 614, 619)?,
+            any(620, 621),
+        ]?,
+        614,
+        621,
+    ))
+}
+
+// Spacing <- (Space / Comment)*
+#[tactic(auto, unfolding(crate::specs::Figure::spacing_body))]
+fn spacing_body(alloc: Global) -> Result<Expr, AllocError>
+    ensures { IfOk result (λ body. form_of body ≡ spacing_body) }
+{
+    let blank = choice(
+        alloc,
+        name(alloc, "Space", 843, 848)?,
+        vec![in alloc; name(alloc, "Comment", 851, 858)?]?,
+        843,
+        858,
+    )?;
+    star(alloc, blank, 842, 860)
+}
+
+// Comment <- '#' (!EndOfLine .)* EndOfLine
+#[tactic(auto, unfolding(crate::specs::Figure::comment_body))]
+fn comment_body(alloc: Global) -> Result<Expr, AllocError>
+    ensures { IfOk result (λ body. form_of body ≡ comment_body) }
+{
+    let text_byte = seq(
+        vec![in alloc;
+            not(alloc, name(alloc, "EndOfLine", 878, 887)?, 877, 887)?,
+            any(888, 889),
+        ]?,
+        877,
+        889,
+    );
+    let text = star(alloc, text_byte, 876, 891)?;
+    Ok(seq(
+        vec![in alloc;
+            literal(alloc, b"#", 872, 875)?,
+            text,
+            name(alloc, "EndOfLine", 892, 901)?,
+        ]?,
+        872,
+        901,
+    ))
+}
+
+// Space <- ' ' / '\t' / EndOfLine
+#[tactic(auto, unfolding(crate::specs::Figure::space_body))]
+fn space_body(alloc: Global) -> Result<Expr, AllocError>
+    ensures { IfOk result (λ body. form_of body ≡ space_body) }
+{
+    choice(
+        alloc,
+        literal(alloc, b" ", 911, 914)?,
+        vec![in alloc;
+            literal(alloc, b"\t", 917, 921)?,
+            name(alloc, "EndOfLine", 924, 933)?,
+        ]?,
+        911,
+        933,
+    )
+}
+
+// EndOfLine <- '\r\n' / '\n' / '\r'
+#[tactic(auto, unfolding(crate::specs::Figure::end_of_line_body))]
+fn end_of_line_body(alloc: Global) -> Result<Expr, AllocError>
+    ensures { IfOk result (λ body. form_of body ≡ end_of_line_body) }
+{
+    choice(
+        alloc,
+        literal(alloc, b"\r\n", 947, 953)?,
+        vec![in alloc;
+            literal(alloc, b"\n", 956, 960)?,
+            literal(alloc, b"\r", 963, 967)?,
+        ]?,
+        947,
+        967,
+    )
+}
+
+// EndOfFile <- !.
+#[tactic(auto, unfolding(crate::specs::Figure::end_of_file_body))]
+fn end_of_file_body(alloc: Global) -> Result<Expr, AllocError>
+    ensures { IfOk result (λ body. form_of body ≡ end_of_file_body) }
+{
+    not(alloc, any(982, 983), 981, 983)
+}

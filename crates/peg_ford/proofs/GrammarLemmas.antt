@@ -1,0 +1,127 @@
+-- When rules are a grammar: exactly where no search for what is wrong with them finds anything.
+use Rattle.std.proofs.Common.{◌≡◌, ◌≢◌, ℕ, ◌<◌, Bool, true, false, if◌then◌else◌, not, List, [], ◌∷◌, ◌++◌, length, get_or}
+use Rattle.std.proofs.Common.{All, AllPairs, Contains, None, Some, find, bytes_eq, refl, sym, ap, ◌∙◌, subst, arith}
+use Rattle.std.specs.List.{list_any}
+use Rattle.std.proofs.lemmas.Bool.{true≢false, false_from_ne_true}
+use Rattle.std.proofs.lemmas.Cmp.{nat_list_eq_equiv}
+use Rattle.std.proofs.lemmas.List.{append-nil, append_assoc, get_or_append_left, get_or_at, length-append}
+use Rattle.std.proofs.lemmas.List.Elements.{All-nil, All-cons, All-head, All-tail}
+use Rattle.std.proofs.lemmas.List.Folds.{list_any_at, list_any_none}
+use Rattle.std.proofs.lemmas.List.Quantifiers.{all_pairs_push}
+use Rattle.std.proofs.lemmas.Map.Views.{Contains-from_any, list_any-from_Contains}
+use Rattle.std.proofs.lemmas.Slice.Eq.{bytes_eq-Decides}
+use Rattle.peg_ford.specs.Form.{Reference}
+use Rattle.peg_ford.specs.Rules.{Rule, names, uses, defined_at}
+use Rattle.peg_ford.specs.Grammar.{IsGrammar, duplicate_after, first_duplicate, first_undefined, is_unknown}
+
+-- some names that differ
+abbrev Distinct : List (List ℕ) → Type 0
+Distinct some = AllPairs (λ (a b : List ℕ). a ≢ b) some
+
+-- a reference to a known name
+abbrev IsKnown : List (List ℕ) → Reference → Type 0
+IsKnown known reference = Contains known reference.name
+
+some≢none : {X : Type 0} {x : X} → Some x ≡ None → ⊥
+some≢none e = cc
+
+-- a name that is not among some differs from each of them
+differs : (earlier : List (List ℕ)) (name : List ℕ) → list_any (bytes_eq name) earlier ≡ false
+    → (k : ℕ) (d : List ℕ) → k < length earlier → get_or earlier k d ≢ name
+differs earlier name absent k d within same =
+    let equal = (bytes_eq-Decides name (get_or earlier k d)).1 (sym same) in
+    true≢false (sym (list_any_at (bytes_eq name) earlier k d within equal) ∙ absent)
+
+-- What is known of a rule and of those behind it: whether an earlier name is its own, and what is found behind it.
+module _ (earlier : List (List ℕ)) (rule : Rule) (rules : List Rule) where
+  here : {there : Bool} → list_any (bytes_eq rule.name) earlier ≡ there
+      → duplicate_after earlier (rule ∷ rules)
+      ≡ (if there then Some (defined_at rule) else duplicate_after (earlier ++ rule.name ∷ []) rules)
+  here is = ap (λ b. if b then Some (defined_at rule) else duplicate_after (earlier ++ rule.name ∷ []) rules) is
+
+  joined : earlier ++ rule.name ∷ [] ++ names rules ≡ earlier ++ names (rule ∷ rules)
+  joined = append_assoc earlier (rule.name ∷ []) (names rules)
+
+-- where no duplicate is found, the names differ
+distinct_after : (earlier : List (List ℕ)) (rules : List Rule) → duplicate_after earlier rules ≡ None
+    → Distinct earlier → Distinct (earlier ++ names rules)
+distinct_after earlier [] none distinct = subst Distinct (sym (append-nil earlier)) distinct
+distinct_after earlier (rule ∷ rules) none distinct =
+    by (list_any (bytes_eq rule.name) earlier) refl (distinct_after (earlier ++ rule.name ∷ []) rules)
+  where
+    by : (there : Bool) → list_any (bytes_eq rule.name) earlier ≡ there
+        → (duplicate_after (earlier ++ rule.name ∷ []) rules ≡ None → Distinct (earlier ++ rule.name ∷ [])
+        → Distinct (earlier ++ rule.name ∷ [] ++ names rules))
+        → Distinct (earlier ++ names (rule ∷ rules))
+    by true is rest = absurd (some≢none (sym (here earlier rule rules is) ∙ none))
+    by false is rest =
+        let more = all_pairs_push (λ (a b : List ℕ). a ≢ b) earlier rule.name distinct (differs earlier rule.name is) in
+        subst Distinct (joined earlier rule rules) (rest (sym (here earlier rule rules is) ∙ none) more)
+
+-- a name that differs from each before it is not among them
+new_name : (earlier : List (List ℕ)) (name : List ℕ) (later : List (List ℕ)) → Distinct (earlier ++ name ∷ later)
+    → list_any (bytes_eq name) earlier ≡ false
+new_name earlier name later distinct =
+    list_any_none (bytes_eq name) earlier (λ k d within. false_from_ne_true _ (same k d within))
+  where
+    same : (k : ℕ) (d : List ℕ) → k < length earlier → bytes_eq name (get_or earlier k d) ≡ true → ⊥
+    same k d within equal =
+        let past : length earlier < length (earlier ++ name ∷ later) =
+        omega (arith, length-append earlier (name ∷ later)) in
+        distinct k (length earlier) d within past
+        (get_or_append_left earlier (name ∷ later) d k within
+        ∙ sym ((bytes_eq-Decides name (get_or earlier k d)).0 equal)
+        ∙ sym (get_or_at earlier name later d (length earlier) refl))
+
+-- where the names differ, no duplicate is found
+no_duplicate_after : (earlier : List (List ℕ)) (rules : List Rule) → Distinct (earlier ++ names rules)
+    → duplicate_after earlier rules ≡ None
+no_duplicate_after earlier [] distinct = refl
+no_duplicate_after earlier (rule ∷ rules) distinct =
+    here earlier rule rules (new_name earlier rule.name (names rules) distinct)
+    ∙ no_duplicate_after (earlier ++ rule.name ∷ []) rules (subst Distinct (sym (joined earlier rule rules)) distinct)
+
+-- what is found from a use on
+module _ (known : List (List ℕ)) (reference : Reference) (used : List Reference) where
+  found : {there : Bool} → list_any (bytes_eq reference.name) known ≡ there
+      → find (is_unknown known) (reference ∷ used) ≡ (if not there then Some reference else find (is_unknown known) used)
+  found is = ap (λ b. if not b then Some reference else find (is_unknown known) used) is
+
+-- where no unknown name is found, all are known
+all_known : (known : List (List ℕ)) (used : List Reference) → find (is_unknown known) used ≡ None
+    → All (IsKnown known) used
+all_known known [] none = All-nil (IsKnown known)
+all_known known (reference ∷ used) none =
+    by (list_any (bytes_eq reference.name) known) refl (all_known known used)
+  where
+    by : (there : Bool) → list_any (bytes_eq reference.name) known ≡ there
+        → (find (is_unknown known) used ≡ None → All (IsKnown known) used)
+        → All (IsKnown known) (reference ∷ used)
+    by false is rest = absurd (some≢none (sym (found known reference used is) ∙ none))
+    by true is rest =
+        All-cons (IsKnown known) reference used
+        (Contains-from_any (λ x y. (bytes_eq-Decides x y).0) reference.name known is)
+        (rest (sym (found known reference used is) ∙ none))
+
+-- where all are known, no unknown name is found
+no_unknown : (known : List (List ℕ)) (used : List Reference) → All (IsKnown known) used
+    → find (is_unknown known) used ≡ None
+no_unknown known [] all = refl
+no_unknown known (reference ∷ used) all =
+    let is = list_any-from_Contains nat_list_eq_equiv reference.name known (All-head (IsKnown known) reference used all) in
+    found known reference used is ∙ no_unknown known used (All-tail (IsKnown known) reference used all)
+
+-- rules of which nothing is wrong are a grammar
+pub IsGrammar-from_searches : (rules : List Rule) → rules ≢ [] → first_duplicate rules ≡ None
+    → first_undefined rules ≡ None → IsGrammar rules
+IsGrammar-from_searches rules some distinct defined = record {
+  some = some;
+  distinct = distinct_after [] rules distinct (λ i j d before within. absurd (omega arith));
+  defined = all_known (names rules) (uses rules) defined;
+}
+
+-- nothing is wrong with the rules of a grammar
+pub searches_from_IsGrammar : (rules : List Rule) → IsGrammar rules
+    → (rules ≢ []) × (first_duplicate rules ≡ None) × (first_undefined rules ≡ None)
+searches_from_IsGrammar rules grammar =
+    (grammar.some, no_duplicate_after [] rules grammar.distinct, no_unknown (names rules) (uses rules) grammar.defined)

@@ -1,0 +1,21 @@
+pub mod Ascending
+pub mod Derivations
+mod EachHasAResult
+pub mod EnoughDepth
+mod FineForms
+pub mod FurthestLemmas
+pub mod GrammarLemmas
+mod LoopFree
+mod MeaningLemmas
+mod RankedRules
+pub mod RankedTables
+pub mod RecordLemmas
+pub mod ResultSteps
+pub mod RoundsLemmas
+pub mod RulesLemmas
+mod SameParts
+mod ShownOutcomes
+mod StableRounds
+mod States
+pub mod TerminalLemmas
+pub mod TreeRules

@@ -1,0 +1,14 @@
+use Rattle.std.proofs.Common.{refl}
+use Rattle.peg_ford.specs.Examples.{nested_record, counted_record, ordered_record, repeated_prefix_record}
+use Rattle.peg_ford.specs.Record.{record_in}
+use Rattle.peg_ford.proofs.FurthestLemmas.{furthest_of-is}
+use Rattle.peg_ford.proofs.laws.the_definitions_agree_with_hand_worked_grammars.Goals as goal
+
+pub returns : goal.returns
+unfolding record_in
+returns c = record {
+  nested = record { recognized = (16, refl); furthest = furthest_of-is nested_record.tests };
+  counted = record { recognized = (16, refl); furthest = furthest_of-is counted_record.tests };
+  ordered = record { recognized = (4, refl); furthest = furthest_of-is ordered_record.tests };
+  repeated_prefix = record { recognized = (16, refl); furthest = furthest_of-is repeated_prefix_record.tests };
+}

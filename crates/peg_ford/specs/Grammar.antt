@@ -1,0 +1,36 @@
+-- Which lists of rules are grammars (Ford 2004, section 3.1), and why another list is none.
+use Rattle.std.specs.Prelude.{◌≢◌, ℕ, Bool, List, [], ◌∷◌, ◌++◌, All, AllPairs, Contains, Option, None, Some, find, not}
+use Rattle.std.specs.Prelude.{if◌then◌else◌, bytes_eq}
+use Rattle.std.specs.List.{list_any}
+use Rattle.peg_ford.specs.Form.{Reference}
+use Rattle.peg_ford.specs.Rules.{Rule, names, uses, defined_at, is_defined}
+
+-- a grammar: some rule, names that differ, and a definition for each name that is used
+pub record IsGrammar (rules : List Rule) : Type 0 where
+  pub some : rules ≢ []
+  pub distinct : AllPairs (λ (a b : List ℕ). a ≢ b) (names rules)
+  pub defined : All (λ (reference : Reference). Contains (names rules) reference.name) (uses rules)
+
+-- the greatest weight of a grammar
+abbrev pub most_parts : ℕ
+most_parts = 4194304
+
+-- the first definition whose name is among the earlier ones
+abbrev pub duplicate_after : List (List ℕ) → List Rule → Option Reference
+duplicate_after earlier [] = None
+duplicate_after earlier (rule ∷ rules) =
+    if list_any (bytes_eq rule.name) earlier
+    then Some (defined_at rule)
+    else duplicate_after (earlier ++ rule.name ∷ []) rules
+
+-- the first definition whose name stands earlier
+abbrev pub first_duplicate : List Rule → Option Reference
+first_duplicate rules = duplicate_after [] rules
+
+-- the first use, in written order, of a name that no rule has
+abbrev pub first_undefined : List Rule → Option Reference
+first_undefined rules = find (λ (reference : Reference). not (is_defined rules reference.name)) (uses rules)
+
+-- whether a name that is used is none of the known ones
+abbrev pub is_unknown : List (List ℕ) → Reference → Bool
+is_unknown known reference = not (list_any (bytes_eq reference.name) known)

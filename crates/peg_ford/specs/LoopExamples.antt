@@ -1,0 +1,36 @@
+-- Grammars with empty loops and left cycles that were worked by hand, to compare the definitions with.
+use Rattle.std.specs.Prelude.{List, [], ◌∷◌, codes}
+use Rattle.peg_bytes.specs.Extent.{between}
+use Rattle.peg_ford.specs.Form.{Form, Literal, Class, Name, Seq, Optional, Star, End, Then}
+use Rattle.peg_ford.specs.Rules.{Rule}
+
+-- one rule, A
+abbrev pub only_rule : Form → List Rule
+only_rule body = record { name = codes "A"; span = between 0 1; body = body } ∷ []
+
+-- A <- (''*)*: ''* has no outcome, so the inner star alone is an empty loop
+abbrev pub star_of_stuck_star : List Rule
+star_of_stuck_star = only_rule (Star (Star (Literal [] (between 6 8)) (between 6 9)) (between 5 11))
+
+-- A <- B 'x'
+-- B <- 'y'? A
+abbrev pub behind_optional : List Rule
+behind_optional =
+    record {
+      name = codes "A";
+      span = between 0 1;
+      body = Seq (Then (Name (codes "B") (between 5 6)) (Then (Literal (codes "x") (between 7 10)) End)) (between 5 10);
+    } ∷ record {
+      name = codes "B";
+      span = between 11 12;
+      body = Seq
+          (Then
+          (Optional (Literal (codes "y") (between 16 19)) (between 16 20))
+          (Then (Name (codes "A") (between 21 22)) End))
+          (between 16 22);
+    } ∷ []
+
+-- A <- [] A: the class never succeeds, so what follows is never met
+abbrev pub behind_empty_class : List Rule
+behind_empty_class =
+    only_rule (Seq (Then (Class [] (between 5 7)) (Then (Name (codes "A") (between 8 9)) End)) (between 5 9))

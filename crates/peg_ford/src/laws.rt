@@ -1,0 +1,175 @@
+//! Laws of the definitions: what holds of records for every grammar and text. Each function does nothing; its contract
+//! is the law.
+ghost use Rattle.std.specs.Prelude.{◌≡◌, ◌≢◌, ◌↔◌, ℕ, suc, ◌<◌, ◌≤◌, All, Contains, List, [], ◌∷◌, codes, length};
+ghost use Rattle.std.specs.Prelude.{None, Some};
+ghost use Rattle.peg_ford.specs.AbstractOutcomes.{CanAll, CanFail, GivesNothing, GivesSomething, Judging, can_in};
+ghost use Rattle.peg_ford.specs.Depth.{most_cases};
+ghost use Rattle.peg_ford.specs.Examples.{Gives, nested, nested_record, counted, counted_record, ordered};
+ghost use Rattle.peg_ford.specs.Examples.{ordered_record, repeated_prefix, repeated_prefix_record};
+ghost use Rattle.peg_ford.specs.Examples.{all_can_in, nested_can, counted_can, itself, itself_can, signs, signs_can};
+ghost use Rattle.peg_ford.specs.Examples.{star_of_star, plus_of_empty, star_of_optional};
+ghost use Rattle.peg_ford.specs.Form.{Form, Name};
+ghost use Rattle.peg_ford.specs.Rules.{Rule, name_of};
+ghost use Rattle.peg_ford.specs.LoopExamples.{only_rule, star_of_stuck_star, behind_optional, behind_empty_class};
+ghost use Rattle.peg_ford.specs.Loops.{IsEmptyLoop, IsLeftCycle, MeetsFirst};
+ghost use Rattle.peg_ford.specs.Ranked.{IsRanked};
+ghost use Rattle.peg_ford.specs.Grammar.{IsGrammar, first_duplicate, first_undefined};
+ghost use Rattle.peg_ford.specs.Furthest.{IsFurthest};
+ghost use Rattle.peg_ford.specs.FurthestPass.{furthest_of};
+ghost use Rattle.peg_ford.specs.Record.{Failed, Matched, Record, IsRecord, Test, record_in, start_record};
+ghost use Rattle.peg_ford.specs.Terminals.{extents_of_terminals};
+ghost use Rattle.peg_ford.specs.WellFormed.{IsWellFormedIn, IsWellFormed, IsWellFormedGrammar, subexpressions};
+ghost use Rattle.peg_bytes.specs.Extent.{Extent, between};
+ghost use Rattle.peg_tree.specs.Nodes.{RulesBelow};
+ghost use Rattle.peg_tree.specs.Trees.{Trees};
+
+/// What has a record in n has the same record in n + 1.
+pub fn a_record_stays()
+    ensures { (rules : List Rule) (text : List ℕ) (n : ℕ) (e : Form) (terminal place : ℕ) (r : Record)
+        → record_in rules text n e terminal place ≡ Some r
+        → record_in rules text (suc n) e terminal place ≡ Some r }
+{}
+
+/// Two records of one expression at one place are the same (Ford 2004, section 3.3: the relation is a function).
+pub fn a_record_is_the_only_one()
+    ensures { (rules : List Rule) (text : List ℕ) (e : Form) (terminal place : ℕ) (r s : Record)
+        → IsRecord rules text e terminal place r → IsRecord rules text e terminal place s → r ≡ s }
+{}
+
+/// Going over the failed tests once, as code does, gives their furthest failure.
+pub fn one_pass_gives_the_furthest_failure()
+    ensures { (tests : List Test) → IsFurthest tests (furthest_of tests).far (furthest_of tests).expected }
+{}
+
+/// The definitions on four grammars that were worked by hand: result, trees, failed tests, uses and furthest failure.
+pub fn the_definitions_agree_with_hand_worked_grammars()
+    ensures nested { Gives nested (codes "S") (codes "aab") nested_record 2 (0 ∷ []) }
+    ensures counted { Gives counted (codes "D") (codes "aabbcc") counted_record 6 (2 ∷ []) }
+    ensures ordered { Gives ordered (codes "S") (codes "ab") ordered_record 0 [] }
+    ensures repeated_prefix { Gives repeated_prefix (codes "A") (codes "(a)y") repeated_prefix_record 3 (2 ∷ []) }
+{}
+
+/// What expressions can do, by hand: a rule that is only itself can do nothing, in any number of rounds, and a star or
+/// a plus round what may take nothing is not well-formed.
+pub fn the_outcomes_agree_with_hand_worked_grammars()
+    ensures nested { all_can_in nested 8 ≡ nested_can }
+    ensures counted { all_can_in counted 8 ≡ counted_can }
+    ensures signs { all_can_in signs 8 ≡ signs_can }
+    ensures itself { (n : ℕ) → all_can_in itself n ≡ itself_can }
+    ensures star_of_star { ¬ IsWellFormed [] star_of_star }
+    ensures plus_of_empty { ¬ IsWellFormed [] plus_of_empty }
+    ensures star_of_optional { ¬ IsWellFormed [] star_of_optional }
+    ensures well_formed { IsWellFormedGrammar nested }
+{}
+
+/// Rules are a grammar exactly where there is one, none has the name of an earlier one, and no name is used that none
+/// has. So each of these faults is of rules that are no grammar, and rules that are none have one of them. Does
+/// nothing.
+pub fn grammars_are_not_refused()
+    ensures { (rules : List Rule) → IsGrammar rules
+        ↔ ((rules ≢ []) × (first_duplicate rules ≡ None) × (first_undefined rules ≡ None)) }
+{}
+
+/// Every failed test is of a terminal that the rules write, and so is every terminal of a furthest failure: its number
+/// is that of one of their extents.
+pub fn every_failed_test_is_of_a_terminal()
+    ensures tests { (rules : List Rule) (text : List ℕ) (n start : ℕ) (r : Record)
+        → start_record rules text n (name_of rules start) ≡ Some r
+        → All (λ (test : Test). test.terminal < length (extents_of_terminals rules)) r.tests }
+    ensures furthest { (rules : List Rule) (text : List ℕ) (n start : ℕ) (r : Record) (far : ℕ) (expected : List ℕ)
+        → start_record rules text n (name_of rules start) ≡ Some r
+        → IsFurthest r.tests far expected
+        → All (λ terminal. terminal < length (extents_of_terminals rules)) expected }
+{}
+
+/// From a place of the text, every failed test is at a place of the text, and a match ends within it.
+pub fn records_stay_within_the_text()
+    ensures tests { (rules : List Rule) (text : List ℕ) (n : ℕ) (e : Form) (terminal place : ℕ) (r : Record)
+        → place ≤ length text → record_in rules text n e terminal place ≡ Some r
+        → All (λ (test : Test). test.place ≤ length text) r.tests }
+    ensures end { (rules : List Rule) (text : List ℕ) (n : ℕ) (e : Form) (terminal place end : ℕ) (trees : Trees)
+        (r : Record) → place ≤ length text → record_in rules text n e terminal place ≡ Some r
+        → r.result ≡ Matched end trees → end ≤ length text }
+{}
+
+/// Every node of the trees that a match from a start leaves is of a rule that there is: its rule's number is below how
+/// many rules there are.
+pub fn every_node_is_of_a_rule()
+    ensures { (rules : List Rule) (text : List ℕ) (n start : ℕ) (r : Record) (end : ℕ) (trees : Trees)
+        → start_record rules text n (name_of rules start) ≡ Some r → r.result ≡ Matched end trees
+        → RulesBelow (length rules) trees }
+{}
+
+/// What an expression can do in n rounds, by Ford's abstract outcomes, it can do in n + 1.
+pub fn abstract_outcomes_stay()
+    ensures { (rules : List Rule) (n : ℕ) (e : Form) → CanAll (can_in rules n e) (can_in rules (suc n) e) }
+{}
+
+/// What comes of an expression shows what it can do (Ford 2004, section 3.5, his theorem on abstract outcomes): a match
+/// ends at its place or later; one that ends there shows 0, one that ends later 1, and a failure f.
+pub fn results_show_abstract_outcomes()
+    ensures onward { (rules : List Rule) (text : List ℕ) (n : ℕ) (e : Form) (terminal place end : ℕ) (trees : Trees)
+        (r : Record) → record_in rules text n e terminal place ≡ Some r → r.result ≡ Matched end trees → place ≤ end }
+    ensures nothing { (rules : List Rule) (text : List ℕ) (n : ℕ) (e : Form) (terminal place : ℕ) (trees : Trees)
+        (r : Record) → record_in rules text n e terminal place ≡ Some r → r.result ≡ Matched place trees
+        → GivesNothing rules e }
+    ensures something { (rules : List Rule) (text : List ℕ) (n : ℕ) (e : Form) (terminal place end : ℕ) (trees : Trees)
+        (r : Record) → record_in rules text n e terminal place ≡ Some r → r.result ≡ Matched end trees → place < end
+        → GivesSomething rules e }
+    ensures fails { (rules : List Rule) (text : List ℕ) (n : ℕ) (e : Form) (terminal place : ℕ) (r : Record)
+        → record_in rules text n e terminal place ≡ Some r → r.result ≡ Failed → CanFail rules e }
+{}
+
+/// What is well-formed in n rounds is well-formed in n + 1.
+pub fn well_formed_expressions_stay()
+    ensures { (rules : List Rule) (n : ℕ) (e : Form) → IsWellFormedIn rules n e → IsWellFormedIn rules (suc n) e }
+{}
+
+/// A well-formed grammar has no empty loop and no left cycle (Ford 2004, section 3.6).
+pub fn well_formed_grammars_have_no_loops()
+    ensures empty_loops { (rules : List Rule) (rule : ℕ) (span : Extent)
+        → IsWellFormedGrammar rules → ¬ IsEmptyLoop rules rule span }
+    ensures left_cycles { (rules : List Rule) (path : List ℕ) → IsWellFormedGrammar rules → ¬ IsLeftCycle rules path }
+{}
+
+/// A well-formed grammar is complete (Ford 2004, section 3.6): on each text, each subexpression of each rule has a
+/// record at each place, so has the name of each rule, and there is one from each start.
+pub fn well_formed_grammars_are_complete()
+    ensures subexpressions { (rules : List Rule) (text : List ℕ) (rule : Rule) (e : Form) (terminal place : ℕ)
+        → IsWellFormedGrammar rules → Contains rules rule → Contains (subexpressions rule.body) e → place ≤ length text
+        → (r : Record) × IsRecord rules text e terminal place r }
+    ensures names { (rules : List Rule) (text : List ℕ) (rule : ℕ) (span : Extent) (terminal place : ℕ)
+        → IsWellFormedGrammar rules → rule < length rules → place ≤ length text
+        → (r : Record) × IsRecord rules text (Name (name_of rules rule) span) terminal place r }
+    ensures starts { (rules : List Rule) (text : List ℕ) (start : ℕ)
+        → IsWellFormedGrammar rules → start < length rules
+        → (n : ℕ) × (r : Record) × (start_record rules text n (name_of rules start) ≡ Some r) }
+{}
+
+/// No record from a start is deeper than there are states, an expression at a place of the text each: a record in some
+/// n is one in as many as that.
+pub fn no_record_is_deeper_than_its_states()
+    ensures { (rules : List Rule) (text : List ℕ) (n start : ℕ) (r : Record)
+        → start_record rules text n (name_of rules start) ≡ Some r
+        → start_record rules text (most_cases rules text) (name_of rules start) ≡ Some r }
+{}
+
+/// A grammar is well-formed where, by some table that is closed under Ford's rules of outcomes, no star's or plus's
+/// part gives 0, and each rule meets first only rules of lower rank.
+pub fn ranked_grammars_are_well_formed()
+    ensures { (rules : List Rule) (judge : Judging) (rank : ℕ → ℕ)
+        → IsGrammar rules → IsRanked rules judge rank → IsWellFormedGrammar rules }
+{}
+
+/// Empty loops and left cycles by hand: of `(''*)*` the inner star alone is an empty loop, and what follows an empty
+/// class isn't met.
+pub fn the_loops_agree_with_hand_worked_grammars()
+    ensures star_of_star { IsEmptyLoop (only_rule star_of_star) 0 (between 5 12) }
+    ensures plus_of_empty { IsEmptyLoop (only_rule plus_of_empty) 0 (between 5 10) }
+    ensures star_of_optional { IsEmptyLoop (only_rule star_of_optional) 0 (between 5 13) }
+    ensures inner { IsEmptyLoop star_of_stuck_star 0 (between 6 9) }
+    ensures outer { ¬ IsEmptyLoop star_of_stuck_star 0 (between 5 11) }
+    ensures behind_optional { IsLeftCycle behind_optional (0 ∷ 1 ∷ []) }
+    ensures behind_empty_class { ¬ MeetsFirst behind_empty_class 0 0 }
+    ensures itself { IsLeftCycle itself (0 ∷ []) }
+{}

@@ -1,0 +1,74 @@
+//! Tests of grammars made of definitions, and of what is wrong with others.
+use crate::outcomes::grammar_of;
+use peg_bytes::Span;
+use peg_grammar::{Expr, Grammar, GrammarFault, weight};
+use peg_notation::read;
+use std::alloc::Global;
+use std::process::Abort;
+use std::test::Fail;
+
+fn refusal_of(alloc: Global, file: &[u8]) -> Result<Option<GrammarFault>, Fail> {
+    Ok(Grammar::new(alloc, read(alloc, file)?).err())
+}
+
+fn assert_undefined(rt: &impl Abort, alloc: Global, file: &[u8], at: Span) -> Result<(), Fail> {
+    let refused = refusal_of(alloc, file)?;
+    match &refused {
+        Some(GrammarFault::Undefined { name, span }) => {
+            assert_eq!(rt; name.as_str(), "T");
+            assert_eq!(rt; *span, at);
+        }
+        _ => assert!(rt; false),
+    }
+    Ok(())
+}
+
+#[test]
+fn no_definition_is_no_grammar(rt: HostRuntime) {
+    let none = Grammar::new(rt.alloc(), Vec::new(rt.alloc()));
+    assert!(rt; matches!(none, Err(GrammarFault::NoRule)));
+}
+
+#[test]
+fn rules_go_by_names_and_numbers(rt: HostRuntime) -> Result<(), Fail> {
+    let grammar = grammar_of(rt.alloc(), b"S <- T\nT <- 'a'")?;
+    assert!(rt; grammar.rules() == 2);
+    assert_eq!(rt; grammar.rule_name(0), "S");
+    assert_eq!(rt; grammar.rule_name(1), "T");
+    assert_eq!(rt; grammar.rule_number("T"), Some(1));
+    assert_eq!(rt; grammar.rule_number("U"), None);
+    assert!(rt; matches!(grammar.body(0), Expr::Name { .. }));
+    assert!(rt; matches!(grammar.body(1), Expr::Literal { .. }));
+    Ok(())
+}
+
+#[test]
+fn a_duplicate_is_named_where_it_stands(rt: HostRuntime) -> Result<(), Fail> {
+    let refused = refusal_of(rt.alloc(), b"S <- U    T <- U    T <- U")?;
+    match &refused {
+        Some(GrammarFault::Duplicate { name, span }) => {
+            assert_eq!(rt; name.as_str(), "T");
+            assert_eq!(rt; *span, Span::new(20, 21));
+        }
+        _ => assert!(rt; false),
+    }
+    Ok(())
+}
+
+#[test]
+fn the_first_undefined_name_is_told(rt: HostRuntime) -> Result<(), Fail> {
+    let file = b"S <-S /T/U";
+    assert_eq!(rt; weight(&read(rt.alloc(), file)?), 5);
+    assert_undefined(&rt, rt.alloc(), file, Span::new(7, 8))
+}
+
+// Rule 1, sequence 1, class 1, dot 1, optional 1 + 3, star 1 + 1 + 1, plus 1 + 1, and 1 + 1.
+#[test]
+fn all_forms_are_weighed_and_their_names_looked_up(rt: HostRuntime) -> Result<(), Fail> {
+    let alloc = rt.alloc();
+    let file = b"S <- [a-z]. 'xy'? (!S)* [a-z]+ &S";
+    assert_eq!(rt; weight(&read(alloc, file)?), 15);
+    assert_eq!(rt; grammar_of(alloc, file)?.rules(), 1);
+    let file = b"S <- [a-z]. 'xy'? (!T)* [a-z]+ &S";
+    assert_undefined(&rt, alloc, file, Span::new(20, 21))
+}

@@ -1,0 +1,15 @@
+//! Tests of grammars and of the plain evaluators, by their public calls.
+#![tactic(auto)]
+
+#[cfg(test)]
+mod evaluator;
+#[cfg(test)]
+mod grammars;
+#[cfg(test)]
+mod limits;
+#[cfg(test)]
+mod outcomes;
+#[cfg(test)]
+mod total;
+#[cfg(test)]
+mod weights;

@@ -1,0 +1,2 @@
+pub mod SplitLaws
+mod TransferLemmas

@@ -1,0 +1,151 @@
+-- Laws of the split: an input has one split, and the split of a front of an input tells that of the whole.
+use Rattle.std.proofs.Common.{◌≡◌, ℕ, zero, suc, ◌+◌, ◌<◌, ◌≤◌, true, ◌==◌, ◌⊎◌, inl, inr, List, [], ◌++◌, ◌-◌, length, slice_index, take, drop, refl, sym, ap, subst, ◌∙◌, arith, length-append, length-drop}
+use Rattle.std.proofs.lemmas.List.{get_or_past, take-append-drop, get_or_append_left, length-take-le, take-append-le, drop-append-le}
+use Rattle.std.proofs.lemmas.Bool.{and_parts, eqb-true, cases_lt, cases_order, cases_Bool, both_ways}
+use Rattle.peg_io.specs.Split.{line_starts_at, is_separator_at, NoneBefore, IsFirstSeparator, HasNoSeparator, IsSplit, at_separator, without_separator}
+
+-- a separator ends by byte 10
+separator_end : (input : List ℕ) (place : ℕ) → is_separator_at input place ≡ true
+    → slice_index input (place + 2) ≡ 10
+separator_end input place here = eqb-true (slice_index input (place + 2)) 10 (and_parts _ _ here).1
+
+-- a separator's three bytes lie within the input
+pub separator_within : (input : List ℕ) (place : ℕ) → is_separator_at input place ≡ true
+    → place + 2 < length input
+separator_within input place here =
+    let end = separator_end input place here in
+    elim (cases_lt (place + 2) (length input)) [
+      | inl within ↦ within
+      | inr past ↦ absurd (omega (arith, get_or_past input (place + 2) 0 past))
+    ]
+
+-- an input has one first separator
+first_separator_same : (input : List ℕ) (one other : ℕ) → IsFirstSeparator input one
+    → IsFirstSeparator input other → one ≡ other
+first_separator_same input one other first second =
+    elim (cases_order one other) [
+      | inl same ↦ same
+      | inr (inl less) ↦ absurd (both_ways _ (second.first one less) first.here)
+      | inr (inr more) ↦ absurd (both_ways _ (first.first other more) second.here)
+    ]
+
+-- two splits of one input are the same parts
+pub IsSplit-same : (input before after before' after' : List ℕ) → IsSplit input before after
+    → IsSplit input before' after' → (before ≡ before') × (after ≡ after')
+IsSplit-same input before after before' after' (at_separator one first b a) (at_separator other second b' a') =
+    let same = first_separator_same input one other first second in
+    (b ∙ ap (λ place. take place input) same ∙ sym b', a ∙ ap (λ place. drop (place + 3) input) same ∙ sym a')
+IsSplit-same input before after before' after' (at_separator one first b a) (without_separator none b' a') =
+    absurd (both_ways _ (none one) first.here)
+IsSplit-same input before after before' after' (without_separator none b a) (at_separator other second b' a') =
+    absurd (both_ways _ (none other) second.here)
+IsSplit-same input before after before' after' (without_separator none b a) (without_separator none' b' a') =
+    (b ∙ sym b', a ∙ sym a')
+
+-- below a bound stands a first separator, or none
+first_below : (input : List ℕ) (bound : ℕ) → ((place : ℕ) × IsFirstSeparator input place) ⊎ NoneBefore input bound
+first_below input zero = inr (λ place below. absurd (omega arith))
+first_below input (suc bound) =
+    elim (first_below input bound) [
+      | inl found ↦ inl found
+      | inr none ↦ elim (cases_Bool (is_separator_at input bound)) [
+        | inl here ↦ inl (bound, record { here = here; first = none })
+        | inr missing ↦ inr (λ place below. elim (cases_lt place bound) [
+          | inl less ↦ none place less
+          | inr most ↦ let same : place ≡ bound = omega arith in ap (is_separator_at input) same ∙ missing
+        ])
+      ]
+    ]
+
+-- an input has a first separator, or none at all
+first_or_none : (input : List ℕ) → ((place : ℕ) × IsFirstSeparator input place) ⊎ HasNoSeparator input
+first_or_none input =
+    elim (first_below input (length input)) [
+      | inl found ↦ inl found
+      | inr none ↦ inr (λ place. elim (cases_Bool (is_separator_at input place)) [
+        | inl here ↦ none place (omega (arith, separator_within input place here))
+        | inr missing ↦ missing
+      ])
+    ]
+
+-- whether a line starts at a place within the front of an input is seen in that front
+line_starts_at-front : (front rest : List ℕ) (place : ℕ) → place ≤ length front
+    → line_starts_at (front ++ rest) place ≡ line_starts_at front place
+line_starts_at-front front rest zero within = refl
+line_starts_at-front front rest (suc before) within =
+    ap (λ byte. byte == 10) (get_or_append_left front rest 0 before (omega arith))
+
+-- whether a separator stands at a place is seen in a front of the input that holds its three bytes
+pub is_separator_at-front : (front rest : List ℕ) (place : ℕ) → place + 2 < length front
+    → is_separator_at (front ++ rest) place ≡ is_separator_at front place
+is_separator_at-front front rest place within =
+    let start = line_starts_at-front front rest place (omega arith) in
+    let one = get_or_append_left front rest 0 place (omega arith) in
+    let two = get_or_append_left front rest 0 (place + 1) (omega arith) in
+    let three = get_or_append_left front rest 0 (place + 2) within in
+    rw (start, one, two, three)
+
+-- what the split of a front of an input, into before and after, tells of the split of the whole: a
+-- separator in the front is that of the whole, and what stands behind it goes on with the rest; without
+-- one the whole's part before its separator has all of the front but for at most two bytes
+pub data TellsSplit (front rest before after before' after' : List ℕ) : Type 0 where
+  separator_in_front : before' ≡ before → after' ≡ after ++ rest → length before + 3 + length after ≡ length front
+      → TellsSplit front rest before after before' after'
+  separator_further : before ≡ front → after ≡ [] → length front ≤ length before' + 2
+      → TellsSplit front rest before after before' after'
+
+-- the split of a front, and the split of the whole that it tells of
+pub front_split : (front rest before after : List ℕ) → IsSplit front before after
+    → (before' : List ℕ) × (after' : List ℕ) × IsSplit (front ++ rest) before' after'
+    × TellsSplit front rest before after before' after'
+front_split front rest before after (at_separator place found b a) =
+    let within = separator_within front place found.here in
+    let here = is_separator_at-front front rest place within ∙ found.here in
+    let first : NoneBefore (front ++ rest) place = λ earlier less.
+    is_separator_at-front front rest earlier (omega arith) ∙ found.first earlier less in
+    let fits : place ≤ length front = omega arith in
+    let fits_end : place + 3 ≤ length front = omega arith in
+    let before_length : length before ≡ place = ap length b ∙ length-take-le place front fits in
+    let after_length : length after ≡ length front - (place + 3) = ap length a ∙ length-drop (place + 3) front in (
+      take place (front ++ rest),
+      drop (place + 3) (front ++ rest),
+      at_separator place (record { here = here; first = first }) refl refl,
+      separator_in_front (take-append-le place front rest fits ∙ sym b)
+          (drop-append-le (place + 3) front rest fits_end ∙ ap (λ bytes. bytes ++ rest) (sym a)) (omega arith),
+    )
+front_split front rest before after (without_separator none b a) =
+    elim (first_or_none (front ++ rest)) [
+      | inl found ↦ further found.0 found.1
+      | inr missing ↦ (
+        front ++ rest,
+        [],
+        without_separator missing refl refl,
+        separator_further b a (omega (arith, length-append front rest)),
+      )
+    ]
+  where
+    further : (place : ℕ) → IsFirstSeparator (front ++ rest) place → (before' : List ℕ) × (after' : List ℕ)
+        × IsSplit (front ++ rest) before' after' × TellsSplit front rest before after before' after'
+    further place found =
+        let within = separator_within (front ++ rest) place found.here in
+        let all_before : length (take place (front ++ rest)) ≡ place =
+        length-take-le place (front ++ rest) (omega arith) in
+        let long : length front ≤ place + 2 = elim (cases_lt (place + 2) (length front)) [
+          | inl less ↦ let seen = is_separator_at-front front rest place less in
+              absurd (both_ways _ (none place) (sym seen ∙ found.here))
+          | inr most ↦ most
+        ] in (
+          take place (front ++ rest),
+          drop (place + 3) (front ++ rest),
+          at_separator place found refl refl,
+          separator_further b a (omega arith),
+        )
+
+-- the same for the first bytes of an input, as a read with a limit holds them
+pub first_bytes_split : (input : List ℕ) (most : ℕ) (before after : List ℕ) → IsSplit (take most input) before after
+    → (before' : List ℕ) × (after' : List ℕ) × IsSplit input before' after'
+    × TellsSplit (take most input) (drop most input) before after before' after'
+first_bytes_split input most before after part =
+    let whole = front_split (take most input) (drop most input) before after part in
+    let all = subst (λ (bytes : List ℕ). IsSplit bytes whole.0 whole.1) (take-append-drop most input) whole.2 in
+    (whole.0, whole.1, all, whole.3)

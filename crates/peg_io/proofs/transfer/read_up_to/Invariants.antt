@@ -1,0 +1,15 @@
+-- What is held is what was consumed, it is no more than allowed, and no read has failed.
+use Rattle.std.proofs.Common.{◌≡◌, ◌<◌, ◌≤◌, ◌-◌, false, vec_len, length}
+use Rattle.std.specs.Io.KnownBytes.{Consumes}
+use Rattle.peg_io.proofs.transfer.read_up_to.Given as goal
+
+abbrev pub invariant-reads : goal.invariant-reads
+invariant-reads g l = record {
+  within : vec_len l.held ≤ l.most;
+  has_room : 0 < length l.piece;
+  consumed : Consumes (g.G.Source.left l.initial.input) (g.G.Source.left l.input) l.held.items;
+  not_failed : g.G.Source.failed l.input ≡ false;
+}
+
+abbrev pub decreases-reads : goal.decreases-reads
+decreases-reads g l = l.most - vec_len l.held

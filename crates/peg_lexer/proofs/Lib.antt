@@ -1,0 +1,11 @@
+mod Classes
+pub mod Lexemes
+pub mod OneLexing
+pub mod PieceLemmas
+pub mod PieceSizes
+pub mod SpacingRules
+pub mod Takes
+mod TextRules
+pub mod Texts
+pub mod TokenRules
+pub mod TokenValues

@@ -1,0 +1,148 @@
+-- A file has one list of tokens or one lexing fault.
+use Rattle.std.proofs.Common.{◌≡◌, ℕ, ◌<◌, List, [], ◌∷◌, length, drop, codes, Option, None, Some, inl, inr, refl, sym, ap, ◌∙◌, subst, arith}
+use Rattle.std.proofs.Math.Seq.{drop-length}
+use Rattle.peg_bytes.specs.Extent.{between}
+use Rattle.peg_tree.specs.Trees.{Trees}
+use Rattle.peg_ford.specs.Form.{Name}
+use Rattle.peg_ford.specs.Record.{Record, Failed, Matched}
+use Rattle.peg_ford.proofs.RecordLemmas.{one_record}
+use Rattle.peg_figure.specs.Figure.{figure}
+use Rattle.peg_lexer.specs.Lexical.{identifier, literal, quoted, class, text_of, kind_of}
+use Rattle.peg_figure.specs.Notation.{Matches, Fails}
+use Rattle.peg_figure.specs.Spelled.{text_end}
+use Rattle.peg_lexer.specs.Tokens.{rule_of_kind, Lexeme, IsLexeme, Lexemes, Begins, IsTokens, IsLexingFault}
+use Rattle.peg_lexer.specs.declared.token.TokenKind.{TokenKind}
+use Rattle.peg_lexer.specs.declared.token.TokenKind.TheVariants.{Ident, Literal, Class, Arrow, Slash, And, Not, Question, Star, Plus, Open, Close, Dot}
+use Rattle.peg_lexer.proofs.Lexemes.{kind_fails, kinds_apart}
+
+-- ---- what a rule of the figure matches at a place is one
+
+-- two matches of a rule at one place have one end and the same trees
+one_end : (file name : List ℕ) (place : ℕ) {end other : ℕ} {trees more : Trees} → Matches file name place end trees
+    → Matches file name place other more → (end ≡ other) × (trees ≡ more)
+one_end file name place {end} {other} {trees} {more} a b =
+    let same : a.0 ≡ b.0 = one_record figure file (Name name (between 0 0)) 0 place a.0 b.0 a.1 b.1 in
+    let results : Matched end trees ≡ Matched other more = sym a.2 ∙ (ap (λ (r : Record). r.result) same ∙ b.2) in
+    (cc, cc)
+
+-- a rule that matches at a place doesn't fail there
+not_both : (file name : List ℕ) (place : ℕ) {end : ℕ} {trees : Trees} → Matches file name place end trees
+    → Fails file name place → ⊥
+not_both file name place {end} {trees} a b =
+    let same : a.0 ≡ b.0 = one_record figure file (Name name (between 0 0)) 0 place a.0 b.0 a.1 b.1 in
+    let results : Matched end trees ≡ Failed = sym a.2 ∙ (ap (λ (r : Record). r.result) same ∙ b.2) in
+    cc
+
+-- ---- one token at a place
+
+-- where no bytes are left no kind has a text
+no_text : (kind : TokenKind) → text_of kind [] ≡ None
+unfolding identifier literal quoted class
+no_text Ident = refl
+no_text Literal = refl
+no_text Class = refl
+no_text Arrow = refl
+no_text Slash = refl
+no_text And = refl
+no_text Not = refl
+no_text Question = refl
+no_text Star = refl
+no_text Plus = refl
+no_text Open = refl
+no_text Close = refl
+no_text Dot = refl
+
+-- a token has a text
+has_text : (file : List ℕ) (place : ℕ) {end : ℕ} (lexeme : Lexeme) → IsLexeme file place end lexeme
+    → text_of lexeme.kind (drop place file) ≡ None → ⊥
+has_text file place lexeme it none =
+    not_both file (rule_of_kind lexeme.kind) place it.1 (kind_fails file lexeme.kind place none)
+
+-- the kind that the first byte tells
+kind_at_front : List ℕ → Option TokenKind
+kind_at_front [] = None
+kind_at_front (byte ∷ rest) = kind_of byte
+
+-- the byte at a token's place tells the token's kind
+kind_told : (file : List ℕ) (place : ℕ) {end : ℕ} (lexeme : Lexeme) → IsLexeme file place end lexeme
+    → kind_at_front (drop place file) ≡ Some lexeme.kind
+unfolding kind_at_front
+kind_told file place lexeme it = by (drop place file) refl
+  where
+    by : (rest : List ℕ) → drop place file ≡ rest → kind_at_front rest ≡ Some lexeme.kind
+    by [] is = absurd (has_text file place lexeme it (ap (text_of lexeme.kind) is ∙ no_text lexeme.kind))
+    by (byte ∷ rest) is =
+        elim (kinds_apart lexeme.kind byte rest) [
+          | inl told ↦ told
+          | inr none ↦ absurd (has_text file place lexeme it (ap (text_of lexeme.kind) is ∙ none))
+        ]
+
+-- two tokens at one place are the same, and so are the ends of their spacing
+one_lexeme : (file : List ℕ) (place : ℕ) {end other : ℕ} (first second : Lexeme) → IsLexeme file place end first
+    → IsLexeme file place other second → (end ≡ other) × (first ≡ second)
+one_lexeme file place {end} {other} first second a b =
+    let told : Some first.kind ≡ Some second.kind = sym (kind_told file place first a)
+    ∙ kind_told file place second b in
+    let kinds : first.kind ≡ second.kind = cc in
+    let moved : Matches file (rule_of_kind second.kind) place end a.0 = subst
+    (λ kind. Matches file (rule_of_kind kind) place end a.0) kinds a.1 in
+    let same = one_end file (rule_of_kind second.kind) place moved b.1 in
+    let texts : first.text ≡ second.text = a.2 ∙ (ap (λ trees. between place (text_end place trees)) same.1 ∙ sym b.2) in
+    let kind_moved : first ≡ (record { kind = second.kind; text = first.text }) = ap
+    (λ kind. record { kind = kind; text = first.text }) kinds in
+    let text_moved : (record { kind = second.kind; text = first.text }) ≡ second = ap
+    (λ text. record { kind = second.kind; text = text }) texts in
+    (same.0, kind_moved ∙ text_moved)
+
+-- ---- one list of tokens up to where they stop
+
+-- no token stands at a place
+abbrev pub IsStop : List ℕ → ℕ → Type 0
+IsStop file at = (kind : TokenKind) → Fails file (rule_of_kind kind) at
+
+-- where no token stands there is none
+stopped : (file : List ℕ) (place : ℕ) {end : ℕ} (lexeme : Lexeme) → IsStop file place → IsLexeme file place end lexeme
+    → ⊥
+stopped file place lexeme stop it = not_both file (rule_of_kind lexeme.kind) place it.1 (stop lexeme.kind)
+
+-- no token stands at the file's end
+end_stops : (file : List ℕ) → IsStop file (length file)
+end_stops file kind = kind_fails file kind (length file) (ap (text_of kind) (drop-length file) ∙ no_text kind)
+
+-- tokens from one place, up to where none stands, are the same
+one_way : (file : List ℕ) {place end other : ℕ} {first second : List Lexeme} → Lexemes file place first end
+    → Lexemes file place second other → IsStop file end → IsStop file other → (first ≡ second) × (end ≡ other)
+one_way file Lexemes.none Lexemes.none stop halt = (refl, refl)
+one_way file (Lexemes.none {place}) (Lexemes.one {lexeme = b} it more) stop halt =
+    absurd (stopped file place b stop it)
+one_way file {place} (Lexemes.one {lexeme = a} it more) Lexemes.none stop halt = absurd (stopped file place a halt it)
+one_way file {place} {end} {other} (Lexemes.one {lexeme = a} {more = front} it more)
+    (Lexemes.one {lexeme = b} {more = back} that rest) stop halt =
+    let same = one_lexeme file place a b it that in
+    let later = one_way file more (subst (λ at. Lexemes file at back other) (sym same.0) rest) stop halt in
+    (ap (λ lexeme. lexeme ∷ front) same.1 ∙ ap (λ lexemes. b ∷ lexemes) later.0, later.1)
+
+-- tokens from the file's front, up to where none stands, are the same
+one_lexing : (file : List ℕ) {first second : List Lexeme} {end other : ℕ} → Begins file first end
+    → Begins file second other → IsStop file end → IsStop file other → (first ≡ second) × (end ≡ other)
+one_lexing file {first} {second} {end} {other} a b stop halt =
+    let same = one_end file (codes "Spacing") 0 a.2 b.2 in
+    one_way file (subst (λ at. Lexemes file at first end) same.0 a.3) b.3 stop halt
+
+-- ---- the law
+
+-- two lists of tokens of a file are the same
+pub one_list : (file : List ℕ) (first second : List Lexeme) → IsTokens file first → IsTokens file second → first ≡ second
+one_list file first second a b = (one_lexing file a b (end_stops file) (end_stops file)).0
+
+-- two lexing faults of a file are the same
+pub one_fault : (file : List ℕ) (at other : ℕ) → IsLexingFault file at → IsLexingFault file other → at ≡ other
+one_fault file at other a b = (one_lexing file a.1 b.1 a.3 b.3).1
+
+-- a file that has tokens has no lexing fault
+pub tokens_or_fault : (file : List ℕ) (lexemes : List Lexeme) (at : ℕ) → IsTokens file lexemes → IsLexingFault file at
+    → ⊥
+tokens_or_fault file lexemes at a b =
+    let same : length file ≡ at = (one_lexing file a b.1 (end_stops file) b.3).1 in
+    let before : at < length file = b.2 in
+    omega arith

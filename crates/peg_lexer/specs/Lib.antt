@@ -1,0 +1,11 @@
+pub use Rattle.peg_bytes.specs.ByteSet
+pub use Rattle.peg_bytes.specs.Extent
+pub use Rattle.peg_figure.specs.Notation
+pub use Rattle.peg_figure.specs.Ranges
+pub use Rattle.peg_figure.specs.RangesCode
+pub use Rattle.peg_figure.specs.Spelled
+pub use Rattle.peg_tree.specs.Trees
+pub mod Lexical
+pub mod LexicalCode
+pub mod Pieces
+pub mod Tokens

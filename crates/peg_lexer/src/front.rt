@@ -1,0 +1,91 @@
+//! The token at the front of what is left of a file.
+ghost use Rattle.std.specs.Prelude.{◌≡◌, ◌<◌, ◌≤◌, length, IfSome};
+ghost use Rattle.peg_lexer.specs.Lexical.{kind_of, text_of};
+ghost use Rattle.peg_lexer.specs.LexicalCode.{seen_at_front, token_seen};
+ghost use Rattle.peg_lexer.specs.Pieces.{length_of, these};
+
+use crate::text::{begins_name, class, identifier, literal};
+use crate::token::TokenKind;
+
+/// A token at the front: its kind, and how many bytes its text has.
+#[derive(Clone, Copy, Debug)]
+pub(crate) struct Front {
+    pub(crate) kind: TokenKind,
+    pub(crate) length: usize,
+}
+
+/// The token at the front, if one is there. Linear in its text.
+pub(crate) fn token(rest: &[u8]) -> Option<Front>
+    ensures value { seen_at_front result ≡ token_seen rest.now }
+    ensures some { IfSome result (λ front. 0 < front.length) }
+    ensures fits { IfSome result (λ front. front.length ≤ length rest.now) }
+{
+    let kind = match rest {
+        [first, ..] => kind_of(*first)?,
+        [] => return None,
+    };
+    let length = text_length(kind, rest)?;
+    Some(Front { kind, length })
+}
+
+// The kind of token that may begin with a byte.
+#[tactic(auto, unfolding(crate::specs::Lexical::kind_of))]
+fn kind_of(first: u8) -> Option<TokenKind>
+    ensures { result ≡ kind_of first }
+{
+    if begins_name(first) {
+        return Some(TokenKind::Ident);
+    }
+    match first {
+        b'\'' | b'"' => Some(TokenKind::Literal),
+        b'[' => Some(TokenKind::Class),
+        b'<' => Some(TokenKind::Arrow),
+        b'/' => Some(TokenKind::Slash),
+        b'&' => Some(TokenKind::And),
+        b'!' => Some(TokenKind::Not),
+        b'?' => Some(TokenKind::Question),
+        b'*' => Some(TokenKind::Star),
+        b'+' => Some(TokenKind::Plus),
+        b'(' => Some(TokenKind::Open),
+        b')' => Some(TokenKind::Close),
+        b'.' => Some(TokenKind::Dot),
+        _ => None,
+    }
+}
+
+// How many bytes the text of a token of this kind has at the front.
+fn text_length(kind: TokenKind, rest: &[u8]) -> Option<usize>
+    ensures value { result ≡ length_of (text_of kind rest.now) }
+    ensures some { IfSome result (λ n. 0 < n) }
+    ensures fits { IfSome result (λ n. n ≤ length rest.now) }
+{
+    match kind {
+        TokenKind::Ident => identifier(rest),
+        TokenKind::Literal => literal(rest),
+        TokenKind::Class => class(rest),
+        TokenKind::Arrow => sign(b"<-", rest),
+        TokenKind::Slash => sign(b"/", rest),
+        TokenKind::And => sign(b"&", rest),
+        TokenKind::Not => sign(b"!", rest),
+        TokenKind::Question => sign(b"?", rest),
+        TokenKind::Star => sign(b"*", rest),
+        TokenKind::Plus => sign(b"+", rest),
+        TokenKind::Open => sign(b"(", rest),
+        TokenKind::Close => sign(b")", rest),
+        TokenKind::Dot => sign(b".", rest),
+    }
+}
+
+// How many bytes a sign has, where it stands at the front.
+fn sign(sign: &[u8], rest: &[u8]) -> Option<usize>
+    requires { 0 < length sign.now }
+    ensures value { result ≡ length_of (these sign.now rest.now) }
+    ensures some { IfSome result (λ n. 0 < n) }
+    ensures fits { IfSome result (λ n. n ≤ length rest.now) }
+{
+    if rest.starts_with(sign) {
+        Some(sign.len())
+    } else {
+        None
+    }
+}

@@ -1,0 +1,75 @@
+//! What the texts of tokens spell (Ford 2004, section 2.1).
+ghost use Rattle.std.specs.Prelude.{◌≡◌, IsTrue, is_some, IfOk, map, string_bytes};
+ghost use Rattle.std.specs.Str.{IsUtf8};
+ghost use Rattle.peg_bytes.specs.ByteSet.{bytes_of};
+ghost use Rattle.peg_lexer.specs.Lexical.{literal, class, quoted_char, classed_range};
+ghost use Rattle.peg_lexer.specs.LexicalCode.{spells_of};
+ghost use Rattle.peg_lexer.specs.Pieces.{many};
+ghost use Rattle.peg_figure.specs.Ranges.{class_of};
+ghost use Rattle.peg_figure.specs.RangesCode.{range_of};
+ghost use Rattle.peg_figure.specs.Spelled.{bytes_in, ranges_in};
+
+use crate::text::{classed_range, quoted_char};
+use peg_bytes::ByteSet;
+use peg_figure::{ByteRange, class_set};
+use std::alloc::{AllocError, Global};
+
+/// The text of a name.
+pub fn name_text(alloc: Global, name: &[u8]) -> Result<String, AllocError>
+    requires { IsUtf8 name.now }
+    ensures { IfOk result (λ text. string_bytes text ≡ name.now) }
+{
+    let text = str::from_utf8(name).unwrap();
+    String::from_str(alloc, text)
+}
+
+/// The bytes that the literal at the front spells. Linear in its text.
+pub fn literal_bytes(alloc: Global, rest: &[u8]) -> Result<Vec<u8>, AllocError>
+    requires { IsTrue (is_some (literal rest.now)) }
+    ensures { IfOk result (λ bytes. bytes.items ≡ bytes_in (spells_of (literal rest.now))) }
+{
+    match rest {
+        [quote, ..] => bytes_before(alloc, *quote, &rest[1..]),
+        [] => Ok(Vec::new(alloc)),
+    }
+}
+
+// The bytes that the characters at the front spell, up to the quote.
+fn bytes_before(alloc: Global, quote: u8, rest: &[u8]) -> Result<Vec<u8>, AllocError>
+    ensures { IfOk result (λ bytes. bytes.items ≡ bytes_in (many (quoted_char quote) rest.now).spells) }
+{
+    let mut bytes = Vec::new(alloc);
+    let mut at = 0;
+    'chars: while let Some(char) = quoted_char(quote, &rest[at..]) {
+        bytes.push(char.byte)?;
+        at += char.length;
+    }
+    Ok(bytes)
+}
+
+/// The set of the bytes that the class at the front spells. Linear in its text.
+pub fn class_bytes(alloc: Global, rest: &[u8]) -> Result<ByteSet, AllocError>
+    requires { IsTrue (is_some (class rest.now)) }
+    ensures { IfOk result (λ set. bytes_of set ≡ class_of (ranges_in (spells_of (class rest.now)))) }
+{
+    match rest {
+        [_, ..] => {
+            let ranges = ranges_before(alloc, &rest[1..])?;
+            Ok(class_set(&ranges))
+        }
+        [] => Ok(ByteSet::empty()),
+    }
+}
+
+// The ranges at the front, up to the bracket.
+fn ranges_before(alloc: Global, rest: &[u8]) -> Result<Vec<ByteRange>, AllocError>
+    ensures { IfOk result (λ ranges. map range_of ranges.items ≡ ranges_in (many classed_range rest.now).spells) }
+{
+    let mut ranges = Vec::new(alloc);
+    let mut at = 0;
+    'items: while let Some(item) = classed_range(&rest[at..]) {
+        ranges.push(item.bytes)?;
+        at += item.length;
+    }
+    Ok(ranges)
+}

@@ -1,0 +1,135 @@
+-- What the layers' faults tell of a grammar file.
+use Rattle.std.proofs.Common.{◌≡◌, inl, inr, ℕ, List, All, IsErrAnd, IfErr, IfOk, IfSome, OnOk, Result, Ok, Err, Option, None, Some, length, map, refl, subst, sym, ◌∙◌, arith}
+use Rattle.std.proofs.lemmas.List.{length-map}
+use Rattle.peg_bytes.specs.Extent.{extent}
+use Rattle.peg_check.specs.Verdicts.{IsIllFormedBy, NamesRules}
+use Rattle.peg_check.specs.declared.fault.CheckFault.{CheckFault}
+use Rattle.peg_check.specs.declared.fault.CheckFault.TheVariants as check
+use Rattle.peg_ford.specs.Rules.{Rule, names}
+use Rattle.peg_ford.specs.WellFormed.{IsWellFormedGrammar}
+use Rattle.peg_ford.proofs.GrammarLemmas.{searches_from_IsGrammar}
+use Rattle.peg_grammar.specs.GrammarRules.{rules_in}
+use Rattle.peg_grammar.specs.Refusal as definitions
+use Rattle.peg_grammar.specs.declared.fault.GrammarFault.{GrammarFault}
+use Rattle.peg_grammar.specs.declared.fault.GrammarFault.TheVariants as grammar
+use Rattle.peg_grammar.specs.declared.grammar.Grammar.{Grammar}
+use Rattle.peg_notation.specs.Reads.{Reads}
+use Rattle.peg_notation.specs.Spans.{AnswerLiesIn, RuleLiesIn}
+use Rattle.peg_notation.specs.declared.fault.NotationFault.{NotationFault}
+use Rattle.peg_notation.specs.declared.fault.NotationFault.TheVariants as notation
+use Rattle.peg_notation.proofs.FirstRule.{IsReading-some}
+use Rattle.peg_tree.specs.Names.{name_at}
+use Rattle.peg_parser.specs.Accepts.{Accepts, IsRead, IsTaken}
+use Rattle.peg_parser.specs.Cause.{Cause, FileTooLong, Syntax, TooNested, TooManyParts}
+use Rattle.peg_parser.specs.Cause.{EmptyLoop, LeftRecursion, reference}
+use Rattle.peg_parser.specs.Faults.{of_notation, of_grammar, of_check, TellsWhy, want_of_memory, of_cause, Means, cause_told}
+use Rattle.peg_parser.specs.Parser.{parser_rules}
+use Rattle.peg_parser.specs.Refusals.{IsNoGrammar, IsIllFormed, Refuses, Shows, file_too_long, not_in_the_notation}
+use Rattle.peg_parser.specs.Refusals.{too_nested, a_name_twice, a_name_missing, too_many_parts, empty_loop, left_recursion}
+use Rattle.peg_parser.specs.Refusals.{no_notation, no_grammar, ill_formed}
+use Rattle.peg_parser.specs.declared.parser.Parser.{Parser}
+use Rattle.peg_parser.specs.declared.refusal.Refusal.{Refusal}
+use Rattle.peg_parser.proofs.CheckLemmas.{loop-inside}
+use Rattle.peg_parser.proofs.NameLemmas.{refused-inside}
+use Rattle.peg_parser.proofs.RuleNames.{name-numbered, names-of-path}
+
+-- an error that is this refusal tells what it tells
+pub told-error : {X : Type 0} (Kind : Cause → Type 0) (size : ℕ) (result : Result X Refusal) (why : Refusal)
+    → IsErrAnd result (λ other. other ≡ why) → TellsWhy Kind size why → IfErr result (TellsWhy Kind size)
+told-error Kind size (Ok x) why is tells = tt
+told-error Kind size (Err other) why is tells = subst (TellsWhy Kind size) (sym is) tells
+
+-- ---- reading
+
+pub told-notation : (file : List ℕ) (why : NotationFault) → Reads file (Err why) → AnswerLiesIn (length file) (Err why)
+    → TellsWhy (IsNoGrammar file) (length file) (of_notation why)
+told-notation file notation.FileTooLong reads inside = of_cause FileTooLong refl (file_too_long reads) tt tt
+told-notation file (notation.Syntax at) reads inside =
+    of_cause (Syntax at) refl (not_in_the_notation reads.0 reads.1 reads.2) inside tt
+told-notation file (notation.TooNested at) reads inside =
+    of_cause (TooNested at) refl (too_nested reads.0 reads.1 reads.2) inside tt
+told-notation file notation.Memory reads inside = want_of_memory refl
+
+-- ---- the grammar
+
+pub told-grammar : (file : List ℕ) (rules : List Rule) (why : GrammarFault) → IsRead file rules
+    → All (RuleLiesIn (length file)) rules → definitions.Refuses rules why
+    → TellsWhy (IsNoGrammar file) (length file) (of_grammar why)
+told-grammar file rules grammar.NoRule read inside refuses =
+    absurd (IsReading-some file rules read.reading.0 refuses)
+told-grammar file rules (grammar.Duplicate name span) read inside refuses =
+    of_cause _ refl (a_name_twice read refuses)
+    (refused-inside (length file) rules (grammar.Duplicate name span) inside refuses) tt
+told-grammar file rules (grammar.Undefined name span) read inside refuses =
+    of_cause _ refl (a_name_missing read refuses.0 refuses.1)
+    (refused-inside (length file) rules (grammar.Undefined name span) inside refuses) tt
+told-grammar file rules grammar.TooManyParts read inside refuses =
+    of_cause TooManyParts refl (too_many_parts read refuses.0 refuses.1) tt tt
+told-grammar file rules grammar.Memory read inside refuses = want_of_memory refl
+
+-- ---- the check
+
+-- the rules that a fault names are among those with a name
+named-too : (rules : List Rule) (why : CheckFault) → NamesRules (length rules) why → NamesRules (length (names rules)) why
+named-too rules why named =
+    subst (λ (n : ℕ). NamesRules n why) (sym (length-map rules (λ (rule : Rule). rule.name))) named
+
+-- what the check's fault tells of the grammar that it comes with
+pub told-check : (file : List ℕ) (grammar : Grammar) (why : CheckFault) → IsIllFormedBy (rules_in grammar) why
+    → NamesRules (length (rules_in grammar)) why → IsRead file (rules_in grammar) → IsTaken (rules_in grammar) → All (RuleLiesIn (length file)) (rules_in grammar)
+    → TellsWhy (Refuses file) (length file) (of_check why grammar)
+told-check file grammar (check.EmptyLoop number span) ill named read taken inside =
+    let rules = rules_in grammar in
+    let lies = loop-inside (length file) rules number (extent span) inside ill.1 in
+    of_cause (EmptyLoop (reference (name_at (names rules) number) (extent span))) refl
+    (inr (subst (λ (name : List ℕ). IsIllFormed file (EmptyLoop (reference name (extent span))))
+    (sym (name-numbered rules number named)) (empty_loop number (extent span) read taken ill.0 ill.1)))
+    (omega (arith, lies.0, lies.1)) (named-too rules (check.EmptyLoop number span) named)
+told-check file grammar (check.LeftRecursion path) ill named read taken inside =
+    let rules = rules_in grammar in
+    of_cause (LeftRecursion (map (name_at (names rules)) path.items)) refl
+    (inr (subst (λ (l : List (List ℕ)). IsIllFormed file (LeftRecursion l))
+    (sym (names-of-path rules path.items named)) (left_recursion path.items read taken ill.0 ill.1 ill.2 ill.3))) tt
+    (named-too rules (check.LeftRecursion path) named)
+told-check file grammar check.Memory ill named read taken inside = want_of_memory refl
+
+-- ---- what refusals mean
+
+-- a file that is refused before the check is refused
+pub told-early : (file : List ℕ) (size : ℕ) (why : Refusal) → TellsWhy (IsNoGrammar file) size why
+    → TellsWhy (Refuses file) size why
+told-early file size why (want_of_memory is) = want_of_memory is
+told-early file size why (of_cause cause tells holds starts named) = of_cause cause tells (inl holds) starts named
+
+shows : (file : List ℕ) (cause : Cause) → Refuses file cause → Shows file cause
+shows file cause (inl (file_too_long over)) = tt
+shows file cause (inl (not_in_the_notation within none at)) = no_notation none
+shows file cause (inl (too_nested within deep at)) = tt
+shows file cause (inl (a_name_twice {rules} read twice)) =
+    no_grammar rules read.reading.0 (λ whole. let both : None ≡ Some _ = sym (searches_from_IsGrammar rules whole).1
+    ∙ twice in cc)
+shows file cause (inl (a_name_missing {rules} read once missing)) =
+    no_grammar rules read.reading.0 (λ whole. let both : None ≡ Some _ = sym (searches_from_IsGrammar rules whole).2
+    ∙ missing in cc)
+shows file cause (inl (too_many_parts read whole over)) = tt
+shows file cause (inr (empty_loop {rules} number span read taken ill loop)) = ill_formed rules read.reading.0 ill
+shows file cause (inr (left_recursion {rules} path read taken ill none cycle once)) = ill_formed rules read.reading.0 ill
+
+pub told-means : (file : List ℕ) (size : ℕ) (why : Refusal) → TellsWhy (Refuses file) size why → Means file why
+told-means file size why (want_of_memory is) =
+    subst (λ (w : Refusal). IfSome (cause_told w) (Shows file)) (sym is) tt
+told-means file size why (of_cause cause tells holds starts named) =
+    subst (λ (told : Option Cause). IfSome told (Shows file)) (sym tells) (shows file cause holds)
+
+-- ---- what is accepted
+
+-- the parser of a file's grammar that is well-formed is that of an accepted file
+pub accepted-whole : (file : List ℕ) (grammar : Grammar) (result : Result Parser Refusal) → IsRead file (rules_in grammar)
+    → IsTaken (rules_in grammar) → IfOk result (λ parser. parser_rules parser ≡ rules_in grammar)
+    → OnOk result (IsWellFormedGrammar (rules_in grammar)) → IfOk result (λ parser. Accepts file (parser_rules parser))
+accepted-whole file grammar (Ok parser) read taken same formed =
+    subst (λ (rules : List Rule). Accepts file rules) (sym same)
+    record { read = read; taken = taken; well_formed = formed }
+accepted-whole file grammar (Err why) read taken same formed = tt
+
+pub ruleset accepting = (told-notation, told-grammar, told-check, told-early, told-means)

@@ -1,0 +1,6 @@
+mod AcceptLemmas
+mod CheckLemmas
+mod NameLemmas
+pub mod OutcomeFits
+mod RuleNames
+mod StartLemmas

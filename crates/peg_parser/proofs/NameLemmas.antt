@@ -1,0 +1,93 @@
+-- The names that a grammar is refused for stand where the file's rules do.
+use Rattle.std.proofs.Common.{◌≡◌, ℕ, List, [], ◌∷◌, ◌++◌, All, Bool, true, false, not, bytes_eq, find, IfSome, Some}
+use Rattle.std.proofs.Common.{if◌then◌else◌, subst, arith}
+use Rattle.std.specs.List.{list_any}
+use Rattle.std.proofs.lemmas.List.Elements.{All-nil, All-cons, All-head, All-tail, All-append}
+use Rattle.peg_ford.specs.Form.{Form, Forms, Reference, Literal, Class, Any, Name, Seq, Choice, Optional, Star}
+use Rattle.peg_ford.specs.Form.{Plus, And, Not, End, Then, names_used, names_used_by_all}
+use Rattle.peg_ford.specs.Grammar.{duplicate_after}
+use Rattle.peg_grammar.specs.Refusal.{Refuses}
+use Rattle.peg_ford.specs.Rules.{Rule, uses, defined_at, is_defined}
+use Rattle.peg_grammar.specs.declared.fault.GrammarFault.{GrammarFault}
+use Rattle.peg_grammar.specs.declared.fault.GrammarFault.TheVariants.{NoRule, Duplicate, Undefined, TooManyParts}
+use Rattle.peg_grammar.specs.declared.fault.GrammarFault.TheVariants.{Memory}
+use Rattle.peg_notation.specs.Spans.{LiesIn, FormLiesIn, FormsLieIn, RuleLiesIn}
+use Rattle.peg_parser.specs.Faults.{StartsIn, grammar_cause}
+
+-- a name that stands in a file of this length
+abbrev StandsIn : (size : ℕ) → Reference → Type 0
+StandsIn size name = LiesIn size name.span
+
+-- a definition whose name stands earlier is one of them
+duplicate-inside : (size : ℕ) (earlier : List (List ℕ)) (rules : List Rule) (name : Reference)
+    → All (RuleLiesIn size) rules → duplicate_after earlier rules ≡ Some name → StandsIn size name
+duplicate-inside size earlier [] name inside is = cc
+duplicate-inside size earlier (rule ∷ rules) name inside is =
+    by (list_any (bytes_eq rule.name) earlier) is (duplicate-inside size (earlier ++ rule.name ∷ []) rules name
+    (All-tail (RuleLiesIn size) rule rules inside))
+  where
+    by : (known : Bool) → (if known then Some (defined_at rule) else duplicate_after (earlier ++ rule.name ∷ [])
+        rules) ≡ Some name
+        → (duplicate_after (earlier ++ rule.name ∷ []) rules ≡ Some name → StandsIn size name) → StandsIn size name
+    by true here later =
+        let same : defined_at rule ≡ name = cc in
+        subst (StandsIn size) same (All-head (RuleLiesIn size) rule rules inside).0
+    by false there later = later there
+
+-- the names that an expression uses are among its parts
+mutual
+  names-inside : (size : ℕ) (e : Form) → FormLiesIn size e → All (StandsIn size) (names_used e)
+  names-inside size (Literal bytes span) inside = All-nil (StandsIn size)
+  names-inside size (Class set span) inside = All-nil (StandsIn size)
+  names-inside size (Any span) inside = All-nil (StandsIn size)
+  names-inside size (Name name span) inside = All-cons (StandsIn size) _ [] inside (All-nil (StandsIn size))
+  names-inside size (Seq items span) inside = all_names-inside size items inside.1
+  names-inside size (Choice first rest span) inside =
+      All-append (StandsIn size) (names_used first) (names_used_by_all rest) (names-inside size first inside.1)
+      (all_names-inside size rest inside.2)
+  names-inside size (Optional part span) inside = names-inside size part inside.1
+  names-inside size (Star part span) inside = names-inside size part inside.1
+  names-inside size (Plus part span) inside = names-inside size part inside.1
+  names-inside size (And part span) inside = names-inside size part inside.1
+  names-inside size (Not part span) inside = names-inside size part inside.1
+
+  all_names-inside : (size : ℕ) (items : Forms) → FormsLieIn size items → All (StandsIn size) (names_used_by_all items)
+  all_names-inside size End inside = All-nil (StandsIn size)
+  all_names-inside size (Then e rest) inside =
+      All-append (StandsIn size) (names_used e) (names_used_by_all rest) (names-inside size e inside.0)
+      (all_names-inside size rest inside.1)
+
+uses-inside : (size : ℕ) (rules : List Rule) → All (RuleLiesIn size) rules → All (StandsIn size) (uses rules)
+uses-inside size [] inside = All-nil (StandsIn size)
+uses-inside size (rule ∷ rules) inside =
+    All-append (StandsIn size) (names_used rule.body) (uses rules)
+    (names-inside size rule.body (All-head (RuleLiesIn size) rule rules inside).1)
+    (uses-inside size rules (All-tail (RuleLiesIn size) rule rules inside))
+
+-- what is found is one of them
+found-inside : (size : ℕ) (test : Reference → Bool) (names : List Reference) (name : Reference)
+    → All (StandsIn size) names → find test names ≡ Some name → StandsIn size name
+found-inside size test [] name inside is = cc
+found-inside size test (first ∷ rest) name inside is =
+    by (test first) is (found-inside size test rest name (All-tail (StandsIn size) first rest inside))
+  where
+    by : (passes : Bool) → (if passes then Some first else find test rest) ≡ Some name
+        → (find test rest ≡ Some name → StandsIn size name) → StandsIn size name
+    by true here later =
+        let same : first ≡ name = cc in
+        subst (StandsIn size) same (All-head (StandsIn size) first rest inside)
+    by false there later = later there
+
+-- the name that a grammar is refused for
+pub refused-inside : (size : ℕ) (rules : List Rule) (fault : GrammarFault) → All (RuleLiesIn size) rules
+    → Refuses rules fault → IfSome (grammar_cause fault) (StartsIn size)
+refused-inside size rules NoRule inside is = tt
+refused-inside size rules (Duplicate name span) inside is =
+    let lies = duplicate-inside size [] rules _ inside is in
+    omega (arith, lies.0, lies.1)
+refused-inside size rules (Undefined name span) inside is =
+    let lies = found-inside size (λ (reference : Reference). not (is_defined rules reference.name)) (uses rules) _
+    (uses-inside size rules inside) is.1 in
+    omega (arith, lies.0, lies.1)
+refused-inside size rules TooManyParts inside is = tt
+refused-inside size rules Memory inside is = tt

@@ -1,0 +1,23 @@
+-- Which grammar files are accepted.
+use Rattle.std.specs.Prelude.{ℕ, ◌≤◌, List, length}
+use Rattle.peg_ford.specs.Grammar.{IsGrammar, most_parts}
+use Rattle.peg_ford.specs.Rules.{Rule, weight_of}
+use Rattle.peg_ford.specs.WellFormed.{IsWellFormedGrammar}
+use Rattle.peg_figure.specs.Notation.{most_file_bytes}
+use Rattle.peg_notation.specs.Reads.{most_open, IsReadingWithin}
+
+-- a file within the limits is in the notation, and these rules are its reading
+pub record IsRead (file : List ℕ) (rules : List Rule) : Type 0 where
+  pub within : length file ≤ most_file_bytes
+  pub reading : IsReadingWithin most_open file rules
+
+-- a grammar that is taken
+pub record IsTaken (rules : List Rule) : Type 0 where
+  pub grammar : IsGrammar rules
+  pub light : weight_of rules ≤ most_parts
+
+-- the reading of an accepted file: a well-formed grammar
+pub record Accepts (file : List ℕ) (rules : List Rule) : Type 0 where
+  pub read : IsRead file rules
+  pub taken : IsTaken rules
+  pub well_formed : IsWellFormedGrammar rules

@@ -1,0 +1,102 @@
+-- Describes code: what the faults of the layers tell, as causes, which have names in place of numbers; and where these
+-- lie.
+use Rattle.std.specs.Prelude.{◌≡◌, ℕ, ◌≤◌, List, [], length, Option, None, Some, IfSome, map, string_bytes}
+use Rattle.peg_bytes.specs.Extent.{extent}
+use Rattle.peg_check.specs.Verdicts.{NamesRules}
+use Rattle.peg_check.specs.declared.fault.CheckFault.{CheckFault}
+use Rattle.peg_check.specs.declared.fault.CheckFault.TheVariants as check
+use Rattle.peg_ford.specs.Rules.{names}
+use Rattle.peg_grammar.specs.GrammarRules.{rules_in}
+use Rattle.peg_grammar.specs.declared.fault.GrammarFault.{GrammarFault}
+use Rattle.peg_grammar.specs.declared.fault.GrammarFault.TheVariants as grammar
+use Rattle.peg_grammar.specs.declared.grammar.Grammar.{Grammar}
+use Rattle.peg_notation.specs.declared.fault.NotationFault.{NotationFault}
+use Rattle.peg_notation.specs.declared.fault.NotationFault.TheVariants as notation
+use Rattle.peg_tree.specs.Names.{name_at}
+use Rattle.peg_parser.specs.Cause.{Cause, FileTooLong, Syntax, TooNested, NoRule, Duplicate, Undefined, TooManyParts}
+use Rattle.peg_parser.specs.Cause.{EmptyLoop, LeftRecursion, reference}
+use Rattle.peg_parser.specs.Refusals.{Shows}
+use Rattle.peg_parser.specs.declared.refusal.Refusal.{Refusal}
+use Rattle.peg_parser.specs.declared.refusal.Refusal.TheVariants as refusal
+
+-- ---- what they tell: of want of memory, nothing
+
+abbrev pub notation_cause : NotationFault → Option Cause
+notation_cause notation.FileTooLong = Some FileTooLong
+notation_cause (notation.Syntax at) = Some (Syntax at)
+notation_cause (notation.TooNested at) = Some (TooNested at)
+notation_cause notation.Memory = None
+
+abbrev pub grammar_cause : GrammarFault → Option Cause
+grammar_cause grammar.NoRule = Some NoRule
+grammar_cause (grammar.Duplicate name span) = Some (Duplicate (reference (string_bytes name) (extent span)))
+grammar_cause (grammar.Undefined name span) = Some (Undefined (reference (string_bytes name) (extent span)))
+grammar_cause grammar.TooManyParts = Some TooManyParts
+grammar_cause grammar.Memory = None
+
+abbrev pub check_cause : (names : List (List ℕ)) → CheckFault → Option Cause
+check_cause names (check.EmptyLoop rule span) = Some (EmptyLoop (reference (name_at names rule) (extent span)))
+check_cause names (check.LeftRecursion path) = Some (LeftRecursion (map (name_at names) path.items))
+check_cause names check.Memory = None
+
+-- a refusal of a grammar file, where rules have these names
+abbrev pub refusal_cause : (names : List (List ℕ)) → Refusal → Option Cause
+refusal_cause names (refusal.Notation why) = notation_cause why
+refusal_cause names (refusal.Grammar why) = grammar_cause why
+refusal_cause names (refusal.NotWellFormed why grammar) = check_cause names why
+refusal_cause names refusal.Memory = None
+
+-- the names that a refusal has for the rules that it numbers
+abbrev pub names_told : Refusal → List (List ℕ)
+names_told (refusal.NotWellFormed why grammar) = names (rules_in grammar)
+names_told other = []
+
+-- what a refusal tells by its own names
+abbrev pub cause_told : Refusal → Option Cause
+cause_told why = refusal_cause (names_told why) why
+
+-- ---- where they lie
+
+-- the places and spans of a cause start in a file of this length
+abbrev pub StartsIn : (size : ℕ) → Cause → Type 0
+StartsIn size (Syntax at) = at ≤ size
+StartsIn size (TooNested at) = at ≤ size
+StartsIn size (Duplicate name) = name.span.start ≤ size
+StartsIn size (Undefined name) = name.span.start ≤ size
+StartsIn size (EmptyLoop rule) = rule.span.start ≤ size
+StartsIn size cause = Unit {0}
+
+-- the rules that a refusal numbers are among so many
+abbrev pub RefusalNames : (count : ℕ) → Refusal → Type 0
+RefusalNames count (refusal.NotWellFormed why grammar) = NamesRules count why
+RefusalNames count other = Unit {0}
+
+-- ---- how they are passed on
+
+-- want of memory is told by itself alone
+abbrev pub of_notation : NotationFault → Refusal
+of_notation notation.Memory = refusal.Memory
+of_notation why = refusal.Notation why
+
+abbrev pub of_grammar : GrammarFault → Refusal
+of_grammar grammar.Memory = refusal.Memory
+of_grammar why = refusal.Grammar why
+
+abbrev pub of_check : CheckFault → Grammar → Refusal
+of_check check.Memory grammar = refusal.Memory
+of_check why grammar = refusal.NotWellFormed why grammar
+
+-- What a refusal tells is a cause of this kind, which starts in a file of this length, and it has names for the rules
+-- that it numbers; or memory ran out.
+pub data TellsWhy (Kind : Cause → Type 0) (size : ℕ) (why : Refusal) : Type 0 where
+  want_of_memory : why ≡ refusal.Memory → TellsWhy Kind size why
+  of_cause : (cause : Cause) → cause_told why ≡ Some cause → Kind cause → StartsIn size cause
+      → RefusalNames (length (names_told why)) why → TellsWhy Kind size why
+
+-- a refusal can be told of a file of this length
+abbrev pub IsTellable : (size : ℕ) → Refusal → Type 0
+IsTellable size why = TellsWhy (λ cause. Unit {0}) size why
+
+-- what a refusal shows of the file
+abbrev pub Means : List ℕ → Refusal → Type 0
+Means file why = IfSome (cause_told why) (Shows file)

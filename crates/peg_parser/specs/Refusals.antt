@@ -1,0 +1,59 @@
+-- Why a grammar file is refused: in the order of what is looked at first.
+use Rattle.std.specs.Prelude.{◌≡◌, ◌⊎◌, ℕ, ◌<◌, ◌≤◌, List, length, map, None, Some}
+use Rattle.peg_bytes.specs.Extent.{Extent}
+use Rattle.peg_ford.specs.Form.{Reference}
+use Rattle.peg_ford.specs.Grammar.{IsGrammar, most_parts, first_duplicate, first_undefined}
+use Rattle.peg_ford.specs.Loops.{IsEmptyLoop, IsLeftCycle}
+use Rattle.peg_ford.specs.Rules.{Rule, name_of, weight_of}
+use Rattle.peg_ford.specs.WellFormed.{IsWellFormedGrammar}
+use Rattle.peg_check.specs.Verdicts.{AllDiffer}
+use Rattle.peg_figure.specs.Notation.{IsInNotation, IsReading, most_file_bytes}
+use Rattle.peg_lexer.specs.Tokens.{IsLexingFault}
+use Rattle.peg_notation.specs.Reads.{most_open, NestsDeeper, IsTokenPlace, IsOneTooMany}
+use Rattle.peg_parser.specs.Accepts.{IsRead, IsTaken}
+use Rattle.peg_parser.specs.Cause.{Cause, FileTooLong, Syntax, TooNested, Duplicate, Undefined, TooManyParts, EmptyLoop}
+use Rattle.peg_parser.specs.Cause.{LeftRecursion, reference}
+
+-- The file isn't read, or the rules that it spells, of which there are some, are no grammar that is taken. A place of a
+-- file without syntax is its lexing fault, or else where a token starts or the end; a parenthesis is one too many where
+-- it is the first that opens inside too many others.
+pub data IsNoGrammar (file : List ℕ) : Cause → Type 0 where
+  file_too_long : most_file_bytes < length file → IsNoGrammar file FileTooLong
+  not_in_the_notation : {at : ℕ} → length file ≤ most_file_bytes → ¬ IsInNotation file
+      → IsLexingFault file at ⊎ IsTokenPlace file at → IsNoGrammar file (Syntax at)
+  too_nested : {at : ℕ} → length file ≤ most_file_bytes → NestsDeeper most_open file
+      → IsOneTooMany most_open file at → IsNoGrammar file (TooNested at)
+  a_name_twice : {rules : List Rule} {name : Reference} → IsRead file rules → first_duplicate rules ≡ Some name
+      → IsNoGrammar file (Duplicate name)
+  a_name_missing : {rules : List Rule} {name : Reference} → IsRead file rules → first_duplicate rules ≡ None
+      → first_undefined rules ≡ Some name → IsNoGrammar file (Undefined name)
+  too_many_parts : {rules : List Rule} → IsRead file rules → IsGrammar rules → most_parts < weight_of rules
+      → IsNoGrammar file TooManyParts
+
+-- the file spells a grammar that isn't well-formed; a left cycle is told by rules that differ
+pub data IsIllFormed (file : List ℕ) : Cause → Type 0 where
+  empty_loop : {rules : List Rule} (number : ℕ) (span : Extent) → IsRead file rules → IsTaken rules
+      → ¬ IsWellFormedGrammar rules → IsEmptyLoop rules number span
+      → IsIllFormed file (EmptyLoop (reference (name_of rules number) span))
+  left_recursion : {rules : List Rule} (path : List ℕ) → IsRead file rules → IsTaken rules
+      → ¬ IsWellFormedGrammar rules → ((number : ℕ) (span : Extent) → ¬ IsEmptyLoop rules number span)
+      → IsLeftCycle rules path → AllDiffer path → IsIllFormed file (LeftRecursion (map (name_of rules) path))
+
+-- why a file isn't accepted
+abbrev pub Refuses : List ℕ → Cause → Type 0
+Refuses file cause = IsNoGrammar file cause ⊎ IsIllFormed file cause
+
+-- ---- what a refusal means
+
+-- the file isn't in the notation; or what it spells isn't a grammar, or not a well-formed one
+pub data IsWrong (file : List ℕ) : Type 0 where
+  no_notation : ¬ IsInNotation file → IsWrong file
+  no_grammar : (rules : List Rule) → IsReading file rules → ¬ IsGrammar rules → IsWrong file
+  ill_formed : (rules : List Rule) → IsReading file rules → ¬ IsWellFormedGrammar rules → IsWrong file
+
+-- a refusal for a stated limit says nothing about the file's grammar; any other that it is wrong
+abbrev pub Shows : List ℕ → Cause → Type 0
+Shows file FileTooLong = Unit {0}
+Shows file (TooNested at) = Unit {0}
+Shows file TooManyParts = Unit {0}
+Shows file other = IsWrong file

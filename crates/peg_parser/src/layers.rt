@@ -1,0 +1,42 @@
+//! The layers that a grammar file goes through: reading, its grammar, the check.
+ghost use Rattle.std.specs.Prelude.{◌≡◌, All, IfOk, IfErr, OnOk, length};
+ghost use Rattle.peg_check.specs.Verdicts.{IsIllFormedBy, NamesRules};
+ghost use Rattle.peg_ford.specs.Terminals.{extents_of_terminals};
+ghost use Rattle.peg_ford.specs.WellFormed.{IsWellFormedGrammar};
+ghost use Rattle.peg_grammar.specs.GrammarRules.{rules_in};
+ghost use Rattle.peg_notation.specs.Spans.{RuleLiesIn};
+ghost use Rattle.peg_parser.specs.Accepts.{IsRead, IsTaken};
+ghost use Rattle.peg_parser.specs.Faults.{TellsWhy};
+ghost use Rattle.peg_parser.specs.Refusals.{IsNoGrammar};
+
+use crate::refusal::Refusal;
+use peg_check::{CheckFault, Checked, check};
+use peg_core::desugar;
+use peg_grammar::Grammar;
+use peg_notation::read;
+use std::alloc::Global;
+
+/// The grammar that a file spells, well-formed or not, or why the file is refused: first as no file of the notation,
+/// then as no grammar (Ford 2004, figure 1 and section 3.1). Linear in the file, but for hashing.
+#[tactic(auto, using(crate::proofs::AcceptLemmas::accepting))]
+pub fn grammar_of(alloc: Global, file: &[u8]) -> Result<Grammar, Refusal>
+    ensures read { IfOk result (λ grammar. IsRead file.now (rules_in grammar)) }
+    ensures taken { IfOk result (λ grammar. IsTaken (rules_in grammar)) }
+    ensures inside { IfOk result (λ grammar. All (RuleLiesIn (length file.now)) (rules_in grammar)) }
+    ensures refused { IfErr result (TellsWhy (IsNoGrammar file.now) (length file.now)) }
+{
+    let definitions = read(alloc, file)?;
+    let grammar = Grammar::new(alloc, definitions)?;
+    Ok(grammar)
+}
+
+/// The checked core forms of a grammar, or why it isn't well-formed.
+pub(crate) fn checked_core(alloc: Global, grammar: &Grammar) -> Result<Checked, CheckFault>
+    ensures well_formed { OnOk result (IsWellFormedGrammar (rules_in grammar.now)) }
+    ensures spans { IfOk result (λ checked. checked.core.spans ≡ extents_of_terminals (rules_in grammar.now)) }
+    ensures refused { IfErr result (IsIllFormedBy (rules_in grammar.now)) }
+    ensures named { IfErr result (NamesRules (length (rules_in grammar.now))) }
+{
+    let core = desugar(alloc, grammar)?;
+    check(alloc, core)
+}

@@ -1,0 +1,12 @@
+//! Parsers: grammar files that are accepted, or why they are refused, and the texts that are parsed by them.
+#![tactic(auto)]
+
+mod layers;
+mod options;
+mod parser;
+mod refusal;
+
+pub use layers::grammar_of;
+pub use options::{DEFAULT_MEMO, ParseOptions};
+pub use parser::{Answer, ParseFault, Parser};
+pub use refusal::Refusal;

@@ -1,0 +1,13 @@
+//! How a text is parsed.
+
+/// The capacity of the memo where none is given.
+pub const DEFAULT_MEMO: u32 = 4096;
+
+/// From which rule a text is parsed, and how large the memo may grow.
+#[derive(Clone, Copy, Debug, PartialEq, Eq)]
+pub struct ParseOptions<'a> {
+    /// The name of the rule to start from; the grammar's first rule, if none is named.
+    pub start: Option<&'a str>,
+    /// The most results that the memo may keep. It changes no answer; there is no memo yet.
+    pub memo: u32,
+}

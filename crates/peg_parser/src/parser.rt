@@ -1,0 +1,157 @@
+//! Parsers: grammar files that are accepted, and texts that are parsed by them.
+ghost use Rattle.std.specs.Prelude.{◌≡◌, ◌<◌, ◌≤◌, ◌↔◌, ℕ, List, All, None};
+ghost use Rattle.std.specs.Prelude.{length, slice_get, Some, IfOk, IfErr, IfSome, IsErrOf, OnOk};
+ghost use Rattle.peg_bytes.specs.Extent.{extent};
+ghost use Rattle.peg_grammar.specs.GrammarRules.{rules_in};
+ghost use Rattle.peg_grammar.specs.Outcomes.{IsOutcome};
+ghost use Rattle.peg_ford.specs.Terminals.{extents_of_terminals};
+ghost use Rattle.peg_ford.specs.WellFormed.{IsWellFormedGrammar};
+
+use crate::layers::{checked_core, grammar_of};
+use crate::options::ParseOptions;
+use crate::refusal::Refusal;
+use peg_bytes::Span;
+use peg_check::Checked;
+use peg_grammar::{Grammar, TotalFault, plain_total};
+use peg_tree::Outcome;
+use std::alloc::Global;
+use thiserror::Error;
+
+/// A grammar file that was accepted: its grammar is well-formed, and parses every text.
+#[derive(Drop)]
+pub struct Parser {
+    grammar: Grammar,
+    checked: Checked,
+    pub ghost well_formed: { ∥ IsWellFormedGrammar (rules_in grammar) ∥₁ },
+    pub ghost spans: { checked.core.spans ≡ extents_of_terminals (rules_in grammar) },
+}
+
+/// What a parse of a text gives.
+#[derive(Debug, Drop)]
+pub struct Answer {
+    /// Whether the text's front matched, by which tree, and the furthest failure.
+    pub outcome: Outcome,
+}
+
+/// Why a text isn't parsed.
+#[derive(Clone, Copy, Debug, PartialEq, Eq, Error)]
+pub enum ParseFault {
+    /// No rule has the name of the start.
+    #[error("no rule has the name of the start")]
+    NoSuchStart,
+    /// The text has more than 67,108,864 bytes.
+    #[error("the text is too long")]
+    TextTooLong,
+    /// Memory ran out.
+    #[error("out of memory")]
+    Memory,
+}
+
+impl From<TotalFault> for ParseFault {
+    ghost use Rattle.std.specs.Prelude.{◌≡◌};
+    ghost use Rattle.peg_parser.specs.Parser.{of_total};
+
+    ghost from_gives = { λ total fault. fault ≡ of_total total };
+
+    fn from(fault: TotalFault) -> ParseFault {
+        match fault {
+            TotalFault::TextTooLong => ParseFault::TextTooLong,
+            TotalFault::Memory => ParseFault::Memory,
+        }
+    }
+}
+
+impl Parser {
+    ghost use Rattle.peg_ford.specs.Rules.{name_of};
+    ghost use Rattle.peg_notation.specs.Spans.{RuleLiesIn};
+    ghost use Rattle.peg_parser.specs.Accepts.{Accepts, IsRead, IsTaken};
+    ghost use Rattle.peg_parser.specs.Faults.{Means, TellsWhy};
+    ghost use Rattle.peg_parser.specs.Fits.{Fits};
+    ghost use Rattle.peg_parser.specs.Parser.{parser_rules, start_named};
+    ghost use Rattle.peg_parser.specs.Refusals.{Refuses};
+    ghost use Rattle.peg_grammar.specs.Limits.{most_text_bytes};
+    ghost use Rattle.peg_ford.specs.Starts.{start_of};
+
+    /// The parser of a grammar file, or why the file is refused: first as no file of the notation, then as no grammar,
+    /// then as none that is well-formed (Ford 2004, figure 1 and sections 3.1 and 3.6). What is all three is refused
+    /// for nothing but a stated limit or want of memory. Linear in the file, but for hashing and for sorting the rules
+    /// that one rule meets first.
+    #[tactic(auto, using(crate::proofs::AcceptLemmas::accepting))]
+    pub fn from_file(alloc: Global, file: &[u8]) -> Result<Parser, Refusal>
+        ensures accepted { IfOk result (λ parser. Accepts file.now (parser_rules parser)) }
+        ensures refused { IfErr result (TellsWhy (Refuses file.now) (length file.now)) }
+        ensures wrong { IfErr result (Means file.now) }
+    {
+        match grammar_of(alloc, file) {
+            Ok(grammar) => Parser::of(alloc, grammar),
+            Err(refusal) => Err(refusal),
+        }
+    }
+
+    // The parser of a grammar, if that is well-formed.
+    fn of(alloc: Global, grammar: Grammar) -> Result<Parser, Refusal>
+        ensures rules { IfOk result (λ parser. parser_rules parser ≡ rules_in grammar) }
+        ensures well_formed { OnOk result (IsWellFormedGrammar (rules_in grammar)) }
+        ensures refused { (file : List ℕ) → IsRead file (rules_in grammar) → IsTaken (rules_in grammar)
+            → All (RuleLiesIn (length file)) (rules_in grammar) → IfErr result (TellsWhy (Refuses file) (length file)) }
+    {
+        match checked_core(alloc, &grammar) {
+            Ok(checked) => Ok(Parser { grammar, checked }),
+            Err(fault) => Err(Refusal::of_check(fault, grammar)),
+        }
+    }
+
+    /// The grammar that the file spells. Takes constant time.
+    pub fn grammar(&self) -> &Grammar
+        ensures { rules_in result.now ≡ parser_rules self.now }
+    {
+        &self.grammar
+    }
+
+    /// Where a terminal stands in the grammar file: its first byte and the one behind it. Takes constant time.
+    pub fn terminal_span(&self, terminal: u32) -> Span
+        requires { terminal < length (extents_of_terminals (parser_rules self.now)) }
+        ensures { slice_get (extents_of_terminals (parser_rules self.now)) terminal ≡ Some (extent result) }
+    {
+        self.checked.core().terminal_span(terminal)
+    }
+
+    /// What a rule of the grammar makes of a text's front: success, consumed length, tree and furthest failure are
+    /// those of Ford's recognition relation for the grammar as written (Ford 2004, section 3.3). `NoSuchStart` comes
+    /// first, then `TextTooLong`. It may take time exponential in the text's length, and native stack as deep as the
+    /// cases of recognition nest.
+    pub fn parse(
+        &self,
+        alloc: Global,
+        text: &[u8],
+        options: &ParseOptions<'_>,
+    ) -> Result<Answer, ParseFault>
+        ensures no_start { IsErrOf result ParseFault.NoSuchStart
+            ↔ (start_of (parser_rules self.now) (start_named options.now) ≡ None) }
+        ensures long { (start : List ℕ) → start_of (parser_rules self.now) (start_named options.now) ≡ Some start
+            → (IsErrOf result ParseFault.TextTooLong ↔ (most_text_bytes < length text.now)) }
+        ensures short { OnOk result (length text.now ≤ most_text_bytes) }
+        ensures outcome { IfOk result (λ answer. IfSome (start_of (parser_rules self.now) (start_named options.now))
+            (λ start. IsOutcome (parser_rules self.now) text.now start answer.outcome)) }
+        ensures fits { IfOk result (λ answer. Fits (parser_rules self.now) answer.outcome) }
+    {
+        let Some(start) = self.start(options) else {
+            return Err(ParseFault::NoSuchStart);
+        };
+        let outcome = plain_total(alloc, &self.grammar, text, start)?;
+        Ok(Answer { outcome })
+    }
+
+    // The number of the rule that a parse starts from.
+    fn start(&self, options: &ParseOptions<'_>) -> Option<u32>
+        ensures none { (result ≡ None) ↔ (start_of (parser_rules self.now) (start_named options.now) ≡ None) }
+        ensures some { IfSome result (λ start. start < length (parser_rules self.now)) }
+        ensures named { IfSome result (λ start.
+            start_of (parser_rules self.now) (start_named options.now) ≡ Some (name_of (parser_rules self.now) start)) }
+    {
+        match options.start {
+            None => Some(0),
+            Some(name) => self.grammar.rule_number(name),
+        }
+    }
+}

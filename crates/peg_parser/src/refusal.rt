@@ -1,0 +1,102 @@
+//! Why a grammar file is refused.
+ghost use Rattle.std.specs.Prelude.{◌≡◌, IfOk, map};
+ghost use Rattle.peg_ford.specs.Rules.{names};
+ghost use Rattle.peg_grammar.specs.GrammarRules.{rules_in};
+
+use peg_check::CheckFault;
+use peg_grammar::{Grammar, GrammarFault};
+use peg_notation::NotationFault;
+use std::alloc::{AllocError, Global};
+use thiserror::Error;
+
+/// Why a grammar file is refused. Want of memory in any layer is `Memory`.
+#[derive(Debug, Drop, Error)]
+pub enum Refusal {
+    /// It isn't in the notation, or over a limit of it.
+    #[error("the file isn't in the notation of grammars, or over its limits")]
+    Notation(NotationFault),
+    /// What it spells is no grammar, or one that is too large.
+    #[error("the file's definitions are no grammar, or one that is too large")]
+    Grammar(GrammarFault),
+    /// The grammar isn't well-formed. It comes with the grammar, whose rules the fault numbers.
+    #[error("the grammar isn't well-formed")]
+    NotWellFormed(CheckFault, Grammar),
+    /// Memory ran out.
+    #[error("out of memory")]
+    Memory,
+}
+
+impl From<AllocError> for Refusal {
+    ghost use Rattle.std.specs.Prelude.{◌≡◌};
+    ghost use Rattle.peg_parser.specs.declared.refusal.Refusal.TheVariants.{Memory};
+
+    ghost from_gives = { λ _ refusal. refusal ≡ Memory };
+
+    fn from(_error: AllocError) -> Refusal {
+        Refusal::Memory
+    }
+}
+
+impl From<NotationFault> for Refusal {
+    ghost use Rattle.std.specs.Prelude.{◌≡◌};
+    ghost use Rattle.peg_parser.specs.Faults.{of_notation};
+
+    ghost from_gives = { λ fault refusal. refusal ≡ of_notation fault };
+
+    fn from(fault: NotationFault) -> Refusal {
+        match fault {
+            NotationFault::Memory => Refusal::Memory,
+            other => Refusal::Notation(other),
+        }
+    }
+}
+
+impl From<GrammarFault> for Refusal {
+    ghost use Rattle.std.specs.Prelude.{◌≡◌};
+    ghost use Rattle.peg_parser.specs.Faults.{of_grammar};
+
+    ghost from_gives = { λ fault refusal. refusal ≡ of_grammar fault };
+
+    fn from(fault: GrammarFault) -> Refusal {
+        match fault {
+            GrammarFault::Memory => Refusal::Memory,
+            other => Refusal::Grammar(other),
+        }
+    }
+}
+
+impl Refusal {
+    ghost use Rattle.peg_parser.specs.Faults.{names_told, of_check};
+
+    // What the check's fault tells of a grammar.
+    pub(crate) fn of_check(fault: CheckFault, grammar: Grammar) -> Refusal
+        ensures { result ≡ of_check fault grammar }
+    {
+        match fault {
+            CheckFault::Memory => Refusal::Memory,
+            other => Refusal::NotWellFormed(other, grammar),
+        }
+    }
+
+    /// The names of the grammar's rules, in order, where the refusal names rules by their numbers; else none. Linear in
+    /// how many rules there are.
+    pub fn names(&self, alloc: Global) -> Result<Vec<&str>, AllocError>
+        ensures { IfOk result (λ list. map (λ name. name.now) list.items ≡ names_told self.now) }
+    {
+        match self {
+            Refusal::NotWellFormed(_, grammar) => names_of(alloc, grammar),
+            _ => Ok(Vec::new(alloc)),
+        }
+    }
+}
+
+// The names of a grammar's rules, in order.
+fn names_of(alloc: Global, grammar: &Grammar) -> Result<Vec<&str>, AllocError>
+    ensures { IfOk result (λ list. map (λ name. name.now) list.items ≡ names (rules_in grammar.now)) }
+{
+    let mut list = Vec::new(alloc);
+    for rule in 0..grammar.rules() {
+        list.push(grammar.rule_name(rule))?;
+    }
+    Ok(list)
+}

@@ -1,0 +1,6 @@
+mod AnswerLemmas
+pub mod ParseLemmas
+pub mod PrintLemmas
+mod RefusalLemmas
+mod RefusedLines
+mod TableLemmas

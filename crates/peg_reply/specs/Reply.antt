@@ -1,0 +1,90 @@
+-- The line and the status of what the tool replies.
+use Rattle.std.specs.Prelude.{ℕ, Bool, true, false, List, [], ◌∷◌, ◌++◌, codes, map, slice_index_or, if◌then◌else◌}
+use Rattle.serde_json.specs.Data.{Data, Members, unsigned, number, string}
+use Rattle.serde_json.specs.Data.{array, object, no_members, member, no_items, item}
+use Rattle.serde_json.specs.Data.{null}
+use Rattle.serde_json.specs.View.{items_of}
+use Rattle.serde_json.specs.Written.{compact_text}
+use Rattle.peg_bytes.specs.Extent.{Extent}
+use Rattle.peg_ford.specs.AbstractOutcomes.{Can}
+use Rattle.peg_tree.specs.Trees.{Trees}
+use Rattle.peg_tree.specs.Json.{nested_data, rows_data}
+use Rattle.peg_parser.specs.Cause.{Cause}
+use Rattle.peg_reply.specs.CauseText.{cause_data, cause_status}
+use Rattle.peg_reply.specs.TableText.{table_data}
+
+-- Why something is refused; or the rules' names and what their expressions can do; or how many rules a well-formed
+-- grammar has; or the furthest failure, as a place of the text and the places of terminals in the grammar file; and
+-- where the text matched, whether that is less than was asked for, whether the tree is told by its rows, where the
+-- match ends, the rules' names and the tree.
+pub data Reply : Type 0 where
+  Refused : Cause → Reply
+  Tabled : (names : List (List ℕ)) → (cans : List Can) → Reply
+  Accepted : (rules : ℕ) → Reply
+  Failed : (far : ℕ) → (expected : List Extent) → Reply
+  Matched : (partial rows : Bool) → (end far : ℕ) → (expected : List Extent) → (names : List (List ℕ)) → (tree : Trees)
+      → Reply
+
+-- 0 told, accepted or matched, 1 failed or matched in part, else that of the refusal
+abbrev pub status_of : Reply → ℕ
+status_of (Refused cause) = cause_status cause
+status_of (Tabled names cans) = 0
+status_of (Accepted rules) = 0
+status_of (Failed far expected) = 1
+status_of (Matched partial rows end far expected names tree) = if partial then 1 else 0
+
+-- the printed places of terminals
+abbrev pub extent_data : Extent → Data
+extent_data extent = array (item (number (unsigned extent.start)) (item (number (unsigned extent.end)) no_items))
+
+abbrev pub expected_data : List Extent → Data
+expected_data expected = array (items_of (map extent_data expected))
+
+-- The printed tree: the nested object of the first of the trees, or the list of all nodes' rows. An outcome's trees are
+-- one tree; of none `null` would be told, which no reply does.
+abbrev pub tree_data : List (List ℕ) → Trees → Data
+tree_data names tree = slice_index_or (nested_data names tree) 0 null
+
+abbrev pub tree_rows_data : List (List ℕ) → Trees → Data
+tree_rows_data names tree = array (items_of (rows_data names 1 tree))
+
+-- the last member of a match's object
+abbrev pub tree_member : (rows : Bool) → List (List ℕ) → Trees → Members
+tree_member true names tree = member (codes "rows") (tree_rows_data names tree) no_members
+tree_member false names tree = member (codes "tree") (tree_data names tree) no_members
+
+-- the word for a match: of the whole that was asked for, or of a part of it
+abbrev pub match_word : (partial : Bool) → List ℕ
+match_word true = codes "partial"
+match_word false = codes "matched"
+
+-- the printed object of a match
+abbrev pub matched_data : (partial : Bool) → (end far : ℕ) → List Extent → (tree : Members) → Data
+matched_data partial end far expected tree =
+    object (member (codes "consumed") (number (unsigned end)) (member (codes "expected") (expected_data expected)
+    (member (codes "far") (number (unsigned far)) (member (codes "result") (string (match_word partial)) tree))))
+
+-- the printed object of a failure
+abbrev pub failed_data : (far : ℕ) → List Extent → Data
+failed_data far expected =
+    object (member (codes "expected") (expected_data expected) (member (codes "far") (number (unsigned far))
+    (member (codes "result") (string (codes "failed")) no_members)))
+
+-- the printed object of an accepted grammar
+abbrev pub accepted_data : (rules : ℕ) → Data
+accepted_data rules =
+    object (member (codes "result") (string (codes "accepted")) (member (codes "rules") (number (unsigned rules))
+    no_members))
+
+-- the printed object of a reply about this grammar file
+abbrev pub printed : (file : List ℕ) → Reply → Data
+printed file (Refused cause) = cause_data file cause
+printed file (Tabled names cans) = table_data names cans
+printed file (Accepted rules) = accepted_data rules
+printed file (Failed far expected) = failed_data far expected
+printed file (Matched partial rows end far expected names tree) =
+    matched_data partial end far expected (tree_member rows names tree)
+
+-- the printed line, with its byte 10
+abbrev pub printed_line : (file : List ℕ) → Reply → List ℕ
+printed_line file reply = compact_text (printed file reply) ++ 10 ∷ []

@@ -1,0 +1,23 @@
+//! Replies: what is printed of an answer, a refusal, a table or an accepted grammar, as one line of JSON, with its
+//! status.
+#![tactic(auto)]
+
+mod answer_text;
+mod fault;
+mod line;
+mod lines;
+mod refusal_text;
+mod status;
+mod table_text;
+mod tree_form;
+
+pub use answer_text::answer_json;
+pub use fault::Fault;
+pub use line::Line;
+pub use lines::{
+    accepted_line, answer_line, long_text_line, no_start_line, refused_line, table_line,
+};
+pub use refusal_text::refusal_json;
+pub use status::Status;
+pub use table_text::table_json;
+pub use tree_form::TreeForm;

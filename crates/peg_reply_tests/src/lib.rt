@@ -1,0 +1,9 @@
+//! Tests of replies as JSON, against texts that were worked by hand.
+#![tactic(auto)]
+
+#[cfg(test)]
+mod answers;
+#[cfg(test)]
+mod refusals;
+#[cfg(test)]
+mod tables;

@@ -1,0 +1,187 @@
+//! What the words of a command line lead to, over files in memory.
+ghost use Rattle.std.specs.Prelude.{None};
+
+use peg_tool::{Device, OpenFault, Opener, ProgramFault, Status, Words, read_words, run_words};
+use std::alloc::Global;
+use std::process::Abort;
+use std::test::Fail;
+
+// A few files by their names, of which one takes more memory than there is.
+#[derive(Drop)]
+struct Shelf;
+
+impl Opener for Shelf {
+    ghost use Rattle.std.specs.Prelude.{None};
+
+    type File = Device<&'static [u8]>;
+
+    ghost holds = { λ _ _. None };
+
+    fn open(&self, name: &str) -> Result<Device<&'static [u8]>, OpenFault> {
+        let bytes: &'static [u8] = match name {
+            "line" => b"S <- 'a' S / 'b'\n",
+            "short" => b"S <- T 'c'\nT <- 'a' / 'b'\n",
+            "aab" => b"aab",
+            "bcd" => b"bcd",
+            "vast" => return Err(OpenFault::Memory),
+            _ => return Err(OpenFault::File),
+        };
+        Ok(Device::new(bytes))
+    }
+}
+
+// What the words of one text ask for, apart by spaces.
+fn words_of(alloc: Global, text: &str) -> Result<Words, Fail> {
+    let mut words = Vec::new(alloc);
+    for word in text.split(' ') {
+        words.push(String::from_str(alloc, word)?)?;
+    }
+    let asked = read_words(alloc, &words).map_err(|_| "no command line")?;
+    Ok(asked)
+}
+
+// Does what is asked, with an input, and compares what is written and how it ends.
+fn leads(
+    rt: &impl Abort,
+    alloc: Global,
+    words: &Words,
+    written: &str,
+    ended: Result<u8, ProgramFault>,
+) -> Result<(), Fail> {
+    let mut output = Vec::new(alloc);
+    let told = run_words(
+        alloc,
+        &Shelf,
+        &mut Device::new(b"S <- 'a'\n%%\na".as_slice()),
+        &mut Device::new(&mut output),
+        words,
+    );
+    assert!(rt; output.as_slice() == written.as_bytes(), "{written}");
+    assert_eq!(rt; told, ended, "{written}");
+    Ok(())
+}
+
+#[test]
+fn commands_have_their_lines(rt: HostRuntime) -> Result<(), Fail> {
+    let cases = [
+        (
+            "table line",
+            "{\"table\":[{\"fails\":true,\"nothing\":false,\"rule\":\"S\",\"something\":true}]}\n",
+            0,
+        ),
+        ("check line", "{\"result\":\"accepted\",\"rules\":1}\n", 0),
+        ("check short", "{\"result\":\"accepted\",\"rules\":2}\n", 0),
+        (
+            "check aab",
+            "{\"at\":3,\"column\":4,\"line\":1,\"refusal\":\"Syntax\"}\n",
+            2,
+        ),
+        (
+            "parse line aab",
+            "{\"consumed\":3,\"expected\":[[5,8]],\"far\":2,\"result\":\"matched\",\"tree\":{\"children\":[{\"children\":[{\"children\":[],\"end\":3,\"rule\":\"S\",\"start\":2}],\"end\":3,\"rule\":\"S\",\"start\":1}],\"end\":3,\"rule\":\"S\",\"start\":0}}\n",
+            0,
+        ),
+        (
+            "parse short aab",
+            "{\"expected\":[[7,10]],\"far\":1,\"result\":\"failed\"}\n",
+            1,
+        ),
+    ];
+    for (text, line, status) in cases {
+        let words = words_of(rt.alloc(), text)?;
+        leads(&rt, rt.alloc(), &words, line, Ok(status))?;
+    }
+    Ok(())
+}
+
+#[test]
+fn the_options_of_a_parse_are_passed_on(rt: HostRuntime) -> Result<(), Fail> {
+    let rows =
+        "{\"consumed\":3,\"expected\":[[5,8]],\"far\":2,\"result\":\"matched\",\"rows\":[[1,\"S\",0,3],[2,\"S\",1,3],[3,\"S\",2,3]]}\n";
+    let whole =
+        "{\"consumed\":2,\"expected\":[[16,19]],\"far\":0,\"result\":\"matched\",\"tree\":{\"children\":[{\"children\":[],\"end\":1,\"rule\":\"T\",\"start\":0}],\"end\":2,\"rule\":\"S\",\"start\":0}}\n";
+    let part =
+        "{\"consumed\":2,\"expected\":[[16,19]],\"far\":0,\"result\":\"partial\",\"tree\":{\"children\":[{\"children\":[],\"end\":1,\"rule\":\"T\",\"start\":0}],\"end\":2,\"rule\":\"S\",\"start\":0}}\n";
+    let start =
+        "{\"consumed\":1,\"expected\":[[16,19]],\"far\":0,\"result\":\"partial\",\"rows\":[[1,\"T\",0,1]]}\n";
+    let none = "{\"name\":\"U\",\"refusal\":\"NoSuchStart\"}\n";
+    let cases = [
+        ("parse line aab --rows", rows, 0),
+        ("parse line aab --rows --memo 0", rows, 0),
+        ("parse line aab --all --rows --memo 7", rows, 0),
+        ("parse short bcd", whole, 0),
+        ("parse short bcd --all", part, 1),
+        ("parse short bcd --start T --memo 1 --all --rows", start, 1),
+        ("parse short bcd --start U", none, 3),
+    ];
+    for (text, line, status) in cases {
+        let words = words_of(rt.alloc(), text)?;
+        leads(&rt, rt.alloc(), &words, line, Ok(status))?;
+    }
+    Ok(())
+}
+
+#[test]
+fn files_that_are_not_opened_are_faults(rt: HostRuntime) -> Result<(), Fail> {
+    let cases = [
+        ("table nowhere", ProgramFault::File),
+        ("check nowhere", ProgramFault::File),
+        ("parse nowhere aab", ProgramFault::File),
+        ("parse line nowhere", ProgramFault::File),
+        ("parse aab nowhere", ProgramFault::File),
+        ("check vast", ProgramFault::Memory),
+        ("parse line vast", ProgramFault::Memory),
+    ];
+    for (text, fault) in cases {
+        let words = words_of(rt.alloc(), text)?;
+        leads(&rt, rt.alloc(), &words, "", Err(fault))?;
+    }
+    Ok(())
+}
+
+#[test]
+fn no_words_read_the_input(rt: HostRuntime) -> Result<(), Fail> {
+    let line =
+        "{\"consumed\":1,\"expected\":[],\"far\":0,\"result\":\"matched\",\"tree\":{\"children\":[],\"end\":1,\"rule\":\"S\",\"start\":0}}\n";
+    leads(&rt, rt.alloc(), &Words::Joined, line, Ok(0))
+}
+
+#[test]
+fn help_is_written_as_it_is(rt: HostRuntime) -> Result<(), Fail> {
+    let alloc = rt.alloc();
+    for help in ["How to call it\n", "", "\n"] {
+        let text = String::from_str(alloc, help)?;
+        leads(&rt, alloc, &Words::Help { text }, help, Ok(0))?;
+    }
+    Ok(())
+}
+
+#[test]
+fn faults_have_a_text_and_a_status(rt: HostRuntime) -> Result<(), Fail> {
+    let cases = [
+        (ProgramFault::File, "pegtool: file fault", 4),
+        (ProgramFault::Memory, "pegtool: out of memory", 5),
+    ];
+    for (fault, text, status) in cases {
+        let told = format!(in rt.alloc(); "{fault}")?;
+        assert!(rt; told.as_str() == text, "{told}");
+        assert_eq!(rt; fault.status(), status);
+    }
+    Ok(())
+}
+
+#[test]
+fn statuses_have_their_numbers(rt: HostRuntime) {
+    let cases = [
+        (Status::Done, 0),
+        (Status::Failed, 1),
+        (Status::Refused, 2),
+        (Status::Usage, 3),
+        (Status::File, 4),
+        (Status::Memory, 5),
+        (Status::Limit, 6),
+    ];
+    for (status, code) in cases {
+        assert_eq!(rt; status.code(), code);
+    }
+}

@@ -1,0 +1,126 @@
+-- What runs of the tool are to the program.
+use Rattle.std.proofs.Common.{◌≡◌, ℕ, ◌==◌, Bool, true, false, inl, inr, List, Option, None, Some, Result, Ok, Err, IfOk, IfSome}
+use Rattle.std.proofs.Common.{refl, sym, ap, ◌∙◌, subst, if◌then◌else◌}
+use Rattle.std.specs.Io.KnownBytes.{Keeps}
+use Rattle.peg_parser.specs.Cause.{Cause, FileTooLong, Syntax, TooNested, NoRule, Duplicate, Undefined, TooManyParts}
+use Rattle.peg_parser.specs.Cause.{EmptyLoop, LeftRecursion, NoSuchStart, StepLimit, TooDeep, TextTooLong}
+use Rattle.peg_reply.specs.CauseText.{cause_status}
+use Rattle.peg_reply.specs.Reply.{Reply, Refused, Tabled, Accepted, Failed, Matched, status_of}
+use Rattle.peg_tool.specs.Leads.{Outcome, answer_of}
+use Rattle.peg_tool.specs.Replies.{IsPrinted}
+use Rattle.peg_tool.specs.Task.{Task, TableTask, CheckTask, ParseTask, IsParse, IsTextOf}
+use Rattle.peg_tool.specs.Written.{Prints, PrintsInPart}
+use Rattle.peg_tool.specs.declared.ending.ToolFault.{ToolFault}
+use Rattle.peg_tool.specs.declared.ending.ToolFault.TheVariants as tool
+use Rattle.peg_tool.specs.declared.program.ProgramFault.{ProgramFault}
+use Rattle.peg_tool.specs.declared.program.ProgramFault.TheVariants as program
+
+-- no reply has the status of want of memory
+cause-told : (cause : Cause) → (cause_status cause == 5) ≡ false
+cause-told FileTooLong = refl
+cause-told (Syntax at) = refl
+cause-told (TooNested at) = refl
+cause-told NoRule = refl
+cause-told (Duplicate name) = refl
+cause-told (Undefined name) = refl
+cause-told TooManyParts = refl
+cause-told (EmptyLoop rule) = refl
+cause-told (LeftRecursion path) = refl
+cause-told (NoSuchStart name) = refl
+cause-told StepLimit = refl
+cause-told TooDeep = refl
+cause-told TextTooLong = refl
+
+reply-told : (reply : Reply) → (status_of reply == 5) ≡ false
+reply-told (Refused cause) = cause-told cause
+reply-told (Tabled names cans) = refl
+reply-told (Accepted rules) = refl
+reply-told (Failed far expected) = refl
+reply-told (Matched true rows end far expected names tree) = refl
+reply-told (Matched false rows end far expected names tree) = refl
+
+pub printed-told : (task : Task) (file text line : List ℕ) (status : ℕ) → IsPrinted task file text line status
+    → (status == 5) ≡ false
+printed-told task file text line status is = ap (λ (n : ℕ). n == 5) is.3 ∙ reply-told is.0
+
+-- a run of the tool is an outcome of the program, where no right line has the status of want of memory
+pub answered-outcome : (IsRight : List ℕ → ℕ → Type 0) (old new : Option (List ℕ)) (ended : Result ℕ ToolFault)
+    → ((line : List ℕ) (status : ℕ) → IsRight line status → (status == 5) ≡ false)
+    → IfOk ended (λ status. Prints IsRight old new status) → (ended ≡ Err tool.WriteFault → PrintsInPart IsRight old new)
+    → (ended ≡ Err tool.ReadFault → Keeps old new) → Outcome IsRight old new (answer_of ended)
+answered-outcome IsRight old new (Ok status) told (inl prints) part nothing =
+    let other = told prints.0 status prints.1 in
+    subst (λ (b : Bool). Outcome IsRight old new (if b then Err program.Memory else Ok status)) (sym other) prints
+answered-outcome IsRight old new (Ok status) told (inr ran_out) part nothing =
+    subst (λ (n : ℕ). Outcome IsRight old new (answer_of (Ok n))) (sym ran_out.0) ran_out.1
+answered-outcome IsRight old new (Err tool.WriteFault) told prints part nothing = inr (part refl)
+answered-outcome IsRight old new (Err tool.ReadFault) told prints part nothing = inl (nothing refl)
+
+-- a task that is no parse takes any text, and each task the one that is left
+pub takes_any : (task : Task) (file : List ℕ) (left : Option (List ℕ)) (bytes : List ℕ) → ¬ IsParse task
+    → IsTextOf task file left bytes
+takes_any TableTask file left bytes other = tt
+takes_any CheckTask file left bytes other = tt
+takes_any (ParseTask start all rows) file left bytes other = absurd (other tt)
+
+pub takes_left : (task : Task) (file : List ℕ) (left : Option (List ℕ)) (bytes : List ℕ) → left ≡ Some bytes
+    → IsTextOf task file left bytes
+takes_left TableTask file left bytes is = tt
+takes_left CheckTask file left bytes is = tt
+takes_left (ParseTask start all rows) file left bytes is = λ rules accepts. is
+
+-- a run of the tool over an opened file is an outcome of the program, for each text that it may be about
+pub opened-outcome : (task : Task) (held left text old new : Option (List ℕ)) (ended : Result ℕ ToolFault)
+    (result : Result ℕ ProgramFault) → IfSome held (λ bytes. left ≡ Some bytes) → result ≡ answer_of ended
+    → IfSome left (λ file. (bytes : List ℕ) → IsTextOf task file text bytes
+    → IfOk ended (λ status. Prints (IsPrinted task file bytes) old new status))
+    → IfSome left (λ file. (bytes : List ℕ) → IsTextOf task file text bytes → ended ≡ Err tool.WriteFault
+    → PrintsInPart (IsPrinted task file bytes) old new)
+    → (ended ≡ Err tool.ReadFault → Keeps old new)
+    → IfSome held (λ file. (bytes : List ℕ) → IsTextOf task file text bytes
+    → Outcome (IsPrinted task file bytes) old new result)
+opened-outcome task None left text old new ended result opened is prints part nothing = tt
+opened-outcome task (Some file) left text old new ended result opened is prints part nothing = λ bytes of_text.
+    let whole = subst (λ (l : Option (List ℕ)). IfSome l (λ f. (b : List ℕ) → IsTextOf task f text b
+    → IfOk ended (λ status. Prints (IsPrinted task f b) old new status))) opened prints in
+    let cut = subst (λ (l : Option (List ℕ)). IfSome l (λ f. (b : List ℕ) → IsTextOf task f text b
+    → ended ≡ Err tool.WriteFault → PrintsInPart (IsPrinted task f b) old new)) opened part in
+    subst (λ (r : Result ℕ ProgramFault). Outcome (IsPrinted task file bytes) old new r) (sym is)
+    (answered-outcome (IsPrinted task file bytes) old new ended (printed-told task file bytes) (whole bytes of_text)
+    (cut bytes of_text) nothing)
+
+-- of a file alone, whatever the text
+pub alone-outcome : (task : Task) (held text old new : Option (List ℕ)) (result : Result ℕ ProgramFault)
+    → ¬ IsParse task
+    → IfSome held (λ file. (bytes : List ℕ) → IsTextOf task file text bytes
+    → Outcome (IsPrinted task file bytes) old new result)
+    → IfSome held (λ file. (bytes : List ℕ) → Outcome (IsPrinted task file bytes) old new result)
+alone-outcome task None text old new result other outcome = tt
+alone-outcome task (Some file) text old new result other outcome =
+    λ bytes. outcome bytes (takes_any task file text bytes other)
+
+-- of a file and a text that is opened
+pub both-outcome : (task : Task) (held held_text text old new : Option (List ℕ)) (result : Result ℕ ProgramFault)
+    → IfSome held_text (λ bytes. text ≡ Some bytes)
+    → IfSome held (λ file. (bytes : List ℕ) → IsTextOf task file text bytes
+    → Outcome (IsPrinted task file bytes) old new result)
+    → IfSome held (λ file. IfSome held_text (λ bytes. Outcome (IsPrinted task file bytes) old new result))
+both-outcome task None held_text text old new result opened outcome = tt
+both-outcome task (Some file) None text old new result opened outcome = tt
+both-outcome task (Some file) (Some bytes) text old new result opened outcome =
+    outcome bytes (takes_left task file text bytes opened)
+
+-- the program's answer to a parse, by the names and the start of the words
+pub parse-leads : (holds : List ℕ → Option (List ℕ)) (old new : Option (List ℕ)) (result : Result ℕ ProgramFault)
+    (g t g' t' : List ℕ) (start start' : Option (List ℕ)) (all rows : Bool) → g ≡ g' → t ≡ t' → start ≡ start'
+    → IfSome (holds g) (λ file. IfSome (holds t) (λ text.
+    Outcome (IsPrinted (ParseTask start all rows) file text) old new result))
+    → IfSome (holds g') (λ file. IfSome (holds t') (λ text.
+    Outcome (IsPrinted (ParseTask start' all rows) file text) old new result))
+parse-leads holds old new result g t g' t' start start' all rows same same_text same_start outcome =
+    subst (λ (s : Option (List ℕ)). IfSome (holds g') (λ file. IfSome (holds t') (λ text.
+    Outcome (IsPrinted (ParseTask s all rows) file text) old new result))) same_start
+    (subst (λ (name : List ℕ). IfSome (holds g') (λ file. IfSome (holds name) (λ text.
+    Outcome (IsPrinted (ParseTask start all rows) file text) old new result))) same_text
+    (subst (λ (name : List ℕ). IfSome (holds name) (λ file. IfSome (holds t) (λ text.
+    Outcome (IsPrinted (ParseTask start all rows) file text) old new result))) same outcome))

@@ -1,0 +1,19 @@
+use Rattle.std.proofs.Common.{ℕ, IfOk, length, string_bytes, subst, ap, ◌∙◌}
+use Rattle.peg_parser.specs.Parser.{parser_rules}
+use Rattle.peg_reply.specs.Lines.{IsReply}
+use Rattle.peg_reply.specs.Reply.{Accepted}
+use Rattle.peg_reply.specs.Statuses.{code_of}
+use Rattle.peg_reply.proofs.PrintLemmas.{reply-kind}
+use Rattle.peg_tool.specs.Judged.{Judges}
+use Rattle.peg_tool.specs.Replies.{RepliesTo, accepted}
+use Rattle.peg_tool.specs.Task.{CheckTask}
+use Rattle.peg_tool.proofs.judge.check_file.Goals as goal
+
+pub returns-in-Accepted : goal.returns-in-Accepted
+returns-in-Accepted c text =
+    let file = c.args.file.now in
+    let rules = parser_rules c.in-Accepted.parser in
+    let judged = subst (Judges file) c.in-Accepted.is c.in_ok-parser.ensures in
+    reply-kind c.accepted_line.result file (RepliesTo file text CheckTask) (Accepted (length rules))
+    (subst (λ (n : ℕ). IfOk c.accepted_line.result (λ line. IsReply file (Accepted n) (string_bytes line.text) (code_of line.status)))
+    (c.rules.ensures.count ∙ ap length c.grammar.ensures) (c.accepted_line.ensures file)) (accepted judged)

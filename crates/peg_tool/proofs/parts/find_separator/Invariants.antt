@@ -1,6 +1,0 @@
--- No separator stands before the place.
-use Rattle.peg_tool.specs.Split.{NoneBefore}
-use Rattle.peg_tool.proofs.parts.find_separator.Given as goal
-
-abbrev pub invariant-loop-place : goal.invariant-loop-place
-invariant-loop-place l = NoneBefore l.input l.place

@@ -1,0 +1,14 @@
+use Rattle.peg_tool.specs.Commands.{task_of}
+use Rattle.peg_tool.proofs.ProgramLemmas.{opened-outcome, alone-outcome}
+use Rattle.peg_tool.proofs.program.on_file.Goals as goal
+
+pub returns : goal.returns
+returns g c =
+    let task = task_of c.args.command.now in
+    let held = g.O.Opener.holds c.args.files.now c.args.g.now in
+    let old = g.W.Sink.written c.args.output.now in
+    let new = g.W.Sink.written c.run_tool.new.output in
+    alone-outcome task held _ old new c.answered.result c.requires.alone
+    (opened-outcome task held (g.O.File.Source.left c.in_ok-grammar.grammar) _ old new c.run_tool.result c.answered.result
+    c.in_ok-grammar.ensures.bytes c.answered.ensures c.run_tool.ensures.answer c.run_tool.ensures.partly_written
+    c.run_tool.ensures.nothing_written)

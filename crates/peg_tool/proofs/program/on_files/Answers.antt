@@ -1,0 +1,16 @@
+use Rattle.peg_tool.specs.Commands.{task_of}
+use Rattle.peg_tool.proofs.ProgramLemmas.{opened-outcome, both-outcome}
+use Rattle.peg_tool.proofs.program.on_files.Goals as goal
+
+pub returns : goal.returns
+returns g c =
+    let task = task_of c.args.command.now in
+    let held = g.O.Opener.holds c.args.files.now c.args.g.now in
+    let held_text = g.O.Opener.holds c.args.files.now c.args.t.now in
+    let text = g.O.File.Source.left c.in_ok-text.text in
+    let old = g.W.Sink.written c.args.output.now in
+    let new = g.W.Sink.written c.run_tool.new.output in
+    both-outcome task held held_text text old new c.answered.result c.in_ok-text.ensures.bytes
+    (opened-outcome task held (g.O.File.Source.left c.in_ok-grammar.grammar) text old new c.run_tool.result
+    c.answered.result c.in_ok-grammar.ensures.bytes c.answered.ensures c.run_tool.ensures.answer
+    c.run_tool.ensures.partly_written c.run_tool.ensures.nothing_written)

@@ -1,0 +1,17 @@
+use Rattle.std.proofs.Common.{string_bytes, subst, sym, option_map}
+use Rattle.peg_tool.specs.Leads.{Leads}
+use Rattle.peg_tool.proofs.ProgramLemmas.{parse-leads}
+use Rattle.peg_words.specs.declared.words.Words.{Words}
+use Rattle.peg_tool.proofs.program.run_words.Goals as goal
+
+pub returns-in-Parse-clause-leads : goal.returns-in-Parse-clause-leads
+returns-in-Parse-clause-leads g c =
+    let holds = g.O.Opener.holds c.args.files.now in
+    let old = g.W.Sink.written c.args.output.now in
+    let new = g.W.Sink.written c.on_files.new.output in
+    subst (λ (words : Words). Leads words holds (g.I.Source.left c.args.input.now) old new c.on_files.result)
+    (sym c.in-Parse.is)
+    (parse-leads holds old new c.on_files.result c.deref-in-Parse.result.now c.deref-in-Parse-2.result.now
+    (string_bytes c.in-Parse.g) (string_bytes c.in-Parse.t) (option_map (λ name. name.now) c.as_deref.result)
+    (option_map string_bytes c.in-Parse.start) c.in-Parse.all c.in-Parse.rows c.deref-in-Parse.ensures
+    c.deref-in-Parse-2.ensures c.as_deref.ensures.value c.on_files.ensures)

@@ -1,0 +1,81 @@
+use Rattle.std.proofs.Common.{◌≡◌, ◌∙◌, Bool, ℕ, ◌+◌, ◌<◌, ◌≤◌, List, IfOk, length, string_bytes, subst, sym, ap, arith}
+use Rattle.std.specs.Io.KnownBytes.{IsAtEnd}
+use Rattle.peg_figure.specs.Notation.{most_file_bytes}
+use Rattle.peg_ford.specs.Rules.{Rule}
+use Rattle.peg_parser.specs.Accepts.{Accepts}
+use Rattle.peg_parser.specs.Parser.{start_named}
+use Rattle.peg_reply.specs.Statuses.{code_of}
+use Rattle.peg_reply.specs.TreeForms.{is_rows}
+use Rattle.peg_tool.specs.Commands.{task_of}
+use Rattle.peg_tool.specs.Replies.{IsPrinted}
+use Rattle.peg_tool.specs.Task.{Task, TableTask, CheckTask, ParseTask, IsTextOf}
+use Rattle.peg_tool.proofs.RunLemmas.{IsRightFor, line-held, told-held, held-unaccepted}
+use Rattle.peg_tool.proofs.tool.line_of.Goals as goal
+
+pub returns-in-Table-clause-answer : goal.returns-in-Table-clause-answer
+returns-in-Table-clause-answer g c =
+    let held = c.in_ok-file.file in
+    let told = c.in_ok-table_file-in-Table.field-0 in
+    let line = string_bytes told.text in
+    let text = g.T.Source.left c.args.text.now in
+    let task = task_of c.args.command.now in
+    let is : TableTask ≡ task = sym (ap task_of c.in-Table.is) in
+    let right : IsRightFor task text held.items line (code_of told.status) =
+    λ bytes any. subst (λ (t : Task). IsPrinted t held.items bytes line (code_of told.status)) is
+    (subst (λ (l : List ℕ). IsPrinted TableTask l bytes line (code_of told.status)) c.deref.ensures.value
+    (c.in_ok-table_file-in-Table.ensures bytes)) in
+    let within : length held.items ≤ most_file_bytes + 1 = omega (arith, held.ok.0, c.in_ok-file.ensures.most) in
+    let at_end : length held.items < most_file_bytes + 1 → IsAtEnd (g.G.Source.left c.read_up_to.new.input) =
+    λ less. c.in_ok-file.ensures.end (omega (arith, held.ok.0)) in
+    line-held task text (g.G.Source.left c.args.grammar.now) (g.G.Source.left c.read_up_to.new.input) held.items line
+    (code_of told.status) c.in_ok-file.ensures.bytes within at_end right
+
+pub returns-in-Check-clause-answer : goal.returns-in-Check-clause-answer
+returns-in-Check-clause-answer g c =
+    let held = c.in_ok-file.file in
+    let told = c.in_ok-check_file-in-Check.field-0 in
+    let line = string_bytes told.text in
+    let text = g.T.Source.left c.args.text.now in
+    let task = task_of c.args.command.now in
+    let is : CheckTask ≡ task = sym (ap task_of c.in-Check.is) in
+    let right : IsRightFor task text held.items line (code_of told.status) =
+    λ bytes any. subst (λ (t : Task). IsPrinted t held.items bytes line (code_of told.status)) is
+    (subst (λ (l : List ℕ). IsPrinted CheckTask l bytes line (code_of told.status)) c.deref-in-Check.ensures.value
+    (c.in_ok-check_file-in-Check.ensures bytes)) in
+    let within : length held.items ≤ most_file_bytes + 1 = omega (arith, held.ok.0, c.in_ok-file.ensures.most) in
+    let at_end : length held.items < most_file_bytes + 1 → IsAtEnd (g.G.Source.left c.read_up_to.new.input) =
+    λ less. c.in_ok-file.ensures.end (omega (arith, held.ok.0)) in
+    line-held task text (g.G.Source.left c.args.grammar.now) (g.G.Source.left c.read_up_to.new.input) held.items line
+    (code_of told.status) c.in_ok-file.ensures.bytes within at_end right
+
+pub returns-clause-answer : goal.returns-clause-answer
+returns-clause-answer g c =
+    let held = c.in_ok-file.file in
+    let text = g.T.Source.left c.args.text.now in
+    let task = task_of c.args.command.now in
+    let asked = ParseTask (start_named c.in-Parse.options) c.in-Parse.all (is_rows c.of.result) in
+    let is : asked ≡ task =
+    ap (λ (rows : Bool). ParseTask (start_named c.in-Parse.options) c.in-Parse.all rows) c.of.ensures
+    ∙ sym (ap task_of c.in-Parse.is) in
+    let right : (bytes : List ℕ) → IsTextOf task held.items text bytes
+    → IfOk c.parsed.result (λ line. IsPrinted task held.items bytes (string_bytes line.text) (code_of line.status)) =
+    subst (λ (t : Task). (bytes : List ℕ) → IsTextOf t held.items text bytes
+    → IfOk c.parsed.result (λ line. IsPrinted t held.items bytes (string_bytes line.text) (code_of line.status))) is
+    (subst (λ (l : List ℕ). (bytes : List ℕ) → IsTextOf asked l text bytes
+    → IfOk c.parsed.result (λ line. IsPrinted asked l bytes (string_bytes line.text) (code_of line.status)))
+    c.deref-in-Parse.ensures.value c.parsed.ensures.answer) in
+    let within : length held.items ≤ most_file_bytes + 1 = omega (arith, held.ok.0, c.in_ok-file.ensures.most) in
+    let at_end : length held.items < most_file_bytes + 1 → IsAtEnd (g.G.Source.left c.read_up_to.new.input) =
+    λ less. c.in_ok-file.ensures.end (omega (arith, held.ok.0)) in
+    told-held c.parsed.result task text (g.G.Source.left c.args.grammar.now) (g.G.Source.left c.read_up_to.new.input)
+    held.items c.in_ok-file.ensures.bytes within at_end right
+
+pub returns-clause-refused : goal.returns-clause-refused
+returns-clause-refused g c =
+    let held = c.in_ok-file.file in
+    let at_end : length held.items < most_file_bytes + 1 → IsAtEnd (g.G.Source.left c.read_up_to.new.input) =
+    λ less. c.in_ok-file.ensures.end (omega (arith, held.ok.0)) in
+    held-unaccepted (g.G.Source.left c.args.grammar.now) (g.G.Source.left c.read_up_to.new.input) held.items _
+    c.in_ok-file.ensures.bytes at_end
+    (λ none. c.parsed.ensures.refused (subst (λ (l : List ℕ). (rules : List Rule) → ¬ Accepts l rules)
+    (sym c.deref-in-Parse.ensures.value) none))

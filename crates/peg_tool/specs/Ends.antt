@@ -1,0 +1,19 @@
+-- Describes code: how a run ends.
+use Rattle.std.specs.Prelude.{◌≡◌, ℕ, List, Option, Result, Ok, Err, string_bytes}
+use Rattle.std.specs.Io.KnownBytes.{Appends, Keeps}
+use Rattle.peg_io.specs.Transfer.{AppendsProperPrefix}
+use Rattle.peg_io.specs.declared.transfer.ReadFault.{ReadFault}
+use Rattle.peg_io.specs.declared.transfer.ReadFault.TheVariants as read
+use Rattle.peg_reply.specs.Statuses.{code_of}
+use Rattle.peg_reply.specs.declared.line.Line.{Line}
+use Rattle.peg_tool.specs.declared.ending.ToolFault.{ToolFault}
+use Rattle.peg_tool.specs.declared.ending.ToolFault.TheVariants as tool
+
+-- a run with this line, or with none, ends so: the line is written and its status answered, or it is cut off; want of
+-- memory ends with its status and nothing written, a failed read with its fault and nothing written
+abbrev pub Ends : Result Line ReadFault → (old new : Option (List ℕ)) → Result ℕ ToolFault → Type 0
+Ends (Ok line) old new (Ok status) = Appends old new (string_bytes line.text) × (status ≡ code_of line.status)
+Ends (Ok line) old new (Err tool.WriteFault) = AppendsProperPrefix old new (string_bytes line.text)
+Ends (Ok line) old new (Err tool.ReadFault) = ⊥
+Ends (Err read.Memory) old new result = (result ≡ Ok 5) × Keeps old new
+Ends (Err read.Device) old new result = (result ≡ Err tool.ReadFault) × Keeps old new

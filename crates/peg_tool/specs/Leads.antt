@@ -1,0 +1,50 @@
+-- What the words of a command line lead to.
+use Rattle.std.specs.Prelude.{◌≡◌, ◌⊎◌, ℕ, ◌==◌, List, Option}
+use Rattle.std.specs.Prelude.{option_map, Result, Ok, Err, IfSome, if◌then◌else◌, string_bytes}
+use Rattle.std.specs.Io.KnownBytes.{Appends, Keeps}
+use Rattle.peg_io.specs.declared.opener.OpenFault.{OpenFault}
+use Rattle.peg_io.specs.declared.opener.OpenFault.TheVariants as opening
+use Rattle.peg_words.specs.declared.words.Words.{Words}
+use Rattle.peg_words.specs.declared.words.Words.TheVariants.{Joined, Help, Table, Check, Parse}
+use Rattle.peg_tool.specs.Replies.{IsPrinted, IsPrintedJoined}
+use Rattle.peg_tool.specs.Task.{TableTask, CheckTask, ParseTask}
+use Rattle.peg_tool.specs.Written.{PrintsInPart}
+use Rattle.peg_tool.specs.declared.ending.ToolFault.{ToolFault}
+use Rattle.peg_tool.specs.declared.program.ProgramFault.{ProgramFault}
+use Rattle.peg_tool.specs.declared.program.ProgramFault.TheVariants.{File, Memory}
+
+-- What becomes of the output: a right line is written, and its status answered; where memory ran out nothing is
+-- written; where something failed outside, nothing or a front of a right line.
+abbrev pub Outcome : (IsRight : List ℕ → ℕ → Type 0) → (old new : Option (List ℕ)) → Result ℕ ProgramFault → Type 0
+Outcome IsRight old new (Ok status) = (line : List ℕ) × IsRight line status × Appends old new line
+Outcome IsRight old new (Err Memory) = Keeps old new
+Outcome IsRight old new (Err File) = Keeps old new ⊎ PrintsInPart IsRight old new
+
+-- these bytes are the text of help, and this is its status
+abbrev pub IsHelp : (text : List ℕ) → (line : List ℕ) → (status : ℕ) → Type 0
+IsHelp text line status = (line ≡ text) × (status ≡ 0)
+
+-- What the words lead to, over files with these bytes by name and an input: nothing is said where these aren't told.
+abbrev pub Leads : Words → (holds : List ℕ → Option (List ℕ)) → (input : Option (List ℕ))
+    → (old new : Option (List ℕ)) → Result ℕ ProgramFault → Type 0
+Leads Joined holds input old new result = IfSome input (λ bytes. Outcome (IsPrintedJoined bytes) old new result)
+Leads (Help text) holds input old new result = Outcome (IsHelp (string_bytes text)) old new result
+Leads (Table g) holds input old new result = IfSome (holds (string_bytes g)) (λ file.
+    (text : List ℕ) → Outcome (IsPrinted TableTask file text) old new result)
+Leads (Check g) holds input old new result = IfSome (holds (string_bytes g)) (λ file.
+    (text : List ℕ) → Outcome (IsPrinted CheckTask file text) old new result)
+Leads (Parse g t start memo all rows) holds input old new result =
+    IfSome (holds (string_bytes g)) (λ file. IfSome (holds (string_bytes t)) (λ text.
+    Outcome (IsPrinted (ParseTask (option_map string_bytes start) all rows) file text) old new result))
+
+-- ---- how answers are passed on
+
+-- that of a run of the tool: its want of memory is the program's
+abbrev pub answer_of : Result ℕ ToolFault → Result ℕ ProgramFault
+answer_of (Ok status) = if status == 5 then Err Memory else Ok status
+answer_of (Err why) = Err File
+
+-- why a file isn't opened
+abbrev pub of_open : OpenFault → ProgramFault
+of_open opening.File = File
+of_open opening.Memory = Memory

@@ -1,0 +1,37 @@
+-- What the tool replies to a task on a grammar file and a text: the first case that applies.
+use Rattle.std.specs.Prelude.{ℕ, Bool, List, Option, length}
+use Rattle.peg_ford.specs.AbstractOutcomes.{Can}
+use Rattle.peg_ford.specs.RuleOutcomes.{AreOutcomes}
+use Rattle.peg_ford.specs.Rules.{Rule, names}
+use Rattle.peg_parser.specs.Accepts.{IsRead, IsTaken, Accepts}
+use Rattle.peg_parser.specs.Cause.{Cause}
+use Rattle.peg_parser.specs.Refusals.{IsNoGrammar, IsIllFormed}
+use Rattle.peg_reply.specs.Lines.{IsLineOf}
+use Rattle.peg_reply.specs.Parses.{ParsesTo}
+use Rattle.peg_reply.specs.Reply.{Reply, Refused, Tabled, Accepted}
+use Rattle.peg_io.specs.Split.{IsSplit}
+use Rattle.peg_tool.specs.Task.{Task, TableTask, CheckTask, ParseTask, Checks, default_task}
+
+-- the reply to a task on a grammar file and a text
+pub data RepliesTo (file text : List ℕ) : Task → Reply → Type 0 where
+  no_grammar : {task : Task} {cause : Cause} → IsNoGrammar file cause → RepliesTo file text task (Refused cause)
+  tabled : {rules : List Rule} {cans : List Can} → IsRead file rules → IsTaken rules → AreOutcomes rules cans
+      → RepliesTo file text TableTask (Tabled (names rules) cans)
+  ill_formed : {task : Task} {cause : Cause} → Checks task → IsIllFormed file cause
+      → RepliesTo file text task (Refused cause)
+  accepted : {rules : List Rule} → Accepts file rules → RepliesTo file text CheckTask (Accepted (length rules))
+  parsed : {rules : List Rule} {start : Option (List ℕ)} {all rows : Bool} {reply : Reply} → Accepts file rules
+      → ParsesTo rules text start all rows reply → RepliesTo file text (ParseTask start all rows) reply
+
+-- a line and a status are those of the reply to a task on a grammar file and a text
+abbrev pub IsPrinted : Task → (file text : List ℕ) → (line : List ℕ) → (status : ℕ) → Type 0
+IsPrinted task file text = IsLineOf file (RepliesTo file text task)
+
+-- they are those of a parse of the text by the grammar file that are both in one input
+abbrev pub IsPrintedJoined : (input : List ℕ) → (line : List ℕ) → (status : ℕ) → Type 0
+IsPrintedJoined input line status =
+    (file text : List ℕ) × IsSplit input file text × IsPrinted default_task file text line status
+
+-- the most bytes that are held of a grammar file and a text with their separator
+abbrev pub most_joined_bytes : ℕ
+most_joined_bytes = 68157444

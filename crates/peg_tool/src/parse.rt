@@ -1,0 +1,54 @@
+//! The line of a parse.
+ghost use Rattle.std.specs.Prelude.{◌≡◌, ◌≢◌, ℕ, ◌<◌, ◌≤◌, List, None, Some, IfOk, length, option_map, string_bytes};
+ghost use Rattle.peg_parser.specs.Cause.{NoSuchStart, TextTooLong};
+ghost use Rattle.peg_parser.specs.Parser.{parser_rules, start_named};
+ghost use Rattle.peg_grammar.specs.Limits.{most_text_bytes};
+ghost use Rattle.peg_reply.specs.Lines.{IsLineOf, IsReply};
+ghost use Rattle.peg_reply.specs.Parses.{ParsesTo};
+ghost use Rattle.peg_reply.specs.Reply.{Refused};
+ghost use Rattle.peg_reply.specs.Statuses.{code_of};
+ghost use Rattle.peg_reply.specs.TreeForms.{is_rows};
+
+use peg_grammar::MOST_TEXT_BYTES;
+use peg_parser::{ParseFault, ParseOptions, Parser};
+use peg_reply::{Line, TreeForm, answer_line, long_text_line, no_start_line};
+use std::alloc::{AllocError, Global};
+
+/// The line of a parse of a text: that it is too long comes before that the start is no rule.
+pub(crate) fn parse_line(
+    alloc: Global,
+    parser: &Parser,
+    text: &[u8],
+    options: &ParseOptions<'_>,
+    all: bool,
+    form: TreeForm,
+) -> Result<Line, AllocError>
+    ensures { (file : List ℕ) → IfOk result (λ line. IsLineOf file
+        (ParsesTo (parser_rules parser.now) text.now (start_named options.now) all (is_rows form))
+        (string_bytes line.text) (code_of line.status)) }
+{
+    match parser.parse(alloc, text, options) {
+        Ok(answer) => answer_line(alloc, parser, &answer, text.len() as u32, all, form),
+        Err(ParseFault::NoSuchStart) => no_start(alloc, text, options.start),
+        Err(ParseFault::TextTooLong) => long_text_line(alloc),
+        Err(ParseFault::Memory) => Err(AllocError),
+    }
+}
+
+// That the start is no rule, where the text isn't too long.
+fn no_start(alloc: Global, text: &[u8], start: Option<&str>) -> Result<Line, AllocError>
+    requires { start ≢ None }
+    ensures long { most_text_bytes < length text.now → (file : List ℕ) → IfOk result
+        (λ line. IsReply file (Refused TextTooLong) (string_bytes line.text) (code_of line.status)) }
+    ensures missing { length text.now ≤ most_text_bytes → (file name : List ℕ)
+        → option_map (λ given. given.now) start.entry ≡ Some name → IfOk result
+        (λ line. IsReply file (Refused (NoSuchStart name)) (string_bytes line.text) (code_of line.status)) }
+{
+    if text.len() > MOST_TEXT_BYTES {
+        return long_text_line(alloc);
+    }
+    match start {
+        Some(name) => no_start_line(alloc, name),
+        None => unreachable!(),
+    }
+}

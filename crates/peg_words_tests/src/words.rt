@@ -1,0 +1,178 @@
+//! Words of command lines, and what they ask for.
+use peg_words::{Words, WordsFault, read_words};
+use std::alloc::{AllocError, Global};
+use std::process::Abort;
+use std::test::Fail;
+
+// What is read from these words, one after the other.
+fn read(alloc: Global, words: &[&str]) -> Result<Words, WordsFault> {
+    let mut list = Vec::new(alloc);
+    for word in words {
+        let word = String::from_str(alloc, word)?;
+        match list.push(word) {
+            Ok(()) => (),
+            Err(_) => return Err(WordsFault::Memory),
+        }
+    }
+    read_words(alloc, &list)
+}
+
+#[test]
+fn no_words_are_one_input(rt: HostRuntime) {
+    assert!(rt; matches!(read(rt.alloc(), &[]), Ok(Words::Joined)));
+}
+
+#[test]
+fn table_has_its_file(rt: HostRuntime) -> Result<(), Fail> {
+    let words = read(rt.alloc(), &["table", "x"]).map_err(|_| "table x")?;
+    match words {
+        Words::Table { g } => assert_eq!(rt; g.as_str(), "x"),
+        _ => assert!(rt; false),
+    }
+    Ok(())
+}
+
+#[test]
+fn check_has_its_file(rt: HostRuntime) -> Result<(), Fail> {
+    let words = read(rt.alloc(), &["check", "x"]).map_err(|_| "check x")?;
+    match words {
+        Words::Check { g } => assert_eq!(rt; g.as_str(), "x"),
+        _ => assert!(rt; false),
+    }
+    Ok(())
+}
+
+// What is asked by the words of one text, apart by spaces, is this.
+fn asks(rt: &impl Abort, alloc: Global, line: &str, expected: &Words) -> Result<(), Fail> {
+    let words: Vec<&str> = line.split(' ').collect(alloc)?;
+    let asked = read(alloc, &words).map_err(|_| "a fault")?;
+    assert!(rt; asked == *expected, "{line}");
+    Ok(())
+}
+
+// A parse of the text t by the grammar file g.
+fn parse(
+    alloc: Global,
+    start: Option<&str>,
+    memo: u32,
+    all: bool,
+    rows: bool,
+) -> Result<Words, AllocError> {
+    let start = match start {
+        Some(name) => Some(String::from_str(alloc, name)?),
+        None => None,
+    };
+    let g = String::from_str(alloc, "g")?;
+    let t = String::from_str(alloc, "t")?;
+    Ok(Words::Parse {
+        g,
+        t,
+        start,
+        memo,
+        all,
+        rows,
+    })
+}
+
+#[test]
+fn parse_has_its_options(rt: HostRuntime) -> Result<(), Fail> {
+    let alloc = rt.alloc();
+    let cases = [
+        ("parse g t", None, 4096, false, false),
+        ("parse g t --rows", None, 4096, false, true),
+        ("parse g --all t", None, 4096, true, false),
+        ("parse g t --memo 0", None, 0, false, false),
+        ("parse --memo=1000000 g t", None, 1_000_000, false, false),
+        ("parse g t --start Value", Some("Value"), 4096, false, false),
+        ("parse g t --start -a", Some("-a"), 4096, false, false),
+        (
+            "parse g t --start A --memo 7 --all --rows",
+            Some("A"),
+            7,
+            true,
+            true,
+        ),
+    ];
+    for (line, start, memo, all, rows) in cases {
+        let expected = parse(alloc, start, memo, all, rows)?;
+        asks(&rt, alloc, line, &expected)?;
+    }
+    Ok(())
+}
+
+// The text that comes in place of a command, and whether it is help.
+fn told(alloc: Global, words: &[&str]) -> Option<(bool, String)> {
+    match read(alloc, words) {
+        Ok(Words::Help { text }) => Some((true, text)),
+        Err(WordsFault::Usage { text }) => Some((false, text)),
+        Ok(Words::Joined) => None,
+        Ok(Words::Table { .. } | Words::Check { .. } | Words::Parse { .. }) => None,
+        Err(WordsFault::Memory) => None,
+    }
+}
+
+// The words ask for help, and its text has this part.
+fn helps(rt: &impl Abort, alloc: Global, line: &str, part: &str) -> Result<(), Fail> {
+    let words: Vec<&str> = line.split(' ').collect(alloc)?;
+    let (is_help, text) = told(alloc, &words).ok_or("no text")?;
+    assert!(rt; is_help && text.contains(part), "{text}");
+    Ok(())
+}
+
+#[test]
+fn help_is_told(rt: HostRuntime) -> Result<(), Fail> {
+    let cases = [
+        ("-h", "Usage: pegtool <COMMAND>"),
+        ("--help", "Example: pegtool parse grammar.peg text"),
+        ("check --help", "Usage: pegtool check <G>"),
+        ("check --help", "Example: pegtool check grammar.peg"),
+        ("table --help", "Usage: pegtool table <G>"),
+        ("table --help", "Example: pegtool table grammar.peg"),
+        ("parse --help", "Usage: pegtool parse [OPTIONS] <G> <T>"),
+        ("parse --help", "[default: 4096]"),
+        (
+            "parse --help",
+            "Example: pegtool parse grammar.peg text --start Value --all --rows",
+        ),
+    ];
+    for (line, part) in cases {
+        helps(&rt, rt.alloc(), line, part)?;
+    }
+    Ok(())
+}
+
+// What the words of one text, apart by spaces, are refused for.
+fn refused(rt: &impl Abort, alloc: Global, line: &str, part: &str) -> Result<(), Fail> {
+    let words: Vec<&str> = line.split(' ').collect(alloc)?;
+    let (is_help, text) = told(alloc, &words).ok_or("no text")?;
+    assert!(rt; !is_help && text.contains(part), "{text}");
+    assert!(rt; text.contains("--help"), "{text}");
+    Ok(())
+}
+
+#[test]
+fn what_is_no_command_line_is_refused(rt: HostRuntime) -> Result<(), Fail> {
+    let cases = [
+        ("tables", "unrecognized subcommand 'tables'"),
+        ("table", "<G>"),
+        ("table x y", "unexpected argument 'y'"),
+        ("table --all x", "unexpected argument '--all'"),
+        ("--start", "unexpected argument '--start'"),
+        ("help", "unrecognized subcommand 'help'"),
+        ("parse g", "<T>"),
+        ("parse g t u", "unexpected argument 'u'"),
+        ("parse g t --steps 1", "unexpected argument '--steps'"),
+        ("parse g t --memo", "a value is required for '--memo <N>'"),
+        ("parse g t --memo 1000001", "1000001 is not in 0..=1000000"),
+        ("parse g t --memo -1", "-1 is not in 0..=1000000"),
+        ("parse g t --memo x", "invalid value 'x' for '--memo <N>'"),
+        (
+            "parse g t --memo 1 --memo 2",
+            "'--memo <N>' cannot be used multiple times",
+        ),
+    ];
+    for (line, part) in cases {
+        refused(&rt, rt.alloc(), line, part)?;
+    }
+    Ok(())
+}

@@ -1,0 +1,48 @@
+#!/usr/bin/env python3
+"""Runs the commands that the documents print on the built program, whose path is the argument, and compares what they
+print. In an indented block of README.md or docs/*.md a line that begins with `$ ` is a command for a shell, and the
+lines up to the next one or to an empty line are what it prints."""
+import os
+import re
+import subprocess
+import sys
+import tempfile
+
+TOP = os.path.dirname(os.path.dirname(os.path.abspath(__file__)))
+
+
+def sessions(text):
+    """The commands of a document with what each of them prints, block by block."""
+    for block in re.findall(r"(?:^(?: {4}.*)?\n)+", text, re.M):
+        lines = [line[4:] for line in block.split("\n")]
+        found = []
+        for line in lines:
+            if line.startswith("$ "):
+                found.append([line[2:], []])
+            elif line and found:
+                found[-1][1].append(line)
+        if found:
+            yield found
+
+
+def main():
+    program = os.path.realpath(sys.argv[1])
+    names = ["README.md"] + sorted(f"docs/{name}" for name in os.listdir(f"{TOP}/docs") if name.endswith(".md"))
+    ran = faults = 0
+    for name in names:
+        with open(f"{TOP}/{name}", encoding="utf-8") as file:
+            text = file.read()
+        with tempfile.TemporaryDirectory() as room:
+            os.symlink(program, f"{room}/pegtool")
+            paths = {**os.environ, "PATH": f"{room}:{os.environ['PATH']}"}
+            for command, wanted in (pair for session in sessions(text) for pair in session):
+                done = subprocess.run(["bash", "-c", command], cwd=room, env=paths, capture_output=True, text=True)
+                ran += 1
+                if done.stdout != "".join(f"{line}\n" for line in wanted):
+                    faults += 1
+                    print(f"{name}: `{command}` printed\n{done.stdout}{done.stderr}")
+    print(f"documents: {ran} commands, {faults} faults")
+    return 1 if faults or not ran else 0
+
+
+sys.exit(main())

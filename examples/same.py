@@ -1,0 +1,91 @@
+#!/usr/bin/env python3
+"""Compares the grammars and texts of this folder with those that the tests hold, byte for byte.
+
+The tests are crates/peg_tests/src/examples.rt. There a grammar is a constant with the name of its file, as JSON for
+json.peg, and a text stands in the list of `the_texts_of_json` behind its file's name in the folder json, before the
+status that its name tells: 0 for `match`, 1 for `no_match`. Each file here has to stand there too. Prints what differs
+and ends with 1; else says that all are the same.
+"""
+
+import re
+import sys
+from pathlib import Path
+
+HERE = Path(__file__).resolve().parent
+TESTS = HERE.parent / "crates" / "peg_tests" / "src" / "examples.rt"
+
+STRING = r'"((?:[^"\\]|\\.)*)"'
+CONSTANT = re.compile(r"^const (\w+): &\[u8\] = b" + STRING + ";", re.M | re.S)
+TEXTS = re.compile(r"^fn the_texts_of_(\w+)\(.*?^}", re.M | re.S)
+TEXT = re.compile(r"\(\s*" + STRING + r",\s*b" + STRING + r",\s*(\d+),?\s*\)", re.S)
+ESCAPE = re.compile(rb"\\(?:\n\s*|x([0-9a-fA-F]{2})|(.))", re.S)
+
+SIMPLE = {b"n": b"\n", b"r": b"\r", b"t": b"\t", b"0": b"\0", b"\\": b"\\", b"'": b"'", b'"': b'"'}
+
+
+def unescaped(literal):
+    """The bytes of what stands in the quotes of a byte string."""
+
+    def meaning(found):
+        if found[1] is not None:
+            return bytes([int(found[1], 16)])
+        return SIMPLE[found[2]] if found[2] is not None else b""
+
+    return ESCAPE.sub(meaning, literal.encode())
+
+
+def held_grammars(tests):
+    """The grammars of the tests, by their files' names."""
+    return {f"{name.lower()}.peg": unescaped(literal) for name, literal in CONSTANT.findall(tests)}
+
+
+def held_texts(tests):
+    """The texts of the tests and their statuses, by their files' names."""
+    held = {}
+    for function in TEXTS.finditer(tests):
+        for name, literal, status in TEXT.findall(function[0]):
+            held[f"{function[1]}/{name}"] = (unescaped(literal), int(status))
+    return held
+
+
+def file_bytes(pattern):
+    """The bytes of the files here, by their names."""
+    return {str(path.relative_to(HERE)): path.read_bytes() for path in HERE.glob(pattern)}
+
+
+def differences(held, files):
+    """What differs between the bytes that the tests hold and those of the files."""
+    for name in sorted(held.keys() | files.keys()):
+        if name not in files:
+            yield f"{name}: no such file here"
+        elif name not in held:
+            yield f"{name}: not among the tests"
+        elif held[name] != files[name]:
+            yield f"{name}: not the same as in the tests"
+
+
+def wrong_statuses(texts):
+    """The texts whose names tell another status than the tests do."""
+    for name, (_, status) in sorted(texts.items()):
+        if status != (0 if name.split("/")[1].startswith("match") else 1):
+            yield f"{name}: the tests want the status {status}"
+
+
+def main():
+    tests = TESTS.read_text(encoding="utf-8")
+    grammars = held_grammars(tests)
+    texts = held_texts(tests)
+    faults = [
+        *differences(grammars, file_bytes("*.peg")),
+        *differences({name: text for name, (text, _) in texts.items()}, file_bytes("*/*.txt")),
+        *wrong_statuses(texts),
+    ]
+    for fault in faults:
+        print(fault)
+    if not faults:
+        print(f"examples: {len(grammars)} grammars and {len(texts)} texts are the same")
+    return 1 if faults else 0
+
+
+if __name__ == "__main__":
+    sys.exit(main())
