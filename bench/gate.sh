@@ -7,23 +7,38 @@ exec python3 - "$PWD" << 'PYTHON'
 import os
 import subprocess
 import sys
+import tempfile
 import time
 
 TICKS = os.sysconf("SC_CLK_TCK")
 root = sys.argv[1]
 
 
-def provers():
-    """The provers that run: the process, the crate, what is proved, and the seconds of processor time so far."""
+def stat(pid):
+    """What the system tells of a process, behind its name."""
+    with open(f"/proc/{pid}/stat", encoding="utf-8") as file:
+        return file.read().rpartition(")")[2].split()
+
+
+def is_below(pid, gate):
+    """Whether the gate started the process, or one that did."""
+    while int(pid) > 1 and int(pid) != gate:
+        pid = stat(pid)[1]
+    return int(pid) == gate
+
+
+def provers(gate):
+    """The gate's provers: the process, the crate, what is proved, and the seconds of processor time so far."""
     for pid in filter(str.isdigit, os.listdir("/proc")):
         try:
             with open(f"/proc/{pid}/cmdline", "rb") as file:
                 words = file.read().decode(errors="replace").split("\0")
             if not words[0].endswith("/rattle") or "--crate-name" not in words:
                 continue
+            if not is_below(pid, gate):
+                continue
             folder = os.readlink(f"/proc/{pid}/cwd")
-            with open(f"/proc/{pid}/stat", encoding="utf-8") as file:
-                fields = file.read().rpartition(")")[2].split()
+            fields = stat(pid)
         except OSError:
             continue
         crate = words[words.index("--crate-name") + 1]
@@ -37,21 +52,20 @@ def provers():
 
 
 def main():
-    clock, used = {}, {}
-    began = time.time()
-    gate = subprocess.Popen(["rt", "ci"], stdout=subprocess.PIPE, stderr=subprocess.STDOUT, text=True)
-    os.set_blocking(gate.stdout.fileno(), False)
-    last = ""
-    while gate.poll() is None:
-        seen = set()
-        for pid, crate, kind, seconds in provers():
-            seen.add((crate, kind))
-            used[pid, crate, kind] = seconds
-        for key in seen:
-            clock[key] = clock.get(key, 0) + 1
-        last = (gate.stdout.read() or "").strip() or last
-        time.sleep(1)
-    last = (gate.stdout.read() or "").strip() or last
+    with tempfile.TemporaryFile("w+", errors="replace") as log:
+        gate = subprocess.Popen(["rt", "ci"], stdout=log, stderr=subprocess.STDOUT)
+        clock, used = {}, {}
+        began = time.time()
+        while gate.poll() is None:
+            seen = set()
+            for pid, crate, kind, seconds in provers(gate.pid):
+                seen.add((crate, kind))
+                used[pid, crate, kind] = seconds
+            for key in seen:
+                clock[key] = clock.get(key, 0) + 1
+            time.sleep(1)
+        log.seek(0)
+        last = log.read().strip()
     spent = {}
     for (_, crate, kind), seconds in used.items():
         spent[crate, kind] = spent.get((crate, kind), 0) + seconds
