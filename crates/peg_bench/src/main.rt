@@ -10,6 +10,7 @@ mod tables;
 mod trees;
 
 use std::{env, io};
+use trees::Form;
 
 fn main(rt: HostRuntime) -> io::Result<()> {
     let alloc = rt.alloc();
@@ -19,10 +20,16 @@ fn main(rt: HostRuntime) -> io::Result<()> {
     let word = word.as_ref().map_or("", |w| w.as_str());
     match bench {
         "grammar" => grammars::run(&rt, alloc, word),
-        "tree" => trees::run(&rt, alloc, word),
+        "tree" => trees::run(&rt, alloc, Form::Tree, word),
+        "values" => trees::run(&rt, alloc, Form::Values, word),
+        "rows" => trees::run(&rt, alloc, Form::Rows, word),
+        "nested" => trees::run(&rt, alloc, Form::Nested, word),
         "notation" => files::run(&rt, alloc, word),
         "check" => cycles::run(&rt, alloc, word),
         "table" => tables::run(&rt, alloc, word),
-        _ => println!(rt; "words: grammar, tree, notation, check or table, and on what"),
+        _ => println!(
+            rt;
+            "words: grammar, tree, values, rows, nested, notation, check or table, and on what"
+        ),
     }
 }

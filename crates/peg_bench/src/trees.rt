@@ -1,11 +1,29 @@
-//! Makes a large tree, prints its rows as JSON and tells how many bytes those take. The word is the number of rows,
-//! with no word 1,000: a root, below it a chain of half as many, the others its children.
+//! Makes a large tree, writes it as JSON and tells how many bytes that takes. The word is the number of rows, with no
+//! word 1,000: a root, and below it chains of 58 nodes side by side.
 ghost use Rattle.std.specs.Prelude.{◌∷◌, [], codes};
+ghost use Rattle.peg_tree.specs.Nodes.{RulesBelow};
 
 use peg_bytes::Span;
-use peg_tree::{Names, Tree, TreeNode, one_tree, rows_json};
+use peg_tree::{Names, NestedTree, Tree, TreeNode, TreeRows, one_tree, rows_json};
+use serde::Serialize;
 use std::alloc::{AllocError, Global};
 use std::io;
+
+// How many nodes a chain has.
+const CHAIN: u64 = 58;
+
+/// What is made of the tree.
+#[derive(Clone, Copy)]
+pub(crate) enum Form {
+    /// Nothing.
+    Tree,
+    /// The text of its rows, through values.
+    Values,
+    /// The text of its rows.
+    Rows,
+    /// The text of nested objects.
+    Nested,
+}
 
 // Rule 0 is `list`, and rule 1 `word`.
 struct Rules;
@@ -22,30 +40,28 @@ impl Names for Rules {
     }
 }
 
-fn row(rule: u32, size: u64) -> TreeNode {
+fn row(rule: u32, at: u32, size: u64) -> TreeNode {
     TreeNode {
         rule,
-        span: Span::new(0, 0),
+        span: Span::new(at, at.saturating_add(1)),
         size,
     }
 }
 
-// A root, a chain and leaves, in all so many rows.
-fn rows_of(alloc: Global, count: u64) -> Result<Vec<TreeNode>, AllocError> {
-    let nested = count / 2;
+// A root and chains, in all so many rows.
+fn rows_of(alloc: Global, count: u32) -> Result<Vec<TreeNode>, AllocError> {
     let mut rows = Vec::new(alloc);
-    rows.push(row(0, count))?;
-    for below in (0..nested).rev() {
-        rows.push(row(1, below + 1))?;
-    }
-    for _ in nested + 1..count {
-        rows.push(row(1, 1))?;
+    rows.push(row(0, 0, u64::from(count)))?;
+    for at in 1..count {
+        let place = (u64::from(at) - 1) % CHAIN;
+        let size = (CHAIN - place).min(u64::from(count - at));
+        rows.push(row(1, at, size))?;
     }
     Ok(rows)
 }
 
-// How many bytes the rows of a tree of so many nodes take as JSON; no tree has no node.
-fn printed_bytes(alloc: Global, count: u64) -> Result<Option<usize>, AllocError> {
+// How many bytes that of a tree of so many nodes takes; no tree has no node.
+fn printed_bytes(alloc: Global, form: Form, count: u32) -> Result<Option<usize>, AllocError> {
     let rows = rows_of(alloc, count)?;
     if !one_tree(&rows) {
         return Ok(None);
@@ -54,17 +70,34 @@ fn printed_bytes(alloc: Global, count: u64) -> Result<Option<usize>, AllocError>
     if !tree.fits(Rules.count()) {
         return Ok(None);
     }
-    let text = rows_json(alloc, &tree, &Rules)?.to_string(alloc)?;
-    Ok(Some(text.len()))
+    text_bytes(alloc, form, &tree).map(Some)
 }
 
-pub(crate) fn run(rt: &impl Print, alloc: Global, word: &str) -> io::Result<()> {
+fn text_bytes(alloc: Global, form: Form, tree: &Tree) -> Result<usize, AllocError>
+    requires { RulesBelow 2 tree.now }
+{
+    match form {
+        Form::Tree => Ok(tree.len()),
+        Form::Values => Ok(rows_json(alloc, tree, &Rules)?.to_string(alloc)?.len()),
+        Form::Rows => sent_bytes(alloc, &TreeRows::new(alloc, tree, &Rules)),
+        Form::Nested => sent_bytes(alloc, &NestedTree::new(alloc, tree, &Rules)),
+    }
+}
+
+fn sent_bytes<T: Serialize>(alloc: Global, told: &T) -> Result<usize, AllocError> {
+    match serde_json::to_vec(alloc, told) {
+        Ok(text) => Ok(text.len()),
+        Err(_) => Err(AllocError),
+    }
+}
+
+pub(crate) fn run(rt: &impl Print, alloc: Global, form: Form, word: &str) -> io::Result<()> {
     let count = if word.is_empty() {
         1000
     } else {
-        word.parse::<u64>().unwrap_or(0)
+        word.parse::<u32>().unwrap_or(0)
     };
-    match printed_bytes(alloc, count)? {
+    match printed_bytes(alloc, form, count)? {
         Some(bytes) => println!(rt; "{bytes}"),
         None => println!(rt; "no tree"),
     }

@@ -1,38 +1,37 @@
 -- What an answer is printed from: the places of terminals one after the other, and no object has a float.
-use Rattle.std.proofs.Common.{◌≡◌, ℕ, ◌+◌, ◌<◌, Bool, true, false, ◌||◌, List, [], ◌∷◌, ◌++◌, length, map, take, Some}
-use Rattle.std.proofs.Common.{refl, sym, ap, ◌∙◌, slice_get, slice_index_or, get_or, inl, inr}
+use Rattle.std.proofs.Common.{◌≡◌, ℕ, ◌+◌, ◌<◌, Bool, true, false, ◌||◌, List, [], ◌∷◌, ◌++◌, length, map, Some}
+use Rattle.std.proofs.Common.{refl, sym, ap, ◌∙◌, arith, slice_get, slice_index_or, get_or, inl, inr}
 use Rattle.std.proofs.lemmas.Bool.{cases_Bool, false≢true}
-use Rattle.std.proofs.lemmas.List.{map-append, map_more}
+use Rattle.std.proofs.lemmas.List.{get_or-map, length-map}
 use Rattle.std.proofs.lemmas.Option.{get_or_from_slice_get}
 use Rattle.serde_json.specs.Data.{Data}
 use Rattle.serde_json.specs.View.{items_of}
 use Rattle.serde_json.specs.Written.{has_float, items_have_float, members_have_float}
 use Rattle.peg_bytes.specs.Extent.{Extent, between}
-use Rattle.peg_ford.specs.Rules.{Rule, names}
+use Rattle.peg_ford.specs.Rules.{Rule}
 use Rattle.peg_ford.specs.Terminals.{extents_of_terminals}
 use Rattle.peg_tree.specs.Json.{nested_data, rows_data}
 use Rattle.peg_tree.specs.Trees.{Trees, NoTrees, Tree}
-use Rattle.peg_tree.specs.declared.outcome.Outcome.{Outcome}
-use Rattle.peg_tree.specs.declared.outcome.Parsed.{Parsed}
-use Rattle.peg_tree.specs.declared.outcome.Parsed.TheVariants as parsed
-use Rattle.peg_reply.specs.Parses.{extents_at, result_reply, outcome_reply}
-use Rattle.peg_reply.specs.Reply.{extent_data, tree_member, printed}
+use Rattle.peg_reply.specs.Parses.{extents_at}
+use Rattle.peg_reply.specs.Reply.{extent_data, failed_data, matched_data, tree_member}
 
--- the pairs up to a terminal, and that terminal's
-pub places_more : (rules : List Rule) (terminals : List ℕ) (so_far : List Data) (i : ℕ) (place : Extent)
-    → so_far ≡ map extent_data (extents_at rules (take i terminals)) → i < length terminals
+-- the pair of a terminal
+pub place_at : (rules : List Rule) (terminals : List ℕ) (i : ℕ) (place : Extent) → i < length terminals
     → slice_get (extents_of_terminals rules) (get_or terminals i 0) ≡ Some place
-    → so_far ++ extent_data place ∷ [] ≡ map extent_data (extents_at rules (take (i + 1) terminals))
-places_more rules terminals so_far i place is inside told =
+    → get_or (map extent_data (extents_at rules terminals)) i (extent_data place) ≡ extent_data place
+place_at rules terminals i place inside told =
     let extents = extents_of_terminals rules in
     let chosen = λ (terminal : ℕ). slice_index_or extents terminal (between 0 0) in
-    let before = map chosen (take i terminals) in
-    let here : chosen (get_or terminals i 0) ≡ place =
-    get_or_from_slice_get extents (get_or terminals i 0) place (between 0 0) told in
-    ap (λ (l : List Data). l ++ extent_data place ∷ []) is
-    ∙ (ap (λ (p : Extent). map extent_data before ++ extent_data p ∷ []) (sym here)
-    ∙ (sym (map-append extent_data before (chosen (get_or terminals i 0) ∷ []))
-    ∙ ap (map extent_data) (sym (map_more chosen terminals i 0 inside))))
+    get_or-map extent_data (map chosen terminals) i place (extent_data place) (omega (arith, length-map terminals chosen))
+    ∙ ap extent_data (get_or-map chosen terminals i 0 place inside
+    ∙ get_or_from_slice_get extents (get_or terminals i 0) place (between 0 0) told)
+
+-- there is one for each terminal
+pub length-places : (rules : List Rule) (terminals : List ℕ)
+    → length (map extent_data (extents_at rules terminals)) ≡ length terminals
+length-places rules terminals =
+    length-map (extents_at rules terminals) extent_data
+    ∙ length-map terminals (λ terminal. slice_index_or (extents_of_terminals rules) terminal (between 0 0))
 
 -- ---- no float
 
@@ -74,17 +73,13 @@ tree-without_floats false names NoTrees = refl
 tree-without_floats false names (Tree rule start end children rest) =
     ap (λ (b : Bool). (b || false) || false) (nested-without_floats names children)
 
-result-without_floats : (file : List ℕ) (rules : List Rule) (len : ℕ) (all rows : Bool) (far : ℕ)
-    (expected : List Extent) (result : Parsed)
-    → has_float (printed file (result_reply rules len all rows far expected result)) ≡ false
-result-without_floats file rules len all rows far expected parsed.Failed =
-    ap (λ (b : Bool). b || false) (expected-without_floats expected)
-result-without_floats file rules len all rows far expected (parsed.Matched end tree) =
-    ap (λ (b : Bool). b || members_have_float (tree_member rows (names rules) tree)) (expected-without_floats expected)
-    ∙ tree-without_floats rows (names rules) tree
+-- no printed failure has a float
+pub failed-without_floats : (far : ℕ) (expected : List Extent) → has_float (failed_data far expected) ≡ false
+failed-without_floats far expected = ap (λ (b : Bool). b || false) (expected-without_floats expected)
 
--- no printed answer has a float
-pub answer-without_floats : (file : List ℕ) (rules : List Rule) (outcome : Outcome) (len : ℕ) (all rows : Bool)
-    → has_float (printed file (outcome_reply rules outcome len all rows)) ≡ false
-answer-without_floats file rules outcome len all rows =
-    result-without_floats file rules len all rows outcome.far (extents_at rules outcome.expected.items) outcome.result
+-- nor has a match
+pub match-without_floats : (partial : Bool) (end far : ℕ) (expected : List Extent) (rows : Bool) (names : List (List ℕ))
+    (tree : Trees) → has_float (matched_data partial end far expected (tree_member rows names tree)) ≡ false
+match-without_floats partial end far expected rows names tree =
+    ap (λ (b : Bool). b || members_have_float (tree_member rows names tree)) (expected-without_floats expected)
+    ∙ tree-without_floats rows names tree

@@ -3,4 +3,5 @@ pub mod ParseLemmas
 pub mod PrintLemmas
 mod RefusalLemmas
 mod RefusedLines
+mod Sent
 mod TableLemmas

@@ -8,7 +8,7 @@ use Rattle.peg_parser.specs.Faults.{IsTellable, want_of_memory, of_cause, Refusa
 use Rattle.peg_parser.specs.declared.refusal.Refusal.{Refusal}
 use Rattle.peg_parser.specs.declared.refusal.Refusal.TheVariants as refusal
 use Rattle.peg_reply.specs.CauseText.{cause_data, cause_status}
-use Rattle.peg_reply.specs.Lines.{IsReply}
+use Rattle.peg_reply.specs.Lines.{IsReply, line_bytes}
 use Rattle.peg_reply.specs.Reply.{Refused}
 use Rattle.peg_reply.specs.Statuses.{code_of}
 use Rattle.peg_reply.specs.declared.line.Line.{Line}
@@ -36,9 +36,9 @@ tellable size names why same other is =
 
 some-told : (result : Result Line AllocError) (file : List ℕ) (found : Option Cause) → is_some found ≡ true
     → IfOk result (λ line. IfSome found (λ cause.
-    IsReply file (Refused cause) (string_bytes line.text) (code_of line.status)))
+    IsReply file (Refused cause) (line_bytes line) (code_of line.status)))
     → IfOk result (λ line. (cause : Cause) × (found ≡ Some cause)
-    × IsReply file (Refused cause) (string_bytes line.text) (code_of line.status))
+    × IsReply file (Refused cause) (line_bytes line) (code_of line.status))
 some-told (Ok line) file None some is = cc
 some-told (Ok line) file (Some cause) some is = (cause, refl, is)
 some-told (Err why) file found some is = tt
@@ -47,22 +47,20 @@ some-told (Err why) file found some is = tt
 pub told-by_names : (result : Result Line AllocError) (file : List ℕ) (names : List (List ℕ)) (why : Refusal)
     → names ≡ names_told why → is_some (refusal_cause names why) ≡ true
     → IfOk result (λ line. IfSome (refusal_cause names why) (λ cause.
-    IsReply file (Refused cause) (string_bytes line.text) (code_of line.status)))
+    IsReply file (Refused cause) (line_bytes line) (code_of line.status)))
     → IfOk result (λ line. (cause : Cause) × (cause_told why ≡ Some cause)
-    × IsReply file (Refused cause) (string_bytes line.text) (code_of line.status))
+    × IsReply file (Refused cause) (line_bytes line) (code_of line.status))
 told-by_names result file names why same told is =
     subst (λ (list : List (List ℕ)). IfOk result (λ line. (cause : Cause) × (refusal_cause list why ≡ Some cause)
-    × IsReply file (Refused cause) (string_bytes line.text) (code_of line.status))) same
+    × IsReply file (Refused cause) (line_bytes line) (code_of line.status))) same
     (some-told result file (refusal_cause names why) told is)
 
 -- the line of what a fault tells
-pub fault-reply : (result : Result Line AllocError) (file text : List ℕ) (status : Status) (found : Option Cause)
-    → IfOk result (λ line. string_bytes line.text ≡ text ++ 10 ∷ []) → IfOk result (λ line. line.status ≡ status)
+pub fault-reply : (line : Line) (file text : List ℕ) (status : Status) (found : Option Cause)
+    → string_bytes line.text ≡ text → line.status ≡ status
     → IfSome found (λ cause. text ≡ compact_text (cause_data file cause))
     → IfSome found (λ cause. code_of status ≡ cause_status cause)
-    → IfOk result (λ line. IfSome found (λ cause.
-    IsReply file (Refused cause) (string_bytes line.text) (code_of line.status)))
-fault-reply (Ok line) file text status None is ends tells same = tt
-fault-reply (Ok line) file text status (Some cause) is ends tells same =
-    (is ∙ ap (λ (l : List ℕ). l ++ 10 ∷ []) tells, ap code_of ends ∙ same)
-fault-reply (Err why) file text status found is ends tells same = tt
+    → IfSome found (λ cause. IsReply file (Refused cause) (line_bytes line) (code_of line.status))
+fault-reply line file text status None is ends tells same = tt
+fault-reply line file text status (Some cause) is ends tells same =
+    (ap (λ (l : List ℕ). l ++ 10 ∷ []) (is ∙ tells), ap code_of ends ∙ same)

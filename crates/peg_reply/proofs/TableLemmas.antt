@@ -1,11 +1,10 @@
 -- The entries of the printed table, one after the other, and that none holds a float.
-use Rattle.std.proofs.Common.{◌≡◌, ℕ, ◌+◌, ◌<◌, ◌≤◌, List, [], ◌∷◌, ◌++◌, length, map, take, Bool, false, ◌||◌}
+use Rattle.std.proofs.Common.{◌≡◌, ℕ, ◌<◌, List, [], ◌∷◌, length, map, Bool, false, ◌||◌}
 use Rattle.std.proofs.Common.{Option, Some, unwrap_or, slice_get, slice_index_or, get_or, refl, sym, ap, ◌∙◌, arith}
 use Rattle.std.specs.List.{zip}
-use Rattle.std.proofs.lemmas.List.{take_all, take_more, length-map, get_or-map}
+use Rattle.std.proofs.lemmas.List.{length-map, get_or-map}
 use Rattle.std.proofs.lemmas.Option.{get_or_from_slice_get, slice_get_within, slice_get-map, unwrap_or-slice_get}
 use Rattle.std.proofs.lemmas.Slice.Zip.{get_or-zip, length-zip}
-use Rattle.serde_json.specs.Data.{Data}
 use Rattle.serde_json.specs.View.{items_of}
 use Rattle.serde_json.specs.Written.{has_float, items_have_float}
 use Rattle.peg_ford.specs.AbstractOutcomes.{Can, cannot}
@@ -22,14 +21,12 @@ entries-without_floats (entry ∷ entries) = entries-without_floats entries
 pub table-without_floats : (names : List (List ℕ)) (cans : List Can) → has_float (table_data names cans) ≡ false
 table-without_floats names cans = ap (λ (b : Bool). b || false) (entries-without_floats (zip names cans))
 
--- the entries up to a rule, and that rule's
-pub entries_more : (rules : List Rule) (bodies : List ℕ) (table : List Can) (so_far : List Data) (rule body : ℕ)
-    (name : List ℕ) (can : Can)
-    → so_far ≡ take rule (entries_data (names rules) (cans_of bodies table)) → rule < length rules
-    → name ≡ name_of rules rule
-    → slice_get bodies rule ≡ Some body → slice_get table body ≡ Some can
-    → so_far ++ entry_data name can ∷ [] ≡ take (rule + 1) (entries_data (names rules) (cans_of bodies table))
-entries_more rules bodies table so_far rule body name can is inside named laid told =
+-- the entry of a rule
+pub entry_at : (rules : List Rule) (bodies : List ℕ) (table : List Can) (rule body : ℕ) (name : List ℕ) (can : Can)
+    → rule < length rules → name ≡ name_of rules rule → slice_get bodies rule ≡ Some body
+    → slice_get table body ≡ Some can → (rule < length (entries_data (names rules) (cans_of bodies table)))
+    × (get_or (entries_data (names rules) (cans_of bodies table)) rule (entry_data [] cannot) ≡ entry_data name can)
+entry_at rules bodies table rule body name can inside named laid told =
     let cans = cans_of bodies table in
     let pairs = zip (names rules) cans in
     let within : rule < length bodies = slice_get_within bodies rule body laid in
@@ -47,21 +44,22 @@ entries_more rules bodies table so_far rule body name can is inside named laid t
     let in_pairs : rule < length pairs = omega (arith, length-zip (names rules) cans, in_names, in_cans) in
     let entry = λ (pair : List ℕ × Can). entry_data pair.0 pair.1 in
     let pair : get_or pairs rule ([], cannot) ≡ (name, can) =
-    get_or-zip (names rules) cans rule ([], cannot) in_names in_cans ∙ (λ i. (its_name i, here i)) in
-    let last : get_or (map entry pairs) rule (entry_data [] cannot) ≡ entry_data name can =
-    get_or-map entry pairs rule ([], cannot) (entry_data [] cannot) in_pairs ∙ ap entry pair in
-    let in_entries : rule < length (map entry pairs) = omega (arith, length-map pairs entry, in_pairs) in
-    ap (λ (l : List Data). l ++ entry_data name can ∷ []) is
-    ∙ (ap (λ (d : Data). take rule (map entry pairs) ++ d ∷ []) (sym last)
-    ∙ sym (take_more (map entry pairs) rule (entry_data [] cannot) in_entries))
+    get_or-zip (names rules) cans rule ([], cannot) in_names in_cans ∙ (λ i. (its_name i, here i)) in (
+      omega (arith, length-map pairs entry, in_pairs),
+      get_or-map entry pairs rule ([], cannot) (entry_data [] cannot) in_pairs ∙ ap entry pair,
+    )
 
--- all the entries are those of all rules
-pub entries_all : (rules : List Rule) (bodies : List ℕ) (table : List Can) (count : ℕ) → length rules ≤ count
-    → take count (entries_data (names rules) (cans_of bodies table)) ≡ entries_data (names rules) (cans_of bodies table)
-entries_all rules bodies table count all =
+-- there are as many entries as rules, where there are as many bodies
+pub length-entries : (rules : List Rule) (bodies : List ℕ) (table : List Can) → length bodies ≡ length rules
+    → length (entries_data (names rules) (cans_of bodies table)) ≡ length rules
+length-entries rules bodies table same =
     let cans = cans_of bodies table in
-    let pairs = zip (names rules) cans in
     let entry = λ (pair : List ℕ × Can). entry_data pair.0 pair.1 in
-    let few : length (map entry pairs) ≤ count =
-    omega (arith, length-map pairs entry, length-zip (names rules) cans, length-map rules (λ r. r.name), all) in
-    take_all count (map entry pairs) few
+    omega (
+      arith,
+      length-map (zip (names rules) cans) entry,
+      length-zip (names rules) cans,
+      length-map rules (λ r. r.name),
+      length-map bodies (λ b. slice_index_or table b cannot),
+      same,
+    )

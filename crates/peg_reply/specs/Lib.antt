@@ -25,6 +25,7 @@ pub mod FaultCauses
 pub mod Lines
 pub mod Parses
 pub mod Reply
+pub mod Sending
 pub mod Statuses
 pub mod TableText
 pub mod TreeForms

@@ -2,13 +2,16 @@
 //! status.
 #![tactic(auto)]
 
+mod answer_object;
 mod answer_text;
 mod fault;
 mod line;
 mod lines;
+mod places;
 mod refusal_text;
 mod status;
 mod table_text;
+mod text;
 mod tree_form;
 
 pub use answer_text::answer_json;

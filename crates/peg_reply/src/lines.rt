@@ -1,6 +1,6 @@
 //! The lines of replies, with their statuses.
 ghost use Rattle.std.specs.Prelude.{◌≡◌, ◌≢◌, ℕ, ◌≤◌, List, length};
-ghost use Rattle.std.specs.Prelude.{map, true, IfOk, IfSome, Some, is_some, string_bytes};
+ghost use Rattle.std.specs.Prelude.{map, true, IfOk, IfSome, Some, is_some};
 ghost use Rattle.peg_bytes.specs.Place.{most_place};
 ghost use Rattle.serde_json.specs.View.{view};
 ghost use Rattle.peg_check.specs.Cans.{can_of};
@@ -12,7 +12,7 @@ ghost use Rattle.peg_parser.specs.Fits.{Fits};
 ghost use Rattle.peg_parser.specs.Parser.{parser_rules};
 ghost use Rattle.peg_reply.specs.CauseText.{cause_status};
 ghost use Rattle.peg_reply.specs.FaultCauses.{FaultNames, fault_cause};
-ghost use Rattle.peg_reply.specs.Lines.{IsLineOf, IsReply};
+ghost use Rattle.peg_reply.specs.Lines.{IsLineOf, IsReply, line_bytes};
 ghost use Rattle.peg_reply.specs.Parses.{PrintsOutcome};
 ghost use Rattle.peg_reply.specs.Reply.{Accepted, Refused, Tabled, accepted_data};
 ghost use Rattle.peg_reply.specs.Statuses.{code_of};
@@ -40,7 +40,7 @@ pub fn refused_line(alloc: Global, file: &[u8], refusal: &Refusal) -> Result<Lin
     requires tellable { IsTellable (length file.now) refusal.now }
     requires told { refusal.now ≢ Refusal.Memory }
     ensures { IfOk result (λ line. (cause : Cause) × (cause_told refusal.now ≡ Some cause)
-        × IsReply file.now (Refused cause) (string_bytes line.text) (code_of line.status)) }
+        × IsReply file.now (Refused cause) (line_bytes line) (code_of line.status)) }
 {
     let names = refusal.names(alloc)?;
     fault_line(alloc, &Fault::Refused(refusal), file, &names)
@@ -58,9 +58,9 @@ pub(crate) fn fault_line(
     requires places { IfSome (fault_cause (map (λ name. name.now) names.now) fault.now) (StartsIn (length file.now)) }
     requires rules { FaultNames (length names.now) fault.now }
     ensures { IfOk result (λ line. IfSome (fault_cause (map (λ name. name.now) names.now) fault.now) (λ cause.
-        IsReply file.now (Refused cause) (string_bytes line.text) (code_of line.status))) }
+        IsReply file.now (Refused cause) (line_bytes line) (code_of line.status))) }
 {
-    Line::new(refusal_json(alloc, fault, file, names)?, fault.status())
+    Ok(Line::new(refusal_json(alloc, fault, file, names)?, fault.status()))
 }
 
 /// The line of a table of outcomes, whose entries are those of the grammar's core forms.
@@ -74,18 +74,18 @@ pub fn table_line(
     requires entries { length table.now ≡ length core.now.forms }
     ensures { (file : List ℕ) → IfOk result (λ line.
         IsReply file (Tabled (names (rules_in grammar.now)) (cans_of core.now.bodies table.now))
-        (string_bytes line.text) (code_of line.status)) }
+        (line_bytes line) (code_of line.status)) }
 {
-    Line::new(table_json(alloc, grammar, core, table)?, Status::Done)
+    Ok(Line::new(table_json(alloc, grammar, core, table)?, Status::Done))
 }
 
 /// The line that tells that a grammar of so many rules is accepted.
 pub fn accepted_line(alloc: Global, rules: u32) -> Result<Line, AllocError>
     ensures { (file : List ℕ) → IfOk result (λ line.
-        IsReply file (Accepted rules) (string_bytes line.text) (code_of line.status)) }
+        IsReply file (Accepted rules) (line_bytes line) (code_of line.status)) }
 {
     let value = accepted_value(alloc, rules)?;
-    Line::new(value.to_string(alloc)?, Status::Done)
+    Ok(Line::new(value.to_string(alloc)?, Status::Done))
 }
 
 // The object that says so.
@@ -107,11 +107,11 @@ pub fn answer_line(
     requires { Fits (parser_rules parser.now) answer.now.outcome }
     ensures { (file : List ℕ) → IfOk result (λ line. IsLineOf file
         (PrintsOutcome (parser_rules parser.now) answer.now.outcome text_len all (is_rows form))
-        (string_bytes line.text) (code_of line.status)) }
+        (line_bytes line) (code_of line.status)) }
 {
     let status = answer_status(answer, text_len, all);
     match answer_text(alloc, parser, answer, text_len, all, form) {
-        Ok(text) => Line::new(text, status),
+        Ok(text) => Ok(Line::new(text, status)),
         Err(JsonFault::TooDeep) => fault_line(alloc, &Fault::TooDeep, &[], &[]),
         Err(JsonFault::Memory) => Err(AllocError),
     }
@@ -120,7 +120,7 @@ pub fn answer_line(
 /// The line that tells that the start of this name is no rule.
 pub fn no_start_line(alloc: Global, name: &str) -> Result<Line, AllocError>
     ensures { (file : List ℕ) → IfOk result (λ line.
-        IsReply file (Refused (NoSuchStart name.now)) (string_bytes line.text) (code_of line.status)) }
+        IsReply file (Refused (NoSuchStart name.now)) (line_bytes line) (code_of line.status)) }
 {
     fault_line(alloc, &Fault::NoSuchStart(name), &[], &[])
 }
@@ -128,7 +128,7 @@ pub fn no_start_line(alloc: Global, name: &str) -> Result<Line, AllocError>
 /// The line that tells that a text is too long.
 pub fn long_text_line(alloc: Global) -> Result<Line, AllocError>
     ensures { (file : List ℕ) → IfOk result (λ line.
-        IsReply file (Refused TextTooLong) (string_bytes line.text) (code_of line.status)) }
+        IsReply file (Refused TextTooLong) (line_bytes line) (code_of line.status)) }
 {
     fault_line(alloc, &Fault::TextTooLong, &[], &[])
 }

@@ -1,10 +1,11 @@
 //! Refusals as JSON.
-ghost use Rattle.std.specs.Prelude.{◌≡◌, ◌<◌, ◌≤◌, All, length, map, true, IfOk, IfSome, is_some};
+ghost use Rattle.std.specs.Prelude.{◌≡◌, ◌<◌, ◌≤◌, All, false, length, map, true, IfOk, IfSome, OnOk, is_some, string_bytes};
+ghost use Rattle.std.proofs.Props.{props};
 ghost use Rattle.peg_bytes.specs.Place.{most_place};
-ghost use Rattle.std.specs.Prelude.{string_bytes};
-ghost use Rattle.serde_json.specs.Data.{string};
-ghost use Rattle.serde_json.specs.View.{view};
-ghost use Rattle.serde_json.specs.Written.{compact_text};
+ghost use Rattle.serde_json.specs.Data.{Data, array, string};
+ghost use Rattle.serde_json.specs.Events.{SendsValue};
+ghost use Rattle.serde_json.specs.View.{items_of, view};
+ghost use Rattle.serde_json.specs.Written.{compact_text, has_float};
 ghost use Rattle.peg_bytes.specs.Extent.{extent};
 ghost use Rattle.peg_tree.specs.Names.{name_at};
 ghost use Rattle.peg_check.specs.Verdicts.{NamesRules};
@@ -16,11 +17,14 @@ ghost use Rattle.peg_parser.specs.Faults.{RefusalNames, StartsIn};
 ghost use Rattle.peg_parser.specs.Faults.{check_cause, grammar_cause, notation_cause, refusal_cause};
 
 use crate::fault::Fault;
+use crate::text::text_of;
 use peg_bytes::{LineColumn, Span, place};
 use peg_check::CheckFault;
 use peg_grammar::GrammarFault;
 use peg_notation::NotationFault;
 use peg_parser::Refusal;
+use peg_tree::send_member;
+use serde::{Described, Serialize, Serializer};
 use serde_json::{Value, json};
 use std::alloc::{AllocError, Global};
 
@@ -41,118 +45,114 @@ pub fn refusal_json(
     ensures { IfOk result (λ text. IfSome (fault_cause (map (λ name. name.now) names.now) fault.now)
         (λ cause. string_bytes text ≡ compact_text (cause_data file.now cause))) }
 {
-    let value = fault_value(alloc, fault, file, names)?;
-    let text = value.to_string(alloc)?;
-    Ok(text)
-}
-
-// The object that is printed of a fault.
-fn fault_value(
-    alloc: Global,
-    fault: &Fault<'_>,
-    file: &[u8],
-    names: &[&str],
-) -> Result<Value, AllocError>
-    requires told { is_some (fault_cause (map (λ name. name.now) names.now) fault.now) ≡ true }
-    requires short { length file.now ≤ most_place }
-    requires places { IfSome (fault_cause (map (λ name. name.now) names.now) fault.now) (StartsIn (length file.now)) }
-    requires rules { FaultNames (length names.now) fault.now }
-    ensures { IfOk result (λ value. IfSome (fault_cause (map (λ name. name.now) names.now) fault.now)
-        (λ cause. view value ≡ cause_data file.now cause)) }
-{
     match fault {
-        Fault::Refused(refusal) => refusal_value(alloc, refusal, file, names),
-        Fault::NoSuchStart(name) => start_value(alloc, name),
-        Fault::StepLimit => bare_value(alloc, "StepLimit"),
-        Fault::TooDeep => bare_value(alloc, "TooDeep"),
-        Fault::TextTooLong => bare_value(alloc, "TextTooLong"),
+        Fault::Refused(refusal) => refusal_text(alloc, refusal, file, names),
+        Fault::NoSuchStart(name) => start_text(alloc, name),
+        Fault::StepLimit => bare_text(alloc, "StepLimit"),
+        Fault::TooDeep => bare_text(alloc, "TooDeep"),
+        Fault::TextTooLong => bare_text(alloc, "TextTooLong"),
     }
 }
 
 // That of a refused grammar file.
-fn refusal_value(
+fn refusal_text(
     alloc: Global,
     refusal: &Refusal,
     file: &[u8],
     names: &[&str],
-) -> Result<Value, AllocError>
+) -> Result<String, AllocError>
     requires told { is_some (refusal_cause (map (λ name. name.now) names.now) refusal.now) ≡ true }
     requires short { length file.now ≤ most_place }
     requires places { IfSome (refusal_cause (map (λ name. name.now) names.now) refusal.now)
         (StartsIn (length file.now)) }
     requires rules { RefusalNames (length names.now) refusal.now }
-    ensures { IfOk result (λ value. IfSome (refusal_cause (map (λ name. name.now) names.now) refusal.now)
-        (λ cause. view value ≡ cause_data file.now cause)) }
+    ensures { IfOk result (λ text. IfSome (refusal_cause (map (λ name. name.now) names.now) refusal.now)
+        (λ cause. string_bytes text ≡ compact_text (cause_data file.now cause))) }
 {
     match refusal {
-        Refusal::Notation(fault) => notation_value(alloc, fault, file),
-        Refusal::Grammar(fault) => grammar_value(alloc, fault, file),
-        Refusal::NotWellFormed(fault, _) => check_value(alloc, fault, file, names),
+        Refusal::Notation(fault) => notation_text(alloc, fault, file),
+        Refusal::Grammar(fault) => grammar_text(alloc, fault, file),
+        Refusal::NotWellFormed(fault, _) => check_text(alloc, fault, file, names),
         Refusal::Memory => unreachable!(),
     }
 }
 
 // That of a file that isn't in the notation, or is over a limit of it.
-fn notation_value(alloc: Global, fault: &NotationFault, file: &[u8]) -> Result<Value, AllocError>
+fn notation_text(alloc: Global, fault: &NotationFault, file: &[u8]) -> Result<String, AllocError>
     requires told { is_some (notation_cause fault.now) ≡ true }
     requires short { length file.now ≤ most_place }
     requires places { IfSome (notation_cause fault.now) (StartsIn (length file.now)) }
-    ensures { IfOk result (λ value. IfSome (notation_cause fault.now)
-        (λ cause. view value ≡ cause_data file.now cause)) }
+    ensures { IfOk result (λ text. IfSome (notation_cause fault.now)
+        (λ cause. string_bytes text ≡ compact_text (cause_data file.now cause))) }
 {
     match fault {
-        NotationFault::FileTooLong => bare_value(alloc, "FileTooLong"),
-        NotationFault::Syntax { at } => place_value(alloc, "Syntax", file, *at),
-        NotationFault::TooNested { at } => place_value(alloc, "TooNested", file, *at),
+        NotationFault::FileTooLong => bare_text(alloc, "FileTooLong"),
+        NotationFault::Syntax { at } => place_text(alloc, "Syntax", file, *at),
+        NotationFault::TooNested { at } => place_text(alloc, "TooNested", file, *at),
         NotationFault::Memory => unreachable!(),
     }
 }
 
 // That of definitions that are no grammar.
-fn grammar_value(alloc: Global, fault: &GrammarFault, file: &[u8]) -> Result<Value, AllocError>
+fn grammar_text(alloc: Global, fault: &GrammarFault, file: &[u8]) -> Result<String, AllocError>
     requires told { is_some (grammar_cause fault.now) ≡ true }
     requires short { length file.now ≤ most_place }
     requires places { IfSome (grammar_cause fault.now) (StartsIn (length file.now)) }
-    ensures { IfOk result (λ value. IfSome (grammar_cause fault.now)
-        (λ cause. view value ≡ cause_data file.now cause)) }
+    ensures { IfOk result (λ text. IfSome (grammar_cause fault.now)
+        (λ cause. string_bytes text ≡ compact_text (cause_data file.now cause))) }
 {
     match fault {
-        GrammarFault::NoRule => bare_value(alloc, "NoRule"),
+        GrammarFault::NoRule => bare_text(alloc, "NoRule"),
         GrammarFault::Duplicate { name, span } => {
-            name_value(alloc, "Duplicate", file, name.as_str(), *span)
+            name_text(alloc, "Duplicate", file, name.as_str(), *span)
         }
         GrammarFault::Undefined { name, span } => {
-            name_value(alloc, "Undefined", file, name.as_str(), *span)
+            name_text(alloc, "Undefined", file, name.as_str(), *span)
         }
-        GrammarFault::TooManyParts => bare_value(alloc, "TooManyParts"),
+        GrammarFault::TooManyParts => bare_text(alloc, "TooManyParts"),
         GrammarFault::Memory => unreachable!(),
     }
 }
 
 // That of a grammar that isn't well-formed, whose rules have these names.
-fn check_value(
+fn check_text(
     alloc: Global,
     fault: &CheckFault,
     file: &[u8],
     names: &[&str],
-) -> Result<Value, AllocError>
+) -> Result<String, AllocError>
     requires told { is_some (check_cause (map (λ name. name.now) names.now) fault.now) ≡ true }
     requires short { length file.now ≤ most_place }
     requires places { IfSome (check_cause (map (λ name. name.now) names.now) fault.now) (StartsIn (length file.now)) }
     requires rules { NamesRules (length names.now) fault.now }
-    ensures { IfOk result (λ value. IfSome (check_cause (map (λ name. name.now) names.now) fault.now)
-        (λ cause. view value ≡ cause_data file.now cause)) }
+    ensures { IfOk result (λ text. IfSome (check_cause (map (λ name. name.now) names.now) fault.now)
+        (λ cause. string_bytes text ≡ compact_text (cause_data file.now cause))) }
 {
     match fault {
         CheckFault::EmptyLoop { rule, span } => {
-            loop_value(alloc, file, names[*rule as usize], *span)
+            loop_text(alloc, file, names[*rule as usize], *span)
         }
-        CheckFault::LeftRecursion { path } => path_value(alloc, path, names),
+        CheckFault::LeftRecursion { path } => path_text(alloc, path, names),
         CheckFault::Memory => unreachable!(),
     }
 }
 
+// The text of a value without floats.
+fn told(alloc: Global, value: Value) -> Result<String, AllocError>
+    ensures { (printed : Data) → view value ≡ printed → has_float printed ≡ false
+        → IfOk result (λ text. string_bytes text ≡ compact_text printed) }
+{
+    value.to_string(alloc)
+}
+
 // That of a refusal that has no more to tell than its name.
+fn bare_text(alloc: Global, refusal: &str) -> Result<String, AllocError>
+    ensures { IfOk result (λ text. string_bytes text ≡ compact_text (bare_data refusal.now)) }
+{
+    told(alloc, bare_value(alloc, refusal)?)
+}
+
+// Its object.
 fn bare_value(alloc: Global, refusal: &str) -> Result<Value, AllocError>
     ensures { IfOk result (λ value. view value ≡ bare_data refusal.now) }
 {
@@ -160,6 +160,15 @@ fn bare_value(alloc: Global, refusal: &str) -> Result<Value, AllocError>
 }
 
 // That of a refusal at a place.
+fn place_text(alloc: Global, refusal: &str, file: &[u8], at: u32) -> Result<String, AllocError>
+    requires short { length file.now ≤ most_place }
+    requires inside { at ≤ length file.now }
+    ensures { IfOk result (λ text. string_bytes text ≡ compact_text (place_data file.now refusal.now at)) }
+{
+    told(alloc, place_value(alloc, refusal, file, at)?)
+}
+
+// Its object.
 fn place_value(alloc: Global, refusal: &str, file: &[u8], at: u32) -> Result<Value, AllocError>
     requires short { length file.now ≤ most_place }
     requires inside { at ≤ length file.now }
@@ -170,6 +179,22 @@ fn place_value(alloc: Global, refusal: &str, file: &[u8], at: u32) -> Result<Val
 }
 
 // That of a refused name, where it stands.
+fn name_text(
+    alloc: Global,
+    refusal: &str,
+    file: &[u8],
+    name: &str,
+    span: Span,
+) -> Result<String, AllocError>
+    requires short { length file.now ≤ most_place }
+    requires inside { span.start ≤ length file.now }
+    ensures { IfOk result (λ text. string_bytes text
+        ≡ compact_text (name_data file.now refusal.now (reference name.now (extent span)))) }
+{
+    told(alloc, name_value(alloc, refusal, file, name, span)?)
+}
+
+// Its object.
 fn name_value(
     alloc: Global,
     refusal: &str,
@@ -179,8 +204,7 @@ fn name_value(
 ) -> Result<Value, AllocError>
     requires short { length file.now ≤ most_place }
     requires inside { span.start ≤ length file.now }
-    ensures { IfOk result (λ value. view value
-        ≡ name_data file.now refusal.now (reference name.now (extent span))) }
+    ensures { IfOk result (λ value. view value ≡ name_data file.now refusal.now (reference name.now (extent span))) }
 {
     let LineColumn { line, column } = place(file, span.start);
     json!(in alloc; {
@@ -194,6 +218,15 @@ fn name_value(
 }
 
 // That of an empty loop of a rule, where it stands.
+fn loop_text(alloc: Global, file: &[u8], rule: &str, span: Span) -> Result<String, AllocError>
+    requires short { length file.now ≤ most_place }
+    requires inside { span.start ≤ length file.now }
+    ensures { IfOk result (λ text. string_bytes text ≡ compact_text (loop_data file.now (reference rule.now (extent span)))) }
+{
+    told(alloc, loop_value(alloc, file, rule, span)?)
+}
+
+// Its object.
 fn loop_value(alloc: Global, file: &[u8], rule: &str, span: Span) -> Result<Value, AllocError>
     requires short { length file.now ≤ most_place }
     requires inside { span.start ≤ length file.now }
@@ -210,37 +243,69 @@ fn loop_value(alloc: Global, file: &[u8], rule: &str, span: Span) -> Result<Valu
     })
 }
 
-// That of a left cycle.
-fn path_value(alloc: Global, path: &[u32], names: &[&str]) -> Result<Value, AllocError>
+// That of a left cycle, whose names are told as they are sent.
+fn path_text(alloc: Global, path: &[u32], names: &[&str]) -> Result<String, AllocError>
     requires { All (λ rule. rule < length names.now) path.now }
-    ensures { IfOk result (λ value. view value
-        ≡ path_data (map (name_at (map (λ name. name.now) names.now)) path.now)) }
+    ensures { IfOk result (λ text. string_bytes text
+        ≡ compact_text (path_data (map (name_at (map (λ name. name.now) names.now)) path.now))) }
 {
-    let path = Value::Array(path_names(alloc, path, names)?);
-    json!(in alloc; {"path": path, "refusal": "LeftRecursion"})
+    text_of(alloc, &LeftCycle { path, names })
 }
 
-// The names of the rules with these numbers.
-fn path_names(alloc: Global, path: &[u32], names: &[&str]) -> Result<Vec<Value>, AllocError>
-    requires { All (λ rule. rule < length names.now) path.now }
-    ensures { IfOk result (λ list. map view list.items
-        ≡ map string (map (name_at (map (λ name. name.now) names.now)) path.now)) }
-{
-    let mut list = Vec::new(alloc);
-    for rule in path {
-        list.push(text_value(alloc, names[*rule as usize])?)?;
+// The rules of a left cycle by their numbers, and the names of rules.
+#[derive(Drop)]
+struct LeftCycle<'a> {
+    path: &'a [u32],
+    names: &'a [&'a str],
+    ghost below: { All (λ rule. rule < length names.now) path.now } by { Prim.hlevel props },
+}
+
+impl Described for LeftCycle<'_> {
+    ghost writes = { λ cycle. SendsValue
+        (path_data (map (name_at (map (λ name. name.now) cycle.names.now)) cycle.path.now)) };
+}
+
+impl Serialize for LeftCycle<'_> {
+    fn serialize<S: Serializer>(&self, out: &mut S) -> Result<(), S::Error> {
+        out.begin_map(Some(2))?;
+        out.key("path")?;
+        send_names(self.path, self.names, out)?;
+        send_member("refusal", &"LeftRecursion", out)?;
+        out.end_map()
     }
-    Ok(list)
 }
 
-// A name as a value.
-fn text_value(alloc: Global, name: &str) -> Result<Value, AllocError>
-    ensures { IfOk result (λ value. view value ≡ string name.now) }
+// Sends the names of the rules with these numbers.
+fn send_names<S: Serializer>(path: &[u32], names: &[&str], out: &mut S) -> Result<(), S::Error>
+    requires { All (λ rule. rule < length names.now) path.now }
+    ensures { OnOk result (SendsValue
+        (array (items_of (map string (map (name_at (map (λ name. name.now) names.now)) path.now))))
+        (S.written out.old) (S.written out.new)) }
 {
-    json!(in alloc; name)
+    out.begin_seq(Some(path.len()))?;
+    for rule in path {
+        send_name(*rule, names, out)?;
+    }
+    out.end_seq()
+}
+
+// Sends the name of the rule with this number.
+fn send_name<S: Serializer>(rule: u32, names: &[&str], out: &mut S) -> Result<(), S::Error>
+    requires { rule < length names.now }
+    ensures { OnOk result (SendsValue (string (name_at (map (λ name. name.now) names.now) rule))
+        (S.written out.old) (S.written out.new)) }
+{
+    out.str(names[rule as usize])
 }
 
 // That of a start that is no rule.
+fn start_text(alloc: Global, name: &str) -> Result<String, AllocError>
+    ensures { IfOk result (λ text. string_bytes text ≡ compact_text (start_data name.now)) }
+{
+    told(alloc, start_value(alloc, name)?)
+}
+
+// Its object.
 fn start_value(alloc: Global, name: &str) -> Result<Value, AllocError>
     ensures { IfOk result (λ value. view value ≡ start_data name.now) }
 {

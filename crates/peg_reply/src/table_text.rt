@@ -1,18 +1,21 @@
 //! The table of outcomes as JSON.
-ghost use Rattle.std.specs.Prelude.{◌≡◌, codes, length, map, IfOk, string_bytes};
-ghost use Rattle.serde_json.specs.Data.{array, member, no_members, object};
-ghost use Rattle.serde_json.specs.View.{items_of, view};
+ghost use Rattle.std.specs.Prelude.{◌≡◌, IfOk, OnOk, length, string_bytes};
+ghost use Rattle.serde_json.specs.Data.{array};
+ghost use Rattle.serde_json.specs.Events.{SendsValue};
+ghost use Rattle.serde_json.specs.View.{items_of};
 ghost use Rattle.serde_json.specs.Written.{compact_text};
 ghost use Rattle.peg_check.specs.Cans.{can_of};
 ghost use Rattle.peg_check.specs.Exact.{cans_of};
 ghost use Rattle.peg_grammar.specs.GrammarRules.{rules_in};
 ghost use Rattle.peg_ford.specs.Rules.{names};
-ghost use Rattle.peg_reply.specs.TableText.{entry_data, table_data};
+ghost use Rattle.peg_reply.specs.TableText.{entries_data, entry_data, table_data};
 
+use crate::text::text_of;
 use peg_check::{Can, Table};
 use peg_core::Core;
 use peg_grammar::Grammar;
-use serde_json::{Value, json};
+use peg_tree::send_member;
+use serde::{Described, Serialize, Serializer};
 use std::alloc::{AllocError, Global};
 
 /// The table of a grammar's rules as one line of JSON without its line end: of each rule, in order, whether its
@@ -29,48 +32,69 @@ pub fn table_json(
     ensures { IfOk result (λ text. string_bytes text
         ≡ compact_text (table_data (names (rules_in grammar.now)) (cans_of core.now.bodies table.now))) }
 {
-    let value = table_value(alloc, grammar, core, table)?;
-    let text = value.to_string(alloc)?;
-    Ok(text)
+    text_of(
+        alloc,
+        &TableObject {
+            grammar,
+            core,
+            table,
+        },
+    )
 }
 
-// The object that `table_json` prints.
-fn table_value(
-    alloc: Global,
+// A table, told by the entries of its rules.
+#[derive(Drop)]
+struct TableObject<'a> {
+    grammar: &'a Grammar,
+    core: &'a Core,
+    table: &'a Table,
+    ghost rules: { length core.now.bodies ≡ length (rules_in grammar.now) },
+    ghost entries: { length table.now ≡ length core.now.forms },
+}
+
+impl Described for TableObject<'_> {
+    ghost writes = { λ told. SendsValue (table_data (names (rules_in told.grammar.now))
+        (cans_of told.core.now.bodies told.table.now)) };
+}
+
+impl Serialize for TableObject<'_> {
+    fn serialize<S: Serializer>(&self, out: &mut S) -> Result<(), S::Error> {
+        out.begin_map(Some(1))?;
+        out.key("table")?;
+        send_entries(self.grammar, self.core, self.table, out)?;
+        out.end_map()
+    }
+}
+
+// Sends the entries, in order.
+fn send_entries<S: Serializer>(
     grammar: &Grammar,
     core: &Core,
     table: &Table,
-) -> Result<Value, AllocError>
+    out: &mut S,
+) -> Result<(), S::Error>
     requires rules { length core.now.bodies ≡ length (rules_in grammar.now) }
     requires entries { length table.now ≡ length core.now.forms }
-    ensures { IfOk result (λ value. view value
-        ≡ table_data (names (rules_in grammar.now)) (cans_of core.now.bodies table.now)) }
+    ensures { OnOk result (SendsValue
+        (array (items_of (entries_data (names (rules_in grammar.now)) (cans_of core.now.bodies table.now))))
+        (S.written out.old) (S.written out.new)) }
 {
-    let mut entries = Vec::new(alloc);
+    out.begin_seq(Some(grammar.rules() as usize))?;
     for rule in 0..grammar.rules() {
         let can = table.of(core.body(rule));
-        entries.push(entry_value(alloc, grammar.rule_name(rule), can)?)?;
+        send_entry(grammar.rule_name(rule), can, out)?;
     }
-    table_of_entries(alloc, entries)
+    out.end_seq()
 }
 
-// The object of these entries.
-fn table_of_entries(alloc: Global, entries: Vec<Value>) -> Result<Value, AllocError>
-    ensures { IfOk result (λ value. view value
-        ≡ object (member (codes "table") (array (items_of (map view entries.items))) no_members)) }
+// Sends what one rule's expression can do, with the rule's name.
+fn send_entry<S: Serializer>(rule: &str, can: Can, out: &mut S) -> Result<(), S::Error>
+    ensures { OnOk result (SendsValue (entry_data rule.now (can_of can)) (S.written out.old) (S.written out.new)) }
 {
-    let entries = Value::Array(entries);
-    json!(in alloc; {"table": entries})
-}
-
-// What one rule's expression can do, with the rule's name.
-fn entry_value(alloc: Global, rule: &str, can: Can) -> Result<Value, AllocError>
-    ensures { IfOk result (λ value. view value ≡ entry_data rule.now (can_of can)) }
-{
-    json!(in alloc; {
-        "fails": (can.fails),
-        "nothing": (can.nothing),
-        "rule": rule,
-        "something": (can.something)
-    })
+    out.begin_map(Some(4))?;
+    send_member("fails", &can.fails, out)?;
+    send_member("nothing", &can.nothing, out)?;
+    send_member("rule", &rule, out)?;
+    send_member("something", &can.something, out)?;
+    out.end_map()
 }

@@ -14,10 +14,10 @@ use Rattle.peg_tool.specs.declared.ending.ToolFault.TheVariants as tool
 module _ (IsRight : List ℕ → ℕ → Type 0) (old new : Option (List ℕ)) where
   -- a right line that is written whole
   pub ends-prints : (told : Result Line ReadFault) (result : Result ℕ ToolFault) → Ends told old new result
-      → IfOk told (λ line. IsRight (string_bytes line.text) (code_of line.status))
+      → IfOk told (λ line. IsRight (line_bytes line) (code_of line.status))
       → IfOk result (λ status. Prints IsRight old new status)
   ends-prints (Ok line) (Ok status) ends right =
-      inl (string_bytes line.text, subst (IsRight (string_bytes line.text)) (sym ends.1) right, ends.0)
+      inl (line_bytes line, subst (IsRight (line_bytes line)) (sym ends.1) right, ends.0)
   ends-prints (Ok line) (Err why) ends right = tt
   ends-prints (Err read.Memory) (Ok status) ends right = inr ((let same : Ok status ≡ Ok 5 = ends.0 in cc), ends.1)
   ends-prints (Err read.Memory) (Err why) ends right = tt
@@ -27,11 +27,11 @@ module _ (IsRight : List ℕ → ℕ → Type 0) (old new : Option (List ℕ)) w
 
   -- one that is written in part
   pub ends-in_part : (told : Result Line ReadFault) (result : Result ℕ ToolFault) → Ends told old new result
-      → IfOk told (λ line. IsRight (string_bytes line.text) (code_of line.status)) → result ≡ Err tool.WriteFault
+      → IfOk told (λ line. IsRight (line_bytes line) (code_of line.status)) → result ≡ Err tool.WriteFault
       → PrintsInPart IsRight old new
   ends-in_part (Ok line) (Ok status) ends right is = cc
   ends-in_part (Ok line) (Err tool.WriteFault) ends right is =
-      (string_bytes line.text, code_of line.status, ends.0, right, ends.1, ends.2)
+      (line_bytes line, code_of line.status, ends.0, right, ends.1, ends.2)
   ends-in_part (Ok line) (Err tool.ReadFault) ends right is = absurd ends
   ends-in_part (Err read.Memory) result ends right is =
       absurd (let bad : Ok 5 ≡ Err tool.WriteFault = sym ends.0 ∙ is in cc)
@@ -41,14 +41,14 @@ module _ (IsRight : List ℕ → ℕ → Type 0) (old new : Option (List ℕ)) w
 -- of an input that isn't told nothing is said; of one that is, its line is right
 pub input-prints : (IsRight : List ℕ → List ℕ → ℕ → Type 0) (left old new : Option (List ℕ))
     (told : Result Line ReadFault) (result : Result ℕ ToolFault) → Ends told old new result
-    → IfSome left (λ input. IfOk told (λ line. IsRight input (string_bytes line.text) (code_of line.status)))
+    → IfSome left (λ input. IfOk told (λ line. IsRight input (line_bytes line) (code_of line.status)))
     → IfSome left (λ input. IfOk result (λ status. Prints (IsRight input) old new status))
 input-prints IsRight None old new told result ends right = tt
 input-prints IsRight (Some input) old new told result ends right = ends-prints (IsRight input) old new told result ends right
 
 pub input-in_part : (IsRight : List ℕ → List ℕ → ℕ → Type 0) (left old new : Option (List ℕ))
     (told : Result Line ReadFault) (result : Result ℕ ToolFault) → Ends told old new result
-    → IfSome left (λ input. IfOk told (λ line. IsRight input (string_bytes line.text) (code_of line.status)))
+    → IfSome left (λ input. IfOk told (λ line. IsRight input (line_bytes line) (code_of line.status)))
     → IfSome left (λ input. result ≡ Err tool.WriteFault → PrintsInPart (IsRight input) old new)
 input-in_part IsRight None old new told result ends right = tt
 input-in_part IsRight (Some input) old new told result ends right =
@@ -59,7 +59,7 @@ pub file-prints : (IsText : List ℕ → List ℕ → Type 0) (IsRight : List �
     (left old new : Option (List ℕ)) (told : Result Line ReadFault) (result : Result ℕ ToolFault)
     → Ends told old new result
     → IfSome left (λ file. (bytes : List ℕ) → IsText file bytes
-    → IfOk told (λ line. IsRight file bytes (string_bytes line.text) (code_of line.status)))
+    → IfOk told (λ line. IsRight file bytes (line_bytes line) (code_of line.status)))
     → IfSome left (λ file. (bytes : List ℕ) → IsText file bytes
     → IfOk result (λ status. Prints (IsRight file bytes) old new status))
 file-prints IsText IsRight None old new told result ends right = tt
@@ -70,7 +70,7 @@ pub file-in_part : (IsText : List ℕ → List ℕ → Type 0) (IsRight : List �
     (left old new : Option (List ℕ)) (told : Result Line ReadFault) (result : Result ℕ ToolFault)
     → Ends told old new result
     → IfSome left (λ file. (bytes : List ℕ) → IsText file bytes
-    → IfOk told (λ line. IsRight file bytes (string_bytes line.text) (code_of line.status)))
+    → IfOk told (λ line. IsRight file bytes (line_bytes line) (code_of line.status)))
     → IfSome left (λ file. (bytes : List ℕ) → IsText file bytes → result ≡ Err tool.WriteFault
     → PrintsInPart (IsRight file bytes) old new)
 file-in_part IsText IsRight None old new told result ends right = tt

@@ -40,18 +40,18 @@ pub refusal-line : (Kind : Cause → Type 0) (file text : List ℕ) (size : ℕ)
     (result : Result Line AllocError) → TellsWhy Kind size why
     → ((cause : Cause) → Kind cause → RepliesTo file text task (Refused cause))
     → IfOk result (λ line. (cause : Cause) × (cause_told why ≡ Some cause)
-    × IsReply file (Refused cause) (string_bytes line.text) (code_of line.status))
-    → IfOk result (λ line. IsPrinted task file text (string_bytes line.text) (code_of line.status))
+    × IsReply file (Refused cause) (line_bytes line) (code_of line.status))
+    → IfOk result (λ line. IsPrinted task file text (line_bytes line) (code_of line.status))
 refusal-line Kind file text size task why (Ok line) tells replies printed =
-    told-printed Kind file text size task why (string_bytes line.text) (code_of line.status) tells replies printed
+    told-printed Kind file text size task why (line_bytes line) (code_of line.status) tells replies printed
 refusal-line Kind file text size task why (Err other) tells replies printed = tt
 
 -- the line of a file that isn't accepted, whatever the text and the task that asks for that
 pub judged-refused : (file : List ℕ) (size : ℕ) (why : Refusal) (line : Line) → TellsWhy (Refuses file) size why
     → (cause : Cause) × (cause_told why ≡ Some cause)
-    × IsReply file (Refused cause) (string_bytes line.text) (code_of line.status)
+    × IsReply file (Refused cause) (line_bytes line) (code_of line.status)
     → (task : Task) (text : List ℕ) → Checks task
-    → IsPrinted task file text (string_bytes line.text) (code_of line.status)
+    → IsPrinted task file text (line_bytes line) (code_of line.status)
 judged-refused file size why line tells printed task text checks =
-    told-printed (Refuses file) file text size task why (string_bytes line.text) (code_of line.status) tells
+    told-printed (Refuses file) file text size task why (line_bytes line) (code_of line.status) tells
     (refuses-replies file text task checks) printed

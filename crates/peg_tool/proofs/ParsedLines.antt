@@ -22,10 +22,10 @@ use Rattle.peg_reply.proofs.PrintLemmas.{reply-kind}
 pub no_start-line : (result : Result Line AllocError) (file : List ℕ) (rules : List Rule) (text : List ℕ)
     (start : Option (List ℕ)) (all rows : Bool) (name : List ℕ) → start ≡ Some name → start_of rules start ≡ None
     → (most_text_bytes < length text → IfOk result (λ line.
-    IsReply file (Refused TextTooLong) (string_bytes line.text) (code_of line.status)))
+    IsReply file (Refused TextTooLong) (line_bytes line) (code_of line.status)))
     → (length text ≤ most_text_bytes → IfOk result (λ line.
-    IsReply file (Refused (NoSuchStart name)) (string_bytes line.text) (code_of line.status)))
-    → IfOk result (λ line. IsLineOf file (ParsesTo rules text start all rows) (string_bytes line.text) (code_of line.status))
+    IsReply file (Refused (NoSuchStart name)) (line_bytes line) (code_of line.status)))
+    → IfOk result (λ line. IsLineOf file (ParsesTo rules text start all rows) (line_bytes line) (code_of line.status))
 no_start-line result file rules text start all rows name named none long missing =
     elim (cases_lt most_text_bytes (length text)) [
       | inl over ↦

@@ -156,11 +156,11 @@ pub parsed-told : (result : Result Line ReadFault) (file : List ℕ) (left : Opt
     (rules : List Rule) (start : Option (List ℕ)) (all rows : Bool) → IsTextOf (ParseTask start all rows) file left bytes
     → Accepts file rules
     → IfOk result (λ line. IfSome left (λ text.
-    IsPrinted (ParseTask start all rows) file text (string_bytes line.text) (code_of line.status)))
-    → IfOk result (λ line. IsPrinted (ParseTask start all rows) file bytes (string_bytes line.text) (code_of line.status))
+    IsPrinted (ParseTask start all rows) file text (line_bytes line) (code_of line.status)))
+    → IfOk result (λ line. IsPrinted (ParseTask start all rows) file bytes (line_bytes line) (code_of line.status))
 parsed-told (Ok line) file left bytes rules start all rows is accepts told =
     subst (λ (text : Option (List ℕ)). IfSome text (λ read.
-    IsPrinted (ParseTask start all rows) file read (string_bytes line.text) (code_of line.status))) (is rules accepts) told
+    IsPrinted (ParseTask start all rows) file read (line_bytes line) (code_of line.status))) (is rules accepts) told
 parsed-told (Err why) file left bytes rules start all rows is accepts told = tt
 
 -- what is printed for a front that is over the limit of a text is what is printed for the whole text
@@ -230,10 +230,10 @@ line-held task text left new held line status consumed within end right =
 pub told-held : (result : Result Line ReadFault) (task : Task) (text left new : Option (List ℕ)) (held : List ℕ)
     → Consumes left new held → length held ≤ most_file_bytes + 1 → (length held < most_file_bytes + 1 → IsAtEnd new)
     → ((bytes : List ℕ) → IsTextOf task held text bytes
-    → IfOk result (λ line. IsPrinted task held bytes (string_bytes line.text) (code_of line.status)))
+    → IfOk result (λ line. IsPrinted task held bytes (line_bytes line) (code_of line.status)))
     → IfSome left (λ file. (bytes : List ℕ) → IsTextOf task file text bytes
-    → IfOk result (λ line. IsPrinted task file bytes (string_bytes line.text) (code_of line.status)))
+    → IfOk result (λ line. IsPrinted task file bytes (line_bytes line) (code_of line.status)))
 told-held (Ok line) task text left new held consumed within end right =
-    line-held task text left new held (string_bytes line.text) (code_of line.status) consumed within end right
+    line-held task text left new held (line_bytes line) (code_of line.status) consumed within end right
 told-held (Err why) task text None new held consumed within end right = tt
 told-held (Err why) task text (Some file) new held consumed within end right = λ bytes is. tt

@@ -12,8 +12,8 @@ use Rattle.peg_tool.specs.declared.ending.ToolFault.TheVariants as tool
 -- a run with this line, or with none, ends so: the line is written and its status answered, or it is cut off; want of
 -- memory ends with its status and nothing written, a failed read with its fault and nothing written
 abbrev pub Ends : Result Line ReadFault → (old new : Option (List ℕ)) → Result ℕ ToolFault → Type 0
-Ends (Ok line) old new (Ok status) = Appends old new (string_bytes line.text) × (status ≡ code_of line.status)
-Ends (Ok line) old new (Err tool.WriteFault) = AppendsProperPrefix old new (string_bytes line.text)
+Ends (Ok line) old new (Ok status) = Appends old new (line_bytes line) × (status ≡ code_of line.status)
+Ends (Ok line) old new (Err tool.WriteFault) = AppendsProperPrefix old new (line_bytes line)
 Ends (Ok line) old new (Err tool.ReadFault) = ⊥
 Ends (Err read.Memory) old new result = (result ≡ Ok 5) × Keeps old new
 Ends (Err read.Device) old new result = (result ≡ Err tool.ReadFault) × Keeps old new

@@ -13,4 +13,4 @@ abbrev pub Judges : (file : List ℕ) → Judged → Type 0
 Judges file (Accepted parser) = Accepts file (parser_rules parser)
 Judges file (Refused line) =
     (task : Task) (text : List ℕ) → Checks task
-    → IsPrinted task file text (string_bytes line.text) (code_of line.status)
+    → IsPrinted task file text (line_bytes line) (code_of line.status)

@@ -46,7 +46,7 @@ pub fn run_joined<G: Source, W: Sink>(
 fn line_of<G: Source>(alloc: Global, input: &mut G) -> Result<Line, ReadFault>
     requires { G.failed input.old ≡ false }
     ensures answer { IfSome (G.left input.old) (λ bytes. IfOk result (λ line.
-        IsPrintedJoined bytes (string_bytes line.text) (code_of line.status))) }
+        IsPrintedJoined bytes (line_bytes line) (code_of line.status))) }
     ensures held { ConsumesAtMost (G.left input.old) (G.left input.new) most_joined_bytes }
     ensures device { IsErrOf result ReadFault.Device ↔ (G.failed input.new ≡ true) }
 {
@@ -57,7 +57,7 @@ fn line_of<G: Source>(alloc: Global, input: &mut G) -> Result<Line, ReadFault>
 // The line of an input that is held.
 fn line_for(alloc: Global, input: &[u8]) -> Result<Line, AllocError>
     requires { length input.now ≤ most_joined_bytes }
-    ensures { IfOk result (λ line. IsPrintedJoined input.now (string_bytes line.text) (code_of line.status)) }
+    ensures { IfOk result (λ line. IsPrintedJoined input.now (line_bytes line) (code_of line.status)) }
 {
     let (file, text) = split(input);
     let options = ParseOptions {

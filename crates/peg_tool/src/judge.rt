@@ -40,7 +40,7 @@ pub(crate) fn judge(alloc: Global, file: &[u8]) -> Result<Judged, AllocError>
 pub(crate) fn check_file(alloc: Global, file: &[u8]) -> Result<Line, AllocError>
     requires { length file.now ≤ most_place }
     ensures { (text : List ℕ) → IfOk result
-        (λ line. IsPrinted CheckTask file.now text (string_bytes line.text) (code_of line.status)) }
+        (λ line. IsPrinted CheckTask file.now text (line_bytes line) (code_of line.status)) }
 {
     match judge(alloc, file)? {
         Judged::Accepted(parser) => accepted_line(alloc, parser.grammar().rules()),
@@ -52,7 +52,7 @@ pub(crate) fn check_file(alloc: Global, file: &[u8]) -> Result<Line, AllocError>
 pub(crate) fn table_file(alloc: Global, file: &[u8]) -> Result<Line, AllocError>
     requires { length file.now ≤ most_place }
     ensures { (text : List ℕ) → IfOk result
-        (λ line. IsPrinted TableTask file.now text (string_bytes line.text) (code_of line.status)) }
+        (λ line. IsPrinted TableTask file.now text (line_bytes line) (code_of line.status)) }
 {
     match grammar_of(alloc, file) {
         Ok(grammar) => tabled(alloc, &grammar),
@@ -65,7 +65,7 @@ pub(crate) fn table_file(alloc: Global, file: &[u8]) -> Result<Line, AllocError>
 fn tabled(alloc: Global, grammar: &Grammar) -> Result<Line, AllocError>
     requires { IsTaken (rules_in grammar.now) }
     ensures { (file text : List ℕ) → IsRead file (rules_in grammar.now) → IfOk result
-        (λ line. IsPrinted TableTask file text (string_bytes line.text) (code_of line.status)) }
+        (λ line. IsPrinted TableTask file text (line_bytes line) (code_of line.status)) }
 {
     let core = desugar(alloc, grammar)?;
     let table = table_of(alloc, &core)?;

@@ -25,7 +25,7 @@ pub(crate) fn parse_line(
 ) -> Result<Line, AllocError>
     ensures { (file : List ℕ) → IfOk result (λ line. IsLineOf file
         (ParsesTo (parser_rules parser.now) text.now (start_named options.now) all (is_rows form))
-        (string_bytes line.text) (code_of line.status)) }
+        (line_bytes line) (code_of line.status)) }
 {
     match parser.parse(alloc, text, options) {
         Ok(answer) => answer_line(alloc, parser, &answer, text.len() as u32, all, form),
@@ -39,10 +39,10 @@ pub(crate) fn parse_line(
 fn no_start(alloc: Global, text: &[u8], start: Option<&str>) -> Result<Line, AllocError>
     requires { start ≢ None }
     ensures long { most_text_bytes < length text.now → (file : List ℕ) → IfOk result
-        (λ line. IsReply file (Refused TextTooLong) (string_bytes line.text) (code_of line.status)) }
+        (λ line. IsReply file (Refused TextTooLong) (line_bytes line) (code_of line.status)) }
     ensures missing { length text.now ≤ most_text_bytes → (file name : List ℕ)
         → option_map (λ given. given.now) start.entry ≡ Some name → IfOk result
-        (λ line. IsReply file (Refused (NoSuchStart name)) (string_bytes line.text) (code_of line.status)) }
+        (λ line. IsReply file (Refused (NoSuchStart name)) (line_bytes line) (code_of line.status)) }
 {
     if text.len() > MOST_TEXT_BYTES {
         return long_text_line(alloc);

@@ -74,7 +74,7 @@ fn line_of<G: Source, T: Source>(
     requires text_works { T.failed text.old ≡ false }
     ensures answer { IfSome (G.left grammar.old) (λ file. (bytes : List ℕ)
         → IsTextOf (task_of command.now) file (T.left text.old) bytes → IfOk result (λ line.
-        IsPrinted (task_of command.now) file bytes (string_bytes line.text) (code_of line.status))) }
+        IsPrinted (task_of command.now) file bytes (line_bytes line) (code_of line.status))) }
     ensures held { ConsumesAtMost (G.left grammar.old) (G.left grammar.new) (most_file_bytes + 1) }
     ensures text_held { ConsumesAtMost (T.left text.old) (T.left text.new) (most_text_bytes + 1) }
     ensures unread { ¬ IsParse (task_of command.now) → text.new ≡ text.old }
@@ -107,7 +107,7 @@ fn parsed<T: Source>(
     ensures answer { (bytes : List ℕ)
         → IsTextOf (ParseTask (start_named options.now) all (is_rows form)) file.now (T.left text.old) bytes
         → IfOk result (λ line. IsPrinted (ParseTask (start_named options.now) all (is_rows form)) file.now bytes
-        (string_bytes line.text) (code_of line.status)) }
+        (line_bytes line) (code_of line.status)) }
     ensures held { ConsumesAtMost (T.left text.old) (T.left text.new) (most_text_bytes + 1) }
     ensures refused { ((rules : List Rule) → ¬ Accepts file.now rules) → text.new ≡ text.old }
     ensures device { IsErrOf result ReadFault.Device ↔ (T.failed text.new ≡ true) }
@@ -130,7 +130,7 @@ fn read_and_parse<T: Source>(
     requires { T.failed text.old ≡ false }
     ensures answer { (file : List ℕ) → Accepts file (parser_rules parser.now) → IfOk result (λ line.
         IfSome (T.left text.old) (λ bytes. IsPrinted (ParseTask (start_named options.now) all (is_rows form)) file bytes
-        (string_bytes line.text) (code_of line.status))) }
+        (line_bytes line) (code_of line.status))) }
     ensures held { ConsumesAtMost (T.left text.old) (T.left text.new) (most_text_bytes + 1) }
     ensures device { IsErrOf result ReadFault.Device ↔ (T.failed text.new ≡ true) }
 {

@@ -1,10 +1,12 @@
 pub mod Built
+pub mod Events
 pub mod Json
 pub mod Levels
 pub mod Names
 pub mod Nodes
 pub mod Parts
 pub mod Rows
+pub mod Sending
 pub mod Trees
 pub mod TreesCode
 pub mod TreesOfRows

@@ -24,7 +24,7 @@ pub(crate) fn levels_in(alloc: Global, rows: &[TreeNode]) -> Result<Vec<usize>, 
 }
 
 // Takes away the innermost ends that don't lie past a row's number.
-fn close_ended(ends: &mut Vec<usize>, at: usize)
+pub(crate) fn close_ended(ends: &mut Vec<usize>, at: usize)
     ensures { reverse ends.new.items ≡ open_at at (reverse ends.old.items) }
 {
     while let Some(end) = ends.last() {

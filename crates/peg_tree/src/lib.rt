@@ -4,19 +4,25 @@
 mod depth;
 mod json;
 mod levels;
+mod member;
 mod names;
 mod nested;
+mod nested_tree;
 mod outcome;
 mod part;
 mod row;
 mod rows;
 mod shape;
 mod tree;
+mod tree_rows;
 
 pub use json::rows_json;
+pub use member::send_member;
 pub use names::Names;
 pub use nested::{JsonFault, MOST_LEVELS, nested_json};
+pub use nested_tree::NestedTree;
 pub use outcome::{Outcome, Parsed};
 pub use row::TreeNode;
 pub use shape::one_tree;
 pub use tree::Tree;
+pub use tree_rows::TreeRows;

@@ -1,4 +1,4 @@
-use Rattle.std.proofs.Common.{refl, string_bytes}
+use Rattle.std.proofs.Common.{ap, refl, string_bytes}
 use Rattle.peg_ford.specs.Rules.{names}
 use Rattle.peg_grammar.specs.GrammarRules.{rules_in}
 use Rattle.peg_reply.specs.Reply.{Tabled}
@@ -11,4 +11,4 @@ pub returns : goal.returns
 returns c file =
     text-reply c.new.result file (string_bytes c.in_ok-table_json.field-0) Done
     (Tabled (names (rules_in c.args.grammar.now)) (cans_of c.args.core.now.bodies c.args.table.now))
-    c.new.ensures.line c.new.ensures.status c.in_ok-table_json.ensures refl
+    (ap string_bytes c.new.ensures.0) c.new.ensures.1 c.in_ok-table_json.ensures refl

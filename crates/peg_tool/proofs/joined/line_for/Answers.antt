@@ -20,12 +20,12 @@ returns-in-Accepted c =
     let rules = parser_rules c.in-Accepted.parser in
     let judged = subst (Judges file) c.in-Accepted.is c.in_ok-parser.ensures in
     IfOk-weaker c.parse_line.result _
-    (λ (line : Line). IsPrintedJoined c.args.input.now (string_bytes line.text) (code_of line.status))
+    (λ (line : Line). IsPrintedJoined c.args.input.now (line_bytes line) (code_of line.status))
     (λ line is. (
       file,
       text,
       c.split.ensures,
-      parsed-printed file text rules None false false (string_bytes line.text)
+      parsed-printed file text rules None false false (line_bytes line)
           (code_of line.status) judged is,
     ))
     (c.parse_line.ensures file)

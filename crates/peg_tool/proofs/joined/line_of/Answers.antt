@@ -9,7 +9,7 @@ pub returns-clause-answer : goal.returns-clause-answer
 returns-clause-answer g c =
     let held = c.in_ok-bytes.bytes in
     let left = g.G.Source.left c.args.input.now in
-    let line = string_bytes c.in_ok-line_for.field-0.text in
+    let line = line_bytes c.in_ok-line_for.field-0 in
     let status = code_of c.in_ok-line_for.field-0.status in
     let for_held = subst (λ (l : List ℕ). IsPrintedJoined l line status) c.deref.ensures.value c.in_ok-line_for.ensures in
     let within : length held.items ≤ most_joined_bytes = omega (arith, held.ok.0, c.in_ok-bytes.ensures.most) in

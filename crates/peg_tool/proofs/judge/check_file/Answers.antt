@@ -15,5 +15,5 @@ returns-in-Accepted c text =
     let rules = parser_rules c.in-Accepted.parser in
     let judged = subst (Judges file) c.in-Accepted.is c.in_ok-parser.ensures in
     reply-kind c.accepted_line.result file (RepliesTo file text CheckTask) (Accepted (length rules))
-    (subst (λ (n : ℕ). IfOk c.accepted_line.result (λ line. IsReply file (Accepted n) (string_bytes line.text) (code_of line.status)))
+    (subst (λ (n : ℕ). IfOk c.accepted_line.result (λ line. IsReply file (Accepted n) (line_bytes line) (code_of line.status)))
     (c.rules.ensures.count ∙ ap length c.grammar.ensures) (c.accepted_line.ensures file)) (accepted judged)

@@ -16,7 +16,7 @@ pub returns-in-Table-clause-answer : goal.returns-in-Table-clause-answer
 returns-in-Table-clause-answer g c =
     let held = c.in_ok-file.file in
     let told = c.in_ok-table_file-in-Table.field-0 in
-    let line = string_bytes told.text in
+    let line = line_bytes told in
     let text = g.T.Source.left c.args.text.now in
     let task = task_of c.args.command.now in
     let is : TableTask ≡ task = sym (ap task_of c.in-Table.is) in
@@ -34,7 +34,7 @@ pub returns-in-Check-clause-answer : goal.returns-in-Check-clause-answer
 returns-in-Check-clause-answer g c =
     let held = c.in_ok-file.file in
     let told = c.in_ok-check_file-in-Check.field-0 in
-    let line = string_bytes told.text in
+    let line = line_bytes told in
     let text = g.T.Source.left c.args.text.now in
     let task = task_of c.args.command.now in
     let is : CheckTask ≡ task = sym (ap task_of c.in-Check.is) in
@@ -58,11 +58,11 @@ returns-clause-answer g c =
     ap (λ (rows : Bool). ParseTask (start_named c.in-Parse.options) c.in-Parse.all rows) c.of.ensures
     ∙ sym (ap task_of c.in-Parse.is) in
     let right : (bytes : List ℕ) → IsTextOf task held.items text bytes
-    → IfOk c.parsed.result (λ line. IsPrinted task held.items bytes (string_bytes line.text) (code_of line.status)) =
+    → IfOk c.parsed.result (λ line. IsPrinted task held.items bytes (line_bytes line) (code_of line.status)) =
     subst (λ (t : Task). (bytes : List ℕ) → IsTextOf t held.items text bytes
-    → IfOk c.parsed.result (λ line. IsPrinted t held.items bytes (string_bytes line.text) (code_of line.status))) is
+    → IfOk c.parsed.result (λ line. IsPrinted t held.items bytes (line_bytes line) (code_of line.status))) is
     (subst (λ (l : List ℕ). (bytes : List ℕ) → IsTextOf asked l text bytes
-    → IfOk c.parsed.result (λ line. IsPrinted asked l bytes (string_bytes line.text) (code_of line.status)))
+    → IfOk c.parsed.result (λ line. IsPrinted asked l bytes (line_bytes line) (code_of line.status)))
     c.deref-in-Parse.ensures.value c.parsed.ensures.answer) in
     let within : length held.items ≤ most_file_bytes + 1 = omega (arith, held.ok.0, c.in_ok-file.ensures.most) in
     let at_end : length held.items < most_file_bytes + 1 → IsAtEnd (g.G.Source.left c.read_up_to.new.input) =

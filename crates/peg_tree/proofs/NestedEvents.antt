@@ -1,0 +1,258 @@
+-- The events of a tree as nested objects.
+use Rattle.std.proofs.Common.{◌≡◌, ℕ, suc, ◌+◌, ◌<◌, ◌≤◌, List, [], ◌∷◌, ◌++◌, length, drop, get_or, map, reverse, Some, refl, sym, subst, ◌∙◌, ap, arith, append_assoc, append-nil}
+use Rattle.std.proofs.lemmas.List.{drop_all, reverse-append}
+use Rattle.serde.specs.Event.{Log, Logs, WritesEach}
+use Rattle.serde_json.specs.Data.{Data}
+use Rattle.serde_json.specs.Events.{SendsValue, items_len}
+use Rattle.serde_json.specs.View.{items_of}
+use Rattle.serde.specs.Event as event
+use Rattle.peg_tree.specs.declared.nested_tree.Open.{Open}
+use Rattle.peg_tree.specs.declared.row.TreeNode.{TreeNode}
+use Rattle.peg_tree.specs.Json.{nested_data, node_data}
+use Rattle.peg_tree.specs.Names.{name_at}
+use Rattle.peg_tree.specs.Nodes.{count_of, node_at}
+use Rattle.peg_tree.specs.Rows.{Row, row_of, rows_of, IsOneTree}
+use Rattle.peg_tree.specs.Sending.{BeginsNode, EndAt, EndsNode, IsOpenPast, OpenThen, Opens, SendsRest, rows_behind}
+use Rattle.peg_tree.specs.Events.{SendsNested}
+use Rattle.peg_tree.specs.Trees.{Trees, NoTrees, Tree, nodes, followed_by}
+use Rattle.peg_tree.specs.TreesCode.{first_trees-followed_by, trees_of-append, trees_of-rows_of}
+use Rattle.peg_tree.specs.TreesOfRows.{first_trees, trees_of}
+use Rattle.peg_tree.proofs.Forests.{IsForest-from_one_tree, map-drop, rows_from}
+use Rattle.peg_tree.proofs.NodeRows.{nodes_of_tree, row_of_node, rows_below}
+use Rattle.peg_tree.proofs.Sent.{SendsItems-from_each, items_len-items_of}
+
+-- there are as many objects as trees
+length-nested_data : (names : List (List ℕ)) (trees : Trees) → length (nested_data names trees) ≡ count_of trees
+length-nested_data names NoTrees = refl
+length-nested_data names (Tree rule start end children rest) = omega (arith, length-nested_data names rest)
+
+-- trees that stand at the front of the same rows, with as many nodes, are the same
+front-same : (a b : Trees) (more others : List Row) → rows_of a ++ more ≡ rows_of b ++ others → nodes a ≡ nodes b → a ≡ b
+front-same a b more others same count =
+    sym (first_trees-followed_by a (trees_of more))
+    ∙ ap (first_trees (nodes a)) (sym (trees_of-append a more) ∙ ap trees_of same ∙ trees_of-append b others)
+    ∙ ap (λ n. first_trees n (followed_by b (trees_of others))) count
+    ∙ first_trees-followed_by b (trees_of others)
+
+-- the trees that a row has below it are its node's children
+children_here : (rows : List TreeNode) (one : IsOneTree (map row_of rows)) (at : ℕ) (node : TreeNode) → at < length rows
+    → node ≡ get_or rows at node → (children : Trees) (more : List Row)
+    → map row_of (drop (at + 1) rows) ≡ rows_of children ++ more → node.size ≡ 1 + nodes children
+    → (node_at (trees_of (map row_of rows)) at).children ≡ children
+children_here rows one at node within is children more here size =
+    let all = trees_of (map row_of rows) in
+    let inside : at < nodes all = omega (arith, nodes_of_tree rows one) in
+    let there = node_at all at in
+    let below = rows_below all at inside in
+    let same : rows_of there.children ++ rows_of below.0 ≡ rows_of children ++ more =
+    sym below.1
+    ∙ ap (drop (suc at)) (IsForest-from_one_tree (map row_of rows) one)
+    ∙ sym (map-drop row_of (suc at) rows)
+    ∙ (let e : suc at ≡ at + 1 = omega arith in ap (λ n. map row_of (drop n rows)) e)
+    ∙ here in
+    let row = row_of_node rows one at inside node is in
+    front-same there.children children (rows_of below.0) more same (omega (arith, ap (λ (r : Row). r.size) row))
+
+module _ (names : List (List ℕ)) where
+  -- a node whose children are sent between its beginning and its end
+  node-sent : (rule start end count : ℕ) (children : Trees) (old begun listed ended : Log) → count ≡ count_of children
+      → BeginsNode count old begun → WritesEach SendsValue (nested_data names children) begun listed
+      → EndsNode (name_at names rule) start end listed ended
+      → SendsValue (node_data (name_at names rule) start end (nested_data names children)) old ended
+  node-sent rule start end count children old begun listed ended counted begins each ends =
+      let size : count ≡ items_len (items_of (nested_data names children)) =
+      counted ∙ sym (length-nested_data names children) ∙ sym (items_len-items_of (nested_data names children)) in (
+        begins.0,
+        begins.2,
+        (
+          begins.1,
+          ends.0,
+          begins.3,
+          (
+            begun,
+            subst (λ n. Logs begins.1 begun (event.seq_begins (Some n))) size begins.4,
+            SendsItems-from_each (nested_data names children) begun listed ends.0 each ends.1,
+          ),
+          ends.2,
+        ),
+      )
+
+  -- a node is begun: it is open, and its children come first
+  SendsRest-open : (rule start end count : ℕ) (children rest : Trees) (inner : Open) (opens : List OpenThen)
+      (old begun new : Log) → inner.node.rule ≡ rule → inner.node.span.start ≡ start → inner.node.span.end ≡ end
+      → count ≡ count_of children → BeginsNode count old begun → SendsRest names children ((inner, rest) ∷ opens) begun new
+      → SendsRest names (Tree rule start end children rest) opens old new
+  SendsRest-open rule start end count children rest inner opens old begun new rules starts ends counted begins sent =
+      let closes : EndsNode (name_at names rule) start end sent.0 sent.1 =
+      subst (λ r. EndsNode (name_at names r) start end sent.0 sent.1) rules
+      (subst (λ s. EndsNode (name_at names inner.node.rule) s end sent.0 sent.1) starts
+      (subst (λ e. EndsNode (name_at names inner.node.rule) inner.node.span.start e sent.0 sent.1) ends sent.3)) in
+      let node = node-sent rule start end count children old begun sent.0 sent.1 counted begins sent.2 closes in
+      by opens sent.4 node
+    where
+      by : (opens : List OpenThen) → SendsRest names rest opens sent.1 new
+          → SendsValue (node_data (name_at names rule) start end (nested_data names children)) old sent.1
+          → SendsRest names (Tree rule start end children rest) opens old new
+      by [] more node = (sent.1, node, more)
+      by (next ∷ opens) more node = (more.0, more.1, (sent.1, node, more.2), more.3, more.4)
+
+  -- the innermost open node ends: the trees after it come next
+  SendsRest-close : (inner : Open) (rest : Trees) (opens : List OpenThen) (old ended new : Log)
+      → EndsNode (name_at names inner.node.rule) inner.node.span.start inner.node.span.end old ended
+      → SendsRest names rest opens ended new → SendsRest names NoTrees ((inner, rest) ∷ opens) old new
+  SendsRest-close inner rest opens old ended new ends more = (old, ended, refl, ends, more)
+
+  -- how far the rows are sent: which trees come next, and in which open nodes they stand
+  pub record IsSent (rows : List TreeNode) (bound at : ℕ) (stack : List Open) (whole : List Data) (start now : Log) : Type 0 where
+    pub next : Trees
+    pub opens : List OpenThen
+    pub stacked : reverse stack ≡ map (λ inner. inner.0) opens
+    pub left : map row_of (drop at rows) ≡ rows_of next ++ rows_behind opens
+    pub ends : EndAt bound (at + nodes next) opens
+    pub sends : (last : Log) → SendsRest names next opens now last → WritesEach SendsValue whole start last
+
+  -- at first nothing is sent
+  pub none-sent : (rows : List TreeNode) (bound : ℕ) (tree : Trees) (start : Log) → IsOneTree (map row_of rows)
+      → trees_of (map row_of rows) ≡ tree → IsSent rows bound 0 [] (nested_data names tree) start start
+  none-sent rows bound tree start one same = record {
+    next = tree;
+    opens = [];
+    stacked = refl;
+    left = sym (IsForest-from_one_tree (map row_of rows) one) ∙ ap rows_of same ∙ sym (append-nil (rows_of tree));
+    ends = tt;
+    sends = λ last sent. sent;
+  }
+
+  -- no trees are next, where the innermost open node has ended, or no row is left
+  none-next : (next : Trees) (opens : List OpenThen) (bound at : ℕ) → EndAt bound (at + nodes next) opens
+      → (inner : Open) (stack : List Open) → inner ∷ stack ≡ map (λ o. o.0) opens → inner.end ≤ at → next ≡ NoTrees
+  none-next NoTrees opens bound at ends inner stack stacked ended = refl
+  none-next (Tree rule start end children rest) [] bound at ends inner stack stacked ended = absurd cc
+  none-next (Tree rule start end children rest) (first ∷ opens) bound at ends inner stack stacked ended =
+      let top : first.0 ≡ inner = ap (λ (l : List Open). get_or l 0 inner) (sym stacked) in
+      let end : inner.end ≡ at + nodes (Tree rule start end children rest) = ap (λ (o : Open). o.end) (sym top) ∙ ends.1 in
+      absurd (omega arith)
+
+  -- an ended node is sent
+  pub end-sent : (rows : List TreeNode) (bound at : ℕ) (stack less : List Open) (top : Open) (whole : List Data)
+      (start now ended : Log) → reverse stack ≡ top ∷ reverse less → top.end ≤ at
+      → EndsNode (name_at names top.node.rule) top.node.span.start top.node.span.end now ended
+      → IsSent rows bound at stack whole start now → IsSent rows bound at less whole start ended
+  end-sent rows bound at stack less top whole start now ended popped over closes is =
+      let stacked : top ∷ reverse less ≡ map (λ o. o.0) is.opens = sym popped ∙ is.stacked in
+      let none = none-next is.next is.opens bound at is.ends top (reverse less) stacked over in
+      by is.next is.opens none stacked is.left is.ends is.sends
+    where
+      by : (next : Trees) (opens : List OpenThen) → next ≡ NoTrees → top ∷ reverse less ≡ map (λ o. o.0) opens
+          → map row_of (drop at rows) ≡ rows_of next ++ rows_behind opens → EndAt bound (at + nodes next) opens
+          → ((last : Log) → SendsRest names next opens now last → WritesEach SendsValue whole start last)
+          → IsSent rows bound at less whole start ended
+      by (Tree rule begin end children rest) opens none stacked left ends sends = absurd cc
+      by NoTrees [] none stacked left ends sends = absurd cc
+      by NoTrees (first ∷ opens) none stacked left ends sends =
+          let same : first.0 ≡ top = ap (λ (l : List Open). get_or l 0 top) (sym stacked) in
+          let place : at + nodes NoTrees ≡ at = omega arith in
+          record {
+            next = first.1;
+            opens = opens;
+            stacked = ap (drop 1) stacked;
+            left = left;
+            ends = subst (λ n. EndAt bound (n + nodes first.1) opens) place ends.2;
+            sends = λ last more. sends last (SendsRest-close first.0 first.1 opens now ended last
+                (subst (λ (o : Open). EndsNode (name_at names o.node.rule) o.node.span.start o.node.span.end now ended) (sym same) closes) more);
+          }
+
+  -- the rule of the innermost open node is below the bound
+  pub top-below : (rows : List TreeNode) (bound at : ℕ) (stack less : List Open) (top : Open) (whole : List Data)
+      (start now : Log) → reverse stack ≡ top ∷ reverse less → IsSent rows bound at stack whole start now → top.node.rule < bound
+  top-below rows bound at stack less top whole start now popped is = by is.opens (sym popped ∙ is.stacked) is.ends
+    where
+      by : (opens : List OpenThen) → top ∷ reverse less ≡ map (λ o. o.0) opens → EndAt bound (at + nodes is.next) opens → top.node.rule < bound
+      by [] stacked ends = absurd cc
+      by (first ∷ opens) stacked ends =
+          subst (λ (o : Open). o.node.rule < bound) (ap (λ (l : List Open). get_or l 0 top) (sym stacked)) ends.0
+
+  -- the innermost open node has more below it, where it ends past a row
+  past-top : (opens : List OpenThen) (bound at : ℕ) (stack : List Open) → reverse stack ≡ map (λ o. o.0) opens
+      → IsOpenPast at (reverse stack) → EndAt bound (at + nodes NoTrees) opens → opens ≡ []
+  past-top [] bound at stack stacked past ends = refl
+  past-top (first ∷ opens) bound at stack stacked past ends =
+      let inner : at < first.0.end = subst (IsOpenPast at) stacked past in
+      absurd (omega (arith, ends.1))
+
+  -- the next row is begun
+  pub begin-sent : (rows : List TreeNode) (one : IsOneTree (map row_of rows)) (bound at : ℕ) (stack more : List Open)
+      (whole : List Data) (start now begun : Log) → at < length rows → IsOpenPast at (reverse stack)
+      → Opens rows at stack more → ((node : TreeNode) → node ≡ get_or rows at node → node.rule < bound)
+      → BeginsNode (count_of (node_at (trees_of (map row_of rows)) at).children) now begun
+      → IsSent rows bound at stack whole start now → IsSent rows bound (at + 1) more whole start begun
+  begin-sent rows one bound at stack more whole start now begun within past pushed below begins is =
+      by is.next is.opens is.stacked is.left is.ends is.sends
+    where
+      top : Open
+      top = pushed.0
+
+      node : TreeNode
+      node = pushed.0.node
+
+      here : map row_of (drop at rows) ≡ row_of node ∷ map row_of (drop (at + 1) rows)
+      here = rows_from rows at node within pushed.2
+
+      by : (next : Trees) (opens : List OpenThen) → reverse stack ≡ map (λ o. o.0) opens
+          → map row_of (drop at rows) ≡ rows_of next ++ rows_behind opens → EndAt bound (at + nodes next) opens
+          → ((last : Log) → SendsRest names next opens now last → WritesEach SendsValue whole start last)
+          → IsSent rows bound (at + 1) more whole start begun
+      by NoTrees opens stacked left ends sends =
+          let none = past-top opens bound at stack stacked past ends in
+          let empty : row_of node ∷ map row_of (drop (at + 1) rows) ≡ [] = sym here ∙ left ∙ ap rows_behind none in
+          absurd cc
+      by (Tree rule begin end children rest) opens stacked left ends sends =
+          let row : Row = record { rule = rule; start = begin; end = end; size = 1 + nodes children } in
+          let same : row_of node ∷ map row_of (drop (at + 1) rows) ≡ row ∷ ((rows_of children ++ rows_of rest) ++ rows_behind opens) = sym here ∙ left in
+          let head : row_of node ≡ row = ap (λ (l : List Row). get_or l 0 row) same in
+          let behind : map row_of (drop (at + 1) rows) ≡ rows_of children ++ (rows_of rest ++ rows_behind opens) =
+          ap (drop 1) same ∙ append_assoc (rows_of children) (rows_of rest) (rows_behind opens) in
+          let size : node.size ≡ 1 + nodes children = ap (λ (r : Row). r.size) head in
+          let count = children_here rows one at node within pushed.2 children (rows_of rest ++ rows_behind opens) behind size in
+          let place : at + nodes (Tree rule begin end children rest) ≡ (at + 1 + nodes children) + nodes rest = omega arith in
+          let ending : top.end ≡ at + 1 + nodes children = omega (arith, pushed.3) in
+          record {
+            next = children;
+            opens = (top, rest) ∷ opens;
+            stacked = ap reverse pushed.1 ∙ reverse-append stack (top ∷ []) ∙ ap (λ (l : List Open). top ∷ l) stacked;
+            left = behind;
+            ends = (below node pushed.2, ending, subst (λ n. EndAt bound n opens) place ends);
+            sends = λ last sent. sends last (SendsRest-open rule begin end (count_of (node_at (trees_of (map row_of rows)) at).children)
+                children rest top opens now begun last (ap (λ (r : Row). r.rule) head) (ap (λ (r : Row). r.start) head)
+                (ap (λ (r : Row). r.end) head) (ap count_of count) begins sent);
+          }
+
+  -- with no row left and no node ended, all is sent
+  pub all-sent : (rows : List TreeNode) (bound at : ℕ) (stack : List Open) (tree : Trees) (start now : Log)
+      → IsOneTree (map row_of rows) → trees_of (map row_of rows) ≡ tree → length rows ≤ at → IsOpenPast at (reverse stack)
+      → IsSent rows bound at stack (nested_data names tree) start now → SendsNested names tree start now
+  all-sent rows bound at stack tree start now one same over past is =
+      let none : map row_of (drop at rows) ≡ [] = ap (map row_of) (drop_all at rows over) in
+      root-sent (by is.next is.opens is.stacked (sym none ∙ is.left) is.ends is.sends)
+    where
+      by : (next : Trees) (opens : List OpenThen) → reverse stack ≡ map (λ o. o.0) opens → [] ≡ rows_of next ++ rows_behind opens
+          → EndAt bound (at + nodes next) opens
+          → ((last : Log) → SendsRest names next opens now last → WritesEach SendsValue (nested_data names tree) start last)
+          → WritesEach SendsValue (nested_data names tree) start now
+      by (Tree rule begin end children rest) opens stacked left ends sends = absurd cc
+      by NoTrees opens stacked left ends sends =
+          let none = past-top opens bound at stack stacked past ends in
+          sends now (subst (λ (l : List OpenThen). SendsRest names NoTrees l now now) (sym none) refl)
+
+      spelled : tree ≡ Tree one.rule one.start one.end one.children NoTrees
+      spelled = sym same ∙ ap trees_of one.spelled ∙ trees_of-rows_of (Tree one.rule one.start one.end one.children NoTrees)
+
+      root-sent : WritesEach SendsValue (nested_data names tree) start now → SendsNested names tree start now
+      root-sent each =
+          let alone : nested_data names tree ≡ node_data (name_at names one.rule) one.start one.end (nested_data names one.children) ∷ [] =
+          ap (nested_data names) spelled in
+          let sent = subst (λ (l : List Data). WritesEach SendsValue l start now) alone each in (
+            node_data (name_at names one.rule) one.start one.end (nested_data names one.children),
+            alone,
+            subst (λ log. SendsValue (node_data (name_at names one.rule) one.start one.end (nested_data names one.children)) start log) (sym sent.2) sent.1,
+          )

@@ -1,0 +1,73 @@
+-- The events of a tree's rows.
+use Rattle.std.proofs.Common.{◌≡◌, ℕ, suc, ◌+◌, ◌<◌, List, [], ◌∷◌, ◌++◌, length, drop, get_or, map, reverse, refl, sym, subst, ◌∙◌, ap}
+use Rattle.std.proofs.lemmas.List.{length-reverse, reverse-append}
+use Rattle.serde.specs.Event.{Log}
+use Rattle.serde_json.specs.Data.{Data}
+use Rattle.serde_json.specs.Events.{SendsItems, SendsValue}
+use Rattle.serde_json.specs.View.{items_of}
+use Rattle.peg_tree.specs.declared.row.TreeNode.{TreeNode}
+use Rattle.peg_tree.specs.Json.{row_data, rows_data}
+use Rattle.peg_tree.specs.Levels.{levels_of_rows, open_at}
+use Rattle.peg_tree.specs.Names.{name_at}
+use Rattle.peg_tree.specs.Rows.{Row, row_of, rows_of, IsOneTree}
+use Rattle.peg_tree.specs.Trees.{Trees}
+use Rattle.peg_tree.specs.TreesOfRows.{trees_of}
+use Rattle.peg_tree.proofs.Forests.{IsForest-from_one_tree, rows_from}
+use Rattle.peg_tree.proofs.JsonRows.{rows_with_levels, rows_with_levels-rows_of}
+use Rattle.peg_tree.proofs.LevelRows.{levels_of_rows-rows_of}
+
+module _ (names : List (List ℕ)) where
+  -- rows from a number on, where these nodes above them are open, the innermost first
+  abbrev pub rows_below : List ℕ → ℕ → List Row → List Data
+  rows_below ends number [] = []
+  rows_below ends number (row ∷ rows) =
+      row_data (1 + length (open_at number ends)) (name_at names row.rule) row.start row.end
+      ∷ rows_below ((number + row.size) ∷ open_at number ends) (number + 1) rows
+
+  rows_below-levels : (ends : List ℕ) (number : ℕ) (rows : List Row)
+      → rows_below ends number rows ≡ rows_with_levels names (levels_of_rows ends number rows) rows
+  rows_below-levels ends number [] = refl
+  rows_below-levels ends number (row ∷ rows) =
+      ap (λ (l : List Data). row_data (1 + length (open_at number ends)) (name_at names row.rule) row.start row.end ∷ l)
+      (rows_below-levels ((number + row.size) ∷ open_at number ends) (number + 1) rows)
+
+  -- there are as many
+  pub length-rows_below : (ends : List ℕ) (number : ℕ) (rows : List Row) → length (rows_below ends number rows) ≡ length rows
+  length-rows_below ends number [] = refl
+  length-rows_below ends number (row ∷ rows) =
+      ap suc (length-rows_below ((number + row.size) ∷ open_at number ends) (number + 1) rows)
+
+  -- with none open, they are the rows of their tree
+  pub rows_below-all : (rows : List TreeNode) (tree : Trees) → IsOneTree (map row_of rows) → trees_of (map row_of rows) ≡ tree
+      → rows_below [] 0 (map row_of rows) ≡ rows_data names 1 tree
+  rows_below-all rows tree one same =
+      ap (rows_below [] 0) (sym (IsForest-from_one_tree (map row_of rows) one))
+      ∙ rows_below-levels [] 0 (rows_of (trees_of (map row_of rows)))
+      ∙ ap (λ l. rows_with_levels names l (rows_of (trees_of (map row_of rows)))) (levels_of_rows-rows_of (trees_of (map row_of rows)))
+      ∙ rows_with_levels-rows_of names (trees_of (map row_of rows))
+      ∙ ap (rows_data names 1) same
+
+  -- what the rows from here on are
+  abbrev pub rest_of : List TreeNode → (at : ℕ) → (ends : List ℕ) → List Data
+  rest_of rows at ends = rows_below (reverse ends) at (map row_of (drop at rows))
+
+  -- one row more is sent
+  pub row-sent : (rows : List TreeNode) (at : ℕ) (node : TreeNode) → at < length rows → node ≡ get_or rows at node
+      → (ends kept more : List ℕ) → reverse kept ≡ open_at at (reverse ends) → more ≡ kept ++ (at + node.size) ∷ []
+      → (count : ℕ) → count ≡ length kept → (old mid last : Log)
+      → SendsValue (row_data (1 + count) (name_at names node.rule) node.span.start node.span.end) old mid
+      → SendsItems (items_of (rest_of rows (at + 1) more)) mid last
+      → SendsItems (items_of (rest_of rows at ends)) old last
+  row-sent rows at node within is ends kept more closed pushed count counted old mid last sent rest =
+      let behind = map row_of (drop (at + 1) rows) in
+      let still = open_at at (reverse ends) in
+      let inner : reverse more ≡ (at + node.size) ∷ still =
+      ap reverse pushed ∙ reverse-append kept ((at + node.size) ∷ []) ∙ ap (λ l. (at + node.size) ∷ l) closed in
+      let level : count ≡ length still = counted ∙ sym (length-reverse kept) ∙ ap length closed in
+      let first : rest_of rows at ends
+      ≡ row_data (1 + count) (name_at names node.rule) node.span.start node.span.end ∷ rest_of rows (at + 1) more =
+      ap (rows_below (reverse ends) at) (rows_from rows at node within is)
+      ∙ ap (λ n. row_data (1 + n) (name_at names node.rule) node.span.start node.span.end
+      ∷ rows_below ((at + node.size) ∷ still) (at + 1) behind) (sym level)
+      ∙ ap (λ l. row_data (1 + count) (name_at names node.rule) node.span.start node.span.end ∷ rows_below l (at + 1) behind) (sym inner) in
+      subst (λ l. SendsItems (items_of l) old last) (sym first) (mid, sent, rest)

@@ -1,0 +1,17 @@
+-- What a serializer is sent of trees, and of members of objects.
+use Rattle.std.specs.Prelude.{◌≡◌, ℕ, List, [], ◌∷◌}
+use Rattle.serde.specs.Event.{Log, Logs}
+use Rattle.serde.specs.Event as event
+use Rattle.serde.specs.declared.name.Case.TheVariants.{AsIs}
+use Rattle.serde_json.specs.Data.{Data}
+use Rattle.serde_json.specs.Events.{SendsValue}
+use Rattle.peg_tree.specs.Json.{nested_data}
+use Rattle.peg_tree.specs.Trees.{Trees}
+
+-- a member: its key, and then what its value sends
+abbrev pub SendsMember : (key : List ℕ) → (Log → Log → Type 0) → Log → Log → Type 0
+SendsMember key Sent old new = (named : Log) × Logs old named (event.field_key key AsIs) × Sent named new
+
+-- the first of the trees, where there is one alone
+abbrev pub SendsNested : List (List ℕ) → Trees → Log → Log → Type 0
+SendsNested names trees old new = (root : Data) × (nested_data names trees ≡ root ∷ []) × SendsValue root old new

@@ -1,0 +1,17 @@
+//! Members of JSON objects, for a serializer.
+ghost use Rattle.std.specs.Prelude.{OnOk};
+ghost use Rattle.peg_tree.specs.Events.{SendsMember};
+
+use serde::{Serialize, Serializer};
+
+/// Sends a member of an object: its key, and then its value.
+pub fn send_member<T: Serialize, S: Serializer>(
+    key: &str,
+    value: &T,
+    out: &mut S,
+) -> Result<(), S::Error>
+    ensures { OnOk result (SendsMember key.now (T.writes value.now) (S.written out.old) (S.written out.new)) }
+{
+    out.key(key)?;
+    value.serialize(out)
+}
