@@ -13,7 +13,7 @@ fn each_rule_has_an_entry(rt: HostRuntime) -> Result<(), Fail> {
     let table = table_of(alloc, &core)?;
     let line = table_line(alloc, &grammar, &core, &table)?;
     assert!(rt;
-        line.text.trim_end()
+        line.text.as_str()
             == "{\"table\":[{\"fails\":false,\"nothing\":true,\"rule\":\"S\",\"something\":true},{\"fails\":false,\"nothing\":false,\"rule\":\"T\",\"something\":false}]}",
         "{}",
         line.text

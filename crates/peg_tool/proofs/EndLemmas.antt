@@ -1,5 +1,5 @@
 -- How runs end.
-use Rattle.std.proofs.Common.{◌≡◌, ◌↔◌, ℕ, inl, inr, List, Option, None, Some, Result, Ok, Err, IfOk, IfSome, string_bytes}
+use Rattle.std.proofs.Common.{◌≡◌, ◌↔◌, ℕ, inl, inr, List, Option, None, Some, Result, Ok, Err, IfOk, IfSome}
 use Rattle.std.proofs.Common.{refl, sym, ◌∙◌, subst}
 use Rattle.std.specs.Io.KnownBytes.{Keeps}
 use Rattle.peg_io.specs.declared.transfer.ReadFault.{ReadFault}
@@ -10,6 +10,7 @@ use Rattle.peg_tool.specs.Ends.{Ends}
 use Rattle.peg_tool.specs.Written.{Prints, PrintsInPart}
 use Rattle.peg_tool.specs.declared.ending.ToolFault.{ToolFault}
 use Rattle.peg_tool.specs.declared.ending.ToolFault.TheVariants as tool
+use Rattle.peg_reply.specs.Lines.{line_bytes}
 
 module _ (IsRight : List ℕ → ℕ → Type 0) (old new : Option (List ℕ)) where
   -- a right line that is written whole

@@ -1,11 +1,11 @@
 -- Lines that a grammar file alone decides.
-use Rattle.std.proofs.Common.{◌≡◌, ℕ, List, IfOk, None, Some, Result, Ok, Err, inl, inr, string_bytes, subst, sym, ap, ◌∙◌}
+use Rattle.std.proofs.Common.{◌≡◌, ℕ, List, IfOk, None, Some, Result, Ok, Err, inl, inr, subst, sym, ap, ◌∙◌}
 use Rattle.std.specs.declared.alloc.AllocError.{AllocError}
 use Rattle.peg_parser.specs.Cause.{Cause}
 use Rattle.peg_parser.specs.Faults.{TellsWhy, IsTellable, want_of_memory, of_cause, cause_told}
 use Rattle.peg_parser.specs.Refusals.{Refuses}
 use Rattle.peg_parser.specs.declared.refusal.Refusal.{Refusal}
-use Rattle.peg_reply.specs.Lines.{IsReply}
+use Rattle.peg_reply.specs.Lines.{IsReply, line_bytes}
 use Rattle.peg_reply.specs.Reply.{Refused}
 use Rattle.peg_reply.specs.Statuses.{code_of}
 use Rattle.peg_reply.specs.declared.line.Line.{Line}

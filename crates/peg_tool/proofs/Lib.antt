@@ -1,6 +1,5 @@
 mod EndLemmas
 mod JudgeLemmas
-mod LineEnds
 mod ParsedLines
 mod ProgramLemmas
 mod RunLemmas

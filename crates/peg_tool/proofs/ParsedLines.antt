@@ -1,5 +1,5 @@
 -- Lines of parses that give no answer.
-use Rattle.std.proofs.Common.{◌≡◌, ◌↔◌, ℕ, ◌<◌, ◌≤◌, Bool, inl, inr, List, length, Option, None, Some, Result, Err, IfOk, string_bytes}
+use Rattle.std.proofs.Common.{◌≡◌, ◌↔◌, ℕ, ◌<◌, ◌≤◌, Bool, inl, inr, List, length, Option, None, Some, Result, Err, IfOk}
 use Rattle.std.proofs.Common.{refl, sym, ◌∙◌}
 use Rattle.std.proofs.lemmas.Bool.{cases_lt}
 use Rattle.std.specs.declared.alloc.AllocError.{AllocError}
@@ -10,7 +10,7 @@ use Rattle.peg_ford.specs.Starts.{start_of}
 use Rattle.peg_parser.specs.declared.parser.Answer.{Answer}
 use Rattle.peg_parser.specs.declared.parser.ParseFault.{ParseFault}
 use Rattle.peg_parser.specs.declared.parser.ParseFault.TheVariants as fault
-use Rattle.peg_reply.specs.Lines.{IsLineOf, IsReply}
+use Rattle.peg_reply.specs.Lines.{IsLineOf, IsReply, line_bytes}
 use Rattle.peg_reply.specs.Parses.{ParsesTo, text_too_long}
 use Rattle.peg_reply.specs.Reply.{Refused}
 use Rattle.peg_reply.specs.Statuses.{code_of}

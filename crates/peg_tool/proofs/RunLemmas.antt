@@ -1,5 +1,5 @@
 -- What is told of the bytes that are held is told of all bytes of a file, a text or an input.
-use Rattle.std.proofs.Common.{◌≡◌, ℕ, ◌+◌, ◌<◌, ◌≤◌, Bool, inl, inr, List, ◌++◌, length, Option, None, Some, Result, Ok, Err, IfOk, string_bytes}
+use Rattle.std.proofs.Common.{◌≡◌, ℕ, ◌+◌, ◌<◌, ◌≤◌, Bool, inl, inr, List, ◌++◌, length, Option, None, Some, Result, Ok, Err, IfOk}
 use Rattle.std.proofs.Common.{IfSome, refl, sym, ap, ◌∙◌, subst, append-nil, length-append, length-take, arith}
 use Rattle.std.proofs.lemmas.Bool.{cases_lt}
 use Rattle.std.specs.Io.KnownBytes.{Consumes, IsAtEnd}
@@ -13,7 +13,7 @@ use Rattle.peg_parser.specs.Cause.{Cause, FileTooLong}
 use Rattle.peg_parser.specs.Refusals.{IsNoGrammar, IsIllFormed, file_too_long, not_in_the_notation, too_nested, a_name_twice}
 use Rattle.peg_parser.specs.Refusals.{a_name_missing, too_many_parts, empty_loop, left_recursion}
 use Rattle.peg_grammar.specs.Limits.{most_text_bytes}
-use Rattle.peg_reply.specs.Lines.{IsLineOf}
+use Rattle.peg_reply.specs.Lines.{IsLineOf, line_bytes}
 use Rattle.peg_reply.specs.Parses.{ParsesTo, text_too_long, no_such_start, failed, too_many_levels, matched}
 use Rattle.peg_reply.specs.Reply.{Reply, Refused, printed_line, status_of}
 use Rattle.peg_reply.specs.Statuses.{code_of}

@@ -1,5 +1,5 @@
 -- Describes code: how a run ends.
-use Rattle.std.specs.Prelude.{◌≡◌, ℕ, List, Option, Result, Ok, Err, string_bytes}
+use Rattle.std.specs.Prelude.{◌≡◌, ℕ, List, Option, Result, Ok, Err}
 use Rattle.std.specs.Io.KnownBytes.{Appends, Keeps}
 use Rattle.peg_io.specs.Transfer.{AppendsProperPrefix}
 use Rattle.peg_io.specs.declared.transfer.ReadFault.{ReadFault}
@@ -8,6 +8,7 @@ use Rattle.peg_reply.specs.Statuses.{code_of}
 use Rattle.peg_reply.specs.declared.line.Line.{Line}
 use Rattle.peg_tool.specs.declared.ending.ToolFault.{ToolFault}
 use Rattle.peg_tool.specs.declared.ending.ToolFault.TheVariants as tool
+use Rattle.peg_reply.specs.Lines.{line_bytes}
 
 -- a run with this line, or with none, ends so: the line is written and its status answered, or it is cut off; want of
 -- memory ends with its status and nothing written, a failed read with its fault and nothing written

@@ -5,6 +5,7 @@ ghost use Rattle.peg_io.specs.Transfer.{ConsumesAtMost};
 ghost use Rattle.peg_reply.specs.Statuses.{code_of};
 ghost use Rattle.peg_tool.specs.Replies.{IsPrintedJoined, most_joined_bytes};
 ghost use Rattle.peg_tool.specs.Written.{Prints, PrintsInPart};
+ghost use Rattle.peg_reply.specs.Lines.{line_bytes};
 
 use crate::ending::{ToolFault, finish};
 use crate::judge::{Judged, judge};

@@ -7,6 +7,7 @@ ghost use Rattle.peg_reply.specs.Statuses.{code_of};
 ghost use Rattle.peg_tool.specs.Judged.{Judges};
 ghost use Rattle.peg_tool.specs.Replies.{IsPrinted};
 ghost use Rattle.peg_tool.specs.Task.{CheckTask, TableTask};
+ghost use Rattle.peg_reply.specs.Lines.{line_bytes};
 
 use peg_check::table_of;
 use peg_core::desugar;

@@ -3,7 +3,7 @@ ghost use Rattle.std.specs.Prelude.{◌≡◌, ◌≢◌, ℕ, ◌<◌, ◌≤�
 ghost use Rattle.peg_parser.specs.Cause.{NoSuchStart, TextTooLong};
 ghost use Rattle.peg_parser.specs.Parser.{parser_rules, start_named};
 ghost use Rattle.peg_grammar.specs.Limits.{most_text_bytes};
-ghost use Rattle.peg_reply.specs.Lines.{IsLineOf, IsReply};
+ghost use Rattle.peg_reply.specs.Lines.{IsLineOf, IsReply, line_bytes};
 ghost use Rattle.peg_reply.specs.Parses.{ParsesTo};
 ghost use Rattle.peg_reply.specs.Reply.{Refused};
 ghost use Rattle.peg_reply.specs.Statuses.{code_of};

@@ -15,6 +15,7 @@ ghost use Rattle.peg_tool.specs.Commands.{task_of};
 ghost use Rattle.peg_tool.specs.Replies.{IsPrinted};
 ghost use Rattle.peg_tool.specs.Task.{IsParse, IsTextOf, ParseTask};
 ghost use Rattle.peg_tool.specs.Written.{Prints, PrintsInPart};
+ghost use Rattle.peg_reply.specs.Lines.{line_bytes};
 
 use crate::command::Command;
 use crate::ending::{ToolFault, finish};

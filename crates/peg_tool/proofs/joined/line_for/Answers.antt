@@ -1,4 +1,4 @@
-use Rattle.std.proofs.Common.{None, false, string_bytes, subst, arith}
+use Rattle.std.proofs.Common.{None, false, subst, arith}
 use Rattle.std.proofs.lemmas.Result.{IfOk-weaker}
 use Rattle.peg_parser.specs.Parser.{parser_rules}
 use Rattle.peg_reply.specs.Statuses.{code_of}
@@ -7,6 +7,7 @@ use Rattle.peg_tool.specs.Judged.{Judges}
 use Rattle.peg_tool.specs.Replies.{IsPrintedJoined}
 use Rattle.peg_tool.proofs.RunLemmas.{split-shorter, parsed-printed}
 use Rattle.peg_tool.proofs.joined.line_for.Goals as goal
+use Rattle.peg_reply.specs.Lines.{line_bytes}
 
 pub judge-requires : goal.judge-requires
 judge-requires c =

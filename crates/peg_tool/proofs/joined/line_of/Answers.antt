@@ -1,9 +1,10 @@
-use Rattle.std.proofs.Common.{ℕ, ◌<◌, ◌≤◌, List, length, string_bytes, subst, arith}
+use Rattle.std.proofs.Common.{ℕ, ◌<◌, ◌≤◌, List, length, subst, arith}
 use Rattle.std.specs.Io.KnownBytes.{IsAtEnd}
 use Rattle.peg_reply.specs.Statuses.{code_of}
 use Rattle.peg_tool.specs.Replies.{IsPrintedJoined, most_joined_bytes}
 use Rattle.peg_tool.proofs.RunLemmas.{right-held, IsPrintedJoined-front}
 use Rattle.peg_tool.proofs.joined.line_of.Goals as goal
+use Rattle.peg_reply.specs.Lines.{line_bytes}
 
 pub returns-clause-answer : goal.returns-clause-answer
 returns-clause-answer g c =

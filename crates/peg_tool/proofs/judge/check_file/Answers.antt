@@ -1,6 +1,6 @@
-use Rattle.std.proofs.Common.{ℕ, IfOk, length, string_bytes, subst, ap, ◌∙◌}
+use Rattle.std.proofs.Common.{ℕ, IfOk, length, subst, ap, ◌∙◌}
 use Rattle.peg_parser.specs.Parser.{parser_rules}
-use Rattle.peg_reply.specs.Lines.{IsReply}
+use Rattle.peg_reply.specs.Lines.{IsReply, line_bytes}
 use Rattle.peg_reply.specs.Reply.{Accepted}
 use Rattle.peg_reply.specs.Statuses.{code_of}
 use Rattle.peg_reply.proofs.PrintLemmas.{reply-kind}

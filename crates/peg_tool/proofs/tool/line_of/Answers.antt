@@ -1,4 +1,4 @@
-use Rattle.std.proofs.Common.{◌≡◌, ◌∙◌, Bool, ℕ, ◌+◌, ◌<◌, ◌≤◌, List, IfOk, length, string_bytes, subst, sym, ap, arith}
+use Rattle.std.proofs.Common.{◌≡◌, ◌∙◌, Bool, ℕ, ◌+◌, ◌<◌, ◌≤◌, List, IfOk, length, subst, sym, ap, arith}
 use Rattle.std.specs.Io.KnownBytes.{IsAtEnd}
 use Rattle.peg_figure.specs.Notation.{most_file_bytes}
 use Rattle.peg_ford.specs.Rules.{Rule}
@@ -11,6 +11,7 @@ use Rattle.peg_tool.specs.Replies.{IsPrinted}
 use Rattle.peg_tool.specs.Task.{Task, TableTask, CheckTask, ParseTask, IsTextOf}
 use Rattle.peg_tool.proofs.RunLemmas.{IsRightFor, line-held, told-held, held-unaccepted}
 use Rattle.peg_tool.proofs.tool.line_of.Goals as goal
+use Rattle.peg_reply.specs.Lines.{line_bytes}
 
 pub returns-in-Table-clause-answer : goal.returns-in-Table-clause-answer
 returns-in-Table-clause-answer g c =

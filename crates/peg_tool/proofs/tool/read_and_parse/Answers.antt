@@ -1,4 +1,4 @@
-use Rattle.std.proofs.Common.{ℕ, ◌+◌, ◌<◌, ◌≤◌, List, length, string_bytes, subst, arith}
+use Rattle.std.proofs.Common.{ℕ, ◌+◌, ◌<◌, ◌≤◌, List, length, subst, arith}
 use Rattle.std.specs.Io.KnownBytes.{IsAtEnd}
 use Rattle.peg_grammar.specs.Limits.{most_text_bytes}
 use Rattle.peg_parser.specs.Parser.{parser_rules, start_named}
@@ -8,6 +8,7 @@ use Rattle.peg_tool.specs.Replies.{IsPrinted}
 use Rattle.peg_tool.specs.Task.{ParseTask}
 use Rattle.peg_tool.proofs.RunLemmas.{right-held, parsed-printed, IsPrinted-text_front}
 use Rattle.peg_tool.proofs.tool.read_and_parse.Goals as goal
+use Rattle.peg_reply.specs.Lines.{line_bytes}
 
 pub returns-clause-answer : goal.returns-clause-answer
 returns-clause-answer g c file accepts =
