@@ -1,31 +1,8 @@
 //! Tests of trees on small ones made by hand, and on long ones.
-ghost use Rattle.std.specs.Prelude.{◌≤◌, ◌∷◌, [], codes};
-
+use crate::made::{Grammar, chain, row, small};
 use peg_bytes::Span;
-use peg_tree::{JsonFault, Names, Tree, TreeNode, nested_json, one_tree, rows_json};
-use std::alloc::Global;
+use peg_tree::{JsonFault, Names, Tree, nested_json, one_tree, rows_json};
 use std::test::Fail;
-
-fn row(rule: u32, start: u32, end: u32, size: u64) -> TreeNode
-    requires { start ≤ end }
-{
-    TreeNode {
-        rule,
-        span: Span::new(start, end),
-        size,
-    }
-}
-
-// A root with two children, of which the second has one of its own.
-fn small(alloc: Global) -> Result<Vec<TreeNode>, Fail> {
-    let rows = [
-        row(0, 0, 9, 4),
-        row(1, 0, 3, 1),
-        row(2, 4, 9, 2),
-        row(1, 5, 8, 1),
-    ];
-    Ok(rows.to_vec(alloc)?)
-}
 
 #[test]
 fn sizes_tell_one_tree(rt: HostRuntime) {
@@ -53,30 +30,6 @@ fn reads_nodes_by_number(rt: HostRuntime) -> Result<(), Fail> {
     assert!(rt; tree.fits(3));
     assert!(rt; !tree.fits(2));
     Ok(())
-}
-
-// Rule 0 is `list`, and each other one `word`.
-struct Grammar;
-
-impl Names for Grammar {
-    ghost names = { λ _. codes "list" ∷ codes "word" ∷ codes "word" ∷ [] };
-
-    fn count(&self) -> u32 {
-        3
-    }
-
-    fn name(&self, rule: u32) -> &str {
-        if rule == 0 { "list" } else { "word" }
-    }
-}
-
-// A root with a chain of nodes below it, each the only child of the one before, which starts a byte earlier.
-fn chain(alloc: Global, levels: u32) -> Result<Vec<TreeNode>, Fail> {
-    let mut rows = Vec::new(alloc);
-    for above in 0..levels {
-        rows.push(row(1, above, levels, u64::from(levels - above)))?;
-    }
-    Ok(rows)
 }
 
 #[test]
