@@ -1,0 +1,4 @@
+mod CodeLemmas
+mod LayoutLemmas
+mod PlanLemmas
+mod TaskLemmas

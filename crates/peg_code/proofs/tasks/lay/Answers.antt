@@ -1,0 +1,32 @@
+use Rattle.std.proofs.Common.{length, ap, ◌∙◌, arith}
+use Rattle.std.proofs.lemmas.List.{length-map}
+use Rattle.peg_code.specs.Instrs.{instruction_of, instructions_of}
+use Rattle.peg_code.proofs.TaskLemmas.{last-fits, last-laid, last-room, last-weight, length-after, others-fit}
+use Rattle.peg_code.proofs.tasks.lay.Goals as goal
+
+pub finish-requires-clause-fits : goal.finish-requires-clause-fits
+finish-requires-clause-fits c =
+    last-fits c.args.core.now.forms c.lays.tasks.items c.pop.new.self.items c.in-Some.task c.in-Some.ensures.items c.lays.invariant.fit
+
+pub finish-requires-clause-room : goal.finish-requires-clause-room
+finish-requires-clause-room c =
+    let forms = c.args.core.now.forms in
+    let old = instructions_of c.args.code.now.items in
+    let left = last-room forms c.lays.tasks.items c.pop.new.self.items c.in-Some.task c.in-Some.ensures.items (instructions_of c.lays.code.items) in
+    omega (arith, left, ap length c.lays.invariant.laid, length-after forms old c.args.number, length-map c.args.code.now.items instruction_of, c.requires.room)
+
+pub lays-smaller : goal.lays-smaller
+lays-smaller c =
+    let weights = last-weight c.args.core.now.forms c.lays.tasks.items c.pop.new.self.items c.in-Some.task c.in-Some.ensures.items in
+    omega (arith, weights, c.in_ok-finish.ensures.lighter)
+
+pub lays-preserved : goal.lays-preserved
+lays-preserved c =
+    let forms = c.args.core.now.forms in
+    let tasks = c.lays.tasks.items in
+    let rest = c.pop.new.self.items in
+    let taken = c.in-Some.ensures.items in
+    record {
+      laid = c.in_ok-finish.ensures.laid ∙ (last-laid forms tasks rest c.in-Some.task taken (instructions_of c.lays.code.items) ∙ c.lays.invariant.laid);
+      fit = c.in_ok-finish.ensures.fit (others-fit forms tasks rest c.in-Some.task taken c.lays.invariant.fit);
+    }

@@ -1,0 +1,48 @@
+-- Describes code: what is still to be laid.
+use Rattle.std.specs.Prelude.{◌≡◌, ℕ, ◌+◌, ◌*◌, ◌-◌, ◌<◌, All, List, [], ◌∷◌, ◌++◌, length}
+use Rattle.peg_core.specs.CoreForm.{CoreForm}
+use Rattle.peg_core.specs.Layout.{form_at}
+use Rattle.peg_code.specs.Code.{code_of, size}
+use Rattle.peg_code.specs.Instructions.{Instruction}
+use Rattle.peg_code.specs.Instrs.{instruction_of}
+use Rattle.peg_code.specs.declared.tasks.Task.{Task}
+use Rattle.peg_code.specs.declared.tasks.Task.TheVariants.{Form, Put}
+
+-- the code after a task
+abbrev pub after : List CoreForm → (code : List Instruction) → Task → List Instruction
+after forms code (Form number) = code ++ code_of (form_at forms number) (length code)
+after forms code (Put instr) = code ++ instruction_of instr ∷ []
+
+-- the code after these tasks, the last of them first
+abbrev pub after_all : List CoreForm → (code : List Instruction) → List Task → List Instruction
+after_all forms code [] = code
+after_all forms code (task ∷ later) = after forms (after_all forms code later) task
+
+-- a task names one of so many forms
+abbrev pub TaskFits : (count : ℕ) → Task → Type 0
+TaskFits count (Form number) = number < count
+TaskFits count (Put instr) = Unit {0}
+
+-- more than the tasks that a task leads to
+abbrev pub weight : List CoreForm → Task → ℕ
+weight forms (Form number) = 1 + (3 * size (form_at forms number) - 2)
+weight forms (Put instr) = 1
+
+abbrev pub weight_of_all : List CoreForm → List Task → ℕ
+weight_of_all forms [] = 0
+weight_of_all forms (task ∷ later) = weight forms task + weight_of_all forms later
+
+-- the tasks of another one, which begins at this instruction, were put behind the others
+pub record Adds (forms : List CoreForm) (pc : ℕ) (task : Task) (old new : List Task) : Type 0 where
+  pub more : List Task
+  pub added : new ≡ old ++ more
+  pub laid : (code : List Instruction) → length code ≡ pc → after_all forms code more ≡ after forms code task
+  pub fit : All (TaskFits (length forms)) more
+  pub lighter : weight_of_all forms more < weight forms task
+
+-- a task was begun or done: what is laid after it is what the code and the tasks lead to now, with less to be done
+pub record Finishes (forms : List CoreForm) (task : Task) (old_code : List Instruction) (old : List Task)
+    (new_code : List Instruction) (new : List Task) : Type 0 where
+  pub laid : after_all forms new_code new ≡ after_all forms (after forms old_code task) old
+  pub fit : All (TaskFits (length forms)) old → All (TaskFits (length forms)) new
+  pub lighter : weight_of_all forms new < weight_of_all forms old + weight forms task

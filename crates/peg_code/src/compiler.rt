@@ -1,0 +1,77 @@
+//! The compiler of core forms.
+ghost use Rattle.std.specs.Prelude.{◌≡◌, ◌↔◌, ◌+◌, ◌<◌, ◌≤◌, length, IfOk, IsErrOf, OnOk};
+ghost use Rattle.peg_core.specs.Layout.{bodies_of};
+ghost use Rattle.peg_code.specs.Code.{entries_of, program_code};
+ghost use Rattle.peg_code.specs.Compiled.{compiled_of, most_instructions};
+ghost use Rattle.peg_code.specs.Instrs.{instructions_of};
+ghost use Rattle.peg_code.specs.Plans.{ArePlans, counted};
+
+use crate::plans::{Plan, plans_of};
+use crate::tasks::lay;
+use crate::{CodeFault, Instr, Program};
+use peg_check::Checked;
+use peg_core::Core;
+use std::alloc::{AllocError, Global};
+
+/// The most instructions of a program.
+pub const MOST_INSTRUCTIONS: u32 = 1_000_000;
+
+/// Compiles the core forms of a well-formed grammar. The instructions are counted before any of them is laid. Takes
+/// time and memory linear in the number of forms and instructions, and in the number of forms where the code is too
+/// large.
+pub fn compile(alloc: Global, checked: Checked) -> Result<Program, CodeFault>
+    ensures program { IfOk result (λ program. program ≡ compiled_of checked.core) }
+    ensures within { OnOk result (length (program_code (bodies_of checked.core)) ≤ most_instructions) }
+
+    // Want of memory aside, the code is too large exactly where it has more instructions.
+    ensures too_large { IsErrOf result CodeFault.CodeTooLarge
+        → most_instructions < length (program_code (bodies_of checked.core)) }
+    ensures too_large_where { ¬ IsErrOf result CodeFault.Memory
+        → (IsErrOf result CodeFault.CodeTooLarge
+        ↔ (most_instructions < length (program_code (bodies_of checked.core)))) }
+{
+    let plans = plans_of(alloc, checked.core())?;
+    if count(checked.core(), &plans) > MOST_INSTRUCTIONS {
+        return Err(CodeFault::CodeTooLarge);
+    }
+    let Code { instrs, entries } = lay_rules(alloc, checked.core(), &plans)?;
+    Ok(Program::new(checked, instrs, entries))
+}
+
+// How many instructions the rules take, or one more than the limit.
+fn count(core: &Core, plans: &[Plan]) -> u32
+    requires plans { ArePlans core.now.forms plans.now }
+    ensures { result ≡ counted (length (program_code (bodies_of core.now))) }
+{
+    let mut total = 1;
+    for rule in 0..core.rules() {
+        let size = plans[core.body(rule) as usize].size;
+        total = (total + size + 1).min(MOST_INSTRUCTIONS + 1);
+    }
+    total
+}
+
+// Instructions, and the first one of each rule.
+#[derive(Drop)]
+struct Code {
+    instrs: Vec<Instr>,
+    entries: Vec<u32>,
+}
+
+// The code of the rules, one after the other.
+fn lay_rules(alloc: Global, core: &Core, plans: &[Plan]) -> Result<Code, AllocError>
+    requires plans { ArePlans core.now.forms plans.now }
+    requires few { length (program_code (bodies_of core.now)) ≤ most_instructions }
+    ensures code { IfOk result (λ code. instructions_of code.instrs.items ≡ program_code (bodies_of core.now)) }
+    ensures entries { IfOk result (λ code. code.entries.items ≡ entries_of (bodies_of core.now)) }
+{
+    let mut instrs = Vec::new(alloc);
+    instrs.push(Instr::End)?;
+    let mut entries = Vec::new(alloc);
+    for rule in 0..core.rules() {
+        entries.push(instrs.len() as u32)?;
+        lay(alloc, core, plans, core.body(rule), &mut instrs)?;
+        instrs.push(Instr::Ret)?;
+    }
+    Ok(Code { instrs, entries })
+}

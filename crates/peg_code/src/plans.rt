@@ -1,0 +1,78 @@
+//! What is known of the code of core forms before any of it is laid.
+ghost use Rattle.std.specs.Prelude.{◌≡◌, ◌+◌, ◌<◌, ◌≤◌, length, IfOk};
+ghost use Rattle.peg_code.specs.Compiled.{most_instructions};
+ghost use Rattle.peg_code.specs.Plans.{ArePlans, ArePlansSoFar, counted, IsPlan};
+
+use crate::MOST_INSTRUCTIONS;
+use peg_core::{Core, Node};
+use std::alloc::{AllocError, Global};
+
+/// How many instructions a core form takes, or one more than the limit; and the form to lay in its place, which has the
+/// same code. That is no sequence with an empty part, so that laying takes as many steps as there are instructions.
+#[derive(Clone, Copy)]
+pub(crate) struct Plan {
+    pub(crate) size: u32,
+    pub(crate) form: u32,
+}
+
+/// The plan of each form. Takes time and memory linear in the number of forms.
+pub(crate) fn plans_of(alloc: Global, core: &Core) -> Result<Vec<Plan>, AllocError>
+    ensures { IfOk result (λ plans. ArePlans core.now.forms plans.items) }
+{
+    let mut plans = Vec::new(alloc);
+    for number in 0..core.len() {
+        let plan = plan_of(core, number, &plans);
+        plans.push(plan)?;
+    }
+    Ok(plans)
+}
+
+// The plan of the next form.
+fn plan_of(core: &Core, number: u32, plans: &[Plan]) -> Plan
+    requires within { number < length core.now.forms }
+    requires next { number ≡ length plans.now }
+    requires plans { ArePlansSoFar core.now.forms plans.now }
+    ensures { IsPlan core.now.forms number result }
+{
+    match core.node(number) {
+        Node::Empty => own_plan(number, 0),
+        Node::Test { .. } | Node::Rule(_) => own_plan(number, 1),
+        Node::Seq(first, rest) => {
+            sequence_plan(number, plans[first as usize], plans[rest as usize])
+        }
+        Node::Choice(first, rest) => own_plan(
+            number,
+            plans[first as usize].size + plans[rest as usize].size + 2,
+        ),
+        Node::Star(part) | Node::Not(part) => own_plan(number, plans[part as usize].size + 2),
+    }
+}
+
+// A form that is laid itself, of this size.
+fn own_plan(number: u32, size: u32) -> Plan
+    ensures size { result.size ≡ counted size }
+    ensures form { result.form ≡ number }
+{
+    Plan {
+        size: size.min(MOST_INSTRUCTIONS + 1),
+        form: number,
+    }
+}
+
+// A sequence: where a part is empty, the other one is laid.
+fn sequence_plan(number: u32, first: Plan, rest: Plan) -> Plan
+    requires first { first.size ≤ most_instructions + 1 }
+    requires rest { rest.size ≤ most_instructions + 1 }
+    ensures size { result.size ≡ counted (first.size + rest.size) }
+    ensures empty_first { first.size ≡ 0 → result.form ≡ rest.form }
+    ensures empty_rest { 0 < first.size → rest.size ≡ 0 → result.form ≡ first.form }
+    ensures full { 0 < first.size → 0 < rest.size → result.form ≡ number }
+{
+    if first.size == 0 {
+        rest
+    } else if rest.size == 0 {
+        first
+    } else {
+        own_plan(number, first.size + rest.size)
+    }
+}

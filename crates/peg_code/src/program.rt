@@ -1,0 +1,112 @@
+//! The program of a checked grammar.
+ghost use Rattle.std.specs.Prelude.{◌≡◌, ◌<◌, ◌≤◌, length, slice_get, Some};
+ghost use Rattle.peg_bytes.specs.Extent.{extent};
+ghost use Rattle.peg_ford.specs.Grammar.{most_parts};
+ghost use Rattle.peg_core.specs.Layout.{bodies_of};
+ghost use Rattle.peg_check.specs.Verdicts.{AreWellFormedIn};
+ghost use Rattle.peg_code.specs.Code.{entries_of, program_code};
+ghost use Rattle.peg_code.specs.Compiled.{compiled_of, most_instructions};
+ghost use Rattle.peg_code.specs.Instrs.{instruction_of, instructions_of};
+
+use crate::Instr;
+use peg_bytes::Span;
+use peg_check::Checked;
+use peg_core::Core;
+use std::marker::Model;
+
+/// The code of a well-formed grammar, and the core forms that it was compiled from.
+#[derive(Debug, Drop)]
+pub struct Program {
+    code: Vec<Instr>,
+    entries: Vec<u32>,
+    checked: Checked,
+}
+
+impl Model for Program {
+    ghost use Rattle.peg_code.specs.Compiled.{Compiled};
+    ghost use Rattle.peg_code.specs.CompiledCode.{compiled_code};
+
+    ghost Value = { Compiled };
+
+    ghost coded = { compiled_code };
+
+    ghost use Rattle.peg_code.specs.Programs.{program_of, IsProgram};
+
+    ghost view = { program_of };
+
+    ghost invariant = { IsProgram };
+}
+
+impl Program {
+    // The program of these core forms, laid already.
+    pub(crate) fn new(checked: Checked, code: Vec<Instr>, entries: Vec<u32>) -> Program
+        requires code { instructions_of code.items ≡ program_code (bodies_of checked.core) }
+        requires entries { entries.items ≡ entries_of (bodies_of checked.core) }
+        requires few { length code.items ≤ most_instructions }
+        ensures { result ≡ compiled_of checked.core }
+    {
+        Program {
+            code,
+            entries,
+            checked,
+        }
+    }
+
+    /// The core forms that it was compiled from, which are well-formed. Takes constant time.
+    pub fn core(&self) -> &Core
+        ensures core { result.now ≡ self.now.core }
+        ensures well_formed { ∥ AreWellFormedIn (length self.now.core.forms) self.now.core ∥₁ }
+    {
+        self.checked.core()
+    }
+
+    /// How many instructions there are. The program is the layout's. Takes constant time.
+    pub fn len(&self) -> u32
+        ensures count { result ≡ length self.now.code }
+        ensures most { result ≤ most_instructions }
+        ensures layout { self.now ≡ compiled_of self.now.core }
+    {
+        self.code.len() as u32
+    }
+
+    /// The instruction with a number. Takes constant time.
+    pub fn instr(&self, pc: u32) -> Instr
+        requires { pc < length self.now.code }
+        ensures { slice_get self.now.code pc ≡ Some (instruction_of result) }
+    {
+        self.code[pc as usize]
+    }
+
+    /// The first instruction of a rule. Takes constant time.
+    pub fn entry(&self, rule: u32) -> u32
+        requires { rule < length self.now.core.bodies }
+        ensures number { slice_get self.now.entries rule ≡ Some result }
+        ensures within { result < length self.now.code }
+    {
+        self.entries[rule as usize]
+    }
+
+    /// How many rules there are. Takes constant time.
+    pub fn rules(&self) -> u32
+        ensures count { result ≡ length self.now.core.bodies }
+        ensures most { result ≤ most_parts }
+    {
+        self.core().rules()
+    }
+
+    /// How many terminals the rules write. Takes constant time.
+    pub fn terminals(&self) -> u32
+        ensures count { result ≡ length self.now.core.spans }
+        ensures most { result ≤ most_parts }
+    {
+        self.core().terminals()
+    }
+
+    /// Where a terminal stands in the grammar file. Takes constant time.
+    pub fn terminal_span(&self, terminal: u32) -> Span
+        requires { terminal < length self.now.core.spans }
+        ensures { slice_get self.now.core.spans terminal ≡ Some (extent result) }
+    {
+        self.core().terminal_span(terminal)
+    }
+}

@@ -1,0 +1,153 @@
+//! How the code of a core form is laid, by tasks that are still to be done.
+ghost use Rattle.std.specs.Prelude.{◌≡◌, ◌+◌, ◌<◌, ◌≤◌, [], ◌∷◌, ◌++◌, length, OnOk};
+ghost use Rattle.peg_core.specs.Layout.{form_at};
+ghost use Rattle.peg_code.specs.Code.{size};
+ghost use Rattle.peg_code.specs.Compiled.{most_instructions};
+ghost use Rattle.peg_code.specs.Instrs.{instructions_of};
+ghost use Rattle.peg_code.specs.Plans.{ArePlans, IsTight};
+ghost use Rattle.peg_code.specs.Tasks.{Adds, after, Finishes, TaskFits};
+ghost use Rattle.peg_code.specs.declared.instr.Instr.TheVariants.{Choice, Commit};
+ghost use Rattle.peg_code.specs.declared.tasks.Task.TheVariants.{Form, Put};
+
+use crate::Instr;
+use crate::plans::Plan;
+use peg_core::{Core, Node};
+use std::alloc::{AllocError, Global};
+
+/// A form whose code is to be laid, by its number, or an instruction.
+#[derive(Clone, Copy)]
+pub(crate) enum Task {
+    Form(u32),
+    Put(Instr),
+}
+
+/// Puts the code of a form behind other code. Takes time linear in the code of the form.
+pub(crate) fn lay(
+    alloc: Global,
+    core: &Core,
+    plans: &[Plan],
+    number: u32,
+    code: &mut Vec<Instr>,
+) -> Result<(), AllocError>
+    requires plans { ArePlans core.now.forms plans.now }
+    requires within { number < length core.now.forms }
+    requires room { length code.old.items + size (form_at core.now.forms number) ≤ most_instructions }
+    ensures { OnOk result (instructions_of code.new.items
+        ≡ after core.now.forms (instructions_of code.old.items) (Form number)) }
+{
+    let mut tasks = Vec::new(alloc);
+    tasks.push(Task::Form(number))?;
+    'lays: while let Some(task) = tasks.pop() {
+        finish(core, plans, task, code, &mut tasks)?;
+    }
+    Ok(())
+}
+
+// Does a task, where others are to be done after it.
+fn finish(
+    core: &Core,
+    plans: &[Plan],
+    task: Task,
+    code: &mut Vec<Instr>,
+    tasks: &mut Vec<Task>,
+) -> Result<(), AllocError>
+    requires plans { ArePlans core.now.forms plans.now }
+    requires fits { TaskFits (length core.now.forms) task }
+    requires room { length (after core.now.forms (instructions_of code.old.items) task) ≤ most_instructions }
+    ensures { OnOk result (Finishes core.now.forms task (instructions_of code.old.items) tasks.old.items
+        (instructions_of code.new.items) tasks.new.items) }
+{
+    match task {
+        Task::Put(instr) => put(code, instr),
+        Task::Form(number) => {
+            let form = plans[number as usize].form;
+            add_tasks(core, plans, form, code.len() as u32, tasks)
+        }
+    }
+}
+
+// One more instruction.
+fn put(code: &mut Vec<Instr>, instr: Instr) -> Result<(), AllocError>
+    ensures { OnOk result (code.new.items ≡ code.old.items ++ instr ∷ []) }
+{
+    code.push(instr)?;
+    Ok(())
+}
+
+// Puts the tasks of a form, whose code begins at an instruction, behind others: what is done first comes last.
+fn add_tasks(
+    core: &Core,
+    plans: &[Plan],
+    number: u32,
+    pc: u32,
+    tasks: &mut Vec<Task>,
+) -> Result<(), AllocError>
+    requires plans { ArePlans core.now.forms plans.now }
+    requires within { number < length core.now.forms }
+    requires tight { IsTight (form_at core.now.forms number) }
+    requires room { pc + size (form_at core.now.forms number) ≤ most_instructions }
+    ensures { OnOk result (Adds core.now.forms pc (Form number) tasks.old.items tasks.new.items) }
+{
+    match core.node(number) {
+        Node::Empty => Ok(()),
+        Node::Test { set, terminal } => add(tasks, &[Task::Put(Instr::Test { set, terminal })]),
+        Node::Rule(rule) => add(tasks, &[Task::Put(Instr::Call(rule))]),
+        Node::Seq(first, rest) => add(tasks, &[Task::Form(rest), Task::Form(first)]),
+        Node::Choice(first, rest) => {
+            let second = pc + plans[first as usize].size + 2;
+            let end = second + plans[rest as usize].size;
+            add_choice(tasks, first, rest, second, end)
+        }
+        Node::Star(part) => {
+            let end = pc + plans[part as usize].size + 2;
+            add_round(tasks, part, end, Instr::Commit(pc))
+        }
+        Node::Not(part) => {
+            let end = pc + plans[part as usize].size + 2;
+            add_round(tasks, part, end, Instr::FailTwice)
+        }
+    }
+}
+
+// The tasks of a choice whose second part begins at an instruction, and which ends at another.
+fn add_choice(
+    tasks: &mut Vec<Task>,
+    first: u32,
+    rest: u32,
+    second: u32,
+    end: u32,
+) -> Result<(), AllocError>
+    ensures { OnOk result (tasks.new.items ≡ tasks.old.items
+        ++ (Form rest ∷ Put (Commit end) ∷ Form first ∷ Put (Choice second) ∷ [])) }
+{
+    add(
+        tasks,
+        &[
+            Task::Form(rest),
+            Task::Put(Instr::Commit(end)),
+            Task::Form(first),
+            Task::Put(Instr::Choice(second)),
+        ],
+    )
+}
+
+// The tasks of a part between the instruction that leaves a way back and this last one.
+fn add_round(tasks: &mut Vec<Task>, part: u32, end: u32, last: Instr) -> Result<(), AllocError>
+    ensures { OnOk result (tasks.new.items ≡ tasks.old.items ++ (Put last ∷ Form part ∷ Put (Choice end) ∷ [])) }
+{
+    add(
+        tasks,
+        &[
+            Task::Put(last),
+            Task::Form(part),
+            Task::Put(Instr::Choice(end)),
+        ],
+    )
+}
+
+// More tasks behind others.
+fn add(tasks: &mut Vec<Task>, more: &[Task]) -> Result<(), AllocError>
+    ensures { OnOk result (tasks.new.items ≡ tasks.old.items ++ more.now) }
+{
+    tasks.extend_from_slice(more)
+}
