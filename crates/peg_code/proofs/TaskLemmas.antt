@@ -11,7 +11,7 @@ use Rattle.peg_code.specs.Instructions as machine
 use Rattle.peg_code.specs.Instrs.{instruction_of, instructions_of}
 use Rattle.peg_code.specs.Compiled.{most_instructions}
 use Rattle.peg_code.specs.Plans.{counted, HaveSameCode}
-use Rattle.peg_code.specs.Tasks.{Adds, after, after_all, Finishes, TaskFits, weight, weight_of_all}
+use Rattle.peg_code.specs.Tasks.{Adds, after, after_all, DoesTask, TaskFits, weight, weight_of_all}
 use Rattle.peg_code.specs.declared.instr.Instr.{Instr}
 use Rattle.peg_code.specs.declared.instr.Instr.TheVariants as instr
 use Rattle.peg_code.specs.declared.tasks.Task.{Task}
@@ -226,9 +226,9 @@ Adds-not forms pc number part a old new is form counts room below =
 
 -- ---- a task is done
 
-pub Finishes-put : (forms : List CoreForm) (old new : List Instr) (tasks : List Task) (i : Instr) → new ≡ old ++ i ∷ []
-    → Finishes forms (Put i) (instructions_of old) tasks (instructions_of new) tasks
-Finishes-put forms old new tasks i put =
+pub DoesTask-put : (forms : List CoreForm) (old new : List Instr) (tasks : List Task) (i : Instr) → new ≡ old ++ i ∷ []
+    → DoesTask forms (Put i) (instructions_of old) tasks (instructions_of new) tasks
+DoesTask-put forms old new tasks i put =
     record {
       laid = ap (λ (code : List Instruction). after_all forms code tasks) (instructions_of-push old new i put);
       fit = λ fit. fit;
@@ -236,10 +236,10 @@ Finishes-put forms old new tasks i put =
     }
 
 -- a form is laid by the tasks of a form with the same code
-pub Finishes-form : (forms : List CoreForm) (code : List Instruction) (old new : List Task) (number form : ℕ)
+pub DoesTask-form : (forms : List CoreForm) (code : List Instruction) (old new : List Task) (number form : ℕ)
     → HaveSameCode (form_at forms form) (form_at forms number) → Adds forms (length code) (Form form) old new
-    → Finishes forms (Form number) code old code new
-Finishes-form forms code old new number form alike adds =
+    → DoesTask forms (Form number) code old code new
+DoesTask-form forms code old new number form alike adds =
     let same : weight forms (Form form) ≡ weight forms (Form number) = ap (λ n. 1 + (3 * n - 2)) (size-same (form_at forms form) (form_at forms number) alike) in
     let sum = ap (weight_of_all forms) adds.added ∙ weight_of_all-append forms old adds.more in
     let less = adds.lighter in

@@ -41,7 +41,7 @@ pub record Adds (forms : List CoreForm) (pc : ℕ) (task : Task) (old new : List
   pub lighter : weight_of_all forms more < weight forms task
 
 -- a task was begun or done: what is laid after it is what the code and the tasks lead to now, with less to be done
-pub record Finishes (forms : List CoreForm) (task : Task) (old_code : List Instruction) (old : List Task)
+pub record DoesTask (forms : List CoreForm) (task : Task) (old_code : List Instruction) (old : List Task)
     (new_code : List Instruction) (new : List Task) : Type 0 where
   pub laid : after_all forms new_code new ≡ after_all forms (after forms old_code task) old
   pub fit : All (TaskFits (length forms)) old → All (TaskFits (length forms)) new

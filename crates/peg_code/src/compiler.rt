@@ -2,7 +2,7 @@
 ghost use Rattle.std.specs.Prelude.{◌≡◌, ◌↔◌, ◌+◌, ◌<◌, ◌≤◌, length, IfOk, IsErrOf, OnOk};
 ghost use Rattle.peg_core.specs.Layout.{bodies_of};
 ghost use Rattle.peg_code.specs.Code.{entries_of, program_code};
-ghost use Rattle.peg_code.specs.Compiled.{compiled_of, most_instructions};
+ghost use Rattle.peg_code.specs.Compiled.{compiled_of, IsTooLarge, most_instructions};
 ghost use Rattle.peg_code.specs.Instrs.{instructions_of};
 ghost use Rattle.peg_code.specs.Plans.{ArePlans, counted};
 
@@ -24,22 +24,21 @@ pub fn compile(alloc: Global, checked: Checked) -> Result<Program, CodeFault>
     ensures within { OnOk result (length (program_code (bodies_of checked.core)) ≤ most_instructions) }
 
     // Want of memory aside, the code is too large exactly where it has more instructions.
-    ensures too_large { IsErrOf result CodeFault.CodeTooLarge
-        → most_instructions < length (program_code (bodies_of checked.core)) }
+    ensures too_large { IsErrOf result CodeFault.CodeTooLarge → IsTooLarge checked.core }
     ensures too_large_where { ¬ IsErrOf result CodeFault.Memory
-        → (IsErrOf result CodeFault.CodeTooLarge
-        ↔ (most_instructions < length (program_code (bodies_of checked.core)))) }
+        → (IsErrOf result CodeFault.CodeTooLarge ↔ IsTooLarge checked.core) }
 {
     let plans = plans_of(alloc, checked.core())?;
-    if count(checked.core(), &plans) > MOST_INSTRUCTIONS {
+    let count = count_of(checked.core(), &plans);
+    if count > MOST_INSTRUCTIONS {
         return Err(CodeFault::CodeTooLarge);
     }
-    let Code { instrs, entries } = lay_rules(alloc, checked.core(), &plans)?;
+    let Code { instrs, entries } = lay_rules(alloc, checked.core(), &plans, count)?;
     Ok(Program::new(checked, instrs, entries))
 }
 
 // How many instructions the rules take, or one more than the limit.
-fn count(core: &Core, plans: &[Plan]) -> u32
+fn count_of(core: &Core, plans: &[Plan]) -> u32
     requires plans { ArePlans core.now.forms plans.now }
     ensures { result ≡ counted (length (program_code (bodies_of core.now))) }
 {
@@ -58,16 +57,16 @@ struct Code {
     entries: Vec<u32>,
 }
 
-// The code of the rules, one after the other.
-fn lay_rules(alloc: Global, core: &Core, plans: &[Plan]) -> Result<Code, AllocError>
+// The code of the rules, one after the other, with memory for so many instructions.
+fn lay_rules(alloc: Global, core: &Core, plans: &[Plan], count: u32) -> Result<Code, AllocError>
     requires plans { ArePlans core.now.forms plans.now }
     requires few { length (program_code (bodies_of core.now)) ≤ most_instructions }
     ensures code { IfOk result (λ code. instructions_of code.instrs.items ≡ program_code (bodies_of core.now)) }
     ensures entries { IfOk result (λ code. code.entries.items ≡ entries_of (bodies_of core.now)) }
 {
-    let mut instrs = Vec::new(alloc);
+    let mut instrs = Vec::with_capacity(alloc, count as usize)?;
     instrs.push(Instr::End)?;
-    let mut entries = Vec::new(alloc);
+    let mut entries = Vec::with_capacity(alloc, core.rules() as usize)?;
     for rule in 0..core.rules() {
         entries.push(instrs.len() as u32)?;
         lay(alloc, core, plans, core.body(rule), &mut instrs)?;

@@ -19,7 +19,7 @@ pub(crate) struct Plan {
 pub(crate) fn plans_of(alloc: Global, core: &Core) -> Result<Vec<Plan>, AllocError>
     ensures { IfOk result (λ plans. ArePlans core.now.forms plans.items) }
 {
-    let mut plans = Vec::new(alloc);
+    let mut plans = Vec::with_capacity(alloc, core.len() as usize)?;
     for number in 0..core.len() {
         let plan = plan_of(core, number, &plans);
         plans.push(plan)?;

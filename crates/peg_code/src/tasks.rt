@@ -5,7 +5,7 @@ ghost use Rattle.peg_code.specs.Code.{size};
 ghost use Rattle.peg_code.specs.Compiled.{most_instructions};
 ghost use Rattle.peg_code.specs.Instrs.{instructions_of};
 ghost use Rattle.peg_code.specs.Plans.{ArePlans, IsTight};
-ghost use Rattle.peg_code.specs.Tasks.{Adds, after, Finishes, TaskFits};
+ghost use Rattle.peg_code.specs.Tasks.{Adds, after, DoesTask, TaskFits};
 ghost use Rattle.peg_code.specs.declared.instr.Instr.TheVariants.{Choice, Commit};
 ghost use Rattle.peg_code.specs.declared.tasks.Task.TheVariants.{Form, Put};
 
@@ -38,13 +38,13 @@ pub(crate) fn lay(
     let mut tasks = Vec::new(alloc);
     tasks.push(Task::Form(number))?;
     'lays: while let Some(task) = tasks.pop() {
-        finish(core, plans, task, code, &mut tasks)?;
+        do_task(core, plans, task, code, &mut tasks)?;
     }
     Ok(())
 }
 
 // Does a task, where others are to be done after it.
-fn finish(
+fn do_task(
     core: &Core,
     plans: &[Plan],
     task: Task,
@@ -54,7 +54,7 @@ fn finish(
     requires plans { ArePlans core.now.forms plans.now }
     requires fits { TaskFits (length core.now.forms) task }
     requires room { length (after core.now.forms (instructions_of code.old.items) task) ≤ most_instructions }
-    ensures { OnOk result (Finishes core.now.forms task (instructions_of code.old.items) tasks.old.items
+    ensures { OnOk result (DoesTask core.now.forms task (instructions_of code.old.items) tasks.old.items
         (instructions_of code.new.items) tasks.new.items) }
 {
     match task {

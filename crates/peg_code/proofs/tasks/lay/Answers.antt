@@ -4,12 +4,12 @@ use Rattle.peg_code.specs.Instrs.{instruction_of, instructions_of}
 use Rattle.peg_code.proofs.TaskLemmas.{last-fits, last-laid, last-room, last-weight, length-after, others-fit}
 use Rattle.peg_code.proofs.tasks.lay.Goals as goal
 
-pub finish-requires-clause-fits : goal.finish-requires-clause-fits
-finish-requires-clause-fits c =
+pub do_task-requires-clause-fits : goal.do_task-requires-clause-fits
+do_task-requires-clause-fits c =
     last-fits c.args.core.now.forms c.lays.tasks.items c.pop.new.self.items c.in-Some.task c.in-Some.ensures.items c.lays.invariant.fit
 
-pub finish-requires-clause-room : goal.finish-requires-clause-room
-finish-requires-clause-room c =
+pub do_task-requires-clause-room : goal.do_task-requires-clause-room
+do_task-requires-clause-room c =
     let forms = c.args.core.now.forms in
     let old = instructions_of c.args.code.now.items in
     let left = last-room forms c.lays.tasks.items c.pop.new.self.items c.in-Some.task c.in-Some.ensures.items (instructions_of c.lays.code.items) in
@@ -18,7 +18,7 @@ finish-requires-clause-room c =
 pub lays-smaller : goal.lays-smaller
 lays-smaller c =
     let weights = last-weight c.args.core.now.forms c.lays.tasks.items c.pop.new.self.items c.in-Some.task c.in-Some.ensures.items in
-    omega (arith, weights, c.in_ok-finish.ensures.lighter)
+    omega (arith, weights, c.in_ok-do_task.ensures.lighter)
 
 pub lays-preserved : goal.lays-preserved
 lays-preserved c =
@@ -27,6 +27,6 @@ lays-preserved c =
     let rest = c.pop.new.self.items in
     let taken = c.in-Some.ensures.items in
     record {
-      laid = c.in_ok-finish.ensures.laid ∙ (last-laid forms tasks rest c.in-Some.task taken (instructions_of c.lays.code.items) ∙ c.lays.invariant.laid);
-      fit = c.in_ok-finish.ensures.fit (others-fit forms tasks rest c.in-Some.task taken c.lays.invariant.fit);
+      laid = c.in_ok-do_task.ensures.laid ∙ (last-laid forms tasks rest c.in-Some.task taken (instructions_of c.lays.code.items) ∙ c.lays.invariant.laid);
+      fit = c.in_ok-do_task.ensures.fit (others-fit forms tasks rest c.in-Some.task taken c.lays.invariant.fit);
     }

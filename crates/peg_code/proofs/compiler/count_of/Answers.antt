@@ -3,7 +3,7 @@ use Rattle.peg_core.specs.Layout.{bodies_of}
 use Rattle.peg_code.specs.Plans.{counted}
 use Rattle.peg_code.specs.declared.plans.Plan.{Plan}
 use Rattle.peg_code.proofs.LayoutLemmas.{drop-bodies, drop-body, length-program_code, rules_size}
-use Rattle.peg_code.proofs.compiler.count.Goals as goal
+use Rattle.peg_code.proofs.compiler.count_of.Goals as goal
 
 pub loop-rule-preserved : goal.loop-rule-preserved
 loop-rule-preserved c =

@@ -3,7 +3,7 @@ use Rattle.peg_core.specs.Layout.{bodies_of}
 use Rattle.peg_code.specs.Compiled.{most_instructions}
 use Rattle.peg_code.specs.Plans.{counted}
 use Rattle.peg_code.proofs.LayoutLemmas.{rules_size}
-use Rattle.peg_code.proofs.compiler.count.Given as goal
+use Rattle.peg_code.proofs.compiler.count_of.Given as goal
 
 -- with the rules that are still to come, all instructions are counted
 abbrev pub invariant-loop-rule : goal.invariant-loop-rule

@@ -6,14 +6,14 @@ use Rattle.peg_code.specs.Code.{size}
 use Rattle.peg_code.specs.Compiled.{most_instructions}
 use Rattle.peg_code.specs.Instrs.{instruction_of, instructions_of}
 use Rattle.peg_code.specs.Plans.{IsPlan}
-use Rattle.peg_code.specs.Tasks.{Adds, after, Finishes, TaskFits}
+use Rattle.peg_code.specs.Tasks.{Adds, after, DoesTask, TaskFits}
 use Rattle.peg_code.specs.declared.plans.Plan.{Plan}
 use Rattle.peg_code.specs.declared.tasks.Task.{Task}
 use Rattle.peg_code.specs.declared.tasks.Task.TheVariants.{Form}
 use Rattle.peg_code.proofs.CodeLemmas.{size-same}
-use Rattle.peg_code.proofs.TaskLemmas.{Finishes-form, Finishes-put, length-after}
-use Rattle.peg_code.proofs.tasks.finish.Goals as goal
-use Rattle.peg_code.proofs.tasks.finish.Goals.{In-Form}
+use Rattle.peg_code.proofs.TaskLemmas.{DoesTask-form, DoesTask-put, length-after}
+use Rattle.peg_code.proofs.tasks.do_task.Goals as goal
+use Rattle.peg_code.proofs.tasks.do_task.Goals.{In-Form}
 
 pub returns-in-Put : goal.returns-in-Put
 returns-in-Put c =
@@ -22,7 +22,7 @@ returns-in-Put c =
     let new = c.put.new.code.items in
     let rest = c.args.tasks.now.items in
     on_ok_weaker c.put.result
-    (λ put. subst (λ (t : Task). Finishes forms t (instructions_of old) rest (instructions_of new) rest) (sym c.in-Put.is) (Finishes-put forms old new rest c.in-Put.instr put))
+    (λ put. subst (λ (t : Task). DoesTask forms t (instructions_of old) rest (instructions_of new) rest) (sym c.in-Put.is) (DoesTask-put forms old new rest c.in-Put.instr put))
     c.put.ensures
 
 -- the plan of the form
@@ -63,5 +63,5 @@ returns-in-Form c =
     let form = (plan at).form in
     let here : c.len.result ≡ length code = c.len.ensures ∙ sym (stand at) in
     on_ok_weaker c.add_tasks.result
-    (λ adds. subst (λ (t : Task). Finishes forms t code old code new) (sym c.in-Form.is) (Finishes-form forms code old new c.in-Form.number form (planned at).same (subst (λ pc. Adds forms pc (Form form) old new) here adds)))
+    (λ adds. subst (λ (t : Task). DoesTask forms t code old code new) (sym c.in-Form.is) (DoesTask-form forms code old new c.in-Form.number form (planned at).same (subst (λ pc. Adds forms pc (Form form) old new) here adds)))
     c.add_tasks.ensures
