@@ -1,0 +1,103 @@
+// How many instructions grammars have that are as large as they may be, and larger.
+use peg_check::{Checked, check};
+use peg_code::{CodeFault, MOST_INSTRUCTIONS, compile};
+use peg_core::desugar;
+use peg_grammar::Grammar;
+use peg_notation::read;
+use std::alloc::{AllocError, Global};
+use std::process::Abort;
+use std::test::Fail;
+
+fn checked_of(alloc: Global, file: &[u8]) -> Result<Checked, Fail> {
+    let definitions = read(alloc, file)?;
+    let grammar = Grammar::new(alloc, definitions)?;
+    Ok(check(alloc, desugar(alloc, &grammar)?)?)
+}
+
+// The number of instructions, or none where the code is too large.
+fn count_of(alloc: Global, file: &[u8]) -> Result<Option<u32>, Fail> {
+    match compile(alloc, checked_of(alloc, file)?) {
+        Ok(program) => Ok(Some(program.len())),
+        Err(CodeFault::CodeTooLarge) => Ok(None),
+        Err(CodeFault::Memory) => Err(Fail::from(AllocError)),
+    }
+}
+
+// Puts many copies of a text behind others.
+fn add_many(file: &mut Vec<u8>, text: &[u8], count: usize) -> Result<(), AllocError> {
+    for _ in 0..count {
+        file.extend_from_slice(text)?;
+    }
+    Ok(())
+}
+
+// A rule of so many nested pluses round some text; as many parentheses are written, the outermost pair last.
+fn nested_pluses(alloc: Global, count: usize, inner: &[u8]) -> Result<Vec<u8>, AllocError> {
+    let mut file = Vec::from_slice(alloc, b"A <- ")?;
+    add_many(&mut file, b"(", count)?;
+    file.extend_from_slice(inner)?;
+    add_many(&mut file, b")+", count)?;
+    Ok(file)
+}
+
+#[test]
+fn nested_pluses_have_twice_the_code(rt: HostRuntime) -> Result<(), Fail> {
+    let alloc = rt.alloc();
+    assert_eq!(rt; count_of(alloc, b"A <- 'a'+")?, Some(6));
+    assert_eq!(rt;
+        count_of(alloc, nested_pluses(alloc, 1, b"'a'+")?.as_slice())?,
+        Some(12)
+    );
+    assert_eq!(rt;
+        count_of(alloc, nested_pluses(alloc, 17, b"'a'+")?.as_slice())?,
+        Some(786_432)
+    );
+    assert_eq!(rt;
+        count_of(alloc, nested_pluses(alloc, 18, b"'a'+")?.as_slice())?,
+        None
+    );
+    assert_eq!(rt;
+        count_of(alloc, nested_pluses(alloc, 24, b"'a'+")?.as_slice())?,
+        None
+    );
+    assert_eq!(rt;
+        count_of(alloc, nested_pluses(alloc, 199, b"'a'+")?.as_slice())?,
+        None
+    );
+    Ok(())
+}
+
+// 786,430 instructions of pluses, and a literal.
+fn pluses_and_a_literal(alloc: Global, bytes: usize) -> Result<Vec<u8>, AllocError> {
+    let mut file = nested_pluses(alloc, 17, b"'a'+")?;
+    file.extend_from_slice(b" '")?;
+    add_many(&mut file, b"b", bytes)?;
+    file.extend_from_slice(b"'")?;
+    Ok(file)
+}
+
+#[test]
+fn the_limit_is_exact(rt: HostRuntime) -> Result<(), Fail> {
+    let alloc = rt.alloc();
+    let file = pluses_and_a_literal(alloc, 213_568)?;
+    assert_eq!(rt; count_of(alloc, file.as_slice())?, Some(MOST_INSTRUCTIONS));
+    let longer = pluses_and_a_literal(alloc, 213_569)?;
+    assert_eq!(rt; count_of(alloc, longer.as_slice())?, None);
+    Ok(())
+}
+
+// Where each copy took a step for each empty expression, this would be some billions of steps.
+#[test]
+fn empty_expressions_cost_nothing(rt: HostRuntime) -> Result<(), Fail> {
+    let alloc = rt.alloc();
+    let mut inner = Vec::from_slice(alloc, b"'a'")?;
+    add_many(&mut inner, b" ''", 100_000)?;
+    let file = nested_pluses(alloc, 18, inner.as_slice())?;
+    assert_eq!(rt; count_of(alloc, file.as_slice())?, Some(786_432));
+    let mut before = Vec::new(alloc);
+    add_many(&mut before, b"'' ", 100_000)?;
+    before.extend_from_slice(b"'a'")?;
+    let other = nested_pluses(alloc, 18, before.as_slice())?;
+    assert_eq!(rt; count_of(alloc, other.as_slice())?, Some(786_432));
+    Ok(())
+}
