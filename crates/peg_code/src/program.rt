@@ -52,19 +52,20 @@ impl Program {
         }
     }
 
-    /// The core forms that it was compiled from, which are well-formed. Takes constant time.
+    /// The core forms that it was compiled from, which are well-formed; the program is their layout. Takes constant
+    /// time.
     pub fn core(&self) -> &Core
         ensures core { result.now ≡ self.now.core }
+        ensures layout { self.now ≡ compiled_of self.now.core }
         ensures well_formed { ∥ AreWellFormedIn (length self.now.core.forms) self.now.core ∥₁ }
     {
         self.checked.core()
     }
 
-    /// How many instructions there are. The program is the layout's. Takes constant time.
+    /// How many instructions there are. Takes constant time.
     pub fn len(&self) -> u32
         ensures count { result ≡ length self.now.code }
         ensures most { result ≤ most_instructions }
-        ensures layout { self.now ≡ compiled_of self.now.core }
     {
         self.code.len() as u32
     }

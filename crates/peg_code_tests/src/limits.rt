@@ -31,7 +31,7 @@ fn add_many(file: &mut Vec<u8>, text: &[u8], count: usize) -> Result<(), AllocEr
     Ok(())
 }
 
-// A rule of so many nested pluses round some text; as many parentheses are written, the outermost pair last.
+// A rule of nested pluses: so many pairs of parentheses round some text, and a plus behind each.
 fn nested_pluses(alloc: Global, count: usize, inner: &[u8]) -> Result<Vec<u8>, AllocError> {
     let mut file = Vec::from_slice(alloc, b"A <- ")?;
     add_many(&mut file, b"(", count)?;

@@ -11,5 +11,6 @@ invariant-lays l = record {
   fit : All (TaskFits (length l.core.forms)) l.tasks.items;
 }
 
+-- so there are no more turns than three an instruction, and one
 abbrev pub decreases-lays : goal.decreases-lays
 decreases-lays l = weight_of_all l.core.forms l.tasks.items
