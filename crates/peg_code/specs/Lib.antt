@@ -1,10 +1,12 @@
 pub use Rattle.peg_bytes.specs.ByteSet
 pub use Rattle.peg_bytes.specs.Extent
 pub use Rattle.peg_check.specs.Verdicts
+pub use Rattle.peg_core.specs.CoreExamples
 pub use Rattle.peg_core.specs.CoreForm
 pub use Rattle.peg_core.specs.Layout
 pub use Rattle.peg_ford.specs.Grammar
 pub mod Code
+pub mod CodeExamples
 pub mod Compiled
 pub mod CompiledCode
 pub mod Instructions

@@ -4,6 +4,7 @@
 mod compiler;
 mod fault;
 mod instr;
+pub mod laws;
 mod plans;
 mod program;
 mod tasks;
