@@ -79,6 +79,7 @@ refuse 'parse, left cycle' /dev/null parse "$work/cycle.peg" "$work/chain.txt"
 for grammar in chain counts cycle loop twice missing open; do
   refuse "check, $grammar" /dev/null check "$work/$grammar.peg"
 done
+refuse 'code, counts' /dev/null code "$work/counts.peg"
 refuse 'table, counts' /dev/null table "$work/counts.peg"
 refuse 'help' /dev/null --help
 refuse 'no command' /dev/null tables

@@ -1,7 +1,7 @@
 #!/usr/bin/env bash
-# Runs the built program over each grammar here (its table, its check, and each of its texts, from files and as one
-# input), and over what can go wrong, and compares the statuses. A text whose name begins with `match` has to be matched
-# (status 0), one with `no_match` to fail (status 1). The argument is the program; without one it is the one that
+# Runs the built program over each grammar here (its table, its check, its code, and each of its texts, from files and
+# as one input), and over what can go wrong, and compares the statuses. A text whose name begins with `match` has to be
+# matched (status 0), one with `no_match` to fail (status 1). The argument is the program; without one it is the one that
 # `cd crates/pegtool && rt run < stdin` builds.
 set -u
 here=$(dirname "$0")
@@ -44,6 +44,8 @@ for grammar in *.peg; do
   run 0 /dev/null table "$grammar"
   is_json table "$grammar"
   run 0 /dev/null check "$grammar"
+  run 0 /dev/null code "$grammar"
+  is_json code "$grammar"
   for text in "${grammar%.peg}"/*; do
     case "$text" in
       */match*) wanted=0 ;;
@@ -80,6 +82,7 @@ run 0 /dev/null parse "$folder/line.peg" "$folder/text" --rows
 printf 'A <- A\n' > "$folder/refused.peg"
 run 2 /dev/null check "$folder/refused.peg"
 run 0 /dev/null table "$folder/refused.peg"
+run 2 /dev/null code "$folder/refused.peg"
 run 2 /dev/null parse "$folder/refused.peg" "$folder/text"
 run 2 /dev/null parse "$folder/refused.peg" "$folder"
 file_fault parse "$folder/refused.peg" "$folder/missing"
@@ -103,7 +106,7 @@ file_fault parse json.peg "$folder"
 # Outputs that can't be written: a device that is full, and a pipe that nobody reads.
 mkfifo "$folder/pipe"
 exec 3<> "$folder/pipe" 4> "$folder/pipe" 3>&-
-for words in --help "check json.peg" "table json.peg" "parse json.peg json/match_object.txt"; do
+for words in --help "check json.peg" "table json.peg" "code json.peg" "parse json.peg json/match_object.txt"; do
   # shellcheck disable=SC2086
   unwritten $words > /dev/full
   # shellcheck disable=SC2086

@@ -90,9 +90,10 @@ impl Program {
     /// How many rules there are. Takes constant time.
     pub fn rules(&self) -> u32
         ensures count { result ≡ length self.now.core.bodies }
+        ensures entries { result ≡ length self.now.entries }
         ensures most { result ≤ most_parts }
     {
-        self.core().rules()
+        self.checked.core().rules()
     }
 
     /// How many terminals the rules write. Takes constant time.

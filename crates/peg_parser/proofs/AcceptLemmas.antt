@@ -1,10 +1,13 @@
 -- What the layers' faults tell of a grammar file.
-use Rattle.std.proofs.Common.{◌≡◌, inl, inr, ℕ, List, All, IsErrAnd, IfErr, IfOk, IfSome, OnOk, Result, Ok, Err, Option, None, Some, length, map, refl, subst, sym, ◌∙◌, arith}
+use Rattle.std.proofs.Common.{◌≡◌, inl, inr, ℕ, List, All, IsErrAnd, IfErr, IfOk, IfSome, OnOk, Result, Ok, Err, Option, None, Some, length, map, ◌<◌, ◌≤◌, refl, subst, sym, ◌∙◌, arith}
 use Rattle.std.proofs.lemmas.List.{length-map}
 use Rattle.peg_bytes.specs.Extent.{extent}
 use Rattle.peg_check.specs.Verdicts.{IsIllFormedBy, NamesRules}
 use Rattle.peg_check.specs.declared.fault.CheckFault.{CheckFault}
 use Rattle.peg_check.specs.declared.fault.CheckFault.TheVariants as check
+use Rattle.peg_code.specs.Compiled.{most_instructions}
+use Rattle.peg_code.specs.declared.fault.CodeFault.{CodeFault}
+use Rattle.peg_code.specs.declared.fault.CodeFault.TheVariants as code
 use Rattle.peg_ford.specs.Rules.{Rule, names}
 use Rattle.peg_ford.specs.WellFormed.{IsWellFormedGrammar}
 use Rattle.peg_ford.proofs.GrammarLemmas.{searches_from_IsGrammar}
@@ -19,14 +22,14 @@ use Rattle.peg_notation.specs.declared.fault.NotationFault.{NotationFault}
 use Rattle.peg_notation.specs.declared.fault.NotationFault.TheVariants as notation
 use Rattle.peg_notation.proofs.FirstRule.{IsReading-some}
 use Rattle.peg_tree.specs.Names.{name_at}
-use Rattle.peg_parser.specs.Accepts.{Accepts, IsRead, IsTaken}
+use Rattle.peg_parser.specs.Accepts.{Accepts, IsRead, IsTaken, code_size}
 use Rattle.peg_parser.specs.Cause.{Cause, FileTooLong, Syntax, TooNested, TooManyParts}
-use Rattle.peg_parser.specs.Cause.{EmptyLoop, LeftRecursion, reference}
-use Rattle.peg_parser.specs.Faults.{of_notation, of_grammar, of_check, TellsWhy, want_of_memory, of_cause, Means, cause_told}
+use Rattle.peg_parser.specs.Cause.{CodeTooLarge, EmptyLoop, LeftRecursion, reference}
+use Rattle.peg_parser.specs.Faults.{of_notation, of_grammar, of_check, of_code, TellsWhy, want_of_memory, of_cause, Means, cause_told}
 use Rattle.peg_parser.specs.Parser.{parser_rules}
 use Rattle.peg_parser.specs.Refusals.{IsNoGrammar, IsIllFormed, Refuses, Shows, file_too_long, not_in_the_notation}
 use Rattle.peg_parser.specs.Refusals.{too_nested, a_name_twice, a_name_missing, too_many_parts, empty_loop, left_recursion}
-use Rattle.peg_parser.specs.Refusals.{no_notation, no_grammar, ill_formed}
+use Rattle.peg_parser.specs.Refusals.{code_too_large, no_notation, no_grammar, ill_formed}
 use Rattle.peg_parser.specs.declared.parser.Parser.{Parser}
 use Rattle.peg_parser.specs.declared.refusal.Refusal.{Refusal}
 use Rattle.peg_parser.proofs.CheckLemmas.{loop-inside}
@@ -82,16 +85,26 @@ told-check file grammar (check.EmptyLoop number span) ill named read taken insid
     let rules = rules_in grammar in
     let lies = loop-inside (length file) rules number (extent span) inside ill.1 in
     of_cause (EmptyLoop (reference (name_at (names rules) number) (extent span))) refl
-    (inr (subst (λ (name : List ℕ). IsIllFormed file (EmptyLoop (reference name (extent span))))
-    (sym (name-numbered rules number named)) (empty_loop number (extent span) read taken ill.0 ill.1)))
+    (inr (inl (subst (λ (name : List ℕ). IsIllFormed file (EmptyLoop (reference name (extent span))))
+    (sym (name-numbered rules number named)) (empty_loop number (extent span) read taken ill.0 ill.1))))
     (omega (arith, lies.0, lies.1)) (named-too rules (check.EmptyLoop number span) named)
 told-check file grammar (check.LeftRecursion path) ill named read taken inside =
     let rules = rules_in grammar in
     of_cause (LeftRecursion (map (name_at (names rules)) path.items)) refl
-    (inr (subst (λ (l : List (List ℕ)). IsIllFormed file (LeftRecursion l))
-    (sym (names-of-path rules path.items named)) (left_recursion path.items read taken ill.0 ill.1 ill.2 ill.3))) tt
+    (inr (inl (subst (λ (l : List (List ℕ)). IsIllFormed file (LeftRecursion l))
+    (sym (names-of-path rules path.items named)) (left_recursion path.items read taken ill.0 ill.1 ill.2 ill.3)))) tt
     (named-too rules (check.LeftRecursion path) named)
 told-check file grammar check.Memory ill named read taken inside = want_of_memory refl
+
+-- ---- the code
+
+-- what the compiler's fault tells of a well-formed grammar
+pub told-code : (file : List ℕ) (rules : List Rule) (why : CodeFault) → IsRead file rules → IsTaken rules
+    → IsWellFormedGrammar rules → (why ≡ code.CodeTooLarge → most_instructions < code_size rules)
+    → TellsWhy (Refuses file) (length file) (of_code why)
+told-code file rules code.CodeTooLarge read taken formed over =
+    of_cause CodeTooLarge refl (inr (inr (code_too_large read taken formed (over refl)))) tt tt
+told-code file rules code.Memory read taken formed over = want_of_memory refl
 
 -- ---- what refusals mean
 
@@ -112,8 +125,9 @@ shows file cause (inl (a_name_missing {rules} read once missing)) =
     no_grammar rules read.reading.0 (λ whole. let both : None ≡ Some _ = sym (searches_from_IsGrammar rules whole).2
     ∙ missing in cc)
 shows file cause (inl (too_many_parts read whole over)) = tt
-shows file cause (inr (empty_loop {rules} number span read taken ill loop)) = ill_formed rules read.reading.0 ill
-shows file cause (inr (left_recursion {rules} path read taken ill none cycle once)) = ill_formed rules read.reading.0 ill
+shows file cause (inr (inl (empty_loop {rules} number span read taken ill loop))) = ill_formed rules read.reading.0 ill
+shows file cause (inr (inl (left_recursion {rules} path read taken ill none cycle once))) = ill_formed rules read.reading.0 ill
+shows file cause (inr (inr (code_too_large read taken formed over))) = tt
 
 pub told-means : (file : List ℕ) (size : ℕ) (why : Refusal) → TellsWhy (Refuses file) size why → Means file why
 told-means file size why (want_of_memory is) =
@@ -126,10 +140,11 @@ told-means file size why (of_cause cause tells holds starts named) =
 -- the parser of a file's grammar that is well-formed is that of an accepted file
 pub accepted-whole : (file : List ℕ) (grammar : Grammar) (result : Result Parser Refusal) → IsRead file (rules_in grammar)
     → IsTaken (rules_in grammar) → IfOk result (λ parser. parser_rules parser ≡ rules_in grammar)
-    → OnOk result (IsWellFormedGrammar (rules_in grammar)) → IfOk result (λ parser. Accepts file (parser_rules parser))
-accepted-whole file grammar (Ok parser) read taken same formed =
+    → OnOk result (IsWellFormedGrammar (rules_in grammar)) → OnOk result (code_size (rules_in grammar) ≤ most_instructions)
+    → IfOk result (λ parser. Accepts file (parser_rules parser))
+accepted-whole file grammar (Ok parser) read taken same formed small =
     subst (λ (rules : List Rule). Accepts file rules) (sym same)
-    record { read = read; taken = taken; well_formed = formed }
-accepted-whole file grammar (Err why) read taken same formed = tt
+    record { read = read; taken = taken; well_formed = formed; small = small }
+accepted-whole file grammar (Err why) read taken same formed small = tt
 
-pub ruleset accepting = (told-notation, told-grammar, told-check, told-early, told-means)
+pub ruleset accepting = (told-notation, told-grammar, told-check, told-code, told-early, told-means)

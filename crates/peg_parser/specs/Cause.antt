@@ -15,6 +15,7 @@ pub data Cause : Type 0 where
   TooManyParts : Cause
   EmptyLoop : (rule : Reference) → Cause
   LeftRecursion : (path : List (List ℕ)) → Cause
+  CodeTooLarge : Cause
   NoSuchStart : (name : List ℕ) → Cause
   StepLimit : Cause
   TooDeep : Cause

@@ -5,6 +5,8 @@ use Rattle.peg_bytes.specs.Extent.{extent}
 use Rattle.peg_check.specs.Verdicts.{NamesRules}
 use Rattle.peg_check.specs.declared.fault.CheckFault.{CheckFault}
 use Rattle.peg_check.specs.declared.fault.CheckFault.TheVariants as check
+use Rattle.peg_code.specs.declared.fault.CodeFault.{CodeFault}
+use Rattle.peg_code.specs.declared.fault.CodeFault.TheVariants as code
 use Rattle.peg_ford.specs.Rules.{names}
 use Rattle.peg_grammar.specs.GrammarRules.{rules_in}
 use Rattle.peg_grammar.specs.declared.fault.GrammarFault.{GrammarFault}
@@ -14,7 +16,7 @@ use Rattle.peg_notation.specs.declared.fault.NotationFault.{NotationFault}
 use Rattle.peg_notation.specs.declared.fault.NotationFault.TheVariants as notation
 use Rattle.peg_tree.specs.Names.{name_at}
 use Rattle.peg_parser.specs.Cause.{Cause, FileTooLong, Syntax, TooNested, NoRule, Duplicate, Undefined, TooManyParts}
-use Rattle.peg_parser.specs.Cause.{EmptyLoop, LeftRecursion, reference}
+use Rattle.peg_parser.specs.Cause.{EmptyLoop, LeftRecursion, CodeTooLarge, reference}
 use Rattle.peg_parser.specs.Refusals.{Shows}
 use Rattle.peg_parser.specs.declared.refusal.Refusal.{Refusal}
 use Rattle.peg_parser.specs.declared.refusal.Refusal.TheVariants as refusal
@@ -44,6 +46,7 @@ abbrev pub refusal_cause : (names : List (List ℕ)) → Refusal → Option Caus
 refusal_cause names (refusal.Notation why) = notation_cause why
 refusal_cause names (refusal.Grammar why) = grammar_cause why
 refusal_cause names (refusal.NotWellFormed why grammar) = check_cause names why
+refusal_cause names refusal.CodeTooLarge = Some CodeTooLarge
 refusal_cause names refusal.Memory = None
 
 -- the names that a refusal has for the rules that it numbers
@@ -85,6 +88,10 @@ of_grammar why = refusal.Grammar why
 abbrev pub of_check : CheckFault → Grammar → Refusal
 of_check check.Memory grammar = refusal.Memory
 of_check why grammar = refusal.NotWellFormed why grammar
+
+abbrev pub of_code : CodeFault → Refusal
+of_code code.CodeTooLarge = refusal.CodeTooLarge
+of_code code.Memory = refusal.Memory
 
 -- What a refusal tells is a cause of this kind, which starts in a file of this length, and it has names for the rules
 -- that it numbers; or memory ran out.

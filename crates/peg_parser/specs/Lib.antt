@@ -1,5 +1,9 @@
 pub use Rattle.peg_bytes.specs.Extent
 pub use Rattle.peg_check.specs.Verdicts
+pub use Rattle.peg_code.specs.Code
+pub use Rattle.peg_code.specs.Compiled
+pub use Rattle.peg_core.specs.CoreForm
+pub use Rattle.peg_core.specs.Layout
 pub use Rattle.peg_figure.specs.Notation
 pub use Rattle.peg_ford.specs.Form
 pub use Rattle.peg_ford.specs.Grammar

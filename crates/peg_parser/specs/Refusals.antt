@@ -10,9 +10,10 @@ use Rattle.peg_check.specs.Verdicts.{AllDiffer}
 use Rattle.peg_figure.specs.Notation.{IsInNotation, IsReading, most_file_bytes}
 use Rattle.peg_lexer.specs.Tokens.{IsLexingFault}
 use Rattle.peg_notation.specs.Reads.{most_open, NestsDeeper, IsTokenPlace, IsOneTooMany}
-use Rattle.peg_parser.specs.Accepts.{IsRead, IsTaken}
+use Rattle.peg_code.specs.Compiled.{most_instructions}
+use Rattle.peg_parser.specs.Accepts.{IsRead, IsTaken, code_size}
 use Rattle.peg_parser.specs.Cause.{Cause, FileTooLong, Syntax, TooNested, Duplicate, Undefined, TooManyParts, EmptyLoop}
-use Rattle.peg_parser.specs.Cause.{LeftRecursion, reference}
+use Rattle.peg_parser.specs.Cause.{LeftRecursion, CodeTooLarge, reference}
 
 -- The file isn't read, or the rules that it spells, of which there are some, are no grammar that is taken. A place of a
 -- file without syntax is its lexing fault, or else where a token starts or the end; a parenthesis is one too many where
@@ -39,9 +40,14 @@ pub data IsIllFormed (file : List ℕ) : Cause → Type 0 where
       → ¬ IsWellFormedGrammar rules → ((number : ℕ) (span : Extent) → ¬ IsEmptyLoop rules number span)
       → IsLeftCycle rules path → AllDiffer path → IsIllFormed file (LeftRecursion (map (name_of rules) path))
 
+-- the file spells a well-formed grammar whose code is too large
+pub data HasTooMuchCode (file : List ℕ) : Cause → Type 0 where
+  code_too_large : {rules : List Rule} → IsRead file rules → IsTaken rules → IsWellFormedGrammar rules
+      → most_instructions < code_size rules → HasTooMuchCode file CodeTooLarge
+
 -- why a file isn't accepted
 abbrev pub Refuses : List ℕ → Cause → Type 0
-Refuses file cause = IsNoGrammar file cause ⊎ IsIllFormed file cause
+Refuses file cause = IsNoGrammar file cause ⊎ (IsIllFormed file cause ⊎ HasTooMuchCode file cause)
 
 -- ---- what a refusal means
 
@@ -56,4 +62,5 @@ abbrev pub Shows : List ℕ → Cause → Type 0
 Shows file FileTooLong = Unit {0}
 Shows file (TooNested at) = Unit {0}
 Shows file TooManyParts = Unit {0}
+Shows file CodeTooLarge = Unit {0}
 Shows file other = IsWrong file

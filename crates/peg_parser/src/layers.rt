@@ -1,6 +1,8 @@
 //! The layers that a grammar file goes through: reading, its grammar, the check.
 ghost use Rattle.std.specs.Prelude.{◌≡◌, All, IfOk, IfErr, OnOk, length};
 ghost use Rattle.peg_check.specs.Verdicts.{IsIllFormedBy, NamesRules};
+ghost use Rattle.peg_core.specs.CoreForm.{core_bodies};
+ghost use Rattle.peg_core.specs.Layout.{bodies_of};
 ghost use Rattle.peg_ford.specs.Terminals.{extents_of_terminals};
 ghost use Rattle.peg_ford.specs.WellFormed.{IsWellFormedGrammar};
 ghost use Rattle.peg_grammar.specs.GrammarRules.{rules_in};
@@ -33,6 +35,7 @@ pub fn grammar_of(alloc: Global, file: &[u8]) -> Result<Grammar, Refusal>
 /// The checked core forms of a grammar, or why it isn't well-formed.
 pub(crate) fn checked_core(alloc: Global, grammar: &Grammar) -> Result<Checked, CheckFault>
     ensures well_formed { OnOk result (IsWellFormedGrammar (rules_in grammar.now)) }
+    ensures bodies { IfOk result (λ checked. bodies_of checked.core ≡ core_bodies (rules_in grammar.now)) }
     ensures spans { IfOk result (λ checked. checked.core.spans ≡ extents_of_terminals (rules_in grammar.now)) }
     ensures refused { IfErr result (IsIllFormedBy (rules_in grammar.now)) }
     ensures named { IfErr result (NamesRules (length (rules_in grammar.now))) }

@@ -2,6 +2,9 @@
 ghost use Rattle.std.specs.Prelude.{◌≡◌, ◌<◌, ◌≤◌, ◌↔◌, ℕ, List, All, None};
 ghost use Rattle.std.specs.Prelude.{length, slice_get, Some, IfOk, IfErr, IfSome, IsErrOf, OnOk};
 ghost use Rattle.peg_bytes.specs.Extent.{extent};
+ghost use Rattle.peg_core.specs.CoreForm.{core_bodies};
+ghost use Rattle.peg_code.specs.Code.{entries_of, program_code};
+ghost use Rattle.peg_code.specs.Compiled.{most_instructions};
 ghost use Rattle.peg_grammar.specs.GrammarRules.{rules_in};
 ghost use Rattle.peg_grammar.specs.Outcomes.{IsOutcome};
 ghost use Rattle.peg_ford.specs.Terminals.{extents_of_terminals};
@@ -11,19 +14,21 @@ use crate::layers::{checked_core, grammar_of};
 use crate::options::ParseOptions;
 use crate::refusal::Refusal;
 use peg_bytes::Span;
-use peg_check::Checked;
+use peg_code::{Program, compile};
 use peg_grammar::{Grammar, TotalFault, plain_total};
 use peg_tree::Outcome;
 use std::alloc::Global;
 use thiserror::Error;
 
-/// A grammar file that was accepted: its grammar is well-formed, and parses every text.
+/// A grammar file that was accepted: its grammar is well-formed, and parses every text. It is compiled.
 #[derive(Drop)]
 pub struct Parser {
     grammar: Grammar,
-    checked: Checked,
+    program: Program,
     pub ghost well_formed: { ∥ IsWellFormedGrammar (rules_in grammar) ∥₁ },
-    pub ghost spans: { checked.core.spans ≡ extents_of_terminals (rules_in grammar) },
+    pub ghost code: { program.code ≡ program_code (core_bodies (rules_in grammar)) },
+    pub ghost entries: { program.entries ≡ entries_of (core_bodies (rules_in grammar)) },
+    pub ghost spans: { program.core.spans ≡ extents_of_terminals (rules_in grammar) },
 }
 
 /// What a parse of a text gives.
@@ -64,7 +69,7 @@ impl From<TotalFault> for ParseFault {
 impl Parser {
     ghost use Rattle.peg_ford.specs.Rules.{name_of};
     ghost use Rattle.peg_notation.specs.Spans.{RuleLiesIn};
-    ghost use Rattle.peg_parser.specs.Accepts.{Accepts, IsRead, IsTaken};
+    ghost use Rattle.peg_parser.specs.Accepts.{Accepts, IsRead, IsTaken, code_size};
     ghost use Rattle.peg_parser.specs.Faults.{Means, TellsWhy};
     ghost use Rattle.peg_parser.specs.Fits.{Fits};
     ghost use Rattle.peg_parser.specs.Parser.{parser_rules, start_named};
@@ -73,8 +78,8 @@ impl Parser {
     ghost use Rattle.peg_ford.specs.Starts.{start_of};
 
     /// The parser of a grammar file, or why the file is refused: first as no file of the notation, then as no grammar,
-    /// then as none that is well-formed (Ford 2004, figure 1 and sections 3.1 and 3.6). What is all three is refused
-    /// for nothing but a stated limit or want of memory. Linear in the file, but for hashing and for sorting the rules
+    /// then as none that is well-formed (Ford 2004, figure 1 and sections 3.1 and 3.6), then as one whose code is too
+    /// large. What is the first three is refused for nothing but a stated limit or want of memory. Linear in the file, but for hashing and for sorting the rules
     /// that one rule meets first.
     #[tactic(auto, using(crate::proofs::AcceptLemmas::accepting))]
     pub fn from_file(alloc: Global, file: &[u8]) -> Result<Parser, Refusal>
@@ -88,15 +93,19 @@ impl Parser {
         }
     }
 
-    // The parser of a grammar, if that is well-formed.
+    // The parser of a grammar, if that is well-formed and its code isn't too large.
     fn of(alloc: Global, grammar: Grammar) -> Result<Parser, Refusal>
         ensures rules { IfOk result (λ parser. parser_rules parser ≡ rules_in grammar) }
         ensures well_formed { OnOk result (IsWellFormedGrammar (rules_in grammar)) }
+        ensures small { OnOk result (code_size (rules_in grammar) ≤ most_instructions) }
         ensures refused { (file : List ℕ) → IsRead file (rules_in grammar) → IsTaken (rules_in grammar)
             → All (RuleLiesIn (length file)) (rules_in grammar) → IfErr result (TellsWhy (Refuses file) (length file)) }
     {
         match checked_core(alloc, &grammar) {
-            Ok(checked) => Ok(Parser { grammar, checked }),
+            Ok(checked) => {
+                let program = compile(alloc, checked)?;
+                Ok(Parser { grammar, program })
+            }
             Err(fault) => Err(Refusal::of_check(fault, grammar)),
         }
     }
@@ -108,12 +117,21 @@ impl Parser {
         &self.grammar
     }
 
+    /// The code of the grammar that the file spells: each rule's expression by Ford's sugar (Ford 2004, section 3.2).
+    /// Takes constant time.
+    pub fn program(&self) -> &Program
+        ensures code { result.now.code ≡ program_code (core_bodies (parser_rules self.now)) }
+        ensures entries { result.now.entries ≡ entries_of (core_bodies (parser_rules self.now)) }
+    {
+        &self.program
+    }
+
     /// Where a terminal stands in the grammar file: its first byte and the one behind it. Takes constant time.
     pub fn terminal_span(&self, terminal: u32) -> Span
         requires { terminal < length (extents_of_terminals (parser_rules self.now)) }
         ensures { slice_get (extents_of_terminals (parser_rules self.now)) terminal ≡ Some (extent result) }
     {
-        self.checked.core().terminal_span(terminal)
+        self.program.terminal_span(terminal)
     }
 
     /// What a rule of the grammar makes of a text's front: success, consumed length, tree and furthest failure are

@@ -4,6 +4,7 @@ ghost use Rattle.peg_ford.specs.Rules.{names};
 ghost use Rattle.peg_grammar.specs.GrammarRules.{rules_in};
 
 use peg_check::CheckFault;
+use peg_code::CodeFault;
 use peg_grammar::{Grammar, GrammarFault};
 use peg_notation::NotationFault;
 use std::alloc::{AllocError, Global};
@@ -21,6 +22,9 @@ pub enum Refusal {
     /// The grammar isn't well-formed. It comes with the grammar, whose rules the fault numbers.
     #[error("the grammar isn't well-formed")]
     NotWellFormed(CheckFault, Grammar),
+    /// The grammar's code has more than 1,000,000 instructions.
+    #[error("the grammar's code is too large")]
+    CodeTooLarge,
     /// Memory ran out.
     #[error("out of memory")]
     Memory,
@@ -61,6 +65,20 @@ impl From<GrammarFault> for Refusal {
         match fault {
             GrammarFault::Memory => Refusal::Memory,
             other => Refusal::Grammar(other),
+        }
+    }
+}
+
+impl From<CodeFault> for Refusal {
+    ghost use Rattle.std.specs.Prelude.{◌≡◌};
+    ghost use Rattle.peg_parser.specs.Faults.{of_code};
+
+    ghost from_gives = { λ fault refusal. refusal ≡ of_code fault };
+
+    fn from(fault: CodeFault) -> Refusal {
+        match fault {
+            CodeFault::CodeTooLarge => Refusal::CodeTooLarge,
+            CodeFault::Memory => Refusal::Memory,
         }
     }
 }

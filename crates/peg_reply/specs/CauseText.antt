@@ -5,7 +5,7 @@ use Rattle.serde_json.specs.View.{items_of}
 use Rattle.peg_bytes.specs.Place.{line_at, column_at}
 use Rattle.peg_ford.specs.Form.{Reference}
 use Rattle.peg_parser.specs.Cause.{Cause, FileTooLong, Syntax, TooNested, NoRule, Duplicate, Undefined, TooManyParts}
-use Rattle.peg_parser.specs.Cause.{EmptyLoop, LeftRecursion, NoSuchStart, StepLimit, TooDeep, TextTooLong}
+use Rattle.peg_parser.specs.Cause.{EmptyLoop, LeftRecursion, CodeTooLarge, NoSuchStart, StepLimit, TooDeep, TextTooLong}
 
 -- the printed object of a refusal that has no more to tell
 abbrev pub bare_data : (refusal : List ℕ) → Data
@@ -58,6 +58,7 @@ cause_data file (Undefined name) = name_data file (codes "Undefined") name
 cause_data file TooManyParts = bare_data (codes "TooManyParts")
 cause_data file (EmptyLoop rule) = loop_data file rule
 cause_data file (LeftRecursion path) = path_data path
+cause_data file CodeTooLarge = bare_data (codes "CodeTooLarge")
 cause_data file (NoSuchStart name) = start_data name
 cause_data file StepLimit = bare_data (codes "StepLimit")
 cause_data file TooDeep = bare_data (codes "TooDeep")
@@ -74,6 +75,7 @@ cause_status (Undefined name) = 2
 cause_status TooManyParts = 2
 cause_status (EmptyLoop rule) = 2
 cause_status (LeftRecursion path) = 2
+cause_status CodeTooLarge = 2
 cause_status (NoSuchStart name) = 3
 cause_status StepLimit = 6
 cause_status TooDeep = 6

@@ -20,7 +20,9 @@ pub use Rattle.peg_tree.specs.Json
 pub use Rattle.peg_tree.specs.Names
 pub use Rattle.peg_tree.specs.Nodes
 pub use Rattle.peg_tree.specs.Trees
+pub mod ByteRuns
 pub mod CauseText
+pub mod CodeText
 pub mod FaultCauses
 pub mod Lines
 pub mod Parses

@@ -9,18 +9,21 @@ use Rattle.peg_bytes.specs.Extent.{Extent}
 use Rattle.peg_ford.specs.AbstractOutcomes.{Can}
 use Rattle.peg_tree.specs.Trees.{Trees}
 use Rattle.peg_tree.specs.Json.{nested_data, rows_data}
+use Rattle.peg_code.specs.Instructions.{Instruction}
 use Rattle.peg_parser.specs.Cause.{Cause}
 use Rattle.peg_reply.specs.CauseText.{cause_data, cause_status}
+use Rattle.peg_reply.specs.CodeText.{code_data}
 use Rattle.peg_reply.specs.TableText.{table_data}
 
 -- Why something is refused; or the rules' names and what their expressions can do; or how many rules a well-formed
--- grammar has; or the furthest failure, as a place of the text and the places of terminals in the grammar file; and
+-- grammar has; or its code and where that of each rule begins; or the furthest failure, as a place of the text and the places of terminals in the grammar file; and
 -- where the text matched, whether that is less than was asked for, whether the tree is told by its rows, where the
 -- match ends, the rules' names and the tree.
 pub data Reply : Type 0 where
   Refused : Cause → Reply
   Tabled : (names : List (List ℕ)) → (cans : List Can) → Reply
   Accepted : (rules : ℕ) → Reply
+  Coded : (code : List Instruction) → (entries : List ℕ) → Reply
   Failed : (far : ℕ) → (expected : List Extent) → Reply
   Matched : (partial rows : Bool) → (end far : ℕ) → (expected : List Extent) → (names : List (List ℕ)) → (tree : Trees)
       → Reply
@@ -30,6 +33,7 @@ abbrev pub status_of : Reply → ℕ
 status_of (Refused cause) = cause_status cause
 status_of (Tabled names cans) = 0
 status_of (Accepted rules) = 0
+status_of (Coded code entries) = 0
 status_of (Failed far expected) = 1
 status_of (Matched partial rows end far expected names tree) = if partial then 1 else 0
 
@@ -81,6 +85,7 @@ abbrev pub printed : (file : List ℕ) → Reply → Data
 printed file (Refused cause) = cause_data file cause
 printed file (Tabled names cans) = table_data names cans
 printed file (Accepted rules) = accepted_data rules
+printed file (Coded code entries) = code_data code entries
 printed file (Failed far expected) = failed_data far expected
 printed file (Matched partial rows end far expected names tree) =
     matched_data partial end far expected (tree_member rows names tree)

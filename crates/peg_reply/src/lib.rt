@@ -4,6 +4,8 @@
 
 mod answer_object;
 mod answer_text;
+mod byte_runs;
+mod code_text;
 mod fault;
 mod line;
 mod lines;
@@ -15,10 +17,11 @@ mod text;
 mod tree_form;
 
 pub use answer_text::answer_json;
+pub use code_text::code_json;
 pub use fault::Fault;
 pub use line::Line;
 pub use lines::{
-    accepted_line, answer_line, long_text_line, no_start_line, refused_line, table_line,
+    accepted_line, answer_line, code_line, long_text_line, no_start_line, refused_line, table_line,
 };
 pub use refusal_text::refusal_json;
 pub use status::Status;

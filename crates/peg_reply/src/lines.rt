@@ -14,12 +14,13 @@ ghost use Rattle.peg_reply.specs.CauseText.{cause_status};
 ghost use Rattle.peg_reply.specs.FaultCauses.{FaultNames, fault_cause};
 ghost use Rattle.peg_reply.specs.Lines.{IsLineOf, IsReply, line_bytes};
 ghost use Rattle.peg_reply.specs.Parses.{PrintsOutcome};
-ghost use Rattle.peg_reply.specs.Reply.{Accepted, Refused, Tabled, accepted_data};
+ghost use Rattle.peg_reply.specs.Reply.{Accepted, Coded, Refused, Tabled, accepted_data};
 ghost use Rattle.peg_reply.specs.Statuses.{code_of};
 ghost use Rattle.peg_reply.specs.TreeForms.{is_rows};
 ghost use Rattle.peg_check.specs.Exact.{cans_of};
 
 use crate::answer_text::{answer_status, answer_text};
+use crate::code_text::code_json;
 use crate::fault::Fault;
 use crate::line::Line;
 use crate::refusal_text::refusal_json;
@@ -27,6 +28,7 @@ use crate::status::Status;
 use crate::table_text::table_json;
 use crate::tree_form::TreeForm;
 use peg_check::Table;
+use peg_code::Program;
 use peg_core::Core;
 use peg_grammar::Grammar;
 use peg_parser::{Answer, Parser, Refusal};
@@ -77,6 +79,14 @@ pub fn table_line(
         (line_bytes line) (code_of line.status)) }
 {
     Ok(Line::new(table_json(alloc, grammar, core, table)?, Status::Done))
+}
+
+/// The line of a program's code.
+pub fn code_line(alloc: Global, program: &Program) -> Result<Line, AllocError>
+    ensures { (file : List ℕ) → IfOk result (λ line.
+        IsReply file (Coded program.now.code program.now.entries) (line_bytes line) (code_of line.status)) }
+{
+    Ok(Line::new(code_json(alloc, program)?, Status::Done))
 }
 
 /// The line that tells that a grammar of so many rules is accepted.

@@ -73,6 +73,7 @@ fn refusal_text(
         Refusal::Notation(fault) => notation_text(alloc, fault, file),
         Refusal::Grammar(fault) => grammar_text(alloc, fault, file),
         Refusal::NotWellFormed(fault, _) => check_text(alloc, fault, file, names),
+        Refusal::CodeTooLarge => bare_text(alloc, "CodeTooLarge"),
         Refusal::Memory => unreachable!(),
     }
 }

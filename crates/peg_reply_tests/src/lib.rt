@@ -4,6 +4,8 @@
 #[cfg(test)]
 mod answers;
 #[cfg(test)]
+mod code;
+#[cfg(test)]
 mod refusals;
 #[cfg(test)]
 mod tables;

@@ -189,25 +189,3 @@ fn two_hundred_parentheses_may_be_open(rt: HostRuntime) -> Result<(), Fail> {
     let line = "{\"at\":205,\"column\":206,\"line\":1,\"refusal\":\"TooNested\"}";
     refuses(&rt, alloc, &[(nested(alloc, 201)?.as_slice(), line)])
 }
-
-// A rule A of so many pluses round `'a'`, each but the innermost in parentheses.
-fn pluses(alloc: Global, count: usize) -> Result<Vec<u8>, AllocError> {
-    let mut file = Vec::from_slice(alloc, b"A <- ")?;
-    for _ in 1..count {
-        file.push(b'(')?;
-    }
-    file.extend_from_slice(b"'a'")?;
-    for _ in 1..count {
-        file.extend_from_slice(b"+)")?;
-    }
-    file.extend_from_slice(b"+\n")?;
-    Ok(file)
-}
-
-#[test]
-fn nested_pluses_are_accepted(rt: HostRuntime) -> Result<(), Fail> {
-    let alloc = rt.alloc();
-    let few = pluses(alloc, 18)?;
-    let many = pluses(alloc, 25)?;
-    accepts(&rt, alloc, &[(few.as_slice(), 1), (many.as_slice(), 1)])
-}

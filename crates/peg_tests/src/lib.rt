@@ -6,6 +6,8 @@ mod broken;
 #[cfg(test)]
 mod check;
 #[cfg(test)]
+mod code;
+#[cfg(test)]
 mod examples;
 #[cfg(test)]
 mod formats;

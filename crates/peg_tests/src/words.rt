@@ -70,6 +70,11 @@ fn commands_have_their_lines(rt: HostRuntime) -> Result<(), Fail> {
             0,
         ),
         ("check line", "{\"result\":\"accepted\",\"rules\":1}\n", 0),
+        (
+            "code line",
+            "{\"code\":[[\"end\"],[\"choice\",5],[\"test\",0,[[97,97]]],[\"call\",0],[\"commit\",6],[\"test\",1,[[98,98]]],[\"ret\"]],\"entries\":[1]}\n",
+            0,
+        ),
         ("check short", "{\"result\":\"accepted\",\"rules\":2}\n", 0),
         (
             "check aab",
@@ -126,6 +131,7 @@ fn files_that_are_not_opened_are_faults(rt: HostRuntime) -> Result<(), Fail> {
     let cases = [
         ("table nowhere", ProgramFault::File),
         ("check nowhere", ProgramFault::File),
+        ("code nowhere", ProgramFault::File),
         ("parse nowhere aab", ProgramFault::File),
         ("parse line nowhere", ProgramFault::File),
         ("parse aab nowhere", ProgramFault::File),

@@ -9,7 +9,7 @@ use Rattle.peg_reply.specs.Lines.{IsReply, line_bytes}
 use Rattle.peg_reply.specs.Reply.{Refused}
 use Rattle.peg_reply.specs.Statuses.{code_of}
 use Rattle.peg_reply.specs.declared.line.Line.{Line}
-use Rattle.peg_tool.specs.Replies.{IsPrinted, RepliesTo, no_grammar, ill_formed}
+use Rattle.peg_tool.specs.Replies.{IsPrinted, RepliesTo, no_grammar, ill_formed, too_large}
 use Rattle.peg_tool.specs.Task.{Task, Checks}
 
 -- what tells a cause of some kind can be told
@@ -21,7 +21,8 @@ told-tellable Kind size why (of_cause cause tells holds starts named) = of_cause
 pub refuses-replies : (file text : List ℕ) (task : Task) → Checks task → (cause : Cause) → Refuses file cause
     → RepliesTo file text task (Refused cause)
 refuses-replies file text task checks cause (inl none) = no_grammar none
-refuses-replies file text task checks cause (inr ill) = ill_formed checks ill
+refuses-replies file text task checks cause (inr (inl ill)) = ill_formed checks ill
+refuses-replies file text task checks cause (inr (inr large)) = too_large checks large
 
 -- a line that tells why, where that is a reply to a task
 told-printed : (Kind : Cause → Type 0) (file text : List ℕ) (size : ℕ) (task : Task) (why : Refusal) (line : List ℕ)

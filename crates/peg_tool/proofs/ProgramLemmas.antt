@@ -3,12 +3,12 @@ use Rattle.std.proofs.Common.{◌≡◌, ℕ, ◌==◌, Bool, true, false, inl, 
 use Rattle.std.proofs.Common.{refl, sym, ap, ◌∙◌, subst, if◌then◌else◌}
 use Rattle.std.specs.Io.KnownBytes.{Keeps}
 use Rattle.peg_parser.specs.Cause.{Cause, FileTooLong, Syntax, TooNested, NoRule, Duplicate, Undefined, TooManyParts}
-use Rattle.peg_parser.specs.Cause.{EmptyLoop, LeftRecursion, NoSuchStart, StepLimit, TooDeep, TextTooLong}
+use Rattle.peg_parser.specs.Cause.{EmptyLoop, LeftRecursion, CodeTooLarge, NoSuchStart, StepLimit, TooDeep, TextTooLong}
 use Rattle.peg_reply.specs.CauseText.{cause_status}
-use Rattle.peg_reply.specs.Reply.{Reply, Refused, Tabled, Accepted, Failed, Matched, status_of}
+use Rattle.peg_reply.specs.Reply.{Reply, Refused, Tabled, Accepted, Coded, Failed, Matched, status_of}
 use Rattle.peg_tool.specs.Leads.{Outcome, answer_of}
 use Rattle.peg_tool.specs.Replies.{IsPrinted}
-use Rattle.peg_tool.specs.Task.{Task, TableTask, CheckTask, ParseTask, IsParse, IsTextOf}
+use Rattle.peg_tool.specs.Task.{Task, TableTask, CheckTask, CodeTask, ParseTask, IsParse, IsTextOf}
 use Rattle.peg_tool.specs.Written.{Prints, PrintsInPart}
 use Rattle.peg_tool.specs.declared.ending.ToolFault.{ToolFault}
 use Rattle.peg_tool.specs.declared.ending.ToolFault.TheVariants as tool
@@ -26,6 +26,7 @@ cause-told (Undefined name) = refl
 cause-told TooManyParts = refl
 cause-told (EmptyLoop rule) = refl
 cause-told (LeftRecursion path) = refl
+cause-told CodeTooLarge = refl
 cause-told (NoSuchStart name) = refl
 cause-told StepLimit = refl
 cause-told TooDeep = refl
@@ -35,6 +36,7 @@ reply-told : (reply : Reply) → (status_of reply == 5) ≡ false
 reply-told (Refused cause) = cause-told cause
 reply-told (Tabled names cans) = refl
 reply-told (Accepted rules) = refl
+reply-told (Coded code entries) = refl
 reply-told (Failed far expected) = refl
 reply-told (Matched true rows end far expected names tree) = refl
 reply-told (Matched false rows end far expected names tree) = refl
@@ -61,12 +63,14 @@ pub takes_any : (task : Task) (file : List ℕ) (left : Option (List ℕ)) (byte
     → IsTextOf task file left bytes
 takes_any TableTask file left bytes other = tt
 takes_any CheckTask file left bytes other = tt
+takes_any CodeTask file left bytes other = tt
 takes_any (ParseTask start all rows) file left bytes other = absurd (other tt)
 
 pub takes_left : (task : Task) (file : List ℕ) (left : Option (List ℕ)) (bytes : List ℕ) → left ≡ Some bytes
     → IsTextOf task file left bytes
 takes_left TableTask file left bytes is = tt
 takes_left CheckTask file left bytes is = tt
+takes_left CodeTask file left bytes is = tt
 takes_left (ParseTask start all rows) file left bytes is = λ rules accepts. is
 
 -- a run of the tool over an opened file is an outcome of the program, for each text that it may be about

@@ -10,7 +10,7 @@ use Rattle.peg_io.specs.Split.{IsSplit, at_separator, without_separator}
 use Rattle.peg_io.proofs.SplitLaws.{TellsSplit, separator_in_front, separator_further, front_split}
 use Rattle.peg_parser.specs.Accepts.{Accepts}
 use Rattle.peg_parser.specs.Cause.{Cause, FileTooLong}
-use Rattle.peg_parser.specs.Refusals.{IsNoGrammar, IsIllFormed, file_too_long, not_in_the_notation, too_nested, a_name_twice}
+use Rattle.peg_parser.specs.Refusals.{IsNoGrammar, IsIllFormed, code_too_large, file_too_long, not_in_the_notation, too_nested, a_name_twice}
 use Rattle.peg_parser.specs.Refusals.{a_name_missing, too_many_parts, empty_loop, left_recursion}
 use Rattle.peg_grammar.specs.Limits.{most_text_bytes}
 use Rattle.peg_reply.specs.Lines.{IsLineOf, line_bytes}
@@ -19,8 +19,8 @@ use Rattle.peg_reply.specs.Reply.{Reply, Refused, printed_line, status_of}
 use Rattle.peg_reply.specs.Statuses.{code_of}
 use Rattle.peg_reply.specs.declared.line.Line.{Line}
 use Rattle.peg_tool.specs.Replies.{RepliesTo, IsPrinted, IsPrintedJoined, most_joined_bytes, no_grammar, tabled, ill_formed}
-use Rattle.peg_tool.specs.Replies.{accepted, parsed}
-use Rattle.peg_tool.specs.Task.{Task, TableTask, CheckTask, ParseTask, IsTextOf, default_task}
+use Rattle.peg_tool.specs.Replies.{too_large, accepted, coded, parsed}
+use Rattle.peg_tool.specs.Task.{Task, TableTask, CheckTask, CodeTask, ParseTask, IsTextOf, default_task}
 
 -- ---- texts over the limit
 
@@ -44,7 +44,9 @@ RepliesTo-longer : (file text more : List ℕ) (task : Task) (reply : Reply) →
 RepliesTo-longer file text more task reply long longer (no_grammar is) = no_grammar is
 RepliesTo-longer file text more task reply long longer (tabled read taken are) = tabled read taken are
 RepliesTo-longer file text more task reply long longer (ill_formed checks is) = ill_formed checks is
+RepliesTo-longer file text more task reply long longer (too_large checks is) = too_large checks is
 RepliesTo-longer file text more task reply long longer (accepted accepts) = accepted accepts
+RepliesTo-longer file text more task reply long longer (coded accepts) = coded accepts
 RepliesTo-longer file text more task reply long longer (parsed {rules} {start} {all} {rows} accepts is) =
     parsed accepts (ParsesTo-longer rules text more start all rows reply long longer is)
 
@@ -68,7 +70,10 @@ over-reply file text task reply long (ill_formed checks is) = by is
     by : {cause : Cause} → IsIllFormed file cause → Refused cause ≡ Refused FileTooLong
     by (empty_loop number span read taken ill loop) = absurd (omega (arith, long, read.within))
     by (left_recursion path read taken ill none cycle once) = absurd (omega (arith, long, read.within))
+over-reply file text task reply long (too_large checks (code_too_large read taken formed over)) =
+    absurd (omega (arith, long, read.within))
 over-reply file text task reply long (accepted accepts) = absurd (omega (arith, long, accepts.read.within))
+over-reply file text task reply long (coded accepts) = absurd (omega (arith, long, accepts.read.within))
 over-reply file text task reply long (parsed accepts is) = absurd (omega (arith, long, accepts.read.within))
 
 -- so what is printed of it is what is printed of any other file over it
@@ -209,6 +214,7 @@ any_text : (task : Task) (text : Option (List ℕ)) (file bytes : List ℕ) → 
     → IsTextOf task file text bytes
 any_text TableTask text file bytes long = tt
 any_text CheckTask text file bytes long = tt
+any_text CodeTask text file bytes long = tt
 any_text (ParseTask start all rows) text file bytes long =
     λ rules accepts. absurd (omega (arith, long, accepts.read.within))
 

@@ -1,11 +1,12 @@
 -- Describes code: the tasks of commands.
 use Rattle.peg_parser.specs.Parser.{start_named}
-use Rattle.peg_tool.specs.Task.{Task, TableTask, CheckTask, ParseTask}
+use Rattle.peg_tool.specs.Task.{Task, TableTask, CheckTask, CodeTask, ParseTask}
 use Rattle.peg_tool.specs.declared.command.Command.{Command}
-use Rattle.peg_tool.specs.declared.command.Command.TheVariants.{Table, Check, Parse}
+use Rattle.peg_tool.specs.declared.command.Command.TheVariants.{Table, Check, Code, Parse}
 
 -- the task of a command
 abbrev pub task_of : Command → Task
 task_of Table = TableTask
 task_of Check = CheckTask
+task_of Code = CodeTask
 task_of (Parse options all rows) = ParseTask (start_named options) all rows

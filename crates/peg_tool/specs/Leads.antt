@@ -5,9 +5,9 @@ use Rattle.std.specs.Io.KnownBytes.{Appends, Keeps}
 use Rattle.peg_io.specs.declared.opener.OpenFault.{OpenFault}
 use Rattle.peg_io.specs.declared.opener.OpenFault.TheVariants as opening
 use Rattle.peg_words.specs.declared.words.Words.{Words}
-use Rattle.peg_words.specs.declared.words.Words.TheVariants.{Joined, Help, Table, Check, Parse}
+use Rattle.peg_words.specs.declared.words.Words.TheVariants.{Joined, Help, Table, Check, Code, Parse}
 use Rattle.peg_tool.specs.Replies.{IsPrinted, IsPrintedJoined}
-use Rattle.peg_tool.specs.Task.{TableTask, CheckTask, ParseTask}
+use Rattle.peg_tool.specs.Task.{TableTask, CheckTask, CodeTask, ParseTask}
 use Rattle.peg_tool.specs.Written.{PrintsInPart}
 use Rattle.peg_tool.specs.declared.ending.ToolFault.{ToolFault}
 use Rattle.peg_tool.specs.declared.program.ProgramFault.{ProgramFault}
@@ -33,6 +33,8 @@ Leads (Table g) holds input old new result = IfSome (holds (string_bytes g)) (λ
     (text : List ℕ) → Outcome (IsPrinted TableTask file text) old new result)
 Leads (Check g) holds input old new result = IfSome (holds (string_bytes g)) (λ file.
     (text : List ℕ) → Outcome (IsPrinted CheckTask file text) old new result)
+Leads (Code g) holds input old new result = IfSome (holds (string_bytes g)) (λ file.
+    (text : List ℕ) → Outcome (IsPrinted CodeTask file text) old new result)
 Leads (Parse g t start memo all rows) holds input old new result =
     IfSome (holds (string_bytes g)) (λ file. IfSome (holds (string_bytes t)) (λ text.
     Outcome (IsPrinted (ParseTask (option_map string_bytes start) all rows) file text) old new result))

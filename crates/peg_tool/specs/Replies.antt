@@ -1,16 +1,18 @@
 -- What the tool replies to a task on a grammar file and a text: the first case that applies.
 use Rattle.std.specs.Prelude.{ℕ, Bool, List, Option, length}
+use Rattle.peg_code.specs.Code.{entries_of, program_code}
+use Rattle.peg_core.specs.CoreForm.{core_bodies}
 use Rattle.peg_ford.specs.AbstractOutcomes.{Can}
 use Rattle.peg_ford.specs.RuleOutcomes.{AreOutcomes}
 use Rattle.peg_ford.specs.Rules.{Rule, names}
 use Rattle.peg_parser.specs.Accepts.{IsRead, IsTaken, Accepts}
 use Rattle.peg_parser.specs.Cause.{Cause}
-use Rattle.peg_parser.specs.Refusals.{IsNoGrammar, IsIllFormed}
+use Rattle.peg_parser.specs.Refusals.{IsNoGrammar, IsIllFormed, HasTooMuchCode}
 use Rattle.peg_reply.specs.Lines.{IsLineOf}
 use Rattle.peg_reply.specs.Parses.{ParsesTo}
-use Rattle.peg_reply.specs.Reply.{Reply, Refused, Tabled, Accepted}
+use Rattle.peg_reply.specs.Reply.{Reply, Refused, Tabled, Accepted, Coded}
 use Rattle.peg_io.specs.Split.{IsSplit}
-use Rattle.peg_tool.specs.Task.{Task, TableTask, CheckTask, ParseTask, Checks, default_task}
+use Rattle.peg_tool.specs.Task.{Task, TableTask, CheckTask, CodeTask, ParseTask, Checks, default_task}
 
 -- the reply to a task on a grammar file and a text
 pub data RepliesTo (file text : List ℕ) : Task → Reply → Type 0 where
@@ -19,7 +21,11 @@ pub data RepliesTo (file text : List ℕ) : Task → Reply → Type 0 where
       → RepliesTo file text TableTask (Tabled (names rules) cans)
   ill_formed : {task : Task} {cause : Cause} → Checks task → IsIllFormed file cause
       → RepliesTo file text task (Refused cause)
+  too_large : {task : Task} {cause : Cause} → Checks task → HasTooMuchCode file cause
+      → RepliesTo file text task (Refused cause)
   accepted : {rules : List Rule} → Accepts file rules → RepliesTo file text CheckTask (Accepted (length rules))
+  coded : {rules : List Rule} → Accepts file rules → RepliesTo file text CodeTask
+      (Coded (program_code (core_bodies rules)) (entries_of (core_bodies rules)))
   parsed : {rules : List Rule} {start : Option (List ℕ)} {all rows : Bool} {reply : Reply} → Accepts file rules
       → ParsesTo rules text start all rows reply → RepliesTo file text (ParseTask start all rows) reply
 

@@ -6,14 +6,14 @@ ghost use Rattle.peg_parser.specs.Accepts.{IsRead, IsTaken};
 ghost use Rattle.peg_reply.specs.Statuses.{code_of};
 ghost use Rattle.peg_tool.specs.Judged.{Judges};
 ghost use Rattle.peg_tool.specs.Replies.{IsPrinted};
-ghost use Rattle.peg_tool.specs.Task.{CheckTask, TableTask};
+ghost use Rattle.peg_tool.specs.Task.{CheckTask, CodeTask, TableTask};
 ghost use Rattle.peg_reply.specs.Lines.{line_bytes};
 
 use peg_check::table_of;
 use peg_core::desugar;
 use peg_grammar::Grammar;
 use peg_parser::{Parser, Refusal, grammar_of};
-use peg_reply::{Line, accepted_line, refused_line, table_line};
+use peg_reply::{Line, accepted_line, code_line, refused_line, table_line};
 use std::alloc::{AllocError, Global};
 
 /// What comes of a grammar file that has to be accepted.
@@ -45,6 +45,18 @@ pub(crate) fn check_file(alloc: Global, file: &[u8]) -> Result<Line, AllocError>
 {
     match judge(alloc, file)? {
         Judged::Accepted(parser) => accepted_line(alloc, parser.grammar().rules()),
+        Judged::Refused(line) => Ok(line),
+    }
+}
+
+/// The line of the code of a grammar file, or that tells why it isn't accepted.
+pub(crate) fn code_file(alloc: Global, file: &[u8]) -> Result<Line, AllocError>
+    requires { length file.now ≤ most_place }
+    ensures { (text : List ℕ) → IfOk result
+        (λ line. IsPrinted CodeTask file.now text (line_bytes line) (code_of line.status)) }
+{
+    match judge(alloc, file)? {
+        Judged::Accepted(parser) => code_line(alloc, parser.program()),
         Judged::Refused(line) => Ok(line),
     }
 }

@@ -77,6 +77,7 @@ pub fn run_words<O: Opener, I: Source, W: Sink>(
         Words::Help { text } => help(output, text),
         Words::Table { g } => on_file(alloc, files, output, g, &Command::Table),
         Words::Check { g } => on_file(alloc, files, output, g, &Command::Check),
+        Words::Code { g } => on_file(alloc, files, output, g, &Command::Code),
         Words::Parse {
             g,
             t,

@@ -19,7 +19,7 @@ ghost use Rattle.peg_reply.specs.Lines.{line_bytes};
 
 use crate::command::Command;
 use crate::ending::{ToolFault, finish};
-use crate::judge::{Judged, check_file, judge, table_file};
+use crate::judge::{Judged, check_file, code_file, judge, table_file};
 use crate::parse::parse_line;
 use peg_grammar::MOST_TEXT_BYTES;
 use peg_io::{ReadFault, Sink, Source, read_up_to};
@@ -88,6 +88,7 @@ fn line_of<G: Source, T: Source>(
     match command {
         Command::Table => Ok(table_file(alloc, &file)?),
         Command::Check => Ok(check_file(alloc, &file)?),
+        Command::Code => Ok(code_file(alloc, &file)?),
         Command::Parse { options, all, rows } => {
             parsed(alloc, &file, text, options, *all, TreeForm::of(*rows))
         }

@@ -1,7 +1,7 @@
 -- What the words of a command line ask for.
 use Rattle.std.specs.Prelude.{◌≤◌}
 use Rattle.peg_words.specs.declared.words.Words.{Words}
-use Rattle.peg_words.specs.declared.words.Words.TheVariants.{Joined, Help, Table, Check, Parse}
+use Rattle.peg_words.specs.declared.words.Words.TheVariants.{Joined, Help, Table, Check, Code, Parse}
 
 -- they ask for a command, or for help; of a parse, for a memo of at most 1,000,000 results
 abbrev pub IsAsking : Words → Type 0
@@ -9,4 +9,5 @@ IsAsking Joined = ⊥
 IsAsking (Help text) = Unit {0}
 IsAsking (Table g) = Unit {0}
 IsAsking (Check g) = Unit {0}
+IsAsking (Code g) = Unit {0}
 IsAsking (Parse g t start memo all rows) = memo ≤ 1000000

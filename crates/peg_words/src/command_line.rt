@@ -9,6 +9,7 @@ pub(crate) const MOST_MEMO: u32 = 1_000_000;
 pub(crate) fn program<'a>(alloc: Global) -> Result<Command<'a>, AllocError> {
     let check = check(alloc)?;
     let table = table(alloc)?;
+    let code = code(alloc)?;
     let parse = parse(alloc)?;
     Command::new(alloc, "pegtool")
         .about("Reads grammars in the notation of Ford's parsing expression grammars (POPL 2004).")
@@ -18,6 +19,7 @@ pub(crate) fn program<'a>(alloc: Global) -> Result<Command<'a>, AllocError> {
         .disable_help_subcommand(true)
         .subcommand(check)?
         .subcommand(table)?
+        .subcommand(code)?
         .subcommand(parse)?
         .bin_name("pegtool")
 }
@@ -37,6 +39,14 @@ fn table<'a>(alloc: Global) -> Result<Command<'a>, AllocError> {
             "Tells of each rule whether it can succeed on nothing, succeed on something, and fail",
         )
         .after_help(TABLE_NOTES)
+        .arg(grammar_file(alloc))
+}
+
+// The command `code`.
+fn code<'a>(alloc: Global) -> Result<Command<'a>, AllocError> {
+    Command::new(alloc, "code")
+        .about("Prints the code of a grammar, which the parsing machine runs")
+        .after_help(CODE_NOTES)
         .arg(grammar_file(alloc))
 }
 
@@ -107,7 +117,7 @@ With no words: reads a grammar file, a line `%%` and a text from standard input,
 and prints what the grammar's first rule makes of the text.
 
 Prints one line of JSON, and ends with a status:
-  0  matched, accepted, the table printed, or help
+  0  matched, accepted, the table or the code printed, or help
   1  failed, or partial under --all
   2  the grammar is refused
   3  a fault of the command line, or the start is no rule
@@ -124,8 +134,8 @@ an a.";
 // What stands below the help of `check`.
 const CHECK_NOTES: &str = "\
 Prints one line of JSON: that the grammar is accepted, or why it is refused: its
-text, its names, a star or plus that would go round on nothing, or rules that
-use one another before anything is consumed.
+text, its names, a star or plus that would go round on nothing, rules that use
+one another before anything is consumed, or code that is too large.
 
 Status: 0 accepted; 2 refused; 3 a fault of the command line; 4 a file can't be
 opened or read, or the output can't be written; 5 out of memory.
@@ -142,6 +152,18 @@ line; 4 a file can't be opened or read, or the output can't be written; 5 out of
 memory.
 
 Example: pegtool table grammar.peg";
+
+// What stands below the help of `code`.
+const CODE_NOTES: &str = "\
+Prints one line of JSON: the instructions in order, each as a list of its name
+and what goes with it, and where the code of each rule begins. The code of a
+grammar has at most 1000000 instructions.
+
+Status: 0 the code printed; 2 the grammar is refused; 3 a fault of the command
+line; 4 a file can't be opened or read, or the output can't be written; 5 out of
+memory.
+
+Example: pegtool code grammar.peg";
 
 // What stands below the help of `parse`.
 const PARSE_NOTES: &str = "\

@@ -21,8 +21,12 @@ pub enum Words {
     Table {
         g: String,
     },
-    /// Whether the grammar file with this name is well-formed, and why not.
+    /// Whether the grammar file with this name is accepted, and why not.
     Check {
+        g: String,
+    },
+    /// The code of the grammar file with this name.
+    Code {
         g: String,
     },
     /// What a rule of the grammar file `g` makes of the text `t`. The rest is as in `Command::Parse`, `ParseOptions`.
@@ -80,6 +84,9 @@ fn command_of(alloc: Global, matches: &ArgMatches<'_>) -> Result<Words, WordsFau
 {
     match matches.subcommand() {
         Some(("check", words)) => Ok(Words::Check {
+            g: file_name(alloc, words, "G")?,
+        }),
+        Some(("code", words)) => Ok(Words::Code {
             g: file_name(alloc, words, "G")?,
         }),
         Some(("parse", words)) => parse_of(alloc, words),

@@ -33,6 +33,16 @@ fn table_has_its_file(rt: HostRuntime) -> Result<(), Fail> {
 }
 
 #[test]
+fn code_has_its_file(rt: HostRuntime) -> Result<(), Fail> {
+    let words = read(rt.alloc(), &["code", "x"]).map_err(|_| "code x")?;
+    match words {
+        Words::Code { g } => assert_eq!(rt; g.as_str(), "x"),
+        _ => assert!(rt; false),
+    }
+    Ok(())
+}
+
+#[test]
 fn check_has_its_file(rt: HostRuntime) -> Result<(), Fail> {
     let words = read(rt.alloc(), &["check", "x"]).map_err(|_| "check x")?;
     match words {
@@ -105,9 +115,7 @@ fn told(alloc: Global, words: &[&str]) -> Option<(bool, String)> {
     match read(alloc, words) {
         Ok(Words::Help { text }) => Some((true, text)),
         Err(WordsFault::Usage { text }) => Some((false, text)),
-        Ok(Words::Joined) => None,
-        Ok(Words::Table { .. } | Words::Check { .. } | Words::Parse { .. }) => None,
-        Err(WordsFault::Memory) => None,
+        Ok(_) | Err(WordsFault::Memory) => None,
     }
 }
 
@@ -128,6 +136,8 @@ fn help_is_told(rt: HostRuntime) -> Result<(), Fail> {
         ("check --help", "Example: pegtool check grammar.peg"),
         ("table --help", "Usage: pegtool table <G>"),
         ("table --help", "Example: pegtool table grammar.peg"),
+        ("code --help", "Usage: pegtool code <G>"),
+        ("code --help", "Example: pegtool code grammar.peg"),
         ("parse --help", "Usage: pegtool parse [OPTIONS] <G> <T>"),
         ("parse --help", "[default: 4096]"),
         (
@@ -157,6 +167,7 @@ fn what_is_no_command_line_is_refused(rt: HostRuntime) -> Result<(), Fail> {
         ("table", "<G>"),
         ("table x y", "unexpected argument 'y'"),
         ("table --all x", "unexpected argument '--all'"),
+        ("code", "<G>"),
         ("--start", "unexpected argument '--start'"),
         ("help", "unrecognized subcommand 'help'"),
         ("parse g", "<T>"),

@@ -8,7 +8,7 @@ use Rattle.peg_reply.specs.Statuses.{code_of}
 use Rattle.peg_reply.specs.TreeForms.{is_rows}
 use Rattle.peg_tool.specs.Commands.{task_of}
 use Rattle.peg_tool.specs.Replies.{IsPrinted}
-use Rattle.peg_tool.specs.Task.{Task, TableTask, CheckTask, ParseTask, IsTextOf}
+use Rattle.peg_tool.specs.Task.{Task, TableTask, CheckTask, CodeTask, ParseTask, IsTextOf}
 use Rattle.peg_tool.proofs.RunLemmas.{IsRightFor, line-held, told-held, held-unaccepted}
 use Rattle.peg_tool.proofs.tool.line_of.Goals as goal
 use Rattle.peg_reply.specs.Lines.{line_bytes}
@@ -43,6 +43,24 @@ returns-in-Check-clause-answer g c =
     λ bytes any. subst (λ (t : Task). IsPrinted t held.items bytes line (code_of told.status)) is
     (subst (λ (l : List ℕ). IsPrinted CheckTask l bytes line (code_of told.status)) c.deref-in-Check.ensures.value
     (c.in_ok-check_file-in-Check.ensures bytes)) in
+    let within : length held.items ≤ most_file_bytes + 1 = omega (arith, held.ok.0, c.in_ok-file.ensures.most) in
+    let at_end : length held.items < most_file_bytes + 1 → IsAtEnd (g.G.Source.left c.read_up_to.new.input) =
+    λ less. c.in_ok-file.ensures.end (omega (arith, held.ok.0)) in
+    line-held task text (g.G.Source.left c.args.grammar.now) (g.G.Source.left c.read_up_to.new.input) held.items line
+    (code_of told.status) c.in_ok-file.ensures.bytes within at_end right
+
+pub returns-in-Code-clause-answer : goal.returns-in-Code-clause-answer
+returns-in-Code-clause-answer g c =
+    let held = c.in_ok-file.file in
+    let told = c.in_ok-code_file-in-Code.field-0 in
+    let line = line_bytes told in
+    let text = g.T.Source.left c.args.text.now in
+    let task = task_of c.args.command.now in
+    let is : CodeTask ≡ task = sym (ap task_of c.in-Code.is) in
+    let right : IsRightFor task text held.items line (code_of told.status) =
+    λ bytes any. subst (λ (t : Task). IsPrinted t held.items bytes line (code_of told.status)) is
+    (subst (λ (l : List ℕ). IsPrinted CodeTask l bytes line (code_of told.status)) c.deref-in-Code.ensures.value
+    (c.in_ok-code_file-in-Code.ensures bytes)) in
     let within : length held.items ≤ most_file_bytes + 1 = omega (arith, held.ok.0, c.in_ok-file.ensures.most) in
     let at_end : length held.items < most_file_bytes + 1 → IsAtEnd (g.G.Source.left c.read_up_to.new.input) =
     λ less. c.in_ok-file.ensures.end (omega (arith, held.ok.0)) in

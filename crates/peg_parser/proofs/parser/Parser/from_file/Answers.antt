@@ -8,7 +8,7 @@ use Rattle.peg_parser.proofs.parser.Parser.from_file.Goals as goal
 pub returns-in-Ok-clause-accepted : goal.returns-in-Ok-clause-accepted
 returns-in-Ok-clause-accepted c =
     accepted-whole c.args.file.now c.in-Ok.grammar c.of.result c.in-Ok.ensures.read c.in-Ok.ensures.taken
-    c.of.ensures.rules c.of.ensures.well_formed
+    c.of.ensures.rules c.of.ensures.well_formed c.of.ensures.small
 
 pub returns-in-Ok-clause-wrong : goal.returns-in-Ok-clause-wrong
 returns-in-Ok-clause-wrong c =

@@ -1,15 +1,28 @@
-use Rattle.std.proofs.Common.{length, subst, sym}
-use Rattle.peg_parser.specs.Faults.{TellsWhy}
+use Rattle.std.proofs.Common.{◌<◌, Err, ap, length, subst, sym}
+use Rattle.peg_code.specs.Code.{program_code}
+use Rattle.peg_code.specs.Compiled.{most_instructions}
+use Rattle.peg_grammar.specs.GrammarRules.{rules_in}
+use Rattle.peg_parser.specs.Faults.{TellsWhy, of_code}
 use Rattle.peg_parser.specs.Refusals.{Refuses}
 use Rattle.peg_parser.specs.declared.refusal.Refusal.{Refusal}
-use Rattle.peg_parser.proofs.AcceptLemmas.{told-check}
+use Rattle.peg_parser.proofs.AcceptLemmas.{told-check, told-code, told-error}
 use Rattle.peg_parser.proofs.parser.Parser.of.Goals as goal
 
 pub returns-in-Err : goal.returns-in-Err
 returns-in-Err c = record {
   rules = tt;
   well_formed = tt;
+  small = tt;
   refused = λ file read taken inside.
       subst (λ (why : Refusal). TellsWhy (Refuses file) (length file) why) (sym c.of_check.ensures)
       (told-check file c.args.grammar c.in-Err.fault c.in-Err.ensures.refused c.in-Err.ensures.named read taken inside);
 }
+
+pub returns-in_err-program-in-Ok-clause-refused : goal.returns-in_err-program-in-Ok-clause-refused
+returns-in_err-program-in-Ok-clause-refused c file read taken inside =
+    let rules = rules_in c.args.grammar in
+    let why = c.in_err-program-in-Ok.field-0.0 in
+    told-error (Refuses file) (length file) c.from_residual.result (of_code why) c.from_residual.ensures.1
+    (told-code file rules why read taken c.in-Ok.ensures.well_formed
+    (λ large. subst (λ bodies. most_instructions < length (program_code bodies)) c.in-Ok.ensures.bodies
+    (c.in_err-program-in-Ok.ensures.too_large (ap Err large))))
