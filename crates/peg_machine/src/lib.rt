@@ -1,0 +1,4 @@
+//! The parsing machine: the code of a checked grammar, run on a text.
+#![tactic(auto)]
+
+pub mod laws;
