@@ -1,1 +1,6 @@
 mod CodeLemmas
+mod RecordRuns
+mod RunRules
+mod StepRounds
+mod StepsOfRecords
+mod WorkLemmas

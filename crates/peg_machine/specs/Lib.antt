@@ -1,3 +1,4 @@
+pub mod Local
 pub mod Stands
 pub mod StepExamples
 pub mod Steps

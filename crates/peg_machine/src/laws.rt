@@ -1,15 +1,56 @@
 //! Laws of the definitions: what holds for every grammar and text. Each function does nothing; its contract is the law.
-ghost use Rattle.std.specs.Prelude.{◌≡◌, codes, length, List, ℕ, Some};
+ghost use Rattle.std.specs.Prelude.{◌≡◌, ◌+◌, codes, length, List, ℕ, suc, Some};
 ghost use Rattle.peg_core.specs.CoreExamples.{nested_core};
 ghost use Rattle.peg_core.specs.CoreForm.{CoreForm};
+ghost use Rattle.peg_core.specs.CoreRecord.{core_record_in};
+ghost use Rattle.peg_ford.specs.Record.{Record};
 ghost use Rattle.peg_code.specs.Code.{size, code_of, program_code, entries_of};
-ghost use Rattle.peg_machine.specs.Stands.{Enters};
+ghost use Rattle.peg_machine.specs.Local.{Answers, Ends, Runs, Setting};
+ghost use Rattle.peg_machine.specs.Stands.{Enters, IsEntry, Stands};
 ghost use Rattle.peg_machine.specs.StepExamples.{repeated_prefix_core};
-ghost use Rattle.peg_machine.specs.Steps.{own_steps_of_pair_in, plain_steps_of_start_in};
+ghost use Rattle.peg_machine.specs.Steps.{Counted, own_steps_of_pair_in, plain_steps_of_start_in, steps_in};
+ghost use Rattle.peg_machine.specs.Steps.{steps_of_body};
 
 /// A form's code has as many instructions as its size.
 pub fn the_code_of_a_form_has_its_size()
     ensures { (form : CoreForm) (pc : ℕ) → length (code_of form pc) ≡ size form }
+{}
+
+/// A form that takes so many steps in n takes as many in n + 1.
+pub fn counts_of_steps_stay()
+    ensures { (counted : Counted) (bodies : List CoreForm) (text : List ℕ) (n : ℕ) (form : CoreForm) (place steps : ℕ)
+        → steps_in counted bodies text n form place ≡ Some steps
+        → steps_in counted bodies text (suc n) form place ≡ Some steps }
+{}
+
+/// A form that has a record in n has its steps in n.
+pub fn steps_are_counted_where_a_record_is()
+    ensures { (counted : Counted) (bodies : List CoreForm) (text : List ℕ) (n : ℕ) (form : CoreForm) (place : ℕ)
+        (r : Record) → core_record_in bodies text n form place ≡ Some r
+        → (steps : ℕ) × (steps_in counted bodies text n form place ≡ Some steps) }
+{}
+
+/// The machine does with the code of a form what the form's record says, where its calls are answered by the records of
+/// their uses: from the form's first instruction it runs to behind its last, with the rows of the record's trees put
+/// behind those before, or fails, with exactly the record's failed tests in their order and its uses, in exactly the
+/// steps that are counted for it.
+pub fn code_runs_as_its_record_says()
+    ensures { (counted : Counted) (bodies : List CoreForm) (setting : Setting) (n : ℕ) (form : CoreForm)
+        (pc place steps : ℕ) (r : Record) → Answers counted bodies n setting → Stands setting.code pc form
+        → core_record_in bodies setting.text n form place ≡ Some r
+        → steps_in counted bodies setting.text n form place ≡ Some steps
+        → Runs setting pc (pc + size form) place r steps }
+{}
+
+/// So the body of a rule, from the rule's entry, ends as its record says: it has given up, or it has returned at the
+/// record's end with the rows of its trees behind those before, in the steps that are counted for it and one more where
+/// it matched.
+pub fn a_body_ends_as_its_record_says()
+    ensures { (counted : Counted) (bodies : List CoreForm) (setting : Setting) (n : ℕ) (body : CoreForm)
+        (entry place steps : ℕ) (r : Record) → Answers counted bodies n setting → IsEntry setting.code entry body
+        → core_record_in bodies setting.text n body place ≡ Some r
+        → steps_of_body (Some r) (steps_in counted bodies setting.text n body place) ≡ Some steps
+        → Ends setting entry place r steps }
 {}
 
 /// In the code of a grammar's rules each rule's body stands at the rule's entry, with the end of the rule behind it,
