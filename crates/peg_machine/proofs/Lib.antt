@@ -1,6 +1,13 @@
+mod Accounts
 mod CodeLemmas
+mod FirstRecords
+mod LocalRounds
+mod NotedLemmas
+mod Promises
 mod RecordRuns
+mod RowClosing
 mod RunRules
+mod Stacks
 mod StepRounds
 mod StepsOfRecords
 mod WorkLemmas

@@ -22,7 +22,7 @@ use Rattle.peg_machine.proofs.RunRules.{commits, fails_twice, body_gives_up, bod
 -- ---- what there is where something comes of it
 
 -- the steps of a part that has some, and of what comes next
-counted_parts : (r : Record) (steps : Option ℕ) (next : Recognition → Option ℕ) (n : ℕ)
+pub counted_parts : (r : Record) (steps : Option ℕ) (next : Recognition → Option ℕ) (n : ℕ)
     → steps_of_part (Some r) steps next ≡ Some n
     → (k : ℕ) × (m : ℕ) × (steps ≡ Some k) × (next r.result ≡ Some m) × (k + m ≡ n)
 counted_parts r None next n is = cc

@@ -1,4 +1,6 @@
 pub mod Local
+pub mod Noted
+pub mod Running
 pub mod Stands
 pub mod StepExamples
 pub mod Steps

@@ -1,11 +1,12 @@
 //! Laws of the definitions: what holds for every grammar and text. Each function does nothing; its contract is the law.
-ghost use Rattle.std.specs.Prelude.{◌≡◌, ◌+◌, codes, length, List, ℕ, suc, Some};
+ghost use Rattle.std.specs.Prelude.{◌≡◌, ◌+◌, ◌≤◌, codes, length, List, ℕ, suc, Some};
 ghost use Rattle.peg_core.specs.CoreExamples.{nested_core};
 ghost use Rattle.peg_core.specs.CoreForm.{CoreForm};
 ghost use Rattle.peg_core.specs.CoreRecord.{core_record_in};
 ghost use Rattle.peg_ford.specs.Record.{Record};
 ghost use Rattle.peg_code.specs.Code.{size, code_of, program_code, entries_of};
 ghost use Rattle.peg_machine.specs.Local.{Answers, Ends, Runs, Setting};
+ghost use Rattle.peg_machine.specs.Running.{IsFirstRecord};
 ghost use Rattle.peg_machine.specs.Stands.{Enters, IsEntry, Stands};
 ghost use Rattle.peg_machine.specs.StepExamples.{repeated_prefix_core};
 ghost use Rattle.peg_machine.specs.Steps.{Counted, own_steps_of_pair_in, plain_steps_of_start_in, steps_in};
@@ -66,4 +67,11 @@ pub fn the_counts_of_steps_agree_with_hand_worked_grammars()
     ensures repeated_prefix { plain_steps_of_start_in repeated_prefix_core (codes "(a)y") 16 0 ≡ Some 25 }
     ensures outer_own { own_steps_of_pair_in repeated_prefix_core (codes "(a)y") 16 0 0 ≡ Some 12 }
     ensures inner_own { own_steps_of_pair_in repeated_prefix_core (codes "(a)y") 16 0 1 ≡ Some 6 }
+{}
+
+/// A form that has a record has a first one: in a number with none in fewer.
+pub fn each_record_has_a_first_number()
+    ensures { (bodies : List CoreForm) (text : List ℕ) (form : CoreForm) (place : ℕ) (n : ℕ) (r : Record)
+        → core_record_in bodies text n form place ≡ Some r
+        → (m : ℕ) × (m ≤ n) × IsFirstRecord bodies text m form place r }
 {}

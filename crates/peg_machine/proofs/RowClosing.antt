@@ -1,0 +1,37 @@
+-- Closing the row of a use in the rows makes them end in the use's tree.
+use Rattle.std.proofs.Common.{◌≡◌, ℕ, ◌+◌, ◌-◌, List, [], ◌∷◌, ◌++◌, length, set, refl, sym, ◌∙◌, ap, arith}
+use Rattle.std.proofs.Common.{length-append, append_assoc, append-nil}
+use Rattle.std.proofs.Math.Seq.{set-append_seam}
+use Rattle.peg_tree.specs.Rows.{Row, rows_of}
+use Rattle.peg_tree.specs.Trees.{Trees, NoTrees, Tree, nodes}
+use Rattle.peg_ford.specs.Record.{Use}
+use Rattle.peg_machine.specs.Running.{open_row, opened, closed, close_row}
+
+-- there are as many rows as nodes
+length-rows_of : (trees : Trees) → length (rows_of trees) ≡ nodes trees
+length-rows_of NoTrees = refl
+length-rows_of (Tree rule start end children rest) =
+    omega (arith, length-append (rows_of children) (rows_of rest), length-rows_of children, length-rows_of rest)
+
+-- the row of a use stands at the number of those before it; closed there, it is the row of the use's tree
+pub close_row-closes : (before : List Row) (pair : Use) (end : ℕ) (trees : Trees)
+    → close_row (length before) (opened before pair ++ rows_of trees) pair end ≡ closed before pair end trees
+close_row-closes before pair end trees =
+    let all = append_assoc before (open_row pair ∷ []) (rows_of trees) in
+    let count = ap length all ∙ length-append before (open_row pair ∷ rows_of trees) in
+    let nodes_are = length-rows_of trees in
+    let size : length (opened before pair ++ rows_of trees) - length before ≡ 1 + nodes trees = omega arith in
+    ap
+    (λ (n : ℕ). set (opened before pair ++ rows_of trees) (length before)
+    (record { rule = pair.rule; start = pair.place; end = end; size = n }))
+    size
+    ∙ ap
+    (λ (rows : List Row). set rows (length before)
+    (record { rule = pair.rule; start = pair.place; end = end; size = 1 + nodes trees }))
+    all
+    ∙ set-append_seam before (open_row pair) (rows_of trees)
+    (record { rule = pair.rule; start = pair.place; end = end; size = 1 + nodes trees })
+    ∙ ap
+    (λ (rows : List Row).
+    before ++ record { rule = pair.rule; start = pair.place; end = end; size = 1 + nodes trees } ∷ rows)
+    (sym (append-nil (rows_of trees)))
