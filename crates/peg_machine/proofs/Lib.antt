@@ -1,6 +1,7 @@
 mod Accounts
 mod CodeLemmas
 mod FirstRecords
+mod InstructionEvents
 mod LocalRounds
 mod NotedLemmas
 mod Promises
@@ -10,4 +11,5 @@ mod RunRules
 mod Stacks
 mod StepRounds
 mod StepsOfRecords
+mod UnderwayLemmas
 mod WorkLemmas

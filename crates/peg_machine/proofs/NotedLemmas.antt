@@ -9,11 +9,11 @@ use Rattle.peg_machine.specs.Running.{Job, Promise, Task, worked, resumed, begun
 use Rattle.peg_machine.specs.Noted.{IsNoted, TaskNoted}
 
 -- nothing is in an empty list
-not_in_none : {X : Type 0} (x : X) → Contains {X = X} [] x → ⊥
+pub not_in_none : {X : Type 0} (x : X) → Contains {X = X} [] x → ⊥
 not_in_none x has = let within : has.0 < 0 = has.1 in omega arith
 
 -- one of a list with one more is that one, or one of the list
-head_or_tail : {X : Type 0} (first : X) (rest : List X) (x : X) → Contains (first ∷ rest) x → (first ≡ x) ⊎ Contains rest x
+pub head_or_tail : {X : Type 0} (first : X) (rest : List X) (x : X) → Contains (first ∷ rest) x → (first ≡ x) ⊎ Contains rest x
 head_or_tail {X} first rest x has =
     elim (Contains-append_cases (first ∷ []) rest x has) as (λ _. (first ≡ x) ⊎ Contains rest x) [
       | inl one ↦ inl (only one)

@@ -4,3 +4,4 @@ pub mod Running
 pub mod Stands
 pub mod StepExamples
 pub mod Steps
+pub mod Underway

@@ -83,6 +83,7 @@ pub fn a_use_returns_with_its_tree()
         (promised : Promised job pc place rows task (caller ∷ older)) → slice_get job.code pc ≡ Some Ret
         → (trees : Trees) × (task.ways ≡ []) × (task.to_come ≡ only_steps 1)
         × (opened task.frame.before task.frame.pair ++ rows_of trees ≡ rows)
+        × (promised.0.answer.result ≡ Matched place trees)
         × Promised job task.frame.back place (closed task.frame.before task.frame.pair place trees)
         (resumed job caller task.frame.pair promised.0.answer) older }
     ensures start { (job : Job) (pc place : ℕ) (rows : List Row) (task : Task)
