@@ -1,4 +1,4 @@
-mod Accounts
+mod AccountLemmas
 mod CodeLemmas
 mod FirstRecords
 mod InstructionEvents
@@ -11,5 +11,6 @@ mod RunRules
 mod Stacks
 mod StepRounds
 mod StepsOfRecords
+mod TasksTogether
 mod UnderwayLemmas
 mod WorkLemmas

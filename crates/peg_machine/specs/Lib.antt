@@ -1,3 +1,4 @@
+pub mod Accounts
 pub mod Local
 pub mod Noted
 pub mod Running

@@ -1,6 +1,6 @@
 //! Laws of a run that is under way: what each event makes of what is known of it. So a loop that carries out one
 //! instruction after the other keeps this. Each function does nothing; its contract is the law.
-ghost use Rattle.std.specs.Prelude.{◌≡◌, ◌≢◌, ◌+◌, ◌∷◌, ◌⊎◌, [], Contains, drop, slice_get, List, ℕ};
+ghost use Rattle.std.specs.Prelude.{◌≡◌, ◌≢◌, ◌+◌, ◌<◌, ◌∷◌, ◌⊎◌, [], All, Contains, drop, slice_get, List, ℕ};
 ghost use Rattle.std.specs.Prelude.{None, Some};
 ghost use Rattle.peg_bytes.specs.ByteSet.{Bytes, has};
 ghost use Rattle.peg_code.specs.Instructions.{Call, Choice, Commit, End, FailTwice, Ret};
@@ -26,7 +26,7 @@ pub fn a_run_begins()
         (record { frame = record { pair = start; back = 0; before = [] }; ways = [] } ∷ []) }
 {}
 
-/// A run that is under way is not stuck: there is an instruction, and it is not the end of the run.
+/// A run that is under way is not stuck: there is an instruction, it is not the end of the run, and a step is to come.
 pub fn a_run_goes_on()
     ensures there { (job : Job) (start : Use) (answer : Record) (tests : List Test) (uses : List Use)
         (to_come pc place : ℕ) (rows : List Row) (active : Active) (below : List Active)
@@ -36,6 +36,10 @@ pub fn a_run_goes_on()
         (to_come pc place : ℕ) (rows : List Row) (active : Active) (below : List Active)
         → Underway job start answer tests uses to_come (RunsAt pc place rows) (active ∷ below)
         → slice_get job.code pc ≢ Some End }
+    ensures to_come { (job : Job) (start : Use) (answer : Record) (tests : List Test) (uses : List Use)
+        (to_come pc place : ℕ) (rows : List Row) (active : Active) (below : List Active)
+        → Underway job start answer tests uses to_come (RunsAt pc place rows) (active ∷ below)
+        → 0 < to_come }
 {}
 
 /// A byte passes its test, or the failed test is noted and the use fails: either takes one step.
@@ -164,9 +168,27 @@ pub fn a_run_ends_as_its_record_says()
         (to_come pc place : ℕ) (rows : List Row) (active : Active)
         → Underway job start answer tests uses to_come (RunsAt pc place rows) (active ∷ [])
         → slice_get job.code pc ≡ Some Ret
-        → RunMatched job start answer tests uses to_come place rows active }
+        → RunMatched start answer tests uses to_come place rows active }
     ensures fails { (job : Job) (start : Use) (answer : Record) (tests : List Test) (uses : List Use)
         (to_come : ℕ) (active : Active)
         → Underway job start answer tests uses to_come Fails (active ∷ []) → active.ways ≡ []
-        → RunFailed answer tests uses to_come }
+        → RunFailed start answer tests uses to_come }
+{}
+
+/// What a memo may keep it may keep from then on, and of one use it is one record.
+pub fn what_may_be_kept_stays()
+    ensures stays { (job : Job) (tests more_tests : List Test) (uses more_uses : List Use) (pair : Use) (r : Record)
+        → ((test : Test) → Contains tests test → Contains more_tests test)
+        → ((other : Use) → Contains uses other → Contains more_uses other)
+        → CanBeKept job tests uses pair r → CanBeKept job more_tests more_uses pair r }
+    ensures one { (job : Job) (tests : List Test) (uses : List Use) (pair : Use) (r s : Record)
+        → CanBeKept job tests uses pair r → CanBeKept job tests uses pair s → r ≡ s }
+{}
+
+/// No use is under way twice: none below the newest is of its pair.
+pub fn no_pair_is_on_the_stack_twice()
+    ensures { (job : Job) (start : Use) (answer : Record) (tests : List Test) (uses : List Use) (to_come : ℕ)
+        (doing : Doing) (active : Active) (below : List Active)
+        → Underway job start answer tests uses to_come doing (active ∷ below)
+        → All (λ (other : Active). other.frame.pair ≢ active.frame.pair) below }
 {}

@@ -1,4 +1,4 @@
-use Rattle.peg_machine.proofs.Accounts.{within_the_start}
+use Rattle.peg_machine.proofs.TasksTogether.{within_the_start}
 use Rattle.peg_machine.proofs.run_laws.each_task_is_part_of_the_start.Goals as goal
 
 pub returns : goal.returns

@@ -1,4 +1,4 @@
-use Rattle.peg_machine.proofs.Accounts.{no_pair_twice}
+use Rattle.peg_machine.proofs.TasksTogether.{no_pair_twice}
 use Rattle.peg_machine.proofs.run_laws.no_use_is_under_way_twice.Goals as goal
 
 pub returns : goal.returns
