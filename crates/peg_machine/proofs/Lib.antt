@@ -1,5 +1,7 @@
+mod AccountEvents
 mod AccountLemmas
 mod CodeLemmas
+mod EntryLemmas
 mod FirstRecords
 mod InstructionEvents
 mod LocalRounds

@@ -1,4 +1,5 @@
 pub mod Accounts
+pub mod Entries
 pub mod Local
 pub mod Noted
 pub mod Running

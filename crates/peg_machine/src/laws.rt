@@ -60,8 +60,8 @@ pub fn each_rule_stands_at_its_entry()
     ensures { (bodies : List CoreForm) → Enters (program_code bodies) (entries_of bodies) bodies }
 {}
 
-/// The counts of steps on two grammars that were worked by hand: plain steps from the start, and own steps of pairs of a
-/// rule and a place.
+/// The counts of steps on two grammars that were worked by hand: plain steps from the start, and own steps of pairs of
+/// a rule and a place.
 pub fn the_counts_of_steps_agree_with_hand_worked_grammars()
     ensures nested { plain_steps_of_start_in nested_core (codes "aab") 16 0 ≡ Some 15 }
     ensures repeated_prefix { plain_steps_of_start_in repeated_prefix_core (codes "(a)y") 16 0 ≡ Some 25 }

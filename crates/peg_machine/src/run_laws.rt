@@ -35,12 +35,13 @@ pub fn what_is_done_is_done_of_the_promise()
         × Keeps job (worked task work rest) (λ n. later (local (setting_of job task.rounds) n)) }
     ensures rounds { (job : Job) (pc place : ℕ) (rows : List Row) (task : Task) → Running job pc place rows task
         → (k : ℕ) (work : Work) (later : ℕ → Option Finish)
-        → ((left : ℕ) → local (setting_of job task.rounds) (k + left) pc place rows task.ways ≡ working work (later left))
+        → ((left : ℕ) → local (setting_of job task.rounds) (k + left) pc place rows task.ways
+        ≡ working work (later left))
         → (rest : Work) × (task.to_come ≡ both work rest) × Keeps job (worked task work rest) later }
 {}
 
-/// A run is never stuck: where a task runs there is an instruction, and not the end of the run; a way back that is to be
-/// taken away is there; and at the end of its rule a task has no way back.
+/// A run is never stuck: where a task runs there is an instruction, and not the end of the run; and a way back that is
+/// to be taken away is there.
 pub fn a_run_is_never_stuck()
     ensures there { (job : Job) (pc place : ℕ) (rows : List Row) (task : Task) → Running job pc place rows task
         → slice_get job.code pc ≢ None }
