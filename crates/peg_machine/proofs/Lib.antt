@@ -6,6 +6,7 @@ mod FirstRecords
 mod InstructionEvents
 mod LocalRounds
 mod NotedLemmas
+mod PackratLemmas
 mod Promises
 mod RecordRuns
 mod RowClosing

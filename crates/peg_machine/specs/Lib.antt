@@ -2,6 +2,7 @@ pub mod Accounts
 pub mod Entries
 pub mod Local
 pub mod Noted
+pub mod Packrat
 pub mod Running
 pub mod Stands
 pub mod StepExamples
