@@ -3,6 +3,7 @@ mod AccountLemmas
 mod CodeLemmas
 mod EntryLemmas
 mod FirstRecords
+mod FurthestBySet
 mod InstructionEvents
 mod LocalRounds
 mod NotedLemmas

@@ -1,9 +1,10 @@
 //! Laws of the definitions: what holds for every grammar and text. Each function does nothing; its contract is the law.
-ghost use Rattle.std.specs.Prelude.{◌≡◌, ◌+◌, ◌≤◌, codes, length, List, ℕ, suc, Some};
+ghost use Rattle.std.specs.Prelude.{◌≡◌, ◌↔◌, ◌+◌, ◌≤◌, codes, Contains, length, List, ℕ, suc, Some};
 ghost use Rattle.peg_core.specs.CoreExamples.{nested_core};
 ghost use Rattle.peg_core.specs.CoreForm.{CoreForm};
 ghost use Rattle.peg_core.specs.CoreRecord.{core_record_in};
-ghost use Rattle.peg_ford.specs.Record.{Record};
+ghost use Rattle.peg_ford.specs.Furthest.{IsFurthest};
+ghost use Rattle.peg_ford.specs.Record.{Record, Test};
 ghost use Rattle.peg_code.specs.Code.{size, code_of, program_code, entries_of};
 ghost use Rattle.peg_machine.specs.Local.{Answers, Ends, Runs, Setting};
 ghost use Rattle.peg_machine.specs.Running.{IsFirstRecord};
@@ -74,4 +75,11 @@ pub fn each_record_has_a_first_number()
     ensures { (bodies : List CoreForm) (text : List ℕ) (form : CoreForm) (place : ℕ) (n : ℕ) (r : Record)
         → core_record_in bodies text n form place ≡ Some r
         → (m : ℕ) × (m ≤ n) × IsFirstRecord bodies text m form place r }
+{}
+
+/// The furthest failure goes by which tests failed alone, not by their order or how often.
+pub fn the_furthest_failure_goes_by_the_set()
+    ensures { (tests others : List Test) (far : ℕ) (expected : List ℕ)
+        → ((test : Test) → (Contains tests test ↔ Contains others test)) → IsFurthest tests far expected
+        → IsFurthest others far expected }
 {}
