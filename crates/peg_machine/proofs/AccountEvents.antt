@@ -8,7 +8,8 @@ use Rattle.peg_ford.specs.Record as ford
 use Rattle.peg_code.specs.Instructions.{Test, Ret, Choice, Commit, FailTwice}
 use Rattle.peg_machine.specs.Accounts.{counting, Account, ReturnsToCaller, FailsItsCaller}
 use Rattle.peg_machine.specs.Local.{Way, way_to}
-use Rattle.peg_machine.specs.Running.{Job, closed, close_row}
+use Rattle.peg_machine.specs.Running.{Job}
+use Rattle.peg_machine.specs.OpenRows.{closed, close_row}
 use Rattle.peg_machine.specs.Steps.{Counted, Own, Plain}
 use Rattle.peg_machine.specs.Underway.{Active, RunsAt, Fails, Underway, HasReturned}
 use Rattle.peg_machine.proofs.AccountLemmas.{does_for_both}

@@ -13,7 +13,8 @@ use Rattle.peg_code.specs.Instructions as code
 use Rattle.peg_machine.specs.Stands.{Stands, IsEntry}
 use Rattle.peg_machine.specs.Steps.{Counted, Counting, steps_then, steps_of_part, if_matched_then, commit_or_else}
 use Rattle.peg_machine.specs.Steps.{steps_if_matched, steps_of_body, steps_table, steps_in}
-use Rattle.peg_machine.specs.Local.{Setting, Runs, Ends, Answers}
+use Rattle.peg_machine.specs.Local.{Setting}
+use Rattle.peg_machine.specs.Runs.{Runs, Ends, Answers}
 use Rattle.peg_machine.proofs.StepRounds.{Answers-less}
 use Rattle.peg_machine.proofs.StepsOfRecords.{mapped}
 use Rattle.peg_machine.proofs.RunRules.{nothing_runs, test_runs, call_runs, failing_runs, runs_then, falls_back}

@@ -5,7 +5,7 @@ use Rattle.std.proofs.Math.Seq.{set-append_seam}
 use Rattle.peg_tree.specs.Rows.{Row, rows_of}
 use Rattle.peg_tree.specs.Trees.{Trees, NoTrees, Tree, nodes}
 use Rattle.peg_ford.specs.Record.{Use}
-use Rattle.peg_machine.specs.Running.{open_row, opened, closed, close_row}
+use Rattle.peg_machine.specs.OpenRows.{open_row, opened, closed, close_row}
 
 -- there are as many rows as nodes
 length-rows_of : (trees : Trees) → length (rows_of trees) ≡ nodes trees

@@ -9,7 +9,8 @@ use Rattle.peg_ford.specs.Record.{Recognition, Failed, Matched, Record, matched_
 use Rattle.peg_ford.specs.Record.{with_result}
 use Rattle.peg_code.specs.Instructions.{Instruction, Test, Call, Ret, Choice, Commit, FailTwice}
 use Rattle.peg_machine.specs.Local.{Setting, Way, way_to, Work, only_steps, work_of, both, GaveUp, Returned, finished}
-use Rattle.peg_machine.specs.Local.{working, Next, fall_back, goes_on, answered, step_of, local, Runs, Ends, ending_of}
+use Rattle.peg_machine.specs.Local.{working, Next, fall_back, goes_on, answered, step_of, local}
+use Rattle.peg_machine.specs.Runs.{Runs, Ends, ending_of}
 use Rattle.peg_machine.proofs.WorkLemmas.{same_work, working-nothing, working-both, both-steps, goes_on-behind}
 
 one-more : (n : ℕ) → 1 + n ≡ suc n

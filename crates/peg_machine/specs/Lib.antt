@@ -1,9 +1,12 @@
 pub mod Accounts
+pub mod Begins
 pub mod Entries
 pub mod Local
 pub mod Noted
+pub mod OpenRows
 pub mod Packrat
 pub mod Running
+pub mod Runs
 pub mod Stands
 pub mod StepExamples
 pub mod Steps

@@ -1,9 +1,10 @@
 //! The parsing machine: the code of a checked grammar, run on a text.
 //!
 //! Its definitions, in the order of reading: `Stands`, where code stands; `Steps`, how many steps a form takes; `Local`,
-//! the machine local to one rule's body, and what its runs do; `Running`, what each use of a rule that is under way has
-//! been promised; `Noted` and `Underway`, what is known of a run at each moment; `Accounts`, how its steps stand to its
-//! own and its plain steps; `Packrat`, why none is begun twice; `Entries`, its stack as it stands in memory.
+//! the machine local to one rule's body, and `Runs`, what code does in it; `OpenRows`, `Running` and `Begins`, what each
+//! use of a rule that is under way has been promised; `Noted` and `Underway`, what is known of a run at each moment;
+//! `Accounts`, how its steps stand to its own and its plain steps; `Packrat`, why none is begun twice; `Entries`, its
+//! stack as it stands in memory.
 #![tactic(auto)]
 
 pub mod account_laws;
