@@ -27,8 +27,7 @@ fn main(rt: HostRuntime) -> io::Result<()> {
         "notation" => files::run(&rt, alloc, word),
         "check" => cycles::run(&rt, alloc, word),
         "table" => tables::run(&rt, alloc, word),
-        _ => println!(
-            rt;
+        _ => println!(rt;
             "words: grammar, tree, values, rows, nested, notation, check or table, and on what"
         ),
     }

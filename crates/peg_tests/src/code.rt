@@ -61,8 +61,14 @@ fn code_is_listed(rt: HostRuntime) -> Result<(), Fail> {
 #[test]
 fn refused_files_have_no_code(rt: HostRuntime) -> Result<(), Fail> {
     let cases: [(&[u8], &str); 3] = [
-        (b"", "{\"at\":0,\"column\":1,\"line\":1,\"refusal\":\"Syntax\"}"),
-        (b"T <- T\n", "{\"path\":[\"T\"],\"refusal\":\"LeftRecursion\"}"),
+        (
+            b"",
+            "{\"at\":0,\"column\":1,\"line\":1,\"refusal\":\"Syntax\"}",
+        ),
+        (
+            b"T <- T\n",
+            "{\"path\":[\"T\"],\"refusal\":\"LeftRecursion\"}",
+        ),
         (
             b"A <- B\n",
             "{\"column\":6,\"end\":6,\"line\":1,\"name\":\"B\",\"refusal\":\"Undefined\",\"start\":5}",

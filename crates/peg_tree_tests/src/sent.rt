@@ -51,13 +51,19 @@ fn a_node_alone_is_written(rt: HostRuntime) -> Result<(), Fail> {
 #[test]
 fn nodes_that_end_at_once_are_written(rt: HostRuntime) -> Result<(), Fail> {
     let alloc = rt.alloc();
-    let rows = [row(0, 0, 4, 4), row(1, 0, 2, 2), row(1, 0, 2, 1), row(2, 2, 4, 1)];
+    let rows = [
+        row(0, 0, 4, 4),
+        row(1, 0, 2, 2),
+        row(1, 0, 2, 1),
+        row(2, 2, 4, 1),
+    ];
     let (rows, nested) = texts(alloc, rows.to_vec(alloc)?)?;
     assert_eq!(rt;
         rows.as_str(),
         "[[1,\"list\",0,4],[2,\"word\",0,2],[3,\"word\",0,2],[2,\"word\",2,4]]"
     );
-    let first = "{\"children\":[{\"children\":[{\"children\":[],\"end\":2,\"rule\":\"word\",\"start\":0}],";
+    let first =
+        "{\"children\":[{\"children\":[{\"children\":[],\"end\":2,\"rule\":\"word\",\"start\":0}],";
     let second = "\"end\":2,\"rule\":\"word\",\"start\":0},";
     let third = "{\"children\":[],\"end\":4,\"rule\":\"word\",\"start\":2}],";
     let root = "\"end\":4,\"rule\":\"list\",\"start\":0}";
