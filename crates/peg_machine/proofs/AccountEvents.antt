@@ -17,14 +17,14 @@ use Rattle.peg_machine.proofs.InstructionEvents.{passes_on, test_fails_on, leave
 use Rattle.peg_machine.proofs.RowClosing.{close_row-closes}
 use Rattle.peg_machine.proofs.UnderwayLemmas.{falls_back_on, returns_on, fails_on}
 
-module _ (job : Job) (start : Use) (answer : Record) (tests : List ford.Test) (shown : List Use) (steps pc place : ℕ)
+module _ (job : Job) (start : Use) (answer : Record) (tests : List ford.Test) (shown : List Use) (steps saved pc place : ℕ)
     (rows : List Row) (active : Active) (below : List Active)
-    (account : Account job start answer tests shown steps (RunsAt pc place rows) (active ∷ below)) where
+    (account : Account job start answer tests shown steps saved (RunsAt pc place rows) (active ∷ below)) where
   pub passes_in_both : (set : Bytes) (terminal : ℕ) → slice_get job.code pc ≡ Some (Test set terminal)
       → byte_at (has set) terminal place (drop place job.text) ≡ matched_at (place + 1)
-      → Account job start answer tests shown (steps + 1) (RunsAt (pc + 1) (place + 1) rows) (active ∷ below)
+      → Account job start answer tests shown (steps + 1) saved (RunsAt (pc + 1) (place + 1) rows) (active ∷ below)
   passes_in_both set terminal is passes =
-      does_for_both job start answer tests shown steps (RunsAt pc place rows) (active ∷ below) account 1 tests
+      does_for_both job start answer tests shown steps saved (RunsAt pc place rows) (active ∷ below) account 1 tests
       (RunsAt (pc + 1) (place + 1) rows) (active ∷ below)
       (λ counted to_come underway. passes_on (counting counted job) start answer tests shown to_come pc place rows active below
       underway set terminal is passes)
@@ -34,32 +34,32 @@ module _ (job : Job) (start : Use) (answer : Record) (tests : List ford.Test) (s
       → byte_at (has set) terminal place (drop place job.text) ≡ failed_at terminal place
       → ((test : ford.Test) → Contains tests test → Contains more_tests test) → Contains more_tests (test_of terminal place)
       → ((test : ford.Test) → Contains more_tests test → Contains tests test ⊎ (test_of terminal place ≡ test))
-      → Account job start answer more_tests shown (steps + 1) Fails (active ∷ below)
+      → Account job start answer more_tests shown (steps + 1) saved Fails (active ∷ below)
   test_fails_in_both set terminal more_tests is fails keeps noted adds =
-      does_for_both job start answer tests shown steps (RunsAt pc place rows) (active ∷ below) account 1 more_tests
+      does_for_both job start answer tests shown steps saved (RunsAt pc place rows) (active ∷ below) account 1 more_tests
       Fails (active ∷ below)
       (λ counted to_come underway. test_fails_on (counting counted job) start answer tests shown to_come pc place rows active
       below underway set terminal more_tests is fails keeps noted adds)
 
   pub leaves_in_both : (target : ℕ) → slice_get job.code pc ≡ Some (Choice target)
-      → Account job start answer tests shown (steps + 1) (RunsAt (pc + 1) place rows)
+      → Account job start answer tests shown (steps + 1) saved (RunsAt (pc + 1) place rows)
       (record active { ways = way_to target place rows ∷ active.ways } ∷ below)
   leaves_in_both target is =
-      does_for_both job start answer tests shown steps (RunsAt pc place rows) (active ∷ below) account 1 tests
+      does_for_both job start answer tests shown steps saved (RunsAt pc place rows) (active ∷ below) account 1 tests
       (RunsAt (pc + 1) place rows) (record active { ways = way_to target place rows ∷ active.ways } ∷ below)
       (λ counted to_come underway. leaves_on (counting counted job) start answer tests shown to_come pc place rows active below
       underway target is)
 
   pub commits_in_both : (target : ℕ) → slice_get job.code pc ≡ Some (Commit target)
       → (way : Way) × (ways : List Way) × (active.ways ≡ way ∷ ways)
-      × Account job start answer tests shown (steps + 1) (RunsAt target place rows) (record active { ways = ways } ∷ below)
+      × Account job start answer tests shown (steps + 1) saved (RunsAt target place rows) (record active { ways = ways } ∷ below)
   commits_in_both target is =
       let own = commits_on (counting Own job) start answer tests shown account.own_left pc place rows active below account.own
       target is in (
         own.0,
         own.1,
         own.3,
-        does_for_both job start answer tests shown steps (RunsAt pc place rows) (active ∷ below) account 1 tests
+        does_for_both job start answer tests shown steps saved (RunsAt pc place rows) (active ∷ below) account 1 tests
             (RunsAt target place rows) (record active { ways = own.1 } ∷ below)
             (λ counted to_come underway.
             let done = commits_on (counting counted job) start answer tests shown to_come pc place rows active below underway target
@@ -76,14 +76,14 @@ module _ (job : Job) (start : Use) (answer : Record) (tests : List ford.Test) (s
 
   pub fails_twice_in_both : slice_get job.code pc ≡ Some FailTwice
       → (way : Way) × (ways : List Way) × (active.ways ≡ way ∷ ways)
-      × Account job start answer tests shown (steps + 1) Fails (record active { ways = ways } ∷ below)
+      × Account job start answer tests shown (steps + 1) saved Fails (record active { ways = ways } ∷ below)
   fails_twice_in_both is =
       let own = fails_twice_on (counting Own job) start answer tests shown account.own_left pc place rows active below
       account.own is in (
         own.0,
         own.1,
         own.3,
-        does_for_both job start answer tests shown steps (RunsAt pc place rows) (active ∷ below) account 1 tests
+        does_for_both job start answer tests shown steps saved (RunsAt pc place rows) (active ∷ below) account 1 tests
             Fails (record active { ways = own.1 } ∷ below)
             (λ counted to_come underway.
             let done = fails_twice_on (counting counted job) start answer tests shown to_come pc place rows active below underway is in
@@ -97,11 +97,11 @@ module _ (job : Job) (start : Use) (answer : Record) (tests : List ford.Test) (s
             )),
       )
 
-module _ (job : Job) (start : Use) (answer : Record) (tests : List ford.Test) (shown : List Use) (steps : ℕ)
+module _ (job : Job) (start : Use) (answer : Record) (tests : List ford.Test) (shown : List Use) (steps saved : ℕ)
     (active : Active) (below : List Active) where
   pub falls_back_in_both : (way : Way) (ways : List Way) → active.ways ≡ way ∷ ways
-      → Account job start answer tests shown steps Fails (active ∷ below)
-      → Account job start answer tests shown steps (RunsAt way.pc way.place way.rows)
+      → Account job start answer tests shown steps saved Fails (active ∷ below)
+      → Account job start answer tests shown steps saved (RunsAt way.pc way.place way.rows)
       (record active { ways = ways } ∷ below)
   falls_back_in_both way ways are account = record {
     own_left = account.own_left;
@@ -110,12 +110,11 @@ module _ (job : Job) (start : Use) (answer : Record) (tests : List ford.Test) (s
     plain_left = account.plain_left;
     plain = falls_back_on (counting Plain job) start answer tests shown account.plain_left active below way ways are
         account.plain;
-    saved = account.saved;
     n = account.n;
     plain_steps = account.plain_steps;
   }
 
-module _ (job : Job) (start : Use) (answer : Record) (tests : List ford.Test) (shown : List Use) (steps : ℕ)
+module _ (job : Job) (start : Use) (answer : Record) (tests : List ford.Test) (shown : List Use) (steps saved : ℕ)
     (active caller : Active) (below : List Active) where
   -- rows closed by their children are those closed where they stand
   closed_rows : (rows : List Row) (place : ℕ) (counted : Counted) (to_come : ℕ)
@@ -127,9 +126,9 @@ module _ (job : Job) (start : Use) (answer : Record) (tests : List ford.Test) (s
       ∙ ap (λ (rows : List Row). close_row (length active.frame.before) rows active.frame.pair place) back.behind
 
   pub returns_in_both : (pc place : ℕ) (rows : List Row)
-      → Account job start answer tests shown steps (RunsAt pc place rows) (active ∷ caller ∷ below)
+      → Account job start answer tests shown steps saved (RunsAt pc place rows) (active ∷ caller ∷ below)
       → slice_get job.code pc ≡ Some Ret
-      → ReturnsToCaller job start answer tests shown steps place rows active caller below
+      → ReturnsToCaller job start answer tests shown steps saved place rows active caller below
   returns_in_both pc place rows account is =
       let own = returns_on (counting Own job) start answer tests shown account.own_left pc place rows active caller below
       account.own is in
@@ -140,7 +139,7 @@ module _ (job : Job) (start : Use) (answer : Record) (tests : List ford.Test) (s
         r = own.r;
         matched = own.matched;
         can_be_kept = record { recorded = own.can_be_kept.recorded; noted = own.can_be_kept.noted };
-        account = does_for_both job start answer tests shown steps (RunsAt pc place rows) (active ∷ caller ∷ below) account 1
+        account = does_for_both job start answer tests shown steps saved (RunsAt pc place rows) (active ∷ caller ∷ below) account 1
             tests
             (RunsAt active.frame.back place (close_row (length active.frame.before) rows active.frame.pair place))
             (caller ∷ below)
@@ -156,8 +155,8 @@ module _ (job : Job) (start : Use) (answer : Record) (tests : List ford.Test) (s
             ));
       }
 
-  pub fails_in_both : Account job start answer tests shown steps Fails (active ∷ caller ∷ below) → active.ways ≡ []
-      → FailsItsCaller job start answer tests shown steps active caller below
+  pub fails_in_both : Account job start answer tests shown steps saved Fails (active ∷ caller ∷ below) → active.ways ≡ []
+      → FailsItsCaller job start answer tests shown steps saved active caller below
   fails_in_both account none =
       let own = fails_on (counting Own job) start answer tests shown account.own_left active caller below account.own none in
       let plain = fails_on (counting Plain job) start answer tests shown account.plain_left active caller below account.plain
@@ -172,7 +171,6 @@ module _ (job : Job) (start : Use) (answer : Record) (tests : List ford.Test) (s
           own_steps = account.own_steps;
           plain_left = account.plain_left;
           plain = plain.underway;
-          saved = account.saved;
           n = account.n;
           plain_steps = account.plain_steps;
         };
