@@ -8,6 +8,7 @@ use Rattle.peg_core.specs.CoreForm.{CoreForm, Empty, Seq, Choice, Star, Not}
 use Rattle.peg_core.specs.Layout.{form_at}
 use Rattle.peg_core.specs.CoreNodes.{shape, NodeFits, IsStarFrom}
 use Rattle.peg_core.specs.FlatForms.{added, forms_of, AllFit}
+use Rattle.peg_core.specs.Spelled.{AreOfNodes}
 use Rattle.peg_core.specs.declared.node.Node.{Node}
 use Rattle.peg_core.specs.declared.node.Node.TheVariants as node
 use Rattle.peg_core.specs.declared.node.NodeAndOrigin.{NodeAndOrigin}
@@ -93,6 +94,24 @@ pub fits-at : (parts : List NodeAndOrigin) (rules terminals number : ℕ) (part 
     → number < length parts → part ≡ get_or parts number part → NodeFits number rules terminals part.node
 fits-at parts rules terminals number part fit within there =
     subst (λ (p : NodeAndOrigin). NodeFits number rules terminals p.node) (sym there) (fit number part within)
+
+-- each number below how many nodes there are is that of a node
+node-there : (parts : List NodeAndOrigin) (number : ℕ) → number < length parts
+    → (part : NodeAndOrigin) × (part ≡ get_or parts number part)
+node-there [] number within = absurd (omega (arith, within))
+node-there (p ∷ ps) zero within = (p, refl)
+node-there (p ∷ ps) (suc k) within = node-there ps k (omega (arith, within))
+
+-- so each form by its number is what a node stands for that fits there
+pub forms_of-nodes : (parts : List NodeAndOrigin) (rules terminals : ℕ) → AllFit rules terminals parts
+    → AreOfNodes (forms_of parts) rules terminals
+forms_of-nodes parts rules terminals fit number within =
+    let few : number < length parts = omega (arith, within, length-forms_of parts) in
+    let part = node-there parts number few in (
+      part.0.node,
+      (extent part.0.origin, form_at-node parts rules terminals number part.0 fit few part.1),
+      fits-at parts rules terminals number part.0 fit few part.1,
+    )
 
 -- with more terminals a node still fits
 fits-more : (number rules terminals more : ℕ) (n : Node) → terminals ≤ more → NodeFits number rules terminals n

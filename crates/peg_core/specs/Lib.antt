@@ -23,4 +23,5 @@ pub mod FlatForms
 pub mod Laid
 pub mod Layout
 pub mod CoreNodes
+pub mod Spelled
 pub mod Subexpressions

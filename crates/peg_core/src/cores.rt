@@ -5,6 +5,7 @@ ghost use Rattle.peg_ford.specs.Grammar.{most_parts};
 ghost use Rattle.peg_core.specs.CoreLoops.{StandsInBody};
 ghost use Rattle.peg_core.specs.Layout.{bodies_of, form_at, most_forms};
 ghost use Rattle.peg_core.specs.CoreNodes.{NodeFits, IsStarFrom, Spells};
+ghost use Rattle.peg_core.specs.Spelled.{AreSpelled};
 
 use crate::Node;
 use crate::flat::Flat;
@@ -46,13 +47,14 @@ impl Core {
         Core { flat, bodies }
     }
 
-    /// How many core forms there are; each rule's body is one, and each stands in the body of a rule. Takes constant
-    /// time.
+    /// How many core forms there are; each rule's body is one, each stands in the body of a rule, and each is what a
+    /// node stands for. Takes constant time.
     pub fn len(&self) -> u32
         ensures count { result ≡ length self.now.forms }
         ensures most { result ≤ most_forms }
         ensures bodies { All (λ body. body < length self.now.forms) self.now.bodies }
         ensures owned { All (StandsInBody (bodies_of self.now)) self.now.forms }
+        ensures spelled { AreSpelled self.now }
     {
         self.flat.len()
     }

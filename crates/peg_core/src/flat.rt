@@ -4,6 +4,7 @@ ghost use Rattle.peg_bytes.specs.Extent.{Extent, extent};
 ghost use Rattle.peg_ford.specs.Grammar.{most_parts};
 ghost use Rattle.peg_core.specs.Layout.{most_forms};
 ghost use Rattle.peg_core.specs.CoreNodes.{NodeFits, IsStarFrom, Spells, shape};
+ghost use Rattle.peg_core.specs.Spelled.{AreOfNodes};
 
 use crate::node::{Node, NodeAndOrigin};
 use peg_bytes::Span;
@@ -73,6 +74,7 @@ impl Flat {
     pub(crate) fn len(&self) -> u32
         ensures count { result ≡ length self.now.forms }
         ensures most { result ≤ most_forms }
+        ensures spelled { AreOfNodes self.now.forms self.now.rules (length self.now.spans) }
     {
         self.nodes.len() as u32
     }

@@ -1,6 +1,7 @@
-use Rattle.std.proofs.Common.{◌<◌, All, length, map, subst}
+use Rattle.std.proofs.Common.{◌<◌, All, length, map, sym, subst}
 use Rattle.peg_core.specs.CoreLoops.{StandsInBody}
 use Rattle.peg_core.specs.Layout.{Desugared, form_at}
+use Rattle.peg_core.specs.Spelled.{AreOfNodes, AreSpelled}
 use Rattle.peg_core.proofs.cores.Core.len.Goals as goal
 
 pub returns-clause-owned : goal.returns-clause-owned
@@ -12,3 +13,10 @@ pub returns-clause-bodies : goal.returns-clause-bodies
 returns-clause-bodies c =
     subst (λ (core : Desugared). All (λ body. body < length core.forms) core.bodies) c.self.view_is
     (λ k d small. c.self.invariant.within k d small)
+
+pub returns-clause-spelled : goal.returns-clause-spelled
+returns-clause-spelled c =
+    let inside = c.self.inside in
+    subst AreSpelled c.self.view_is
+    (subst (λ rules. AreOfNodes inside.flat.forms rules (length inside.flat.spans)) (sym c.self.invariant.rules)
+    c.len.ensures.spelled)

@@ -1,9 +1,21 @@
-use Rattle.std.proofs.Common.{length, sym, ap, ◌∙◌}
+use Rattle.std.proofs.Common.{length, sym, ap, ◌∙◌, subst}
+use Rattle.std.proofs.lemmas.List.{length-map}
+use Rattle.peg_bytes.specs.Extent.{extent}
+use Rattle.peg_core.specs.FlatForms.{forms_of}
 use Rattle.peg_core.specs.Layout.{Layout}
-use Rattle.peg_core.proofs.FlatLemmas.{length-forms_of}
+use Rattle.peg_core.specs.Spelled.{AreOfNodes}
+use Rattle.peg_core.proofs.FlatLemmas.{length-forms_of, forms_of-nodes}
 use Rattle.peg_core.proofs.flat.Flat.len.Goals as goal
 
 pub returns-clause-count : goal.returns-clause-count
 returns-clause-count c =
     c.len.ensures ∙ (c.self.inside.nodes.ok.0 ∙ (sym (length-forms_of c.self.inside.nodes.items)
     ∙ ap (λ (l : Layout). length l.forms) c.self.view_is))
+
+pub returns-clause-spelled : goal.returns-clause-spelled
+returns-clause-spelled c =
+    let inside = c.self.inside in
+    let forms = forms_of inside.nodes.items in
+    subst (λ (l : Layout). AreOfNodes l.forms l.rules (length l.spans)) c.self.view_is
+    (subst (AreOfNodes forms inside.rules) (sym (length-map inside.spans.items extent))
+    (forms_of-nodes inside.nodes.items inside.rules (length inside.spans.items) c.self.invariant.fit))
