@@ -1,6 +1,8 @@
 mod AddLemmas
 pub mod CoreRefutations
 pub mod CoreRounds
+mod CoreShown
+mod CoreWithin
 mod FlatLemmas
 mod LaidLemmas
 mod Meanings
