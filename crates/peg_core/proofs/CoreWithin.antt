@@ -103,7 +103,8 @@ module _ (long : ℕ) where
   Keeps-not place None here h = tt
   Keeps-not place (Some r) here h = record { tests = h.tests; ends = EndsBy-if_failed place here r.result }
 
-  EndsBy-as_tree : (rule place : ℕ) (result : Recognition) → EndsBy long result → EndsBy long (as_tree rule place result)
+  EndsBy-as_tree : (rule place : ℕ) (result : Recognition) → EndsBy long result
+      → EndsBy long (as_tree rule place result)
   EndsBy-as_tree rule place Failed ends = tt
   EndsBy-as_tree rule place (Matched end trees) ends = ends
 

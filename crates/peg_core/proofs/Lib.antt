@@ -1,9 +1,11 @@
 mod AddLemmas
+mod CoreComplete
 pub mod CoreRefutations
 pub mod CoreRounds
 mod CoreShown
 mod CoreWithin
 mod FlatLemmas
+mod FormsAmong
 mod LaidLemmas
 mod Meanings
 pub mod PartsLemmas

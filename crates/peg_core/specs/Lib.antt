@@ -23,5 +23,6 @@ pub mod FlatForms
 pub mod Laid
 pub mod Layout
 pub mod CoreNodes
+pub mod RecordDepth
 pub mod Spelled
 pub mod Subexpressions
