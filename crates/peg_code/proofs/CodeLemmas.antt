@@ -1,12 +1,9 @@
 -- The code of core forms: how long it is, and which forms have the same.
 use Rattle.std.proofs.Common.{◌≡◌, ℕ, ◌+◌, List, [], ◌∷◌, ◌++◌, length, refl, sym, ap, ◌∙◌, arith, append-nil, length-append}
-use Rattle.std.proofs.lemmas.List.{map-append}
 use Rattle.peg_core.specs.CoreForm.{CoreForm, Empty, Test, Rule, Seq, Choice, Star, Not}
 use Rattle.peg_code.specs.Code.{code_of, size}
 use Rattle.peg_code.specs.Instructions.{Instruction, Commit, FailTwice}
-use Rattle.peg_code.specs.Instrs.{instruction_of, instructions_of}
 use Rattle.peg_code.specs.Plans.{HaveSameCode}
-use Rattle.peg_code.specs.declared.instr.Instr.{Instr}
 
 -- the code of a form has its size, wherever it begins
 pub length-code_of : (form : CoreForm) (pc : ℕ) → length (code_of form pc) ≡ size form
@@ -50,8 +47,3 @@ same-itself form = record { same = λ pc. refl }
 
 pub same-through : (a b c : CoreForm) → HaveSameCode a b → HaveSameCode b c → HaveSameCode a c
 same-through a b c p q = record { same = λ pc. p.same pc ∙ q.same pc }
-
--- one more instruction in code
-pub instructions_of-push : (old new : List Instr) (i : Instr) → new ≡ old ++ i ∷ []
-    → instructions_of new ≡ instructions_of old ++ instruction_of i ∷ []
-instructions_of-push old new i put = ap instructions_of put ∙ map-append instruction_of old (i ∷ [])

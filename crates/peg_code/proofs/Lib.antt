@@ -1,4 +1,6 @@
 mod CodeLemmas
 mod LayoutLemmas
 mod PlanLemmas
+mod SlotLemmas
 mod TaskLemmas
+mod TestLemmas

@@ -8,7 +8,7 @@ use Rattle.peg_core.specs.Layout.{form_at}
 use Rattle.peg_code.specs.Code.{code_of, size}
 use Rattle.peg_code.specs.Instructions.{Instruction, Commit, FailTwice}
 use Rattle.peg_code.specs.Instructions as machine
-use Rattle.peg_code.specs.Instrs.{instruction_of, instructions_of}
+use Rattle.peg_code.specs.Instrs.{instruction_of}
 use Rattle.peg_code.specs.Compiled.{most_instructions}
 use Rattle.peg_code.specs.Plans.{counted, HaveSameCode}
 use Rattle.peg_code.specs.Tasks.{Adds, after, after_all, DoesTask, TaskFits, weight, weight_of_all}
@@ -16,7 +16,7 @@ use Rattle.peg_code.specs.declared.instr.Instr.{Instr}
 use Rattle.peg_code.specs.declared.instr.Instr.TheVariants as instr
 use Rattle.peg_code.specs.declared.tasks.Task.{Task}
 use Rattle.peg_code.specs.declared.tasks.Task.TheVariants.{Form, Put}
-use Rattle.peg_code.proofs.CodeLemmas.{instructions_of-push, length-code_of, size-same}
+use Rattle.peg_code.proofs.CodeLemmas.{length-code_of, size-same}
 
 -- ---- tasks one after the other
 
@@ -226,11 +226,11 @@ Adds-not forms pc number part a old new is form counts room below =
 
 -- ---- a task is done
 
-pub DoesTask-put : (forms : List CoreForm) (old new : List Instr) (tasks : List Task) (i : Instr) → new ≡ old ++ i ∷ []
-    → DoesTask forms (Put i) (instructions_of old) tasks (instructions_of new) tasks
+pub DoesTask-put : (forms : List CoreForm) (old new : List Instruction) (tasks : List Task) (i : Instr)
+    → new ≡ old ++ instruction_of i ∷ [] → DoesTask forms (Put i) old tasks new tasks
 DoesTask-put forms old new tasks i put =
     record {
-      laid = ap (λ (code : List Instruction). after_all forms code tasks) (instructions_of-push old new i put);
+      laid = ap (λ (code : List Instruction). after_all forms code tasks) put;
       fit = λ fit. fit;
       lighter = omega arith;
     }

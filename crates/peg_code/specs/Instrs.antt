@@ -1,5 +1,4 @@
 -- Describes code: which instruction an `Instr` is.
-use Rattle.std.specs.Prelude.{List, map}
 use Rattle.peg_bytes.specs.ByteSet.{bytes_of}
 use Rattle.peg_code.specs.Instructions.{Instruction, Test, Call, Ret, Choice, Commit, FailTwice, End}
 use Rattle.peg_code.specs.declared.instr.Instr.{Instr}
@@ -13,6 +12,3 @@ instruction_of (code.Choice target) = Choice target
 instruction_of (code.Commit target) = Commit target
 instruction_of code.FailTwice = FailTwice
 instruction_of code.End = End
-
-abbrev pub instructions_of : List Instr → List Instruction
-instructions_of instrs = map instruction_of instrs

@@ -40,3 +40,17 @@ ArePlansSoFar forms plans =
 pub record ArePlans (forms : List CoreForm) (plans : List Plan) : Type 0 where
   pub count : length plans ≡ length forms
   pub each : ArePlansSoFar forms plans
+
+-- the terminals of a form's tests are among so many
+abbrev pub TestsFit : (terminals : ℕ) → CoreForm → Type 0
+TestsFit terminals Empty = Unit {0}
+TestsFit terminals (Test set terminal) = terminal < terminals
+TestsFit terminals (Rule rule) = Unit {0}
+TestsFit terminals (Seq first rest) = TestsFit terminals first × TestsFit terminals rest
+TestsFit terminals (Choice first rest) = TestsFit terminals first × TestsFit terminals rest
+TestsFit terminals (Star part origin) = TestsFit terminals part
+TestsFit terminals (Not part) = TestsFit terminals part
+
+-- and so for the first forms
+abbrev pub TestsFitSoFar : (terminals : ℕ) → List CoreForm → (count : ℕ) → Type 0
+TestsFitSoFar terminals forms count = (k : ℕ) → k < count → TestsFit terminals (form_at forms k)

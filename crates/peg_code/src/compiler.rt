@@ -3,9 +3,9 @@ ghost use Rattle.std.specs.Prelude.{◌≡◌, ◌↔◌, ◌+◌, ◌<◌, ◌�
 ghost use Rattle.peg_core.specs.Layout.{bodies_of};
 ghost use Rattle.peg_code.specs.Code.{entries_of, program_code};
 ghost use Rattle.peg_code.specs.Compiled.{compiled_of, IsTooLarge, most_instructions};
-ghost use Rattle.peg_code.specs.Instrs.{instructions_of};
 ghost use Rattle.peg_code.specs.Plans.{ArePlans, counted};
 
+use crate::packed::Packed;
 use crate::plans::{Plan, plans_of};
 use crate::tasks::lay;
 use crate::{CodeFault, Instr, Program};
@@ -53,7 +53,7 @@ fn count_of(core: &Core, plans: &[Plan]) -> u32
 // Instructions, and the first one of each rule.
 #[derive(Drop)]
 struct Code {
-    instrs: Vec<Instr>,
+    instrs: Packed,
     entries: Vec<u32>,
 }
 
@@ -61,10 +61,10 @@ struct Code {
 fn lay_rules(alloc: Global, core: &Core, plans: &[Plan], count: u32) -> Result<Code, AllocError>
     requires plans { ArePlans core.now.forms plans.now }
     requires few { length (program_code (bodies_of core.now)) ≤ most_instructions }
-    ensures code { IfOk result (λ code. instructions_of code.instrs.items ≡ program_code (bodies_of core.now)) }
+    ensures code { IfOk result (λ code. code.instrs ≡ program_code (bodies_of core.now)) }
     ensures entries { IfOk result (λ code. code.entries.items ≡ entries_of (bodies_of core.now)) }
 {
-    let mut instrs = Vec::with_capacity(alloc, count as usize)?;
+    let mut instrs = Packed::with_capacity(alloc, count as usize)?;
     instrs.push(Instr::End)?;
     let mut entries = Vec::with_capacity(alloc, core.rules() as usize)?;
     for rule in 0..core.rules() {

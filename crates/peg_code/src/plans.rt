@@ -1,7 +1,8 @@
 //! What is known of the code of core forms before any of it is laid.
-ghost use Rattle.std.specs.Prelude.{◌≡◌, ◌+◌, ◌<◌, ◌≤◌, length, IfOk};
+ghost use Rattle.std.specs.Prelude.{◌≡◌, ◌+◌, ◌<◌, ◌≤◌, length, IfOk, OnOk};
+ghost use Rattle.peg_core.specs.Layout.{form_at};
 ghost use Rattle.peg_code.specs.Compiled.{most_instructions};
-ghost use Rattle.peg_code.specs.Plans.{ArePlans, ArePlansSoFar, counted, IsPlan};
+ghost use Rattle.peg_code.specs.Plans.{ArePlans, ArePlansSoFar, counted, IsPlan, TestsFit, TestsFitSoFar};
 
 use crate::MOST_INSTRUCTIONS;
 use peg_core::{Core, Node};
@@ -17,7 +18,8 @@ pub(crate) struct Plan {
 
 /// The plan of each form. Takes time and memory linear in the number of forms.
 pub(crate) fn plans_of(alloc: Global, core: &Core) -> Result<Vec<Plan>, AllocError>
-    ensures { IfOk result (λ plans. ArePlans core.now.forms plans.items) }
+    ensures plans { IfOk result (λ plans. ArePlans core.now.forms plans.items) }
+    ensures tests { OnOk result (TestsFitSoFar (length core.now.spans) core.now.forms (length core.now.forms)) }
 {
     let mut plans = Vec::with_capacity(alloc, core.len() as usize)?;
     for number in 0..core.len() {
@@ -32,7 +34,9 @@ fn plan_of(core: &Core, number: u32, plans: &[Plan]) -> Plan
     requires within { number < length core.now.forms }
     requires next { number ≡ length plans.now }
     requires plans { ArePlansSoFar core.now.forms plans.now }
-    ensures { IsPlan core.now.forms number result }
+    ensures plan { IsPlan core.now.forms number result }
+    ensures tests { TestsFitSoFar (length core.now.spans) core.now.forms number
+        → TestsFit (length core.now.spans) (form_at core.now.forms number) }
 {
     match core.node(number) {
         Node::Empty => own_plan(number, 0),

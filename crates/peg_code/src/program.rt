@@ -1,14 +1,17 @@
 //! The program of a checked grammar.
-ghost use Rattle.std.specs.Prelude.{◌≡◌, ◌<◌, ◌≤◌, length, slice_get, Some};
+ghost use Rattle.std.specs.Prelude.{◌≡◌, ◌<◌, ◌≤◌, All, length, slice_get, Some};
 ghost use Rattle.peg_bytes.specs.Extent.{extent};
 ghost use Rattle.peg_ford.specs.Grammar.{most_parts};
 ghost use Rattle.peg_core.specs.Layout.{bodies_of};
 ghost use Rattle.peg_check.specs.Verdicts.{AreWellFormedIn};
 ghost use Rattle.peg_code.specs.Code.{entries_of, program_code};
 ghost use Rattle.peg_code.specs.Compiled.{compiled_of, most_instructions};
-ghost use Rattle.peg_code.specs.Instrs.{instruction_of, instructions_of};
+ghost use Rattle.peg_code.specs.Instrs.{instruction_of};
+ghost use Rattle.peg_code.specs.Instructions.{TestFits};
+ghost use Rattle.peg_code.specs.Ops.{instruction_of_op};
 
-use crate::Instr;
+use crate::packed::Packed;
+use crate::{Instr, Op};
 use peg_bytes::Span;
 use peg_check::Checked;
 use peg_core::Core;
@@ -17,7 +20,7 @@ use std::marker::Model;
 /// The code of a well-formed grammar, and the core forms that it was compiled from.
 #[derive(Debug, Drop)]
 pub struct Program {
-    code: Vec<Instr>,
+    code: Packed,
     entries: Vec<u32>,
     checked: Checked,
 }
@@ -39,10 +42,11 @@ impl Model for Program {
 
 impl Program {
     // The program of these core forms, laid already.
-    pub(crate) fn new(checked: Checked, code: Vec<Instr>, entries: Vec<u32>) -> Program
-        requires code { instructions_of code.items ≡ program_code (bodies_of checked.core) }
+    pub(crate) fn new(checked: Checked, code: Packed, entries: Vec<u32>) -> Program
+        requires code { code ≡ program_code (bodies_of checked.core) }
         requires entries { entries.items ≡ entries_of (bodies_of checked.core) }
-        requires few { length code.items ≤ most_instructions }
+        requires few { length code ≤ most_instructions }
+        requires tests { All (TestFits (length checked.core.spans)) code }
         ensures { result ≡ compiled_of checked.core }
     {
         Program {
@@ -75,7 +79,16 @@ impl Program {
         requires { pc < length self.now.code }
         ensures { slice_get self.now.code pc ≡ Some (instruction_of result) }
     {
-        self.code[pc as usize]
+        self.op(pc).instr()
+    }
+
+    /// The instruction with a number, whose set stays in the program. Takes constant time.
+    pub fn op(&self, pc: u32) -> Op<'_>
+        requires { pc < length self.now.code }
+        ensures instruction { slice_get self.now.code pc ≡ Some (instruction_of_op result) }
+        ensures test { TestFits (length self.now.core.spans) (instruction_of_op result) }
+    {
+        self.code.op(pc)
     }
 
     /// The first instruction of a rule. Takes constant time.

@@ -3,13 +3,13 @@ ghost use Rattle.std.specs.Prelude.{◌≡◌, ◌+◌, ◌<◌, ◌≤◌, [], 
 ghost use Rattle.peg_core.specs.Layout.{form_at};
 ghost use Rattle.peg_code.specs.Code.{size};
 ghost use Rattle.peg_code.specs.Compiled.{most_instructions};
-ghost use Rattle.peg_code.specs.Instrs.{instructions_of};
 ghost use Rattle.peg_code.specs.Plans.{ArePlans, IsTight};
 ghost use Rattle.peg_code.specs.Tasks.{Adds, after, DoesTask, TaskFits};
 ghost use Rattle.peg_code.specs.declared.instr.Instr.TheVariants.{Choice, Commit};
 ghost use Rattle.peg_code.specs.declared.tasks.Task.TheVariants.{Form, Put};
 
 use crate::Instr;
+use crate::packed::Packed;
 use crate::plans::Plan;
 use peg_core::{Core, Node};
 use std::alloc::{AllocError, Global};
@@ -27,13 +27,12 @@ pub(crate) fn lay(
     core: &Core,
     plans: &[Plan],
     number: u32,
-    code: &mut Vec<Instr>,
+    code: &mut Packed,
 ) -> Result<(), AllocError>
     requires plans { ArePlans core.now.forms plans.now }
     requires within { number < length core.now.forms }
-    requires room { length code.old.items + size (form_at core.now.forms number) ≤ most_instructions }
-    ensures { OnOk result (instructions_of code.new.items
-        ≡ after core.now.forms (instructions_of code.old.items) (Form number)) }
+    requires room { length code.old + size (form_at core.now.forms number) ≤ most_instructions }
+    ensures { OnOk result (code.new ≡ after core.now.forms code.old (Form number)) }
 {
     let mut tasks = Vec::new(alloc);
     tasks.push(Task::Form(number))?;
@@ -48,30 +47,21 @@ fn do_task(
     core: &Core,
     plans: &[Plan],
     task: Task,
-    code: &mut Vec<Instr>,
+    code: &mut Packed,
     tasks: &mut Vec<Task>,
 ) -> Result<(), AllocError>
     requires plans { ArePlans core.now.forms plans.now }
     requires fits { TaskFits (length core.now.forms) task }
-    requires room { length (after core.now.forms (instructions_of code.old.items) task) ≤ most_instructions }
-    ensures { OnOk result (DoesTask core.now.forms task (instructions_of code.old.items) tasks.old.items
-        (instructions_of code.new.items) tasks.new.items) }
+    requires room { length (after core.now.forms code.old task) ≤ most_instructions }
+    ensures { OnOk result (DoesTask core.now.forms task code.old tasks.old.items code.new tasks.new.items) }
 {
     match task {
-        Task::Put(instr) => put(code, instr),
+        Task::Put(instr) => code.push(instr),
         Task::Form(number) => {
             let form = plans[number as usize].form;
             add_tasks(core, plans, form, code.len() as u32, tasks)
         }
     }
-}
-
-// One more instruction.
-fn put(code: &mut Vec<Instr>, instr: Instr) -> Result<(), AllocError>
-    ensures { OnOk result (code.new.items ≡ code.old.items ++ instr ∷ []) }
-{
-    code.push(instr)?;
-    Ok(())
 }
 
 // Puts the tasks of a form, whose code begins at an instruction, behind others: what is done first comes last.

@@ -1,7 +1,7 @@
 // The code of grammars that are read from their texts. Every value that is wanted was worked out by hand.
 use peg_bytes::{ByteSet, Span};
 use peg_check::check;
-use peg_code::{Instr, Program, compile};
+use peg_code::{Instr, Op, Program, compile};
 use peg_core::desugar;
 use peg_grammar::Grammar;
 use peg_notation::read;
@@ -116,5 +116,39 @@ fn what_it_was_compiled_from(rt: HostRuntime) -> Result<(), Fail> {
     assert_eq!(rt; program.rules(), 1);
     assert_eq!(rt; program.terminals(), 2);
     assert_eq!(rt; program.terminal_span(1), Span { start: 13, end: 16 });
+    Ok(())
+}
+
+#[test]
+fn what_the_program_hands_out(rt: HostRuntime) -> Result<(), Fail> {
+    let program = program_of(rt.alloc(), b"S <- 'a' S / !'b'+")?;
+    let (first, second) = (ByteSet::single(b'a'), ByteSet::single(b'b'));
+    let ops = [
+        Op::End,
+        Op::Choice(5),
+        Op::Test {
+            set: &first,
+            terminal: 0,
+        },
+        Op::Call(0),
+        Op::Commit(11),
+        Op::Choice(11),
+        Op::Test {
+            set: &second,
+            terminal: 1,
+        },
+        Op::Choice(10),
+        Op::Test {
+            set: &second,
+            terminal: 1,
+        },
+        Op::Commit(7),
+        Op::FailTwice,
+        Op::Ret,
+    ];
+    assert_eq!(rt; program.len() as usize, ops.len());
+    for pc in 0..program.len() {
+        assert_eq!(rt; program.op(pc), ops[pc as usize], "at {pc}");
+    }
     Ok(())
 }

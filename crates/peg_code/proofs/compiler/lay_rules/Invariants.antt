@@ -1,12 +1,11 @@
 use Rattle.std.proofs.Common.{◌≡◌, ◌++◌, drop, length}
 use Rattle.peg_core.specs.Layout.{bodies_of}
 use Rattle.peg_code.specs.Code.{entries_from, entries_of, program_code, rules_code}
-use Rattle.peg_code.specs.Instrs.{instructions_of}
 use Rattle.peg_code.proofs.compiler.lay_rules.Given as goal
 
 -- what stands, followed by the code of the rules that are still to come, is the program's, and so for the entries
 abbrev pub invariant-loop-rule : goal.invariant-loop-rule
 invariant-loop-rule l = record {
-  code : instructions_of l.instrs.items ++ rules_code (drop l.rule (bodies_of l.core)) (length (instructions_of l.instrs.items)) ≡ program_code (bodies_of l.core);
-  entries : l.entries.items ++ entries_from (drop l.rule (bodies_of l.core)) (length (instructions_of l.instrs.items)) ≡ entries_of (bodies_of l.core);
+  code : l.instrs ++ rules_code (drop l.rule (bodies_of l.core)) (length l.instrs) ≡ program_code (bodies_of l.core);
+  entries : l.entries.items ++ entries_from (drop l.rule (bodies_of l.core)) (length l.instrs) ≡ entries_of (bodies_of l.core);
 }

@@ -2,8 +2,8 @@ use Rattle.std.proofs.Common.{◌<◌, arith}
 use Rattle.peg_code.proofs.PlanLemmas.{IsPlan-seq}
 use Rattle.peg_code.proofs.plans.plan_of.Goals as goal
 
-pub returns-in-Seq : goal.returns-in-Seq
-returns-in-Seq c =
+pub returns-in-Seq-clause-plan : goal.returns-in-Seq-clause-plan
+returns-in-Seq-clause-plan c =
     let first : c.in-Seq.first < c.args.number = c.in-Seq.ensures.fits.0 in
     let rest : c.in-Seq.rest < c.args.number = c.in-Seq.ensures.fits.1 in
     IsPlan-seq c.args.core.now.forms c.args.number c.in-Seq.first c.in-Seq.rest _ _ c.sequence_plan.result

@@ -1,10 +1,8 @@
-use Rattle.std.proofs.Common.{◌≡◌, ◌+◌, ◌<◌, ◌≤◌, get_or, length, sym, ◌∙◌, subst, vec_len, arith}
-use Rattle.std.proofs.lemmas.List.{length-map}
+use Rattle.std.proofs.Common.{◌+◌, ◌<◌, ◌≤◌, get_or, length, sym, subst, arith}
 use Rattle.std.proofs.lemmas.Result.{on_ok_weaker}
 use Rattle.peg_core.specs.Layout.{form_at}
 use Rattle.peg_code.specs.Code.{size}
 use Rattle.peg_code.specs.Compiled.{most_instructions}
-use Rattle.peg_code.specs.Instrs.{instruction_of, instructions_of}
 use Rattle.peg_code.specs.Plans.{IsPlan}
 use Rattle.peg_code.specs.Tasks.{Adds, after, DoesTask, TaskFits}
 use Rattle.peg_code.specs.declared.plans.Plan.{Plan}
@@ -18,12 +16,12 @@ use Rattle.peg_code.proofs.tasks.do_task.Goals.{In-Form}
 pub returns-in-Put : goal.returns-in-Put
 returns-in-Put c =
     let forms = c.args.core.now.forms in
-    let old = c.args.code.now.items in
-    let new = c.put.new.code.items in
+    let old = c.args.code.now in
+    let new = c.push.new.self in
     let rest = c.args.tasks.now.items in
-    on_ok_weaker c.put.result
-    (λ put. subst (λ (t : Task). DoesTask forms t (instructions_of old) rest (instructions_of new) rest) (sym c.in-Put.is) (DoesTask-put forms old new rest c.in-Put.instr put))
-    c.put.ensures
+    on_ok_weaker c.push.result
+    (λ put. subst (λ (t : Task). DoesTask forms t old rest new rest) (sym c.in-Put.is) (DoesTask-put forms old new rest c.in-Put.instr put))
+    c.push.ensures
 
 -- the plan of the form
 abbrev plan : (c : In-Form) → Plan
@@ -34,17 +32,14 @@ planned c =
     let fits : c.in-Form.number < length c.args.core.now.forms = subst (TaskFits (length c.args.core.now.forms)) c.in-Form.is c.requires.fits in
     c.requires.plans.each c.in-Form.number (record { size = 0; form = 0 }) (omega (arith, c.requires.plans.count))
 
--- how many instructions stand, and that there is room for those of the form
-stand : (c : In-Form) → length (instructions_of c.args.code.now.items) ≡ vec_len c.args.code.now
-stand c = length-map c.args.code.now.items instruction_of ∙ sym c.args.code.now.ok.0
-
-room : (c : In-Form) → vec_len c.args.code.now + size (form_at c.args.core.now.forms (plan c).form) ≤ most_instructions
+-- there is room for the instructions of the form
+room : (c : In-Form) → length c.args.code.now + size (form_at c.args.core.now.forms (plan c).form) ≤ most_instructions
 room c =
     let forms = c.args.core.now.forms in
-    let code = instructions_of c.args.code.now.items in
+    let code = c.args.code.now in
     let number = c.in-Form.number in
     let left : length (after forms code (Form number)) ≤ most_instructions = subst (λ (t : Task). length (after forms code t) ≤ most_instructions) c.in-Form.is c.requires.room in
-    omega (arith, left, length-after forms code number, stand c, size-same (form_at forms (plan c).form) (form_at forms number) (planned c).same)
+    omega (arith, left, length-after forms code number, size-same (form_at forms (plan c).form) (form_at forms number) (planned c).same)
 
 pub overflow_cast-len : goal.overflow_cast-len
 overflow_cast-len c = let h = room (goal.at.overflow_cast-len c).In-Form in omega (arith, h, c.len.ensures)
@@ -57,11 +52,10 @@ pub returns-in-Form : goal.returns-in-Form
 returns-in-Form c =
     let at = (goal.at.returns-in-Form c).In-Form in
     let forms = c.args.core.now.forms in
-    let code = instructions_of c.args.code.now.items in
+    let code = c.args.code.now in
     let old = c.args.tasks.now.items in
     let new = c.add_tasks.new.tasks.items in
     let form = (plan at).form in
-    let here : c.len.result ≡ length code = c.len.ensures ∙ sym (stand at) in
     on_ok_weaker c.add_tasks.result
-    (λ adds. subst (λ (t : Task). DoesTask forms t code old code new) (sym c.in-Form.is) (DoesTask-form forms code old new c.in-Form.number form (planned at).same (subst (λ pc. Adds forms pc (Form form) old new) here adds)))
+    (λ adds. subst (λ (t : Task). DoesTask forms t code old code new) (sym c.in-Form.is) (DoesTask-form forms code old new c.in-Form.number form (planned at).same (subst (λ pc. Adds forms pc (Form form) old new) c.len.ensures adds)))
     c.add_tasks.ensures

@@ -1,6 +1,4 @@
 use Rattle.std.proofs.Common.{length, ap, ◌∙◌, arith}
-use Rattle.std.proofs.lemmas.List.{length-map}
-use Rattle.peg_code.specs.Instrs.{instruction_of, instructions_of}
 use Rattle.peg_code.proofs.TaskLemmas.{last-fits, last-laid, last-room, last-weight, length-after, others-fit}
 use Rattle.peg_code.proofs.tasks.lay.Goals as goal
 
@@ -11,9 +9,9 @@ do_task-requires-clause-fits c =
 pub do_task-requires-clause-room : goal.do_task-requires-clause-room
 do_task-requires-clause-room c =
     let forms = c.args.core.now.forms in
-    let old = instructions_of c.args.code.now.items in
-    let left = last-room forms c.lays.tasks.items c.pop.new.self.items c.in-Some.task c.in-Some.ensures.items (instructions_of c.lays.code.items) in
-    omega (arith, left, ap length c.lays.invariant.laid, length-after forms old c.args.number, length-map c.args.code.now.items instruction_of, c.requires.room)
+    let old = c.args.code.now in
+    let left = last-room forms c.lays.tasks.items c.pop.new.self.items c.in-Some.task c.in-Some.ensures.items c.lays.code in
+    omega (arith, left, ap length c.lays.invariant.laid, length-after forms old c.args.number, c.requires.room)
 
 pub lays-smaller : goal.lays-smaller
 lays-smaller c =
@@ -27,6 +25,6 @@ lays-preserved c =
     let rest = c.pop.new.self.items in
     let taken = c.in-Some.ensures.items in
     record {
-      laid = c.in_ok-do_task.ensures.laid ∙ (last-laid forms tasks rest c.in-Some.task taken (instructions_of c.lays.code.items) ∙ c.lays.invariant.laid);
+      laid = c.in_ok-do_task.ensures.laid ∙ (last-laid forms tasks rest c.in-Some.task taken c.lays.code ∙ c.lays.invariant.laid);
       fit = c.in_ok-do_task.ensures.fit (others-fit forms tasks rest c.in-Some.task taken c.lays.invariant.fit);
     }

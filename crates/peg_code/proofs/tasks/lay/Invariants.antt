@@ -1,5 +1,4 @@
 use Rattle.std.proofs.Common.{◌≡◌, All, length}
-use Rattle.peg_code.specs.Instrs.{instructions_of}
 use Rattle.peg_code.specs.Tasks.{after, after_all, TaskFits, weight_of_all}
 use Rattle.peg_code.specs.declared.tasks.Task.TheVariants.{Form}
 use Rattle.peg_code.proofs.tasks.lay.Given as goal
@@ -7,7 +6,7 @@ use Rattle.peg_code.proofs.tasks.lay.Given as goal
 -- what stands, followed by the code of the tasks, is what was there and the form's code
 abbrev pub invariant-lays : goal.invariant-lays
 invariant-lays l = record {
-  laid : after_all l.core.forms (instructions_of l.code.items) l.tasks.items ≡ after l.core.forms (instructions_of l.fn.code.items) (Form l.fn.number);
+  laid : after_all l.core.forms l.code l.tasks.items ≡ after l.core.forms l.fn.code (Form l.fn.number);
   fit : All (TaskFits (length l.core.forms)) l.tasks.items;
 }
 

@@ -1,4 +1,4 @@
-use Rattle.std.proofs.Common.{◌∙◌, ap, arith, length, sym}
+use Rattle.std.proofs.Common.{ap, arith, length}
 use Rattle.std.proofs.lemmas.List.{length-map}
 use Rattle.peg_core.specs.Layout.{bodies_of, form_at}
 use Rattle.peg_code.specs.Compiled.{Compiled}
