@@ -13,6 +13,7 @@ mod RecordRuns
 mod RowClosing
 mod RunRules
 mod Stacks
+mod StampLemmas
 mod StepRounds
 mod StepsOfRecords
 mod TasksTogether

@@ -7,6 +7,7 @@ pub mod OpenRows
 pub mod Packrat
 pub mod Running
 pub mod Runs
+pub mod Stamps
 pub mod Stands
 pub mod StepExamples
 pub mod Steps

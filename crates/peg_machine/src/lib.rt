@@ -13,3 +13,4 @@ pub mod event_laws;
 pub mod laws;
 pub mod packrat_laws;
 pub mod run_laws;
+mod stamps;

@@ -1,0 +1,17 @@
+use Rattle.std.proofs.Common.{inl, inr, ◌+◌, get_or, arith}
+use Rattle.std.proofs.lemmas.Bool.{cases_lt}
+use Rattle.std.proofs.lemmas.Grind.{get_or_default_zero}
+use Rattle.peg_machine.proofs.StampLemmas.{stamps_after}
+use Rattle.peg_machine.proofs.stamps.Stamps.note.Goals as goal
+
+-- the stamp that was there is the greater one, or 1 + the place
+pub returns-clause-noted : goal.returns-clause-noted
+returns-clause-noted c tests are =
+    let reads = get_or_default_zero c.args.self.now.stamps.items c.args.terminal c.index_mut-stamp.result.now
+    c.requires.within in
+    stamps_after tests c.args.self.now.stamps.items c.args.terminal c.args.place _ c.requires.within are
+    (omega arith) (omega arith)
+    (elim (cases_lt (get_or c.args.self.now.stamps.items c.args.terminal 0) (c.args.place + 1)) [
+      | inl less ↦ inr (omega arith)
+      | inr more ↦ inl (omega arith)
+    ])
