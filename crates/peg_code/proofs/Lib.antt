@@ -1,5 +1,5 @@
-mod CodeLemmas
-mod LayoutLemmas
+pub mod CodeLemmas
+pub mod LayoutLemmas
 mod PlanLemmas
 mod SlotLemmas
 mod TaskLemmas

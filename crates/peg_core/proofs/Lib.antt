@@ -1,9 +1,9 @@
 mod AddLemmas
-mod CoreComplete
+pub mod CoreComplete
 pub mod CoreRefutations
 pub mod CoreRounds
-mod CoreShown
-mod CoreWithin
+pub mod CoreShown
+pub mod CoreWithin
 mod FlatLemmas
 mod FormsAmong
 mod LaidLemmas

@@ -1,7 +1,10 @@
 pub mod Accounts
 pub mod Begins
+pub mod CoreOutcome
 pub mod Entries
 pub mod Local
+pub mod Machine
+pub mod Moments
 pub mod Noted
 pub mod OpenRows
 pub mod Packrat

@@ -8,9 +8,21 @@
 #![tactic(auto)]
 
 pub mod account_laws;
+mod answer;
+mod entry;
 pub mod entry_laws;
 pub mod event_laws;
+mod fault;
+mod input;
 pub mod laws;
+mod machine;
 pub mod packrat_laws;
+mod rounds;
 pub mod run_laws;
+mod running;
 mod stamps;
+mod steps;
+
+pub use answer::Answer;
+pub use fault::RunFault;
+pub use running::run;

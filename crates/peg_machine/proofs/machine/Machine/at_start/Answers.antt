@@ -1,0 +1,60 @@
+use Rattle.std.proofs.Common.{◌≡◌, ◌∷◌, ◌++◌, [], List, ℕ, inl, map, sym, ◌∙◌, ap, refl, subst}
+use Rattle.peg_tree.specs.Rows.{Row, row_of}
+use Rattle.peg_machine.specs.Entries.{Entry, Called}
+use Rattle.peg_machine.specs.Machine.{course_from, entry_of, job_of, starts_at}
+use Rattle.peg_machine.specs.Moments.{IsUnderway}
+use Rattle.peg_machine.specs.OpenRows.{opened}
+use Rattle.peg_machine.specs.Underway.{RunsAt}
+use Rattle.peg_tree.specs.declared.row.TreeNode.{TreeNode}
+use Rattle.peg_machine.specs.declared.entry.Entry as code
+use Rattle.peg_machine.specs.declared.entry.Entry.TheVariants.{Frame}
+use Rattle.peg_machine.proofs.InputLemmas.{enters_of}
+use Rattle.peg_machine.proofs.MomentEnds.{begins}
+use Rattle.peg_machine.proofs.machine.Machine.at_start.Goals as goal
+
+-- the row of a use that begins
+abbrev row_from : (rule start end : ℕ) → Row
+row_from rule start end = record { rule = rule; start = start; end = end; size = 0 }
+
+pub returns : goal.returns
+returns c = λ answer answers.
+    let input = c.args.input in
+    let job = job_of input in
+    let course = course_from input c.args.start answer in
+    let pair = starts_at c.args.start in
+    let stamps = c.in_ok-stamps.stamps.stamps.items in
+    let first = begins job input.program.now.entries (enters_of input) course stamps refl answers
+    c.in_ok-stamps.ensures.nothing (c.in_ok-stamps.ensures.count ∙ c.terminals.ensures.count) in
+    let entry : first.0 ≡ c.entry.result = (let here = first.1 in let there = c.entry.ensures.number in cc) in
+    let row : TreeNode = record { rule = c.args.start; span = c.new.result; size = 0 } in
+    let rows_are : c.push.new.self.items ≡ row ∷ [] =
+    c.in_ok-push.ensures.items ∙ ap (λ (before : List TreeNode). before ++ row ∷ []) c.new-rows.ensures.items in
+    let frame = Frame c.args.start 0 0 0 in
+    let stack_is : c.push-2.new.self.items ≡ frame ∷ [] =
+    c.in_ok-push-2.ensures.items ∙ ap (λ (before : List code.Entry). before ++ frame ∷ []) c.new-stack.ensures.items in
+    let rows : map row_of c.push.new.self.items ≡ opened [] pair =
+    ap (map row_of) rows_are
+    ∙ ap (λ (n : ℕ). row_from c.args.start n c.new.result.end ∷ []) c.new.ensures.start
+    ∙ ap (λ (n : ℕ). row_from c.args.start 0 n ∷ []) c.new.ensures.end in
+    let entries : map entry_of c.push-2.new.self.items ≡ Called pair 0 0 ∷ [] = ap (map entry_of) stack_is in
+    inl (subst
+    (λ (at : ℕ). IsUnderway job course (RunsAt at 0 (map row_of c.push.new.self.items)) (record {
+      rows = map row_of c.push.new.self.items;
+      entries = map entry_of c.push-2.new.self.items;
+      stamps = stamps;
+    }))
+    entry
+    (subst
+    (λ (entries : List Entry). IsUnderway job course (RunsAt first.0 0 (map row_of c.push.new.self.items)) (record {
+      rows = map row_of c.push.new.self.items;
+      entries = entries;
+      stamps = stamps;
+    }))
+    (sym entries)
+    (subst
+    (λ (rows : List Row). IsUnderway job course (RunsAt first.0 0 rows) (record {
+      rows = rows;
+      entries = Called pair 0 0 ∷ [];
+      stamps = stamps;
+    }))
+    (sym rows) first.2)))

@@ -1,0 +1,28 @@
+//! Why a run has no answer.
+use std::alloc::AllocError;
+use thiserror::Error;
+
+/// Why a program isn't run to its end.
+#[derive(Clone, Copy, Debug, PartialEq, Eq, Error)]
+pub enum RunFault {
+    /// The text has more than `MOST_TEXT_BYTES` bytes.
+    #[error("the text is too long")]
+    TextTooLong,
+    /// More steps are needed than were allowed.
+    #[error("the limit of steps is reached")]
+    StepLimit,
+    /// Memory ran out.
+    #[error("out of memory")]
+    Memory,
+}
+
+impl From<AllocError> for RunFault {
+    ghost use Rattle.std.specs.Prelude.{◌≡◌};
+    ghost use Rattle.peg_machine.specs.declared.fault.RunFault.TheVariants.{Memory};
+
+    ghost from_gives = { λ _ fault. fault ≡ Memory };
+
+    fn from(_error: AllocError) -> RunFault {
+        RunFault::Memory
+    }
+}
