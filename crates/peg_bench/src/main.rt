@@ -6,6 +6,7 @@ mod cycles;
 mod files;
 mod grammars;
 mod rules;
+mod runs;
 mod tables;
 mod trees;
 
@@ -27,8 +28,12 @@ fn main(rt: HostRuntime) -> io::Result<()> {
         "notation" => files::run(&rt, alloc, word),
         "check" => cycles::run(&rt, alloc, word),
         "table" => tables::run(&rt, alloc, word),
+        "run" => {
+            let text = env::args(&rt)?.nth(3);
+            runs::run(rt, alloc, word, text.as_ref().map_or("", |w| w.as_str()))
+        }
         _ => println!(rt;
-            "words: grammar, tree, values, rows, nested, notation, check or table, and on what"
+            "words: grammar, tree, values, rows, nested, notation, check, table or run, and on what"
         ),
     }
 }

@@ -4,7 +4,8 @@
 //! the machine local to one rule's body, and `Runs`, what code does in it; `OpenRows`, `Running` and `Begins`, what each
 //! use of a rule that is under way has been promised; `Noted` and `Underway`, what is known of a run at each moment;
 //! `Accounts`, how its steps stand to its own and its plain steps; `Packrat`, why none is begun twice; `Entries`, its
-//! stack as it stands in memory.
+//! stack as it stands in memory, `Stamps`, its failed tests, and `Moments`, what is known of both; `CoreOutcome`, what a
+//! run has to answer; `Machine`, what the code's own types are seen as.
 #![tactic(auto)]
 
 pub mod account_laws;

@@ -1,0 +1,42 @@
+//! Runs the program of a grammar file on a text file, from its first rule, and prints how many steps that took, how many
+//! rows the tree has, 0 where the text isn't matched, and the milliseconds of the run alone.
+use peg_check::check;
+use peg_code::{Program, compile};
+use peg_core::desugar;
+use peg_grammar::Grammar;
+use peg_machine::run as run_program;
+use peg_notation::read;
+use peg_tree::Parsed;
+use std::alloc::Global;
+use std::time::Instant;
+use std::{fs, io};
+
+// The program of a grammar file; none where it is refused.
+fn program_of(alloc: Global, file: &[u8]) -> Option<Program> {
+    let grammar = Grammar::new(alloc, read(alloc, file).ok()?).ok()?;
+    let checked = check(alloc, desugar(alloc, &grammar).ok()?).ok()?;
+    compile(alloc, checked).ok()
+}
+
+pub(crate) fn run(rt: HostRuntime, alloc: Global, grammar: &str, text: &str) -> io::Result<()> {
+    let grammar = fs::read(&rt, grammar)?;
+    let text = fs::read(&rt, text)?;
+    let Some(program) = program_of(alloc, grammar.as_slice()) else {
+        return println!(rt; "refused");
+    };
+    if program.rules() == 0 {
+        return println!(rt; "no rule");
+    }
+    let start = Instant::now(&rt)?;
+    match run_program(alloc, &program, text.as_slice(), 0, None) {
+        Err(_) => println!(rt; "no answer"),
+        Ok(answer) => {
+            let time = start.elapsed(&rt)?.as_millis();
+            let rows = match &answer.outcome.result {
+                Parsed::Matched { tree, .. } => tree.len(),
+                Parsed::Failed => 0,
+            };
+            println!(rt; "{} steps, {rows} rows, {time} ms", answer.steps)
+        }
+    }
+}
