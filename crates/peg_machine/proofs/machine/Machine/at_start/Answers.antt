@@ -28,10 +28,12 @@ returns c = λ answer answers.
     let entry : first.0 ≡ c.entry.result = (let here = first.1 in let there = c.entry.ensures.number in cc) in
     let row : TreeNode = record { rule = c.args.start; span = c.new.result; size = 0 } in
     let rows_are : c.push.new.self.items ≡ row ∷ [] =
-    c.in_ok-push.ensures.items ∙ ap (λ (before : List TreeNode). before ++ row ∷ []) c.new-rows.ensures.items in
+    ◌∙◌ {A = List TreeNode} c.in_ok-push.ensures.items
+    (ap (λ (before : List TreeNode). before ++ row ∷ []) c.new-rows.ensures.items) in
     let frame = Frame c.args.start 0 0 0 in
     let stack_is : c.push-2.new.self.items ≡ frame ∷ [] =
-    c.in_ok-push-2.ensures.items ∙ ap (λ (before : List code.Entry). before ++ frame ∷ []) c.new-stack.ensures.items in
+    ◌∙◌ {A = List code.Entry} c.in_ok-push-2.ensures.items
+    (ap (λ (before : List code.Entry). before ++ frame ∷ []) c.new-stack.ensures.items) in
     let rows : map row_of c.push.new.self.items ≡ opened [] pair =
     ap (map row_of) rows_are
     ∙ ap (λ (n : ℕ). row_from c.args.start n c.new.result.end ∷ []) c.new.ensures.start

@@ -1,0 +1,73 @@
+#!/usr/bin/env bash
+# Runs the machine over texts and grammars that grow by tens, and shows steps, rows, the milliseconds of the run alone and
+# the bytes of memory at the peak of the whole process.
+set -eu
+cd "$(dirname "$0")/../crates/peg_bench"
+rt run > /dev/null
+exec python3 - << 'PYTHON'
+import os
+import re
+import subprocess
+import tempfile
+
+
+def run(grammar, text):
+    """Steps, rows, milliseconds and bytes of memory at the peak; of three runs the fastest."""
+    with tempfile.TemporaryDirectory() as folder:
+        paths = [os.path.join(folder, name) for name in ("grammar", "text")]
+        for path, content in zip(paths, (grammar, text)):
+            with open(path, "wb") as file:
+                file.write(content)
+        best = None
+        for _ in range(3):
+            program = subprocess.Popen(["./out/peg_bench", "run", *paths], stdout=subprocess.PIPE)
+            printed = program.stdout.read().decode()
+            _, _, used = os.wait4(program.pid, 0)
+            steps, rows, time = re.fullmatch(r"(\d+) steps, (\d+) rows, (\d+) ms\n", printed).groups()
+            this = (int(time), int(steps), int(rows), used.ru_maxrss * 1024)
+            best = this if best is None or this < best else best
+    return best
+
+
+def numbers(count):
+    """A list of numbers in JSON, of about so many bytes."""
+    return b"[" + b", ".join(b"%d" % (n * 7919 % 1000003) for n in range(count // 8)) + b"]"
+
+
+RIGHT = b"S <- 'a' S / 'b'\n"
+NESTED = b"S <- '(' S ')' / 'x'\n"
+JSON = b"""File <- Space Value !.
+Value <- List / Number
+List <- '[' Space (Value (',' Space Value)*)? ']' Space
+Number <- '-'? ([1-9] [0-9]* / '0') Space
+Space <- [ \\t\\r\\n]*
+"""
+
+
+def alternatives(count):
+    return b"S <- 'a'" + b"/'a'" * (count - 1) + b"\n"
+
+
+def falling(count):
+    """A star over rules whose terminals fail from the last to the first at each place, and then any byte."""
+    uses = b" / ".join(b"R%d" % n for n in reversed(range(count)))
+    return b"S <- (" + uses + b" / .)*\n" + b"".join(b"R%d <- 'a'\n" % n for n in range(count))
+
+
+CASES = [
+    ("one star over any byte", lambda n: (b"S <- .* !.\n", b"z" * n), (10**5, 10**6, 10**7, 67_108_864)),
+    ("numbers in JSON", lambda n: (JSON, numbers(n)), (10**5, 10**6, 10**7, 6 * 10**7)),
+    ("right recursion, so many levels", lambda n: (RIGHT, b"a" * n + b"b"), (10**4, 10**5, 10**6, 10**7)),
+    ("parentheses, so many levels", lambda n: (NESTED, b"(" * n + b"x" + b")" * n), (10**4, 10**5, 10**6, 10**7)),
+    ("failing through so many frames", lambda n: (RIGHT, b"a" * n), (10**4, 10**5, 10**6, 10**7)),
+    ("so many alternatives that fail", lambda n: (alternatives(n), b"z"), (300, 3_000, 30_000, 250_000)),
+    ("falling terminals, so many a place, 1,000 places", lambda n: (falling(n), b"z" * 1000), (10, 100, 1000, 10_000)),
+]
+
+print("| What is run | Size | Steps | Rows | Milliseconds | Nanoseconds a step | MiB |")
+print("|---|---|---|---|---|---|---|")
+for name, case, sizes in CASES:
+    for size in sizes:
+        time, steps, rows, memory = run(*case(size))
+        print(f"| {name} | {size:,} | {steps:,} | {rows:,} | {time:,} | {time * 1e6 / steps:.1f} | {memory / 2**20:.0f} |")
+PYTHON
