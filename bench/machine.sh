@@ -11,20 +11,29 @@ import subprocess
 import tempfile
 
 
-def run(grammar, text):
-    """Steps, rows, milliseconds and bytes of memory at the peak; of three runs the fastest."""
-    with tempfile.TemporaryDirectory() as folder:
-        paths = [os.path.join(folder, name) for name in ("grammar", "text")]
-        for path, content in zip(paths, (grammar, text)):
+def written(case, size, paths):
+    """Writes a case's grammar and text, in a process of its own, so that this one stays small."""
+    child = os.fork()
+    if child == 0:
+        for path, content in zip(paths, case(size)):
             with open(path, "wb") as file:
                 file.write(content)
+        os._exit(0)
+    os.waitpid(child, 0)
+
+
+def run(case, size):
+    """Microseconds, steps, rows, and bytes of memory at the peak; of three runs the fastest."""
+    with tempfile.TemporaryDirectory() as folder:
+        paths = [os.path.join(folder, name) for name in ("grammar", "text")]
+        written(case, size, paths)
         best = None
         for _ in range(3):
             program = subprocess.Popen(["./out/peg_bench", "run", *paths], stdout=subprocess.PIPE)
             printed = program.stdout.read().decode()
             _, _, used = os.wait4(program.pid, 0)
-            steps, rows, time = re.fullmatch(r"(\d+) steps, (\d+) rows, (\d+) ms\n", printed).groups()
-            this = (int(time), int(steps), int(rows), used.ru_maxrss * 1024)
+            steps, rows, time = map(int, re.fullmatch(r"(\d+) steps, (\d+) rows, (\d+) us\n", printed).groups())
+            this = (time, steps, rows, used.ru_maxrss * 1024)
             best = this if best is None or this < best else best
     return best
 
@@ -68,6 +77,7 @@ print("| What is run | Size | Steps | Rows | Milliseconds | Nanoseconds a step |
 print("|---|---|---|---|---|---|---|")
 for name, case, sizes in CASES:
     for size in sizes:
-        time, steps, rows, memory = run(*case(size))
-        print(f"| {name} | {size:,} | {steps:,} | {rows:,} | {time:,} | {time * 1e6 / steps:.1f} | {memory / 2**20:.0f} |")
+        time, steps, rows, memory = run(case, size)
+        cells = f"{time / 1000:,.1f} | {time * 1000 / steps:.1f} | {memory / 2**20:.0f}"
+        print(f"| {name} | {size:,} | {steps:,} | {rows:,} | {cells} |")
 PYTHON

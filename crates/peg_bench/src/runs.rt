@@ -1,5 +1,5 @@
 //! Runs the program of a grammar file on a text file, from its first rule, and prints how many steps that took, how many
-//! rows the tree has, 0 where the text isn't matched, and the milliseconds of the run alone.
+//! rows the tree has, 0 where the text isn't matched, and the microseconds of the run alone.
 use peg_check::check;
 use peg_code::{Program, compile};
 use peg_core::desugar;
@@ -31,12 +31,12 @@ pub(crate) fn run(rt: HostRuntime, alloc: Global, grammar: &str, text: &str) -> 
     match run_program(alloc, &program, text.as_slice(), 0, None) {
         Err(_) => println!(rt; "no answer"),
         Ok(answer) => {
-            let time = start.elapsed(&rt)?.as_millis();
+            let time = start.elapsed(&rt)?.as_micros();
             let rows = match &answer.outcome.result {
                 Parsed::Matched { tree, .. } => tree.len(),
                 Parsed::Failed => 0,
             };
-            println!(rt; "{} steps, {rows} rows, {time} ms", answer.steps)
+            println!(rt; "{} steps, {rows} rows, {time} us", answer.steps)
         }
     }
 }
