@@ -20,24 +20,24 @@ pub returns : goal.returns
 returns c = λ answer answers.
     let input = c.args.input in
     let job = job_of input in
-    let course = course_from input c.args.start answer in
-    let pair = starts_at c.args.start in
+    let course = course_from input answer in
+    let pair = starts_at c.args.input.start in
     let stamps = c.in_ok-stamps.stamps.stamps.items in
     let first = begins job input.program.now.entries (enters_of input) course stamps refl answers
     c.in_ok-stamps.ensures.nothing (c.in_ok-stamps.ensures.count ∙ c.terminals.ensures.count) in
     let entry : first.0 ≡ c.entry.result = (let here = first.1 in let there = c.entry.ensures.number in cc) in
-    let row : TreeNode = record { rule = c.args.start; span = c.new.result; size = 0 } in
+    let row : TreeNode = record { rule = c.args.input.start; span = c.new.result; size = 0 } in
     let rows_are : c.push.new.self.items ≡ row ∷ [] =
     ◌∙◌ {A = List TreeNode} c.in_ok-push.ensures.items
     (ap (λ (before : List TreeNode). before ++ row ∷ []) c.new-rows.ensures.items) in
-    let frame = Frame c.args.start 0 0 0 in
+    let frame = Frame c.args.input.start 0 0 0 in
     let stack_is : c.push-2.new.self.items ≡ frame ∷ [] =
     ◌∙◌ {A = List code.Entry} c.in_ok-push-2.ensures.items
     (ap (λ (before : List code.Entry). before ++ frame ∷ []) c.new-stack.ensures.items) in
     let rows : map row_of c.push.new.self.items ≡ opened [] pair =
     ap (map row_of) rows_are
-    ∙ ap (λ (n : ℕ). row_from c.args.start n c.new.result.end ∷ []) c.new.ensures.start
-    ∙ ap (λ (n : ℕ). row_from c.args.start 0 n ∷ []) c.new.ensures.end in
+    ∙ ap (λ (n : ℕ). row_from c.args.input.start n c.new.result.end ∷ []) c.new.ensures.start
+    ∙ ap (λ (n : ℕ). row_from c.args.input.start 0 n ∷ []) c.new.ensures.end in
     let entries : map entry_of c.push-2.new.self.items ≡ Called pair 0 0 ∷ [] = ap (map entry_of) stack_is in
     inl (subst
     (λ (at : ℕ). IsUnderway job course (RunsAt at 0 (map row_of c.push.new.self.items)) (record {
