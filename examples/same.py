@@ -1,10 +1,10 @@
 #!/usr/bin/env python3
 """Compares the grammars and texts of this folder with those that the tests hold, byte for byte.
 
-The tests are crates/peg_tests/src/examples.rt. There a grammar is a constant with the name of its file, as JSON for
-json.peg, and a text stands in the list of `the_texts_of_json` behind its file's name in the folder json, before the
-status that its name tells: 0 for `match`, 1 for `no_match`. Each file here has to stand there too. Prints what differs
-and ends with 1; else says that all are the same.
+The tests are src/examples.rt of crates/peg_tests and of crates/peg_machine_tests. There a grammar is a constant with
+the name of its file, as JSON for json.peg, and a text stands in the list of `the_texts_of_json` behind its file's name
+in the folder json, before the status that its name tells: 0 for `match`, 1 for `no_match`. Each file here has to stand
+in both. Prints what differs and ends with 1; else says that all are the same.
 """
 
 import re
@@ -12,10 +12,11 @@ import sys
 from pathlib import Path
 
 HERE = Path(__file__).resolve().parent
-TESTS = HERE.parent / "crates" / "peg_tests" / "src" / "examples.rt"
+CRATES = HERE.parent / "crates"
+TESTS = [CRATES / name / "src" / "examples.rt" for name in ("peg_tests", "peg_machine_tests")]
 
 STRING = r'"((?:[^"\\]|\\.)*)"'
-CONSTANT = re.compile(r"^const (\w+): &\[u8\] = b" + STRING + ";", re.M | re.S)
+CONSTANT = re.compile(r"^(?:pub\(crate\) )?const (\w+): &\[u8\] = b" + STRING + ";", re.M | re.S)
 TEXTS = re.compile(r"^fn the_texts_of_(\w+)\(.*?^}", re.M | re.S)
 TEXT = re.compile(r"\(\s*" + STRING + r",\s*b" + STRING + r",\s*(\d+),?\s*\)", re.S)
 ESCAPE = re.compile(rb"\\(?:\n\s*|x([0-9a-fA-F]{2})|(.))", re.S)
@@ -71,15 +72,19 @@ def wrong_statuses(texts):
             yield f"{name}: the tests want the status {status}"
 
 
+def faults_of(tests, grammars, texts):
+    """What is wrong with the grammars and texts that a file of tests holds, beside those here."""
+    held = tests.read_text(encoding="utf-8")
+    told = held_texts(held)
+    yield from differences(held_grammars(held), grammars)
+    yield from differences({name: text for name, (text, _) in told.items()}, texts)
+    yield from wrong_statuses(told)
+
+
 def main():
-    tests = TESTS.read_text(encoding="utf-8")
-    grammars = held_grammars(tests)
-    texts = held_texts(tests)
-    faults = [
-        *differences(grammars, file_bytes("*.peg")),
-        *differences({name: text for name, (text, _) in texts.items()}, file_bytes("*/*.txt")),
-        *wrong_statuses(texts),
-    ]
+    grammars = file_bytes("*.peg")
+    texts = file_bytes("*/*.txt")
+    faults = [f"{tests.parts[-3]}: {fault}" for tests in TESTS for fault in faults_of(tests, grammars, texts)]
     for fault in faults:
         print(fault)
     if not faults:

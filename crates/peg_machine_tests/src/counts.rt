@@ -1,0 +1,85 @@
+//! As many of `a` as of `b` as of `c`, one after the other: no grammar without predicates says that.
+use crate::outcomes::{Case, assert_outcome, failed, matched};
+use crate::pairs::program_of;
+use peg_bytes::Span;
+use peg_code::Program;
+use peg_machine::{Answer, run};
+use peg_tree::{Parsed, Tree};
+use std::alloc::{AllocError, Global};
+use std::process::Abort;
+use std::test::Fail;
+
+const COUNTS: &[u8] = b"\
+    D <- &(A !'b') 'a'* B !.\n\
+    A <- 'a' A 'b' / ''\n\
+    B <- 'b' B 'c' / ''\n";
+
+// A run from the first rule.
+fn run_first(
+    rt: &impl Abort,
+    alloc: Global,
+    program: &Program,
+    text: &[u8],
+) -> Result<Answer, Fail> {
+    assert!(rt; program.rules() > 0);
+    Ok(run(alloc, program, text, 0, None)?)
+}
+
+// A text has this outcome, and the one terminal that is expected stands there in the file.
+fn assert_told(rt: &impl Abort, alloc: Global, case: Case, wanted: Span) -> Result<(), Fail> {
+    let program = program_of(alloc, COUNTS)?;
+    let answer = run_first(rt, alloc, &program, case.text)?;
+    assert_outcome(rt, alloc, &answer.outcome, case)?;
+    for terminal in &answer.outcome.expected {
+        assert!(rt; *terminal < program.terminals());
+        assert_eq!(rt; program.terminal_span(*terminal), wanted);
+    }
+    Ok(())
+}
+
+#[test]
+fn equal_counts_match(rt: HostRuntime) -> Result<(), Fail> {
+    let nodes = &[(0, 0, 6, 1), (2, 2, 6, 1), (2, 3, 5, 1), (2, 4, 4, 0)];
+    let case = matched(b"aabbcc", 6, 6, &[2], nodes);
+    assert_told(&rt, rt.alloc(), case, Span { start: 23, end: 24 })
+}
+
+#[test]
+fn a_missing_byte_at_the_end_is_told(rt: HostRuntime) -> Result<(), Fail> {
+    let case = failed(b"aabbc", 5, &[7]);
+    assert_told(&rt, rt.alloc(), case, Span { start: 56, end: 59 })
+}
+
+// So many of each byte.
+fn counted(alloc: Global, count: usize) -> Result<Vec<u8>, AllocError> {
+    let mut text = Vec::new(alloc);
+    for byte in *b"abc" {
+        text.extend_from_slice(&vec![in alloc; byte; count]?)?;
+    }
+    Ok(text)
+}
+
+// How many nodes are of a rule.
+fn count_of(tree: &Tree, rule: u32) -> usize {
+    (0..tree.len())
+        .filter(|node| tree.rule(*node) == rule)
+        .count()
+}
+
+#[test]
+fn ten_thousand_of_each_byte_match(rt: HostRuntime) -> Result<(), Fail> {
+    let alloc = rt.alloc();
+    let program = program_of(alloc, COUNTS)?;
+    let text = counted(alloc, 10_000)?;
+    let answer = run_first(&rt, alloc, &program, &text)?;
+    match &answer.outcome.result {
+        Parsed::Failed => assert!(rt; false, "no match"),
+        Parsed::Matched { end, tree } => {
+            assert_eq!(rt; *end, 30_000);
+            assert_eq!(rt; tree.len(), 10_002);
+            assert_eq!(rt; tree.rule(0), 0);
+            assert_eq!(rt; count_of(tree, 2), 10_001);
+        }
+    }
+    Ok(())
+}

@@ -1,0 +1,107 @@
+//! Grammars with their programs, from grammar files, and the machine beside the evaluator of written expressions.
+ghost use Rattle.std.specs.Prelude.{◌≡◌, length, IfOk, OnOk};
+ghost use Rattle.peg_ford.specs.WellFormed.{IsWellFormedGrammar};
+ghost use Rattle.peg_grammar.specs.GrammarRules.{rules_in};
+
+use crate::outcomes::assert_alike;
+use peg_check::{CheckFault, Checked, check};
+use peg_code::{CodeFault, Program, compile};
+use peg_core::desugar;
+use peg_grammar::{Grammar, plain_total};
+use peg_machine::run;
+use peg_notation::read;
+use peg_tree::Outcome;
+use std::alloc::{AllocError, Global};
+use std::process::Abort;
+use std::test::Fail;
+
+/// A file, its grammar, which is well-formed, and its program.
+#[derive(Drop)]
+pub(crate) struct Pair {
+    file: Vec<u8>,
+    pub(crate) grammar: Grammar,
+    pub(crate) program: Program,
+    pub ghost rules: { length program.core.bodies ≡ length (rules_in grammar) },
+    pub ghost well_formed: { ∥ IsWellFormedGrammar (rules_in grammar) ∥₁ },
+}
+
+// The checked core forms of a grammar, or why it isn't well-formed.
+fn checked_of(alloc: Global, grammar: &Grammar) -> Result<Checked, CheckFault>
+    ensures well_formed { OnOk result (IsWellFormedGrammar (rules_in grammar.now)) }
+    ensures rules { IfOk result (λ checked. length checked.core.bodies ≡ length (rules_in grammar.now)) }
+{
+    let core = desugar(alloc, grammar)?;
+    check(alloc, core)
+}
+
+// The pair of a file whose grammar was checked.
+fn compiled(
+    alloc: Global,
+    file: Vec<u8>,
+    grammar: Grammar,
+    checked: Checked,
+) -> Result<Pair, CodeFault>
+    requires rules { length checked.core.bodies ≡ length (rules_in grammar) }
+    requires well_formed { ∥ IsWellFormedGrammar (rules_in grammar) ∥₁ }
+{
+    let program = compile(alloc, checked)?;
+    Ok(Pair {
+        file,
+        grammar,
+        program,
+    })
+}
+
+/// The grammar of a file with its program, or none where it isn't well-formed.
+pub(crate) fn accepted_pair(alloc: Global, file: &[u8]) -> Result<Option<Pair>, Fail> {
+    let grammar = Grammar::new(alloc, read(alloc, file)?)?;
+    match checked_of(alloc, &grammar) {
+        Ok(checked) => {
+            let file = Vec::from_slice(alloc, file)?;
+            Ok(Some(compiled(alloc, file, grammar, checked)?))
+        }
+        Err(CheckFault::Memory) => Err(Fail::from(AllocError)),
+        Err(_) => Ok(None),
+    }
+}
+
+/// The grammar of a file, which is well-formed, with its program.
+pub(crate) fn pair_of(alloc: Global, file: &[u8]) -> Result<Pair, Fail> {
+    Ok(accepted_pair(alloc, file)?.ok_or("a grammar that isn't well-formed")?)
+}
+
+/// The program of a file whose grammar is well-formed.
+pub(crate) fn program_of(alloc: Global, file: &[u8]) -> Result<Program, Fail> {
+    let Pair { program, .. } = pair_of(alloc, file)?;
+    Ok(program)
+}
+
+/// Both outcomes of a text from a start, the machine's and the evaluator's, are the same; it is handed back.
+pub(crate) fn same_outcome(
+    rt: &impl Abort,
+    alloc: Global,
+    pair: &Pair,
+    text: &[u8],
+    start: u32,
+) -> Result<Outcome, Fail> {
+    assert!(rt; start < pair.grammar.rules());
+    let wanted = plain_total(alloc, &pair.grammar, text, start)?;
+    let answer = run(alloc, &pair.program, text, start, None)?;
+    let file = &pair.file;
+    let parse = format!(in alloc; "from {start} by {file:?} on {text:?}")?;
+    assert_alike(rt, &answer.outcome, &wanted, parse.as_str());
+    Ok(wanted)
+}
+
+/// Both outcomes of a text are the same from each rule on.
+pub(crate) fn assert_same(
+    rt: &impl Abort,
+    alloc: Global,
+    pair: &Pair,
+    text: &[u8],
+) -> Result<(), Fail> {
+    for start in 0..pair.grammar.rules() {
+        same_outcome(rt, alloc, pair, text, start)?;
+    }
+    Ok(())
+}

@@ -1,0 +1,170 @@
+//! Small grammars and texts by chance, of which the machine's outcomes are those of the evaluator.
+ghost use Rattle.std.specs.Prelude.{◌<◌, ◌≤◌};
+
+use crate::dice::Dice;
+use crate::pairs::{Pair, accepted_pair, same_outcome};
+use peg_tree::Parsed;
+use std::alloc::{AllocError, Global};
+use std::process::Abort;
+use std::test::Fail;
+
+// How many grammars are tried.
+const GRAMMARS: usize = 1_500;
+
+// How many texts each has.
+const TEXTS: usize = 8;
+
+// How many bytes a text has at most.
+const MOST_BYTES: usize = 8;
+
+// How many levels of operators an expression has at most.
+const LEVELS: u32 = 3;
+
+const NAMES: [&[u8]; 4] = [b"A", b"B", b"C", b"D"];
+
+const TERMINALS: [&[u8]; 12] = [
+    b"'a'", b"'b'", b"'c'", b"'a'", b"'b'", b"'ab'", b"'ca'", b"[a-b]", b"[bc]", b".", b"[]", b"''",
+];
+
+// Operators of one part: what stands before it and behind.
+const SIGNS: [(&[u8], &[u8]); 5] = [
+    (b"(", b")?"),
+    (b"(", b")*"),
+    (b"(", b")+"),
+    (b"&(", b")"),
+    (b"!(", b")"),
+];
+
+// Operators of two parts: what stands between them.
+const JOINTS: [&[u8]; 2] = [b") (", b") / ("];
+
+// What was compared: how many accepted grammars, runs that matched some byte, and runs that failed.
+#[derive(Drop, Default)]
+struct Counts {
+    grammars: u32,
+    matched: u32,
+    failed: u32,
+}
+
+// A terminal, or the use of one of so many rules.
+fn add_leaf(dice: &mut Dice, file: &mut Vec<u8>, rules: usize) -> Result<(), AllocError>
+    requires some { 0 < rules }
+    requires few { rules ≤ 4 }
+{
+    if dice.below(3) == 0 {
+        file.extend_from_slice(NAMES[dice.below(rules)])?;
+    } else {
+        file.extend_from_slice(TERMINALS[dice.below(12)])?;
+    }
+    Ok(())
+}
+
+// An expression of so many levels at most. It recurses as deep as these.
+fn add_expression(
+    dice: &mut Dice,
+    file: &mut Vec<u8>,
+    rules: usize,
+    levels: u32,
+) -> Result<(), AllocError>
+    requires some { 0 < rules }
+    requires few { rules ≤ 4 }
+{
+    if levels == 0 {
+        return add_leaf(dice, file, rules);
+    }
+    match dice.below(8) {
+        0 => add_leaf(dice, file, rules),
+        1 | 2 => {
+            let (before, behind) = SIGNS[dice.below(5)];
+            file.extend_from_slice(before)?;
+            add_expression(dice, file, rules, levels - 1)?;
+            file.extend_from_slice(behind)?;
+            Ok(())
+        }
+        _ => {
+            file.push(b'(')?;
+            add_expression(dice, file, rules, levels - 1)?;
+            file.extend_from_slice(JOINTS[dice.below(2)])?;
+            add_expression(dice, file, rules, levels - 1)?;
+            file.push(b')')?;
+            Ok(())
+        }
+    }
+}
+
+// A grammar file of one to four rules.
+fn some_file(alloc: Global, dice: &mut Dice) -> Result<Vec<u8>, AllocError> {
+    let rules = dice.below(4) + 1;
+    let mut file = Vec::new(alloc);
+    for rule in 0..rules {
+        file.extend_from_slice(NAMES[rule])?;
+        file.extend_from_slice(b" <- ")?;
+        add_expression(dice, &mut file, rules, LEVELS)?;
+        file.push(b'\n')?;
+    }
+    Ok(file)
+}
+
+// A text of letters that the grammars have.
+fn some_text(alloc: Global, dice: &mut Dice) -> Result<Vec<u8>, AllocError> {
+    let mut text = Vec::new(alloc);
+    for _ in 0..dice.below(MOST_BYTES + 1) {
+        text.push(b"abc"[dice.below(3)])?;
+    }
+    Ok(text)
+}
+
+// Compares both outcomes of a text from each rule on.
+fn compare(
+    rt: &impl Abort,
+    alloc: Global,
+    pair: &Pair,
+    text: &[u8],
+    counts: &mut Counts,
+) -> Result<(), Fail> {
+    for start in 0..pair.grammar.rules() {
+        let outcome = same_outcome(rt, alloc, pair, text, start)?;
+        match outcome.result {
+            Parsed::Failed => counts.failed = counts.failed.saturating_add(1),
+            Parsed::Matched { end, .. } => {
+                if end > 0 {
+                    counts.matched = counts.matched.saturating_add(1);
+                }
+            }
+        }
+    }
+    Ok(())
+}
+
+// Compares the outcomes of some texts.
+fn compare_texts(
+    rt: &impl Abort,
+    alloc: Global,
+    dice: &mut Dice,
+    pair: &Pair,
+    counts: &mut Counts,
+) -> Result<(), Fail> {
+    for _ in 0..TEXTS {
+        let text = some_text(alloc, dice)?;
+        compare(rt, alloc, pair, &text, counts)?;
+    }
+    Ok(())
+}
+
+#[test]
+fn grammars_by_chance_have_the_outcomes_of_the_evaluator(rt: HostRuntime) -> Result<(), Fail> {
+    let alloc = rt.alloc();
+    let mut dice = Dice::new(2004);
+    let mut counts = Counts::default();
+    for _ in 0..GRAMMARS {
+        let file = some_file(alloc, &mut dice)?;
+        if let Some(pair) = accepted_pair(alloc, &file)? {
+            counts.grammars = counts.grammars.saturating_add(1);
+            compare_texts(&rt, alloc, &mut dice, &pair, &mut counts)?;
+        }
+    }
+    assert!(rt; counts.grammars >= 300, "{}", counts.grammars);
+    assert!(rt; counts.matched >= 1_000, "{}", counts.matched);
+    assert!(rt; counts.failed >= 1_000, "{}", counts.failed);
+    Ok(())
+}
