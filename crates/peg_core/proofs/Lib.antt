@@ -7,7 +7,7 @@ pub mod CoreWithin
 mod FlatLemmas
 mod FormsAmong
 mod LaidLemmas
-mod Meanings
+pub mod Meanings
 pub mod PartsLemmas
 mod ReachedInSome
 mod RuleLemmas
@@ -16,5 +16,5 @@ pub mod StandingLemmas
 pub mod SugarLoops
 pub mod SugarMeets
 pub mod SugarOutcomes
-mod SugarRecords
+pub mod SugarRecords
 mod SugarWellFormed

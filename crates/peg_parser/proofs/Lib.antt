@@ -1,5 +1,6 @@
 mod AcceptLemmas
 mod CheckLemmas
+mod CoreStarts
 mod NameLemmas
 pub mod OutcomeFits
 mod RuleNames

@@ -2,21 +2,12 @@
 use Rattle.std.specs.Prelude.{ℕ, List, Option, option_map}
 use Rattle.peg_grammar.specs.GrammarRules.{rules_in}
 use Rattle.peg_ford.specs.Rules.{Rule}
-use Rattle.peg_grammar.specs.declared.total.TotalFault.{TotalFault}
-use Rattle.peg_grammar.specs.declared.total.TotalFault.TheVariants as total
 use Rattle.peg_parser.specs.declared.options.ParseOptions.{ParseOptions}
-use Rattle.peg_parser.specs.declared.parser.ParseFault.{ParseFault}
-use Rattle.peg_parser.specs.declared.parser.ParseFault.TheVariants.{TextTooLong, Memory}
 use Rattle.peg_parser.specs.declared.parser.Parser.{Parser}
 
 -- the rules of the grammar that it parses by, in order
 abbrev pub parser_rules : Parser → List Rule
 parser_rules parser = rules_in parser.grammar
-
--- a fault of the evaluator as one of the parse
-abbrev pub of_total : TotalFault → ParseFault
-of_total total.TextTooLong = TextTooLong
-of_total total.Memory = Memory
 
 -- the start that options name
 abbrev pub start_named : ParseOptions → Option (List ℕ)

@@ -8,5 +8,6 @@ mod refusal;
 
 pub use layers::grammar_of;
 pub use options::{DEFAULT_MEMO, ParseOptions};
-pub use parser::{Answer, ParseFault, Parser};
+pub use parser::{ParseFault, Parser};
+pub use peg_machine::Answer;
 pub use refusal::Refusal;

@@ -3,6 +3,7 @@ ghost use Rattle.std.specs.Prelude.{◌≡◌, ◌<◌, ◌≤◌, ◌↔◌, �
 ghost use Rattle.std.specs.Prelude.{length, slice_get, Some, IfOk, IfErr, IfSome, IsErrOf, OnOk};
 ghost use Rattle.peg_bytes.specs.Extent.{extent};
 ghost use Rattle.peg_core.specs.CoreForm.{core_bodies};
+ghost use Rattle.peg_core.specs.Layout.{bodies_of};
 ghost use Rattle.peg_code.specs.Code.{entries_of, program_code};
 ghost use Rattle.peg_code.specs.Compiled.{most_instructions};
 ghost use Rattle.peg_grammar.specs.GrammarRules.{rules_in};
@@ -15,8 +16,8 @@ use crate::options::ParseOptions;
 use crate::refusal::Refusal;
 use peg_bytes::Span;
 use peg_code::{Program, compile};
-use peg_grammar::{Grammar, TotalFault, plain_total};
-use peg_tree::Outcome;
+use peg_grammar::Grammar;
+use peg_machine::{Answer, RunFault, run};
 use std::alloc::Global;
 use thiserror::Error;
 
@@ -26,16 +27,10 @@ pub struct Parser {
     grammar: Grammar,
     program: Program,
     pub ghost well_formed: { ∥ IsWellFormedGrammar (rules_in grammar) ∥₁ },
+    pub ghost bodies: { ∥ bodies_of program.core ≡ core_bodies (rules_in grammar) ∥₁ },
     pub ghost code: { program.code ≡ program_code (core_bodies (rules_in grammar)) },
     pub ghost entries: { program.entries ≡ entries_of (core_bodies (rules_in grammar)) },
     pub ghost spans: { program.core.spans ≡ extents_of_terminals (rules_in grammar) },
-}
-
-/// What a parse of a text gives.
-#[derive(Debug, Drop)]
-pub struct Answer {
-    /// Whether the text's front matched, by which tree, and the furthest failure.
-    pub outcome: Outcome,
 }
 
 /// Why a text isn't parsed.
@@ -50,20 +45,6 @@ pub enum ParseFault {
     /// Memory ran out.
     #[error("out of memory")]
     Memory,
-}
-
-impl From<TotalFault> for ParseFault {
-    ghost use Rattle.std.specs.Prelude.{◌≡◌};
-    ghost use Rattle.peg_parser.specs.Parser.{of_total};
-
-    ghost from_gives = { λ total fault. fault ≡ of_total total };
-
-    fn from(fault: TotalFault) -> ParseFault {
-        match fault {
-            TotalFault::TextTooLong => ParseFault::TextTooLong,
-            TotalFault::Memory => ParseFault::Memory,
-        }
-    }
 }
 
 impl Parser {
@@ -136,8 +117,7 @@ impl Parser {
 
     /// What a rule of the grammar makes of a text's front: success, consumed length, tree and furthest failure are
     /// those of Ford's recognition relation for the grammar as written (Ford 2004, section 3.3). `NoSuchStart` comes
-    /// first, then `TextTooLong`. It may take time exponential in the text's length, and native stack as deep as the
-    /// cases of recognition nest.
+    /// first, then `TextTooLong`. It may take time exponential in the text's length; no native recursion.
     pub fn parse(
         &self,
         alloc: Global,
@@ -156,8 +136,12 @@ impl Parser {
         let Some(start) = self.start(options) else {
             return Err(ParseFault::NoSuchStart);
         };
-        let outcome = plain_total(alloc, &self.grammar, text, start)?;
-        Ok(Answer { outcome })
+        match run(alloc, &self.program, text, start, None) {
+            Ok(answer) => Ok(answer),
+            Err(RunFault::TextTooLong) => Err(ParseFault::TextTooLong),
+            Err(RunFault::Memory) => Err(ParseFault::Memory),
+            Err(RunFault::StepLimit) => unreachable!(),
+        }
     }
 
     // The number of the rule that a parse starts from.

@@ -7,7 +7,7 @@ use Rattle.peg_ford.specs.Rules.{Rule}
 use Rattle.peg_grammar.specs.Limits.{most_text_bytes}
 use Rattle.peg_parser.specs.Cause.{NoSuchStart, TextTooLong}
 use Rattle.peg_ford.specs.Starts.{start_of}
-use Rattle.peg_parser.specs.declared.parser.Answer.{Answer}
+use Rattle.peg_machine.specs.declared.answer.Answer.{Answer}
 use Rattle.peg_parser.specs.declared.parser.ParseFault.{ParseFault}
 use Rattle.peg_parser.specs.declared.parser.ParseFault.TheVariants as fault
 use Rattle.peg_reply.specs.Lines.{IsLineOf, IsReply, line_bytes}

@@ -1,12 +1,23 @@
-use Rattle.std.proofs.Common.{◌<◌, Err, ap, length, subst, sym}
-use Rattle.peg_code.specs.Code.{program_code}
-use Rattle.peg_code.specs.Compiled.{most_instructions}
+use Rattle.std.proofs.Common.{◌<◌, ◌∙◌, Err, ap, length, subst, sym}
+use Rattle.peg_code.specs.Code.{entries_of, program_code}
+use Rattle.peg_code.specs.Compiled.{Compiled, most_instructions}
+use Rattle.peg_core.specs.Layout.{bodies_of}
 use Rattle.peg_grammar.specs.GrammarRules.{rules_in}
 use Rattle.peg_parser.specs.Faults.{TellsWhy, of_code}
 use Rattle.peg_parser.specs.Refusals.{Refuses}
 use Rattle.peg_parser.specs.declared.refusal.Refusal.{Refusal}
 use Rattle.peg_parser.proofs.AcceptLemmas.{told-check, told-code, told-error}
 use Rattle.peg_parser.proofs.parser.Parser.of.Goals as goal
+
+pub invariant_of-result-clause-bodies : goal.invariant_of-result-clause-bodies
+invariant_of-result-clause-bodies c =
+    ∣ ap (λ (program : Compiled). bodies_of program.core) c.in_ok-program-in-Ok.ensures.program
+    ∙ c.in-Ok.ensures.bodies ∣₁
+
+pub invariant_of-result-clause-entries : goal.invariant_of-result-clause-entries
+invariant_of-result-clause-entries c =
+    ap (λ (program : Compiled). program.entries) c.in_ok-program-in-Ok.ensures.program
+    ∙ ap entries_of c.in-Ok.ensures.bodies
 
 pub returns-in-Err : goal.returns-in-Err
 returns-in-Err c = record {
