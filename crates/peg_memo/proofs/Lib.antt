@@ -1,0 +1,4 @@
+mod AfterKeep
+mod HeldPairs
+mod Mapped
+mod Uses

@@ -1,0 +1,15 @@
+-- What a memo keeps of a use.
+use Rattle.std.specs.Prelude.{ℕ, List, map}
+use Rattle.peg_tree.specs.Rows.{Row, row_of}
+use Rattle.peg_memo.specs.declared.found.Found.{Found}
+use Rattle.peg_memo.specs.declared.found.Found.TheVariants.{Failed, Done}
+
+-- the use failed, or it matched up to an end with these rows
+pub data Kept : Type 0 where
+  KeptFailure : Kept
+  KeptMatch : (end : ℕ) → (rows : List Row) → Kept
+
+-- what a result says
+abbrev pub kept_of : Found → Kept
+kept_of Failed = KeptFailure
+kept_of (Done end nodes) = KeptMatch end (map row_of nodes.now)

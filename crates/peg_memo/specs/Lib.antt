@@ -1,0 +1,5 @@
+pub mod Held
+pub mod Kept
+pub mod Memo
+pub mod Stored
+pub mod Use

@@ -1,0 +1,13 @@
+//! Memos: what came of a rule at a place, kept as long as there is room.
+#![tactic(auto)]
+
+mod found;
+mod keep;
+mod lru_memo;
+mod no_memo;
+mod stored;
+
+pub use found::Found;
+pub use keep::Keep;
+pub use lru_memo::LruMemo;
+pub use no_memo::NoMemo;

@@ -1,0 +1,31 @@
+//! A memo that holds nothing.
+ghost use Rattle.std.specs.Prelude.{false};
+ghost use Rattle.std.specs.FinMap as map;
+
+use crate::{Found, Keep};
+
+/// Holds nothing, and forgets what it is to keep.
+#[derive(Clone, Copy, Debug, Drop)]
+pub struct NoMemo;
+
+impl Keep for NoMemo {
+    ghost held = { λ _. map.empty };
+
+    ghost room = { λ _. 0 };
+
+    ghost refused = { λ _. false };
+
+    fn is_empty(&self) -> bool {
+        true
+    }
+
+    fn touch(&mut self, _rule: u32, _place: u32) {}
+
+    fn find(&self, _rule: u32, _place: u32) -> Option<Found<'_>> {
+        None
+    }
+
+    fn keep(&mut self, _rule: u32, _place: u32, _found: Found<'_>) -> bool {
+        false
+    }
+}

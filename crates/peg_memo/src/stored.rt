@@ -1,0 +1,41 @@
+//! A result as a memo stores it.
+ghost use Rattle.std.specs.Prelude.{◌≡◌, IfOk};
+ghost use Rattle.peg_memo.specs.Kept.{kept_of};
+ghost use Rattle.peg_memo.specs.Stored.{kept_in};
+
+use crate::Found;
+use peg_tree::TreeNode;
+use std::alloc::{AllocError, Global};
+
+/// A result with rows of its own.
+#[derive(Drop)]
+pub enum Stored {
+    Failed,
+    Done { end: u32, nodes: Vec<TreeNode> },
+}
+
+// The same result, with a copy of its rows.
+pub fn store(alloc: Global, found: Found<'_>) -> Result<Stored, AllocError>
+    ensures { IfOk result (λ stored. kept_in stored ≡ kept_of found.entry) }
+{
+    match found {
+        Found::Failed => Ok(Stored::Failed),
+        Found::Done { end, nodes } => Ok(Stored::Done {
+            end,
+            nodes: Vec::from_slice(alloc, nodes)?,
+        }),
+    }
+}
+
+// The result, with its rows lent.
+pub fn lent(stored: &Stored) -> Found<'_>
+    ensures { kept_of result ≡ kept_in stored.now }
+{
+    match stored {
+        Stored::Failed => Found::Failed,
+        Stored::Done { end, nodes } => Found::Done {
+            end: *end,
+            nodes: nodes.as_slice(),
+        },
+    }
+}

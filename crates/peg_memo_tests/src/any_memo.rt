@@ -1,0 +1,15 @@
+//! What tests ask of any memo.
+ghost use Rattle.std.specs.Prelude.{◌≡◌, Some, IsTrue};
+ghost use Rattle.std.specs.FinMap as map;
+ghost use Rattle.peg_memo.specs.Kept.{KeptFailure};
+
+use peg_memo::{Found, Keep};
+
+// Keeps a failure, and then looks it up. Whether it was kept, and whether it is found.
+pub(crate) fn keep_and_find<K: Keep>(memo: &mut K, rule: u32, place: u32) -> (bool, bool)
+    ensures { IsTrue result.0 → map.get (K.held memo.new) (rule, place) ≡ Some KeptFailure }
+{
+    let kept = memo.keep(rule, place, Found::Failed);
+    let found = memo.find(rule, place).is_some();
+    (kept, found)
+}

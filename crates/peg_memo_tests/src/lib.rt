@@ -1,0 +1,9 @@
+//! Tests of memos, by public calls.
+#![tactic(auto)]
+
+#[cfg(test)]
+mod any_memo;
+#[cfg(test)]
+mod lru_memo;
+#[cfg(test)]
+mod no_memo;

@@ -1,0 +1,135 @@
+//! Tests of the memo that drops the least recently used result.
+use crate::any_memo::keep_and_find;
+use peg_bytes::Span;
+use peg_memo::{Found, Keep, LruMemo};
+use peg_tree::TreeNode;
+use std::test::Fail;
+
+// A node of rule 1 from 2 up to 5, and the one below it.
+fn rows() -> [TreeNode; 2] {
+    [
+        TreeNode {
+            rule: 1,
+            span: Span::new(2, 5),
+            size: 2,
+        },
+        TreeNode {
+            rule: 4,
+            span: Span::new(3, 5),
+            size: 1,
+        },
+    ]
+}
+
+// Whether a rule is known to fail at a place.
+fn fails<K: Keep>(memo: &K, rule: u32, place: u32) -> bool {
+    matches!(memo.find(rule, place), Some(Found::Failed))
+}
+
+#[test]
+fn the_least_recently_used_goes(rt: HostRuntime) -> Result<(), Fail> {
+    let mut memo = LruMemo::new(rt.alloc(), 2)?;
+    assert!(rt; memo.keep(0, 0, Found::Failed));
+    assert!(rt; memo.keep(0, 1, Found::Failed));
+    memo.touch(0, 0);
+    assert!(rt; memo.keep(0, 2, Found::Failed));
+    assert!(rt; memo.find(0, 1).is_none());
+    assert!(rt; fails(&memo, 0, 0));
+    assert!(rt; fails(&memo, 0, 2));
+    Ok(())
+}
+
+#[test]
+fn a_match_comes_back_with_its_end_and_its_rows(rt: HostRuntime) -> Result<(), Fail> {
+    let mut memo = LruMemo::new(rt.alloc(), 8)?;
+    let nodes = rows();
+    assert!(rt;
+        memo.keep(
+            1,
+            2,
+            Found::Done {
+                end: 5,
+                nodes: &nodes
+            }
+        )
+    );
+    assert!(rt;
+        memo.keep(
+            1,
+            6,
+            Found::Done {
+                end: 6,
+                nodes: &nodes[1..]
+            }
+        )
+    );
+    match memo.find(1, 2) {
+        Some(Found::Done { end, nodes: found }) => {
+            assert_eq!(rt; end, 5);
+            assert_eq!(rt; found, nodes.as_slice());
+        }
+        _ => return Err("no match".into()),
+    }
+    match memo.find(1, 6) {
+        Some(Found::Done { end, nodes: found }) => {
+            assert_eq!(rt; end, 6);
+            assert_eq!(rt; found, &nodes[1..]);
+        }
+        _ => return Err("no match".into()),
+    }
+    Ok(())
+}
+
+#[test]
+fn another_rule_at_the_place_is_not_found(rt: HostRuntime) -> Result<(), Fail> {
+    let mut memo = LruMemo::new(rt.alloc(), 8)?;
+    assert!(rt; memo.keep(1, 2, Found::Failed));
+    assert!(rt; memo.find(2, 2).is_none());
+    assert!(rt; memo.find(2, 1).is_none());
+    assert!(rt; fails(&memo, 1, 2));
+    Ok(())
+}
+
+#[test]
+fn a_later_result_replaces_the_earlier(rt: HostRuntime) -> Result<(), Fail> {
+    let mut memo = LruMemo::new(rt.alloc(), 2)?;
+    let nodes = rows();
+    assert!(rt; memo.keep(1, 2, Found::Failed));
+    assert!(rt; memo.keep(1, 3, Found::Failed));
+    assert!(rt;
+        memo.keep(
+            1,
+            2,
+            Found::Done {
+                end: 5,
+                nodes: &nodes
+            }
+        )
+    );
+    assert!(rt; matches!(memo.find(1, 2), Some(Found::Done { end: 5, .. })));
+    assert!(rt; fails(&memo, 1, 3));
+    Ok(())
+}
+
+#[test]
+fn a_memo_is_empty_until_it_keeps(rt: HostRuntime) -> Result<(), Fail> {
+    let mut memo = LruMemo::new(rt.alloc(), 1)?;
+    assert!(rt; memo.is_empty());
+    memo.touch(0, 0);
+    assert!(rt; memo.is_empty());
+    assert_eq!(rt; keep_and_find(&mut memo, 0, 0), (true, true));
+    assert!(rt; !memo.is_empty());
+    assert_eq!(rt; keep_and_find(&mut memo, 0, 1), (true, true));
+    assert!(rt; memo.find(0, 0).is_none());
+    Ok(())
+}
+
+#[test]
+fn what_is_found_is_what_was_kept(rt: HostRuntime) -> Result<(), Fail> {
+    let mut memo = LruMemo::new(rt.alloc(), 4)?;
+    for place in 0..20 {
+        let (kept, found) = keep_and_find(&mut memo, 0, place);
+        assert_eq!(rt; kept, found);
+    }
+    Ok(())
+}
