@@ -16,7 +16,7 @@ import sys
 
 PROGRAM, FOLDER = sys.argv[1:]
 EXAMPLES = "../examples"
-RUNS = 7
+RUNS = 5
 
 
 def json_text(count):
