@@ -1,5 +1,5 @@
--- From a place of the text, the failed tests of a core form's record are at places of the text, and a match ends within
--- it.
+-- From a place of the text, the failed tests and the uses of a core form's record are at places of the text, and a
+-- match ends within it.
 use Rattle.std.proofs.Common.{◌≡◌, ℕ, zero, suc, ◌+◌, ◌≤◌, Bool, true, false, List, [], ◌∷◌, length, drop, All}
 use Rattle.std.proofs.Common.{if◌then◌else◌, Option, None, Some, IfSome, option_map, option_and_then, slice_get}
 use Rattle.std.proofs.Common.{subst, le_refl, arith}
@@ -7,9 +7,9 @@ use Rattle.std.proofs.lemmas.List.{length-drop}
 use Rattle.std.proofs.lemmas.List.Elements.{All-nil, All-cons, All-append}
 use Rattle.peg_bytes.specs.ByteSet.{has}
 use Rattle.peg_tree.specs.Trees.{Trees}
-use Rattle.peg_ford.specs.Record.{Recognition, Failed, Matched, Test as FailedTest, Record, matched_at, test_of}
-use Rattle.peg_ford.specs.Record.{failed_at, after_both, behind, followed, then_at, replaced, or_else, repeated}
-use Rattle.peg_ford.specs.Record.{if_failed, with_result, byte_at, as_tree, as_use}
+use Rattle.peg_ford.specs.Record.{Recognition, Failed, Matched, Test as FailedTest, Use, Record}
+use Rattle.peg_ford.specs.Record.{matched_at, test_of, failed_at, after_both, behind, followed, then_at, replaced}
+use Rattle.peg_ford.specs.Record.{or_else, repeated, if_failed, with_result, byte_at, as_tree, as_use}
 use Rattle.peg_core.specs.CoreForm.{CoreForm, Empty, Test, Rule, Seq, Choice, Star, Not}
 use Rattle.peg_core.specs.CoreRecord.{CoreTaking, core_table, core_record_in}
 
@@ -18,15 +18,19 @@ abbrev EndsBy : ℕ → Recognition → Type 0
 EndsBy long Failed = Unit {0}
 EndsBy long (Matched end trees) = end ≤ long
 
--- a record whose failed tests are at places of a text of this length, and whose match ends within it
+-- a record whose failed tests and uses are at places of a text of this length, and whose match ends within it
 record IsWithin (long : ℕ) (r : Record) : Type 0 where
   tests : All (λ (test : FailedTest). test.place ≤ long) r.tests
+  uses : All (λ (used : Use). used.place ≤ long) r.uses
   ends : EndsBy long r.result
 
 -- What each combinator of the recognition table makes of such records is such a record.
 module _ (long : ℕ) where
   abbrev InText : FailedTest → Type 0
   InText test = test.place ≤ long
+
+  abbrev IsUsedInText : Use → Type 0
+  IsUsedInText used = used.place ≤ long
 
   -- the record is such a one, if there is one
   abbrev Keeps : Option Record → Type 0
@@ -41,16 +45,22 @@ module _ (long : ℕ) where
   KeepsAll take = (form : CoreForm) (place : ℕ) → place ≤ long → Keeps (take form place)
 
   IsWithin-matched_at : (place : ℕ) → place ≤ long → IsWithin long (matched_at place)
-  IsWithin-matched_at place here = record { tests = All-nil InText; ends = here }
+  IsWithin-matched_at place here = record { tests = All-nil InText; uses = All-nil IsUsedInText; ends = here }
 
   IsWithin-failed_at : (terminal place : ℕ) → place ≤ long → IsWithin long (failed_at terminal place)
-  IsWithin-failed_at terminal place here =
-      record { tests = All-cons InText (test_of terminal place) [] here (All-nil InText); ends = tt }
+  IsWithin-failed_at terminal place here = record {
+    tests = All-cons InText (test_of terminal place) [] here (All-nil InText);
+    uses = All-nil IsUsedInText;
+    ends = tt;
+  }
 
   IsWithin-after_both : (part next : Record) (result : Recognition) → IsWithin long part → IsWithin long next
       → EndsBy long result → IsWithin long (after_both part next result)
-  IsWithin-after_both part next result h k ends =
-      record { tests = All-append InText part.tests next.tests h.tests k.tests; ends = ends }
+  IsWithin-after_both part next result h k ends = record {
+    tests = All-append InText part.tests next.tests h.tests k.tests;
+    uses = All-append IsUsedInText part.uses next.uses h.uses k.uses;
+    ends = ends;
+  }
 
   EndsBy-behind : (trees : Trees) (result : Recognition) → EndsBy long result → EndsBy long (behind trees result)
   EndsBy-behind trees Failed ends = tt
@@ -101,17 +111,22 @@ module _ (long : ℕ) where
   Keeps-not : (place : ℕ) (tried : Option Record) → place ≤ long → Keeps tried
       → Keeps (option_map (λ (r : Record). with_result r (if_failed r.result place)) tried)
   Keeps-not place None here h = tt
-  Keeps-not place (Some r) here h = record { tests = h.tests; ends = EndsBy-if_failed place here r.result }
+  Keeps-not place (Some r) here h =
+      record { tests = h.tests; uses = h.uses; ends = EndsBy-if_failed place here r.result }
 
   EndsBy-as_tree : (rule place : ℕ) (result : Recognition) → EndsBy long result
       → EndsBy long (as_tree rule place result)
   EndsBy-as_tree rule place Failed ends = tt
   EndsBy-as_tree rule place (Matched end trees) ends = ends
 
-  Keeps-as_use : (rule place : ℕ) (tried : Option Record) → Keeps tried → Keeps (option_map (as_use rule place) tried)
-  Keeps-as_use rule place None h = tt
-  Keeps-as_use rule place (Some r) h =
-      record { tests = h.tests; ends = EndsBy-as_tree rule place r.result h.ends }
+  Keeps-as_use : (rule place : ℕ) (tried : Option Record) → place ≤ long → Keeps tried
+      → Keeps (option_map (as_use rule place) tried)
+  Keeps-as_use rule place None here h = tt
+  Keeps-as_use rule place (Some r) here h = record {
+    tests = h.tests;
+    uses = All-cons IsUsedInText (record { rule = rule; place = place }) r.uses here h.uses;
+    ends = EndsBy-as_tree rule place r.result h.ends;
+  }
 
   -- bytes from a place on, no more of them than the text has there
   IsWithin-byte_at : (test : ℕ → Bool) (terminal place : ℕ) (rest : List ℕ) → place + length rest ≤ long
@@ -128,7 +143,7 @@ module _ (long : ℕ) where
     Keeps-body : (rule place : ℕ) (body : Option CoreForm) → place ≤ long
         → Keeps (option_and_then (λ (body : CoreForm). option_map (as_use rule place) (take body place)) body)
     Keeps-body rule place None here = tt
-    Keeps-body rule place (Some body) here = Keeps-as_use rule place (take body place) (h body place here)
+    Keeps-body rule place (Some body) here = Keeps-as_use rule place (take body place) here (h body place here)
 
     Keeps-table : (bodies : List CoreForm) (text : List ℕ) → length text ≤ long
         → KeepsAll (core_table bodies text take)
@@ -166,6 +181,13 @@ pub core_record_in-in_text : (bodies : List CoreForm) (text : List ℕ) (n : ℕ
     → All (λ (test : FailedTest). test.place ≤ length text) r.tests
 core_record_in-in_text bodies text n form place r here is =
     (IsWithin-core_record_in bodies text n form place r here is).tests
+
+-- and so are the uses
+pub core_record_in-uses_in_text : (bodies : List CoreForm) (text : List ℕ) (n : ℕ) (form : CoreForm) (place : ℕ)
+    (r : Record) → place ≤ length text → core_record_in bodies text n form place ≡ Some r
+    → All (λ (used : Use). used.place ≤ length text) r.uses
+core_record_in-uses_in_text bodies text n form place r here is =
+    (IsWithin-core_record_in bodies text n form place r here is).uses
 
 -- and a match ends within it
 pub core_record_in-ends : (bodies : List CoreForm) (text : List ℕ) (n : ℕ) (form : CoreForm) (place end : ℕ)

@@ -152,6 +152,12 @@ lookup-take test (suc count) (pair ∷ pairs) kept found =
     (λ fails. cond-false _ front (lookup test pairs) fails
     ∙ lookup-take test count pairs kept (sym (cond-false _ front (lookup test (take count pairs)) fails) ∙ found))
 
+-- what the first pairs hold, all of them hold
+pub IsPartOf-take : (count : ℕ) (pairs : Pairs) → IsPartOf (held_in (take count pairs)) (held_in pairs)
+IsPartOf-take count pairs asked kept found =
+    get-held_in pairs asked
+    ∙ lookup-take (use_eq asked) count pairs kept (sym (get-held_in (take count pairs) asked) ∙ found)
+
 module _ (cache : LruCache Use Kept) (asked : Use) (kept : Kept) where
   -- the pairs after the put, where the look-up answers o
   abbrev after : Option (Use × Kept) → Pairs

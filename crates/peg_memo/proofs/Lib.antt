@@ -1,4 +1,5 @@
 mod AfterKeep
+pub mod HeldLemmas
 mod HeldPairs
 mod Mapped
-mod Uses
+pub mod Uses

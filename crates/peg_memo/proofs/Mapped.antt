@@ -1,9 +1,10 @@
 -- Entries of a cache whose values are read by a function: the words of caches and maps on them.
-use Rattle.std.proofs.Common.{◌≡◌, ◌-◌, Bool, true, false, cond, List, [], ◌∷◌, map, take, Option, Some, None, refl, ap, ◌∙◌}
-use Rattle.std.proofs.lemmas.List.{take-map}
+use Rattle.std.proofs.Common.{◌≡◌, ℕ, zero, suc, ◌-◌, Bool, true, false, cond, List, [], ◌∷◌, length, map, take, Option, Some, None, refl, ap, ◌∙◌}
+use Rattle.std.specs.List.{slice_get}
+use Rattle.std.proofs.lemmas.List.{length-map, take-map}
 use Rattle.std.specs.Map.{keys_of, lookup, lookup_entry, remove_entry}
 use Rattle.std.specs.Option.{option_map, option_map_or}
-use Rattle.lru.specs.LruCache.{LruCache, lru_cache, promoted, put_entries}
+use Rattle.lru.specs.LruCache.{LruCache, last_entry, lru_cache, promoted, put_entries}
 
 cond-map : {A B : Type 0} (g : A → B) (b : Bool) (x y : A) → cond b (g x) (g y) ≡ g (cond b x y)
 cond-map g true x y = refl
@@ -20,6 +21,19 @@ module _ {K V W : Type 0} (f : V → W) where
   pub keys_of-read : (es : List (K × V)) → keys_of (read es) ≡ keys_of es
   keys_of-read [] = refl
   keys_of-read (e ∷ es) = ap (λ ks. e.0 ∷ ks) (keys_of-read es)
+
+  pub butlast-read : (es : List (K × V)) → take (length (read es) - 1) (read es) ≡ read (take (length es - 1) es)
+  butlast-read es =
+      ap (λ count. take (count - 1) (read es)) (length-map es read_entry) ∙ take-map read_entry (length es - 1) es
+
+  slice_get-read : (es : List (K × V)) (k : ℕ) → slice_get (read es) k ≡ option_map read_entry (slice_get es k)
+  slice_get-read [] k = refl
+  slice_get-read (e ∷ es) zero = refl
+  slice_get-read (e ∷ es) (suc k) = slice_get-read es k
+
+  pub last_entry-read : (es : List (K × V)) → last_entry (read es) ≡ option_map read_entry (last_entry es)
+  last_entry-read es =
+      ap (λ count. slice_get (read es) (count - 1)) (length-map es read_entry) ∙ slice_get-read es (length es - 1)
 
   module _ (test : K → Bool) where
     pub lookup-read : (es : List (K × V)) → lookup test (read es) ≡ option_map f (lookup test es)

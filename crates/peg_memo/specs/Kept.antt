@@ -1,5 +1,5 @@
 -- What a memo keeps of a use.
-use Rattle.std.specs.Prelude.{ℕ, List, map}
+use Rattle.std.specs.Prelude.{ℕ, List, length, map}
 use Rattle.peg_tree.specs.Rows.{Row, row_of}
 use Rattle.peg_memo.specs.declared.found.Found.{Found}
 use Rattle.peg_memo.specs.declared.found.Found.TheVariants.{Failed, Done}
@@ -13,3 +13,8 @@ pub data Kept : Type 0 where
 abbrev pub kept_of : Found → Kept
 kept_of Failed = KeptFailure
 kept_of (Done end nodes) = KeptMatch end (map row_of nodes.now)
+
+-- how many rows are kept of it
+abbrev pub row_count : Kept → ℕ
+row_count KeptFailure = 0
+row_count (KeptMatch end rows) = length rows

@@ -3,6 +3,7 @@
 
 mod found;
 mod keep;
+pub mod laws;
 mod lru_memo;
 mod no_memo;
 mod stored;

@@ -1,15 +1,16 @@
 //! A memo of bounded size that forgets the least recently used result.
-ghost use Rattle.std.specs.Prelude.{◌≡◌, ◌<◌, ◌≤◌, ◌↔◌, [], false, option_map, IfOk, OnOk, OnErr, IsTrue};
+ghost use Rattle.std.specs.Prelude.{◌≡◌, ◌-◌, ◌<◌, ◌≤◌, ◌↔◌, [], false, length, option_map, take};
+ghost use Rattle.std.specs.Prelude.{IfOk, OnOk, OnErr, IsTrue};
 ghost use Rattle.std.specs.List.{IsDistinct};
 ghost use Rattle.std.specs.Map.{keys_of, lookup};
-ghost use Rattle.lru.specs.LruCache.{lru_cache, promoted, put_entries};
+ghost use Rattle.lru.specs.LruCache.{last_entry, lru_cache, promoted, put_entries};
 ghost use Rattle.peg_memo.specs.Held.{held_in, IsPartOf};
-ghost use Rattle.peg_memo.specs.Kept.{kept_of};
+ghost use Rattle.peg_memo.specs.Kept.{kept_of, row_count};
 ghost use Rattle.peg_memo.specs.Memo.{memo, after_keep};
 ghost use Rattle.peg_memo.specs.Stored.{pairs_in};
 ghost use Rattle.peg_memo.specs.Use.{use_eq};
 
-use crate::stored::{Stored, lent, store};
+use crate::stored::{Stored, lent, rows_in, store};
 use crate::{Found, Keep};
 use lru::LruCache;
 use std::alloc::{AllocError, Global};
@@ -86,6 +87,17 @@ impl LruMemo {
             self.refused = true;
         }
         kept
+    }
+
+    /// Drops the last result, and tells how many rows it had; None where none is held.
+    pub fn drop_last(&mut self) -> Option<usize>
+        ensures memo { self.new
+            ≡ memo (take (length self.old.pairs - 1) self.old.pairs) self.old.capacity self.old.refused }
+        ensures rows { result ≡ option_map (λ pair. row_count pair.1) (last_entry self.old.pairs) }
+        ensures part { IsPartOf (held_in self.new.pairs) (held_in self.old.pairs) }
+    {
+        let (_, stored) = self.cache.pop_lru()?;
+        Some(rows_in(&stored))
     }
 }
 

@@ -1,6 +1,6 @@
 //! A result as a memo stores it.
 ghost use Rattle.std.specs.Prelude.{◌≡◌, IfOk};
-ghost use Rattle.peg_memo.specs.Kept.{kept_of};
+ghost use Rattle.peg_memo.specs.Kept.{kept_of, row_count};
 ghost use Rattle.peg_memo.specs.Stored.{kept_in};
 
 use crate::Found;
@@ -37,5 +37,15 @@ pub fn lent(stored: &Stored) -> Found<'_>
             end: *end,
             nodes: nodes.as_slice(),
         },
+    }
+}
+
+// How many rows it has.
+pub fn rows_in(stored: &Stored) -> usize
+    ensures { result ≡ row_count (kept_in stored.now) }
+{
+    match stored {
+        Stored::Failed => 0,
+        Stored::Done { nodes, .. } => nodes.len(),
     }
 }

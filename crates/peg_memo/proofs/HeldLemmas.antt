@@ -1,0 +1,216 @@
+-- What maps from uses hold after one more is put in, and how many uses they can hold.
+use Rattle.std.proofs.Common.{◌≡◌, ◌≢◌, ℕ, suc, ◌+◌, ◌*◌, ◌<◌, ◌≤◌, ◌⊎◌, inl, inr, ⊎_elim, T, Bool, true, false, List, [], ◌∷◌, length, Option, Some, None, IsTrue, is_some, Ordering, Less, Equal, Greater, is_eq, is_lt, refl, sym, ap, subst, ◌∙◌, zero-le, mul_comm, arith}
+use Rattle.std.proofs.lemmas.Bool.{cases_Bool, cond-true, cond-false, false_from_ne_true, and_parts}
+use Rattle.std.proofs.lemmas.Map.Views.{tells_apart}
+use Rattle.std.proofs.lemmas.Nat.{mul-add-lt}
+use Rattle.std.specs.Cmp.{tied_itself, ranked}
+use Rattle.std.specs.FinMap as map
+use Rattle.std.specs.FinMap.Entries.{below_all, is_sorted}
+use Rattle.std.specs.Ordering.{nat_cmp, eq_by_cmp, ordering_then}
+use Rattle.peg_memo.specs.Held.{Held}
+use Rattle.peg_memo.specs.Kept.{Kept, KeptFailure}
+use Rattle.peg_memo.specs.Use.{Use, use_cmp}
+use Rattle.peg_memo.proofs.Uses.{use_cmp-IsTotalOrder, use_cmp-IsAntisymmetric}
+
+-- the order does not tell a use from itself
+tied : (a b : Use) → a ≡ b → eq_by_cmp use_cmp a b ≡ true
+tied a b same = subst (λ c. eq_by_cmp use_cmp a c ≡ true) same (ap is_eq (tied_itself use_cmp-IsTotalOrder a))
+
+-- and it tells it from each other use
+untied : (a b : Use) → a ≢ b → eq_by_cmp use_cmp a b ≡ false
+untied a b differ = false_from_ne_true _ (λ is. differ (tells_apart use_cmp-IsAntisymmetric a b is))
+
+-- two uses are the same, or they differ
+pub same_or_other : (a b : Use) → (a ≡ b) ⊎ (a ≢ b)
+same_or_other a b =
+    ⊎_elim (λ is. inl (tells_apart use_cmp-IsAntisymmetric a b is))
+    (λ is. inr (λ same. let answer = tied a b same in cc)) (cases_Bool (eq_by_cmp use_cmp a b))
+
+-- what is put at a use is found there
+pub get_inserted : (held : Held) (asked : Use) (kept : Kept)
+    → map.get (map.insert held asked kept) asked ≡ Some kept
+get_inserted held asked kept =
+    map.get-insert use_cmp-IsTotalOrder held asked kept asked
+    ∙ cond-true _ (Some kept) (map.get held asked) (tied asked asked refl)
+
+-- at each other use the same is found as before
+pub get_other : (held : Held) (asked other : Use) (kept : Kept) → other ≢ asked
+    → map.get (map.insert held asked kept) other ≡ map.get held other
+get_other held asked other kept differs =
+    map.get-insert use_cmp-IsTotalOrder held asked kept other
+    ∙ cond-false _ (Some kept) (map.get held other) (untied other asked differs)
+
+-- what is found where a result was put is that result
+found_there : (held : Held) (asked other : Use) (kept found : Kept) → other ≡ asked
+    → map.get (map.insert held asked kept) other ≡ Some found → found ≡ kept
+found_there held asked other kept found same is =
+    let there = get_inserted held asked kept in
+    let here = ap (map.get (map.insert held asked kept)) same in
+    cc
+
+-- whatever is found was put, or was found before
+pub found_after : (held : Held) (asked other : Use) (kept found : Kept)
+    → map.get (map.insert held asked kept) other ≡ Some found
+    → ((other ≡ asked) × (found ≡ kept)) ⊎ (map.get held other ≡ Some found)
+found_after held asked other kept found is =
+    ⊎_elim
+    (λ same. inl (same, found_there held asked other kept found same is))
+    (λ differs. inr (sym (get_other held asked other kept differs) ∙ is))
+    (same_or_other other asked)
+
+-- a map of no results finds none
+pub none_in_empty : (held : Held) (asked : Use) → map.len held ≡ 0 → map.get held asked ≡ None
+none_in_empty held asked none =
+    ap (λ m. map.get m asked) (map.empty_of_len held none) ∙ map.get-empty use_cmp asked
+
+-- an option is Some or None
+some_or_none : {A : Type 0} (o : Option A) → IsTrue (is_some o) ⊎ (o ≡ None)
+some_or_none None = inr refl
+some_or_none (Some x) = inl refl
+
+-- the value of a Some
+what_is_some : {A : Type 0} (o : Option A) → IsTrue (is_some o) → (x : A) × (o ≡ Some x)
+what_is_some None is = cc
+what_is_some (Some x) is = (x, refl)
+
+-- a result of the use is held, or none is found
+pub contains_or_not : (held : Held) (asked : Use) → IsTrue (map.contains_key held asked) ⊎ (map.get held asked ≡ None)
+contains_or_not held asked = some_or_none (map.get held asked)
+
+-- the result that is held
+pub contained : (held : Held) (asked : Use) → IsTrue (map.contains_key held asked)
+    → (kept : Kept) × (map.get held asked ≡ Some kept)
+contained held asked is = what_is_some (map.get held asked) is
+
+-- a result that is found is held
+pub contains_found : (held : Held) (asked : Use) (kept : Kept) → map.get held asked ≡ Some kept
+    → IsTrue (map.contains_key held asked)
+contains_found held asked kept found = ap is_some found
+
+-- ---- how many results are held
+
+-- of an order by two parts, the first is less, or the second where the first tie
+less_parts : (first second : Ordering) → ordering_then first second ≡ Less
+    → (first ≡ Less) ⊎ ((first ≡ Equal) × (second ≡ Less))
+less_parts Less second is = inl refl
+less_parts Equal second is = inr (refl, is)
+less_parts Greater second is = cc
+
+-- an answer that passes the test for less is it
+is_less : (o : Ordering) → is_lt o ≡ true → o ≡ Less
+is_less Less is = refl
+is_less Equal is = cc
+is_less Greater is = cc
+
+-- a test that holds is true
+is_true : (b : Bool) → T b → b ≡ true
+is_true true holds = refl
+is_true false holds = absurd holds
+
+-- a use below each pair is below each use that is found among them
+below_found : (first other : Use) (kept : Kept) (pairs : List (Use × Kept)) → below_all use_cmp first pairs ≡ true
+    → map.find use_cmp other pairs ≡ Some kept → use_cmp first other ≡ Less
+below_found first other kept [] below found = cc
+below_found first other kept (pair ∷ pairs) below found =
+    let parts = and_parts (is_lt (use_cmp first pair.0)) (below_all use_cmp first pairs) below in
+    ⊎_elim
+    (λ is. ap (use_cmp first) (tells_apart use_cmp-IsAntisymmetric other pair.0 is)
+    ∙ is_less (use_cmp first pair.0) parts.0)
+    (λ is. below_found first other kept pairs parts.1
+    (sym (cond-false _ (Some pair.1) (map.find use_cmp other pairs) is) ∙ found))
+    (cases_Bool (eq_by_cmp use_cmp other pair.0))
+
+-- the first pair is found
+found_first : (pair : Use × Kept) (pairs : List (Use × Kept))
+    → map.find use_cmp pair.0 (pair ∷ pairs) ≡ Some pair.1
+found_first pair pairs = cond-true _ (Some pair.1) (map.find use_cmp pair.0 pairs) (tied pair.0 pair.0 refl)
+
+-- where something is found of a use, something is found of it too after one more pair in front
+found_later : (pair : Use × Kept) (pairs : List (Use × Kept)) (other : Use) (kept : Kept)
+    → map.find use_cmp other pairs ≡ Some kept
+    → (seen : Kept) × (map.find use_cmp other (pair ∷ pairs) ≡ Some seen)
+found_later pair pairs other kept found =
+    ⊎_elim
+    (λ is. (pair.1, cond-true _ (Some pair.1) (map.find use_cmp other pairs) is))
+    (λ is. (kept, cond-false _ (Some pair.1) (map.find use_cmp other pairs) is ∙ found))
+    (cases_Bool (eq_by_cmp use_cmp other pair.0))
+
+module _ (rules places : ℕ) where
+  -- a use of one of the rules at one of the places
+  abbrev IsWithin : Use → Type 0
+  IsWithin asked = (asked.0 < rules) × (asked.1 < places)
+
+  -- each use that is found among the pairs is such a use
+  abbrev AreWithin : List (Use × Kept) → Type 0
+  AreWithin pairs = (other : Use) (kept : Kept) → map.find use_cmp other pairs ≡ Some kept → IsWithin other
+
+  -- the uses counted, rule by rule
+  abbrev number : Use → ℕ
+  number asked = asked.0 * places + asked.1
+
+  -- each number is below the count of all
+  number-lt : (asked : Use) → IsWithin asked → number asked < rules * places
+  number-lt asked within =
+      let low = mul-add-lt asked.0 places asked.1 rules within.0 within.1 in
+      omega (arith, mul_comm rules places)
+
+  -- a use of a lower rule has the lower number
+  rule-rises : (a b : Use) → a.1 < places → a.0 < b.0 → number a < number b
+  rule-rises a b within lower =
+      let row = mul-add-lt a.0 places a.1 b.0 lower within in
+      omega (arith, mul_comm b.0 places)
+
+  -- and so has one of the same rule at a lower place
+  place-rises : (a b : Use) → a.0 ≡ b.0 → a.1 < b.1 → number a < number b
+  place-rises a b same lower = omega (arith, ap (λ n. n * places) same)
+
+  -- a use that is below another has the lower number
+  number-rises : (a b : Use) → a.1 < places → use_cmp a b ≡ Less → number a < number b
+  number-rises a b within less =
+      ⊎_elim
+      (λ is. rule-rises a b within (ranked a.0 b.0 Less (sym is)))
+      (λ is. place-rises a b (ranked a.0 b.0 Equal (sym is.0)) (ranked a.1 b.1 Less (sym is.1)))
+      (less_parts (nat_cmp a.0 b.0) (nat_cmp a.1 b.1) less)
+
+  -- pairs in order are no more than the numbers from the least of theirs on
+  length-pairs : (low : ℕ) (pairs : List (Use × Kept)) → low ≤ rules * places → is_sorted use_cmp pairs ≡ true
+      → AreWithin pairs
+      → ((other : Use) (kept : Kept) → map.find use_cmp other pairs ≡ Some kept → low ≤ number other)
+      → low + length pairs ≤ rules * places
+  length-pairs low [] fits sorted within above = omega arith
+  length-pairs low (pair ∷ pairs) fits sorted within above =
+      let parts = and_parts (below_all use_cmp pair.0 pairs) (is_sorted use_cmp pairs) sorted in
+      let first : IsWithin pair.0 = within pair.0 pair.1 (found_first pair pairs) in
+      let from : low ≤ number pair.0 = above pair.0 pair.1 (found_first pair pairs) in
+      let rest : suc (number pair.0) + length pairs ≤ rules * places =
+      length-pairs (suc (number pair.0)) pairs (number-lt pair.0 first) parts.1
+      (λ other kept found. let seen = found_later pair pairs other kept found in within other seen.0 seen.1)
+      (λ other kept found.
+      number-rises pair.0 other first.1 (below_found pair.0 other kept pairs parts.0 found)) in
+      omega arith
+
+  -- no more results are held than there are uses
+  len-le : (held : Held)
+      → ((other : Use) (kept : Kept) → map.get held other ≡ Some kept → IsWithin other)
+      → map.len held ≤ rules * places
+  len-le held within =
+      let counted : 0 + length (map.entries held) ≤ rules * places =
+      length-pairs 0 (map.entries held) zero-le (is_true _ (map.entries_sorted held))
+      (λ other kept found. within other kept (map.get-entries held other ∙ found)) (λ other kept found. zero-le) in
+      omega (arith, map.len-entries held)
+
+-- of the uses below the bounds fewer are held than there are, where one is not held
+pub fewer_are_held : (held : Held) (rules places : ℕ) (asked : Use)
+    → ((other : Use) (kept : Kept) → map.get held other ≡ Some kept → (other.0 < rules) × (other.1 < places))
+    → asked.0 < rules → asked.1 < places → map.get held asked ≡ None → map.len held < rules * places
+fewer_are_held held rules places asked within rule place missed =
+    let one_more = map.insert held asked KeptFailure in
+    let most : map.len one_more ≤ rules * places =
+    len-le rules places one_more
+    (λ other kept found.
+    ⊎_elim (λ put. subst (IsWithin rules places) (sym put.0) (rule, place)) (λ before. within other kept before)
+    (found_after held asked other KeptFailure kept found)) in
+    let counted : map.len one_more ≡ map.len held + 1 =
+    map.len-insert use_cmp-IsTotalOrder held asked KeptFailure
+    ∙ cond-false _ (map.len held) (map.len held + 1) (ap is_some missed) in
+    omega arith
