@@ -4,6 +4,7 @@ mod CodeLemmas
 mod EntryLemmas
 mod FirstRecords
 mod FurthestBySet
+mod GoingEvents
 mod InputLemmas
 mod InstructionEvents
 mod LocalRounds
@@ -16,8 +17,11 @@ mod PackratLemmas
 mod Promises
 mod RecordRuns
 mod RoundLemmas
+mod RememberedLemmas
 mod RowClosing
+mod RunLemmas
 mod RunRules
+mod ShownLemmas
 mod Stacks
 mod StampLemmas
 mod StartLemmas

@@ -2,8 +2,9 @@
 use Rattle.std.proofs.Common.{◌≡◌, ◌≢◌, ◌⊎◌, inl, inr, ℕ, List, [], ◌∷◌, ◌++◌, All, Contains, subst}
 use Rattle.std.proofs.lemmas.List.Elements.{All-head, All-tail, Contains-append_cases}
 use Rattle.peg_ford.specs.Record.{Record, Test, Use}
+use Rattle.peg_memo.specs.Held.{Held}
 use Rattle.peg_machine.specs.Local.{Way}
-use Rattle.peg_machine.specs.Packrat.{IsOnStack, AreHeldOrUnderWay}
+use Rattle.peg_machine.specs.Packrat.{IsOnStack, IsHeld, AreHeldOrUnderWay}
 use Rattle.peg_machine.specs.Running.{Job}
 use Rattle.peg_machine.specs.Underway.{Active, Doing, Underway}
 use Rattle.peg_machine.proofs.AccountLemmas.{one_pair_on}
@@ -19,10 +20,10 @@ not_on_stack pair (active ∷ below) others (inr on) =
     not_on_stack pair below (All-tail (λ (other : Active). other.frame.pair ≢ pair) active below others) on
 
 -- A use that begins, and is not held, was never shown.
-pub never_shown : (held : List Use) (job : Job) (start : Use) (answer : Record) (tests : List Test) (uses : List Use)
+pub never_shown : (held : Held) (job : Job) (start : Use) (answer : Record) (tests : List Test) (uses : List Use)
     (to_come : ℕ) (doing : Doing) (active : Active) (below : List Active) (shown : List Use)
     → Underway job start answer tests uses to_come doing (active ∷ below) → AreHeldOrUnderWay held shown below
-    → (Contains held active.frame.pair → ⊥) → Contains shown active.frame.pair → ⊥
+    → (IsHeld held active.frame.pair → ⊥) → Contains shown active.frame.pair → ⊥
 never_shown held job start answer tests uses to_come doing active below shown underway are unheld has =
     elim (are active.frame.pair has) as (λ _. ⊥) [
       | inl is ↦ unheld is
@@ -31,7 +32,7 @@ never_shown held job start answer tests uses to_come doing active below shown un
     ]
 
 -- it is shown, and under way
-pub begins_held : (held shown : List Use) (active : Active) (below : List Active)
+pub begins_held : (held : Held) (shown : List Use) (active : Active) (below : List Active)
     → AreHeldOrUnderWay held shown below → AreHeldOrUnderWay held (shown ++ active.frame.pair ∷ []) (active ∷ below)
 begins_held held shown active below are pair has =
     by (Contains-append_cases shown (active.frame.pair ∷ []) pair has)
@@ -40,27 +41,28 @@ begins_held held shown active below are pair has =
     last (inl same) = same
     last (inr none) = absurd (not_in_none pair none)
 
-    before : Contains held pair ⊎ IsOnStack below pair → Contains held pair ⊎ IsOnStack (active ∷ below) pair
+    before : IsHeld held pair ⊎ IsOnStack below pair → IsHeld held pair ⊎ IsOnStack (active ∷ below) pair
     before (inl is) = inl is
     before (inr on) = inr (inr on)
 
-    by : Contains shown pair ⊎ Contains (active.frame.pair ∷ []) pair → Contains held pair ⊎ IsOnStack (active ∷ below) pair
+    by : Contains shown pair ⊎ Contains (active.frame.pair ∷ []) pair
+        → IsHeld held pair ⊎ IsOnStack (active ∷ below) pair
     by (inl has) = before (are pair has)
     by (inr here) = inr (inl (last (head_or_tail active.frame.pair [] pair here)))
 
 -- where its use ends, it is held
-pub ends_held : (held more_held shown : List Use) (active : Active) (below : List Active)
-    → ((pair : Use) → Contains held pair → Contains more_held pair) → Contains more_held active.frame.pair
+pub ends_held : (held more_held : Held) (shown : List Use) (active : Active) (below : List Active)
+    → ((pair : Use) → IsHeld held pair → IsHeld more_held pair) → IsHeld more_held active.frame.pair
     → AreHeldOrUnderWay held shown (active ∷ below) → AreHeldOrUnderWay more_held shown below
 ends_held held more_held shown active below keeps is are pair has = by (are pair has)
   where
-    by : Contains held pair ⊎ IsOnStack (active ∷ below) pair → Contains more_held pair ⊎ IsOnStack below pair
+    by : IsHeld held pair ⊎ IsOnStack (active ∷ below) pair → IsHeld more_held pair ⊎ IsOnStack below pair
     by (inl holds) = inl (keeps pair holds)
-    by (inr (inl same)) = inl (subst (λ (p : Use). Contains more_held p) same is)
+    by (inr (inl same)) = inl (subst (λ (p : Use). IsHeld more_held p) same is)
     by (inr (inr on)) = inr on
 
 -- and ways back do not matter
-pub ways_held : (held shown : List Use) (active : Active) (ways : List Way) (below : List Active)
+pub ways_held : (held : Held) (shown : List Use) (active : Active) (ways : List Way) (below : List Active)
     → AreHeldOrUnderWay held shown (active ∷ below)
     → AreHeldOrUnderWay held shown (record active { ways = ways } ∷ below)
 ways_held held shown active ways below are = are

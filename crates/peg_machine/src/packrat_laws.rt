@@ -2,28 +2,29 @@
 ghost use Rattle.std.specs.Prelude.{◌++◌, ◌∷◌, [], Contains, List, ℕ};
 ghost use Rattle.peg_ford.specs.Record.{Record, Test, Use};
 ghost use Rattle.peg_machine.specs.Local.{Way};
-ghost use Rattle.peg_machine.specs.Packrat.{AreHeldOrUnderWay};
+ghost use Rattle.peg_machine.specs.Packrat.{AreHeldOrUnderWay, IsHeld};
 ghost use Rattle.peg_machine.specs.Running.{Job};
 ghost use Rattle.peg_machine.specs.Underway.{Active, Doing, Underway};
+ghost use Rattle.peg_memo.specs.Held.{Held};
 
 /// A use that begins, and is not held, was never shown, where each pair that was shown is held or under way.
 pub fn a_use_that_begins_was_never_shown()
-    ensures { (held : List Use) (job : Job) (start : Use) (answer : Record) (tests : List Test) (uses : List Use)
+    ensures { (held : Held) (job : Job) (start : Use) (answer : Record) (tests : List Test) (uses : List Use)
         (to_come : ℕ) (doing : Doing) (active : Active) (below : List Active) (shown : List Use)
         → Underway job start answer tests uses to_come doing (active ∷ below) → AreHeldOrUnderWay held shown below
-        → ¬ Contains held active.frame.pair → ¬ Contains shown active.frame.pair }
+        → ¬ IsHeld held active.frame.pair → ¬ Contains shown active.frame.pair }
 {}
 
 /// Each event keeps that the pairs shown are held or under way: a use that begins is shown and under way, one that has
 /// ended is held, and ways back do not matter.
 pub fn pairs_shown_are_held_or_under_way()
-    ensures begins { (held shown : List Use) (active : Active) (below : List Active)
+    ensures begins { (held : Held) (shown : List Use) (active : Active) (below : List Active)
         → AreHeldOrUnderWay held shown below
         → AreHeldOrUnderWay held (shown ++ active.frame.pair ∷ []) (active ∷ below) }
-    ensures ends { (held more_held shown : List Use) (active : Active) (below : List Active)
-        → ((pair : Use) → Contains held pair → Contains more_held pair) → Contains more_held active.frame.pair
+    ensures ends { (held more_held : Held) (shown : List Use) (active : Active) (below : List Active)
+        → ((pair : Use) → IsHeld held pair → IsHeld more_held pair) → IsHeld more_held active.frame.pair
         → AreHeldOrUnderWay held shown (active ∷ below) → AreHeldOrUnderWay more_held shown below }
-    ensures ways { (held shown : List Use) (active : Active) (ways : List Way) (below : List Active)
+    ensures ways { (held : Held) (shown : List Use) (active : Active) (ways : List Way) (below : List Active)
         → AreHeldOrUnderWay held shown (active ∷ below)
         → AreHeldOrUnderWay held shown (record active { ways = ways } ∷ below) }
 {}

@@ -1,9 +1,10 @@
 //! As many of `a` as of `b` as of `c`, one after the other: no grammar without predicates says that.
 use crate::outcomes::{Case, assert_outcome, failed, matched};
 use crate::pairs::program_of;
+use crate::runs::run_plain;
 use peg_bytes::Span;
 use peg_code::Program;
-use peg_machine::{Answer, run};
+use peg_machine::Answer;
 use peg_tree::{Parsed, Tree};
 use std::alloc::{AllocError, Global};
 use std::process::Abort;
@@ -22,7 +23,7 @@ fn run_first(
     text: &[u8],
 ) -> Result<Answer, Fail> {
     assert!(rt; program.rules() > 0);
-    Ok(run(alloc, program, text, 0, None)?)
+    Ok(run_plain(alloc, program, text, None)?)
 }
 
 // A text has this outcome, and the one terminal that is expected stands there in the file.

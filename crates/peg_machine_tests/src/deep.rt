@@ -1,6 +1,7 @@
 //! Runs as deep and as long as the native stack would never bear.
 use crate::pairs::program_of;
-use peg_machine::{Answer, RunFault, run};
+use crate::runs::run_plain;
+use peg_machine::{Answer, RunFault};
 use peg_tree::Parsed;
 use std::alloc::{AllocError, Global};
 use std::process::Abort;
@@ -12,7 +13,7 @@ const MILLION: usize = 1_000_000;
 fn run_first(rt: &impl Abort, alloc: Global, file: &[u8], text: &[u8]) -> Result<Answer, Fail> {
     let program = program_of(alloc, file)?;
     assert!(rt; program.rules() > 0);
-    Ok(run(alloc, &program, text, 0, None)?)
+    Ok(run_plain(alloc, &program, text, None)?)
 }
 
 // So many of a byte, then other bytes.
@@ -89,9 +90,9 @@ fn a_text_over_the_limit_is_told(rt: HostRuntime) -> Result<(), Fail> {
     let program = program_of(alloc, b"S <- 'a' S / 'b'")?;
     assert!(rt; program.rules() > 0);
     let text = vec![in alloc; 0u8; 67_108_865]?;
-    let refused = run(alloc, &program, &text, 0, Some(0));
+    let refused = run_plain(alloc, &program, &text, Some(0));
     assert!(rt; matches!(refused, Err(RunFault::TextTooLong)));
-    let answer = run(alloc, &program, &text[1..], 0, None)?;
+    let answer = run_plain(alloc, &program, &text[1..], None)?;
     assert!(rt; matches!(answer.outcome.result, Parsed::Failed));
     assert_eq!(rt; answer.outcome.far, 0);
     Ok(())

@@ -11,6 +11,10 @@ mod dice;
 #[cfg(test)]
 mod examples;
 #[cfg(test)]
+mod forgetful;
+#[cfg(test)]
+mod memos;
+#[cfg(test)]
 mod outcomes;
 #[cfg(test)]
 mod pairs;
@@ -19,4 +23,8 @@ mod prefixes;
 #[cfg(test)]
 mod random;
 #[cfg(test)]
+mod runs;
+#[cfg(test)]
 mod small;
+#[cfg(test)]
+mod uses;

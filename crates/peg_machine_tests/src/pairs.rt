@@ -4,11 +4,12 @@ ghost use Rattle.peg_ford.specs.WellFormed.{IsWellFormedGrammar};
 ghost use Rattle.peg_grammar.specs.GrammarRules.{rules_in};
 
 use crate::outcomes::assert_alike;
+use crate::runs::{run_forgetting, run_from, run_selecting, run_with};
 use peg_check::{CheckFault, Checked, check};
 use peg_code::{CodeFault, Program, compile};
 use peg_core::desugar;
 use peg_grammar::{Grammar, plain_total};
-use peg_machine::run;
+use peg_machine::NoWatch;
 use peg_notation::read;
 use peg_tree::Outcome;
 use std::alloc::{AllocError, Global};
@@ -76,6 +77,22 @@ pub(crate) fn program_of(alloc: Global, file: &[u8]) -> Result<Program, Fail> {
     Ok(program)
 }
 
+// Two outcomes of a text from a start are the same; the parse is told where they aren't.
+fn assert_told_alike(
+    rt: &impl Abort,
+    alloc: Global,
+    pair: &Pair,
+    text: &[u8],
+    start: u32,
+    outcome: &Outcome,
+    wanted: &Outcome,
+) -> Result<(), AllocError> {
+    let file = &pair.file;
+    let parse = format!(in alloc; "from {start} by {file:?} on {text:?}")?;
+    assert_alike(rt, outcome, wanted, parse.as_str());
+    Ok(())
+}
+
 /// Both outcomes of a text from a start, the machine's and the evaluator's, are the same; it is handed back.
 pub(crate) fn same_outcome(
     rt: &impl Abort,
@@ -86,10 +103,40 @@ pub(crate) fn same_outcome(
 ) -> Result<Outcome, Fail> {
     assert!(rt; start < pair.grammar.rules());
     let wanted = plain_total(alloc, &pair.grammar, text, start)?;
-    let answer = run(alloc, &pair.program, text, start, None)?;
-    let file = &pair.file;
-    let parse = format!(in alloc; "from {start} by {file:?} on {text:?}")?;
-    assert_alike(rt, &answer.outcome, &wanted, parse.as_str());
+    let answer = run_from(alloc, &pair.program, text, start, &mut NoWatch, None)?;
+    assert_told_alike(rt, alloc, pair, text, start, &answer.outcome, &wanted)?;
+    Ok(wanted)
+}
+
+/// The outcome of a text from a start is the evaluator's with each memo: of several sizes, those that keep what pays, and one
+/// that forgets.
+pub(crate) fn same_outcome_with_memos(
+    rt: &impl Abort,
+    alloc: Global,
+    pair: &Pair,
+    text: &[u8],
+    start: u32,
+) -> Result<Outcome, Fail> {
+    assert!(rt; start < pair.grammar.rules());
+    let wanted = same_outcome(rt, alloc, pair, text, start)?;
+    for capacity in [1, 2, 7, 4096] {
+        let answer = run_with(
+            alloc,
+            &pair.program,
+            text,
+            start,
+            capacity,
+            &mut NoWatch,
+            None,
+        )?;
+        assert_told_alike(rt, alloc, pair, text, start, &answer.outcome, &wanted)?;
+    }
+    for capacity in [1, 4096] {
+        let answer = run_selecting(alloc, &pair.program, text, start, capacity, None)?;
+        assert_told_alike(rt, alloc, pair, text, start, &answer.outcome, &wanted)?;
+    }
+    let answer = run_forgetting(alloc, &pair.program, text, start)?;
+    assert_told_alike(rt, alloc, pair, text, start, &answer.outcome, &wanted)?;
     Ok(wanted)
 }
 

@@ -1,8 +1,8 @@
-//! Small grammars and texts by chance, of which the machine's outcomes are those of the evaluator.
+//! Small grammars and texts by chance, of which the machine's outcomes are those of the evaluator, with each memo.
 ghost use Rattle.std.specs.Prelude.{◌<◌, ◌≤◌};
 
 use crate::dice::Dice;
-use crate::pairs::{Pair, accepted_pair, same_outcome};
+use crate::pairs::{Pair, accepted_pair, same_outcome_with_memos};
 use peg_tree::Parsed;
 use std::alloc::{AllocError, Global};
 use std::process::Abort;
@@ -93,7 +93,7 @@ fn add_expression(
 }
 
 // A grammar file of one to four rules.
-fn some_file(alloc: Global, dice: &mut Dice) -> Result<Vec<u8>, AllocError> {
+pub(crate) fn some_file(alloc: Global, dice: &mut Dice) -> Result<Vec<u8>, AllocError> {
     let rules = dice.below(4) + 1;
     let mut file = Vec::new(alloc);
     for rule in 0..rules {
@@ -106,7 +106,7 @@ fn some_file(alloc: Global, dice: &mut Dice) -> Result<Vec<u8>, AllocError> {
 }
 
 // A text of letters that the grammars have.
-fn some_text(alloc: Global, dice: &mut Dice) -> Result<Vec<u8>, AllocError> {
+pub(crate) fn some_text(alloc: Global, dice: &mut Dice) -> Result<Vec<u8>, AllocError> {
     let mut text = Vec::new(alloc);
     for _ in 0..dice.below(MOST_BYTES + 1) {
         text.push(b"abc"[dice.below(3)])?;
@@ -123,7 +123,7 @@ fn compare(
     counts: &mut Counts,
 ) -> Result<(), Fail> {
     for start in 0..pair.grammar.rules() {
-        let outcome = same_outcome(rt, alloc, pair, text, start)?;
+        let outcome = same_outcome_with_memos(rt, alloc, pair, text, start)?;
         match outcome.result {
             Parsed::Failed => counts.failed = counts.failed.saturating_add(1),
             Parsed::Matched { end, .. } => {

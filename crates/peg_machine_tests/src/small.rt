@@ -2,8 +2,9 @@
 //! of the terminals, the furthest failure and the code.
 use crate::outcomes::{Case, assert_outcome, failed, matched};
 use crate::pairs::program_of;
+use crate::runs::run_plain;
 use peg_code::Program;
-use peg_machine::{Answer, RunFault, run};
+use peg_machine::{Answer, RunFault};
 use std::alloc::Global;
 use std::process::Abort;
 use std::test::Fail;
@@ -17,7 +18,7 @@ fn run_within(
     most: Option<u64>,
 ) -> Result<Answer, RunFault> {
     assert!(rt; program.rules() > 0);
-    run(alloc, program, text, 0, most)
+    run_plain(alloc, program, text, most)
 }
 
 // Runs the program of a file on each text.

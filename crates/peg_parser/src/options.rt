@@ -8,6 +8,6 @@ pub const DEFAULT_MEMO: u32 = 4096;
 pub struct ParseOptions<'a> {
     /// The name of the rule to start from; the grammar's first rule, if none is named.
     pub start: Option<&'a str>,
-    /// The most results that the memo may keep. It changes no answer; there is no memo yet.
+    /// The most results that the memo may hold; with 0 there is none. It changes no answer.
     pub memo: u32,
 }

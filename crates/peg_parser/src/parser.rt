@@ -1,6 +1,7 @@
 //! Parsers: grammar files that are accepted, and texts that are parsed by them.
 ghost use Rattle.std.specs.Prelude.{◌≡◌, ◌<◌, ◌≤◌, ◌↔◌, ℕ, List, All, None};
 ghost use Rattle.std.specs.Prelude.{length, slice_get, Some, IfOk, IfErr, IfSome, IsErrOf, OnOk};
+ghost use Rattle.std.specs.FinMap as map;
 ghost use Rattle.peg_bytes.specs.Extent.{extent};
 ghost use Rattle.peg_core.specs.CoreForm.{core_bodies};
 ghost use Rattle.peg_core.specs.Layout.{bodies_of};
@@ -16,9 +17,11 @@ use crate::options::ParseOptions;
 use crate::refusal::Refusal;
 use peg_bytes::Span;
 use peg_code::{Program, compile};
-use peg_grammar::Grammar;
-use peg_machine::{Answer, RunFault, run};
-use std::alloc::Global;
+use peg_grammar::{Grammar, MOST_TEXT_BYTES};
+use peg_machine::{Answer, NoWatch, RunFault, run};
+use peg_memo::{Keep, NoMemo};
+use peg_policy::{Costs, Selective};
+use std::alloc::{AllocError, Global};
 use thiserror::Error;
 
 /// A grammar file that was accepted: its grammar is well-formed, and parses every text. It is compiled.
@@ -26,6 +29,7 @@ use thiserror::Error;
 pub struct Parser {
     grammar: Grammar,
     program: Program,
+    costs: Costs,
     pub ghost well_formed: { ∥ IsWellFormedGrammar (rules_in grammar) ∥₁ },
     pub ghost bodies: { ∥ bodies_of program.core ≡ core_bodies (rules_in grammar) ∥₁ },
     pub ghost code: { program.code ≡ program_code (core_bodies (rules_in grammar)) },
@@ -47,6 +51,17 @@ pub enum ParseFault {
     Memory,
 }
 
+impl From<AllocError> for ParseFault {
+    ghost use Rattle.std.specs.Prelude.{◌≡◌};
+    ghost use Rattle.peg_parser.specs.declared.parser.ParseFault.TheVariants.{Memory};
+
+    ghost from_gives = { λ _ fault. fault ≡ Memory };
+
+    fn from(_error: AllocError) -> ParseFault {
+        ParseFault::Memory
+    }
+}
+
 impl Parser {
     ghost use Rattle.peg_ford.specs.Rules.{name_of};
     ghost use Rattle.peg_notation.specs.Spans.{RuleLiesIn};
@@ -60,8 +75,8 @@ impl Parser {
 
     /// The parser of a grammar file, or why the file is refused: first as no file of the notation, then as no grammar,
     /// then as none that is well-formed (Ford 2004, figure 1 and sections 3.1 and 3.6), then as one whose code is too
-    /// large. What is the first three is refused for nothing but a stated limit or want of memory. Linear in the file, but for hashing and for sorting the rules
-    /// that one rule meets first.
+    /// large. What is the first three is refused for nothing but a stated limit or want of memory. Linear in the file, but
+    /// for hashing and for sorting the rules that one rule meets first.
     #[tactic(auto, using(crate::proofs::AcceptLemmas::accepting))]
     pub fn from_file(alloc: Global, file: &[u8]) -> Result<Parser, Refusal>
         ensures accepted { IfOk result (λ parser. Accepts file.now (parser_rules parser)) }
@@ -85,7 +100,12 @@ impl Parser {
         match checked_core(alloc, &grammar) {
             Ok(checked) => {
                 let program = compile(alloc, checked)?;
-                Ok(Parser { grammar, program })
+                let costs = Costs::new(alloc, &program)?;
+                Ok(Parser {
+                    grammar,
+                    program,
+                    costs,
+                })
             }
             Err(fault) => Err(Refusal::of_check(fault, grammar)),
         }
@@ -116,8 +136,9 @@ impl Parser {
     }
 
     /// What a rule of the grammar makes of a text's front: success, consumed length, tree and furthest failure are
-    /// those of Ford's recognition relation for the grammar as written (Ford 2004, section 3.3). `NoSuchStart` comes
-    /// first, then `TextTooLong`. It may take time exponential in the text's length; no native recursion.
+    /// those of Ford's recognition relation for the grammar as written (Ford 2004, section 3.3), whatever the memo keeps
+    /// (Ford 2002). `NoSuchStart` comes first, then `TextTooLong`. Without a memo, or with one too small, it may take time
+    /// exponential in the text's length; no native recursion.
     pub fn parse(
         &self,
         alloc: Global,
@@ -136,7 +157,29 @@ impl Parser {
         let Some(start) = self.start(options) else {
             return Err(ParseFault::NoSuchStart);
         };
-        match run(alloc, &self.program, text, start, None) {
+        if options.memo == 0 || text.len() > MOST_TEXT_BYTES {
+            return self.answer(alloc, text, start, &mut NoMemo);
+        }
+        let mut memo = Selective::new(alloc, options.memo, &self.costs, text)?;
+        self.answer(alloc, text, start, &mut memo)
+    }
+
+    // What the machine makes of a text from a rule, with a memo that holds nothing yet.
+    fn answer<K: Keep>(
+        &self,
+        alloc: Global,
+        text: &[u8],
+        start: u32,
+        memo: &mut K,
+    ) -> Result<Answer, ParseFault>
+        requires start { start < length (parser_rules self.now) }
+        requires empty { map.len (K.held memo.old) ≡ 0 }
+        ensures started { ¬ IsErrOf result ParseFault.NoSuchStart }
+        ensures long { IsErrOf result ParseFault.TextTooLong ↔ (most_text_bytes < length text.now) }
+        ensures outcome { IfOk result (λ answer. IsOutcome (parser_rules self.now) text.now
+            (name_of (parser_rules self.now) start) answer.outcome) }
+    {
+        match run(alloc, &self.program, text, start, memo, &mut NoWatch, None) {
             Ok(answer) => Ok(answer),
             Err(RunFault::TextTooLong) => Err(ParseFault::TextTooLong),
             Err(RunFault::Memory) => Err(ParseFault::Memory),

@@ -1,7 +1,8 @@
-use Rattle.std.proofs.Common.{◌≡◌, ◌∷◌, ◌++◌, [], List, ℕ, inl, map, sym, ◌∙◌, ap, refl, subst}
+use Rattle.std.proofs.Common.{◌≡◌, ◌≤◌, ◌∷◌, ◌++◌, [], List, ℕ, inl, length, map, arith, sym, ◌∙◌, ap, refl, subst}
 use Rattle.peg_tree.specs.Rows.{Row, row_of}
 use Rattle.peg_machine.specs.Entries.{Entry, Called}
-use Rattle.peg_machine.specs.Machine.{course_from, entry_of, job_of, starts_at}
+use Rattle.peg_machine.specs.Machine.{course_from, entry_of, job_of}
+use Rattle.peg_machine.specs.Shown.{starts_at}
 use Rattle.peg_machine.specs.Moments.{IsUnderway}
 use Rattle.peg_machine.specs.OpenRows.{opened}
 use Rattle.peg_machine.specs.Underway.{RunsAt}
@@ -17,13 +18,14 @@ abbrev row_from : (rule start end : ℕ) → Row
 row_from rule start end = record { rule = rule; start = start; end = end; size = 0 }
 
 pub returns : goal.returns
-returns c = λ answer answers.
+returns c = λ answer answers memo empty.
     let input = c.args.input in
     let job = job_of input in
-    let course = course_from input answer in
+    let course = course_from input memo.room answer in
     let pair = starts_at c.args.input.start in
     let stamps = c.in_ok-stamps.stamps.stamps.items in
-    let first = begins job input.program.now.entries (enters_of input) course stamps refl answers
+    let least : 0 ≤ length input.text.now = omega arith in
+    let first = begins job input.program.now.entries (enters_of input) course stamps memo refl refl refl refl empty answers least
     c.in_ok-stamps.ensures.nothing (c.in_ok-stamps.ensures.count ∙ c.terminals.ensures.count) in
     let entry : first.0 ≡ c.entry.result = (let here = first.1 in let there = c.entry.ensures.number in cc) in
     let row : TreeNode = record { rule = c.args.input.start; span = c.new.result; size = 0 } in
@@ -44,6 +46,7 @@ returns c = λ answer answers.
       rows = map row_of c.push.new.self.items;
       entries = map entry_of c.push-2.new.self.items;
       stamps = stamps;
+      memo = memo;
     }))
     entry
     (subst
@@ -51,6 +54,7 @@ returns c = λ answer answers.
       rows = map row_of c.push.new.self.items;
       entries = entries;
       stamps = stamps;
+      memo = memo;
     }))
     (sym entries)
     (subst
@@ -58,5 +62,6 @@ returns c = λ answer answers.
       rows = rows;
       entries = Called pair 0 0 ∷ [];
       stamps = stamps;
+      memo = memo;
     }))
     (sym rows) first.2)))

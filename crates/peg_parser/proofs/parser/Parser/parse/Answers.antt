@@ -1,30 +1,35 @@
-use Rattle.std.proofs.Common.{◌<◌, IfSome, subst, sym, arith}
-use Rattle.std.proofs.lemmas.List.Elements.{All-from_get_or}
+use Rattle.std.proofs.Common.{◌∙◌, ap, List, ℕ, Result, Ok, Err, IfOk}
+use Rattle.std.specs.FinMap.{len, len-empty}
 use Rattle.peg_ford.specs.Rules.{name_of}
 use Rattle.peg_grammar.specs.Outcomes.{IsOutcome}
+use Rattle.peg_machine.specs.declared.answer.Answer.{Answer}
+use Rattle.peg_memo.specs.Kept.{Kept}
+use Rattle.peg_memo.specs.Use.{use_cmp}
+use Rattle.peg_parser.specs.Fits.{Fits}
 use Rattle.peg_parser.specs.Parser.{parser_rules}
-use Rattle.peg_parser.proofs.CoreStarts.{length-bodies, parser-outcome}
+use Rattle.peg_parser.specs.declared.parser.ParseFault.{ParseFault}
+use Rattle.peg_parser.specs.declared.parser.Parser.{Parser}
 use Rattle.peg_parser.proofs.OutcomeFits.{outcome-fits}
 use Rattle.peg_parser.proofs.parser.Parser.parse.Goals as goal
-use Rattle.peg_parser.proofs.parser.Parser.parse.Goals.{In-Ok}
 
--- what the machine answers is Ford's outcome
-is-outcome : (c : In-Ok) → IsOutcome (parser_rules c.args.self.now) c.args.text.now
-    (name_of (parser_rules c.args.self.now) c.in-Some.start) c.in-Ok.answer.outcome
-is-outcome c =
-    parser-outcome c.args.self.now c.args.text.now c.in-Some.start c.in-Ok.answer.outcome
-    (All-from_get_or (λ byte. byte < 256) c.args.text.now 0 (λ i within. (c.type_inv.text i).fits)) c.in-Some.ensures.some
-    c.in-Ok.ensures.outcome
+-- an outcome of a grammar fits it, if there is one
+fits : (parser : Parser) (text : List ℕ) (start : ℕ) (result : Result Answer ParseFault)
+    → IfOk result (λ answer. IsOutcome (parser_rules parser) text (name_of (parser_rules parser) start) answer.outcome)
+    → IfOk result (λ answer. Fits (parser_rules parser) answer.outcome)
+fits parser text start (Ok answer) is =
+    let rules = parser_rules parser in outcome-fits rules text (name_of rules start) answer.outcome is
+fits parser text start (Err fault) is = tt
 
-pub run-requires : goal.run-requires
-run-requires c = omega (arith, c.in-Some.ensures.some, length-bodies c.args.self.now)
+pub answer-requires-clause-empty : goal.answer-requires-clause-empty
+answer-requires-clause-empty c = len-empty use_cmp Kept
 
-pub returns-in-Ok-clause-outcome : goal.returns-in-Ok-clause-outcome
-returns-in-Ok-clause-outcome c =
-    subst (λ named. IfSome named (λ start. IsOutcome (parser_rules c.args.self.now) c.args.text.now start
-    c.in-Ok.answer.outcome)) (sym c.in-Some.ensures.named) (is-outcome c)
+pub answer-requires-2-clause-empty : goal.answer-requires-2-clause-empty
+answer-requires-2-clause-empty c = ap len c.in_ok-memo.ensures ∙ len-empty use_cmp Kept
 
-pub returns-in-Ok-clause-fits : goal.returns-in-Ok-clause-fits
-returns-in-Ok-clause-fits c =
-    let rules = parser_rules c.args.self.now in
-    outcome-fits rules c.args.text.now (name_of rules c.in-Some.start) c.in-Ok.answer.outcome (is-outcome c)
+pub returns-then-options-eq0-clause-fits : goal.returns-then-options-eq0-clause-fits
+returns-then-options-eq0-clause-fits c =
+    fits c.args.self.now c.args.text.now c.in-Some.start c.answer.result c.answer.ensures.outcome
+
+pub returns-clause-fits : goal.returns-clause-fits
+returns-clause-fits c =
+    fits c.args.self.now c.args.text.now c.in-Some.start c.answer-2.result c.answer-2.ensures.outcome

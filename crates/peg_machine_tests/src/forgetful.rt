@@ -1,0 +1,60 @@
+//! A memo that forgets.
+ghost use Rattle.std.specs.Prelude.{◌≡◌, [], false, IfOk};
+ghost use Rattle.peg_memo.specs.Held.{held_in};
+
+use peg_memo::{Found, Keep, LruMemo};
+use std::alloc::{AllocError, Global};
+
+// How many results it holds at most: more than it keeps until it forgets them.
+const CAPACITY: u32 = 4;
+
+/// At each third result that it is to keep it forgets all that it held, and that one too.
+#[derive(Drop)]
+pub(crate) struct Forgetful {
+    alloc: Global,
+    memo: LruMemo,
+    offered: u32,
+}
+
+impl Forgetful {
+    pub(crate) fn new(alloc: Global) -> Result<Forgetful, AllocError>
+        ensures { IfOk result (λ it. it.memo.pairs ≡ []) }
+    {
+        Ok(Forgetful {
+            alloc,
+            memo: LruMemo::new(alloc, CAPACITY)?,
+            offered: 0,
+        })
+    }
+}
+
+impl Keep for Forgetful {
+    ghost held = { λ it. held_in it.memo.pairs };
+
+    ghost room = { λ _. 0 };
+
+    ghost refused = { λ _. false };
+
+    fn is_empty(&self) -> bool {
+        Keep::is_empty(&self.memo)
+    }
+
+    fn touch(&mut self, rule: u32, place: u32) {
+        Keep::touch(&mut self.memo, rule, place);
+    }
+
+    fn find(&self, rule: u32, place: u32) -> Option<Found<'_>> {
+        Keep::find(&self.memo, rule, place)
+    }
+
+    fn keep(&mut self, rule: u32, place: u32, found: Found<'_>) -> bool {
+        self.offered = self.offered.saturating_add(1);
+        if self.offered % 3 != 0 {
+            return Keep::keep(&mut self.memo, rule, place, found);
+        }
+        if let Ok(memo) = LruMemo::new(self.alloc, CAPACITY) {
+            self.memo = memo;
+        }
+        false
+    }
+}

@@ -1,0 +1,172 @@
+//! Runs with memos and with watches, against what was worked out by hand.
+ghost use Rattle.std.specs.Prelude.{◌<◌, length, IfOk};
+
+use crate::outcomes::{assert_alike, assert_outcome, failed, matched};
+use crate::pairs::{pair_of, program_of, same_outcome_with_memos};
+use crate::runs::{run_forgetting, run_from, run_plain, run_selecting, run_with};
+use peg_code::Program;
+use peg_machine::{ListWatch, NoWatch, RunFault};
+use peg_tree::{Parsed, Tree};
+use std::alloc::{AllocError, Global};
+use std::process::Abort;
+use std::test::Fail;
+
+const RIGHT: &[u8] = b"S <- 'a' S / 'b'";
+
+const TWICE: &[u8] = b"A <- '(' A ')' 'x' / '(' A ')' 'y' / 'a'";
+
+const COUNTS: &[u8] = b"\
+    D <- &(A !'b') 'a'* B !.\n\
+    A <- 'a' A 'b' / ''\n\
+    B <- 'b' B 'c' / ''\n";
+
+// The program of a file whose grammar is well-formed, which has a rule.
+fn some_program(rt: &impl Abort, alloc: Global, file: &[u8]) -> Result<Program, Fail>
+    ensures { IfOk result (λ program. 0 < length program.core.bodies) }
+{
+    let program = program_of(alloc, file)?;
+    assert!(rt; program.rules() > 0);
+    Ok(program)
+}
+
+// The pairs that a run without a memo shows.
+fn assert_pairs(
+    rt: &impl Abort,
+    alloc: Global,
+    file: &[u8],
+    text: &[u8],
+    pairs: &[(u32, u32)],
+) -> Result<(), Fail> {
+    let program = some_program(rt, alloc, file)?;
+    let mut watch = ListWatch::new(alloc);
+    run_from(alloc, &program, text, 0, &mut watch, None)?;
+    assert_eq!(rt; watch.pairs(), pairs);
+    Ok(())
+}
+
+#[test]
+fn a_watch_is_shown_each_use(rt: HostRuntime) -> Result<(), Fail> {
+    let pairs = [(0, 0), (0, 1), (0, 2)];
+    assert_pairs(&rt, rt.alloc(), RIGHT, b"aab", &pairs)
+}
+
+#[test]
+fn without_a_memo_a_use_begins_twice(rt: HostRuntime) -> Result<(), Fail> {
+    let pairs = [(0, 0), (0, 1), (0, 1)];
+    assert_pairs(&rt, rt.alloc(), TWICE, b"(a)y", &pairs)
+}
+
+#[test]
+fn with_room_no_use_begins_twice(rt: HostRuntime) -> Result<(), Fail> {
+    let alloc = rt.alloc();
+    let program = some_program(&rt, alloc, TWICE)?;
+    let mut watch = ListWatch::new(alloc);
+    run_with(alloc, &program, b"(a)y", 0, 5, &mut watch, None)?;
+    assert_eq!(rt; watch.pairs(), [(0, 0), (0, 1)].as_slice());
+    Ok(())
+}
+
+#[test]
+fn a_memo_of_one_result_saves_six_steps(rt: HostRuntime) -> Result<(), Fail> {
+    let alloc = rt.alloc();
+    let program = some_program(&rt, alloc, TWICE)?;
+    let text = b"(a)y";
+    let answer = run_with(alloc, &program, text, 0, 1, &mut NoWatch, Some(19))?;
+    assert_eq!(rt; answer.steps, 19);
+    let nodes = &[(0, 0, 4, 1), (0, 1, 2, 0)];
+    let case = matched(text, 4, 3, &[2], nodes);
+    assert_outcome(&rt, alloc, &answer.outcome, case)?;
+    let refused = run_with(alloc, &program, text, 0, 1, &mut NoWatch, Some(18));
+    assert!(rt; matches!(refused, Err(RunFault::StepLimit)));
+    Ok(())
+}
+
+// So many parentheses round an `a`, each followed by `y`.
+fn parentheses(alloc: Global, count: usize) -> Result<Vec<u8>, AllocError> {
+    let mut text = vec![in alloc; b'('; count]?;
+    text.push(b'a')?;
+    for _ in 0..count {
+        text.extend_from_slice(b")y")?;
+    }
+    Ok(text)
+}
+
+// The tree is a chain of nodes, each one byte further in, and two bytes at its end.
+fn assert_chain(rt: &impl Abort, tree: &Tree, nodes: u32) {
+    assert_eq!(rt; tree.len(), nodes as usize);
+    for node in 0..tree.len() {
+        let span = tree.span(node);
+        assert_eq!(rt; span.start as usize, node);
+        let end = (span.end as usize).saturating_add(node.saturating_mul(2));
+        assert_eq!(rt; end, (nodes as usize).saturating_mul(3).saturating_sub(2));
+    }
+}
+
+// Parentheses that would take twice the steps a level without a memo, with memos of one result and of many.
+fn assert_parentheses(rt: &impl Abort, alloc: Global, count: u32, steps: u64) -> Result<(), Fail>
+    requires { count < 1000 }
+{
+    let program = some_program(rt, alloc, TWICE)?;
+    let text = parentheses(alloc, count as usize)?;
+    for capacity in [1, 4096] {
+        let answer = run_with(
+            alloc,
+            &program,
+            &text,
+            0,
+            capacity,
+            &mut NoWatch,
+            Some(steps),
+        )?;
+        assert_eq!(rt; answer.steps, steps);
+        assert_eq!(rt; answer.outcome.far, 3 * count);
+        assert_eq!(rt; answer.outcome.expected.as_slice(), [2].as_slice());
+        match &answer.outcome.result {
+            Parsed::Failed => assert!(rt; false, "no match"),
+            Parsed::Matched { end, tree } => {
+                assert_eq!(rt; *end, 3 * count + 1);
+                assert_chain(rt, tree, count + 1);
+            }
+        }
+        let selecting = run_selecting(alloc, &program, &text, 0, capacity, Some(steps))?;
+        assert_alike(rt, &selecting.outcome, &answer.outcome, "parentheses");
+        assert_eq!(rt; selecting.steps, steps);
+        let fewer = Some(steps.saturating_sub(1));
+        let refused = run_with(alloc, &program, &text, 0, capacity, &mut NoWatch, fewer);
+        assert!(rt; matches!(refused, Err(RunFault::StepLimit)));
+    }
+    Ok(())
+}
+
+#[test]
+fn thirty_parentheses_take_few_steps_with_a_memo(rt: HostRuntime) -> Result<(), Fail> {
+    assert_parentheses(&rt, rt.alloc(), 30, 367)
+}
+
+// Without a memo no machine would come to the end of these.
+#[test]
+fn a_hundred_parentheses_take_few_steps_with_a_memo(rt: HostRuntime) -> Result<(), Fail> {
+    assert_parentheses(&rt, rt.alloc(), 100, 1_207)
+}
+
+#[test]
+fn a_missing_byte_is_told_with_each_memo(rt: HostRuntime) -> Result<(), Fail> {
+    let alloc = rt.alloc();
+    let pair = pair_of(alloc, COUNTS)?;
+    let case = failed(b"aabbc", 5, &[7]);
+    let outcome = same_outcome_with_memos(&rt, alloc, &pair, case.text, 0)?;
+    assert_outcome(&rt, alloc, &outcome, case)?;
+    Ok(())
+}
+
+#[test]
+fn a_memo_that_forgets_changes_no_answer(rt: HostRuntime) -> Result<(), Fail> {
+    let alloc = rt.alloc();
+    let program = some_program(&rt, alloc, TWICE)?;
+    let text = parentheses(alloc, 10)?;
+    let answer = run_forgetting(alloc, &program, &text, 0)?;
+    let plain = run_plain(alloc, &program, &text, None)?;
+    assert_alike(&rt, &answer.outcome, &plain.outcome, "ten parentheses");
+    assert!(rt; answer.steps < plain.steps);
+    Ok(())
+}

@@ -1,0 +1,82 @@
+//! Runs without a memo, and with several.
+ghost use Rattle.std.specs.Prelude.{◌<◌, ◌≤◌, length};
+
+use crate::forgetful::Forgetful;
+use peg_code::Program;
+use peg_machine::{Answer, NoWatch, RunFault, Watch, run};
+use peg_memo::{LruMemo, NoMemo};
+use peg_policy::{Costs, Selective};
+use std::alloc::Global;
+
+/// A run without a memo, from a rule.
+pub(crate) fn run_from<W: Watch>(
+    alloc: Global,
+    program: &Program,
+    text: &[u8],
+    start: u32,
+    watch: &mut W,
+    most: Option<u64>,
+) -> Result<Answer, RunFault>
+    requires { start < length program.now.core.bodies }
+{
+    run(alloc, program, text, start, &mut NoMemo, watch, most)
+}
+
+/// A run without a memo or a watch, from the first rule.
+pub(crate) fn run_plain(
+    alloc: Global,
+    program: &Program,
+    text: &[u8],
+    most: Option<u64>,
+) -> Result<Answer, RunFault>
+    requires { 0 < length program.now.core.bodies }
+{
+    run_from(alloc, program, text, 0, &mut NoWatch, most)
+}
+
+/// A run with a memo of so many results, from a rule.
+pub(crate) fn run_with<W: Watch>(
+    alloc: Global,
+    program: &Program,
+    text: &[u8],
+    start: u32,
+    capacity: u32,
+    watch: &mut W,
+    most: Option<u64>,
+) -> Result<Answer, RunFault>
+    requires rule { start < length program.now.core.bodies }
+    requires some { 1 ≤ capacity }
+{
+    let mut memo = LruMemo::new(alloc, capacity)?;
+    run(alloc, program, text, start, &mut memo, watch, most)
+}
+
+/// A run with a memo of so many results that keeps what pays, from a rule.
+pub(crate) fn run_selecting(
+    alloc: Global,
+    program: &Program,
+    text: &[u8],
+    start: u32,
+    capacity: u32,
+    most: Option<u64>,
+) -> Result<Answer, RunFault>
+    requires rule { start < length program.now.core.bodies }
+    requires some { 1 ≤ capacity }
+{
+    let costs = Costs::new(alloc, program)?;
+    let mut memo = Selective::new(alloc, capacity, &costs, text)?;
+    run(alloc, program, text, start, &mut memo, &mut NoWatch, most)
+}
+
+/// A run with a memo that forgets, from a rule.
+pub(crate) fn run_forgetting(
+    alloc: Global,
+    program: &Program,
+    text: &[u8],
+    start: u32,
+) -> Result<Answer, RunFault>
+    requires { start < length program.now.core.bodies }
+{
+    let mut memo = Forgetful::new(alloc)?;
+    run(alloc, program, text, start, &mut memo, &mut NoWatch, None)
+}

@@ -1,0 +1,240 @@
+//! The pairs that a run shows, beside the uses that an evaluator of written expressions meets.
+use crate::dice::Dice;
+use crate::pairs::{Pair, accepted_pair, pair_of};
+use crate::random::{some_file, some_text};
+use crate::runs::{run_from, run_with};
+use peg_bytes::ByteSet;
+use peg_grammar::{Expr, Grammar};
+use peg_machine::ListWatch;
+use std::alloc::Global;
+use std::process::Abort;
+use std::test::Fail;
+
+// How many expressions may be looked at one in the other.
+const DEPTH: u32 = 400;
+
+// How many grammars by chance are tried.
+const GRAMMARS: usize = 400;
+
+// Recognizes expressions, and notes each use of a rule that it meets: those of predicates and of abandoned branches too.
+// It gives up where too many expressions stand one in the other, or where memory is refused.
+#[derive(Drop)]
+struct Evaluator<'a> {
+    grammar: &'a Grammar,
+    text: &'a [u8],
+    uses: Vec<(u32, u32)>,
+    gave_up: bool,
+}
+
+impl Evaluator<'_> {
+    fn give_up(&mut self) -> Option<u32> {
+        self.gave_up = true;
+        None
+    }
+
+    // The place behind the next byte, if it is in a set.
+    fn behind_byte(&self, set: &ByteSet, place: u32) -> Option<u32> {
+        match self.text.get(place as usize) {
+            None => None,
+            Some(byte) => {
+                if set.contains(*byte) {
+                    Some(place.saturating_add(1))
+                } else {
+                    None
+                }
+            }
+        }
+    }
+
+    // The place behind a literal, if it stands there.
+    fn behind_literal(&self, bytes: &[u8], place: u32) -> Option<u32> {
+        let mut end = place;
+        for byte in bytes {
+            if self.text.get(end as usize) != Some(byte) {
+                return None;
+            }
+            end = end.saturating_add(1);
+        }
+        Some(end)
+    }
+
+    // Where an expression ends that matches at a place.
+    #[cycle(end_of)]
+    fn end_of(&mut self, expr: &Expr, place: u32, depth: u32) -> Option<u32> {
+        if depth == 0 {
+            return self.give_up();
+        }
+        match expr {
+            Expr::Literal { bytes, .. } => self.behind_literal(bytes, place),
+            Expr::Class { set, .. } => self.behind_byte(set, place),
+            Expr::Any { .. } => self.behind_byte(&ByteSet::full(), place),
+            Expr::Name { name, .. } => self.end_of_use(name, place, depth - 1),
+            Expr::Seq { items, .. } => self.end_of_all(items, place, depth - 1),
+            Expr::Choice { first, rest, .. } => self.end_of_any(first, rest, place, depth - 1),
+            Expr::Star { part, .. } => self.end_of_rounds(part, place, depth - 1),
+            Expr::Plus { part, .. } => self.end_of_some_rounds(part, place, depth - 1),
+            Expr::Optional { part, .. } => Some(
+                self.end_of(part, place, depth - 1).unwrap_or(place),
+            ),
+            Expr::And { part, .. } => self.place_if(part, true, place, depth - 1),
+            Expr::Not { part, .. } => self.place_if(part, false, place, depth - 1),
+        }
+    }
+
+    // The place itself, where a part matches, or where it fails.
+    #[cycle(end_of)]
+    fn place_if(&mut self, part: &Expr, matches: bool, place: u32, depth: u32) -> Option<u32> {
+        if depth == 0 {
+            return self.give_up();
+        }
+        if self.end_of(part, place, depth - 1).is_some() == matches {
+            return Some(place);
+        }
+        None
+    }
+
+    // A use of a rule, which is noted.
+    #[cycle(end_of)]
+    fn end_of_use(&mut self, name: &str, place: u32, depth: u32) -> Option<u32> {
+        let grammar = self.grammar;
+        match grammar.rule_number(name) {
+            None => self.give_up(),
+            Some(rule) => {
+                if depth == 0 || self.uses.push((rule, place)).is_err() {
+                    return self.give_up();
+                }
+                self.end_of(grammar.body(rule), place, depth - 1)
+            }
+        }
+    }
+
+    // All items, one after the other.
+    #[cycle(end_of)]
+    fn end_of_all(&mut self, items: &[Expr], place: u32, depth: u32) -> Option<u32> {
+        if depth == 0 {
+            return self.give_up();
+        }
+        let mut end = place;
+        for item in items {
+            match self.end_of(item, end, depth - 1) {
+                Some(next) => end = next,
+                None => return None,
+            }
+        }
+        Some(end)
+    }
+
+    // The first alternative that matches.
+    #[cycle(end_of)]
+    fn end_of_any(&mut self, first: &Expr, rest: &[Expr], place: u32, depth: u32) -> Option<u32> {
+        if depth == 0 {
+            return self.give_up();
+        }
+        let mut end = self.end_of(first, place, depth - 1);
+        for alternative in rest {
+            if end.is_some() {
+                return end;
+            }
+            end = self.end_of(alternative, place, depth - 1);
+        }
+        end
+    }
+
+    // A part once, and again and again until it fails.
+    #[cycle(end_of)]
+    fn end_of_some_rounds(&mut self, part: &Expr, place: u32, depth: u32) -> Option<u32> {
+        if depth == 0 {
+            return self.give_up();
+        }
+        match self.end_of(part, place, depth - 1) {
+            None => None,
+            Some(end) => self.end_of_rounds(part, end, depth - 1),
+        }
+    }
+
+    // A part again and again, until it fails.
+    #[cycle(end_of)]
+    fn end_of_rounds(&mut self, part: &Expr, place: u32, depth: u32) -> Option<u32> {
+        if depth == 0 {
+            return self.give_up();
+        }
+        let mut end = place;
+        for _ in 0..=self.text.len() {
+            match self.end_of(part, end, depth - 1) {
+                Some(next) => end = next,
+                None => return Some(end),
+            }
+        }
+        self.give_up()
+    }
+}
+
+// The uses that an evaluation from the first rule meets, that of the first rule among them.
+fn uses_of(
+    rt: &impl Abort,
+    alloc: Global,
+    pair: &Pair,
+    text: &[u8],
+) -> Result<Vec<(u32, u32)>, Fail> {
+    assert!(rt; pair.grammar.rules() > 0);
+    let mut evaluator = Evaluator {
+        grammar: &pair.grammar,
+        text,
+        uses: vec![in alloc; (0, 0)]?,
+        gave_up: false,
+    };
+    let _end = evaluator.end_of(pair.grammar.body(0), 0, DEPTH);
+    assert!(rt; !evaluator.gave_up);
+    let Evaluator { uses, .. } = evaluator;
+    Ok(uses)
+}
+
+// Without a memo a watch is shown the uses, each as often as it is met; with one that holds all, none twice.
+fn assert_uses(rt: &impl Abort, alloc: Global, pair: &Pair, text: &[u8]) -> Result<(), Fail> {
+    let wanted = uses_of(rt, alloc, pair, text)?;
+    assert!(rt; pair.program.rules() > 0);
+    let mut plain = ListWatch::new(alloc);
+    run_from(alloc, &pair.program, text, 0, &mut plain, None)?;
+    assert_eq!(rt; plain.pairs(), wanted.as_slice(), "on {text:?}");
+    let mut once = ListWatch::new(alloc);
+    run_with(alloc, &pair.program, text, 0, 4096, &mut once, None)?;
+    for shown in once.pairs() {
+        assert!(rt; wanted.contains(shown), "on {text:?}");
+    }
+    for used in &wanted {
+        let times = once.pairs().iter().filter(|shown| *shown == used).count();
+        assert_eq!(rt; times, 1, "on {text:?}");
+    }
+    Ok(())
+}
+
+#[test]
+fn uses_of_small_grammars_are_shown(rt: HostRuntime) -> Result<(), Fail> {
+    let alloc = rt.alloc();
+    let twice = pair_of(alloc, b"A <- '(' A ')' 'x' / '(' A ')' 'y' / 'a'")?;
+    for text in [&b"(a)y"[..], b"((a)y)y", b"((a", b""] {
+        assert_uses(&rt, alloc, &twice, text)?;
+    }
+    let counts = pair_of(
+        alloc,
+        b"D <- &(A !'b') 'a'* B !.\nA <- 'a' A 'b' / ''\nB <- 'b' B 'c' / ''\n",
+    )?;
+    for text in [&b"aabbcc"[..], b"aabbc", b"abc", b"b"] {
+        assert_uses(&rt, alloc, &counts, text)?;
+    }
+    Ok(())
+}
+
+#[test]
+fn uses_of_grammars_by_chance_are_shown(rt: HostRuntime) -> Result<(), Fail> {
+    let alloc = rt.alloc();
+    let mut dice = Dice::new(2002);
+    for _ in 0..GRAMMARS {
+        let file = some_file(alloc, &mut dice)?;
+        if let Some(pair) = accepted_pair(alloc, &file)? {
+            let text = some_text(alloc, &mut dice)?;
+            assert_uses(&rt, alloc, &pair, &text)?;
+        }
+    }
+    Ok(())
+}

@@ -1,0 +1,14 @@
+use Rattle.std.proofs.Common.{◌<◌, arith}
+use Rattle.std.proofs.lemmas.List.Elements.{All-from_get_or}
+use Rattle.peg_parser.proofs.CoreStarts.{length-bodies, parser-outcome}
+use Rattle.peg_parser.proofs.parser.Parser.answer.Goals as goal
+
+pub run-requires-clause-rule : goal.run-requires-clause-rule
+run-requires-clause-rule g c = omega (arith, c.requires.start, length-bodies c.args.self.now)
+
+-- what the machine answers is Ford's outcome
+pub returns-in-Ok-clause-outcome : goal.returns-in-Ok-clause-outcome
+returns-in-Ok-clause-outcome g c =
+    parser-outcome c.args.self.now c.args.text.now c.args.start c.in-Ok.answer.outcome
+    (All-from_get_or (λ byte. byte < 256) c.args.text.now 0 (λ i within. (c.type_inv.text i).fits)) c.requires.start
+    c.in-Ok.ensures.outcome
