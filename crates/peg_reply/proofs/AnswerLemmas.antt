@@ -1,10 +1,10 @@
 -- What an answer is printed from: the places of terminals one after the other, and no object has a float.
-use Rattle.std.proofs.Common.{◌≡◌, ℕ, ◌+◌, ◌<◌, Bool, true, false, ◌||◌, List, [], ◌∷◌, ◌++◌, length, map, Some}
+use Rattle.std.proofs.Common.{◌≡◌, ℕ, ◌+◌, ◌<◌, Bool, true, false, ◌||◌, List, [], ◌∷◌, ◌++◌, length, map, Some, codes}
 use Rattle.std.proofs.Common.{refl, sym, ap, ◌∙◌, arith, slice_get, slice_index_or, get_or, inl, inr}
 use Rattle.std.proofs.lemmas.Bool.{cases_Bool, false≢true}
 use Rattle.std.proofs.lemmas.List.{get_or-map, length-map}
 use Rattle.std.proofs.lemmas.Option.{get_or_from_slice_get}
-use Rattle.serde_json.specs.Data.{Data}
+use Rattle.serde_json.specs.Data.{Data, array, member, no_items, no_members}
 use Rattle.serde_json.specs.View.{items_of}
 use Rattle.serde_json.specs.Written.{has_float, items_have_float, members_have_float}
 use Rattle.peg_bytes.specs.Extent.{Extent, between}
@@ -83,3 +83,8 @@ pub match-without_floats : (partial : Bool) (end far : ℕ) (expected : List Ext
 match-without_floats partial end far expected rows names tree =
     ap (λ (b : Bool). b || members_have_float (tree_member rows names tree)) (expected-without_floats expected)
     ∙ tree-without_floats rows names tree
+
+-- nor has one with no rows
+pub empty-without_floats : (partial : Bool) (end far : ℕ) (expected : List Extent)
+    → has_float (matched_data partial end far expected (member (codes "rows") (array no_items) no_members)) ≡ false
+empty-without_floats partial end far expected = ap (λ (b : Bool). b || false) (expected-without_floats expected)

@@ -4,6 +4,7 @@ pub mod ParseLemmas
 pub mod PrintLemmas
 mod RefusalLemmas
 mod RefusedLines
+mod RowLines
 mod RunLemmas
 mod Sent
 mod TableLemmas

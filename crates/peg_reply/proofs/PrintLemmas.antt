@@ -1,15 +1,18 @@
 -- Lines of replies.
-use Rattle.std.proofs.Common.{◌≡◌, ℕ, List, [], ◌∷◌, ◌++◌, IfOk, Result, Ok, Err, string_bytes, ap, ◌∙◌}
+use Rattle.std.proofs.Common.{◌≡◌, ℕ, Bool, true, false, List, [], ◌∷◌, ◌++◌, IfOk, Result, Ok, Err, inr, refl, ap, ◌∙◌}
 use Rattle.std.specs.declared.alloc.AllocError.{AllocError}
 use Rattle.serde_json.specs.Written.{compact_text}
-use Rattle.peg_reply.specs.Lines.{IsLineOf, IsReply, line_bytes}
+use Rattle.peg_ford.specs.Rules.{Rule}
+use Rattle.peg_tree.specs.declared.outcome.Outcome.{Outcome}
+use Rattle.peg_reply.specs.Lines.{IsLineOf, IsReply, line_bytes, line_text}
+use Rattle.peg_reply.specs.Parses.{PrintsOutcome, outcome_reply}
 use Rattle.peg_reply.specs.Reply.{Reply, printed, status_of}
 use Rattle.peg_reply.specs.Statuses.{code_of}
 use Rattle.peg_reply.specs.declared.line.Line.{Line}
 use Rattle.peg_reply.specs.declared.status.Status.{Status}
 
 -- the line and the status of one reply
-pub text-reply : (line : Line) (file text : List ℕ) (status : Status) (reply : Reply) → string_bytes line.text ≡ text
+pub text-reply : (line : Line) (file text : List ℕ) (status : Status) (reply : Reply) → line_text line ≡ text
     → line.status ≡ status → text ≡ compact_text (printed file reply) → code_of status ≡ status_of reply
     → IsReply file reply (line_bytes line) (code_of line.status)
 text-reply line file text status reply is ends of_reply same =
@@ -29,3 +32,16 @@ pub kind-weaker : (result : Result Line AllocError) (file : List ℕ) (Kind More
     → IfOk result (λ line. IsLineOf file More (line_bytes line) (code_of line.status))
 kind-weaker (Ok line) file Kind More more is = (is.0, more is.0 is.1, is.2, is.3)
 kind-weaker (Err why) file Kind More more is = tt
+
+-- the line of an outcome whose tree is told by its rows
+pub outcome-line : (result : Result Line AllocError) (file : List ℕ) (rules : List Rule) (outcome : Outcome) (len : ℕ)
+    (all : Bool) (status : Status)
+    → IfOk result (λ line. line_text line ≡ compact_text (printed file (outcome_reply rules outcome len all true)))
+    → IfOk result (λ line. line.status ≡ status) → code_of status ≡ status_of (outcome_reply rules outcome len all true)
+    → IfOk result (λ line. IsLineOf file (PrintsOutcome rules outcome len all true) (line_bytes line) (code_of line.status))
+outcome-line (Ok line) file rules outcome len all status is ends same =
+    let reply = outcome_reply rules outcome len all true in
+    reply-kind (Ok line) file (PrintsOutcome rules outcome len all true) reply
+    (text-reply line file (line_text line) status reply refl ends is same)
+    (inr (λ nested. absurd (let bad : true ≡ false = nested in cc), refl))
+outcome-line (Err why) file rules outcome len all status is ends same = tt

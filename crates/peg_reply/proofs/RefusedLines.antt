@@ -8,7 +8,7 @@ use Rattle.peg_parser.specs.Faults.{IsTellable, want_of_memory, of_cause, Refusa
 use Rattle.peg_parser.specs.declared.refusal.Refusal.{Refusal}
 use Rattle.peg_parser.specs.declared.refusal.Refusal.TheVariants as refusal
 use Rattle.peg_reply.specs.CauseText.{cause_data, cause_status}
-use Rattle.peg_reply.specs.Lines.{IsReply, line_bytes}
+use Rattle.peg_reply.specs.Lines.{IsReply, line_bytes, line_text}
 use Rattle.peg_reply.specs.Reply.{Refused}
 use Rattle.peg_reply.specs.Statuses.{code_of}
 use Rattle.peg_reply.specs.declared.line.Line.{Line}
@@ -57,7 +57,7 @@ told-by_names result file names why same told is =
 
 -- the line of what a fault tells
 pub fault-reply : (line : Line) (file text : List ℕ) (status : Status) (found : Option Cause)
-    → string_bytes line.text ≡ text → line.status ≡ status
+    → line_text line ≡ text → line.status ≡ status
     → IfSome found (λ cause. text ≡ compact_text (cause_data file cause))
     → IfSome found (λ cause. code_of status ≡ cause_status cause)
     → IfSome found (λ cause. IsReply file (Refused cause) (line_bytes line) (code_of line.status))

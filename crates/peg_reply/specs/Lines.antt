@@ -1,11 +1,22 @@
 -- Lines and statuses of replies.
-use Rattle.std.specs.Prelude.{◌≡◌, ℕ, List, [], ◌∷◌, ◌++◌, string_bytes}
+use Rattle.std.specs.Prelude.{◌≡◌, ℕ, ◌-◌, List, [], ◌∷◌, ◌++◌, Option, None, Some, drop, length, string_bytes, take}
+use Rattle.peg_tree.specs.RowsLeft.{text_left}
+use Rattle.peg_tree.specs.declared.rows_text.RowsText.{RowsText}
 use Rattle.peg_reply.specs.Reply.{Reply, printed_line, status_of}
 use Rattle.peg_reply.specs.declared.line.Line.{Line}
 
+-- a text; where there are rows, they stand in the list at its end, before the bracket and the brace that close it
+abbrev pub with_rows : (text : List ℕ) → Option RowsText → List ℕ
+with_rows text None = text
+with_rows text (Some rows) = take (length text - 2) text ++ (text_left rows ++ drop (length text - 2) text)
+
+-- the bytes of a line without its end
+abbrev pub line_text : Line → List ℕ
+line_text line = with_rows (string_bytes line.text) line.rows
+
 -- the bytes of a line: its text and a line end
 abbrev pub line_bytes : Line → List ℕ
-line_bytes line = string_bytes line.text ++ 10 ∷ []
+line_bytes line = line_text line ++ 10 ∷ []
 
 -- these bytes and this status are those of a reply about a grammar file
 abbrev pub IsReply : (file : List ℕ) → Reply → (line : List ℕ) → (status : ℕ) → Type 0

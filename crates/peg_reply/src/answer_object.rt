@@ -1,5 +1,6 @@
 //! The objects of answers, for a serializer.
 ghost use Rattle.std.specs.Prelude.{◌≡◌, Bool, OnOk};
+ghost use Rattle.serde_json.specs.Data.{array, no_items};
 ghost use Rattle.serde_json.specs.Events.{SendsValue};
 ghost use Rattle.peg_reply.specs.Reply.{failed_data, match_word};
 ghost use Rattle.peg_reply.specs.Sending.{SendsMatch, places_of};
@@ -37,6 +38,21 @@ pub(crate) struct Summary<'a> {
     pub end: u32,
     pub far: u32,
     pub expected: Places<'a>,
+}
+
+// No rows: an empty list.
+#[derive(Clone, Copy)]
+pub(crate) struct NoRows;
+
+impl Described for NoRows {
+    ghost writes = { λ _. SendsValue (array no_items) };
+}
+
+impl Serialize for NoRows {
+    fn serialize<S: Serializer>(&self, out: &mut S) -> Result<(), S::Error> {
+        out.begin_seq(Some(0))?;
+        out.end_seq()
+    }
 }
 
 // A match with its tree, which is told as the member `key`.

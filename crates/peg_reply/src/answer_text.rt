@@ -78,7 +78,11 @@ pub(crate) fn answer_text(
 }
 
 // The text of a failure.
-fn failed_text(alloc: Global, far: u32, expected: Places<'_>) -> Result<String, AllocError>
+pub(crate) fn failed_text(
+    alloc: Global,
+    far: u32,
+    expected: Places<'_>,
+) -> Result<String, AllocError>
     ensures { IfOk result (λ text. string_bytes text ≡ compact_text (failed_data far (places_of expected.entry))) }
 {
     text_of(alloc, &Failure { far, expected })

@@ -11,6 +11,7 @@ mod line;
 mod lines;
 mod places;
 mod refusal_text;
+mod row_lines;
 mod status;
 mod table_text;
 mod text;
@@ -24,6 +25,7 @@ pub use lines::{
     accepted_line, answer_line, code_line, long_text_line, no_start_line, refused_line, table_line,
 };
 pub use refusal_text::refusal_json;
+pub use row_lines::rows_line;
 pub use status::Status;
 pub use table_text::table_json;
 pub use tree_form::TreeForm;

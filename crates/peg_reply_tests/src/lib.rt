@@ -8,4 +8,6 @@ mod code;
 #[cfg(test)]
 mod refusals;
 #[cfg(test)]
+mod rows;
+#[cfg(test)]
 mod tables;

@@ -10,6 +10,10 @@ const INPUT: &[u8] = b"S <- 'a' S / 'b'\n%%\naab";
 const LINE: &[u8] =
     b"{\"consumed\":3,\"expected\":[[5,8]],\"far\":2,\"result\":\"matched\",\"tree\":{\"children\":[{\"children\":[{\"children\":[],\"end\":3,\"rule\":\"S\",\"start\":2}],\"end\":3,\"rule\":\"S\",\"start\":1}],\"end\":3,\"rule\":\"S\",\"start\":0}}\n";
 
+// The same, with the tree told by its rows.
+const ROWS: &[u8] =
+    b"{\"consumed\":3,\"expected\":[[5,8]],\"far\":2,\"result\":\"matched\",\"rows\":[[1,\"S\",0,3],[2,\"S\",1,3],[3,\"S\",2,3]]}\n";
+
 // Gives one byte a read, and fails after so many.
 #[derive(Drop)]
 struct Dripping {
@@ -204,6 +208,7 @@ fn parse(
     file: &mut Dripping,
     text: &mut Dripping,
     output: &mut Choking,
+    rows: bool,
 ) -> Result<u8, ToolFault>
     requires file { file.old.broken ≡ false }
     requires text { text.old.broken ≡ false }
@@ -213,7 +218,7 @@ fn parse(
         start: None,
         memo: 4096,
     };
-    let (all, rows) = (false, false);
+    let all = false;
     run_tool(
         alloc,
         file,
@@ -229,7 +234,7 @@ fn a_parse_tells_a_failed_read_of_either(rt: HostRuntime) -> Result<(), Fail> {
         let mut file = Dripping::new(FILE, breaks_at);
         let mut text = Dripping::new(TEXT, 1000);
         let mut output = Choking::new(rt.alloc(), 1000);
-        let ended = parse(rt.alloc(), &mut file, &mut text, &mut output);
+        let ended = parse(rt.alloc(), &mut file, &mut text, &mut output, false);
         assert_eq!(rt; ended, Err(ToolFault::ReadFault), "file at {breaks_at}");
         assert_eq!(rt; text.at, 0, "file at {breaks_at}");
         assert_eq!(rt; output.taken.len(), 0, "file at {breaks_at}");
@@ -238,10 +243,31 @@ fn a_parse_tells_a_failed_read_of_either(rt: HostRuntime) -> Result<(), Fail> {
         let mut file = Dripping::new(FILE, 1000);
         let mut text = Dripping::new(TEXT, breaks_at);
         let mut output = Choking::new(rt.alloc(), 1000);
-        let ended = parse(rt.alloc(), &mut file, &mut text, &mut output);
+        let ended = parse(rt.alloc(), &mut file, &mut text, &mut output, false);
         assert_eq!(rt; ended, Err(ToolFault::ReadFault), "text at {breaks_at}");
         assert!(rt; text.failed() && !file.failed() && !output.failed());
         assert_eq!(rt; output.taken.len(), 0, "text at {breaks_at}");
+    }
+    Ok(())
+}
+
+#[test]
+fn rows_tell_a_failed_write(rt: HostRuntime) -> Result<(), Fail> {
+    for breaks_at in 0..=ROWS.len() {
+        let mut file = Dripping::new(FILE, 1000);
+        let mut text = Dripping::new(TEXT, 1000);
+        let mut output = Choking::new(rt.alloc(), breaks_at);
+        let ended = parse(rt.alloc(), &mut file, &mut text, &mut output, true);
+        let expected = if breaks_at < ROWS.len() {
+            Err(ToolFault::WriteFault)
+        } else {
+            Ok(0)
+        };
+        assert_eq!(rt; ended, expected, "at {breaks_at}");
+        assert!(rt;
+            output.taken.as_slice() == &ROWS[..breaks_at],
+            "at {breaks_at}"
+        );
     }
     Ok(())
 }
@@ -252,7 +278,7 @@ fn a_parse_tells_a_failed_write(rt: HostRuntime) -> Result<(), Fail> {
         let mut file = Dripping::new(FILE, 1000);
         let mut text = Dripping::new(TEXT, 1000);
         let mut output = Choking::new(rt.alloc(), breaks_at);
-        let ended = parse(rt.alloc(), &mut file, &mut text, &mut output);
+        let ended = parse(rt.alloc(), &mut file, &mut text, &mut output, false);
         assert_eq!(rt; ended, Err(ToolFault::WriteFault), "at {breaks_at}");
         assert!(rt;
             output.taken.as_slice() == &LINE[..breaks_at],
@@ -270,7 +296,7 @@ fn a_text_is_read_for_an_accepted_grammar_alone(rt: HostRuntime) -> Result<(), F
     let mut file = Dripping::new(CYCLE, 1000);
     let mut text = Dripping::new(TEXT, 0);
     let mut output = Choking::new(rt.alloc(), 1000);
-    let ended = parse(rt.alloc(), &mut file, &mut text, &mut output);
+    let ended = parse(rt.alloc(), &mut file, &mut text, &mut output, false);
     assert_eq!(rt; ended, Ok(2));
     assert!(rt; !text.failed());
     let line = b"{\"path\":[\"A\",\"B\"],\"refusal\":\"LeftRecursion\"}\n".as_slice();
@@ -278,7 +304,7 @@ fn a_text_is_read_for_an_accepted_grammar_alone(rt: HostRuntime) -> Result<(), F
     let mut file = Dripping::new(FILE, 1000);
     let mut text = Dripping::new(TEXT, 1000);
     let mut output = Choking::new(rt.alloc(), 1000);
-    let ended = parse(rt.alloc(), &mut file, &mut text, &mut output);
+    let ended = parse(rt.alloc(), &mut file, &mut text, &mut output, false);
     assert_eq!(rt; ended, Ok(0));
     assert!(rt; output.taken.as_slice() == LINE);
     Ok(())

@@ -3,3 +3,4 @@ mod JudgeLemmas
 mod ParsedLines
 mod ProgramLemmas
 mod RunLemmas
+mod WriteLemmas

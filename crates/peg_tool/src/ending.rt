@@ -2,11 +2,13 @@
 ghost use Rattle.std.specs.Prelude.{◌≡◌, ◌↔◌, true, false, is_err, IsErrOf, OnErr, OnOk};
 ghost use Rattle.std.specs.Io.KnownBytes.{Appends};
 ghost use Rattle.peg_io.specs.Transfer.{AppendsProperPrefix};
-ghost use Rattle.peg_reply.specs.Lines.{line_bytes};
+ghost use Rattle.peg_reply.specs.Lines.{line_bytes, with_rows};
+ghost use Rattle.peg_tree.specs.RowsLeft.{text_left};
 ghost use Rattle.peg_tool.specs.Ends.{Ends};
 
 use peg_io::{DeviceFault, ReadFault, Sink, write_all_bytes};
 use peg_reply::{Line, Status};
+use peg_tree::RowsText;
 use thiserror::Error;
 
 /// What failed outside of the tool.
@@ -30,22 +32,64 @@ pub(crate) fn finish<W: Sink>(
     ensures write_fault { IsErrOf result ToolFault.WriteFault ↔ (W.failed output.new ≡ true) }
 {
     match told {
-        Ok(line) => match write_line(output, &line) {
-            Ok(()) => Ok(line.status.code()),
-            Err(_) => Err(ToolFault::WriteFault),
-        },
+        Ok(line) => {
+            let status = line.status;
+            match write_line(output, line) {
+                Ok(()) => Ok(status.code()),
+                Err(_) => Err(ToolFault::WriteFault),
+            }
+        }
         Err(ReadFault::Memory) => Ok(Status::Memory.code()),
         Err(ReadFault::Device) => Err(ToolFault::ReadFault),
     }
 }
 
-// Writes a line, and then its end; nothing of it is copied.
-fn write_line<W: Sink>(output: &mut W, line: &Line) -> Result<(), DeviceFault>
+// Writes a line, and then its end. Nothing of it is copied, and no memory is asked for.
+fn write_line<W: Sink>(output: &mut W, line: Line) -> Result<(), DeviceFault>
     requires { W.failed output.old ≡ false }
-    ensures ok { OnOk result (Appends (W.written output.old) (W.written output.new) (line_bytes line.now)) }
-    ensures err { OnErr result (AppendsProperPrefix (W.written output.old) (W.written output.new) (line_bytes line.now)) }
+    ensures ok { OnOk result (Appends (W.written output.old) (W.written output.new) (line_bytes line)) }
+    ensures err { OnErr result (AppendsProperPrefix (W.written output.old) (W.written output.new) (line_bytes line)) }
     ensures failed { W.failed output.new ≡ is_err result }
 {
-    write_all_bytes(output, line.text.as_bytes())?;
+    let Line { text, rows, .. } = line;
+    write_text(output, text.as_bytes(), rows)?;
     write_all_bytes(output, b"\n")
+}
+
+// Writes a text, with its rows in the list at its end.
+fn write_text<W: Sink>(
+    output: &mut W,
+    text: &[u8],
+    rows: Option<RowsText>,
+) -> Result<(), DeviceFault>
+    requires { W.failed output.old ≡ false }
+    ensures ok { OnOk result (Appends (W.written output.old) (W.written output.new) (with_rows text.now rows)) }
+    ensures err { OnErr result
+        (AppendsProperPrefix (W.written output.old) (W.written output.new) (with_rows text.now rows)) }
+    ensures failed { W.failed output.new ≡ is_err result }
+{
+    match rows {
+        None => write_all_bytes(output, text),
+        Some(rows) => {
+            let (front, back) = text.split_at(text.len().saturating_sub(2));
+            write_all_bytes(output, front)?;
+            write_rows(output, rows)?;
+            write_all_bytes(output, back)
+        }
+    }
+}
+
+// Writes the text of rows, piece by piece.
+fn write_rows<W: Sink>(output: &mut W, mut rows: RowsText) -> Result<(), DeviceFault>
+    requires { W.failed output.old ≡ false }
+    ensures ok { OnOk result (Appends (W.written output.old) (W.written output.new) (text_left rows)) }
+    ensures err { OnErr result (AppendsProperPrefix (W.written output.old) (W.written output.new) (text_left rows)) }
+    ensures failed { W.failed output.new ≡ is_err result }
+{
+    rows.fill();
+    'pieces: while !rows.piece().is_empty() {
+        write_all_bytes(output, rows.piece())?;
+        rows.fill();
+    }
+    Ok(())
 }

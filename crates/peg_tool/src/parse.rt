@@ -1,17 +1,18 @@
 //! The line of a parse.
 ghost use Rattle.std.specs.Prelude.{◌≡◌, ◌≢◌, ℕ, ◌<◌, ◌≤◌, List, None, Some, IfOk, length, option_map, string_bytes};
 ghost use Rattle.peg_parser.specs.Cause.{NoSuchStart, TextTooLong};
+ghost use Rattle.peg_parser.specs.Fits.{Fits};
 ghost use Rattle.peg_parser.specs.Parser.{parser_rules, start_named};
 ghost use Rattle.peg_grammar.specs.Limits.{most_text_bytes};
 ghost use Rattle.peg_reply.specs.Lines.{IsLineOf, IsReply, line_bytes};
-ghost use Rattle.peg_reply.specs.Parses.{ParsesTo};
+ghost use Rattle.peg_reply.specs.Parses.{ParsesTo, PrintsOutcome};
 ghost use Rattle.peg_reply.specs.Reply.{Refused};
 ghost use Rattle.peg_reply.specs.Statuses.{code_of};
 ghost use Rattle.peg_reply.specs.TreeForms.{is_rows};
 
 use peg_grammar::MOST_TEXT_BYTES;
-use peg_parser::{ParseFault, ParseOptions, Parser};
-use peg_reply::{Line, TreeForm, answer_line, long_text_line, no_start_line};
+use peg_parser::{Answer, ParseFault, ParseOptions, Parser};
+use peg_reply::{Line, TreeForm, answer_line, long_text_line, no_start_line, rows_line};
 use std::alloc::{AllocError, Global};
 
 /// The line of a parse of a text: that it is too long comes before that the start is no rule.
@@ -28,10 +29,30 @@ pub(crate) fn parse_line(
         (line_bytes line) (code_of line.status)) }
 {
     match parser.parse(alloc, text, options) {
-        Ok(answer) => answer_line(alloc, parser, &answer, text.len() as u32, all, form),
+        Ok(answer) => told(alloc, parser, answer, text.len() as u32, all, form),
         Err(ParseFault::NoSuchStart) => no_start(alloc, text, options.start),
         Err(ParseFault::TextTooLong) => long_text_line(alloc),
         Err(ParseFault::Memory) => Err(AllocError),
+    }
+}
+
+// The line of an answer.
+fn told(
+    alloc: Global,
+    parser: &Parser,
+    answer: Answer,
+    text_len: u32,
+    all: bool,
+    form: TreeForm,
+) -> Result<Line, AllocError>
+    requires { Fits (parser_rules parser.now) answer.outcome }
+    ensures { (file : List ℕ) → IfOk result (λ line. IsLineOf file
+        (PrintsOutcome (parser_rules parser.now) answer.outcome text_len all (is_rows form))
+        (line_bytes line) (code_of line.status)) }
+{
+    match form {
+        TreeForm::Rows => rows_line(alloc, parser, answer, text_len, all),
+        TreeForm::Nested => answer_line(alloc, parser, &answer, text_len, all, form),
     }
 }
 

@@ -89,7 +89,7 @@ EachBelow-append : (bound : ℕ) (rows more : List Row) → EachBelow bound rows
 EachBelow-append bound [] more h k = k
 EachBelow-append bound (row ∷ rows) more h k = (h.0, EachBelow-append bound rows more h.1 k)
 
-EachBelow-rows_of : (bound : ℕ) (trees : Trees) → RulesBelow bound trees → EachBelow bound (rows_of trees)
+pub EachBelow-rows_of : (bound : ℕ) (trees : Trees) → RulesBelow bound trees → EachBelow bound (rows_of trees)
 EachBelow-rows_of bound NoTrees h = tt
 EachBelow-rows_of bound (Tree rule start end children rest) h =
     (h.0, EachBelow-append bound (rows_of children) (rows_of rest) (EachBelow-rows_of bound children h.1) (EachBelow-rows_of bound rest h.2))

@@ -1,3 +1,4 @@
+mod ForestRows
 mod Forests
 mod JsonNested
 mod JsonRows
@@ -5,5 +6,7 @@ mod LevelRows
 mod NestedEvents
 mod NodeRows
 mod PartRows
+mod Puts
 mod RowEvents
+mod RowTexts
 pub mod Sent

@@ -24,7 +24,7 @@ module _ (names : List (List ℕ)) where
       row_data (1 + length (open_at number ends)) (name_at names row.rule) row.start row.end
       ∷ rows_below ((number + row.size) ∷ open_at number ends) (number + 1) rows
 
-  rows_below-levels : (ends : List ℕ) (number : ℕ) (rows : List Row)
+  pub rows_below-levels : (ends : List ℕ) (number : ℕ) (rows : List Row)
       → rows_below ends number rows ≡ rows_with_levels names (levels_of_rows ends number rows) rows
   rows_below-levels ends number [] = refl
   rows_below-levels ends number (row ∷ rows) =

@@ -1,3 +1,4 @@
+pub mod Branches
 pub mod Built
 pub mod Events
 pub mod Json
@@ -5,7 +6,10 @@ pub mod Levels
 pub mod Names
 pub mod Nodes
 pub mod Parts
+pub mod Put
+pub mod RowText
 pub mod Rows
+pub mod RowsLeft
 pub mod Sending
 pub mod Trees
 pub mod TreesCode

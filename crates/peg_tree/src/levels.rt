@@ -1,5 +1,6 @@
 //! The levels of a tree's nodes.
 ghost use Rattle.std.specs.Prelude.{◌≡◌, ◌<◌, ◌≤◌, IfOk, map, length, reverse};
+ghost use Rattle.std.specs.Vec.{vec_capacity};
 ghost use Rattle.peg_tree.specs.Rows.{row_of, IsOneTree};
 ghost use Rattle.peg_tree.specs.TreesOfRows.{trees_of};
 ghost use Rattle.peg_tree.specs.Levels.{levels_of, open_at};
@@ -25,7 +26,8 @@ pub(crate) fn levels_in(alloc: Global, rows: &[TreeNode]) -> Result<Vec<usize>, 
 
 // Takes away the innermost ends that don't lie past a row's number.
 pub(crate) fn close_ended(ends: &mut Vec<usize>, at: usize)
-    ensures { reverse ends.new.items ≡ open_at at (reverse ends.old.items) }
+    ensures ended { reverse ends.new.items ≡ open_at at (reverse ends.old.items) }
+    ensures capacity { vec_capacity ends.new ≡ vec_capacity ends.old }
 {
     while let Some(end) = ends.last() {
         if *end > at {

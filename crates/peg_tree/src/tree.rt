@@ -3,10 +3,12 @@ ghost use Rattle.std.specs.Prelude.{◌≡◌, ◌+◌, ◌<◌, ◌↔◌, map,
 ghost use Rattle.peg_tree.specs.Rows.{row_of, rows_of, IsOneTree};
 ghost use Rattle.peg_tree.specs.Trees.{nodes, levels};
 ghost use Rattle.peg_tree.specs.TreesOfRows.{trees_of};
+ghost use Rattle.peg_tree.specs.Branches.{trees_in};
 ghost use Rattle.peg_tree.specs.Nodes.{node_at, count_of, child_at, trees_from, first_root, RulesBelow};
 
 use crate::TreeNode;
 use crate::depth::depth_in;
+use crate::forest::Forest;
 use crate::rows::{child_in, count_in, fit_in, node_in};
 use peg_bytes::Span;
 use std::marker::Model;
@@ -109,6 +111,13 @@ impl Tree {
         ensures { IsTrue result ↔ RulesBelow rules self.now }
     {
         fit_in(&self.rows, rules)
+    }
+
+    /// The tree as a forest of one, to be taken apart.
+    pub fn forest(&self) -> Forest<'_>
+        ensures { trees_in result ≡ self.now }
+    {
+        Forest::of_rows(&self.rows)
     }
 
     // The rows.

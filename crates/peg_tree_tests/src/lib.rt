@@ -4,6 +4,8 @@
 #[cfg(test)]
 mod made;
 #[cfg(test)]
+mod pieces;
+#[cfg(test)]
 mod sent;
 #[cfg(test)]
 mod trees;

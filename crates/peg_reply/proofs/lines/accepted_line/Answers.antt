@@ -8,5 +8,5 @@ use Rattle.peg_reply.proofs.lines.accepted_line.Goals as goal
 pub returns : goal.returns
 returns c file =
     text-reply c.new.result file (string_bytes c.in_ok-to_string.field-0) Done (Accepted c.args.rules)
-    (ap string_bytes c.new.ensures.0) c.new.ensures.1
+    c.new.ensures.0 c.new.ensures.1
     (c.in_ok-to_string.ensures.text (ap has_float c.in_ok-value.ensures) ∙ ap compact_text c.in_ok-value.ensures) refl

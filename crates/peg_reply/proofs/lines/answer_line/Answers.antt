@@ -17,7 +17,7 @@ returns-in-Ok c file =
     λ nested deep. let both : Ok c.in-Ok.text ≡ Err JsonFault.TooDeep =
     sym c.in-Ok.is ∙ c.answer_text.ensures.too_deep.1 (nested, deep) in cc in
     reply-kind (Ok c.new.result) file (PrintsOutcome rules outcome c.args.text_len c.args.all (is_rows c.args.form)) reply
-    (text-reply c.new.result file (string_bytes c.in-Ok.text) c.answer_status-status.result reply (ap string_bytes c.new.ensures.0)
+    (text-reply c.new.result file (string_bytes c.in-Ok.text) c.answer_status-status.result reply c.new.ensures.0
     c.new.ensures.1 (c.in-Ok.ensures.text file) (c.answer_status-status.ensures rules (is_rows c.args.form)))
     (inr (shallow, refl))
 

@@ -11,4 +11,4 @@ pub returns : goal.returns
 returns c file =
     text-reply c.new.result file (string_bytes c.in_ok-table_json.field-0) Done
     (Tabled (names (rules_in c.args.grammar.now)) (cans_of c.args.core.now.bodies c.args.table.now))
-    (ap string_bytes c.new.ensures.0) c.new.ensures.1 c.in_ok-table_json.ensures refl
+    c.new.ensures.0 c.new.ensures.1 c.in_ok-table_json.ensures refl

@@ -18,11 +18,11 @@ returns-in-Ok c file =
     let start = start_named c.args.options.now in
     let some : (start_of rules start ≡ None → ⊥) =
     λ none. let both : Ok c.in-Ok.answer ≡ Err NoStart = sym c.in-Ok.is ∙ c.parse.ensures.no_start.1 none in cc in
-    kind-weaker c.answer_line.result file (PrintsOutcome rules outcome _ c.args.all (is_rows c.args.form))
+    kind-weaker c.told.result file (PrintsOutcome rules outcome _ c.args.all (is_rows c.args.form))
     (ParsesTo rules c.args.text.now start c.args.all (is_rows c.args.form))
     (outcome-parses rules c.args.text.now start c.args.all (is_rows c.args.form) outcome c.in-Ok.ensures.short some
     c.in-Ok.ensures.outcome)
-    (c.answer_line.ensures file)
+    (c.told.ensures file)
 
 pub returns-in-Err-NoSuchStart : goal.returns-in-Err-NoSuchStart
 returns-in-Err-NoSuchStart c file =

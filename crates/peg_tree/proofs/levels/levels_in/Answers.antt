@@ -18,7 +18,7 @@ loop-at-preserved c = record {
   same = levels_of_rows-more c.args.rows.now c.loop-at.at c.index-rows-at.result c.loop-at-test.true c.index-rows-at.is
       c.loop-at.ends.items c.close_ended.new.ends.items c.push-in-loop-at.new.self.items c.loop-at.levels.items c.push.new.self.items
       (levels_of_rows [] 0 (map row_of c.args.rows.now)) c.len.result
-      c.close_ended.ensures (c.len.ensures ∙ c.close_ended.new.ends.ok.0) c.in_ok-push-2.ensures.items c.in_ok-push.ensures.items
+      c.close_ended.ensures.ended (c.len.ensures ∙ c.close_ended.new.ends.ok.0) c.in_ok-push-2.ensures.items c.in_ok-push.ensures.items
       c.loop-at.invariant.same;
 }
 

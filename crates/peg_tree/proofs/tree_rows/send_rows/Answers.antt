@@ -28,7 +28,7 @@ loop-at-preserved g c last rest =
     let names = g.N.Names.names c.args.names.now in
     c.loop-at.invariant last
     (row-sent names c.rows-rows.result.now c.loop-at.at c.index-rows-at.result c.loop-at-test.true c.index-rows-at.is
-    c.loop-at.ends.items c.close_ended.new.ends.items c.push_end.new.ends.items c.close_ended.ensures c.in_ok-push_end.ensures
+    c.loop-at.ends.items c.close_ended.new.ends.items c.push_end.new.ends.items c.close_ended.ensures.ended c.in_ok-push_end.ensures
     c.len.result (c.len.ensures ∙ c.close_ended.new.ends.ok.0)
     (g.S.Serializer.written c.loop-at.out) (g.S.Serializer.written c.send_row.new.out) last c.in_ok-send_row.ensures rest)
 

@@ -1,0 +1,47 @@
+-- What is written in parts.
+use Rattle.std.proofs.Common.{◌≡◌, ℕ, ◌+◌, ◌-◌, ◌<◌, ◌≤◌, List, [], ◌∷◌, ◌++◌, Option, None, Some, Result, Ok, Err, OnErr, length, take, drop, refl, sym, ap, subst, ◌∙◌, arith, append_assoc, length-append}
+use Rattle.std.proofs.Math.Seq.{take-add}
+use Rattle.std.proofs.lemmas.List.{take_at, drop_at, take-append-le}
+use Rattle.std.proofs.KnownBytes.{Appends-trans}
+use Rattle.std.specs.Io.KnownBytes.{Appends}
+use Rattle.peg_io.specs.Transfer.{AppendsProperPrefix}
+use Rattle.peg_tree.specs.RowsLeft.{text_left}
+use Rattle.peg_tree.specs.declared.rows_text.RowsText.{RowsText}
+use Rattle.peg_reply.specs.Lines.{with_rows}
+
+-- what holds holds where there is an error
+pub on-err : {X Y P : Type 0} (result : Result X Y) → P → OnErr result P
+on-err (Ok value) holds = tt
+on-err (Err why) holds = holds
+
+-- a front of some bytes is one of those and more
+pub prefix-longer : (old new : Option (List ℕ)) (bytes more : List ℕ) → AppendsProperPrefix old new bytes
+    → AppendsProperPrefix old new (bytes ++ more)
+prefix-longer old new bytes more cut = (
+  cut.0,
+  omega (arith, cut.1, length-append bytes more),
+  subst (Appends old new) (sym (take-append-le cut.0 bytes more (omega (arith, cut.1)))) cut.2,
+)
+
+-- some bytes, and then a front of more, are a front of all
+pub prefix-behind : (old mid new : Option (List ℕ)) (done more : List ℕ) → Appends old mid done
+    → AppendsProperPrefix mid new more → AppendsProperPrefix old new (done ++ more)
+prefix-behind old mid new done more first cut =
+    let all : take (length done + cut.0) (done ++ more) ≡ done ++ take cut.0 more =
+    take-add (length done) cut.0 (done ++ more)
+    ∙ ap (λ l. l ++ take cut.0 (drop (length done) (done ++ more))) (take_at done more (length done) refl)
+    ∙ ap (λ l. done ++ take cut.0 l) (drop_at done more (length done) refl) in (
+      length done + cut.0,
+      omega (arith, cut.1, length-append done more),
+      subst (Appends old new) (sym all) (Appends-trans old mid new done (take cut.0 more) first cut.2),
+    )
+
+-- the parts of a text and the rows between them
+pub parts-with_rows : (text front back : List ℕ) (place : ℕ) (given : Option RowsText) (rows : RowsText)
+    → given ≡ Some rows → place ≡ length text - 2 → front ≡ take place text → back ≡ drop place text
+    → front ++ (text_left rows ++ back) ≡ with_rows text given
+parts-with_rows text front back place given rows is here before behind =
+    ap (λ l. l ++ (text_left rows ++ back)) before
+    ∙ ap (λ l. take place text ++ (text_left rows ++ l)) behind
+    ∙ ap (λ n. take n text ++ (text_left rows ++ drop n text)) here
+    ∙ ap (with_rows text) (sym is)

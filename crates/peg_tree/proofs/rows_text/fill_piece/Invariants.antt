@@ -1,0 +1,15 @@
+use Rattle.std.proofs.Common.{◌≡◌, ◌-◌, ◌≤◌, ◌++◌, length, take}
+use Rattle.std.specs.Vec.{vec_capacity}
+use Rattle.peg_tree.specs.RowText.{EachAtMost, levels_from, text_from}
+use Rattle.peg_tree.proofs.rows_text.fill_piece.Given as goal
+
+-- what stands in the buffer and what is still to come are the text, and there is room for all ends that come
+abbrev pub invariant-loop-at : goal.invariant-loop-at
+invariant-loop-at l = record {
+  text : text_from l.names l.rows l.from l.initial.ends.items ≡ take l.end l.buffer ++ text_from l.names l.rows l.at l.ends.items;
+  levels : EachAtMost (vec_capacity l.ends) (levels_from l.rows l.at l.ends.items);
+  within : l.end ≤ length l.buffer;
+}
+
+abbrev pub decreases-loop-at : goal.decreases-loop-at
+decreases-loop-at l = length l.rows - l.at

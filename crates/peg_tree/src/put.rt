@@ -1,0 +1,71 @@
+//! Bytes put into a buffer, one piece behind the other.
+ghost use Rattle.std.specs.Prelude.{◌≡◌, ◌+◌, ◌<◌, ◌≤◌, ◌∷◌, [], length};
+ghost use Rattle.std.specs.Fmt.{decimal};
+ghost use Rattle.peg_tree.specs.Put.{Puts};
+
+use itoa::write_digits;
+
+// Puts a byte at a place, and answers the place behind it.
+#[inline(always)]
+pub(crate) fn put_byte(byte: u8, buffer: &mut [u8], at: usize) -> usize
+    requires { at < length buffer.old }
+    ensures { Puts buffer.old at (byte ∷ []) buffer.new result }
+{
+    buffer[at] = byte;
+    at + 1
+}
+
+// Puts bytes at a place.
+#[inline(always)]
+pub(crate) fn put_bytes(bytes: &[u8], buffer: &mut [u8], at: usize) -> usize
+    requires { at + length bytes.now ≤ length buffer.old }
+    ensures { Puts buffer.old at bytes.now buffer.new result }
+{
+    let end = at + bytes.len();
+    buffer[at..end].copy_from_slice(bytes);
+    end
+}
+
+// Puts the digits of a number at a place. There has to be room for those of any number.
+#[inline(always)]
+pub(crate) fn put_number(number: u64, buffer: &mut [u8], at: usize) -> usize
+    requires { at + 20 ≤ length buffer.old }
+    ensures puts { Puts buffer.old at (decimal number) buffer.new result }
+    ensures most { result ≤ at + 20 }
+{
+    let end = at + digits_of(number);
+    let _ = write_digits(number, buffer, end);
+    end
+}
+
+// How many digits a number has.
+#[inline(always)]
+fn digits_of(number: u64) -> usize
+    ensures count { result ≡ length (decimal number) }
+    ensures most { result ≤ 20 }
+{
+    let mut left = number;
+    let mut count = 0;
+    while left >= 10_000 {
+        left /= 10_000;
+        count += 4;
+    }
+    count + few_digits_of(left)
+}
+
+// How many digits a number below 10,000 has.
+#[inline(always)]
+fn few_digits_of(number: u64) -> usize
+    requires { number < 10000 }
+    ensures { result ≡ length (decimal number) }
+{
+    if number < 10 {
+        1
+    } else if number < 100 {
+        2
+    } else if number < 1_000 {
+        3
+    } else {
+        4
+    }
+}

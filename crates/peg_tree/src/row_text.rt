@@ -1,0 +1,49 @@
+//! The text of a node as JSON.
+ghost use Rattle.std.specs.Prelude.{◌+◌, ◌<◌, ◌≤◌, length};
+ghost use Rattle.serde_json.specs.Written.{comma_if};
+ghost use Rattle.peg_tree.specs.Put.{Puts};
+ghost use Rattle.peg_tree.specs.RowText.{row_text};
+
+use crate::TreeNode;
+use crate::put::{put_byte, put_bytes, put_number};
+
+// How many bytes the text of a node has at most, and a comma before it, without the name of its rule.
+pub(crate) const MOST_ROW: usize = 68;
+
+// Puts a comma at a place, where something stands before.
+#[inline(always)]
+pub(crate) fn put_comma(later: bool, buffer: &mut [u8], at: usize) -> usize
+    requires { at < length buffer.old }
+    ensures puts { Puts buffer.old at (comma_if later) buffer.new result }
+    ensures most { result ≤ at + 1 }
+{
+    if later {
+        put_byte(b',', buffer, at)
+    } else {
+        at
+    }
+}
+
+// Puts the text of a node of this level, whose rule's name is written so, at a place.
+#[inline(always)]
+pub(crate) fn put_row(
+    level: usize,
+    name: &[u8],
+    node: TreeNode,
+    buffer: &mut [u8],
+    at: usize,
+) -> usize
+    requires { at + length name.now + 67 ≤ length buffer.old }
+    ensures puts { Puts buffer.old at (row_text level name.now node.span.start node.span.end) buffer.new result }
+    ensures within { result ≤ length buffer.new }
+{
+    let at = put_byte(b'[', buffer, at);
+    let at = put_number(level as u64, buffer, at);
+    let at = put_byte(b',', buffer, at);
+    let at = put_bytes(name, buffer, at);
+    let at = put_byte(b',', buffer, at);
+    let at = put_number(node.span.start as u64, buffer, at);
+    let at = put_byte(b',', buffer, at);
+    let at = put_number(node.span.end as u64, buffer, at);
+    put_byte(b']', buffer, at)
+}
