@@ -2,67 +2,22 @@
 # Runs `pegtool parse --rows --memo 0` beside the same machine in plain C (plain.c) on texts that it makes, and shows the
 # seconds of the processor of the whole processes, their ratio, and the memory at the peaks. The argument is the program.
 set -eu
+program=$(realpath -- "${1:-$(dirname "$0")/../crates/pegtool/out/pegtool}")
 cd "$(dirname "$0")"
-program=$(realpath -- "${1:-../crates/pegtool/out/pegtool}")
 folder=$(mktemp -d)
 trap 'rm -rf "$folder"' EXIT
 cc -O2 -o "$folder/plain" plain.c
-python3 - "$program" "$folder" << 'PYTHON'
+python3 -B - "$program" "$folder" << 'PYTHON'
 import json
 import os
-import random
 import subprocess
 import sys
 
+from runs import used, written
+from texts import EXAMPLES, csv_text, grammars, json_text, sums
+
 PROGRAM, FOLDER = sys.argv[1:]
-EXAMPLES = "../examples"
 RUNS = 5
-
-
-def json_text(count):
-    """About so many bytes of JSON: a list of objects with numbers, texts, lists and constants."""
-    dice = random.Random(1)
-    parts, length = [], 0
-    while length < count:
-        entry = {
-            "id": dice.randrange(10**6),
-            "name": "".join(dice.choices("abcdefghij klmno\"\\", k=dice.randrange(4, 20))),
-            "values": [dice.randrange(1000) / 8 for _ in range(dice.randrange(6))],
-            "on": dice.choice([True, False, None]),
-        }
-        parts.append(json.dumps(entry))
-        length += len(parts[-1]) + 2
-    return ("[" + ", ".join(parts) + "]").encode()
-
-
-def csv_text(count):
-    dice = random.Random(2)
-    lines, length = [], 0
-    while length < count:
-        line = ",".join(dice.choice(["%d" % dice.randrange(10**6), '"a ""quoted"" cell"', "word"]) for _ in range(8))
-        lines.append(line)
-        length += len(line) + 2
-    return "\r\n".join(lines).encode()
-
-
-def sums(count):
-    """Sums and products of whole numbers, some in parentheses."""
-    dice = random.Random(3)
-    parts, length = [], 0
-    while length < count:
-        part = "%d" % dice.randrange(1000)
-        if dice.randrange(3) == 0:
-            part = "(%s %s %d)" % (part, dice.choice("+-*/"), dice.randrange(1, 100))
-        parts.append(part)
-        length += len(part) + 3
-    return (" ".join(part + " " + dice.choice("+-*/") for part in parts) + " 1").encode()
-
-
-def grammars(count):
-    with open(f"{EXAMPLES}/json.peg", "rb") as file:
-        rules = file.read()
-    return rules * (count // len(rules) + 1)
-
 
 RIGHT = f"{FOLDER}/right.peg"
 with open(RIGHT, "w") as file:
@@ -100,26 +55,6 @@ def listing(grammar, path):
                 for byte in range(low, high + 1):
                     held[byte >> 3] |= 1 << (byte & 7)
             print(letters[kind], more[0] if more else 0, held.hex() if kind == "test" else "", file=file)
-
-
-def written(path, make):
-    """Writes a text, in a process of its own, so that this one stays small."""
-    child = os.fork()
-    if child == 0:
-        with open(path, "wb") as file:
-            file.write(make())
-        os._exit(0)
-    os.waitpid(child, 0)
-
-
-def used(words, path):
-    """The seconds of the processor and the bytes at the peak of one run, whose line goes to a file."""
-    with open(path, "wb") as file:
-        process = subprocess.Popen(words, stdout=file)
-        _, status, took = os.wait4(process.pid, 0)
-    if status:
-        sys.exit(f"status {status}: {words}")
-    return took.ru_utime + took.ru_stime, took.ru_maxrss * 1024
 
 
 def rows_in(path):

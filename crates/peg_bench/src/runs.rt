@@ -4,7 +4,8 @@ use peg_check::check;
 use peg_code::{Program, compile};
 use peg_core::desugar;
 use peg_grammar::Grammar;
-use peg_machine::run as run_program;
+use peg_machine::{NoWatch, run as run_program};
+use peg_memo::NoMemo;
 use peg_notation::read;
 use peg_tree::Parsed;
 use std::alloc::Global;
@@ -28,7 +29,16 @@ pub(crate) fn run(rt: HostRuntime, alloc: Global, grammar: &str, text: &str) -> 
         return println!(rt; "no rule");
     }
     let start = Instant::now(&rt)?;
-    match run_program(alloc, &program, text.as_slice(), 0, None) {
+    let told = run_program(
+        alloc,
+        &program,
+        text.as_slice(),
+        0,
+        &mut NoMemo,
+        &mut NoWatch,
+        None,
+    );
+    match told {
         Err(_) => println!(rt; "no answer"),
         Ok(answer) => {
             let time = start.elapsed(&rt)?.as_micros();

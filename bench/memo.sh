@@ -1,0 +1,88 @@
+#!/usr/bin/env bash
+# Runs `pegtool parse --rows` with and without its memo on texts that it makes, and shows the seconds of the processor of
+# the whole processes, the ratio, and the memory at the peaks; the rows have to be the same. The argument is the program.
+set -eu
+program=$(realpath -- "${1:-$(dirname "$0")/../crates/pegtool/out/pegtool}")
+cd "$(dirname "$0")"
+folder=$(mktemp -d)
+trap 'rm -rf "$folder"' EXIT
+python3 -B - "$program" "$folder" << 'PYTHON'
+import filecmp
+import sys
+
+from runs import used, written
+from texts import EXAMPLES, csv_text, grammars, json_text, sums
+
+PROGRAM, FOLDER = sys.argv[1:]
+RUNS = 5
+
+GRAMMARS = {
+    "right": "S <- 'a' S / 'b'\n",
+    "twice": "A <- '(' A ')' 'x' / '(' A ')' 'y' / 'a'\n",
+    "ladder": "A <- B '<' A / B\nB <- C '+' B / C\nC <- D '*' C / D\nD <- E '^' D / E\nE <- '(' A ')' / [0-9]\n",
+}
+for name, rules in GRAMMARS.items():
+    with open(f"{FOLDER}/{name}.peg", "w") as file:
+        file.write(rules)
+
+
+def right(count):
+    return (f"{FOLDER}/right.peg", lambda: b"a" * count + b"b")
+
+
+def twice(count):
+    return (f"{FOLDER}/twice.peg", lambda: b"(" * count + b"a" + b")y" * count)
+
+
+def ladder(count):
+    return (f"{FOLDER}/ladder.peg", lambda: b"(" * count + b"1" + b")" * count)
+
+
+# What is parsed, with and without a memo where that comes to an end.
+BOTH = {
+    "JSON, 1 MB": (f"{EXAMPLES}/json.peg", lambda: json_text(10**6)),
+    "JSON, 8 MB": (f"{EXAMPLES}/json.peg", lambda: json_text(8 * 10**6)),
+    "JSON, 60 MB": (f"{EXAMPLES}/json.peg", lambda: json_text(6 * 10**7)),
+    "CSV, 8 MB": (f"{EXAMPLES}/csv.peg", lambda: csv_text(8 * 10**6)),
+    "sums and products, 1 MB": (f"{EXAMPLES}/arithmetic.peg", lambda: sums(10**6)),
+    "grammar files, 1 MB": (f"{EXAMPLES}/notation.peg", lambda: grammars(10**6)),
+    "right recursion, 10,000 levels": right(10**4),
+    "right recursion, 100,000 levels": right(10**5),
+    "right recursion, 1,000,000 levels": right(10**6),
+}
+WITH_MEMO = {
+    "alternatives that begin alike, 10 levels": twice(10),
+    "alternatives that begin alike, 100 levels": twice(100),
+    "alternatives that begin alike, 1,000 levels": twice(1000),
+    "alternatives that begin alike, 10,000 levels": twice(10**4),
+    "five levels of operators, 10 parentheses": ladder(10),
+    "five levels of operators, 100 parentheses": ladder(100),
+    "five levels of operators, 1,000 parentheses": ladder(1000),
+}
+
+
+def best_of(grammar, text, memo):
+    """The least seconds and bytes of some runs."""
+    words = [PROGRAM, "parse", grammar, text, "--rows", "--memo", str(memo)]
+    return min(used(words, f"{FOLDER}/line{memo}") for _ in range(RUNS))
+
+
+print("| Text | no memo, seconds | MiB | memo of 4096, seconds | MiB | Ratio |")
+print("|---|---|---|---|---|---|")
+for name, (grammar, make) in BOTH.items():
+    text = f"{FOLDER}/text"
+    written(text, make)
+    (plain, plain_peak), (kept, peak) = best_of(grammar, text, 0), best_of(grammar, text, 4096)
+    if not filecmp.cmp(f"{FOLDER}/line0", f"{FOLDER}/line4096", shallow=False):
+        sys.exit(f"not the same line: {name}")
+    print(f"| {name} | {plain:.3f} | {plain_peak / 2**20:.0f} | {kept:.3f} | {peak / 2**20:.0f} | {kept / plain:.2f} |")
+print()
+print("| Text | Memo | Milliseconds | MiB |")
+print("|---|---|---|---|")
+for name, (grammar, make) in WITH_MEMO.items():
+    text = f"{FOLDER}/text"
+    written(text, make)
+    for memo in (4096, 1_000_000):
+        seconds, peak = best_of(grammar, text, memo)
+        print(f"| {name} | {memo:,} | {1000 * seconds:.1f} | {peak / 2**20:.0f} |")
+PYTHON

@@ -1,0 +1,24 @@
+"""Runs of programs that are measured, for the scripts of this folder."""
+import os
+import subprocess
+import sys
+
+
+def written(path, make):
+    """Writes a text, in a process of its own, so that this one stays small."""
+    child = os.fork()
+    if child == 0:
+        with open(path, "wb") as file:
+            file.write(make())
+        os._exit(0)
+    os.waitpid(child, 0)
+
+
+def used(words, path):
+    """The seconds of the processor and the bytes at the peak of one run, whose line goes to a file."""
+    with open(path, "wb") as file:
+        process = subprocess.Popen(words, stdout=file)
+        _, status, took = os.wait4(process.pid, 0)
+    if status:
+        sys.exit(f"status {status}: {words}")
+    return took.ru_utime + took.ru_stime, took.ru_maxrss * 1024

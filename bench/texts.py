@@ -1,0 +1,50 @@
+"""Texts for the scripts of this folder, the same bytes each time."""
+import json
+import random
+
+EXAMPLES = "../examples"
+
+
+def json_text(count):
+    """About so many bytes of JSON: a list of objects with numbers, texts, lists and constants."""
+    dice = random.Random(1)
+    parts, length = [], 0
+    while length < count:
+        entry = {
+            "id": dice.randrange(10**6),
+            "name": "".join(dice.choices("abcdefghij klmno\"\\", k=dice.randrange(4, 20))),
+            "values": [dice.randrange(1000) / 8 for _ in range(dice.randrange(6))],
+            "on": dice.choice([True, False, None]),
+        }
+        parts.append(json.dumps(entry))
+        length += len(parts[-1]) + 2
+    return ("[" + ", ".join(parts) + "]").encode()
+
+
+def csv_text(count):
+    dice = random.Random(2)
+    lines, length = [], 0
+    while length < count:
+        line = ",".join(dice.choice(["%d" % dice.randrange(10**6), '"a ""quoted"" cell"', "word"]) for _ in range(8))
+        lines.append(line)
+        length += len(line) + 2
+    return "\r\n".join(lines).encode()
+
+
+def sums(count):
+    """Sums and products of whole numbers, some in parentheses."""
+    dice = random.Random(3)
+    parts, length = [], 0
+    while length < count:
+        part = "%d" % dice.randrange(1000)
+        if dice.randrange(3) == 0:
+            part = "(%s %s %d)" % (part, dice.choice("+-*/"), dice.randrange(1, 100))
+        parts.append(part)
+        length += len(part) + 3
+    return (" ".join(part + " " + dice.choice("+-*/") for part in parts) + " 1").encode()
+
+
+def grammars(count):
+    with open(f"{EXAMPLES}/json.peg", "rb") as file:
+        rules = file.read()
+    return rules * (count // len(rules) + 1)
