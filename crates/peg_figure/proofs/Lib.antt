@@ -1,3 +1,3 @@
 mod ClassSets
 pub mod FigureNames
-mod FigureWellFormed
+pub mod FigureWellFormed

@@ -13,3 +13,7 @@ abbrev pub nesting : Trees → ℕ
 nesting NoTrees = 0
 nesting (Tree rule start end children rest) =
     max ((if rule == figure.primary && has_open children then 1 else 0) + nesting children) (nesting rest)
+
+-- the most parentheses that may be open at once
+abbrev pub most_open : ℕ
+most_open = 200

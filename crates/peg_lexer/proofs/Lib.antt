@@ -5,7 +5,7 @@ pub mod PieceLemmas
 pub mod PieceSizes
 pub mod SpacingRules
 pub mod Takes
-mod TextRules
+pub mod TextRules
 pub mod Texts
 pub mod TokenRules
 pub mod TokenValues

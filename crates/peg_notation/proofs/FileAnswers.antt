@@ -13,7 +13,8 @@ use Rattle.peg_figure.specs.Notation.{Matches, IsInNotation, IsReading, most_fil
 use Rattle.peg_lexer.specs.Pieces.{Piece}
 use Rattle.peg_notation.specs.Reader.{Halt, Unexpected, TooDeep, RulesRead, grammar}
 use Rattle.peg_notation.specs.ReaderCode.{IsText, AreTexts, ConveysHalt}
-use Rattle.peg_notation.specs.Reads.{most_open, fault_of, Reads, IsReadingWithin, NestsDeeper, IsTokenPlace, one_if_open, opens, one_if_close, closes, IsOneTooMany}
+use Rattle.peg_figure.specs.Nesting.{most_open}
+use Rattle.peg_notation.specs.Reads.{fault_of, Reads, IsReadingWithin, NestsDeeper, IsTokenPlace, one_if_open, opens, one_if_close, closes, IsOneTooMany}
 use Rattle.peg_notation.specs.Spans.{RuleLiesIn, AnswerLiesIn}
 use Rattle.peg_figure.specs.Nesting.{nesting}
 use Rattle.peg_lexer.specs.Tokens.{Lexeme, IsTokens, Lexes}

@@ -18,7 +18,8 @@ use Rattle.peg_figure.specs.Spelled.{rules_in, rules_spelled}
 use Rattle.peg_lexer.specs.declared.token.TokenKind.TheVariants as kind
 use Rattle.peg_figure.proofs.FigureNames.{grammar-meant, definition-meant, identifier-meant, expression-meant}
 use Rattle.peg_lexer.proofs.PieceSizes.{blank-these}
-use Rattle.peg_notation.proofs.Streams.{here, takes-kind}
+use Rattle.peg_notation.proofs.Streams.{here}
+use Rattle.peg_spelling.proofs.TokenNodes.{takes-kind}
 use Rattle.peg_lexer.proofs.Takes.{spelled-followed}
 use Rattle.peg_lexer.proofs.Texts.{FindsToken}
 

@@ -25,7 +25,8 @@ use Rattle.peg_lexer.proofs.Lexemes.{lexeme_at}
 use Rattle.peg_lexer.proofs.PieceSizes.{blank-these}
 use Rattle.peg_notation.proofs.Readings.{followed-none, ExactAt, Stops, IsStuck}
 use Rattle.peg_lexer.proofs.SpacingRules.{FindsSpacing, finds-spacing}
-use Rattle.peg_notation.proofs.Streams.{Stream, here, not_here, none_here, nothing_left}
+use Rattle.peg_notation.proofs.Streams.{Stream, here, not_here, none_here}
+use Rattle.peg_spelling.proofs.TokenNodes.{nothing_left}
 use Rattle.peg_lexer.proofs.Takes.{spelled-followed, nesting-followed}
 use Rattle.peg_lexer.proofs.Texts.{FindsToken, behind_text}
 

@@ -24,7 +24,8 @@ use Rattle.peg_lexer.proofs.Lexemes.{lexeme_at}
 use Rattle.peg_lexer.proofs.PieceSizes.{blank-these}
 use Rattle.peg_lexer.proofs.Takes.{spelled-followed, text_end-followed, nesting-followed}
 use Rattle.peg_notation.proofs.Readings.{followed-none, has_open-followed, ReadsAny, ExactAny, ExactAt, ReadsAt, IsStuck, Good}
-use Rattle.peg_notation.proofs.Streams.{Stream, number_of, here, not_here, none_here}
+use Rattle.peg_notation.proofs.Streams.{Stream, here, not_here, none_here}
+use Rattle.peg_spelling.proofs.TokenNodes.{number_of}
 use Rattle.peg_lexer.proofs.Texts.{FindsToken, behind_text}
 
 -- ---- Primary in general

@@ -1,5 +1,6 @@
 pub use Rattle.peg_bytes.specs.ByteSet
 pub use Rattle.peg_bytes.specs.Extent
+pub use Rattle.peg_figure.specs.Nesting
 pub use Rattle.peg_figure.specs.Notation
 pub use Rattle.peg_figure.specs.Ranges
 pub use Rattle.peg_figure.specs.Spelled
@@ -9,6 +10,7 @@ pub use Rattle.peg_grammar.specs.Written
 pub use Rattle.peg_lexer.specs.Lexical
 pub use Rattle.peg_lexer.specs.Pieces
 pub use Rattle.peg_lexer.specs.Tokens
+pub use Rattle.peg_spelling.specs.FigureTrees
 pub use Rattle.peg_tree.specs.Trees
 pub mod Reader
 pub mod ReaderCode

@@ -8,7 +8,7 @@ use Rattle.peg_grammar.specs.Written.{rules_of}
 use Rattle.peg_grammar.specs.declared.expr.Definition.{Definition}
 use Rattle.peg_tree.specs.Trees.{Trees}
 use Rattle.peg_figure.specs.Notation.{Matches, IsInNotation, IsReading, most_file_bytes}
-use Rattle.peg_figure.specs.Nesting.{nesting}
+use Rattle.peg_figure.specs.Nesting.{nesting, most_open}
 use Rattle.peg_lexer.specs.Tokens.{Lexeme, IsTokens, IsLexingFault}
 use Rattle.peg_lexer.specs.declared.fault.LexFault.{LexFault}
 use Rattle.peg_lexer.specs.declared.fault.LexFault.TheVariants as lexing
@@ -16,10 +16,6 @@ use Rattle.peg_notation.specs.declared.fault.NotationFault.{NotationFault}
 use Rattle.peg_notation.specs.declared.fault.NotationFault.TheVariants.{FileTooLong, Syntax, TooNested, Memory}
 use Rattle.peg_lexer.specs.declared.token.TokenKind.{TokenKind}
 use Rattle.peg_lexer.specs.declared.token.TokenKind.TheVariants.{Open, Close}
-
--- the most parentheses that may be open at once
-abbrev pub most_open : ℕ
-most_open = 200
 
 -- where a file is in the notation, its parentheses nest no deeper than this
 abbrev pub NestsWithin : (most : ℕ) → List ℕ → Type 0

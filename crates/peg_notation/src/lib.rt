@@ -12,4 +12,4 @@ pub use fault::NotationFault;
 pub use file::read;
 pub use peg_figure::{figure, figure_text};
 pub use peg_lexer::{LexFault, MOST_FILE_BYTES, Token, TokenKind, lex};
-pub use rules::MOST_OPEN;
+pub use peg_spelling::{DefinitionsFault, MOST_OPEN, definitions_of};

@@ -3,7 +3,7 @@ ghost use Rattle.std.specs.Prelude.{◌≡◌, ◌+◌, ◌<◌, ◌≤◌, leng
 ghost use Rattle.peg_bytes.specs.Extent.{extent};
 ghost use Rattle.peg_notation.specs.Reader.{starts_with_arrow, definition_behind, definition, grammar};
 ghost use Rattle.peg_notation.specs.ReaderCode.{lexemes, IsText, AreTexts, rule_seen, rules_seen, Conveys};
-ghost use Rattle.peg_notation.specs.Reads.{most_open};
+ghost use Rattle.peg_figure.specs.Nesting.{most_open};
 ghost use Rattle.peg_notation.specs.Spans.{LiesIn};
 ghost use Rattle.peg_lexer.specs.Tokens.{lexeme_of};
 
@@ -11,9 +11,7 @@ use crate::fault::NotationFault;
 use crate::reader::{Reader, behind, starts_with_arrow};
 use peg_grammar::Definition;
 use peg_lexer::{Token, TokenKind, name_text};
-
-/// The most parentheses that may be open at once.
-pub const MOST_OPEN: usize = 200;
+use peg_spelling::MOST_OPEN;
 
 /// A rule that was read.
 #[derive(Debug, Drop)]

@@ -7,7 +7,8 @@ use Rattle.peg_core.specs.CoreForm.{core_bodies}
 use Rattle.peg_code.specs.Code.{program_code}
 use Rattle.peg_code.specs.Compiled.{most_instructions}
 use Rattle.peg_figure.specs.Notation.{most_file_bytes}
-use Rattle.peg_notation.specs.Reads.{most_open, IsReadingWithin}
+use Rattle.peg_figure.specs.Nesting.{most_open}
+use Rattle.peg_notation.specs.Reads.{IsReadingWithin}
 
 -- a file within the limits is in the notation, and these rules are its reading
 pub record IsRead (file : List ℕ) (rules : List Rule) : Type 0 where

@@ -9,7 +9,8 @@ use Rattle.peg_ford.specs.WellFormed.{IsWellFormedGrammar}
 use Rattle.peg_check.specs.Verdicts.{AllDiffer}
 use Rattle.peg_figure.specs.Notation.{IsInNotation, IsReading, most_file_bytes}
 use Rattle.peg_lexer.specs.Tokens.{IsLexingFault}
-use Rattle.peg_notation.specs.Reads.{most_open, NestsDeeper, IsTokenPlace, IsOneTooMany}
+use Rattle.peg_figure.specs.Nesting.{most_open}
+use Rattle.peg_notation.specs.Reads.{NestsDeeper, IsTokenPlace, IsOneTooMany}
 use Rattle.peg_code.specs.Compiled.{most_instructions}
 use Rattle.peg_parser.specs.Accepts.{IsRead, IsTaken, code_size}
 use Rattle.peg_parser.specs.Cause.{Cause, FileTooLong, Syntax, TooNested, Duplicate, Undefined, TooManyParts, EmptyLoop}

@@ -1,7 +1,7 @@
 use Rattle.std.proofs.Common.{rules, sym, ap, ◌∙◌, subst}
 use Rattle.peg_notation.specs.Reader.{grammar}
 use Rattle.peg_notation.specs.ReaderCode.{lexemes, AreTexts, rules_seen, ConveysHalt}
-use Rattle.peg_notation.specs.Reads.{most_open}
+use Rattle.peg_figure.specs.Nesting.{most_open}
 use Rattle.peg_notation.proofs.FileAnswers.{tokens-texts, answers, lexing_reads, lexing_lies, fault_reads, fault_lies}
 use Rattle.peg_notation.proofs.file.read.Goals as goal
 

@@ -4,7 +4,7 @@ use Rattle.peg_grammar.specs.Written.{form_of}
 use Rattle.peg_notation.specs.Reader.{starts_with_arrow, definition_behind}
 use Rattle.peg_notation.specs.ReaderCode.{lexemes, form_seen, ConveysHalt}
 use Rattle.peg_notation.specs.ReaderFile.{file_of}
-use Rattle.peg_notation.specs.Reads.{most_open}
+use Rattle.peg_figure.specs.Nesting.{most_open}
 use Rattle.peg_lexer.specs.Tokens.{lexeme_of}
 use Rattle.peg_notation.proofs.ReaderSteps.{front_token, behind_fault, behind_read}
 use Rattle.peg_notation.proofs.TokenTexts.{name-here}

@@ -6,7 +6,7 @@ use Rattle.peg_grammar.specs.Written.{rule_of, rules_of}
 use Rattle.peg_notation.specs.Reader.{definition, grammar}
 use Rattle.peg_notation.specs.ReaderCode.{lexemes, AreTexts, rule_seen, ConveysHalt}
 use Rattle.peg_notation.specs.ReaderFile.{file_of}
-use Rattle.peg_notation.specs.Reads.{most_open}
+use Rattle.peg_figure.specs.Nesting.{most_open}
 use Rattle.peg_lexer.specs.Tokens.{lexeme_of}
 use Rattle.peg_notation.proofs.ManyLoops.{RulesSoFar, rules-one, rules-all, rules-halt}
 use Rattle.peg_notation.proofs.ReaderSteps.{texts-behind, fault_same, grammar-is}

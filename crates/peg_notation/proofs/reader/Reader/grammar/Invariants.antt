@@ -2,7 +2,7 @@ use Rattle.std.proofs.Common.{◌-◌, ◌≤◌, length}
 use Rattle.peg_grammar.specs.Written.{rules_of}
 use Rattle.peg_notation.specs.ReaderCode.{lexemes}
 use Rattle.peg_notation.specs.ReaderFile.{file_of}
-use Rattle.peg_notation.specs.Reads.{most_open}
+use Rattle.peg_figure.specs.Nesting.{most_open}
 use Rattle.peg_notation.proofs.ManyLoops.{RulesSoFar}
 use Rattle.peg_notation.proofs.reader.Reader.grammar.Given as goal
 

@@ -1,0 +1,11 @@
+pub mod Inversions
+mod Facts
+mod ListFacts
+mod Loops
+mod NodeSpells
+mod PrimaryFacts
+mod RuleFacts
+mod Shapes
+pub mod TokenNodes
+mod Values
+mod Walks

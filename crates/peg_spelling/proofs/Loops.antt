@@ -1,0 +1,88 @@
+-- Nodes side by side, spelled one by one.
+use Rattle.std.proofs.Common.{◌≡◌, ℕ, max, ◌<◌, ◌≤◌, List, [], ◌∷◌, ◌++◌, refl, sym, ap, ◌∙◌, arith, append-nil, append_assoc}
+use Rattle.peg_tree.specs.Trees.{Trees, NoTrees, Tree}
+use Rattle.peg_ford.specs.Form.{Form}
+use Rattle.peg_ford.specs.Rules.{Rule}
+use Rattle.peg_figure.specs.Nesting.{nesting}
+use Rattle.peg_figure.specs.Spelled.{Expression, Definition, expressions_in, rules_in, text_end, node_spelled, spelled}
+
+-- the first of trees, and those behind it
+pub spelled-first : (file : List ℕ) (before r s e : ℕ) (c rest : Trees) → spelled file before (Tree r s e c rest)
+    ≡ spelled file before (Tree r s e c NoTrees) ++ spelled file (text_end before (Tree r s e c NoTrees)) rest
+spelled-first file before r s e c rest =
+    ap (λ l. l ++ spelled file (text_end before (Tree r s e c NoTrees)) rest)
+    (sym (append-nil (node_spelled file r before s e (text_end before c) (spelled file before c))))
+
+pub nesting-first : (r s e : ℕ) (c rest : Trees) → nesting (Tree r s e c rest) ≡ max (nesting (Tree r s e c NoTrees)) (nesting rest)
+nesting-first r s e c rest = omega arith
+
+-- the nodes before the rest spell these expressions, and the text before it ends at a place
+pub record SoFar (file : List ℕ) (before left : ℕ) (nodes : Trees) (list : List Form) (last : ℕ) (rest : Trees) : Type 0 where
+  pub spells : expressions_in (spelled file before nodes) ≡ list ++ expressions_in (spelled file last rest)
+  pub ends : text_end before nodes ≡ text_end last rest
+  pub less : nesting rest ≤ nesting nodes
+  pub most : nesting nodes ≤ max left (nesting rest)
+
+pub so_far-none : (file : List ℕ) (before left : ℕ) (nodes : Trees) → SoFar file before left nodes [] before nodes
+so_far-none file before left nodes = record { spells = refl; ends = refl; less = omega arith; most = omega arith }
+
+-- one node more that spells an expression
+pub so_far-one : {file : List ℕ} {before left : ℕ} {nodes : Trees} {list : List Form} {last : ℕ} (r s e : ℕ) (c rest : Trees)
+    (form : Form) (next : ℕ) → SoFar file before left nodes list last (Tree r s e c rest)
+    → spelled file last (Tree r s e c NoTrees) ≡ Expression form ∷ [] → text_end last (Tree r s e c NoTrees) ≡ next
+    → nesting (Tree r s e c NoTrees) ≤ left → SoFar file before left nodes (list ++ form ∷ []) next rest
+so_far-one {file} {list = list} {last} r s e c rest form next so_far spells ends within = record {
+  spells = so_far.spells ∙ (ap (λ l. list ++ expressions_in l) (spelled-first file last r s e c rest
+      ∙ (ap (λ l. l ++ spelled file (text_end last (Tree r s e c NoTrees)) rest) spells
+      ∙ ap (λ n. Expression form ∷ spelled file n rest) ends))
+      ∙ sym (append_assoc list (form ∷ []) (expressions_in (spelled file next rest))));
+  ends = so_far.ends ∙ ap (λ n. text_end n rest) ends;
+  less = omega (arith, so_far.less, nesting-first r s e c rest);
+  most = omega (arith, so_far.most, nesting-first r s e c rest, within);
+}
+
+-- one node more that spells nothing
+pub so_far-pass : {file : List ℕ} {before left : ℕ} {nodes : Trees} {list : List Form} {last : ℕ} (r s e : ℕ) (c rest : Trees)
+    (next : ℕ) → SoFar file before left nodes list last (Tree r s e c rest)
+    → spelled file last (Tree r s e c NoTrees) ≡ [] → text_end last (Tree r s e c NoTrees) ≡ next
+    → nesting (Tree r s e c NoTrees) ≡ 0 → SoFar file before left nodes list next rest
+so_far-pass {file} {list = list} {last} r s e c rest next so_far spells ends flat = record {
+  spells = so_far.spells ∙ ap (λ l. list ++ expressions_in l) (spelled-first file last r s e c rest
+      ∙ (ap (λ l. l ++ spelled file (text_end last (Tree r s e c NoTrees)) rest) spells
+      ∙ ap (λ n. spelled file n rest) ends));
+  ends = so_far.ends ∙ ap (λ n. text_end n rest) ends;
+  less = omega (arith, so_far.less, nesting-first r s e c rest);
+  most = omega (arith, so_far.most, nesting-first r s e c rest, flat);
+}
+
+-- all nodes
+pub so_far-all : {file : List ℕ} {before left : ℕ} {nodes : Trees} {list : List Form} {last : ℕ}
+    → SoFar file before left nodes list last NoTrees → expressions_in (spelled file before nodes) ≡ list
+so_far-all {list = list} so_far = so_far.spells ∙ append-nil list
+
+-- a node that nests too deep is among the nodes
+pub so_far-deep : {file : List ℕ} {before left : ℕ} {nodes : Trees} {list : List Form} {last : ℕ} (r s e : ℕ) (c rest : Trees)
+    → SoFar file before left nodes list last (Tree r s e c rest) → left < nesting (Tree r s e c NoTrees) → left < nesting nodes
+so_far-deep r s e c rest so_far deep = omega (arith, so_far.less, nesting-first r s e c rest)
+
+-- the same of definitions
+pub record RulesSoFar (file : List ℕ) (bound : ℕ) (nodes : Trees) (list : List Rule) (rest : Trees) : Type 0 where
+  pub last : ℕ
+  pub spells : rules_in (spelled file 0 nodes) ≡ list ++ rules_in (spelled file last rest)
+  pub less : nesting rest ≤ nesting nodes
+  pub most : nesting nodes ≤ max bound (nesting rest)
+
+pub rules_so_far-one : {file : List ℕ} {most : ℕ} {nodes : Trees} {list : List Rule} (r s e : ℕ) (c rest : Trees) (rule : Rule)
+    → RulesSoFar file most nodes list (Tree r s e c rest)
+    → ((before : ℕ) → spelled file before (Tree r s e c NoTrees) ≡ Definition rule ∷ [])
+    → nesting (Tree r s e c NoTrees) ≤ most → RulesSoFar file most nodes (list ++ rule ∷ []) rest
+rules_so_far-one {file} {list = list} r s e c rest rule so_far spells within =
+    let next = text_end so_far.last (Tree r s e c NoTrees) in
+    record {
+      last = next;
+      spells = so_far.spells ∙ (ap (λ l. list ++ rules_in l) (spelled-first file so_far.last r s e c rest
+          ∙ ap (λ l. l ++ spelled file next rest) (spells so_far.last))
+          ∙ sym (append_assoc list (rule ∷ []) (rules_in (spelled file next rest))));
+      less = omega (arith, so_far.less, nesting-first r s e c rest);
+      most = omega (arith, so_far.most, nesting-first r s e c rest, within);
+    }

@@ -1,0 +1,25 @@
+-- What the loops of `Speller` keep.
+use Rattle.std.proofs.Common.{ℕ, ◌<◌, ◌≤◌, List}
+use Rattle.peg_tree.specs.Trees.{Trees}
+use Rattle.peg_ford.specs.Form.{Form}
+use Rattle.peg_ford.specs.Rules.{Rule}
+use Rattle.peg_figure.specs.Nesting.{most_open}
+use Rattle.peg_spelling.proofs.Loops.{SoFar, RulesSoFar}
+use Rattle.peg_spelling.proofs.Shapes.{Definitions}
+
+-- expressions of the nodes before the rest, which stand from a place on
+pub record Spelling (file : List ℕ) (rest_is : ℕ → Trees → Type 0) (before start left : ℕ) (nodes : Trees)
+    (list : List Form) (count last : ℕ) (rest : Trees) : Type 0 where
+  pub place : ℕ
+  pub shape : rest_is place rest
+  pub behind : start ≤ place
+  pub so_far : SoFar file before left nodes list last rest
+  pub order : before ≤ last
+  pub some : 0 < count → start ≤ last
+
+-- definitions of the nodes before the rest, behind which the file ends
+pub record Defining (file : List ℕ) (tree : Trees) (list : List Rule) (rest : Trees) : Type 0 where
+  pub end : ℕ
+  pub place : ℕ
+  pub shape : Definitions file end place rest
+  pub so_far : RulesSoFar file most_open tree list rest

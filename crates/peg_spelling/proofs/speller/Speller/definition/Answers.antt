@@ -1,0 +1,38 @@
+use Rattle.std.proofs.Common.{◌≤◌, sym, subst, arith}
+use Rattle.peg_figure.specs.Nesting.{most_open}
+use Rattle.peg_tree.specs.Branches.{tree_of_branch}
+use Rattle.peg_spelling.specs.SpellerSeen.{file_in, SpellsAt}
+use Rattle.peg_spelling.proofs.RuleFacts as facts
+use Rattle.peg_spelling.proofs.speller.Speller.definition.Goals as goal
+
+pub first-name-requires : goal.first-name-requires
+first-name-requires c = facts.name_some (file_in c.args.self.now) c.args.node.now c.requires
+
+pub first-arrow-requires : goal.first-arrow-requires
+first-arrow-requires c = facts.arrow_some (file_in c.args.self.now) c.args.node.now c.requires c.first-name.result c.first-name.ensures
+
+pub word-requires : goal.word-requires
+word-requires c = facts.name_identifier (file_in c.args.self.now) c.args.node.now c.requires c.first-name.result c.first-name.ensures
+
+pub first-requires : goal.first-requires
+first-requires c = facts.body_some (file_in c.args.self.now) c.args.node.now c.requires c.first-name.result c.first-name.ensures c.first-arrow.result c.first-arrow.ensures
+
+pub expression-requires-clause-node : goal.expression-requires-clause-node
+expression-requires-clause-node c = facts.body_expression (file_in c.args.self.now) c.args.node.now c.requires c.first-name.result c.first-name.ensures c.first-arrow.result c.first-arrow.ensures c.first.result c.first.ensures
+
+pub expression-requires-clause-behind : goal.expression-requires-clause-behind
+expression-requires-clause-behind c =
+    let behind = facts.body_behind (file_in c.args.self.now) c.args.node.now c.requires c.first-name.result c.first-name.ensures c.first-arrow.result c.first-arrow.ensures c.first.result c.first.ensures in
+    omega (arith, behind, c.token_end.ensures)
+
+pub returns-clause-spells : goal.returns-clause-spells
+returns-clause-spells c before =
+    facts.rule_says (file_in c.args.self.now) c.args.node.now c.requires c.first-name.result c.first-name.ensures c.first-arrow.result c.first-arrow.ensures c.first.result c.first.ensures _ _ _ _ _
+    c.in_ok-word.ensures.spells.pieces c.in_ok-word.ensures.spells.ends
+    (subst (λ n. SpellsAt (file_in c.args.self.now) n (tree_of_branch c.first.result) c.in_ok-body.body) c.token_end.ensures
+    c.in_ok-body.ensures.spells) before
+
+pub returns-clause-within : goal.returns-clause-within
+returns-clause-within c =
+    subst (λ n. n ≤ most_open) (sym (facts.rule_nests (file_in c.args.self.now) c.args.node.now c.requires c.first-name.result c.first-name.ensures c.first-arrow.result c.first-arrow.ensures c.first.result c.first.ensures))
+    c.in_ok-body.ensures.within

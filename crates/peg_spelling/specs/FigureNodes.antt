@@ -1,0 +1,26 @@
+-- Describes code: nodes of a tree of the figure over a file.
+use Rattle.std.specs.Prelude.{ℕ, List, if◌then◌else◌, ◌==◌}
+use Rattle.peg_bytes.specs.Extent.{Extent}
+use Rattle.peg_figure.specs.FigureRules as figure
+use Rattle.peg_figure.specs.Notation.{Matches}
+use Rattle.peg_ford.specs.Form.{Form, And, Not, Optional, Star, Plus}
+use Rattle.peg_tree.specs.Branches.{tree_of_branch}
+use Rattle.peg_tree.specs.Trees.{Trees, NoTrees, Tree}
+use Rattle.peg_tree.specs.declared.forest.Branch.{Branch}
+
+-- a node is a match of the figure's rule of this name
+abbrev pub IsNode : List ℕ → (name : List ℕ) → Branch → Type 0
+IsNode file name node = Matches file name node.span.start node.span.end (tree_of_branch node)
+
+-- where the last of the trees starts; without one, a place
+abbrev pub last_start : (place : ℕ) → Trees → ℕ
+last_start place NoTrees = place
+last_start place (Tree rule start end children rest) = last_start start rest
+
+-- the expression that the sign of this rule makes of one
+abbrev pub sign_form : (rule : ℕ) → Form → Extent → Form
+sign_form rule =
+    if rule == figure.and_sign then And
+    else (if rule == figure.not_sign then Not
+    else (if rule == figure.question then Optional
+    else (if rule == figure.star then Star else Plus)))

@@ -1,0 +1,36 @@
+//! Why a tree gives no definitions.
+use std::alloc::{AllocError, AllocFailed};
+use thiserror::Error;
+
+/// Why a tree of the figure gives no definitions.
+#[derive(Clone, Copy, Debug, PartialEq, Eq, Error)]
+pub enum DefinitionsFault {
+    /// More than `MOST_OPEN` of its parentheses are open at once.
+    #[error("the grammar's parentheses nest too deep")]
+    TooNested,
+    /// Memory ran out.
+    #[error("out of memory")]
+    Memory,
+}
+
+impl From<AllocError> for DefinitionsFault {
+    ghost use Rattle.std.specs.Prelude.{◌≡◌};
+    ghost use Rattle.peg_spelling.specs.declared.fault.DefinitionsFault.TheVariants.{Memory};
+
+    ghost from_gives = { λ _ fault. fault ≡ Memory };
+
+    fn from(_error: AllocError) -> DefinitionsFault {
+        DefinitionsFault::Memory
+    }
+}
+
+impl<T: Drop> From<AllocFailed<T>> for DefinitionsFault {
+    ghost use Rattle.std.specs.Prelude.{◌≡◌};
+    ghost use Rattle.peg_spelling.specs.declared.fault.DefinitionsFault.TheVariants.{Memory};
+
+    ghost from_gives = { λ _ fault. fault ≡ Memory };
+
+    fn from(_error: AllocFailed<T>) -> DefinitionsFault {
+        DefinitionsFault::Memory
+    }
+}

@@ -1,0 +1,21 @@
+//! The numbers of the figure's rules that are told apart.
+
+pub(crate) const DEFINITION: u32 = 1;
+
+pub(crate) const SUFFIX: u32 = 5;
+
+pub(crate) const IDENTIFIER: u32 = 7;
+
+pub(crate) const LITERAL: u32 = 10;
+
+pub(crate) const CLASS: u32 = 11;
+
+pub(crate) const AND: u32 = 16;
+
+pub(crate) const NOT: u32 = 17;
+
+pub(crate) const QUESTION: u32 = 18;
+
+pub(crate) const STAR: u32 = 19;
+
+pub(crate) const OPEN: u32 = 21;

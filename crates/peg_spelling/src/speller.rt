@@ -1,0 +1,227 @@
+//! Expressions of nodes: one function for each rule of the figure from Expression to Primary.
+ghost use Rattle.std.specs.Prelude.{◌≡◌, ◌<◌, ◌≤◌, codes, IsTrue, IfOk, OnOk, IsErrOf};
+ghost use Rattle.peg_figure.specs.Nesting.{nesting, has_open};
+ghost use Rattle.peg_spelling.specs.FigureNodes.{IsNode, last_start};
+ghost use Rattle.peg_tree.specs.Branches.{trees_in, tree_of_branch};
+
+use crate::expressions::{Expressions, Spelled, Word, any_of, class_of, literal_of, signed};
+use crate::fault::DefinitionsFault;
+use crate::rules::{CLASS, IDENTIFIER, LITERAL, OPEN, SUFFIX};
+use peg_bytes::Span;
+use peg_lexer::{class_bytes, literal_bytes, name_text};
+use peg_tree::Branch;
+use std::alloc::{AllocError, Global};
+
+/// What spells the nodes of a tree over a file.
+#[derive(Clone, Copy, Debug)]
+pub(crate) struct Speller<'a> {
+    pub(crate) alloc: Global,
+    pub(crate) file: &'a [u8],
+}
+
+/// Where the text of a token ends: the last node below it, its spacing, starts there. It costs a step for each node
+/// right below it.
+pub(crate) fn token_end(token: &Branch<'_>) -> u32
+    ensures { result ≡ last_start token.now.span.start (trees_in token.now.children) }
+{
+    let mut last = token.span.start;
+    let mut rest = token.children;
+    while !rest.is_empty() {
+        let child = rest.first();
+        last = child.span.start;
+        rest = child.rest;
+    }
+    last
+}
+
+impl<'a> Speller<'a> {
+    ghost use Rattle.peg_spelling.specs.SpellerSeen.{file_in, SpellsAt, SpellsAny, SpellsName};
+
+    /// Sequences with slashes between them, where so many parentheses may be opened; `before` is where the text of the
+    /// token before them ends.
+    #[cycle(speller)]
+    pub(crate) fn expression(
+        &self,
+        before: u32,
+        node: &Branch<'_>,
+        left: usize,
+    ) -> Result<Spelled, DefinitionsFault>
+        requires node { IsNode (file_in self.now) (codes "Expression") node.now }
+        requires behind { before ≤ node.now.span.start }
+        ensures spells { IfOk result (SpellsAt (file_in self.now) before (tree_of_branch node.now)) }
+        ensures order { IfOk result (λ part. before ≤ part.last) }
+        ensures within { OnOk result (nesting (tree_of_branch node.now) ≤ left) }
+        ensures deep { IsErrOf result DefinitionsFault.TooNested → left < nesting (tree_of_branch node.now) }
+    {
+        let sequence = node.children.first();
+        let first = self.sequence(before, &sequence, left)?;
+        let mut more = Expressions::none(self.alloc, first.last);
+        let mut rest = sequence.rest;
+        'alternatives: while !rest.is_empty() {
+            let slash = rest.first();
+            let next = slash.rest.first();
+            let part = self.sequence(token_end(&slash), &next, left)?;
+            more.add(part)?;
+            rest = next.rest;
+        }
+        Ok(more.into_choice(self.alloc, node.span.start, first.expression)?)
+    }
+
+    // Expressions with or without signs, one behind the other.
+    #[cycle(speller)]
+    fn sequence(
+        &self,
+        before: u32,
+        node: &Branch<'_>,
+        left: usize,
+    ) -> Result<Spelled, DefinitionsFault>
+        requires node { IsNode (file_in self.now) (codes "Sequence") node.now }
+        requires behind { before ≤ node.now.span.start }
+        ensures spells { IfOk result (SpellsAt (file_in self.now) before (tree_of_branch node.now)) }
+        ensures order { IfOk result (λ part. before ≤ part.last) }
+        ensures within { OnOk result (nesting (tree_of_branch node.now) ≤ left) }
+        ensures deep { IsErrOf result DefinitionsFault.TooNested → left < nesting (tree_of_branch node.now) }
+    {
+        let mut items = Expressions::none(self.alloc, before);
+        let mut rest = node.children;
+        'items: while !rest.is_empty() {
+            let item = rest.first();
+            let part = self.prefix(&item, left)?;
+            items.add(part)?;
+            rest = item.rest;
+        }
+        Ok(items.into_sequence(before, node.span.start))
+    }
+
+    // An expression with a suffix, or a predicate of one.
+    #[cycle(speller)]
+    fn prefix(&self, node: &Branch<'_>, left: usize) -> Result<Spelled, DefinitionsFault>
+        requires node { IsNode (file_in self.now) (codes "Prefix") node.now }
+        ensures spells { IfOk result (SpellsAny (file_in self.now) (tree_of_branch node.now)) }
+        ensures order { IfOk result (λ part. node.now.span.start ≤ part.last) }
+        ensures within { OnOk result (nesting (tree_of_branch node.now) ≤ left) }
+        ensures deep { IsErrOf result DefinitionsFault.TooNested → left < nesting (tree_of_branch node.now) }
+    {
+        let first = node.children.first();
+        if first.rule == SUFFIX {
+            return self.suffix(&first, left);
+        }
+        let part = self.suffix(&first.rest.first(), left)?;
+        let span = Span::new(node.span.start, part.last);
+        Ok(Spelled {
+            expression: signed(self.alloc, first.rule, part.expression, span)?,
+            last: part.last,
+        })
+    }
+
+    // An expression, with the sign behind it if there is one.
+    #[cycle(speller)]
+    fn suffix(&self, node: &Branch<'_>, left: usize) -> Result<Spelled, DefinitionsFault>
+        requires node { IsNode (file_in self.now) (codes "Suffix") node.now }
+        ensures spells { IfOk result (SpellsAny (file_in self.now) (tree_of_branch node.now)) }
+        ensures order { IfOk result (λ part. node.now.span.start ≤ part.last) }
+        ensures within { OnOk result (nesting (tree_of_branch node.now) ≤ left) }
+        ensures deep { IsErrOf result DefinitionsFault.TooNested → left < nesting (tree_of_branch node.now) }
+    {
+        let primary = node.children.first();
+        let part = self.primary(&primary, left)?;
+        if primary.rest.is_empty() {
+            return Ok(part);
+        }
+        let sign = primary.rest.first();
+        let last = token_end(&sign);
+        let span = Span::new(node.span.start, last);
+        Ok(Spelled {
+            expression: signed(self.alloc, sign.rule, part.expression, span)?,
+            last,
+        })
+    }
+
+    // A name, an expression in parentheses, a literal, a class or a dot.
+    #[cycle(speller)]
+    fn primary(&self, node: &Branch<'_>, left: usize) -> Result<Spelled, DefinitionsFault>
+        requires node { IsNode (file_in self.now) (codes "Primary") node.now }
+        ensures spells { IfOk result (SpellsAny (file_in self.now) (tree_of_branch node.now)) }
+        ensures order { IfOk result (λ part. node.now.span.start ≤ part.last) }
+        ensures within { OnOk result (nesting (tree_of_branch node.now) ≤ left) }
+        ensures deep { IsErrOf result DefinitionsFault.TooNested → left < nesting (tree_of_branch node.now) }
+    {
+        let first = node.children.first();
+        match first.rule {
+            IDENTIFIER => Ok(self.word(&first)?.into_use()),
+            OPEN => self.parenthesized(node, left),
+            LITERAL => Ok(self.literal(&first)?),
+            CLASS => Ok(self.class(&first)?),
+            _ => Ok(self.dot(&first)),
+        }
+    }
+
+    // The expression in the parentheses of a Primary, if they may be opened.
+    #[cycle(speller)]
+    fn parenthesized(&self, node: &Branch<'_>, left: usize) -> Result<Spelled, DefinitionsFault>
+        requires node { IsNode (file_in self.now) (codes "Primary") node.now }
+        requires opens { IsTrue (has_open (trees_in node.now.children)) }
+        ensures spells { IfOk result (SpellsAny (file_in self.now) (tree_of_branch node.now)) }
+        ensures order { IfOk result (λ part. node.now.span.start ≤ part.last) }
+        ensures within { OnOk result (nesting (tree_of_branch node.now) ≤ left) }
+        ensures deep { IsErrOf result DefinitionsFault.TooNested → left < nesting (tree_of_branch node.now) }
+    {
+        if left == 0 {
+            return Err(DefinitionsFault::TooNested);
+        }
+        let opening = node.children.first();
+        let inside = opening.rest.first();
+        let closing = inside.rest.first();
+        let part = self.expression(token_end(&opening), &inside, left - 1)?;
+        Ok(Spelled {
+            expression: part.expression,
+            last: token_end(&closing),
+        })
+    }
+
+    /// The name of an Identifier, and where it stands.
+    pub(crate) fn word(&self, token: &Branch<'_>) -> Result<Word, AllocError>
+        requires { IsNode (file_in self.now) (codes "Identifier") token.now }
+        ensures spells { IfOk result (SpellsName (file_in self.now) (tree_of_branch token.now)) }
+        ensures start { IfOk result (λ word. word.span.start ≡ token.now.span.start) }
+    {
+        let span = Span::new(token.span.start, token_end(token));
+        let name = name_text(
+            self.alloc,
+            &self.file[span.start as usize..span.end as usize],
+        )?;
+        Ok(Word { name, span })
+    }
+
+    // The bytes that a literal spells.
+    fn literal(&self, token: &Branch<'_>) -> Result<Spelled, AllocError>
+        requires { IsNode (file_in self.now) (codes "Literal") token.now }
+        ensures spells { IfOk result (SpellsAny (file_in self.now) (tree_of_branch token.now)) }
+        ensures order { IfOk result (λ part. token.now.span.start ≤ part.last) }
+    {
+        let span = Span::new(token.span.start, token_end(token));
+        let bytes = literal_bytes(self.alloc, &self.file[span.start as usize..])?;
+        Ok(literal_of(bytes, span))
+    }
+
+    // The set of bytes that a class spells.
+    fn class(&self, token: &Branch<'_>) -> Result<Spelled, AllocError>
+        requires { IsNode (file_in self.now) (codes "Class") token.now }
+        ensures spells { IfOk result (SpellsAny (file_in self.now) (tree_of_branch token.now)) }
+        ensures order { IfOk result (λ part. token.now.span.start ≤ part.last) }
+    {
+        let span = Span::new(token.span.start, token_end(token));
+        let set = class_bytes(self.alloc, &self.file[span.start as usize..])?;
+        Ok(class_of(set, span))
+    }
+
+    // A dot.
+    fn dot(&self, token: &Branch<'_>) -> Spelled
+        requires { IsNode (file_in self.now) (codes "DOT") token.now }
+        ensures spells { SpellsAny (file_in self.now) (tree_of_branch token.now) result }
+        ensures order { token.now.span.start ≤ result.last }
+    {
+        let span = Span::new(token.span.start, token_end(token));
+        any_of(span)
+    }
+}
