@@ -1,6 +1,9 @@
 mod AcceptLemmas
 mod CheckLemmas
 mod CoreStarts
+mod FigureCode
+mod FigureGrammar
+mod FigureReading
 mod NameLemmas
 pub mod OutcomeFits
 mod RuleNames

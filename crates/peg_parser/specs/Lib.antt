@@ -4,6 +4,8 @@ pub use Rattle.peg_code.specs.Code
 pub use Rattle.peg_code.specs.Compiled
 pub use Rattle.peg_core.specs.CoreForm
 pub use Rattle.peg_core.specs.Layout
+pub use Rattle.peg_figure.specs.Figure
+pub use Rattle.peg_figure.specs.Nesting
 pub use Rattle.peg_figure.specs.Notation
 pub use Rattle.peg_ford.specs.Form
 pub use Rattle.peg_ford.specs.Grammar
@@ -18,6 +20,7 @@ pub use Rattle.peg_grammar.specs.Outcomes
 pub use Rattle.peg_lexer.specs.Tokens
 pub use Rattle.peg_notation.specs.Reads
 pub use Rattle.peg_notation.specs.Spans
+pub use Rattle.peg_spelling.specs.FigureTrees
 pub use Rattle.peg_tree.specs.Names
 pub use Rattle.peg_tree.specs.Nodes
 pub mod Accepts
@@ -25,4 +28,5 @@ pub mod Cause
 pub mod Faults
 pub mod Fits
 pub mod Parser
+pub mod ReadsByFigure
 pub mod Refusals

@@ -1,11 +1,14 @@
 //! Parsers: grammar files that are accepted, or why they are refused, and the texts that are parsed by them.
 #![tactic(auto)]
 
+mod figure_reader;
+pub mod laws;
 mod layers;
 mod options;
 mod parser;
 mod refusal;
 
+pub use figure_reader::{FigureFault, read_by_figure};
 pub use layers::grammar_of;
 pub use options::{DEFAULT_MEMO, ParseOptions};
 pub use parser::{ParseFault, Parser};

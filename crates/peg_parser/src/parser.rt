@@ -90,12 +90,14 @@ impl Parser {
     }
 
     // The parser of a grammar, if that is well-formed and its code isn't too large.
-    fn of(alloc: Global, grammar: Grammar) -> Result<Parser, Refusal>
+    pub(crate) fn of(alloc: Global, grammar: Grammar) -> Result<Parser, Refusal>
         ensures rules { IfOk result (λ parser. parser_rules parser ≡ rules_in grammar) }
         ensures well_formed { OnOk result (IsWellFormedGrammar (rules_in grammar)) }
         ensures small { OnOk result (code_size (rules_in grammar) ≤ most_instructions) }
         ensures refused { (file : List ℕ) → IsRead file (rules_in grammar) → IsTaken (rules_in grammar)
             → All (RuleLiesIn (length file)) (rules_in grammar) → IfErr result (TellsWhy (Refuses file) (length file)) }
+        ensures refused_where { IsWellFormedGrammar (rules_in grammar)
+            → code_size (rules_in grammar) ≤ most_instructions → IfErr result (λ why. why ≡ Refusal.Memory) }
     {
         match checked_core(alloc, &grammar) {
             Ok(checked) => {

@@ -1,4 +1,4 @@
-use Rattle.std.proofs.Common.{◌<◌, ◌∙◌, Err, ap, length, subst, sym}
+use Rattle.std.proofs.Common.{◌<◌, ◌∙◌, Err, ap, length, subst, sym, arith}
 use Rattle.peg_code.specs.Code.{entries_of, program_code}
 use Rattle.peg_code.specs.Compiled.{Compiled, most_instructions}
 use Rattle.peg_core.specs.Layout.{bodies_of}
@@ -6,6 +6,7 @@ use Rattle.peg_grammar.specs.GrammarRules.{rules_in}
 use Rattle.peg_parser.specs.Faults.{TellsWhy, of_code}
 use Rattle.peg_parser.specs.Refusals.{Refuses}
 use Rattle.peg_parser.specs.declared.refusal.Refusal.{Refusal}
+use Rattle.peg_parser.proofs.FigureGrammar.{check_memory, code_memory, told_memory}
 use Rattle.peg_parser.proofs.AcceptLemmas.{told-check, told-code, told-error}
 use Rattle.peg_parser.proofs.parser.Parser.of.Goals as goal
 
@@ -27,6 +28,7 @@ returns-in-Err c = record {
   refused = λ file read taken inside.
       subst (λ (why : Refusal). TellsWhy (Refuses file) (length file) why) (sym c.of_check.ensures)
       (told-check file c.args.grammar c.in-Err.fault c.in-Err.ensures.refused c.in-Err.ensures.named read taken inside);
+  refused_where = λ formed small. c.of_check.ensures ∙ check_memory c.args.grammar c.in-Err.fault c.in-Err.ensures.refused formed;
 }
 
 pub returns-in_err-program-in-Ok-clause-refused : goal.returns-in_err-program-in-Ok-clause-refused
@@ -37,3 +39,11 @@ returns-in_err-program-in-Ok-clause-refused c file read taken inside =
     (told-code file rules why read taken c.in-Ok.ensures.well_formed
     (λ large. subst (λ bodies. most_instructions < length (program_code bodies)) c.in-Ok.ensures.bodies
     (c.in_err-program-in-Ok.ensures.too_large (ap Err large))))
+
+pub returns-in_err-program-in-Ok-clause-refused_where : goal.returns-in_err-program-in-Ok-clause-refused_where
+returns-in_err-program-in-Ok-clause-refused_where c formed small =
+    told_memory c.from_residual.result (of_code c.in_err-program-in-Ok.field-0.0) c.from_residual.ensures.1
+    (code_memory c.in_err-program-in-Ok.field-0.0 (λ is.
+    let large = subst (λ bodies. most_instructions < length (program_code bodies)) c.in-Ok.ensures.bodies
+    (c.in_err-program-in-Ok.ensures.too_large (ap Err is)) in
+    let bad : ⊥ = omega (arith, large, small) in bad))

@@ -1,0 +1,61 @@
+-- The figure's definitions are a grammar that is taken, and nothing but memory can be wanting.
+use Rattle.std.proofs.Common.{◌≡◌, [], None, Some, Result, Ok, Err, refl, sym, ◌∙◌, arith}
+use Rattle.std.specs.Prelude.{IfErr, IsErrAnd}
+use Rattle.peg_check.specs.Verdicts.{IsIllFormedBy}
+use Rattle.peg_check.specs.declared.fault.CheckFault.{CheckFault}
+use Rattle.peg_check.specs.declared.fault.CheckFault.TheVariants as check
+use Rattle.peg_code.specs.declared.fault.CodeFault.{CodeFault}
+use Rattle.peg_code.specs.declared.fault.CodeFault.TheVariants as code
+use Rattle.peg_figure.specs.Figure.{figure, grammar_body, definition_body, expression_body, sequence_body, prefix_body, suffix_body, primary_body, identifier_body, ident_start_body, ident_cont_body, literal_body, class_body, range_body, char_body, spacing_body, comment_body, space_body, end_of_line_body, end_of_file_body}
+use Rattle.peg_ford.specs.Grammar.{first_duplicate, first_undefined}
+use Rattle.peg_ford.specs.Rules.{weight_of}
+use Rattle.peg_ford.specs.WellFormed.{IsWellFormedGrammar}
+use Rattle.peg_grammar.specs.GrammarRules.{rules_in}
+use Rattle.peg_grammar.specs.Refusal.{Refuses}
+use Rattle.peg_grammar.specs.declared.fault.GrammarFault.{GrammarFault}
+use Rattle.peg_grammar.specs.declared.fault.GrammarFault.TheVariants as grammar
+use Rattle.peg_grammar.specs.declared.grammar.Grammar.{Grammar}
+use Rattle.peg_parser.specs.Faults.{of_check, of_code}
+use Rattle.peg_parser.specs.declared.refusal.Refusal.{Refusal}
+use Rattle.peg_parser.specs.declared.refusal.Refusal.TheVariants as refusal
+
+no_duplicate : first_duplicate figure ≡ None
+unfolding figure
+no_duplicate = refl
+
+none_undefined : first_undefined figure ≡ None
+unfolding figure grammar_body definition_body expression_body sequence_body prefix_body suffix_body primary_body identifier_body ident_start_body ident_cont_body literal_body class_body range_body char_body spacing_body comment_body space_body end_of_line_body end_of_file_body
+none_undefined = refl
+
+figure-weight : weight_of figure ≡ 210
+unfolding figure grammar_body definition_body expression_body sequence_body prefix_body suffix_body primary_body identifier_body ident_start_body ident_cont_body literal_body class_body range_body char_body spacing_body comment_body space_body end_of_line_body end_of_file_body
+figure-weight = refl
+
+not_empty : figure ≡ [] → ⊥
+unfolding figure
+not_empty is = cc
+
+-- why definitions are refused is true of the figure for want of memory alone
+pub grammar_memory : (fault : GrammarFault) → Refuses figure fault → fault ≡ grammar.Memory
+grammar_memory grammar.NoRule is = absurd (not_empty is)
+grammar_memory (grammar.Duplicate name span) is = absurd (let bad : Some _ ≡ None = sym is ∙ no_duplicate in cc)
+grammar_memory (grammar.Undefined name span) is = absurd (let bad : Some _ ≡ None = sym is.1 ∙ none_undefined in cc)
+grammar_memory grammar.TooManyParts is = absurd (let bad : ⊥ = omega (arith, is.1, figure-weight) in bad)
+grammar_memory grammar.Memory is = refl
+
+-- and why a well-formed grammar is, whose code is small
+pub check_memory : (g : Grammar) (fault : CheckFault) → IsIllFormedBy (rules_in g) fault → IsWellFormedGrammar (rules_in g)
+    → of_check fault g ≡ refusal.Memory
+check_memory g (check.EmptyLoop rule span) is formed = absurd (is.0 formed)
+check_memory g (check.LeftRecursion path) is formed = absurd (is.0 formed)
+check_memory g check.Memory is formed = refl
+
+pub code_memory : (fault : CodeFault) → (fault ≡ code.CodeTooLarge → ⊥) → of_code fault ≡ refusal.Memory
+code_memory code.CodeTooLarge small = absurd (small refl)
+code_memory code.Memory small = refl
+
+-- an error that is want of memory
+pub told_memory : {X : Type 0} (result : Result X Refusal) (why : Refusal) → IsErrAnd result (λ other. other ≡ why)
+    → why ≡ refusal.Memory → IfErr result (λ other. other ≡ refusal.Memory)
+told_memory (Ok x) why is memory = tt
+told_memory (Err other) why is memory = is ∙ memory

@@ -1,0 +1,110 @@
+-- What the figure's own parse of a file tells, and that both readers tell the same.
+use Rattle.std.proofs.Common.{◌≡◌, ℕ, ◌<◌, ◌≤◌, List, length, codes, Option, Some, None, Result, Ok, Err, refl, sym, ap, ◌∙◌, subst, arith}
+use Rattle.std.specs.Prelude.{IfSome, IsErrAnd, IsErrOf}
+use Rattle.std.specs.declared.alloc.Global.{Global}
+use Rattle.std.specs.declared.vec.Vec.{Vec}
+use Rattle.peg_tree.specs.Trees.{Trees}
+use Rattle.peg_tree.specs.declared.outcome.Outcome.{Outcome}
+use Rattle.peg_tree.specs.declared.outcome.Parsed.TheVariants as parsed
+use Rattle.peg_ford.specs.Record.{Recognition, Failed, Matched}
+use Rattle.peg_ford.specs.Rules.{Rule}
+use Rattle.peg_ford.specs.Starts.{start_of}
+use Rattle.peg_ford.proofs.Derivations.{one_result}
+use Rattle.peg_figure.specs.Figure.{figure}
+use Rattle.peg_figure.specs.Nesting.{nesting, most_open}
+use Rattle.peg_figure.specs.Notation.{IsInNotation, IsReading, most_file_bytes}
+use Rattle.peg_figure.specs.Spelled.{rules_spelled}
+use Rattle.peg_grammar.specs.Outcomes.{IsOutcome, parsed_of}
+use Rattle.peg_grammar.specs.Written.{rules_of}
+use Rattle.peg_grammar.specs.declared.expr.Definition.{Definition}
+use Rattle.peg_notation.specs.Reads.{IsReadingWithin, NestsDeeper}
+use Rattle.peg_spelling.specs.FigureTrees.{IsTreeOf}
+use Rattle.peg_spelling.proofs.Inversions.{derives}
+use Rattle.peg_spelling.specs.declared.fault.DefinitionsFault.{DefinitionsFault}
+use Rattle.peg_spelling.specs.declared.fault.DefinitionsFault.TheVariants as definitions
+use Rattle.peg_parser.specs.ReadsByFigure.{ReadsByFigure, AgreesWithRead, of_definitions}
+use Rattle.peg_parser.specs.declared.figure_reader.FigureFault.{FigureFault}
+use Rattle.peg_parser.specs.declared.figure_reader.FigureFault.TheVariants.{FileTooLong, NotInFigure, TooNested, Memory}
+
+-- ---- a file has one tree
+
+one_tree : (file : List ℕ) (a b : Trees) → IsTreeOf file a → IsTreeOf file b → a ≡ b
+one_tree file a b m n =
+    let same : Matched m.0 a ≡ Matched n.0 b = one_result (derives m.1) (derives n.1) in cc
+
+-- the rules that its tree spells are its reading
+pub tree_reads : (file : List ℕ) (tree : Trees) (rules : List Rule) → IsTreeOf file tree → rules ≡ rules_spelled file tree
+    → nesting tree ≤ most_open → IsReadingWithin most_open file rules
+tree_reads file tree rules m is within = (
+  (m.0, tree, m.1, is),
+  λ end trees other. subst (λ t. nesting t ≤ most_open) (one_tree file tree trees m (end, other)) within,
+)
+
+pub tree_deep : (file : List ℕ) (tree : Trees) → IsTreeOf file tree → most_open < nesting tree → NestsDeeper most_open file
+tree_deep file tree m deep end trees other = subst (λ t. most_open < nesting t) (one_tree file tree trees m (end, other)) deep
+
+-- a file has one reading
+one_reading : (file : List ℕ) (a b : List Rule) → IsReading file a → IsReading file b → a ≡ b
+one_reading file a b m n =
+    m.3 ∙ (ap (rules_spelled file) (one_tree file m.1 n.1 (m.0, m.2) (n.0, n.2)) ∙ sym n.3)
+
+-- ---- the outcome
+
+pub start-figure : start_of figure None ≡ Some (codes "Grammar")
+unfolding figure
+start-figure = refl
+
+-- an outcome of the figure's parse, from its first rule
+pub outcome_of : (rules : List Rule) (file : List ℕ) (outcome : Outcome) → rules ≡ figure
+    → IfSome (start_of rules None) (λ start. IsOutcome rules file start outcome) → IsOutcome figure file (codes "Grammar") outcome
+outcome_of rules file outcome is told =
+    subst (λ (o : Option (List ℕ)). IfSome o (λ start. IsOutcome figure file start outcome)) start-figure
+    (subst (λ (r : List Rule). IfSome (start_of r None) (λ start. IsOutcome r file start outcome)) is told)
+
+pub matched_tree : (file : List ℕ) (outcome : Outcome) → IsOutcome figure file (codes "Grammar") outcome → (end : ℕ) (tree : Trees)
+    → outcome.result ≡ parsed.Matched end tree → IsTreeOf file tree
+matched_tree file outcome is end tree told = by is.1.0.result refl (sym told ∙ is.1.2)
+  where
+    by : (x : Recognition) → is.1.0.result ≡ x → parsed.Matched end tree ≡ parsed_of is.1.0.result → IsTreeOf file tree
+    by Failed at same = absurd (let bad : parsed.Matched end tree ≡ parsed.Failed = same ∙ ap parsed_of at in cc)
+    by (Matched e t) at same =
+        let one : parsed.Matched end tree ≡ parsed.Matched e t = same ∙ ap parsed_of at in
+        let trees : t ≡ tree = cc in
+        subst (IsTreeOf file) trees (e, (is.1.0, (is.0, is.1.1), at))
+
+pub failed_none : (file : List ℕ) (outcome : Outcome) → IsOutcome figure file (codes "Grammar") outcome
+    → outcome.result ≡ parsed.Failed → ¬ IsInNotation file
+failed_none file outcome is told m = by is.1.0.result refl (sym told ∙ is.1.2)
+  where
+    by : (x : Recognition) → is.1.0.result ≡ x → parsed.Failed ≡ parsed_of is.1.0.result → ⊥
+    by (Matched e t) at same = let bad : parsed.Failed ≡ parsed.Matched e t = same ∙ ap parsed_of at in cc
+    by Failed at same =
+        let known : is.1.0.result ≡ Matched m.0 m.1 = Rattle.peg_ford.proofs.Derivations.one_record (derives m.2) 0 (is.0, is.1.1) in
+        let bad : Failed ≡ Matched m.0 m.1 = sym at ∙ known in cc
+
+-- ---- agreement
+
+pub agree : AgreesWithRead
+agree file read (Ok other) by_hand by_figure some = one_reading file (rules_of other.items) (rules_of read.items) by_figure.1.0 by_hand.1.0
+agree file read (Err FileTooLong) by_hand by_figure some = absurd (let bad : ⊥ = omega (arith, by_hand.0, by_figure) in bad)
+agree file read (Err NotInFigure) by_hand by_figure some = absurd (by_figure.1 (by_hand.1.0.0, by_hand.1.0.1, by_hand.1.0.2))
+agree file read (Err TooNested) by_hand by_figure some =
+    let m = by_hand.1.0 in
+    let deep = by_figure.2 m.0 m.1 m.2 in
+    let within = by_hand.1.1 m.0 m.1 m.2 in
+    absurd (let bad : ⊥ = omega (arith, deep, within) in bad)
+agree file read (Err Memory) by_hand by_figure some = absurd (some refl)
+
+-- ---- faults
+
+-- what a tree's fault tells of the file
+pub told_definitions : (file : List ℕ) (tree : Trees) (why : DefinitionsFault) → length file ≤ most_file_bytes → IsTreeOf file tree
+    → (IsErrOf {T = Vec Definition Global} (Err why) definitions.TooNested → most_open < nesting tree)
+    → (result : Result (Vec Definition Global) FigureFault) → IsErrAnd result (λ told. told ≡ of_definitions why)
+    → ReadsByFigure file result
+told_definitions file tree definitions.TooNested short m deep (Err told) is =
+    subst (λ (t : FigureFault). ReadsByFigure file (Err t)) (sym is)
+    (short, (m.0, tree, m.1), tree_deep file tree m (deep refl))
+told_definitions file tree definitions.Memory short m deep (Err told) is =
+    subst (λ (t : FigureFault). ReadsByFigure file (Err t)) (sym is) tt
+told_definitions file tree why short m deep (Ok read) is = absurd is
