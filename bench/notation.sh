@@ -8,3 +8,8 @@ rt run > /dev/null
 for kind in spaces comment literal opens ordinary rules alternatives names; do
   /usr/bin/time -f "  %e s, %M KiB" ./out/peg_bench notation "$kind" 2>&1
 done
+for kind in spaces comment literal opens ordinary rules alternatives names; do
+  for share in tenth whole; do
+    /usr/bin/time -f "  %e s, %M KiB" ./out/peg_bench figure "$kind" "$share" 2>&1
+  done
+done

@@ -1,8 +1,25 @@
-//! Lexes and reads a file of up to 1 MiB that it makes in memory, of the kind that the word names, and prints the
-//! number of tokens and of rules, where there are any; with no word, each kind in turn.
+//! Reads a file of up to 1 MiB that it makes in memory, of the kind that the word names: by hand, when it prints the
+//! number of tokens and of rules, where there are any; or by the figure. With no word, each kind in turn.
 use peg_notation::{MOST_FILE_BYTES, lex, read};
+use peg_parser::read_by_figure;
 use std::alloc::{AllocError, Global};
 use std::io;
+
+/// How much of a file is made.
+#[derive(Clone, Copy)]
+enum Share {
+    Whole,
+    Tenth,
+}
+
+impl Share {
+    fn of(self, count: usize) -> usize {
+        match self {
+            Share::Whole => count,
+            Share::Tenth => count / 10,
+        }
+    }
+}
 
 const KINDS: [&str; 8] = [
     "spaces",
@@ -26,10 +43,16 @@ const ORDINARY: &[u8] = b"\
     \n";
 
 // So many bytes: the first, then the middle ones, and at the end the last.
-fn run_of(alloc: Global, first: u8, middle: u8, last: u8) -> Result<Vec<u8>, AllocError> {
+fn run_of(
+    alloc: Global,
+    first: u8,
+    middle: u8,
+    last: u8,
+    length: usize,
+) -> Result<Vec<u8>, AllocError> {
     let mut file = Vec::new(alloc);
     file.push(first)?;
-    for _ in 2..MOST_FILE_BYTES {
+    for _ in 2..length {
         file.push(middle)?;
     }
     file.push(last)?;
@@ -50,22 +73,24 @@ fn repeated(
     Ok(file)
 }
 
-fn file_of(alloc: Global, kind: &str) -> Result<Vec<u8>, AllocError> {
+// A file of this kind, of the greatest size or of a share of it.
+fn file_of(alloc: Global, kind: &str, share: Share) -> Result<Vec<u8>, AllocError> {
+    let length = share.of(MOST_FILE_BYTES);
     match kind {
-        "spaces" => run_of(alloc, b' ', b' ', b' '),
-        "comment" => run_of(alloc, b'#', b'c', b'\n'),
-        "literal" => run_of(alloc, b'\'', b'c', b'\''),
-        "opens" => run_of(alloc, b'(', b'(', b'('),
-        "rules" => repeated(alloc, b"", b"Rule<-.\n", 100_000),
-        "alternatives" => repeated(alloc, b"A<-.", b"/A ", 300_000),
-        "names" => repeated(alloc, b"A<-.", b" ab", 300_000),
-        _ => repeated(alloc, b"", ORDINARY, MOST_FILE_BYTES / ORDINARY.len()),
+        "spaces" => run_of(alloc, b' ', b' ', b' ', length),
+        "comment" => run_of(alloc, b'#', b'c', b'\n', length),
+        "literal" => run_of(alloc, b'\'', b'c', b'\'', length),
+        "opens" => run_of(alloc, b'(', b'(', b'(', length),
+        "rules" => repeated(alloc, b"", b"Rule<-.\n", share.of(100_000)),
+        "alternatives" => repeated(alloc, b"A<-.", b"/A ", share.of(300_000)),
+        "names" => repeated(alloc, b"A<-.", b" ab", share.of(300_000)),
+        _ => repeated(alloc, b"", ORDINARY, length / ORDINARY.len()),
     }
 }
 
 // How many tokens and how many rules the file of this kind has, if it has any.
 fn count(alloc: Global, kind: &str) -> Result<(Option<usize>, Option<usize>), AllocError> {
-    let file = file_of(alloc, kind)?;
+    let file = file_of(alloc, kind, Share::Whole)?;
     let tokens = lex(alloc, &file).ok().map(|tokens| tokens.len());
     let rules = read(alloc, &file).ok().map(|rules| rules.len());
     Ok((tokens, rules))
@@ -76,6 +101,29 @@ pub(crate) fn run(rt: &impl Print, alloc: Global, word: &str) -> io::Result<()> 
         if word.is_empty() || word == kind {
             let (tokens, rules) = count(alloc, kind)?;
             println!(rt; "{kind} {tokens:?} {rules:?}")?;
+        }
+    }
+    Ok(())
+}
+
+pub(crate) fn run_by_figure(
+    rt: &impl Print,
+    alloc: Global,
+    word: &str,
+    share: &str,
+) -> io::Result<()> {
+    let share = if share == "tenth" {
+        Share::Tenth
+    } else {
+        Share::Whole
+    };
+    for kind in KINDS {
+        if word.is_empty() || word == kind {
+            let file = file_of(alloc, kind, share)?;
+            match read_by_figure(alloc, &file) {
+                Ok(rules) => println!(rt; "{kind} {} bytes {} rules", file.len(), rules.len())?,
+                Err(fault) => println!(rt; "{kind} {} bytes: {fault}", file.len())?,
+            }
         }
     }
     Ok(())

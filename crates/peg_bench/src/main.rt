@@ -26,6 +26,10 @@ fn main(rt: HostRuntime) -> io::Result<()> {
         "rows" => trees::run(&rt, alloc, Form::Rows, word),
         "nested" => trees::run(&rt, alloc, Form::Nested, word),
         "notation" => files::run(&rt, alloc, word),
+        "figure" => {
+            let share = env::args(&rt)?.nth(3);
+            files::run_by_figure(&rt, alloc, word, share.as_ref().map_or("", |w| w.as_str()))
+        }
         "check" => cycles::run(&rt, alloc, word),
         "table" => tables::run(&rt, alloc, word),
         "run" => {
@@ -33,7 +37,7 @@ fn main(rt: HostRuntime) -> io::Result<()> {
             runs::run(rt, alloc, word, text.as_ref().map_or("", |w| w.as_str()))
         }
         _ => println!(rt;
-            "words: grammar, tree, values, rows, nested, notation, check, table or run, and on what"
+            "words: grammar, tree, values, rows, nested, notation, figure, check, table or run, and on what"
         ),
     }
 }

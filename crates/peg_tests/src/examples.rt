@@ -104,6 +104,9 @@ const URI: &[u8] = b"\
     Hex        <- [0-9a-fA-F]\n\
     Delimiter  <- [!$&'()*+,;=]\n";
 
+/// All of them.
+pub(crate) const GRAMMARS: [&[u8]; 6] = [ARITHMETIC, CSV, INI, JSON, NOTATION, URI];
+
 // The grammar, a line `%%` and the text.
 fn joined(alloc: Global, grammar: &[u8], text: &[u8]) -> Result<Vec<u8>, AllocError> {
     let mut input = Vec::from_slice(alloc, grammar)?;

@@ -22,6 +22,8 @@ mod parse;
 #[cfg(test)]
 mod parser;
 #[cfg(test)]
+mod readers;
+#[cfg(test)]
 mod tool;
 #[cfg(test)]
 mod words;

@@ -13,7 +13,9 @@ pub use command::Command;
 pub use ending::ToolFault;
 pub use joined::run_joined;
 pub use peg_io::{Device, DeviceFault, OpenFault, Opener, Sink, Source, split};
-pub use peg_parser::{Answer, ParseFault, ParseOptions, Parser, Refusal};
+pub use peg_parser::{
+    Answer, FigureFault, ParseFault, ParseOptions, Parser, Refusal, read_by_figure,
+};
 pub use peg_reply::{Fault, Status, answer_json, refusal_json, table_json};
 pub use peg_words::{Words, WordsFault, read_words};
 pub use program::{ProgramFault, run_words};

@@ -1,0 +1,148 @@
+//! Grammar files read twice: by hand, and by the figure itself. Both give the same definitions, or both refuse.
+use crate::examples::GRAMMARS;
+use peg_notation::{figure, figure_text, read};
+use peg_tool::{Command, Device, FigureFault, ParseOptions, read_by_figure, run_tool};
+use std::alloc::{AllocError, Global};
+use std::process::Abort;
+use std::test::Fail;
+
+// How many bytes the figure's text has, in 29 lines.
+const FIGURE_BYTES: usize = 984;
+
+// What the two readers say of a file; None, where it is refused.
+fn both(alloc: Global, file: &[u8]) -> Result<(Option<String>, Option<String>), AllocError> {
+    let by_hand = match read(alloc, file) {
+        Ok(definitions) => Some(format!(in alloc; "{definitions:?}")?),
+        Err(_) => None,
+    };
+    let by_figure = match read_by_figure(alloc, file) {
+        Ok(definitions) => Some(format!(in alloc; "{definitions:?}")?),
+        Err(_) => None,
+    };
+    Ok((by_hand, by_figure))
+}
+
+// Both readers give the same definitions of each file.
+fn assert_read(rt: &impl Abort, alloc: Global, files: &[&[u8]]) -> Result<(), Fail> {
+    for file in files {
+        let (by_hand, by_figure) = both(alloc, file)?;
+        assert!(rt; by_hand.is_some(), "{file:?}");
+        assert!(rt; by_hand == by_figure, "{file:?}");
+    }
+    Ok(())
+}
+
+// Both readers give the same definitions of each front of a file, or both refuse it.
+fn assert_fronts(rt: &impl Abort, alloc: Global, file: &[u8]) -> Result<(), Fail> {
+    for length in 0..=file.len() {
+        let (by_hand, by_figure) = both(alloc, &file[..length])?;
+        assert!(rt; by_hand == by_figure, "of {length} bytes");
+    }
+    Ok(())
+}
+
+// A rule whose body is `'a'` in so many parentheses.
+fn nested(alloc: Global, depth: usize) -> Result<Vec<u8>, AllocError> {
+    let mut file = Vec::new(alloc);
+    file.extend_from_slice(b"A <- ")?;
+    for _ in 0..depth {
+        file.push(b'(')?;
+    }
+    file.extend_from_slice(b"'a'")?;
+    for _ in 0..depth {
+        file.push(b')')?;
+    }
+    Ok(file)
+}
+
+#[test]
+fn the_figure_reads_itself(rt: HostRuntime) -> Result<(), Fail> {
+    let alloc = rt.alloc();
+    let rules = figure(alloc)?;
+    assert_eq!(rt; rules.len(), 29);
+    let wanted = format!(in alloc; "{rules:?}")?;
+    let (by_hand, by_figure) = both(alloc, figure_text())?;
+    assert_eq!(rt; by_hand.as_deref(), Some(wanted.as_str()));
+    assert_eq!(rt; by_figure.as_deref(), Some(wanted.as_str()));
+    Ok(())
+}
+
+#[test]
+fn the_figure_is_accepted_and_parses_itself(rt: HostRuntime) -> Result<(), Fail> {
+    let text = figure_text();
+    assert_eq!(rt; text.len(), FIGURE_BYTES);
+    let checked = told(&rt, rt.alloc(), &Command::Check)?;
+    assert_eq!(rt;
+        checked.as_str(),
+        "{\"result\":\"accepted\",\"rules\":29}\n"
+    );
+    let options = ParseOptions {
+        start: None,
+        memo: 4096,
+    };
+    let parse = Command::Parse {
+        options,
+        all: true,
+        rows: true,
+    };
+    let line = told(&rt, rt.alloc(), &parse)?;
+    assert!(rt; line.starts_with("{\"consumed\":984,\"expected\":[["));
+    let behind = "]],\"far\":984,\"result\":\"matched\",\"rows\":[[1,\"Grammar\",0,984],";
+    assert!(rt; line.contains(behind));
+    Ok(())
+}
+
+// What a command tells of the figure's text, which is its grammar file and its text.
+fn told(rt: &impl Abort, alloc: Global, command: &Command<'_>) -> Result<String, Fail> {
+    let mut written = Vec::new(alloc);
+    let status = run_tool(
+        alloc,
+        &mut Device::new(figure_text()),
+        &mut Device::new(figure_text()),
+        &mut Device::new(&mut written),
+        command,
+    )?;
+    assert_eq!(rt; status, 0);
+    Ok(String::from_utf8(written)?)
+}
+
+#[test]
+fn files_are_read_alike(rt: HostRuntime) -> Result<(), Fail> {
+    let files: [&[u8]; 6] = [
+        b"S <- 'a' S / 'b'\n",
+        b"D <- &(A !'b') 'a'* B !.\nA <- 'a' A 'b' / ''\nB <- 'b' B 'c' / ''\n",
+        b"A <- '\\377'",
+        b"A <- '(' A ')' 'x' / '(' A ')' 'y' / 'a'",
+        b"A <- [z-a] / [] / [\xc8]",
+        b"A <- &'x' 'y'+ .?",
+    ];
+    assert_read(&rt, rt.alloc(), &files)
+}
+
+#[test]
+fn examples_are_read_alike(rt: HostRuntime) -> Result<(), Fail> {
+    assert_read(&rt, rt.alloc(), &GRAMMARS)
+}
+
+#[test]
+fn fronts_are_read_alike(rt: HostRuntime) -> Result<(), Fail> {
+    assert_fronts(&rt, rt.alloc(), figure_text())?;
+    assert_fronts(&rt, rt.alloc(), GRAMMARS[0])?;
+    assert_fronts(&rt, rt.alloc(), GRAMMARS[2])
+}
+
+#[test]
+fn files_that_the_figure_refuses(rt: HostRuntime) -> Result<(), Fail> {
+    let alloc = rt.alloc();
+    let fault = |file: &[u8]| read_by_figure(alloc, file).err();
+    assert_eq!(rt; fault(b""), Some(FigureFault::NotInFigure));
+    assert_eq!(rt; fault(b"A <- [a-]"), Some(FigureFault::NotInFigure));
+    assert_eq!(rt; fault(b"A <- 'x' #end"), Some(FigureFault::NotInFigure));
+    assert_eq!(rt; fault(&nested(alloc, 201)?), Some(FigureFault::TooNested));
+    assert_eq!(rt; fault(&nested(alloc, 200)?), None);
+    let mut spaces = vec![in alloc; b' '; 1_048_577]?;
+    assert_eq!(rt; fault(&spaces), Some(FigureFault::FileTooLong));
+    spaces.truncate(1_048_576);
+    assert_eq!(rt; fault(&spaces), Some(FigureFault::NotInFigure));
+    Ok(())
+}
