@@ -102,40 +102,74 @@ fn assert_chain(rt: &impl Abort, tree: &Tree, nodes: u32) {
     }
 }
 
-// Parentheses that would take twice the steps a level without a memo, with memos of one result and of many.
+// What so many parentheses, each closed before a `y`, take of steps; below, the text is that of `parentheses`.
+#[derive(Clone, Copy)]
+struct Nested<'a> {
+    program: &'a Program,
+    text: &'a [u8],
+    count: u32,
+    steps: u64,
+}
+
+// With a memo of this capacity so many steps are enough, and one less isn't.
+fn assert_nested(
+    rt: &impl Abort,
+    alloc: Global,
+    nested: &Nested<'_>,
+    capacity: u32,
+) -> Result<(), Fail>
+    requires few { nested.now.count < 1000 }
+    requires rule { 0 < length nested.now.program.now.core.bodies }
+    requires some { 0 < capacity }
+{
+    let Nested {
+        program,
+        text,
+        count,
+        steps,
+    } = nested;
+    let answer = run_with(
+        alloc,
+        program,
+        text,
+        0,
+        capacity,
+        &mut NoWatch,
+        Some(*steps),
+    )?;
+    assert_eq!(rt; answer.steps, *steps);
+    assert_eq!(rt; answer.outcome.far, 3 * *count);
+    assert_eq!(rt; answer.outcome.expected.as_slice(), [2].as_slice());
+    match &answer.outcome.result {
+        Parsed::Failed => assert!(rt; false, "no match"),
+        Parsed::Matched { end, tree } => {
+            assert_eq!(rt; *end, 3 * *count + 1);
+            assert_chain(rt, tree, *count + 1);
+        }
+    }
+    let selecting = run_selecting(alloc, program, text, 0, capacity, Some(*steps))?;
+    assert_alike(rt, &selecting.outcome, &answer.outcome, "parentheses");
+    assert_eq!(rt; selecting.steps, *steps);
+    let fewer = Some(steps.saturating_sub(1));
+    let refused = run_with(alloc, program, text, 0, capacity, &mut NoWatch, fewer);
+    assert!(rt; matches!(refused, Err(RunFault::StepLimit)));
+    Ok(())
+}
+
+// At capacities 1 and 4096 so many parentheses take so many steps.
 fn assert_parentheses(rt: &impl Abort, alloc: Global, count: u32, steps: u64) -> Result<(), Fail>
     requires { count < 1000 }
 {
     let program = some_program(rt, alloc, TWICE)?;
     let text = parentheses(alloc, count as usize)?;
-    for capacity in [1, 4096] {
-        let answer = run_with(
-            alloc,
-            &program,
-            &text,
-            0,
-            capacity,
-            &mut NoWatch,
-            Some(steps),
-        )?;
-        assert_eq!(rt; answer.steps, steps);
-        assert_eq!(rt; answer.outcome.far, 3 * count);
-        assert_eq!(rt; answer.outcome.expected.as_slice(), [2].as_slice());
-        match &answer.outcome.result {
-            Parsed::Failed => assert!(rt; false, "no match"),
-            Parsed::Matched { end, tree } => {
-                assert_eq!(rt; *end, 3 * count + 1);
-                assert_chain(rt, tree, count + 1);
-            }
-        }
-        let selecting = run_selecting(alloc, &program, &text, 0, capacity, Some(steps))?;
-        assert_alike(rt, &selecting.outcome, &answer.outcome, "parentheses");
-        assert_eq!(rt; selecting.steps, steps);
-        let fewer = Some(steps.saturating_sub(1));
-        let refused = run_with(alloc, &program, &text, 0, capacity, &mut NoWatch, fewer);
-        assert!(rt; matches!(refused, Err(RunFault::StepLimit)));
-    }
-    Ok(())
+    let nested = Nested {
+        program: &program,
+        text: &text,
+        count,
+        steps,
+    };
+    assert_nested(rt, alloc, &nested, 1)?;
+    assert_nested(rt, alloc, &nested, 4096)
 }
 
 #[test]
