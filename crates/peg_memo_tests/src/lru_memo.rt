@@ -125,6 +125,26 @@ fn a_memo_is_empty_until_it_keeps(rt: HostRuntime) -> Result<(), Fail> {
 }
 
 #[test]
+fn the_last_result_can_be_dropped(rt: HostRuntime) -> Result<(), Fail> {
+    let mut memo = LruMemo::new(rt.alloc(), 8)?;
+    let nodes = rows();
+    let found = Found::Done {
+        end: 5,
+        nodes: &nodes,
+    };
+    assert!(rt; memo.keep(1, 2, found));
+    assert!(rt; memo.keep(1, 3, Found::Failed));
+    memo.touch(1, 2);
+    assert_eq!(rt; memo.drop_last(), Some(0));
+    assert!(rt; memo.find(1, 3).is_none());
+    assert!(rt; memo.find(1, 2).is_some());
+    assert_eq!(rt; memo.drop_last(), Some(2));
+    assert!(rt; memo.is_empty());
+    assert_eq!(rt; memo.drop_last(), None);
+    Ok(())
+}
+
+#[test]
 fn what_is_found_is_what_was_kept(rt: HostRuntime) -> Result<(), Fail> {
     let mut memo = LruMemo::new(rt.alloc(), 4)?;
     for place in 0..20 {
