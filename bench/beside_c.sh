@@ -1,6 +1,8 @@
 #!/usr/bin/env bash
 # Runs `pegtool parse --rows --memo 0` beside the same machine in plain C (plain.c) on texts that it makes, and shows the
-# seconds of the processor of the whole processes, their ratio, and the memory at the peaks. The argument is the program.
+# seconds of the processor of the whole processes, their ratio, and the memory at the peaks. Then the run alone: `run` of
+# peg_machine by the program of crates/peg_bench, where that is built, beside the run of plain.c. The argument is the
+# program.
 set -eu
 program=$(realpath -- "${1:-$(dirname "$0")/../crates/pegtool/out/pegtool}")
 cd "$(dirname "$0")"
@@ -10,6 +12,7 @@ cc -O2 -o "$folder/plain" plain.c
 python3 -B - "$program" "$folder" << 'PYTHON'
 import json
 import os
+import re
 import subprocess
 import sys
 
@@ -17,6 +20,7 @@ from runs import used, written
 from texts import EXAMPLES, csv_text, grammars, json_text, sums
 
 PROGRAM, FOLDER = sys.argv[1:]
+BENCH = "../crates/peg_bench/out/peg_bench"
 RUNS = 5
 
 RIGHT = f"{FOLDER}/right.peg"
@@ -63,6 +67,11 @@ def rows_in(path):
     return line[line.index(b'"rows":') :]
 
 
+def microseconds(words):
+    """What a program tells of its run, as its last number."""
+    return int(re.findall(rb"\d+", subprocess.run(words, capture_output=True, check=True).stdout)[-1])
+
+
 print("| Text | C, seconds | MiB | pegtool, seconds | MiB | Ratio |")
 print("|---|---|---|---|---|---|")
 for name, grammar, make in CASES:
@@ -81,4 +90,14 @@ for name, grammar, make in CASES:
         sys.exit(f"not the same rows: {name}")
     (floor, floor_peak), (ours, peak) = best
     print(f"| {name} | {floor:.3f} | {floor_peak / 2**20:.0f} | {ours:.3f} | {peak / 2**20:.0f} | {ours / floor:.2f} |")
+if os.path.exists(BENCH):
+    print("\n| Text | C, the run alone, ms | `run`, ms | Ratio |")
+    print("|---|---|---|---|")
+    for name, grammar, make in CASES:
+        text, code = f"{FOLDER}/text", f"{FOLDER}/code"
+        written(text, make)
+        listing(grammar, code)
+        pair = [[f"{FOLDER}/plain", code, text, "run"], [BENCH, "run", grammar, text]]
+        floor, ours = (min(times) for times in zip(*[[microseconds(words) for words in pair] for _ in range(RUNS)]))
+        print(f"| {name} | {floor / 1000:.1f} | {ours / 1000:.1f} | {ours / max(floor, 1):.2f} |")
 PYTHON
