@@ -2,8 +2,6 @@
 #![tactic(auto)]
 
 #[cfg(test)]
-mod broken;
-#[cfg(test)]
 mod check;
 #[cfg(test)]
 mod code;
@@ -13,8 +11,6 @@ mod examples;
 mod formats;
 #[cfg(test)]
 mod joined;
-#[cfg(test)]
-mod line_ends;
 #[cfg(test)]
 mod outcomes;
 #[cfg(test)]

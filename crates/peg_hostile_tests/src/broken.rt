@@ -1,8 +1,13 @@
 //! Runs whose input or output breaks in mid-stream.
 ghost use Rattle.std.specs.Prelude.{◌≡◌, None, false};
 
-use peg_tool::{Command, DeviceFault, ParseOptions, Sink, Source, ToolFault, run_joined, run_tool};
+use peg_tool::{
+    Command, Device, DeviceFault, ParseOptions, Sink, Source, ToolFault, run_joined, run_tool,
+};
 use std::alloc::Global;
+use std::io;
+use std::io::Write;
+use std::process::Abort;
 use std::test::Fail;
 
 const INPUT: &[u8] = b"S <- 'a' S / 'b'\n%%\naab";
@@ -228,26 +233,97 @@ fn parse(
     )
 }
 
-#[test]
-fn a_parse_tells_a_failed_read_of_either(rt: HostRuntime) -> Result<(), Fail> {
-    for breaks_at in 0..=FILE.len() {
-        let mut file = Dripping::new(FILE, breaks_at);
-        let mut text = Dripping::new(TEXT, 1000);
-        let mut output = Choking::new(rt.alloc(), 1000);
-        let ended = parse(rt.alloc(), &mut file, &mut text, &mut output, false);
+// A run tells that a read of the grammar file or of the text failed, whichever read it is.
+fn assert_reads(
+    rt: &impl Abort,
+    alloc: Global,
+    grammar: &'static [u8],
+    parsed: &'static [u8],
+) -> Result<(), Fail> {
+    for breaks_at in 0..=grammar.len() {
+        let mut file = Dripping::new(grammar, breaks_at);
+        let mut text = Dripping::new(parsed, 1000);
+        let mut output = Choking::new(alloc, 1000);
+        let ended = parse(alloc, &mut file, &mut text, &mut output, false);
         assert_eq!(rt; ended, Err(ToolFault::ReadFault), "file at {breaks_at}");
         assert_eq!(rt; text.at, 0, "file at {breaks_at}");
         assert_eq!(rt; output.taken.len(), 0, "file at {breaks_at}");
     }
-    for breaks_at in 0..=TEXT.len() {
-        let mut file = Dripping::new(FILE, 1000);
-        let mut text = Dripping::new(TEXT, breaks_at);
-        let mut output = Choking::new(rt.alloc(), 1000);
-        let ended = parse(rt.alloc(), &mut file, &mut text, &mut output, false);
+    for breaks_at in 0..=parsed.len() {
+        let mut file = Dripping::new(grammar, 1000);
+        let mut text = Dripping::new(parsed, breaks_at);
+        let mut output = Choking::new(alloc, 1000);
+        let ended = parse(alloc, &mut file, &mut text, &mut output, false);
         assert_eq!(rt; ended, Err(ToolFault::ReadFault), "text at {breaks_at}");
         assert!(rt; text.failed() && !file.failed() && !output.failed());
         assert_eq!(rt; output.taken.len(), 0, "text at {breaks_at}");
     }
+    Ok(())
+}
+
+// As many of `a` as of `b` as of `c`, one after the other.
+const COUNTS: &[u8] = b"\
+    D <- &(A !'b') 'a'* B !.\n\
+    A <- 'a' A 'b' / ''\n\
+    B <- 'b' B 'c' / ''\n";
+
+#[test]
+fn a_parse_tells_a_failed_read_of_either(rt: HostRuntime) -> Result<(), Fail> {
+    assert_reads(&rt, rt.alloc(), FILE, TEXT)?;
+    assert_reads(&rt, rt.alloc(), COUNTS, b"aabbcc")
+}
+
+// A file with a comment, and what is said of it: 32 bytes.
+const COMMENTED: &[u8] = b"A <- 'x' #end\n";
+
+const ACCEPTED: &[u8] = b"{\"result\":\"accepted\",\"rules\":1}\n";
+
+#[test]
+fn a_check_tells_a_failed_write(rt: HostRuntime) -> Result<(), Fail> {
+    for breaks_at in 0..ACCEPTED.len() {
+        let mut file = Dripping::new(COMMENTED, 1000);
+        let mut text = Dripping::new(TEXT, 0);
+        let mut output = Choking::new(rt.alloc(), breaks_at);
+        let ended = run_tool(
+            rt.alloc(),
+            &mut file,
+            &mut text,
+            &mut output,
+            &Command::Check,
+        );
+        assert_eq!(rt; ended, Err(ToolFault::WriteFault), "at {breaks_at}");
+        assert!(rt; output.taken.as_slice() == &ACCEPTED[..breaks_at]);
+        assert!(rt; breaks_at != 10 || output.taken.as_slice() == b"{\"result\":".as_slice());
+    }
+    Ok(())
+}
+
+// Takes no byte.
+#[derive(Drop)]
+struct Full;
+
+impl Write for Full {
+    fn write(&mut self, _buf: &[u8]) -> io::Result<usize> {
+        Ok(0)
+    }
+
+    fn flush(&mut self) -> io::Result<()> {
+        Ok(())
+    }
+}
+
+#[test]
+fn a_writer_that_takes_no_byte_is_told(rt: HostRuntime) -> Result<(), Fail> {
+    let mut output = Device::new(Full);
+    let ended = run_tool(
+        rt.alloc(),
+        &mut Device::new(COMMENTED),
+        &mut Device::new(b"".as_slice()),
+        &mut output,
+        &Command::Check,
+    );
+    assert_eq!(rt; ended, Err(ToolFault::WriteFault));
+    assert!(rt; Sink::failed(&output));
     Ok(())
 }
 

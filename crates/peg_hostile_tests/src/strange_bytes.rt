@@ -1,0 +1,118 @@
+//! Bytes and line ends wherever the notation lets them stand, and where it doesn't.
+use crate::replies::{checks, parses};
+use std::alloc::{AllocError, Global};
+use std::process::Abort;
+use std::test::Fail;
+
+// These pieces one behind the other.
+fn joined(alloc: Global, pieces: &[&[u8]]) -> Result<Vec<u8>, AllocError> {
+    let mut file = Vec::new(alloc);
+    for piece in pieces {
+        file.extend_from_slice(piece)?;
+    }
+    Ok(file)
+}
+
+// A byte stands in literals of both kinds, in a class, at both ends of a range, and in a comment.
+fn assert_stands(rt: &impl Abort, alloc: Global, byte: u8) -> Result<(), Fail> {
+    let one = &[byte];
+    let file = joined(
+        alloc,
+        &[
+            b"A <- '", one, b"' \"", one, b"\" [", one, b"] [", one, b"-", one, b"] #", one, b"\n",
+        ],
+    )?;
+    let text = &[byte, byte, byte, byte];
+    let line =
+        "{\"consumed\":4,\"expected\":[],\"far\":0,\"result\":\"matched\",\"rows\":[[1,\"A\",0,4]]}";
+    parses(rt, alloc, &file, text, (line, 0))
+}
+
+// It doesn't stand between tokens, nor in a name.
+fn assert_no_token(rt: &impl Abort, alloc: Global, byte: u8) -> Result<(), Fail> {
+    let one = &[byte];
+    let between = joined(alloc, &[b"A ", one, b" <- 'x'"])?;
+    let line = "{\"at\":2,\"column\":3,\"line\":1,\"refusal\":\"Syntax\"}";
+    checks(rt, alloc, &between, (line, 2))?;
+    let inside = joined(alloc, &[b"A", one, b"B <- 'x'"])?;
+    let line = "{\"at\":1,\"column\":2,\"line\":1,\"refusal\":\"Syntax\"}";
+    checks(rt, alloc, &inside, (line, 2))
+}
+
+#[test]
+fn bytes_that_are_no_text_stand_in_literals_classes_and_comments(
+    rt: HostRuntime,
+) -> Result<(), Fail> {
+    assert_stands(&rt, rt.alloc(), 0)?;
+    for byte in 128..=255 {
+        assert_stands(&rt, rt.alloc(), byte)?;
+    }
+    Ok(())
+}
+
+#[test]
+fn bytes_that_are_no_text_are_no_tokens(rt: HostRuntime) -> Result<(), Fail> {
+    assert_no_token(&rt, rt.alloc(), 0)?;
+    for byte in 128..=255 {
+        assert_no_token(&rt, rt.alloc(), byte)?;
+    }
+    Ok(())
+}
+
+const LINE_ENDS: [&[u8]; 3] = [b"\n", b"\r\n", b"\r"];
+
+#[test]
+fn a_line_end_stands_between_tokens(rt: HostRuntime) -> Result<(), Fail> {
+    let alloc = rt.alloc();
+    for end in LINE_ENDS {
+        let first = [end, b"A", end, b"<-", end, b"!", end, b"'x'", end, b"/"];
+        let second = [
+            end, b"(", end, b"'y'", end, b")", end, b"*", end, b"#c", end,
+        ];
+        let mut file = joined(alloc, &first)?;
+        file.extend_from_slice(&joined(alloc, &second)?)?;
+        let accepted = ("{\"result\":\"accepted\",\"rules\":1}", 0);
+        checks(&rt, alloc, &file, accepted)?;
+    }
+    Ok(())
+}
+
+#[test]
+fn a_line_end_stands_in_a_literal(rt: HostRuntime) -> Result<(), Fail> {
+    let alloc = rt.alloc();
+    for end in LINE_ENDS {
+        let length = end.len();
+        let file = joined(alloc, &[b"A <- '", end, b"'"])?;
+        let line = format!(in alloc;
+            "{{\"consumed\":{length},\"expected\":[],\"far\":0,\"result\":\"matched\",\"rows\":[[1,\"A\",0,{length}]]}}"
+        )?;
+        parses(&rt, alloc, &file, end, (line.as_str(), 0))?;
+    }
+    Ok(())
+}
+
+#[test]
+fn the_bytes_of_a_line_end_stand_in_a_class(rt: HostRuntime) -> Result<(), Fail> {
+    let alloc = rt.alloc();
+    for end in LINE_ENDS {
+        let length = end.len();
+        let behind = length.saturating_add(7);
+        let file = joined(alloc, &[b"A <- [", end, b"]+"])?;
+        let line = format!(in alloc;
+            "{{\"consumed\":{length},\"expected\":[[5,{behind}]],\"far\":{length},\"result\":\"matched\",\"rows\":[[1,\"A\",0,{length}]]}}"
+        )?;
+        parses(&rt, alloc, &file, end, (line.as_str(), 0))?;
+    }
+    Ok(())
+}
+
+#[test]
+fn a_line_end_parts_an_arrow(rt: HostRuntime) -> Result<(), Fail> {
+    let alloc = rt.alloc();
+    for end in LINE_ENDS {
+        let file = joined(alloc, &[b"A <", end, b"- 'x'"])?;
+        let line = "{\"at\":2,\"column\":3,\"line\":1,\"refusal\":\"Syntax\"}";
+        checks(&rt, alloc, &file, (line, 2))?;
+    }
+    Ok(())
+}
