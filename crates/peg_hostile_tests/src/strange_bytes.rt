@@ -4,24 +4,22 @@ use std::alloc::{AllocError, Global};
 use std::process::Abort;
 use std::test::Fail;
 
-// These pieces one behind the other.
-fn joined(alloc: Global, pieces: &[&[u8]]) -> Result<Vec<u8>, AllocError> {
+// The file of a template, with these bytes in the place of each `@`.
+fn filled(alloc: Global, template: &[u8], bytes: &[u8]) -> Result<Vec<u8>, AllocError> {
     let mut file = Vec::new(alloc);
-    for piece in pieces {
-        file.extend_from_slice(piece)?;
+    for byte in template {
+        if *byte == b'@' {
+            file.extend_from_slice(bytes)?;
+        } else {
+            file.push(*byte)?;
+        }
     }
     Ok(file)
 }
 
 // A byte stands in literals of both kinds, in a class, at both ends of a range, and in a comment.
 fn assert_stands(rt: &impl Abort, alloc: Global, byte: u8) -> Result<(), Fail> {
-    let one = &[byte];
-    let file = joined(
-        alloc,
-        &[
-            b"A <- '", one, b"' \"", one, b"\" [", one, b"] [", one, b"-", one, b"] #", one, b"\n",
-        ],
-    )?;
+    let file = filled(alloc, b"A <- '@' \"@\" [@] [@-@] #@\n", &[byte])?;
     let text = &[byte, byte, byte, byte];
     let line =
         "{\"consumed\":4,\"expected\":[],\"far\":0,\"result\":\"matched\",\"rows\":[[1,\"A\",0,4]]}";
@@ -30,11 +28,10 @@ fn assert_stands(rt: &impl Abort, alloc: Global, byte: u8) -> Result<(), Fail> {
 
 // It doesn't stand between tokens, nor in a name.
 fn assert_no_token(rt: &impl Abort, alloc: Global, byte: u8) -> Result<(), Fail> {
-    let one = &[byte];
-    let between = joined(alloc, &[b"A ", one, b" <- 'x'"])?;
+    let between = filled(alloc, b"A @ <- 'x'", &[byte])?;
     let line = "{\"at\":2,\"column\":3,\"line\":1,\"refusal\":\"Syntax\"}";
     checks(rt, alloc, &between, (line, 2))?;
-    let inside = joined(alloc, &[b"A", one, b"B <- 'x'"])?;
+    let inside = filled(alloc, b"A@B <- 'x'", &[byte])?;
     let line = "{\"at\":1,\"column\":2,\"line\":1,\"refusal\":\"Syntax\"}";
     checks(rt, alloc, &inside, (line, 2))
 }
@@ -65,12 +62,7 @@ const LINE_ENDS: [&[u8]; 3] = [b"\n", b"\r\n", b"\r"];
 fn a_line_end_stands_between_tokens(rt: HostRuntime) -> Result<(), Fail> {
     let alloc = rt.alloc();
     for end in LINE_ENDS {
-        let first = [end, b"A", end, b"<-", end, b"!", end, b"'x'", end, b"/"];
-        let second = [
-            end, b"(", end, b"'y'", end, b")", end, b"*", end, b"#c", end,
-        ];
-        let mut file = joined(alloc, &first)?;
-        file.extend_from_slice(&joined(alloc, &second)?)?;
+        let file = filled(alloc, b"@A@<-@!@'x'@/@(@'y'@)@*@#c@", end)?;
         let accepted = ("{\"result\":\"accepted\",\"rules\":1}", 0);
         checks(&rt, alloc, &file, accepted)?;
     }
@@ -82,7 +74,7 @@ fn a_line_end_stands_in_a_literal(rt: HostRuntime) -> Result<(), Fail> {
     let alloc = rt.alloc();
     for end in LINE_ENDS {
         let length = end.len();
-        let file = joined(alloc, &[b"A <- '", end, b"'"])?;
+        let file = filled(alloc, b"A <- '@'", end)?;
         let line = format!(in alloc;
             "{{\"consumed\":{length},\"expected\":[],\"far\":0,\"result\":\"matched\",\"rows\":[[1,\"A\",0,{length}]]}}"
         )?;
@@ -97,7 +89,7 @@ fn the_bytes_of_a_line_end_stand_in_a_class(rt: HostRuntime) -> Result<(), Fail>
     for end in LINE_ENDS {
         let length = end.len();
         let behind = length.saturating_add(7);
-        let file = joined(alloc, &[b"A <- [", end, b"]+"])?;
+        let file = filled(alloc, b"A <- [@]+", end)?;
         let line = format!(in alloc;
             "{{\"consumed\":{length},\"expected\":[[5,{behind}]],\"far\":{length},\"result\":\"matched\",\"rows\":[[1,\"A\",0,{length}]]}}"
         )?;
@@ -110,7 +102,7 @@ fn the_bytes_of_a_line_end_stand_in_a_class(rt: HostRuntime) -> Result<(), Fail>
 fn a_line_end_parts_an_arrow(rt: HostRuntime) -> Result<(), Fail> {
     let alloc = rt.alloc();
     for end in LINE_ENDS {
-        let file = joined(alloc, &[b"A <", end, b"- 'x'"])?;
+        let file = filled(alloc, b"A <@- 'x'", end)?;
         let line = "{\"at\":2,\"column\":3,\"line\":1,\"refusal\":\"Syntax\"}";
         checks(&rt, alloc, &file, (line, 2))?;
     }
