@@ -14,7 +14,8 @@ use Rattle.peg_parser.proofs.CoreStarts.{number-named, same-bodies}
 pub of-program : (parser : Parser) (text : List ℕ) (start : ℕ) (most : Option ℕ)
     → TakesMore (bodies_of parser.program.core) text start most
     → TakesMore (core_bodies (parser_rules parser)) text start most
-of-program parser text start most = subst (λ (bodies : List CoreForm). TakesMore bodies text start most) (same-bodies parser)
+of-program parser text start most =
+    subst (λ (bodies : List CoreForm). TakesMore bodies text start most) (same-bodies parser)
 
 pub to-program : (parser : Parser) (text : List ℕ) (start : ℕ) (most : Option ℕ)
     → TakesMore (core_bodies (parser_rules parser)) text start most

@@ -9,4 +9,5 @@ use Rattle.peg_machine.specs.CoreOutcome.{TakesMore}
 -- and the plain steps from it, those of the code of the grammar's core forms, are more than that number.
 abbrev pub TakesMoreSteps : List Rule → List ℕ → (start : Option (List ℕ)) → (most : Option ℕ) → Type 0
 TakesMoreSteps rules text start most =
-    (from : List ℕ) × (start_of rules start ≡ Some from) × TakesMore (core_bodies rules) text (number_of rules from) most
+    (from : List ℕ) × (start_of rules start ≡ Some from)
+    × TakesMore (core_bodies rules) text (number_of rules from) most

@@ -144,9 +144,9 @@ impl Parser {
 
     /// What a rule of the grammar makes of a text's front: success, consumed length, tree and furthest failure are
     /// those of Ford's recognition relation for the grammar as written (Ford 2004, section 3.3), whatever the memo keeps
-    /// (Ford 2002). `NoSuchStart` comes first, then `TextTooLong`; `StepLimit` only where more than `options.steps` steps
-    /// are needed. Without a memo, or with one too small, it may take time exponential in the text's length; no native
-    /// recursion.
+    /// (Ford 2002). `NoSuchStart` comes first, then `TextTooLong`; `StepLimit` only where more steps are needed than
+    /// `options.steps`. Without a memo, or with one too small, it may take time exponential in the text's length; no
+    /// native recursion.
     pub fn parse(
         &self,
         alloc: Global,
