@@ -88,7 +88,8 @@ run 2 /dev/null parse "$folder/refused.peg" "$folder"
 file_fault parse "$folder/refused.peg" "$folder/missing"
 
 # Words that are no command line.
-for words in "parse json.peg" "parse json.peg text --memo 1000001" "parse json.peg text --memo -1" "tables json.peg"; do
+for words in "parse json.peg" "parse json.peg text --memo 1000001" "parse json.peg text --memo -1" \
+  "parse json.peg text --steps 0" "parse json.peg text --steps 1000000000001" "tables json.peg"; do
   # shellcheck disable=SC2086
   run 3 /dev/null $words
   grep -q '^error: ' "$folder/told" || fault "nothing is told: $words"

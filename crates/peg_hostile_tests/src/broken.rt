@@ -222,6 +222,7 @@ fn parse(
     let options = ParseOptions {
         start: None,
         memo: 4096,
+        steps: None,
     };
     let all = false;
     run_tool(

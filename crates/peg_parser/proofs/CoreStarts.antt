@@ -76,6 +76,12 @@ length-bodies parser =
     sym (length-map parser.program.core.bodies (form_at parser.program.core.forms))
     ∙ ap length (same-bodies parser) ∙ length-core_bodies (parser_rules parser)
 
+-- the name of one of its rules has that rule's number
+pub number-named : (parser : Parser) (start : ℕ) → start < length (parser_rules parser)
+    → number_of (parser_rules parser) (name_of (parser_rules parser) start) ≡ start
+number-named parser start less =
+    ∥∥₁_elim parser.grammar.grammar (ℕ_set _ _) (number_of-named (parser_rules parser) start less)
+
 -- ---- outcomes
 
 -- the outcome of a rule's use among core forms is that of the rule's name
@@ -96,7 +102,5 @@ pub parser-outcome : (parser : Parser) (text : List ℕ) (start : ℕ) (outcome 
     → IsOutcome (parser_rules parser) text (name_of (parser_rules parser) start) outcome
 parser-outcome parser text start outcome bytes less is =
     let rules = parser_rules parser in
-    let number : number_of rules (name_of rules start) ≡ start =
-    ∥∥₁_elim parser.grammar.grammar (ℕ_set _ _) (number_of-named rules start less) in
-    written-outcome rules text start outcome bytes number
+    written-outcome rules text start outcome bytes (number-named parser start less)
     (subst (λ (bodies : List CoreForm). IsCoreOutcome bodies text start outcome) (same-bodies parser) is)

@@ -8,3 +8,4 @@ mod NameLemmas
 pub mod OutcomeFits
 mod RuleNames
 mod StartLemmas
+mod StepLemmas

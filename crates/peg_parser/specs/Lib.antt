@@ -18,6 +18,7 @@ pub use Rattle.peg_grammar.specs.GrammarRules
 pub use Rattle.peg_grammar.specs.Limits
 pub use Rattle.peg_grammar.specs.Outcomes
 pub use Rattle.peg_lexer.specs.Tokens
+pub use Rattle.peg_machine.specs.CoreOutcome
 pub use Rattle.peg_notation.specs.Reads
 pub use Rattle.peg_notation.specs.Spans
 pub use Rattle.peg_spelling.specs.FigureTrees
@@ -30,3 +31,4 @@ pub mod Fits
 pub mod Parser
 pub mod ReadsByFigure
 pub mod Refusals
+pub mod StepLimits

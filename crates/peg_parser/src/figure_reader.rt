@@ -84,6 +84,7 @@ fn tree_by(alloc: Global, parser: &Parser, file: &[u8]) -> Result<Tree, FigureFa
     let options = ParseOptions {
         start: None,
         memo: 0,
+        steps: None,
     };
     match parser.parse(alloc, file, &options) {
         Ok(answer) => match tree_of(answer.outcome) {
@@ -92,6 +93,7 @@ fn tree_by(alloc: Global, parser: &Parser, file: &[u8]) -> Result<Tree, FigureFa
         },
         Err(ParseFault::NoSuchStart) => unreachable!(),
         Err(ParseFault::TextTooLong) => unreachable!(),
+        Err(ParseFault::StepLimit) => unreachable!(),
         Err(ParseFault::Memory) => Err(FigureFault::Memory),
     }
 }

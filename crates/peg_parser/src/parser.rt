@@ -11,6 +11,7 @@ ghost use Rattle.peg_grammar.specs.GrammarRules.{rules_in};
 ghost use Rattle.peg_grammar.specs.Outcomes.{IsOutcome};
 ghost use Rattle.peg_ford.specs.Terminals.{extents_of_terminals};
 ghost use Rattle.peg_ford.specs.WellFormed.{IsWellFormedGrammar};
+ghost use Rattle.peg_machine.specs.CoreOutcome.{TakesMore};
 
 use crate::layers::{checked_core, grammar_of};
 use crate::options::ParseOptions;
@@ -46,6 +47,9 @@ pub enum ParseFault {
     /// The text has more than 67,108,864 bytes.
     #[error("the text is too long")]
     TextTooLong,
+    /// The parse takes more steps than were allowed.
+    #[error("the parse takes more steps than were allowed")]
+    StepLimit,
     /// Memory ran out.
     #[error("out of memory")]
     Memory,
@@ -70,6 +74,7 @@ impl Parser {
     ghost use Rattle.peg_parser.specs.Fits.{Fits};
     ghost use Rattle.peg_parser.specs.Parser.{parser_rules, start_named};
     ghost use Rattle.peg_parser.specs.Refusals.{Refuses};
+    ghost use Rattle.peg_parser.specs.StepLimits.{TakesMoreSteps};
     ghost use Rattle.peg_grammar.specs.Limits.{most_text_bytes};
     ghost use Rattle.peg_ford.specs.Starts.{start_of};
 
@@ -139,8 +144,9 @@ impl Parser {
 
     /// What a rule of the grammar makes of a text's front: success, consumed length, tree and furthest failure are
     /// those of Ford's recognition relation for the grammar as written (Ford 2004, section 3.3), whatever the memo keeps
-    /// (Ford 2002). `NoSuchStart` comes first, then `TextTooLong`. Without a memo, or with one too small, it may take time
-    /// exponential in the text's length; no native recursion.
+    /// (Ford 2002). `NoSuchStart` comes first, then `TextTooLong`; `StepLimit` only where more steps are needed than
+    /// `options.steps`. Without a memo, or with one too small, it may take time exponential in the text's length; no
+    /// native recursion.
     pub fn parse(
         &self,
         alloc: Global,
@@ -155,24 +161,32 @@ impl Parser {
         ensures outcome { IfOk result (λ answer. IfSome (start_of (parser_rules self.now) (start_named options.now))
             (λ start. IsOutcome (parser_rules self.now) text.now start answer.outcome)) }
         ensures fits { IfOk result (λ answer. Fits (parser_rules self.now) answer.outcome) }
+
+        // A limit of steps: an answer keeps to it, and where more are needed without a memo there is no answer.
+        ensures allowed { IfOk result (λ answer. (limit : ℕ) → options.now.steps ≡ Some limit → answer.steps ≤ limit) }
+        ensures limited { IsErrOf result ParseFault.StepLimit
+            → TakesMoreSteps (parser_rules self.now) text.now (start_named options.now) options.now.steps }
+        ensures enough { options.now.memo ≡ 0 → OnOk result
+            (¬ TakesMoreSteps (parser_rules self.now) text.now (start_named options.now) options.now.steps) }
     {
         let Some(start) = self.start(options) else {
             return Err(ParseFault::NoSuchStart);
         };
         if options.memo == 0 || text.len() > MOST_TEXT_BYTES {
-            return self.answer(alloc, text, start, &mut NoMemo);
+            return self.answer(alloc, text, start, &mut NoMemo, options.steps);
         }
         let mut memo = Selective::new(alloc, options.memo, &self.costs, text)?;
-        self.answer(alloc, text, start, &mut memo)
+        self.answer(alloc, text, start, &mut memo, options.steps)
     }
 
-    // What the machine makes of a text from a rule, with a memo that holds nothing yet.
+    // What the machine makes of a text from a rule, with a memo that holds nothing yet, in at most so many steps.
     fn answer<K: Keep>(
         &self,
         alloc: Global,
         text: &[u8],
         start: u32,
         memo: &mut K,
+        most: Option<u64>,
     ) -> Result<Answer, ParseFault>
         requires start { start < length (parser_rules self.now) }
         requires empty { map.len (K.held memo.old) ≡ 0 }
@@ -180,12 +194,17 @@ impl Parser {
         ensures long { IsErrOf result ParseFault.TextTooLong ↔ (most_text_bytes < length text.now) }
         ensures outcome { IfOk result (λ answer. IsOutcome (parser_rules self.now) text.now
             (name_of (parser_rules self.now) start) answer.outcome) }
+        ensures allowed { IfOk result (λ answer. (limit : ℕ) → most ≡ Some limit → answer.steps ≤ limit) }
+        ensures limited { IsErrOf result ParseFault.StepLimit
+            → TakesMore (core_bodies (parser_rules self.now)) text.now start most }
+        ensures enough { ((any : K) → map.len (K.held any) ≡ 0)
+            → OnOk result (¬ TakesMore (core_bodies (parser_rules self.now)) text.now start most) }
     {
-        match run(alloc, &self.program, text, start, memo, &mut NoWatch, None) {
+        match run(alloc, &self.program, text, start, memo, &mut NoWatch, most) {
             Ok(answer) => Ok(answer),
             Err(RunFault::TextTooLong) => Err(ParseFault::TextTooLong),
+            Err(RunFault::StepLimit) => Err(ParseFault::StepLimit),
             Err(RunFault::Memory) => Err(ParseFault::Memory),
-            Err(RunFault::StepLimit) => unreachable!(),
         }
     }
 

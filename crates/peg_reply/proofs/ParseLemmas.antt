@@ -28,32 +28,36 @@ record Parse (rules : List Rule) (text : List ℕ) (start : Option (List ℕ)) (
   recognized : Recognizes rules text from r
   furthest : IsFurthest r.tests far expected
 
-deep-parses : (rules : List Rule) (text : List ℕ) (start : Option (List ℕ)) (all rows : Bool) (r : Record) (far : ℕ)
-    (expected : List ℕ) (result : Parsed) → Parse rules text start r far expected → result ≡ parsed_of r.result
-    → rows ≡ false → IsDeep result → ParsesTo rules text start all rows (Refused TooDeep)
-deep-parses rules text start all rows r far expected parsed.Failed it is nested deep = absurd deep
-deep-parses rules text start all rows r far expected (parsed.Matched end tree) it is nested deep =
+deep-parses : (rules : List Rule) (text : List ℕ) (start : Option (List ℕ)) (steps : Option ℕ) (all rows : Bool)
+    (r : Record) (far : ℕ) (expected : List ℕ) (result : Parsed) → Parse rules text start r far expected
+    → result ≡ parsed_of r.result
+    → rows ≡ false → IsDeep result → ParsesTo rules text start steps all rows (Refused TooDeep)
+deep-parses rules text start steps all rows r far expected parsed.Failed it is nested deep = absurd deep
+deep-parses rules text start steps all rows r far expected (parsed.Matched end tree) it is nested deep =
     too_many_levels it.within it.starts it.recognized (parsed-matched r.result end tree is) nested deep
 
 -- what isn't over a number is at most that
 not-over : (a b : ℕ) → ¬ (a < b) → b ≤ a
 not-over a b not = elim (cases_lt a b) [ inl less ↦ absurd (not less) | inr other ↦ other ]
 
-result-parses : (rules : List Rule) (text : List ℕ) (start : Option (List ℕ)) (all rows : Bool) (r : Record) (far : ℕ)
-    (expected : List ℕ) (result : Parsed) → Parse rules text start r far expected → result ≡ parsed_of r.result
+result-parses : (rules : List Rule) (text : List ℕ) (start : Option (List ℕ)) (steps : Option ℕ) (all rows : Bool)
+    (r : Record) (far : ℕ) (expected : List ℕ) (result : Parsed) → Parse rules text start r far expected
+    → result ≡ parsed_of r.result
     → (rows ≡ false → ¬ IsDeep result)
-    → ParsesTo rules text start all rows (result_reply rules (length text) all rows far (extents_at rules expected) result)
-result-parses rules text start all rows r far expected parsed.Failed it is shallow =
+    → ParsesTo rules text start steps all rows
+    (result_reply rules (length text) all rows far (extents_at rules expected) result)
+result-parses rules text start steps all rows r far expected parsed.Failed it is shallow =
     failed it.within it.starts it.recognized (parsed-failed r.result is) it.furthest
-result-parses rules text start all rows r far expected (parsed.Matched end tree) it is shallow =
+result-parses rules text start steps all rows r far expected (parsed.Matched end tree) it is shallow =
     matched it.within it.starts it.recognized (parsed-matched r.result end tree is)
     (λ nested. not-over most_levels (levels tree) (shallow nested)) it.furthest
 
-pub prints-parses : (rules : List Rule) (text : List ℕ) (start : Option (List ℕ)) (all rows : Bool) (outcome : Outcome)
+pub prints-parses : (rules : List Rule) (text : List ℕ) (start : Option (List ℕ)) (steps : Option ℕ) (all rows : Bool)
+    (outcome : Outcome)
     → length text ≤ most_text_bytes → (from : List ℕ) → start_of rules start ≡ Some from
     → IsOutcome rules text from outcome → (reply : Reply)
-    → PrintsOutcome rules outcome (length text) all rows reply → ParsesTo rules text start all rows reply
-prints-parses rules text start all rows outcome within from starts is reply prints = by prints
+    → PrintsOutcome rules outcome (length text) all rows reply → ParsesTo rules text start steps all rows reply
+prints-parses rules text start steps all rows outcome within from starts is reply prints = by prints
   where
     r : Record
     r = is.1.0
@@ -67,19 +71,22 @@ prints-parses rules text start all rows outcome within from starts is reply prin
       furthest = is.1.3;
     }
 
-    by : PrintsOutcome rules outcome (length text) all rows reply → ParsesTo rules text start all rows reply
+    by : PrintsOutcome rules outcome (length text) all rows reply → ParsesTo rules text start steps all rows reply
     by (inl deep) =
-        subst (ParsesTo rules text start all rows) (sym deep.2)
-        (deep-parses rules text start all rows r outcome.far outcome.expected.items outcome.result it is.1.2 deep.0 deep.1)
+        subst (ParsesTo rules text start steps all rows) (sym deep.2)
+        (deep-parses rules text start steps all rows r outcome.far outcome.expected.items outcome.result it is.1.2
+        deep.0 deep.1)
     by (inr shallow) =
-        subst (ParsesTo rules text start all rows) (sym shallow.1)
-        (result-parses rules text start all rows r outcome.far outcome.expected.items outcome.result it is.1.2 shallow.0)
+        subst (ParsesTo rules text start steps all rows) (sym shallow.1)
+        (result-parses rules text start steps all rows r outcome.far outcome.expected.items outcome.result it is.1.2
+        shallow.0)
 
 -- a start that is no rule is named
-pub missing-parses : (rules : List Rule) (text : List ℕ) (start : Option (List ℕ)) (all rows : Bool) (name : List ℕ)
+pub missing-parses : (rules : List Rule) (text : List ℕ) (start : Option (List ℕ)) (steps : Option ℕ) (all rows : Bool)
+    (name : List ℕ)
     → length text ≤ most_text_bytes → start ≡ Some name → start_of rules start ≡ None
-    → ParsesTo rules text start all rows (Refused (NoSuchStart name))
-missing-parses rules text start all rows name within named none =
+    → ParsesTo rules text start steps all rows (Refused (NoSuchStart name))
+missing-parses rules text start steps all rows name within named none =
     no_such_start name within named (by (is_defined rules name) refl)
   where
     missing : start_of rules (Some name) ≡ None
@@ -91,16 +98,19 @@ missing-parses rules text start all rows name within named none =
         sym (ap (λ (b : Bool). if b then Some name else None) is) ∙ missing in cc
     by false is = is
 
-pub outcome-parses : (rules : List Rule) (text : List ℕ) (start : Option (List ℕ)) (all rows : Bool) (outcome : Outcome)
+pub outcome-parses : (rules : List Rule) (text : List ℕ) (start : Option (List ℕ)) (steps : Option ℕ) (all rows : Bool)
+    (outcome : Outcome)
     → length text ≤ most_text_bytes → (start_of rules start ≡ None → ⊥)
     → IfSome (start_of rules start) (λ from. IsOutcome rules text from outcome) → (reply : Reply)
-    → PrintsOutcome rules outcome (length text) all rows reply → ParsesTo rules text start all rows reply
-outcome-parses rules text start all rows outcome within some is reply prints = by (start_of rules start) refl some is
+    → PrintsOutcome rules outcome (length text) all rows reply → ParsesTo rules text start steps all rows reply
+outcome-parses rules text start steps all rows outcome within some is reply prints =
+    by (start_of rules start) refl some is
   where
     by : (found : Option (List ℕ)) → start_of rules start ≡ found → (found ≡ None → ⊥)
-        → IfSome found (λ from. IsOutcome rules text from outcome) → ParsesTo rules text start all rows reply
+        → IfSome found (λ from. IsOutcome rules text from outcome) → ParsesTo rules text start steps all rows reply
     by None there some is = absurd (some refl)
-    by (Some from) there some is = prints-parses rules text start all rows outcome within from there is reply prints
+    by (Some from) there some is =
+        prints-parses rules text start steps all rows outcome within from there is reply prints
 
 -- where there is no start, one was named
 pub start-given : (rules : List Rule) (start : Option (List ℕ)) → start_of rules start ≡ None

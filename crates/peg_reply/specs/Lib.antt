@@ -16,6 +16,7 @@ pub use Rattle.peg_parser.specs.Cause
 pub use Rattle.peg_parser.specs.Faults
 pub use Rattle.peg_parser.specs.Fits
 pub use Rattle.peg_parser.specs.Parser
+pub use Rattle.peg_parser.specs.StepLimits
 pub use Rattle.peg_tree.specs.Json
 pub use Rattle.peg_tree.specs.Names
 pub use Rattle.peg_tree.specs.Nodes

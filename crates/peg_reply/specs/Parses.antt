@@ -12,7 +12,8 @@ use Rattle.peg_tree.specs.Trees.{Trees, levels}
 use Rattle.peg_tree.specs.declared.outcome.Outcome.{Outcome}
 use Rattle.peg_tree.specs.declared.outcome.Parsed.{Parsed}
 use Rattle.peg_tree.specs.declared.outcome.Parsed.TheVariants as parsed
-use Rattle.peg_parser.specs.Cause.{NoSuchStart, TooDeep, TextTooLong}
+use Rattle.peg_parser.specs.Cause.{NoSuchStart, StepLimit, TooDeep, TextTooLong}
+use Rattle.peg_parser.specs.StepLimits.{TakesMoreSteps}
 use Rattle.peg_grammar.specs.Limits.{most_text_bytes}
 use Rattle.peg_ford.specs.Starts.{Recognizes, start_of}
 use Rattle.peg_reply.specs.Reply.{Reply, Refused, Failed, Matched}
@@ -22,24 +23,28 @@ abbrev pub extents_at : List Rule → List ℕ → List Extent
 extents_at rules terminals = map (λ terminal. slice_index_or (extents_of_terminals rules) terminal (between 0 0))
     terminals
 
--- The reply to a parse of a text: from which start, must the whole text match, is the tree told by its rows? A text
--- that is too long comes before a start that is no rule.
-pub data ParsesTo (rules : List Rule) (text : List ℕ) (start : Option (List ℕ)) (all rows : Bool) : Reply → Type 0 where
-  text_too_long : most_text_bytes < length text → ParsesTo rules text start all rows (Refused TextTooLong)
+-- The reply to a parse of a text: from which start, how many steps may it take, must the whole text match, is the tree
+-- told by its rows? A text that is too long comes before a start that is no rule. Where the parse takes more steps than
+-- were asked for, that may be told, or else what comes of it.
+pub data ParsesTo (rules : List Rule) (text : List ℕ) (start : Option (List ℕ)) (steps : Option ℕ) (all rows : Bool)
+    : Reply → Type 0 where
+  text_too_long : most_text_bytes < length text → ParsesTo rules text start steps all rows (Refused TextTooLong)
   no_such_start : (name : List ℕ) → length text ≤ most_text_bytes → start ≡ Some name → is_defined rules name ≡ false
-      → ParsesTo rules text start all rows (Refused (NoSuchStart name))
+      → ParsesTo rules text start steps all rows (Refused (NoSuchStart name))
+  too_many_steps : length text ≤ most_text_bytes → TakesMoreSteps rules text start steps
+      → ParsesTo rules text start steps all rows (Refused StepLimit)
   failed : {from : List ℕ} {r : Record} {far : ℕ} {terminals : List ℕ} → length text ≤ most_text_bytes
       → start_of rules start ≡ Some from → Recognizes rules text from r → r.result ≡ recognition.Failed
       → IsFurthest r.tests far terminals
-      → ParsesTo rules text start all rows (Failed far (extents_at rules terminals))
+      → ParsesTo rules text start steps all rows (Failed far (extents_at rules terminals))
   too_many_levels : {from : List ℕ} {r : Record} {end : ℕ} {tree : Trees} → length text ≤ most_text_bytes
       → start_of rules start ≡ Some from → Recognizes rules text from r → r.result ≡ recognition.Matched end tree
-      → rows ≡ false → most_levels < levels tree → ParsesTo rules text start all rows (Refused TooDeep)
+      → rows ≡ false → most_levels < levels tree → ParsesTo rules text start steps all rows (Refused TooDeep)
   matched : {from : List ℕ} {r : Record} {end far : ℕ} {terminals : List ℕ} {tree : Trees}
       → length text ≤ most_text_bytes → start_of rules start ≡ Some from → Recognizes rules text from r
       → r.result ≡ recognition.Matched end tree → (rows ≡ false → levels tree ≤ most_levels)
       → IsFurthest r.tests far terminals
-      → ParsesTo rules text start all rows
+      → ParsesTo rules text start steps all rows
       (Matched (all && nat_lt end (length text)) rows end far (extents_at rules terminals) (names rules) tree)
 
 -- the reply that prints an outcome, for a text of this length

@@ -22,7 +22,8 @@ pub use code_text::code_json;
 pub use fault::Fault;
 pub use line::Line;
 pub use lines::{
-    accepted_line, answer_line, code_line, long_text_line, no_start_line, refused_line, table_line,
+    accepted_line, answer_line, code_line, long_text_line, no_start_line, refused_line,
+    step_limit_line, table_line,
 };
 pub use refusal_text::refusal_json;
 pub use row_lines::rows_line;

@@ -6,7 +6,7 @@ ghost use Rattle.serde_json.specs.View.{view};
 ghost use Rattle.peg_check.specs.Cans.{can_of};
 ghost use Rattle.peg_ford.specs.Rules.{names};
 ghost use Rattle.peg_grammar.specs.GrammarRules.{rules_in};
-ghost use Rattle.peg_parser.specs.Cause.{Cause, NoSuchStart, TextTooLong};
+ghost use Rattle.peg_parser.specs.Cause.{Cause, NoSuchStart, StepLimit, TextTooLong};
 ghost use Rattle.peg_parser.specs.Faults.{IsTellable, StartsIn, cause_told};
 ghost use Rattle.peg_parser.specs.Fits.{Fits};
 ghost use Rattle.peg_parser.specs.Parser.{parser_rules};
@@ -141,6 +141,14 @@ pub fn long_text_line(alloc: Global) -> Result<Line, AllocError>
         IsReply file (Refused TextTooLong) (line_bytes line) (code_of line.status)) }
 {
     fault_line(alloc, &Fault::TextTooLong, &[], &[])
+}
+
+/// The line that tells that a parse takes more steps than were allowed.
+pub fn step_limit_line(alloc: Global) -> Result<Line, AllocError>
+    ensures { (file : List ℕ) → IfOk result (λ line.
+        IsReply file (Refused StepLimit) (line_bytes line) (code_of line.status)) }
+{
+    fault_line(alloc, &Fault::StepLimit, &[], &[])
 }
 
 impl<'a> Fault<'a> {

@@ -16,7 +16,7 @@ pub enum Status {
     File,
     /// Memory ran out.
     Memory,
-    /// The answer or the text is over a limit.
+    /// The answer, the text or the steps of the parse are over a limit.
     Limit,
 }
 

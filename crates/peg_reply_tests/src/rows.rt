@@ -10,6 +10,7 @@ fn told(alloc: Global, file: &[u8], text: &[u8]) -> Result<Line, Fail> {
     let options = ParseOptions {
         start: None,
         memo: DEFAULT_MEMO,
+        steps: None,
     };
     let answer = parser.parse(alloc, text, &options)?;
     let text_len = u32::try_from(text.len()).ok().ok_or("a short text")?;

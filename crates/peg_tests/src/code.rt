@@ -101,6 +101,7 @@ fn code_that_is_too_large_is_refused(rt: HostRuntime) -> Result<(), Fail> {
     let options = ParseOptions {
         start: None,
         memo: 0,
+        steps: None,
     };
     let parse = Command::Parse {
         options,

@@ -32,7 +32,8 @@ pub(crate) fn replies(
 // A parse from the start of this name.
 pub(crate) fn parse(start: Option<&str>, all: bool, rows: bool) -> Command<'_> {
     let memo = 4096;
-    let options = ParseOptions { start, memo };
+    let steps = None;
+    let options = ParseOptions { start, memo, steps };
     Command::Parse { options, all, rows }
 }
 
@@ -205,6 +206,25 @@ fn refused_parses_tell_why(rt: HostRuntime) -> Result<(), Fail> {
         "{\"refusal\":\"TooDeep\"}",
         6,
     )?;
+    let command = Command::Parse {
+        options: ParseOptions {
+            start: None,
+            memo: 4096,
+            steps: Some(14),
+        },
+        all: false,
+        rows: false,
+    };
+    replies(
+        &rt,
+        alloc,
+        &command,
+        file,
+        b"aab",
+        "{\"refusal\":\"StepLimit\"}",
+        6,
+    )?;
+    let command = parse(None, false, false);
     let long = vec![in alloc; b'a'; 67_108_865]?;
     replies(
         &rt,

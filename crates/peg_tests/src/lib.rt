@@ -20,6 +20,8 @@ mod parser;
 #[cfg(test)]
 mod readers;
 #[cfg(test)]
+mod steps;
+#[cfg(test)]
 mod tool;
 #[cfg(test)]
 mod words;

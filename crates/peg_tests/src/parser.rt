@@ -25,7 +25,8 @@ fn tells(
     let parser = Parser::from_file(alloc, file)?;
     let text_len = u32::try_from(text.len()).ok().ok_or("a short text")?;
     for memo in MEMOS {
-        let answer = parser.parse(alloc, text, &ParseOptions { start, memo })?;
+        let steps = None;
+        let answer = parser.parse(alloc, text, &ParseOptions { start, memo, steps })?;
         let told = answer_json(alloc, &parser, &answer, text_len, false, false)?;
         assert!(rt; told.as_str() == line, "{told} at {memo}");
     }
@@ -59,6 +60,7 @@ fn starts_nowhere(rt: &impl Abort, alloc: Global, parser: &Parser, name: &str) -
         let options = ParseOptions {
             start: Some(name),
             memo,
+            steps: None,
         };
         let fault = parser.parse(alloc, b"a", &options).err();
         assert_eq!(rt; fault, Some(ParseFault::NoSuchStart), "at {memo}");

@@ -79,6 +79,7 @@ fn the_figure_is_accepted_and_parses_itself(rt: HostRuntime) -> Result<(), Fail>
     let options = ParseOptions {
         start: None,
         memo: 4096,
+        steps: None,
     };
     let parse = Command::Parse {
         options,

@@ -110,6 +110,7 @@ fn the_options_of_a_parse_are_passed_on(rt: HostRuntime) -> Result<(), Fail> {
     let start =
         "{\"consumed\":1,\"expected\":[[16,19]],\"far\":0,\"result\":\"partial\",\"rows\":[[1,\"T\",0,1]]}\n";
     let none = "{\"name\":\"U\",\"refusal\":\"NoSuchStart\"}\n";
+    let limit = "{\"refusal\":\"StepLimit\"}\n";
     let cases = [
         ("parse line aab --rows", rows, 0),
         ("parse line aab --rows --memo 0", rows, 0),
@@ -118,6 +119,8 @@ fn the_options_of_a_parse_are_passed_on(rt: HostRuntime) -> Result<(), Fail> {
         ("parse short bcd --all", part, 1),
         ("parse short bcd --start T --memo 1 --all --rows", start, 1),
         ("parse short bcd --start U", none, 3),
+        ("parse line aab --rows --steps 15", rows, 0),
+        ("parse line aab --rows --steps 14", limit, 6),
     ];
     for (text, line, status) in cases {
         let words = words_of(rt.alloc(), text)?;

@@ -64,14 +64,14 @@ pub takes_any : (task : Task) (file : List ℕ) (left : Option (List ℕ)) (byte
 takes_any TableTask file left bytes other = tt
 takes_any CheckTask file left bytes other = tt
 takes_any CodeTask file left bytes other = tt
-takes_any (ParseTask start all rows) file left bytes other = absurd (other tt)
+takes_any (ParseTask start steps all rows) file left bytes other = absurd (other tt)
 
 pub takes_left : (task : Task) (file : List ℕ) (left : Option (List ℕ)) (bytes : List ℕ) → left ≡ Some bytes
     → IsTextOf task file left bytes
 takes_left TableTask file left bytes is = tt
 takes_left CheckTask file left bytes is = tt
 takes_left CodeTask file left bytes is = tt
-takes_left (ParseTask start all rows) file left bytes is = λ rules accepts. is
+takes_left (ParseTask start steps all rows) file left bytes is = λ rules accepts. is
 
 -- a run of the tool over an opened file is an outcome of the program, for each text that it may be about
 pub opened-outcome : (task : Task) (held left text old new : Option (List ℕ)) (ended : Result ℕ ToolFault)
@@ -116,15 +116,16 @@ both-outcome task (Some file) (Some bytes) text old new result opened outcome =
 
 -- the program's answer to a parse, by the names and the start of the words
 pub parse-leads : (holds : List ℕ → Option (List ℕ)) (old new : Option (List ℕ)) (result : Result ℕ ProgramFault)
-    (g t g' t' : List ℕ) (start start' : Option (List ℕ)) (all rows : Bool) → g ≡ g' → t ≡ t' → start ≡ start'
+    (g t g' t' : List ℕ) (start start' : Option (List ℕ)) (steps : Option ℕ) (all rows : Bool) → g ≡ g' → t ≡ t'
+    → start ≡ start'
     → IfSome (holds g) (λ file. IfSome (holds t) (λ text.
-    Outcome (IsPrinted (ParseTask start all rows) file text) old new result))
+    Outcome (IsPrinted (ParseTask start steps all rows) file text) old new result))
     → IfSome (holds g') (λ file. IfSome (holds t') (λ text.
-    Outcome (IsPrinted (ParseTask start' all rows) file text) old new result))
-parse-leads holds old new result g t g' t' start start' all rows same same_text same_start outcome =
+    Outcome (IsPrinted (ParseTask start' steps all rows) file text) old new result))
+parse-leads holds old new result g t g' t' start start' steps all rows same same_text same_start outcome =
     subst (λ (s : Option (List ℕ)). IfSome (holds g') (λ file. IfSome (holds t') (λ text.
-    Outcome (IsPrinted (ParseTask s all rows) file text) old new result))) same_start
+    Outcome (IsPrinted (ParseTask s steps all rows) file text) old new result))) same_start
     (subst (λ (name : List ℕ). IfSome (holds g') (λ file. IfSome (holds name) (λ text.
-    Outcome (IsPrinted (ParseTask start all rows) file text) old new result))) same_text
+    Outcome (IsPrinted (ParseTask start steps all rows) file text) old new result))) same_text
     (subst (λ (name : List ℕ). IfSome (holds name) (λ file. IfSome (holds t) (λ text.
-    Outcome (IsPrinted (ParseTask start all rows) file text) old new result))) same outcome))
+    Outcome (IsPrinted (ParseTask start steps all rows) file text) old new result))) same outcome))

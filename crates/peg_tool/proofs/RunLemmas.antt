@@ -14,7 +14,8 @@ use Rattle.peg_parser.specs.Refusals.{IsNoGrammar, IsIllFormed, code_too_large, 
 use Rattle.peg_parser.specs.Refusals.{a_name_missing, too_many_parts, empty_loop, left_recursion}
 use Rattle.peg_grammar.specs.Limits.{most_text_bytes}
 use Rattle.peg_reply.specs.Lines.{IsLineOf, line_bytes}
-use Rattle.peg_reply.specs.Parses.{ParsesTo, text_too_long, no_such_start, failed, too_many_levels, matched}
+use Rattle.peg_reply.specs.Parses.{ParsesTo, text_too_long, no_such_start, too_many_steps, failed, too_many_levels}
+use Rattle.peg_reply.specs.Parses.{matched}
 use Rattle.peg_reply.specs.Reply.{Reply, Refused, printed_line, status_of}
 use Rattle.peg_reply.specs.Statuses.{code_of}
 use Rattle.peg_reply.specs.declared.line.Line.{Line}
@@ -25,17 +26,22 @@ use Rattle.peg_tool.specs.Task.{Task, TableTask, CheckTask, CodeTask, ParseTask,
 -- ---- texts over the limit
 
 -- the reply to a parse of a text over the limit is that to any other text over it
-pub ParsesTo-longer : (rules : List Rule) (text more : List ℕ) (start : Option (List ℕ)) (all rows : Bool) (reply : Reply)
-    → most_text_bytes < length text → most_text_bytes < length more → ParsesTo rules text start all rows reply
-    → ParsesTo rules more start all rows reply
-ParsesTo-longer rules text more start all rows reply long longer (text_too_long over) = text_too_long longer
-ParsesTo-longer rules text more start all rows reply long longer (no_such_start name within named missing) =
+pub ParsesTo-longer : (rules : List Rule) (text more : List ℕ) (start : Option (List ℕ)) (steps : Option ℕ)
+    (all rows : Bool) (reply : Reply) → most_text_bytes < length text → most_text_bytes < length more
+    → ParsesTo rules text start steps all rows reply
+    → ParsesTo rules more start steps all rows reply
+ParsesTo-longer rules text more start steps all rows reply long longer (text_too_long over) = text_too_long longer
+ParsesTo-longer rules text more start steps all rows reply long longer (no_such_start name within named missing) =
     absurd (omega (arith, long, within))
-ParsesTo-longer rules text more start all rows reply long longer (failed within starts found is furthest) =
+ParsesTo-longer rules text more start steps all rows reply long longer (too_many_steps within more_steps) =
     absurd (omega (arith, long, within))
-ParsesTo-longer rules text more start all rows reply long longer (too_many_levels within starts found is nested deep) =
+ParsesTo-longer rules text more start steps all rows reply long longer (failed within starts found is furthest) =
     absurd (omega (arith, long, within))
-ParsesTo-longer rules text more start all rows reply long longer (matched within starts found is shallow furthest) =
+ParsesTo-longer rules text more start steps all rows reply long longer
+    (too_many_levels within starts found is nested deep) =
+    absurd (omega (arith, long, within))
+ParsesTo-longer rules text more start steps all rows reply long longer
+    (matched within starts found is shallow furthest) =
     absurd (omega (arith, long, within))
 
 -- the same for any task
@@ -47,8 +53,8 @@ RepliesTo-longer file text more task reply long longer (ill_formed checks is) = 
 RepliesTo-longer file text more task reply long longer (too_large checks is) = too_large checks is
 RepliesTo-longer file text more task reply long longer (accepted accepts) = accepted accepts
 RepliesTo-longer file text more task reply long longer (coded accepts) = coded accepts
-RepliesTo-longer file text more task reply long longer (parsed {rules} {start} {all} {rows} accepts is) =
-    parsed accepts (ParsesTo-longer rules text more start all rows reply long longer is)
+RepliesTo-longer file text more task reply long longer (parsed {rules} {start} {steps} {all} {rows} accepts is) =
+    parsed accepts (ParsesTo-longer rules text more start steps all rows reply long longer is)
 
 -- ---- files over the limit
 
@@ -151,22 +157,26 @@ right-held IsRight most front (Some input) (Some rest) held line status consumed
 -- ---- parses
 
 -- the line of a parse by an accepted file is that of its task
-pub parsed-printed : (file text : List ℕ) (rules : List Rule) (start : Option (List ℕ)) (all rows : Bool)
-    (line : List ℕ) (status : ℕ) → Accepts file rules → IsLineOf file (ParsesTo rules text start all rows) line status
-    → IsPrinted (ParseTask start all rows) file text line status
-parsed-printed file text rules start all rows line status accepts is = (is.0, parsed accepts is.1, is.2, is.3)
+pub parsed-printed : (file text : List ℕ) (rules : List Rule) (start : Option (List ℕ)) (steps : Option ℕ)
+    (all rows : Bool) (line : List ℕ) (status : ℕ) → Accepts file rules
+    → IsLineOf file (ParsesTo rules text start steps all rows) line status
+    → IsPrinted (ParseTask start steps all rows) file text line status
+parsed-printed file text rules start steps all rows line status accepts is = (is.0, parsed accepts is.1, is.2, is.3)
 
 -- what is told of the text that is read is told of the text
 pub parsed-told : (result : Result Line ReadFault) (file : List ℕ) (left : Option (List ℕ)) (bytes : List ℕ)
-    (rules : List Rule) (start : Option (List ℕ)) (all rows : Bool) → IsTextOf (ParseTask start all rows) file left bytes
+    (rules : List Rule) (start : Option (List ℕ)) (steps : Option ℕ) (all rows : Bool)
+    → IsTextOf (ParseTask start steps all rows) file left bytes
     → Accepts file rules
     → IfOk result (λ line. IfSome left (λ text.
-    IsPrinted (ParseTask start all rows) file text (line_bytes line) (code_of line.status)))
-    → IfOk result (λ line. IsPrinted (ParseTask start all rows) file bytes (line_bytes line) (code_of line.status))
-parsed-told (Ok line) file left bytes rules start all rows is accepts told =
+    IsPrinted (ParseTask start steps all rows) file text (line_bytes line) (code_of line.status)))
+    → IfOk result (λ line.
+    IsPrinted (ParseTask start steps all rows) file bytes (line_bytes line) (code_of line.status))
+parsed-told (Ok line) file left bytes rules start steps all rows is accepts told =
     subst (λ (text : Option (List ℕ)). IfSome text (λ read.
-    IsPrinted (ParseTask start all rows) file read (line_bytes line) (code_of line.status))) (is rules accepts) told
-parsed-told (Err why) file left bytes rules start all rows is accepts told = tt
+    IsPrinted (ParseTask start steps all rows) file read (line_bytes line) (code_of line.status)))
+    (is rules accepts) told
+parsed-told (Err why) file left bytes rules start steps all rows is accepts told = tt
 
 -- what is printed for a front that is over the limit of a text is what is printed for the whole text
 pub IsPrinted-text_front : (task : Task) (file front rest line : List ℕ) (status : ℕ)
@@ -215,7 +225,7 @@ any_text : (task : Task) (text : Option (List ℕ)) (file bytes : List ℕ) → 
 any_text TableTask text file bytes long = tt
 any_text CheckTask text file bytes long = tt
 any_text CodeTask text file bytes long = tt
-any_text (ParseTask start all rows) text file bytes long =
+any_text (ParseTask start steps all rows) text file bytes long =
     λ rules accepts. absurd (omega (arith, long, accepts.read.within))
 
 pub IsRightFor-front : (task : Task) (text : Option (List ℕ)) (front rest line : List ℕ) (status : ℕ)

@@ -9,4 +9,4 @@ abbrev pub task_of : Command → Task
 task_of Table = TableTask
 task_of Check = CheckTask
 task_of Code = CodeTask
-task_of (Parse options all rows) = ParseTask (start_named options) all rows
+task_of (Parse options all rows) = ParseTask (start_named options) options.steps all rows

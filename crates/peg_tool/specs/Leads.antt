@@ -35,9 +35,9 @@ Leads (Check g) holds input old new result = IfSome (holds (string_bytes g)) (λ
     (text : List ℕ) → Outcome (IsPrinted CheckTask file text) old new result)
 Leads (Code g) holds input old new result = IfSome (holds (string_bytes g)) (λ file.
     (text : List ℕ) → Outcome (IsPrinted CodeTask file text) old new result)
-Leads (Parse g t start memo all rows) holds input old new result =
+Leads (Parse g t start memo steps all rows) holds input old new result =
     IfSome (holds (string_bytes g)) (λ file. IfSome (holds (string_bytes t)) (λ text.
-    Outcome (IsPrinted (ParseTask (option_map string_bytes start) all rows) file text) old new result))
+    Outcome (IsPrinted (ParseTask (option_map string_bytes start) steps all rows) file text) old new result))
 
 -- ---- how answers are passed on
 

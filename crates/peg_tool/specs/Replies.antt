@@ -26,8 +26,9 @@ pub data RepliesTo (file text : List ℕ) : Task → Reply → Type 0 where
   accepted : {rules : List Rule} → Accepts file rules → RepliesTo file text CheckTask (Accepted (length rules))
   coded : {rules : List Rule} → Accepts file rules → RepliesTo file text CodeTask
       (Coded (program_code (core_bodies rules)) (entries_of (core_bodies rules)))
-  parsed : {rules : List Rule} {start : Option (List ℕ)} {all rows : Bool} {reply : Reply} → Accepts file rules
-      → ParsesTo rules text start all rows reply → RepliesTo file text (ParseTask start all rows) reply
+  parsed : {rules : List Rule} {start : Option (List ℕ)} {steps : Option ℕ} {all rows : Bool} {reply : Reply}
+      → Accepts file rules → ParsesTo rules text start steps all rows reply
+      → RepliesTo file text (ParseTask start steps all rows) reply
 
 -- a line and a status are those of the reply to a task on a grammar file and a text
 abbrev pub IsPrinted : Task → (file text : List ℕ) → (line : List ℕ) → (status : ℕ) → Type 0

@@ -64,6 +64,7 @@ fn line_for(alloc: Global, input: &[u8]) -> Result<Line, AllocError>
     let options = ParseOptions {
         start: None,
         memo: DEFAULT_MEMO,
+        steps: None,
     };
     match judge(alloc, file)? {
         Judged::Accepted(parser) => parse_line(

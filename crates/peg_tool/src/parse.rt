@@ -12,7 +12,9 @@ ghost use Rattle.peg_reply.specs.TreeForms.{is_rows};
 
 use peg_grammar::MOST_TEXT_BYTES;
 use peg_parser::{Answer, ParseFault, ParseOptions, Parser};
-use peg_reply::{Line, TreeForm, answer_line, long_text_line, no_start_line, rows_line};
+use peg_reply::{
+    Line, TreeForm, answer_line, long_text_line, no_start_line, rows_line, step_limit_line,
+};
 use std::alloc::{AllocError, Global};
 
 /// The line of a parse of a text: that it is too long comes before that the start is no rule.
@@ -25,13 +27,14 @@ pub(crate) fn parse_line(
     form: TreeForm,
 ) -> Result<Line, AllocError>
     ensures { (file : List ℕ) → IfOk result (λ line. IsLineOf file
-        (ParsesTo (parser_rules parser.now) text.now (start_named options.now) all (is_rows form))
+        (ParsesTo (parser_rules parser.now) text.now (start_named options.now) options.now.steps all (is_rows form))
         (line_bytes line) (code_of line.status)) }
 {
     match parser.parse(alloc, text, options) {
         Ok(answer) => told(alloc, parser, answer, text.len() as u32, all, form),
         Err(ParseFault::NoSuchStart) => no_start(alloc, text, options.start),
         Err(ParseFault::TextTooLong) => long_text_line(alloc),
+        Err(ParseFault::StepLimit) => step_limit_line(alloc),
         Err(ParseFault::Memory) => Err(AllocError),
     }
 }

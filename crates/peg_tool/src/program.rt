@@ -83,12 +83,14 @@ pub fn run_words<O: Opener, I: Source, W: Sink>(
             t,
             start,
             memo,
+            steps,
             all,
             rows,
         } => {
             let options = ParseOptions {
                 start: start.as_deref(),
                 memo: *memo,
+                steps: *steps,
             };
             let (all, rows) = (*all, *rows);
             on_files(

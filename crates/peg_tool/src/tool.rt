@@ -107,8 +107,9 @@ fn parsed<T: Source>(
     requires short { length file.now ≤ most_place }
     requires works { T.failed text.old ≡ false }
     ensures answer { (bytes : List ℕ)
-        → IsTextOf (ParseTask (start_named options.now) all (is_rows form)) file.now (T.left text.old) bytes
-        → IfOk result (λ line. IsPrinted (ParseTask (start_named options.now) all (is_rows form)) file.now bytes
+        → IsTextOf (ParseTask (start_named options.now) options.now.steps all (is_rows form)) file.now
+        (T.left text.old) bytes → IfOk result (λ line.
+        IsPrinted (ParseTask (start_named options.now) options.now.steps all (is_rows form)) file.now bytes
         (line_bytes line) (code_of line.status)) }
     ensures held { ConsumesAtMost (T.left text.old) (T.left text.new) (most_text_bytes + 1) }
     ensures refused { ((rules : List Rule) → ¬ Accepts file.now rules) → text.new ≡ text.old }
@@ -131,7 +132,8 @@ fn read_and_parse<T: Source>(
 ) -> Result<Line, ReadFault>
     requires { T.failed text.old ≡ false }
     ensures answer { (file : List ℕ) → Accepts file (parser_rules parser.now) → IfOk result (λ line.
-        IfSome (T.left text.old) (λ bytes. IsPrinted (ParseTask (start_named options.now) all (is_rows form)) file bytes
+        IfSome (T.left text.old) (λ bytes.
+        IsPrinted (ParseTask (start_named options.now) options.now.steps all (is_rows form)) file bytes
         (line_bytes line) (code_of line.status))) }
     ensures held { ConsumesAtMost (T.left text.old) (T.left text.new) (most_text_bytes + 1) }
     ensures device { IsErrOf result ReadFault.Device ↔ (T.failed text.new ≡ true) }

@@ -5,6 +5,9 @@ use std::alloc::{AllocError, Global};
 /// The largest memo that can be asked for.
 pub(crate) const MOST_MEMO: u32 = 1_000_000;
 
+/// The largest limit of steps that can be asked for.
+pub(crate) const MOST_STEPS: u64 = 1_000_000_000_000;
+
 /// The command line of the program.
 pub(crate) fn program<'a>(alloc: Global) -> Result<Command<'a>, AllocError> {
     let check = check(alloc)?;
@@ -59,6 +62,7 @@ fn parse<'a>(alloc: Global) -> Result<Command<'a>, AllocError> {
         .arg(text_file(alloc))?
         .arg(start_option(alloc))?
         .arg(memo_option(alloc))?
+        .arg(steps_option(alloc))?
         .arg(all_flag(alloc))?
         .arg(rows_flag(alloc))
 }
@@ -95,6 +99,16 @@ fn memo_option<'a>(alloc: Global) -> Arg<'a> {
         .help("The most results of rules that may be kept, 0 to 1000000")
 }
 
+// How many steps the parse may take.
+fn steps_option<'a>(alloc: Global) -> Arg<'a> {
+    Arg::new(alloc, "steps")
+        .long("steps")
+        .value_name("N")
+        .value_parser(value_parser!(u64).range(1..=MOST_STEPS as i64))
+        .allow_negative_numbers(true)
+        .help("The most steps that the parse may take, 1 to 1000000000000; no limit, if not given")
+}
+
 // Whether the whole text has to be consumed.
 fn all_flag<'a>(alloc: Global) -> Arg<'a> {
     Arg::new(alloc, "all")
@@ -123,7 +137,8 @@ Prints one line of JSON, and ends with a status:
   3  a fault of the command line, or the start is no rule
   4  a file can't be opened or read, or the output can't be written
   5  out of memory
-  6  the tree is too deep to be printed nested, or the text is too long
+  6  the tree is too deep to be printed nested, the text is too long, or the
+     parse takes more steps than --steps allows
 
 Example: pegtool parse grammar.peg text
 
@@ -172,9 +187,14 @@ place at which a terminal failed, and where those that failed there stand in the
 grammar file. A text has at most 67108864 bytes. A tree of more than 60 levels
 is printed with --rows alone.
 
+A step is one instruction of the grammar's code, which the parsing machine runs.
+With --steps N, a parse that takes more than N steps ends with the refusal
+StepLimit, status 6. This bounds its time, which else may be exponential in the
+text's length. How many steps it takes depends on --memo too.
+
 Status: 0 matched; 1 failed, or partial under --all; 2 the grammar is refused; 3 a
 fault of the command line, or the start is no rule; 4 a file can't be opened or
 read, or the output can't be written; 5 out of memory; 6 the tree is too deep to
-be printed nested, or the text is too long.
+be printed nested, the text is too long, or the parse takes too many steps.
 
 Example: pegtool parse grammar.peg text --start Value --all --rows";

@@ -1,8 +1,8 @@
 //! The words of a command line, and what they ask for.
-ghost use Rattle.std.specs.Prelude.{◌≡◌, ◌≢◌, ◌≤◌, [], IfOk};
+ghost use Rattle.std.specs.Prelude.{◌≡◌, ◌≢◌, ◌≤◌, [], IfOk, IfSome};
 ghost use Rattle.peg_words.specs.Words.{IsAsking};
 
-use crate::command_line::{MOST_MEMO, program};
+use crate::command_line::{MOST_MEMO, MOST_STEPS, program};
 use clap::error::ErrorKind;
 use clap::{ArgMatches, Error};
 use std::alloc::{AllocError, Global};
@@ -35,6 +35,7 @@ pub enum Words {
         t: String,
         start: Option<String>,
         memo: u32,
+        steps: Option<u64>,
         all: bool,
         rows: bool,
     },
@@ -106,6 +107,7 @@ fn parse_of(alloc: Global, matches: &ArgMatches<'_>) -> Result<Words, WordsFault
         t: file_name(alloc, matches, "T")?,
         start: start_name(alloc, matches)?,
         memo: memo_size(alloc, matches)?,
+        steps: step_limit(alloc, matches)?,
         all: matches.get_flag("all"),
         rows: matches.get_flag("rows"),
     })
@@ -134,6 +136,18 @@ fn memo_size(alloc: Global, matches: &ArgMatches<'_>) -> Result<u32, WordsFault>
     match matches.get_one::<u32>("memo") {
         Some(memo) if memo <= MOST_MEMO => Ok(memo),
         _ => Err(missing(alloc)),
+    }
+}
+
+// The limit of steps, if one is given. The parser has seen to it that it is a number in its range.
+fn step_limit(alloc: Global, matches: &ArgMatches<'_>) -> Result<Option<u64>, WordsFault>
+    ensures { IfOk result (λ steps. IfSome steps (λ most. (1 ≤ most) × (most ≤ 1000000000000))) }
+{
+    match matches.get_one::<u64>("steps") {
+        Some(0) => Err(missing(alloc)),
+        Some(most) if most <= MOST_STEPS => Ok(Some(most)),
+        Some(_) => Err(missing(alloc)),
+        None => Ok(None),
     }
 }
 

@@ -65,6 +65,7 @@ fn parse(
     alloc: Global,
     start: Option<&str>,
     memo: u32,
+    steps: Option<u64>,
     all: bool,
     rows: bool,
 ) -> Result<Words, AllocError> {
@@ -79,6 +80,7 @@ fn parse(
         t,
         start,
         memo,
+        steps,
         all,
         rows,
     })
@@ -88,23 +90,47 @@ fn parse(
 fn parse_has_its_options(rt: HostRuntime) -> Result<(), Fail> {
     let alloc = rt.alloc();
     let cases = [
-        ("parse g t", None, 4096, false, false),
-        ("parse g t --rows", None, 4096, false, true),
-        ("parse g --all t", None, 4096, true, false),
-        ("parse g t --memo 0", None, 0, false, false),
-        ("parse --memo=1000000 g t", None, 1_000_000, false, false),
-        ("parse g t --start Value", Some("Value"), 4096, false, false),
-        ("parse g t --start -a", Some("-a"), 4096, false, false),
+        ("parse g t", None, 4096, None, false, false),
+        ("parse g t --rows", None, 4096, None, false, true),
+        ("parse g --all t", None, 4096, None, true, false),
+        ("parse g t --memo 0", None, 0, None, false, false),
         (
-            "parse g t --start A --memo 7 --all --rows",
+            "parse --memo=1000000 g t",
+            None,
+            1_000_000,
+            None,
+            false,
+            false,
+        ),
+        ("parse g t --steps 1", None, 4096, Some(1), false, false),
+        (
+            "parse --steps=1000000000000 g t",
+            None,
+            4096,
+            Some(1_000_000_000_000),
+            false,
+            false,
+        ),
+        (
+            "parse g t --start Value",
+            Some("Value"),
+            4096,
+            None,
+            false,
+            false,
+        ),
+        ("parse g t --start -a", Some("-a"), 4096, None, false, false),
+        (
+            "parse g t --start A --memo 7 --steps 8 --all --rows",
             Some("A"),
             7,
+            Some(8),
             true,
             true,
         ),
     ];
-    for (line, start, memo, all, rows) in cases {
-        let expected = parse(alloc, start, memo, all, rows)?;
+    for (line, start, memo, steps, all, rows) in cases {
+        let expected = parse(alloc, start, memo, steps, all, rows)?;
         asks(&rt, alloc, line, &expected)?;
     }
     Ok(())
@@ -140,6 +166,8 @@ fn help_is_told(rt: HostRuntime) -> Result<(), Fail> {
         ("code --help", "Example: pegtool code grammar.peg"),
         ("parse --help", "Usage: pegtool parse [OPTIONS] <G> <T>"),
         ("parse --help", "[default: 4096]"),
+        ("parse --help", "--steps <N>"),
+        ("parse --help", "StepLimit, status 6"),
         (
             "parse --help",
             "Example: pegtool parse grammar.peg text --start Value --all --rows",
@@ -172,7 +200,6 @@ fn what_is_no_command_line_is_refused(rt: HostRuntime) -> Result<(), Fail> {
         ("help", "unrecognized subcommand 'help'"),
         ("parse g", "<T>"),
         ("parse g t u", "unexpected argument 'u'"),
-        ("parse g t --steps 1", "unexpected argument '--steps'"),
         ("parse g t --memo", "a value is required for '--memo <N>'"),
         ("parse g t --memo 1000001", "1000001 is not in 0..=1000000"),
         ("parse g t --memo -1", "-1 is not in 0..=1000000"),
@@ -180,6 +207,21 @@ fn what_is_no_command_line_is_refused(rt: HostRuntime) -> Result<(), Fail> {
         (
             "parse g t --memo 1 --memo 2",
             "'--memo <N>' cannot be used multiple times",
+        ),
+        ("parse g t --steps", "a value is required for '--steps <N>'"),
+        ("parse g t --steps 0", "0 is not in 1..=1000000000000"),
+        (
+            "parse g t --steps 1000000000001",
+            "1000000000001 is not in 1..=1000000000000",
+        ),
+        (
+            "parse g t --steps -1",
+            "invalid value '-1' for '--steps <N>'",
+        ),
+        ("parse g t --steps x", "invalid value 'x' for '--steps <N>'"),
+        (
+            "parse g t --steps 1 --steps 2",
+            "'--steps <N>' cannot be used multiple times",
         ),
     ];
     for (line, part) in cases {

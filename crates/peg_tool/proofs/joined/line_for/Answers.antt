@@ -26,7 +26,7 @@ returns-in-Accepted c =
       file,
       text,
       c.split.ensures,
-      parsed-printed file text rules None false false (line_bytes line)
+      parsed-printed file text rules None None false false (line_bytes line)
           (code_of line.status) judged is,
     ))
     (c.parse_line.ensures file)

@@ -1,14 +1,14 @@
 use Rattle.std.proofs.Common.{◌≡◌, None, Ok, Err, ap, sym, ◌∙◌, length}
-use Rattle.peg_parser.specs.Cause.{TextTooLong}
+use Rattle.peg_parser.specs.Cause.{StepLimit, TextTooLong}
 use Rattle.peg_parser.specs.Parser.{parser_rules, start_named}
 use Rattle.peg_ford.specs.Starts.{start_of}
 use Rattle.peg_parser.specs.declared.parser.ParseFault.TheVariants.{NoSuchStart as NoStart}
-use Rattle.peg_reply.specs.Parses.{ParsesTo, PrintsOutcome, text_too_long}
+use Rattle.peg_reply.specs.Parses.{ParsesTo, PrintsOutcome, text_too_long, too_many_steps}
 use Rattle.peg_reply.specs.Reply.{Refused}
 use Rattle.peg_reply.proofs.ParseLemmas.{outcome-parses, start-given}
 use Rattle.peg_reply.proofs.PrintLemmas.{kind-weaker, reply-kind}
 use Rattle.peg_reply.specs.TreeForms.{is_rows}
-use Rattle.peg_tool.proofs.ParsedLines.{no_start-line, long-text}
+use Rattle.peg_tool.proofs.ParsedLines.{no_start-line, long-text, short-text}
 use Rattle.peg_tool.proofs.parse.parse_line.Goals as goal
 
 pub returns-in-Ok : goal.returns-in-Ok
@@ -16,29 +16,46 @@ returns-in-Ok c file =
     let rules = parser_rules c.args.parser.now in
     let outcome = c.in-Ok.answer.outcome in
     let start = start_named c.args.options.now in
+    let steps = c.args.options.now.steps in
     let some : (start_of rules start ≡ None → ⊥) =
     λ none. let both : Ok c.in-Ok.answer ≡ Err NoStart = sym c.in-Ok.is ∙ c.parse.ensures.no_start.1 none in cc in
     kind-weaker c.told.result file (PrintsOutcome rules outcome _ c.args.all (is_rows c.args.form))
-    (ParsesTo rules c.args.text.now start c.args.all (is_rows c.args.form))
-    (outcome-parses rules c.args.text.now start c.args.all (is_rows c.args.form) outcome c.in-Ok.ensures.short some
-    c.in-Ok.ensures.outcome)
+    (ParsesTo rules c.args.text.now start steps c.args.all (is_rows c.args.form))
+    (outcome-parses rules c.args.text.now start steps c.args.all (is_rows c.args.form) outcome c.in-Ok.ensures.short
+    some c.in-Ok.ensures.outcome)
     (c.told.ensures file)
 
 pub returns-in-Err-NoSuchStart : goal.returns-in-Err-NoSuchStart
 returns-in-Err-NoSuchStart c file =
     let rules = parser_rules c.args.parser.now in
     let start = start_named c.args.options.now in
+    let steps = c.args.options.now.steps in
     let none = c.parse.ensures.no_start.0 (c.in-Err-NoSuchStart.is ∙ ap Err c.in-Err-NoSuchStart.field-0-is) in
     let named = start-given rules start none in
-    no_start-line c.no_start.result file rules c.args.text.now start c.args.all (is_rows c.args.form) named.0 named.1 none
+    no_start-line c.no_start.result file rules c.args.text.now start steps c.args.all (is_rows c.args.form) named.0
+    named.1 none
     (λ long. c.no_start.ensures.long long file) (λ short. c.no_start.ensures.missing short file named.0 named.1)
 
 pub returns-in-Err-TextTooLong : goal.returns-in-Err-TextTooLong
 returns-in-Err-TextTooLong c file =
     let rules = parser_rules c.args.parser.now in
     let start = start_named c.args.options.now in
+    let steps = c.args.options.now.steps in
     let is = c.in-Err-TextTooLong.is ∙ ap Err c.in-Err-TextTooLong.field-0-is in
-    reply-kind c.long_text_line.result file (ParsesTo rules c.args.text.now start c.args.all (is_rows c.args.form))
-    (Refused TextTooLong) (c.long_text_line.ensures file)
+    reply-kind c.long_text_line.result file
+    (ParsesTo rules c.args.text.now start steps c.args.all (is_rows c.args.form)) (Refused TextTooLong)
+    (c.long_text_line.ensures file)
     (text_too_long (long-text c.parse.result rules start (length c.args.text.now) is c.parse.ensures.no_start
     c.parse.ensures.long))
+
+pub returns-in-Err-StepLimit : goal.returns-in-Err-StepLimit
+returns-in-Err-StepLimit c file =
+    let rules = parser_rules c.args.parser.now in
+    let start = start_named c.args.options.now in
+    let steps = c.args.options.now.steps in
+    let is = c.in-Err-StepLimit.is ∙ ap Err c.in-Err-StepLimit.field-0-is in
+    let more = c.parse.ensures.limited is in
+    reply-kind c.step_limit_line.result file
+    (ParsesTo rules c.args.text.now start steps c.args.all (is_rows c.args.form)) (Refused StepLimit)
+    (c.step_limit_line.ensures file)
+    (too_many_steps (short-text c.parse.result (length c.args.text.now) is (c.parse.ensures.long more.0 more.1)) more)

@@ -72,9 +72,11 @@ returns-clause-answer g c =
     let held = c.in_ok-file.file in
     let text = g.T.Source.left c.args.text.now in
     let task = task_of c.args.command.now in
-    let asked = ParseTask (start_named c.in-Parse.options) c.in-Parse.all (is_rows c.of.result) in
+    let start = start_named c.in-Parse.options in
+    let steps = c.in-Parse.options.steps in
+    let asked = ParseTask start steps c.in-Parse.all (is_rows c.of.result) in
     let is : asked ≡ task =
-    ap (λ (rows : Bool). ParseTask (start_named c.in-Parse.options) c.in-Parse.all rows) c.of.ensures
+    ap (λ (rows : Bool). ParseTask start steps c.in-Parse.all rows) c.of.ensures
     ∙ sym (ap task_of c.in-Parse.is) in
     let right : (bytes : List ℕ) → IsTextOf task held.items text bytes
     → IfOk c.parsed.result (λ line. IsPrinted task held.items bytes (line_bytes line) (code_of line.status)) =

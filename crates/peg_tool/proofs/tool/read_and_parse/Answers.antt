@@ -13,13 +13,15 @@ use Rattle.peg_reply.specs.Lines.{line_bytes}
 pub returns-clause-answer : goal.returns-clause-answer
 returns-clause-answer g c file accepts =
     let held = c.in_ok-bytes.bytes in
-    let task = ParseTask (start_named c.args.options.now) c.args.all (is_rows c.args.form) in
+    let start = start_named c.args.options.now in
+    let steps = c.args.options.now.steps in
+    let task = ParseTask start steps c.args.all (is_rows c.args.form) in
     let rules = parser_rules c.args.parser.now in
     let line = line_bytes c.in_ok-parse_line.field-0 in
     let status = code_of c.in_ok-parse_line.field-0.status in
     let IsRight = λ (text l : List ℕ) (s : ℕ). IsPrinted task file text l s in
     let for_held = subst (λ (text : List ℕ). IsRight text line status) c.deref.ensures.value
-    (parsed-printed file c.deref.result.now rules (start_named c.args.options.now) c.args.all (is_rows c.args.form) line status
+    (parsed-printed file c.deref.result.now rules start steps c.args.all (is_rows c.args.form) line status
     accepts (c.in_ok-parse_line.ensures file)) in
     let within : length held.items ≤ most_text_bytes + 1 = omega (arith, held.ok.0, c.in_ok-bytes.ensures.most) in
     let at_end : length held.items < most_text_bytes + 1 → IsAtEnd (g.T.Source.left c.read_up_to.new.input) =

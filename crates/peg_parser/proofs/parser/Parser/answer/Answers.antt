@@ -1,6 +1,7 @@
-use Rattle.std.proofs.Common.{◌<◌, arith}
+use Rattle.std.proofs.Common.{◌<◌, ◌∙◌, Err, ap, arith}
 use Rattle.std.proofs.lemmas.List.Elements.{All-from_get_or}
 use Rattle.peg_parser.proofs.CoreStarts.{length-bodies, parser-outcome}
+use Rattle.peg_parser.proofs.StepLemmas.{of-program, to-program}
 use Rattle.peg_parser.proofs.parser.Parser.answer.Goals as goal
 
 pub run-requires-clause-rule : goal.run-requires-clause-rule
@@ -12,3 +13,12 @@ returns-in-Ok-clause-outcome g c =
     parser-outcome c.args.self.now c.args.text.now c.args.start c.in-Ok.answer.outcome
     (All-from_get_or (λ byte. byte < 256) c.args.text.now 0 (λ i within. (c.type_inv.text i).fits)) c.requires.start
     c.in-Ok.ensures.outcome
+
+pub returns-in-Ok-clause-enough : goal.returns-in-Ok-clause-enough
+returns-in-Ok-clause-enough g c never more =
+    c.in-Ok.ensures.enough never (to-program c.args.self.now c.args.text.now c.args.start c.args.most more)
+
+pub returns-in-Err-StepLimit-clause-limited : goal.returns-in-Err-StepLimit-clause-limited
+returns-in-Err-StepLimit-clause-limited g c is =
+    of-program c.args.self.now c.args.text.now c.args.start c.args.most
+    (c.run.ensures.limited (c.in-Err-StepLimit.is ∙ ap Err c.in-Err-StepLimit.field-0-is))

@@ -1,4 +1,5 @@
 use Rattle.std.proofs.Common.{◌∙◌, ap, List, ℕ, Result, Ok, Err, IfOk}
+use Rattle.std.proofs.lemmas.Result.{on_ok_weaker}
 use Rattle.std.specs.FinMap.{len, len-empty}
 use Rattle.peg_ford.specs.Rules.{name_of}
 use Rattle.peg_grammar.specs.Outcomes.{IsOutcome}
@@ -6,10 +7,11 @@ use Rattle.peg_machine.specs.declared.answer.Answer.{Answer}
 use Rattle.peg_memo.specs.Kept.{Kept}
 use Rattle.peg_memo.specs.Use.{use_cmp}
 use Rattle.peg_parser.specs.Fits.{Fits}
-use Rattle.peg_parser.specs.Parser.{parser_rules}
+use Rattle.peg_parser.specs.Parser.{parser_rules, start_named}
 use Rattle.peg_parser.specs.declared.parser.ParseFault.{ParseFault}
 use Rattle.peg_parser.specs.declared.parser.Parser.{Parser}
 use Rattle.peg_parser.proofs.OutcomeFits.{outcome-fits}
+use Rattle.peg_parser.proofs.StepLemmas.{of-start, to-start}
 use Rattle.peg_parser.proofs.parser.Parser.parse.Goals as goal
 
 -- an outcome of a grammar fits it, if there is one
@@ -33,3 +35,20 @@ returns-then-options-eq0-clause-fits c =
 pub returns-clause-fits : goal.returns-clause-fits
 returns-clause-fits c =
     fits c.args.self.now c.args.text.now c.in-Some.start c.answer-2.result c.answer-2.ensures.outcome
+
+pub returns-then-options-eq0-clause-limited : goal.returns-then-options-eq0-clause-limited
+returns-then-options-eq0-clause-limited c is =
+    of-start c.args.self.now c.args.text.now (start_named c.args.options.now) c.in-Some.start c.args.options.now.steps
+    c.in-Some.ensures.some c.in-Some.ensures.named (c.answer.ensures.limited is)
+
+-- without a memo nothing is ever held
+pub returns-then-options-eq0-clause-enough : goal.returns-then-options-eq0-clause-enough
+returns-then-options-eq0-clause-enough c none =
+    on_ok_weaker c.answer.result (λ not more. not (to-start c.args.self.now c.args.text.now
+    (start_named c.args.options.now) c.in-Some.start c.args.options.now.steps c.in-Some.ensures.some
+    c.in-Some.ensures.named more)) (c.answer.ensures.enough (λ any. len-empty use_cmp Kept))
+
+pub returns-clause-limited : goal.returns-clause-limited
+returns-clause-limited c is =
+    of-start c.args.self.now c.args.text.now (start_named c.args.options.now) c.in-Some.start c.args.options.now.steps
+    c.in-Some.ensures.some c.in-Some.ensures.named (c.answer-2.ensures.limited is)

@@ -1,0 +1,49 @@
+-- Steps over a limit: of a program from a rule's number, and of a grammar from the name of a start.
+use Rattle.std.proofs.Common.{◌≡◌, ℕ, ◌<◌, List, length, Option, Some, sym, ◌∙◌, subst}
+use Rattle.peg_core.specs.CoreForm.{CoreForm, core_bodies, number_of}
+use Rattle.peg_core.specs.Layout.{bodies_of}
+use Rattle.peg_ford.specs.Rules.{name_of}
+use Rattle.peg_ford.specs.Starts.{start_of}
+use Rattle.peg_machine.specs.CoreOutcome.{TakesMore}
+use Rattle.peg_parser.specs.Parser.{parser_rules}
+use Rattle.peg_parser.specs.StepLimits.{TakesMoreSteps}
+use Rattle.peg_parser.specs.declared.parser.Parser.{Parser}
+use Rattle.peg_parser.proofs.CoreStarts.{number-named, same-bodies}
+
+-- what a parser's program takes is what its grammar's core forms take
+pub of-program : (parser : Parser) (text : List ℕ) (start : ℕ) (most : Option ℕ)
+    → TakesMore (bodies_of parser.program.core) text start most
+    → TakesMore (core_bodies (parser_rules parser)) text start most
+of-program parser text start most =
+    subst (λ (bodies : List CoreForm). TakesMore bodies text start most) (same-bodies parser)
+
+pub to-program : (parser : Parser) (text : List ℕ) (start : ℕ) (most : Option ℕ)
+    → TakesMore (core_bodies (parser_rules parser)) text start most
+    → TakesMore (bodies_of parser.program.core) text start most
+to-program parser text start most =
+    subst (λ (bodies : List CoreForm). TakesMore bodies text start most) (sym (same-bodies parser))
+
+-- a start that has a rule's name takes what that rule takes
+pub of-start : (parser : Parser) (text : List ℕ) (named : Option (List ℕ)) (start : ℕ) (most : Option ℕ)
+    → start < length (parser_rules parser)
+    → start_of (parser_rules parser) named ≡ Some (name_of (parser_rules parser) start)
+    → TakesMore (core_bodies (parser_rules parser)) text start most
+    → TakesMoreSteps (parser_rules parser) text named most
+of-start parser text named start most less is more =
+    let rules = parser_rules parser in (
+      name_of rules start,
+      is,
+      subst (λ (n : ℕ). TakesMore (core_bodies rules) text n most) (sym (number-named parser start less)) more,
+    )
+
+pub to-start : (parser : Parser) (text : List ℕ) (named : Option (List ℕ)) (start : ℕ) (most : Option ℕ)
+    → start < length (parser_rules parser)
+    → start_of (parser_rules parser) named ≡ Some (name_of (parser_rules parser) start)
+    → TakesMoreSteps (parser_rules parser) text named most
+    → TakesMore (core_bodies (parser_rules parser)) text start most
+to-start parser text named start most less is more =
+    let rules = parser_rules parser in
+    let both : Some more.0 ≡ Some (name_of rules start) = sym more.1 ∙ is in
+    let same : more.0 ≡ name_of rules start = cc in
+    subst (λ (n : ℕ). TakesMore (core_bodies rules) text n most) (number-named parser start less)
+    (subst (λ (name : List ℕ). TakesMore (core_bodies rules) text (number_of rules name) most) same more.2)
