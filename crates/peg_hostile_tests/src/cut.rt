@@ -39,8 +39,8 @@ fn each_front_of_a_file_is_accepted_or_refused(rt: HostRuntime) -> Result<(), Fa
 #[test]
 fn a_file_at_its_limit_is_read(rt: HostRuntime) -> Result<(), Fail> {
     let alloc = rt.alloc();
-    let mut file = vec![in alloc; b'('; 1_048_575]?;
-    file[..5].copy_from_slice(b"A <- ");
+    let mut file = Vec::from_slice(alloc, b"A <- ")?;
+    file.resize(1_048_575, b'(')?;
     file.push(b'\n')?;
     let line = "{\"at\":205,\"column\":206,\"line\":1,\"refusal\":\"TooNested\"}";
     checks(&rt, alloc, &file, (line, 2))?;

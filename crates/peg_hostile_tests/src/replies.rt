@@ -52,6 +52,7 @@ pub(crate) fn parses(
     let options = ParseOptions {
         start: None,
         memo: 4096,
+        steps: None,
     };
     let command = Command::Parse {
         options,
