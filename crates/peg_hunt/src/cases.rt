@@ -8,7 +8,7 @@ use crate::lines::{
     Asked, Line, accepted_line, cycle_line, loop_line, no_grammar_line, outcome_line, table_line,
     unread_line,
 };
-use crate::texts::{break_bytes, some_text};
+use crate::texts::{break_bytes, repeat_byte, some_text};
 use crate::tool::{Told, is_small, parse_with, run_on};
 use peg_grammar::{Grammar, PlainFault, plain_match};
 use peg_parser::{FigureFault, Parser, read_by_figure};
@@ -21,6 +21,9 @@ const MEMOS: [u32; 5] = [0, 1, 2, 7, 4096];
 
 // How many texts an accepted grammar is tried on: the first as it is made, the others broken.
 const TEXTS: usize = 2;
+
+// The status of a parse whose tree has too many levels to be told.
+const TOO_DEEP: u8 = 6;
 
 // How deep the cases of recognition nest at most.
 const DEPTH: u64 = 5_000;
@@ -201,14 +204,23 @@ impl Case {
                 all: chance.one_in(2),
             };
             let wanted = outcome_line(alloc, grammar, outcome, text.len(), asked)?;
+            counts.deep = counts
+                .deep
+                .saturating_add(u64::from(wanted.status == TOO_DEEP));
             self.compare(rt, alloc, text, &parse_with(memo, asked), &wanted, counts)?;
         }
         Ok(())
     }
 }
 
-// Breaks a text in one to three ways.
+// Breaks a text in one to three ways, and at times repeats a byte of it first.
 fn break_text(chance: &mut Chance, text: &mut Vec<u8>) -> Result<(), AllocError> {
+    if chance.one_in(6) {
+        repeat_byte(chance, text)?;
+        if chance.one_in(2) {
+            return Ok(());
+        }
+    }
     for _ in 0..=chance.below(3) {
         break_bytes(chance, text)?;
     }

@@ -23,6 +23,8 @@ pub(crate) struct Counts {
     pub(crate) failed: u64,
     /// Texts on which a parse takes too many steps.
     pub(crate) skipped: u64,
+    /// Lines that tell that a tree has too many levels.
+    pub(crate) deep: u64,
     /// Lines of the tool that were compared.
     pub(crate) runs: u64,
     /// Lines that weren't what was wanted.
@@ -34,7 +36,8 @@ impl fmt::Display for Counts {
         let (cases, unread, no_grammar) = (self.cases, self.unread, self.no_grammar);
         let (loops, cycles, accepted) = (self.loops, self.cycles, self.accepted);
         let (matched, partial, failed) = (self.matched, self.partial, self.failed);
-        let (skipped, runs, differences) = (self.skipped, self.runs, self.differences);
+        let (skipped, deep) = (self.skipped, self.deep);
+        let (runs, differences) = (self.runs, self.differences);
         write!(
             f,
             "{cases} cases: {unread} files not read, {no_grammar} no grammar, {loops} with an empty loop, "
@@ -44,6 +47,9 @@ impl fmt::Display for Counts {
             f,
             "texts: {matched} matched, {partial} in part, {failed} failed, {skipped} skipped; "
         )?;
-        write!(f, "{runs} lines compared, {differences} differences")
+        write!(
+            f,
+            "{runs} lines compared, {deep} of trees that are too deep, {differences} differences"
+        )
     }
 }

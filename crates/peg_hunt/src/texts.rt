@@ -9,6 +9,9 @@ use std::alloc::{AllocError, Global};
 // How many bytes a text has at most before it is broken.
 const MOST_BYTES: usize = 40;
 
+// How often a byte is repeated at most: more often than there are levels in a tree that is told by nested objects.
+const MOST_TIMES: usize = 80;
+
 // How deep a walk goes at most.
 const LEVELS: u32 = 24;
 
@@ -140,6 +143,20 @@ pub(crate) fn some_text(
         text.push(OTHERS[chance.below(8)])?;
     }
     Ok(text)
+}
+
+/// Puts a byte of a text there again and again, so that rules that nest match many levels.
+pub(crate) fn repeat_byte(chance: &mut Chance, text: &mut Vec<u8>) -> Result<(), AllocError> {
+    if text.is_empty() {
+        return Ok(());
+    }
+    let at = chance.below(text.len());
+    let byte = text[at];
+    for _ in 0..chance.below(MOST_TIMES) {
+        let place = at.min(text.len());
+        text.insert(place, byte)?;
+    }
+    Ok(())
 }
 
 /// Breaks some bytes in one way: one is changed, left out or doubled, or what is behind one is cut away.
