@@ -1,0 +1,270 @@
+//! Cases: a grammar file by chance, texts for it, and what the tool says of them beside what it is to say.
+use crate::chance::Chance;
+use crate::counts::Counts;
+use crate::cycles::named_cycle;
+use crate::files::some_file;
+use crate::forms::Forms;
+use crate::lines::{
+    Asked, Line, accepted_line, cycle_line, loop_line, no_grammar_line, outcome_line, table_line,
+    unread_line,
+};
+use crate::texts::{break_bytes, repeat_byte, some_text};
+use crate::tool::{Told, is_small, parse_with, run_on};
+use peg_grammar::{Grammar, PlainFault, plain_match};
+use peg_parser::{FigureFault, Parser, read_by_figure};
+use peg_tool::Command;
+use peg_tree::{Outcome, Parsed};
+use std::alloc::{AllocError, Global};
+use std::io;
+
+const MEMOS: [u32; 5] = [0, 1, 2, 7, 4096];
+
+// How many texts an accepted grammar is tried on: the first as it is made, the others broken.
+const TEXTS: usize = 2;
+
+// The status of a parse whose tree has too many levels to be told.
+const TOO_DEEP: u8 = 6;
+
+// How deep the cases of recognition nest at most.
+const DEPTH: u64 = 5_000;
+
+/// A grammar file by chance.
+#[derive(Drop)]
+struct Case {
+    seed: u64,
+    number: u64,
+    file: Vec<u8>,
+}
+
+// The place that a refusal tells first, if it does.
+fn place_in(line: &[u8]) -> u32 {
+    let mut place = 0u32;
+    for byte in line.iter().skip(b"{\"at\":".len()) {
+        if !byte.is_ascii_digit() {
+            return place;
+        }
+        place = place
+            .saturating_mul(10)
+            .saturating_add(u32::from(byte.saturating_sub(b'0')));
+    }
+    place
+}
+
+impl Case {
+    // A line that isn't what the tool said is printed, with the case.
+    fn compare(
+        &self,
+        rt: &impl Print,
+        alloc: Global,
+        text: &[u8],
+        command: &Command<'_>,
+        wanted: &Line,
+        counts: &mut Counts,
+    ) -> io::Result<()> {
+        let Told { bytes, status } = run_on(alloc, &self.file, text, command);
+        counts.runs = counts.runs.saturating_add(1);
+        if bytes.as_slice() == wanted.text.as_bytes() && status == wanted.status {
+            return Ok(());
+        }
+        counts.differences = counts.differences.saturating_add(1);
+        let (seed, number, file) = (self.seed, self.number, &self.file);
+        println!(rt; "seed {seed}, case {number}: {command:?}")?;
+        println!(rt; "  file {file:?}")?;
+        println!(rt; "  text {text:?}")?;
+        let (line, wanted_status) = (wanted.text.as_str(), wanted.status);
+        println!(rt; "  wanted, status {wanted_status}: {line:?}")?;
+        println!(rt; "  told, status {status}: {bytes:?}")
+    }
+
+    // The tool refuses a file alike, whether it is to check it or to parse by it.
+    fn refuses(
+        &self,
+        rt: &impl Print,
+        alloc: Global,
+        wanted: &Line,
+        counts: &mut Counts,
+    ) -> io::Result<()> {
+        self.compare(rt, alloc, b"", &Command::Check, wanted, counts)?;
+        let asked = Asked {
+            rows: false,
+            all: false,
+        };
+        self.compare(rt, alloc, b"a", &parse_with(4096, asked), wanted, counts)
+    }
+
+    // A file that the figure doesn't read: the tool tells a place, and with it nothing but the reason.
+    fn unread(
+        &self,
+        rt: &impl Print,
+        alloc: Global,
+        reason: &str,
+        counts: &mut Counts,
+    ) -> io::Result<()> {
+        counts.unread = counts.unread.saturating_add(1);
+        let at = place_in(&run_on(alloc, &self.file, b"", &Command::Check).bytes);
+        let wanted = unread_line(alloc, &self.file, at, reason)?;
+        self.refuses(rt, alloc, &wanted, counts)
+    }
+
+    // A grammar: its table, and what it is refused for, or its parses.
+    fn grammar(
+        &self,
+        rt: &impl Print,
+        alloc: Global,
+        chance: &mut Chance,
+        grammar: &Grammar,
+        counts: &mut Counts,
+    ) -> io::Result<()> {
+        let forms = Forms::new(alloc, grammar)?;
+        let table = table_line(alloc, grammar, &forms)?;
+        self.compare(rt, alloc, b"", &Command::Table, &table, counts)?;
+        if let Some(found) = forms.first_loop() {
+            counts.loops = counts.loops.saturating_add(1);
+            let wanted = loop_line(alloc, &self.file, grammar, found)?;
+            return self.refuses(rt, alloc, &wanted, counts);
+        }
+        if let Some(path) = named_cycle(alloc, &forms.first_uses(alloc)?)? {
+            counts.cycles = counts.cycles.saturating_add(1);
+            let wanted = cycle_line(alloc, grammar, &path)?;
+            return self.refuses(rt, alloc, &wanted, counts);
+        }
+        let wanted = accepted_line(alloc, grammar)?;
+        self.compare(rt, alloc, b"", &Command::Check, &wanted, counts)?;
+        if let Ok(parser) = Parser::from_file(alloc, &self.file) {
+            counts.accepted = counts.accepted.saturating_add(1);
+            self.texts(rt, alloc, chance, grammar, &parser, counts)?;
+        }
+        Ok(())
+    }
+
+    // Some texts, of which all but the first are broken.
+    fn texts(
+        &self,
+        rt: &impl Print,
+        alloc: Global,
+        chance: &mut Chance,
+        grammar: &Grammar,
+        parser: &Parser,
+        counts: &mut Counts,
+    ) -> io::Result<()> {
+        for at in 0..TEXTS {
+            let mut text = some_text(alloc, chance, grammar)?;
+            if at > 0 {
+                break_text(chance, &mut text)?;
+            }
+            if is_small(alloc, parser, &text)? {
+                self.text(rt, alloc, chance, grammar, &text, counts)?;
+            } else {
+                counts.skipped = counts.skipped.saturating_add(1);
+            }
+        }
+        Ok(())
+    }
+
+    // A text, whose outcome is that of the evaluator.
+    fn text(
+        &self,
+        rt: &impl Print,
+        alloc: Global,
+        chance: &mut Chance,
+        grammar: &Grammar,
+        text: &[u8],
+        counts: &mut Counts,
+    ) -> io::Result<()> {
+        if grammar.rules() == 0 {
+            return Ok(());
+        }
+        match plain_match(alloc, grammar, text, 0, DEPTH) {
+            Ok(outcome) => {
+                count(counts, &outcome, text.len());
+                self.parses(rt, alloc, chance, grammar, text, &outcome, counts)
+            }
+            Err(PlainFault::Memory) => Err(io::Error::from(AllocError)),
+            Err(_) => {
+                counts.skipped = counts.skipped.saturating_add(1);
+                Ok(())
+            }
+        }
+    }
+
+    // The parses of a text, one with each memo.
+    fn parses(
+        &self,
+        rt: &impl Print,
+        alloc: Global,
+        chance: &mut Chance,
+        grammar: &Grammar,
+        text: &[u8],
+        outcome: &Outcome,
+        counts: &mut Counts,
+    ) -> io::Result<()> {
+        for memo in MEMOS {
+            let asked = Asked {
+                rows: chance.one_in(2),
+                all: chance.one_in(2),
+            };
+            let wanted = outcome_line(alloc, grammar, outcome, text.len(), asked)?;
+            counts.deep = counts
+                .deep
+                .saturating_add(u64::from(wanted.status == TOO_DEEP));
+            self.compare(rt, alloc, text, &parse_with(memo, asked), &wanted, counts)?;
+        }
+        Ok(())
+    }
+}
+
+// Breaks a text in one to three ways, and at times repeats a byte of it first.
+fn break_text(chance: &mut Chance, text: &mut Vec<u8>) -> Result<(), AllocError> {
+    if chance.one_in(6) {
+        repeat_byte(chance, text)?;
+        if chance.one_in(2) {
+            return Ok(());
+        }
+    }
+    for _ in 0..=chance.below(3) {
+        break_bytes(chance, text)?;
+    }
+    Ok(())
+}
+
+// Counts an outcome on a text of so many bytes.
+fn count(counts: &mut Counts, outcome: &Outcome, length: usize) {
+    match &outcome.result {
+        Parsed::Failed => counts.failed = counts.failed.saturating_add(1),
+        Parsed::Matched { end, .. } if (*end as usize) < length => {
+            counts.partial = counts.partial.saturating_add(1)
+        }
+        Parsed::Matched { .. } => counts.matched = counts.matched.saturating_add(1),
+    }
+}
+
+/// The case of a seed with this number.
+pub(crate) fn run_case(
+    rt: &impl Print,
+    alloc: Global,
+    seed: u64,
+    number: u64,
+    counts: &mut Counts,
+) -> io::Result<()> {
+    counts.cases = counts.cases.saturating_add(1);
+    let mut chance = Chance::new(seed, number);
+    let mut file = some_file(alloc, &mut chance)?;
+    if chance.one_in(10) {
+        break_bytes(&mut chance, &mut file)?;
+    }
+    let case = Case { seed, number, file };
+    let definitions = match read_by_figure(alloc, &case.file) {
+        Ok(definitions) => definitions,
+        Err(FigureFault::Memory) => return Err(io::Error::from(AllocError)),
+        Err(FigureFault::TooNested) => return case.unread(rt, alloc, "TooNested", counts),
+        Err(_) => return case.unread(rt, alloc, "Syntax", counts),
+    };
+    match Grammar::new(alloc, definitions) {
+        Ok(grammar) => case.grammar(rt, alloc, &mut chance, &grammar, counts),
+        Err(fault) => {
+            counts.no_grammar = counts.no_grammar.saturating_add(1);
+            let wanted = no_grammar_line(alloc, &case.file, &fault)?;
+            case.refuses(rt, alloc, &wanted, counts)
+        }
+    }
+}

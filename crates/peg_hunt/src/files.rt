@@ -1,0 +1,218 @@
+//! Grammar files by chance.
+ghost use Rattle.std.specs.Prelude.{◌<◌, ◌≤◌};
+
+use crate::chance::Chance;
+use crate::spacing::{add_line_end, add_space, add_spacing};
+use crate::terminals::{add_consuming, add_terminal};
+use std::alloc::{AllocError, Global};
+
+// The names of a file's rules, in order: short ones, some that are alike, and long ones.
+const NAMES: [[&[u8]; 9]; 3] = [
+    [b"S", b"A", b"B", b"C", b"D", b"E", b"F", b"G", b"H"],
+    [
+        b"a", b"aa", b"a_", b"aA", b"_", b"__", b"a1", b"a10", b"aaa",
+    ],
+    [
+        b"Start",
+        b"Statement_of_a_long_name_1",
+        b"Statement_of_a_long_name_2",
+        b"Expression",
+        b"Expressions",
+        b"_9",
+        b"Z",
+        b"z",
+        b"Name0123456789abcdefghijklmnopqrstuvwxyz",
+    ],
+];
+
+// How many parentheses stand one in the other at most.
+const LEVELS: u32 = 3;
+
+const ALTERNATIVES: [usize; 6] = [1, 1, 1, 2, 2, 3];
+
+const ITEMS: [usize; 12] = [0, 1, 1, 1, 1, 2, 2, 2, 2, 2, 3, 3];
+
+/// The names of a file's rules, and how many it has; and the rule whose expression is written.
+#[derive(Clone, Copy)]
+struct Rules {
+    names: usize,
+    count: usize,
+    current: usize,
+    ghost names_known: { names < 3 },
+    ghost few: { count ≤ 9 },
+    ghost within: { current < count },
+}
+
+impl Rules {
+    fn name(&self, rule: usize) -> &'static [u8]
+        requires { rule < 9 }
+    {
+        NAMES[self.names][rule]
+    }
+
+    // The number of a rule to be used: mostly one that stands behind, since a use of one before may be a left cycle.
+    // At times one that the file may not have.
+    fn used(&self, chance: &mut Chance) -> usize
+        ensures { result < 9 }
+    {
+        if chance.one_in(200) {
+            return chance.below(9);
+        }
+        let behind = self.count - self.current - 1;
+        if behind == 0 || chance.one_in(4) {
+            return chance.below(self.count);
+        }
+        self.current + 1 + chance.below(behind)
+    }
+}
+
+// A sign with its spacing.
+fn add_sign(chance: &mut Chance, file: &mut Vec<u8>, sign: u8) -> Result<(), AllocError> {
+    file.push(sign)?;
+    add_spacing(chance, file)
+}
+
+// A choice. Where it is to consume, each alternative begins with a terminal that does.
+#[cycle(expression)]
+fn add_choice(
+    chance: &mut Chance,
+    file: &mut Vec<u8>,
+    rules: &Rules,
+    levels: u32,
+    consumes: bool,
+) -> Result<(), AllocError> {
+    for at in 0..ALTERNATIVES[chance.below(6)] {
+        if at > 0 {
+            add_sign(chance, file, b'/')?;
+        }
+        if consumes {
+            add_consuming(chance, file)?;
+            add_spacing(chance, file)?;
+        }
+        add_sequence(chance, file, rules, levels)?;
+    }
+    Ok(())
+}
+
+#[cycle(expression)]
+fn add_sequence(
+    chance: &mut Chance,
+    file: &mut Vec<u8>,
+    rules: &Rules,
+    levels: u32,
+) -> Result<(), AllocError> {
+    for _ in 0..ITEMS[chance.below(12)] {
+        add_item(chance, file, rules, levels)?;
+    }
+    Ok(())
+}
+
+// A primary, with a sign before it and one behind it, or without.
+#[cycle(expression)]
+fn add_item(
+    chance: &mut Chance,
+    file: &mut Vec<u8>,
+    rules: &Rules,
+    levels: u32,
+) -> Result<(), AllocError> {
+    match chance.below(18) {
+        0 => add_sign(chance, file, b'&')?,
+        1 => add_sign(chance, file, b'!')?,
+        _ => {}
+    }
+    match chance.below(12) {
+        0 => {
+            add_primary(chance, file, rules, levels, false)?;
+            add_sign(chance, file, b'?')
+        }
+        1 => add_repeated(chance, file, rules, levels, b'*'),
+        2 => add_repeated(chance, file, rules, levels, b'+'),
+        _ => add_primary(chance, file, rules, levels, false),
+    }
+}
+
+// A primary with a sign that repeats it. Mostly it consumes, since else the star or plus may go round on nothing.
+#[cycle(expression)]
+fn add_repeated(
+    chance: &mut Chance,
+    file: &mut Vec<u8>,
+    rules: &Rules,
+    levels: u32,
+    sign: u8,
+) -> Result<(), AllocError> {
+    let consumes = !chance.one_in(12);
+    add_primary(chance, file, rules, levels, consumes)?;
+    add_sign(chance, file, sign)
+}
+
+#[cycle(expression)]
+fn add_primary(
+    chance: &mut Chance,
+    file: &mut Vec<u8>,
+    rules: &Rules,
+    levels: u32,
+    consumes: bool,
+) -> Result<(), AllocError> {
+    match chance.below(8) {
+        0 | 1 if levels > 0 => {
+            add_sign(chance, file, b'(')?;
+            add_choice(chance, file, rules, levels - 1, consumes)?;
+            add_sign(chance, file, b')')
+        }
+        2..=4 if !consumes => {
+            let rule = rules.used(chance);
+            file.extend_from_slice(rules.name(rule))?;
+            add_space(chance, file)
+        }
+        _ => {
+            if consumes {
+                add_consuming(chance, file)?;
+            } else {
+                add_terminal(chance, file)?;
+            }
+            add_spacing(chance, file)
+        }
+    }
+}
+
+// A definition; at times its name is that of another rule.
+fn add_definition(
+    chance: &mut Chance,
+    file: &mut Vec<u8>,
+    rules: &Rules,
+) -> Result<(), AllocError> {
+    let rule = if chance.one_in(200) {
+        chance.below(9)
+    } else {
+        rules.current
+    };
+    file.extend_from_slice(rules.name(rule))?;
+    add_spacing(chance, file)?;
+    file.extend_from_slice(b"<-")?;
+    add_spacing(chance, file)?;
+    let consumes = !chance.one_in(3);
+    add_choice(chance, file, rules, LEVELS, consumes)?;
+    if chance.one_in(2) {
+        add_line_end(chance, file)?;
+    }
+    Ok(())
+}
+
+/// A grammar file of two to nine rules.
+pub(crate) fn some_file(alloc: Global, chance: &mut Chance) -> Result<Vec<u8>, AllocError> {
+    let mut file = Vec::new(alloc);
+    if chance.one_in(4) {
+        add_space(chance, &mut file)?;
+    }
+    let names = chance.below(3);
+    let count = 2 + chance.below(8);
+    for current in 0..count {
+        let rules = Rules {
+            names,
+            count,
+            current,
+        };
+        add_definition(chance, &mut file, &rules)?;
+    }
+    Ok(file)
+}

@@ -1,0 +1,178 @@
+//! Texts by chance that a grammar is likely to match, and what breaks a text or a file.
+ghost use Rattle.std.specs.Prelude.{◌<◌, ◌≤◌};
+
+use crate::chance::Chance;
+use peg_bytes::ByteSet;
+use peg_grammar::{Expr, Grammar};
+use std::alloc::{AllocError, Global};
+
+// How many bytes a text has at most before it is broken.
+const MOST_BYTES: usize = 40;
+
+// How often a byte is repeated at most: more often than there are levels in a tree that is told by nested objects.
+const MOST_TIMES: usize = 80;
+
+// How deep a walk goes at most.
+const LEVELS: u32 = 24;
+
+// How many expressions a walk looks at, at most.
+const STEPS: u32 = 2_000;
+
+// Bytes that come into a text where it is broken.
+const OTHERS: [u8; 8] = *b"aabbcc\n0";
+
+/// A walk over a grammar's expressions, which writes a text that they are likely to match.
+#[derive(Drop)]
+struct Walk<'a> {
+    grammar: &'a Grammar,
+    chance: Chance,
+    text: Vec<u8>,
+    steps: u32,
+}
+
+impl<'a> Walk<'a> {
+    // Whether the walk has come to an end: the text is long, or enough was looked at.
+    fn is_over(&self) -> bool {
+        self.steps == 0 || self.text.len() >= MOST_BYTES
+    }
+
+    // A byte of a set, if a look at some finds one.
+    fn add_from(&mut self, set: &ByteSet) -> Result<(), AllocError> {
+        for byte in *b"abc" {
+            if set.contains(byte) && self.chance.one_in(2) {
+                return Ok(self.text.push(byte)?);
+            }
+        }
+        let first = self.chance.byte();
+        for step in 0..=255 {
+            let byte = first.wrapping_add(step);
+            if set.contains(byte) {
+                return Ok(self.text.push(byte)?);
+            }
+        }
+        Ok(())
+    }
+
+    #[cycle(walk)]
+    fn expression(&mut self, expr: &Expr, levels: u32) -> Result<(), AllocError> {
+        if levels == 0 || self.is_over() {
+            return Ok(());
+        }
+        self.steps = self.steps.saturating_sub(1);
+        match expr {
+            Expr::Literal { bytes, .. } => self.text.extend_from_slice(bytes.as_slice()),
+            Expr::Class { set, .. } => self.add_from(set),
+            Expr::Any { .. } => Ok(self.text.push(OTHERS[self.chance.below(8)])?),
+            Expr::Name { name, .. } => self.rule(name.as_str(), levels - 1),
+            Expr::Seq { items, .. } => self.items(items.as_slice(), levels - 1),
+            Expr::Choice { first, rest, .. } => {
+                match rest.get(self.chance.below(rest.len().saturating_add(1))) {
+                    Some(other) => self.expression(other, levels - 1),
+                    None => self.expression(first, levels - 1),
+                }
+            }
+            Expr::Optional { part, .. } => self.repeat(part, 0, 2, levels - 1),
+            Expr::Star { part, .. } => self.repeat(part, 0, 4, levels - 1),
+            Expr::Plus { part, .. } => self.repeat(part, 1, 3, levels - 1),
+            Expr::And { .. } | Expr::Not { .. } => Ok(()),
+        }
+    }
+
+    #[cycle(walk)]
+    fn rule(&mut self, name: &str, levels: u32) -> Result<(), AllocError> {
+        match self.grammar.rule_number(name) {
+            Some(rule) if rule < self.grammar.rules() && levels > 0 => {
+                let grammar = self.grammar;
+                self.expression(grammar.body(rule), levels - 1)
+            }
+            _ => Ok(()),
+        }
+    }
+
+    #[cycle(walk)]
+    fn items(&mut self, items: &[Expr], levels: u32) -> Result<(), AllocError> {
+        if levels == 0 {
+            return Ok(());
+        }
+        for item in items {
+            self.expression(item, levels - 1)?;
+        }
+        Ok(())
+    }
+
+    // A part so often, and up to so many times more, not counting the last.
+    #[cycle(walk)]
+    fn repeat(
+        &mut self,
+        part: &Expr,
+        least: usize,
+        more: usize,
+        levels: u32,
+    ) -> Result<(), AllocError>
+        requires some { 0 < more }
+        requires few { least ≤ 1 }
+    {
+        if levels == 0 {
+            return Ok(());
+        }
+        for _ in 0..least + self.chance.below(more) {
+            self.expression(part, levels - 1)?;
+        }
+        Ok(())
+    }
+}
+
+/// A text that the first rule of a grammar is likely to match, and some bytes behind it at times.
+pub(crate) fn some_text(
+    alloc: Global,
+    chance: &mut Chance,
+    grammar: &Grammar,
+) -> Result<Vec<u8>, AllocError> {
+    let mut walk = Walk {
+        grammar,
+        chance: chance.fork(),
+        text: Vec::new(alloc),
+        steps: STEPS,
+    };
+    if grammar.rules() > 0 {
+        walk.expression(grammar.body(0), LEVELS)?;
+    }
+    let Walk { mut text, .. } = walk;
+    text.truncate(MOST_BYTES);
+    if chance.one_in(8) {
+        text.push(OTHERS[chance.below(8)])?;
+    }
+    Ok(text)
+}
+
+/// Puts a byte of a text there again and again, so that rules that nest match many levels.
+pub(crate) fn repeat_byte(chance: &mut Chance, text: &mut Vec<u8>) -> Result<(), AllocError> {
+    if text.is_empty() {
+        return Ok(());
+    }
+    let at = chance.below(text.len());
+    let byte = text[at];
+    for _ in 0..chance.below(MOST_TIMES) {
+        let place = at.min(text.len());
+        text.insert(place, byte)?;
+    }
+    Ok(())
+}
+
+/// Breaks some bytes in one way: one is changed, left out or doubled, or what is behind one is cut away.
+pub(crate) fn break_bytes(chance: &mut Chance, bytes: &mut Vec<u8>) -> Result<(), AllocError> {
+    if bytes.is_empty() {
+        return Ok(bytes.push(OTHERS[chance.below(8)])?);
+    }
+    let at = chance.below(bytes.len());
+    match chance.below(6) {
+        0 | 1 => bytes[at] = OTHERS[chance.below(8)],
+        2 => bytes[at] = chance.byte(),
+        3 => {
+            let _ = bytes.remove(at);
+        }
+        4 => bytes.insert(at, bytes[at])?,
+        _ => bytes.truncate(at),
+    }
+    Ok(())
+}
