@@ -8,36 +8,7 @@ cd "$(dirname "$0")/.." || exit 1
 program=$(realpath "${1:-crates/pegtool/out/pegtool}")
 work=$(mktemp -d)
 trap 'rm -rf "$work"' EXIT
-cat > "$work/refuse.c" << 'C'
-#define _GNU_SOURCE
-#include <dlfcn.h>
-#include <fcntl.h>
-#include <stdlib.h>
-#include <unistd.h>
-
-static long made;
-
-/* Whether this request is the one to refuse; it is noted that it was met. */
-static int refused(void) {
-    char *which = getenv("REFUSE_NTH");
-    if (!which || ++made != atol(which)) return 0;
-    close(open(getenv("REFUSE_MET"), O_CREAT | O_WRONLY, 0600));
-    return 1;
-}
-
-void *malloc(size_t size) {
-    static void *(*real)(size_t);
-    if (!real) real = dlsym(RTLD_NEXT, "malloc");
-    return refused() ? NULL : real(size);
-}
-
-void *realloc(void *old, size_t size) {
-    static void *(*real)(void *, size_t);
-    if (!real) real = dlsym(RTLD_NEXT, "realloc");
-    return refused() ? NULL : real(old, size);
-}
-C
-cc -shared -fPIC -O1 -o "$work/refuse.so" "$work/refuse.c" -ldl || exit 1
+cc -shared -fPIC -O1 -o "$work/refuse.so" bench/refuse.c -ldl || exit 1
 faults=0
 refuse() { # what the run is called, its input, and its words
   want=$("$program" "${@:3}" < "$2" 2> /dev/null)
@@ -67,20 +38,32 @@ file "A <- ('a'*)*\n" loop.peg
 file "A <- B\nA <- 'x'\n" twice.peg
 file "A <- B\n" missing.peg
 file "A <- [a-]\n" open.peg
+file "A <- ('')+\n" plus.peg
+file "A <- (('')?)*\n" star.peg
 file "A <- '(' A ')' 'x' / '(' A ')' 'y' / 'a'\n" prefix.peg
 file '(a)y' prefix.txt
+times() { printf "%0.s$2" $(seq "$1"); } # a count, and what is written so often
+# No deeper: where the memo's own growth is refused, the run goes on without it, and each level doubles the steps.
+file "$(times 12 '(')a$(times 12 ')y')" deep.txt
+file "A <- $(times 201 '(')'a'$(times 201 ')')\n" nested.peg
+file "A <- $(times 24 '(')'a'+$(times 24 ')+')\n" large.peg
+head -c 1048577 /dev/zero | tr '\0' ' ' > "$work/long.peg"
 refuse 'stored run' crates/pegtool/stdin
 refuse 'parse, nested' /dev/null parse "$work/chain.peg" "$work/chain.txt"
 refuse 'parse, rows' /dev/null parse "$work/chain.peg" "$work/chain.txt" --rows
 refuse 'parse, counts' /dev/null parse "$work/counts.peg" "$work/counts.txt"
 refuse 'parse, prefix' /dev/null parse "$work/prefix.peg" "$work/prefix.txt" --all
+refuse 'parse, deep, memo of 1' /dev/null parse "$work/prefix.peg" "$work/deep.txt" --rows --memo 1
+refuse 'parse, deep, memo of 4096' /dev/null parse "$work/prefix.peg" "$work/deep.txt" --rows --memo 4096
 refuse 'parse, no start' /dev/null parse "$work/chain.peg" "$work/chain.txt" --start T
 refuse 'parse, left cycle' /dev/null parse "$work/cycle.peg" "$work/chain.txt"
-for grammar in chain counts cycle loop twice missing open; do
+for grammar in chain counts cycle loop plus star twice missing open nested large long; do
   refuse "check, $grammar" /dev/null check "$work/$grammar.peg"
 done
-refuse 'code, counts' /dev/null code "$work/counts.peg"
-refuse 'table, counts' /dev/null table "$work/counts.peg"
+for grammar in chain counts open; do
+  refuse "code, $grammar" /dev/null code "$work/$grammar.peg"
+  refuse "table, $grammar" /dev/null table "$work/$grammar.peg"
+done
 refuse 'help' /dev/null --help
 refuse 'no command' /dev/null tables
 echo "$faults faults"

@@ -23,6 +23,8 @@ mod prefixes;
 #[cfg(test)]
 mod random;
 #[cfg(test)]
+mod refusing;
+#[cfg(test)]
 mod runs;
 #[cfg(test)]
 mod small;

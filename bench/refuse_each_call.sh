@@ -1,0 +1,51 @@
+#!/usr/bin/env bash
+# Refuses each request for memory of public calls in turn, one call after the other: `crates/peg_growth` makes the call
+# that a word names, and prints one line. Of the Nth request, for N from 1 until a run makes fewer, each run has to
+# print `not yet`, where that came before the call; `memory`, where the call answered want of memory and left what it
+# borrowed as it was; or the very line that it prints where memory is there. Takes the program's path, by default the
+# built one (`cd crates/peg_growth && rt run` builds it), and words, by default all; wants a C compiler for the library
+# that refuses.
+set -u
+cd "$(dirname "$0")/.." || exit 1
+program=$(realpath "${1:-crates/peg_growth/out/peg_growth}")
+[ "$#" = 0 ] || shift
+work=$(mktemp -d)
+trap 'rm -rf "$work"' EXIT
+cc -shared -fPIC -O1 -o "$work/refuse.so" bench/refuse.c -ldl || exit 1
+faults=0
+growths=0
+wrong() { # what was wrong
+  echo "$1"
+  faults=$((faults + 1))
+}
+refuse() { # the word of a call
+  local want got status same=0 memory=0
+  want=$("$program" "$1")
+  case "$?:$want" in
+    "0:done "*) ;;
+    *) wrong "$1: WRONG without a refusal: $want" ;;
+  esac
+  for n in $(seq 1 100000); do
+    rm -f "$work/met"
+    got=$(LD_PRELOAD="$work/refuse.so" REFUSE_NTH=$n REFUSE_MET="$work/met" "$program" "$1" 2>&1)
+    status=$?
+    [ -e "$work/met" ] || break
+    case "$status:$got" in
+      "3:not yet") ;;
+      "0:memory") memory=$((memory + 1)) ;;
+      "0:$want") same=$((same + 1)) ;;
+      *) wrong "$1, request $n: WRONG, status $status: $got" ;;
+    esac
+  done
+  [ "$status:$got" = "0:$want" ] || wrong "$1: WRONG without a refusal: $got"
+  echo "$1: $((memory + same)) growths, $memory told, $same with the same answer"
+  growths=$((growths + memory + same))
+}
+words=("$@")
+[ "$#" != 0 ] || mapfile -t words < <("$program")
+for word in "${words[@]}"; do
+  refuse "$word"
+done
+echo "${#words[@]} calls, $growths growths"
+echo "$faults faults"
+[ "$faults" = 0 ]

@@ -1,0 +1,168 @@
+//! A memo that keeps all but one result, and a watch that refuses one pair.
+ghost use Rattle.std.specs.Prelude.{◌≡◌, ◌<◌, [], false, true, length, IfOk};
+ghost use Rattle.peg_memo.specs.Held.{held_in};
+
+use crate::outcomes::assert_alike;
+use crate::pairs::program_of;
+use crate::runs::{run_from, run_plain};
+use peg_code::Program;
+use peg_machine::{Answer, ListWatch, NoWatch, RunFault, Watch, run};
+use peg_memo::{Found, Keep, LruMemo};
+use peg_tree::Parsed;
+use std::alloc::{AllocError, Global};
+use std::process::Abort;
+use std::test::Fail;
+
+const TWICE: &[u8] = b"A <- '(' A ')' 'x' / '(' A ')' 'y' / 'a'";
+
+// Thirty parentheses round an `a`, each followed by `y`.
+const NESTED: &[u8] = b"\
+    ((((((((((((((((((((((((((((((a\
+    )y)y)y)y)y)y)y)y)y)y)y)y)y)y)y)y)y)y)y)y)y)y)y)y)y)y)y)y)y)y";
+
+// Keeps all results but the one with this number, of which it says that it couldn't keep it.
+#[derive(Drop)]
+struct AllBut {
+    memo: LruMemo,
+    number: u32,
+    offered: u32,
+}
+
+impl AllBut {
+    fn new(alloc: Global, number: u32) -> Result<AllBut, AllocError>
+        ensures { IfOk result (λ it. it.memo.pairs ≡ []) }
+    {
+        Ok(AllBut {
+            memo: LruMemo::new(alloc, 4096)?,
+            number,
+            offered: 0,
+        })
+    }
+}
+
+impl Keep for AllBut {
+    ghost held = { λ it. held_in it.memo.pairs };
+
+    ghost room = { λ _. 0 };
+
+    ghost refused = { λ _. false };
+
+    fn is_empty(&self) -> bool {
+        Keep::is_empty(&self.memo)
+    }
+
+    fn touch(&mut self, rule: u32, place: u32) {
+        Keep::touch(&mut self.memo, rule, place);
+    }
+
+    fn find(&self, rule: u32, place: u32) -> Option<Found<'_>> {
+        Keep::find(&self.memo, rule, place)
+    }
+
+    fn keep(&mut self, rule: u32, place: u32, found: Found<'_>) -> bool {
+        self.offered = self.offered.saturating_add(1);
+        self.offered != self.number && Keep::keep(&mut self.memo, rule, place, found)
+    }
+}
+
+// Keeps a list of the first pairs that it is shown, so many, and refuses the next one.
+#[derive(Drop)]
+struct First {
+    list: ListWatch,
+    most: usize,
+}
+
+impl Watch for First {
+    ghost records = { true };
+
+    ghost shown = { λ watch. watch.list };
+
+    fn begin(&mut self, rule: u32, place: u32) -> Result<(), AllocError> {
+        if self.list.pairs().len() < self.most {
+            Watch::begin(&mut self.list, rule, place)
+        } else {
+            Err(AllocError)
+        }
+    }
+}
+
+// A run from the first rule whose memo refuses the result with this number, and how many results it was offered.
+fn run_all_but(
+    alloc: Global,
+    program: &Program,
+    text: &[u8],
+    number: u32,
+) -> Result<(Answer, u32), RunFault>
+    requires { 0 < length program.now.core.bodies }
+{
+    let mut memo = AllBut::new(alloc, number)?;
+    let answer = run(alloc, program, text, 0, &mut memo, &mut NoWatch, None)?;
+    Ok((answer, memo.offered))
+}
+
+// Whichever result isn't kept, the outcome is this one. Answers how many results were refused, one in each run.
+fn assert_all_but(
+    rt: &impl Abort,
+    alloc: Global,
+    text: &[u8],
+    wanted: &Answer,
+) -> Result<u32, Fail> {
+    let program = program_of(alloc, TWICE)?;
+    assert!(rt; program.rules() > 0);
+    for number in 1..10_000 {
+        let (answer, offered) = run_all_but(alloc, &program, text, number)?;
+        assert_alike(rt, &answer.outcome, &wanted.outcome, "all but one");
+        if offered < number {
+            return Ok(number - 1);
+        }
+    }
+    Ok(0)
+}
+
+#[test]
+fn a_result_that_is_refused_changes_no_answer(rt: HostRuntime) -> Result<(), Fail> {
+    let alloc = rt.alloc();
+    let program = program_of(alloc, TWICE)?;
+    assert!(rt; program.rules() > 0);
+    let text = b"(a)y";
+    let plain = run_plain(alloc, &program, text, None)?;
+    let refused = assert_all_but(&rt, alloc, text, &plain)?;
+    assert_eq!(rt; refused, 2);
+    Ok(())
+}
+
+// The parse of three pairs without a memo ends where the third is refused.
+#[test]
+fn a_watch_that_refuses_ends_the_run(rt: HostRuntime) -> Result<(), Fail> {
+    let alloc = rt.alloc();
+    let program = program_of(alloc, TWICE)?;
+    assert!(rt; program.rules() > 0);
+    let list = ListWatch::new(alloc);
+    let mut watch = First { list, most: 2 };
+    let refused = run_from(alloc, &program, b"(a)y", 0, &mut watch, None);
+    assert!(rt; matches!(refused, Err(RunFault::Memory)));
+    assert_eq!(rt; watch.list.pairs(), [(0, 0), (0, 1)].as_slice());
+    let list = ListWatch::new(alloc);
+    let mut watch = First { list, most: 3 };
+    run_from(alloc, &program, b"(a)y", 0, &mut watch, None)?;
+    assert_eq!(rt; watch.list.pairs(), [(0, 0), (0, 1), (0, 1)].as_slice());
+    Ok(())
+}
+
+// Without a memo no machine would come to the end of this text: the outcome is that with all results kept.
+#[test]
+fn a_result_that_is_refused_changes_no_long_answer(rt: HostRuntime) -> Result<(), Fail> {
+    let alloc = rt.alloc();
+    let program = program_of(alloc, TWICE)?;
+    assert!(rt; program.rules() > 0);
+    let (answer, _) = run_all_but(alloc, &program, NESTED, 0)?;
+    assert_eq!(rt; answer.outcome.far, 90);
+    assert_eq!(rt; answer.outcome.expected.as_slice(), [2].as_slice());
+    match &answer.outcome.result {
+        Parsed::Failed => assert!(rt; false, "no match"),
+        Parsed::Matched { end, tree } => assert_eq!(rt; (*end, tree.len()), (91, 31)),
+    }
+    let refused = assert_all_but(&rt, alloc, NESTED, &answer)?;
+    assert_eq!(rt; refused, 31);
+    Ok(())
+}
