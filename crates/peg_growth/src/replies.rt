@@ -82,6 +82,7 @@ fn refused(rt: &impl Print, alloc: Global, word: &str) -> io::Result<bool> {
 const OPTIONS: ParseOptions<'static> = ParseOptions {
     start: None,
     memo: 0,
+    steps: None,
 };
 
 // A text whose tree has 61 levels.
