@@ -105,11 +105,8 @@ fn parsed(rt: &impl Print, alloc: Global, start: Option<&str>, memo: u32) -> io:
     let text = b"((((a)y)y)y)y".to_vec(alloc)?;
     let borrowed = (parser.grammar(), parser.program(), &text);
     let lent = Lent::of(alloc, &borrowed)?;
-    let options = ParseOptions {
-        start,
-        memo,
-        steps: None,
-    };
+    let steps = None;
+    let options = ParseOptions { start, memo, steps };
     let answer = parser.parse(alloc, &text, &options);
     let memory = matches!(answer, Err(ParseFault::Memory));
     let outcome = answer.as_ref().map(|answer| &answer.outcome);

@@ -10,13 +10,13 @@ use peg_core::desugar;
 use peg_parser::{ParseOptions, Parser, Refusal, grammar_of};
 use peg_reply::{
     Fault, TreeForm, accepted_line, answer_json, answer_line, code_json, code_line, long_text_line,
-    no_start_line, refusal_json, refused_line, rows_line, table_json, table_line,
+    no_start_line, refusal_json, refused_line, rows_line, step_limit_line, table_json, table_line,
 };
 use peg_tree::JsonFault;
 use std::alloc::{AllocError, Global};
 use std::io;
 
-pub(crate) const WORDS: [&str; 21] = [
+pub(crate) const WORDS: [&str; 22] = [
     "answer_json",
     "answer_json_rows",
     "answer_json_deep",
@@ -38,6 +38,7 @@ pub(crate) const WORDS: [&str; 21] = [
     "accepted_line",
     "no_start_line",
     "long_text_line",
+    "step_limit_line",
 ];
 
 /// Makes the call that a word names. Whether it is one of these.
@@ -61,6 +62,7 @@ pub(crate) fn call(rt: &impl Print, alloc: Global, word: &str) -> io::Result<boo
         "accepted_line" => accepted(rt, alloc)?,
         "no_start_line" => no_start(rt, alloc)?,
         "long_text_line" => long_text(rt, alloc)?,
+        "step_limit_line" => step_limit(rt, alloc)?,
         _ => return Ok(false),
     }
     Ok(true)
@@ -201,5 +203,11 @@ fn no_start(rt: &impl Print, alloc: Global) -> io::Result<()> {
 fn long_text(rt: &impl Print, alloc: Global) -> io::Result<()> {
     let lent = Lent::of(alloc, &())?;
     let answer = long_text_line(alloc);
+    tell(rt, &lent, answer.is_err(), &answer)
+}
+
+fn step_limit(rt: &impl Print, alloc: Global) -> io::Result<()> {
+    let lent = Lent::of(alloc, &())?;
+    let answer = step_limit_line(alloc);
     tell(rt, &lent, answer.is_err(), &answer)
 }

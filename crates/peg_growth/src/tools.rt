@@ -86,11 +86,8 @@ fn parsed(rt: &impl Print, alloc: Global, word: &str) -> io::Result<bool> {
         "tool_parse_no_start" => (Some("B"), false),
         _ => return Ok(false),
     };
-    let options = ParseOptions {
-        start,
-        memo: 7,
-        steps: None,
-    };
+    let (memo, steps) = (7, None);
+    let options = ParseOptions { start, memo, steps };
     let all = true;
     let command = Command::Parse { options, all, rows };
     tool(rt, alloc, PREFIX, b"((((a)y)y)y)y", &command)?;
