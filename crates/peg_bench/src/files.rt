@@ -106,6 +106,15 @@ pub(crate) fn run(rt: &impl Print, alloc: Global, word: &str) -> io::Result<()> 
     Ok(())
 }
 
+// Reads a file of this kind by the figure, and prints how many rules it has, or why it has none.
+fn tell_by_figure(rt: &impl Print, alloc: Global, kind: &str, share: Share) -> io::Result<()> {
+    let file = file_of(alloc, kind, share)?;
+    match read_by_figure(alloc, &file) {
+        Ok(rules) => println!(rt; "{kind} {} bytes {} rules", file.len(), rules.len()),
+        Err(fault) => println!(rt; "{kind} {} bytes: {fault}", file.len()),
+    }
+}
+
 pub(crate) fn run_by_figure(
     rt: &impl Print,
     alloc: Global,
@@ -119,11 +128,7 @@ pub(crate) fn run_by_figure(
     };
     for kind in KINDS {
         if word.is_empty() || word == kind {
-            let file = file_of(alloc, kind, share)?;
-            match read_by_figure(alloc, &file) {
-                Ok(rules) => println!(rt; "{kind} {} bytes {} rules", file.len(), rules.len())?,
-                Err(fault) => println!(rt; "{kind} {} bytes: {fault}", file.len())?,
-            }
+            tell_by_figure(rt, alloc, kind, share)?;
         }
     }
     Ok(())
