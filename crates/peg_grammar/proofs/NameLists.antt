@@ -7,7 +7,8 @@ use Rattle.std.specs.String.{string_eq}
 use Rattle.std.specs.declared.alloc.Global.{Global}
 use Rattle.std.specs.declared.string.String.{String}
 use Rattle.indexmap.specs.IndexSet.{insert_key}
-use Rattle.std.proofs.lemmas.List.{length-map, map_push, at_drop_more}
+use Rattle.peg_grammar.specs.Names.{ended_names}
+use Rattle.std.proofs.lemmas.List.{append_assoc, length-map, map_push, at_drop_more}
 use Rattle.std.proofs.lemmas.List.Folds.{find-append}
 
 module _ {X Y : Type 0} (f : X → Y) (p : Y → Bool) where
@@ -64,3 +65,12 @@ map-insert_key texts text bytes is absent =
     let new = sym by_bytes ∙ ap (λ b. list_any (bytes_eq b) (map string_bytes texts)) is ∙ absent in
     ap (λ b. map string_bytes (if b then texts else texts ++ text ∷ [])) new
     ∙ map_push string_bytes texts text ∙ ap (λ b. map string_bytes texts ++ b ∷ []) is
+
+-- one more name goes behind those that are ended
+pub ended_names-push : (names : List (List ℕ)) (name : List ℕ)
+    → ended_names (names ++ name ∷ []) ≡ (ended_names names ++ name) ++ 0 ∷ []
+ended_names-push [] name = refl
+ended_names-push (first ∷ names) name =
+    ap (λ rest. first ++ 0 ∷ rest) (ended_names-push names name)
+    ∙ sym (append_assoc first (0 ∷ (ended_names names ++ name)) (0 ∷ []))
+    ∙ ap (λ front. front ++ 0 ∷ []) (sym (append_assoc first (0 ∷ ended_names names) name))

@@ -1,7 +1,9 @@
 -- Describes code: the names that it keeps and finds, as definitions see them.
-use Rattle.std.specs.Prelude.{ℕ, List, map, string_bytes}
+use Rattle.std.specs.Prelude.{ℕ, List, [], ◌∷◌, ◌++◌, map, string_bytes}
 use Rattle.std.specs.Borrow.{Bor}
+use Rattle.std.specs.Hash.DefaultHasher.{initial, write}
 use Rattle.std.specs.declared.alloc.Global.{Global}
+use Rattle.std.specs.declared.hash.DefaultHasher.{DefaultHasher}
 use Rattle.std.specs.declared.string.String.{String}
 use Rattle.indexmap.specs.IndexSet.{IndexSet}
 use Rattle.peg_bytes.specs.Extent.{extent}
@@ -15,3 +17,12 @@ names_in set = map string_bytes set.keys
 -- the name and the span of a pair
 abbrev pub reference_of : Bor (List ℕ) × Span → Reference
 reference_of pair = record { name = pair.0.now; span = extent pair.1 }
+
+-- the bytes of names one after the other, each ended by a byte that no name has
+abbrev pub ended_names : List (List ℕ) → List ℕ
+ended_names [] = []
+ended_names (name ∷ names) = name ++ 0 ∷ ended_names names
+
+-- the hasher of names, which has read a key first
+abbrev pub keyed_hasher : List ℕ → DefaultHasher
+keyed_hasher key = write initial key

@@ -7,6 +7,7 @@ ghost use Rattle.peg_grammar.specs.Refusal.{Refuses};
 ghost use Rattle.peg_ford.specs.Rules.{names as names_of, name_of, weight_of};
 ghost use Rattle.peg_grammar.specs.Written.{form_of, rules_of};
 
+use crate::name_key::NameKey;
 use crate::names::{checked_names, name_number};
 use crate::{Definition, Expr, GrammarFault, weight};
 use indexmap::IndexSet;
@@ -19,7 +20,7 @@ pub const MOST_PARTS: u64 = 4_194_304;
 /// rules have the numbers from 0 on, in written order.
 #[derive(Debug, Drop)]
 pub struct Grammar {
-    names: IndexSet<String>,
+    names: IndexSet<String, NameKey>,
     definitions: Vec<Definition>,
     ghost named: { names_in names ≡ names_of (rules_of definitions.items) },
     pub ghost grammar: { ∥ IsGrammar (rules_of definitions.items) ∥₁ },

@@ -5,6 +5,7 @@ mod expr;
 mod fault;
 mod found;
 mod grammar;
+mod name_key;
 mod names;
 mod names_of_grammar;
 mod numbers;

@@ -10,6 +10,7 @@ ghost use Rattle.peg_grammar.specs.Refusal.{Refuses};
 ghost use Rattle.peg_ford.specs.Rules.{names as names_of, uses};
 ghost use Rattle.peg_grammar.specs.Written.{form_of, rules_of};
 
+use crate::name_key::NameKey;
 use crate::{Definition, Expr, GrammarFault};
 use indexmap::IndexSet;
 use peg_bytes::Span;
@@ -19,7 +20,7 @@ use std::alloc::{AllocError, Global};
 pub(crate) fn checked_names(
     alloc: Global,
     definitions: &[Definition],
-) -> Result<IndexSet<String>, GrammarFault>
+) -> Result<IndexSet<String, NameKey>, GrammarFault>
     ensures all { IfOk result (λ set. names_in set ≡ names_of (rules_of definitions.now)) }
     ensures grammar { OnOk result (IsGrammar (rules_of definitions.now)) }
     ensures refused { IfErr result (Refuses (rules_of definitions.now)) }
@@ -39,12 +40,12 @@ pub(crate) fn checked_names(
 fn distinct_names(
     alloc: Global,
     definitions: &[Definition],
-) -> Result<IndexSet<String>, GrammarFault>
+) -> Result<IndexSet<String, NameKey>, GrammarFault>
     ensures all { IfOk result (λ set. names_in set ≡ names_of (rules_of definitions.now)) }
     ensures distinct { OnOk result (first_duplicate (rules_of definitions.now) ≡ None) }
     ensures refused { IfErr result (Refuses (rules_of definitions.now)) }
 {
-    let mut names = IndexSet::new(alloc);
+    let mut names = IndexSet::with_hasher(alloc, NameKey::of(definitions));
     for definition in definitions {
         if has_name(&names, definition.name.as_str()) {
             let name = definition.name.clone()?;
@@ -58,7 +59,7 @@ fn distinct_names(
 
 // Whether the set has a name.
 #[tactic(auto, using(crate::proofs::NameLists::name_steps))]
-fn has_name(names: &IndexSet<String>, name: &str) -> bool
+fn has_name(names: &IndexSet<String, NameKey>, name: &str) -> bool
     ensures { result ≡ list_any (bytes_eq name.now) (names_in names.now) }
 {
     names.contains(name)
@@ -66,7 +67,7 @@ fn has_name(names: &IndexSet<String>, name: &str) -> bool
 
 // The place of a name in the set's order.
 #[tactic(auto, using(crate::proofs::NameLists::name_steps))]
-pub(crate) fn name_number(names: &IndexSet<String>, name: &str) -> Option<usize>
+pub(crate) fn name_number(names: &IndexSet<String, NameKey>, name: &str) -> Option<usize>
     ensures value { result ≡ position (bytes_eq name.now) (names_in names.now) }
     ensures within { IfSome result (λ number. number < length (names_in names.now)) }
 {
@@ -75,7 +76,7 @@ pub(crate) fn name_number(names: &IndexSet<String>, name: &str) -> Option<usize>
 
 // Puts a name that is not there behind the others.
 #[tactic(auto, using(crate::proofs::NameLists::name_steps))]
-fn add_name(names: &mut IndexSet<String>, name: &String) -> Result<(), AllocError>
+fn add_name(names: &mut IndexSet<String, NameKey>, name: &String) -> Result<(), AllocError>
     requires { list_any (bytes_eq (string_bytes name.now)) (names_in names.old) ≡ false }
     ensures { OnOk result (names_in names.new ≡ names_in names.old ++ string_bytes name.now ∷ []) }
 {
@@ -85,7 +86,7 @@ fn add_name(names: &mut IndexSet<String>, name: &String) -> Result<(), AllocErro
 
 // The first use of a name that is not in the set, in written order.
 fn first_unknown<'a>(
-    names: &IndexSet<String>,
+    names: &IndexSet<String, NameKey>,
     definitions: &'a [Definition],
 ) -> Option<(&'a str, Span)>
     ensures { option_map reference_of result
@@ -100,7 +101,10 @@ fn first_unknown<'a>(
 }
 
 #[cycle(unknown)]
-fn unknown_in<'a>(names: &IndexSet<String>, expression: &'a Expr) -> Option<(&'a str, Span)>
+fn unknown_in<'a>(
+    names: &IndexSet<String, NameKey>,
+    expression: &'a Expr,
+) -> Option<(&'a str, Span)>
     ensures { option_map reference_of result
         ≡ find (is_unknown (names_in names.now)) (names_used (form_of expression.now)) }
 {
@@ -126,7 +130,10 @@ fn unknown_in<'a>(names: &IndexSet<String>, expression: &'a Expr) -> Option<(&'a
 }
 
 #[cycle(unknown)]
-fn unknown_among<'a>(names: &IndexSet<String>, items: &'a [Expr]) -> Option<(&'a str, Span)>
+fn unknown_among<'a>(
+    names: &IndexSet<String, NameKey>,
+    items: &'a [Expr],
+) -> Option<(&'a str, Span)>
     ensures { option_map reference_of result
         ≡ find (is_unknown (names_in names.now)) (names_used_by_all (forms (map form_of items.now))) }
 {
