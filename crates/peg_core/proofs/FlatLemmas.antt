@@ -1,5 +1,5 @@
 -- The forms that nodes stand for, number by number.
-use Rattle.std.proofs.Common.{◌≡◌, ℕ, zero, suc, ◌+◌, ◌<◌, ◌≤◌, List, [], ◌∷◌, ◌++◌, ◌⊎◌, inl, inr, length, get_or, fold, refl, sym, ap, ◌∙◌, subst, arith, length-append}
+use Rattle.std.proofs.Common.{◌≡◌, ℕ, zero, suc, ◌+◌, ◌<◌, ◌≤◌, List, [], ◌∷◌, ◌++◌, ◌⊎◌, inl, inr, length, get_or, slice_get, option_map, Some, fold, refl, sym, ap, ◌∙◌, subst, arith, length-append}
 use Rattle.std.proofs.lemmas.Bool.{cases_lt}
 use Rattle.std.proofs.lemmas.List.{get_or_append_left, get_or_at}
 use Rattle.std.proofs.lemmas.List.Sums.{fold-append}
@@ -101,6 +101,14 @@ node-there : (parts : List NodeAndOrigin) (number : ℕ) → number < length par
 node-there [] number within = absurd (omega (arith, within))
 node-there (p ∷ ps) zero within = (p, refl)
 node-there (p ∷ ps) (suc k) within = node-there ps k (omega (arith, within))
+
+-- a node by its number, of which so much is told
+pub part-at : {A : Type 0} (told : NodeAndOrigin → A) (parts : List NodeAndOrigin) (number : ℕ) (a : A)
+    → number < length parts → option_map told (slice_get parts number) ≡ Some a
+    → (part : NodeAndOrigin) × ((part ≡ get_or parts number part) × (told part ≡ a))
+part-at told [] number a within is = absurd (omega (arith, within))
+part-at told (p ∷ ps) zero a within is = let same : told p ≡ a = cc in (p, (refl, same))
+part-at told (p ∷ ps) (suc k) a within is = part-at told ps k a (omega (arith, within)) is
 
 -- so each form by its number is what a node stands for that fits there
 pub forms_of-nodes : (parts : List NodeAndOrigin) (rules terminals : ℕ) → AllFit rules terminals parts

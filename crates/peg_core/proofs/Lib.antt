@@ -12,6 +12,7 @@ pub mod PartsLemmas
 mod ReachedInSome
 mod RuleLemmas
 mod Sets
+mod SlotLemmas
 pub mod StandingLemmas
 pub mod SugarLoops
 pub mod SugarMeets

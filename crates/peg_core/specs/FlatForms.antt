@@ -24,10 +24,10 @@ AllFit rules terminals nodes =
 
 -- the forms, and where the terminals stand
 abbrev pub layout_of : Inside → Layout
-layout_of flat = record { rules = flat.rules; forms = forms_of flat.nodes.items; spans = map extent flat.spans.items }
+layout_of flat = record { rules = flat.rules; forms = forms_of flat.nodes; spans = map extent flat.spans.items }
 
 -- each node fits at its number, and there are few enough of all
 pub record IsFlat (flat : Inside) : Type 0 where
-  pub fit : AllFit flat.rules (length flat.spans.items) flat.nodes.items
-  pub few : length flat.nodes.items ≤ most_forms
+  pub fit : AllFit flat.rules (length flat.spans.items) flat.nodes
+  pub few : length flat.nodes ≤ most_forms
   pub few_terminals : length flat.spans.items ≤ most_parts

@@ -24,5 +24,6 @@ pub mod Laid
 pub mod Layout
 pub mod CoreNodes
 pub mod RecordDepth
+pub mod Slots
 pub mod Spelled
 pub mod Subexpressions

@@ -7,6 +7,7 @@ ghost use Rattle.peg_core.specs.CoreNodes.{NodeFits, IsStarFrom, Spells, shape};
 ghost use Rattle.peg_core.specs.Spelled.{AreOfNodes};
 
 use crate::node::{Node, NodeAndOrigin};
+use crate::packed::Nodes;
 use peg_bytes::Span;
 use std::alloc::{AllocError, Global};
 use std::marker::Model;
@@ -15,7 +16,7 @@ use std::marker::Model;
 #[derive(Debug, Drop)]
 pub(crate) struct Flat {
     rules: u32,
-    nodes: Vec<NodeAndOrigin>,
+    nodes: Nodes,
     spans: Vec<Span>,
 }
 
@@ -41,7 +42,7 @@ impl Flat {
     {
         Flat {
             rules,
-            nodes: Vec::new(alloc),
+            nodes: Nodes::new(alloc),
             spans: Vec::new(alloc),
         }
     }
@@ -93,7 +94,7 @@ impl Flat {
         ensures form { Spells self.now.forms number result }
         ensures fits { NodeFits number self.now.rules (length self.now.spans) result }
     {
-        self.nodes[number as usize].node
+        self.nodes.node(number)
     }
 
     /// Where the star or plus stands that a star came from.
@@ -102,7 +103,7 @@ impl Flat {
         requires star { (origin : Extent) × IsStarFrom self.now.forms number origin }
         ensures { IsStarFrom self.now.forms number (extent result) }
     {
-        self.nodes[number as usize].origin
+        self.nodes.origin(number)
     }
 
     /// Where a terminal stands.

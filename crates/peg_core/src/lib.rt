@@ -6,6 +6,7 @@ mod flat;
 pub mod laws;
 mod nest;
 mod node;
+mod packed;
 pub mod record_laws;
 mod signs;
 mod sugar;

@@ -9,13 +9,13 @@ use Rattle.peg_core.proofs.flat.Flat.len.Goals as goal
 
 pub returns-clause-count : goal.returns-clause-count
 returns-clause-count c =
-    c.len.ensures ∙ (c.self.inside.nodes.ok.0 ∙ (sym (length-forms_of c.self.inside.nodes.items)
-    ∙ ap (λ (l : Layout). length l.forms) c.self.view_is))
+    c.len.ensures ∙ (sym (length-forms_of c.self.inside.nodes)
+    ∙ ap (λ (l : Layout). length l.forms) c.self.view_is)
 
 pub returns-clause-spelled : goal.returns-clause-spelled
 returns-clause-spelled c =
     let inside = c.self.inside in
-    let forms = forms_of inside.nodes.items in
+    let forms = forms_of inside.nodes in
     subst (λ (l : Layout). AreOfNodes l.forms l.rules (length l.spans)) c.self.view_is
     (subst (AreOfNodes forms inside.rules) (sym (length-map inside.spans.items extent))
-    (forms_of-nodes inside.nodes.items inside.rules (length inside.spans.items) c.self.invariant.fit))
+    (forms_of-nodes inside.nodes inside.rules (length inside.spans.items) c.self.invariant.fit))

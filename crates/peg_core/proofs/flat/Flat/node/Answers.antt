@@ -3,28 +3,33 @@ use Rattle.std.proofs.lemmas.List.{length-map}
 use Rattle.peg_bytes.specs.Extent.{extent}
 use Rattle.peg_core.specs.Layout.{Layout}
 use Rattle.peg_core.specs.CoreNodes.{NodeFits, Spells}
-use Rattle.peg_core.proofs.FlatLemmas.{length-forms_of, form_at-node, fits-at}
+use Rattle.peg_core.specs.declared.node.NodeAndOrigin.{NodeAndOrigin}
+use Rattle.peg_core.proofs.FlatLemmas.{length-forms_of, form_at-node, fits-at, part-at}
 use Rattle.peg_core.proofs.flat.Flat.node.Goals as goal
 
-pub index-requires : goal.index-requires
-index-requires c =
-    omega (arith, c.requires, c.self.inside.nodes.ok.0, length-forms_of c.self.inside.nodes.items, ap (λ (l : Layout). length l.forms) c.self.view_is)
+pub node-requires : goal.node-requires
+node-requires c =
+    omega (arith, c.requires, length-forms_of c.self.inside.nodes, ap (λ (l : Layout). length l.forms) c.self.view_is)
 
 pub returns-clause-form : goal.returns-clause-form
 returns-clause-form c =
     let inside = c.self.inside in
-    let few : c.args.number < length inside.nodes.items = omega (arith, c.requires, length-forms_of inside.nodes.items, ap (λ (l : Layout). length l.forms) c.self.view_is) in
-    let part = c.index.result.now in
-    subst (λ (l : Layout). Spells l.forms c.args.number part.node) c.self.view_is (
+    let few : c.args.number < length inside.nodes = omega (arith, c.requires, length-forms_of inside.nodes, ap (λ (l : Layout). length l.forms) c.self.view_is) in
+    let found = part-at (λ (p : NodeAndOrigin). p.node) inside.nodes c.args.number c.node.result few c.node.ensures in
+    let part = found.0 in
+    subst (Spells c.args.self.now.forms c.args.number) found.1.1
+    (subst (λ (l : Layout). Spells l.forms c.args.number part.node) c.self.view_is (
       extent part.origin,
-      form_at-node inside.nodes.items inside.rules (length inside.spans.items) c.args.number part c.self.invariant.fit few c.index.ensures,
-    )
+      form_at-node inside.nodes inside.rules (length inside.spans.items) c.args.number part c.self.invariant.fit few found.1.0,
+    ))
 
 pub returns-clause-fits : goal.returns-clause-fits
 returns-clause-fits c =
     let inside = c.self.inside in
-    let few : c.args.number < length inside.nodes.items = omega (arith, c.requires, length-forms_of inside.nodes.items, ap (λ (l : Layout). length l.forms) c.self.view_is) in
-    let part = c.index.result.now in
-    subst (λ (l : Layout). NodeFits c.args.number l.rules (length l.spans) part.node) c.self.view_is
-    (subst (λ n. NodeFits c.args.number inside.rules n part.node) (sym (length-map inside.spans.items extent))
-    (fits-at inside.nodes.items inside.rules (length inside.spans.items) c.args.number part c.self.invariant.fit few c.index.ensures))
+    let few : c.args.number < length inside.nodes = omega (arith, c.requires, length-forms_of inside.nodes, ap (λ (l : Layout). length l.forms) c.self.view_is) in
+    let found = part-at (λ (p : NodeAndOrigin). p.node) inside.nodes c.args.number c.node.result few c.node.ensures in
+    let part = found.0 in
+    subst (λ (l : Layout). NodeFits c.args.number l.rules (length l.spans) c.node.result) c.self.view_is
+    (subst (λ n. NodeFits c.args.number inside.rules n c.node.result) (sym (length-map inside.spans.items extent))
+    (subst (NodeFits c.args.number inside.rules (length inside.spans.items)) found.1.1
+    (fits-at inside.nodes inside.rules (length inside.spans.items) c.args.number part c.self.invariant.fit few found.1.0)))

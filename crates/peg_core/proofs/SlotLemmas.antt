@@ -1,0 +1,76 @@
+-- Nodes whose sets stand aside.
+use Rattle.std.proofs.Common.{◌≡◌, ℕ, zero, suc, ◌+◌, ◌≤◌, All, List, [], ◌∷◌, ◌++◌, length}
+use Rattle.std.proofs.Common.{refl, ap, ◌∙◌, subst, sym, arith, length-append}
+use Rattle.std.proofs.lemmas.List.{get_or_append_left, map-append}
+use Rattle.std.proofs.lemmas.List.Elements.{All-push, All-weaker}
+use Rattle.peg_bytes.specs.declared.byte_set.ByteSet.{ByteSet}
+use Rattle.peg_core.specs.Slots.{AddsSets, IsPacked, ItemFits, SlotFits, unpacked, unpacked_item, unpacked_slot}
+use Rattle.peg_core.specs.declared.node.Node.TheVariants.{Test}
+use Rattle.peg_core.specs.declared.node.NodeAndOrigin.{NodeAndOrigin}
+use Rattle.peg_core.specs.declared.packed.Slot.{Slot}
+use Rattle.peg_core.specs.declared.packed.Slot.TheVariants as slot
+use Rattle.peg_core.specs.declared.packed.SlotAndOrigin.{SlotAndOrigin}
+use Rattle.peg_core.specs.declared.packed.Nodes.TheInside.{Inside}
+
+-- ---- more sets behind others
+
+slot-more : (sets more : List ByteSet) (s : Slot) → SlotFits (length sets) s
+    → unpacked_slot (sets ++ more) s ≡ unpacked_slot sets s
+slot-more sets more slot.Empty fits = refl
+slot-more sets more (slot.Test set terminal) fits =
+    ap (λ (b : ByteSet). Test b terminal) (get_or_append_left sets more (record { words = [] }) set fits)
+slot-more sets more (slot.Rule rule) fits = refl
+slot-more sets more (slot.Seq first rest) fits = refl
+slot-more sets more (slot.Choice first rest) fits = refl
+slot-more sets more (slot.Star part) fits = refl
+slot-more sets more (slot.Not part) fits = refl
+
+item-more : (sets more : List ByteSet) (item : SlotAndOrigin) → ItemFits (length sets) item
+    → unpacked_item (sets ++ more) item ≡ unpacked_item sets item
+item-more sets more item fits =
+    λ i. record { node = slot-more sets more item.slot fits i; origin = item.origin }
+
+unpacked-more : (sets more : List ByteSet) (items : List SlotAndOrigin) → All (ItemFits (length sets)) items
+    → unpacked (sets ++ more) items ≡ unpacked sets items
+unpacked-more sets more [] fit = refl
+unpacked-more sets more (item ∷ items) fit =
+    let here = item-more sets more item (fit zero item (omega arith)) in
+    let rest = unpacked-more sets more items (λ k d within. fit (suc k) d (omega arith)) in
+    λ i. here i ∷ rest i
+
+fits-more : (count now : ℕ) → count ≤ now → (s : Slot) → SlotFits count s → SlotFits now s
+fits-more count now more slot.Empty fits = tt
+fits-more count now more (slot.Test set terminal) fits = omega arith
+fits-more count now more (slot.Rule rule) fits = tt
+fits-more count now more (slot.Seq first rest) fits = tt
+fits-more count now more (slot.Choice first rest) fits = tt
+fits-more count now more (slot.Star part) fits = tt
+fits-more count now more (slot.Not part) fits = tt
+
+-- ---- one more node
+
+module _ (old new : Inside) (item : SlotAndOrigin) (is : IsPacked old) (adds : AddsSets old.sets.items new.sets.items)
+    (put : new.slots.items ≡ old.slots.items ++ item ∷ []) where
+  longer : length new.sets.items ≡ length old.sets.items + length adds.more
+  longer = ap length adds.added ∙ length-append old.sets.items adds.more
+
+  pub IsPacked-push : ItemFits (length new.sets.items) item → IsPacked new
+  IsPacked-push fits =
+      let Was : SlotAndOrigin → Type 0 = ItemFits (length old.sets.items) in
+      let P : SlotAndOrigin → Type 0 = ItemFits (length new.sets.items) in
+      let more : length old.sets.items ≤ length new.sets.items = omega (arith, longer) in
+      let wider = λ (i : SlotAndOrigin). fits-more (length old.sets.items) (length new.sets.items) more i.slot in
+      let kept : All P old.slots.items = All-weaker Was P wider old.slots.items is.fit in
+      record {
+        fit = subst (All P) (sym put) (All-push P old.slots.items item kept fits);
+        few = omega (arith, longer, adds.few, is.few, ap length put, length-append old.slots.items (item ∷ []));
+      }
+
+  pub unpacked-push : (next : NodeAndOrigin) → unpacked_item new.sets.items item ≡ next
+      → unpacked new.sets.items new.slots.items ≡ unpacked old.sets.items old.slots.items ++ next ∷ []
+  unpacked-push next holds =
+      let same = unpacked-more old.sets.items adds.more old.slots.items is.fit in
+      ap (unpacked new.sets.items) put
+      ∙ (map-append (unpacked_item new.sets.items) old.slots.items (item ∷ [])
+      ∙ ((λ j. unpacked (adds.added j) old.slots.items ++ holds j ∷ [])
+      ∙ ap (λ (nodes : List NodeAndOrigin). nodes ++ next ∷ []) same))

@@ -1,0 +1,55 @@
+-- Describes code: nodes whose sets stand aside.
+use Rattle.std.specs.Prelude.{◌≡◌, ℕ, ◌<◌, ◌≤◌, All, List, [], ◌++◌, length, map, slice_index_or}
+use Rattle.peg_bytes.specs.declared.byte_set.ByteSet.{ByteSet}
+use Rattle.peg_core.specs.declared.node.Node.{Node}
+use Rattle.peg_core.specs.declared.node.Node.TheVariants.{Empty, Test, Rule, Seq, Choice, Star, Not}
+use Rattle.peg_core.specs.declared.node.NodeAndOrigin.{NodeAndOrigin}
+use Rattle.peg_core.specs.declared.packed.Slot.{Slot}
+use Rattle.peg_core.specs.declared.packed.Slot.TheVariants as slot
+use Rattle.peg_core.specs.declared.packed.SlotAndOrigin.{SlotAndOrigin}
+use Rattle.peg_core.specs.declared.packed.Nodes.TheInside.{Inside}
+
+-- the set with a number, or the empty one
+abbrev pub set_at : List ByteSet → ℕ → ByteSet
+set_at sets number = slice_index_or sets number (record { words = [] })
+
+-- the node that a slot holds, where these are the sets
+abbrev pub unpacked_slot : List ByteSet → Slot → Node
+unpacked_slot sets slot.Empty = Empty
+unpacked_slot sets (slot.Test set terminal) = Test (set_at sets set) terminal
+unpacked_slot sets (slot.Rule rule) = Rule rule
+unpacked_slot sets (slot.Seq first rest) = Seq first rest
+unpacked_slot sets (slot.Choice first rest) = Choice first rest
+unpacked_slot sets (slot.Star part) = Star part
+unpacked_slot sets (slot.Not part) = Not part
+
+-- the node that an item holds, with where it came from
+abbrev pub unpacked_item : List ByteSet → SlotAndOrigin → NodeAndOrigin
+unpacked_item sets item = record { node = unpacked_slot sets item.slot; origin = item.origin }
+
+abbrev pub unpacked : List ByteSet → List SlotAndOrigin → List NodeAndOrigin
+unpacked sets items = map (unpacked_item sets) items
+
+-- the set of a slot is one of so many
+abbrev pub SlotFits : (count : ℕ) → Slot → Type 0
+SlotFits count slot.Empty = Unit {0}
+SlotFits count (slot.Test set terminal) = set < count
+SlotFits count (slot.Rule rule) = Unit {0}
+SlotFits count (slot.Seq first rest) = Unit {0}
+SlotFits count (slot.Choice first rest) = Unit {0}
+SlotFits count (slot.Star part) = Unit {0}
+SlotFits count (slot.Not part) = Unit {0}
+
+abbrev pub ItemFits : (count : ℕ) → SlotAndOrigin → Type 0
+ItemFits count item = SlotFits count item.slot
+
+-- each slot's set is there, and there are no more sets than slots
+pub record IsPacked (packed : Inside) : Type 0 where
+  pub fit : All (ItemFits (length packed.sets.items)) packed.slots.items
+  pub few : length packed.sets.items ≤ length packed.slots.items
+
+-- one more set at most was put behind others
+pub record AddsSets (old new : List ByteSet) : Type 0 where
+  pub more : List ByteSet
+  pub added : new ≡ old ++ more
+  pub few : length more ≤ 1

@@ -1,0 +1,150 @@
+//! Nodes in little room.
+ghost use Rattle.std.specs.Prelude.{◌≡◌, ◌<◌, ◌≤◌, [], ◌∷◌, ◌++◌, length, option_map, slice_get};
+ghost use Rattle.std.specs.Prelude.{IfOk, OnErr, OnOk, Some};
+ghost use Rattle.peg_core.specs.Layout.{most_forms};
+ghost use Rattle.peg_core.specs.Slots.{AddsSets, SlotFits, unpacked_slot};
+
+use crate::node::{Node, NodeAndOrigin};
+use peg_bytes::{ByteSet, Span};
+use std::alloc::{AllocError, Global};
+use std::marker::Model;
+
+/// A node in 12 bytes, its set by its number among sets.
+#[derive(Clone, Copy, Debug)]
+pub(crate) enum Slot {
+    Empty,
+    Test { set: u32, terminal: u32 },
+    Rule(u32),
+    Seq(u32, u32),
+    Choice(u32, u32),
+    Star(u32),
+    Not(u32),
+}
+
+/// A slot, and where the star or plus that its node came from stands.
+#[derive(Clone, Copy, Debug)]
+pub(crate) struct SlotAndOrigin {
+    slot: Slot,
+    origin: Span,
+}
+
+const _: () = prove!(size_of::<SlotAndOrigin>() == 20);
+
+/// Nodes whose sets stand aside; a set that comes behind an equal one isn't put again.
+#[derive(Debug, Drop)]
+pub(crate) struct Nodes {
+    slots: Vec<SlotAndOrigin>,
+    sets: Vec<ByteSet>,
+}
+
+impl Model for Nodes {
+    ghost use Rattle.std.specs.Prelude.{List};
+    ghost use Rattle.peg_core.specs.declared.node.NodeAndOrigin.{NodeAndOrigin};
+
+    ghost Value = { List NodeAndOrigin };
+
+    ghost use Rattle.peg_core.specs.Slots.{unpacked, IsPacked};
+
+    ghost view = { λ packed. unpacked packed.sets.items packed.slots.items };
+
+    ghost invariant = { IsPacked };
+}
+
+impl Nodes {
+    /// No nodes.
+    pub(crate) fn new(alloc: Global) -> Nodes
+        ensures { result ≡ [] }
+    {
+        Nodes {
+            slots: Vec::new(alloc),
+            sets: Vec::new(alloc),
+        }
+    }
+
+    /// How many nodes there are. Takes constant time.
+    pub(crate) fn len(&self) -> usize
+        ensures { result ≡ length self.now }
+    {
+        self.slots.len()
+    }
+
+    /// One more node.
+    pub(crate) fn push(&mut self, next: NodeAndOrigin) -> Result<(), AllocError>
+        requires { length self.old < most_forms }
+        ensures added { OnOk result (self.new ≡ self.old ++ next ∷ []) }
+        ensures unchanged { OnErr result (self.new ≡ self.old) }
+    {
+        // There is room for it first, so that no set is put without its node.
+        self.slots.reserve(1)?;
+        let slot = slot_of(&mut self.sets, next.node)?;
+        self.slots.push(SlotAndOrigin {
+            slot,
+            origin: next.origin,
+        })?;
+        Ok(())
+    }
+
+    /// The node with a number. Takes constant time.
+    pub(crate) fn node(&self, number: u32) -> Node
+        requires { number < length self.now }
+        ensures { option_map (λ found. found.node) (slice_get self.now number) ≡ Some result }
+    {
+        match self.slots[number as usize].slot {
+            Slot::Empty => Node::Empty,
+            Slot::Test { set, terminal } => Node::Test {
+                set: self.sets[set as usize],
+                terminal,
+            },
+            Slot::Rule(rule) => Node::Rule(rule),
+            Slot::Seq(first, rest) => Node::Seq(first, rest),
+            Slot::Choice(first, rest) => Node::Choice(first, rest),
+            Slot::Star(part) => Node::Star(part),
+            Slot::Not(part) => Node::Not(part),
+        }
+    }
+
+    /// Where the node with a number came from. Takes constant time.
+    pub(crate) fn origin(&self, number: u32) -> Span
+        requires { number < length self.now }
+        ensures { option_map (λ found. found.origin) (slice_get self.now number) ≡ Some result }
+    {
+        self.slots[number as usize].origin
+    }
+}
+
+// A node whose set is among sets, where it is put if it has to be.
+fn slot_of(sets: &mut Vec<ByteSet>, node: Node) -> Result<Slot, AllocError>
+    requires { length sets.old.items ≤ most_forms }
+    ensures added { OnOk result (AddsSets sets.old.items sets.new.items) }
+    ensures unchanged { OnErr result (sets.new.items ≡ sets.old.items) }
+    ensures fits { IfOk result (λ slot. SlotFits (length sets.new.items) slot) }
+    ensures slot { IfOk result (λ slot. unpacked_slot sets.new.items slot ≡ node) }
+{
+    Ok(match node {
+        Node::Empty => Slot::Empty,
+        Node::Test { set, terminal } => Slot::Test {
+            set: number_of(sets, set)?,
+            terminal,
+        },
+        Node::Rule(rule) => Slot::Rule(rule),
+        Node::Seq(first, rest) => Slot::Seq(first, rest),
+        Node::Choice(first, rest) => Slot::Choice(first, rest),
+        Node::Star(part) => Slot::Star(part),
+        Node::Not(part) => Slot::Not(part),
+    })
+}
+
+// The number of a set among others, where it is put unless it is the last of them.
+fn number_of(sets: &mut Vec<ByteSet>, set: ByteSet) -> Result<u32, AllocError>
+    requires { length sets.old.items ≤ most_forms }
+    ensures added { OnOk result (AddsSets sets.old.items sets.new.items) }
+    ensures unchanged { OnErr result (sets.new.items ≡ sets.old.items) }
+    ensures number { IfOk result (λ number. slice_get sets.new.items number ≡ Some set) }
+{
+    let count = sets.len() as u32;
+    if sets.last() == Some(&set) {
+        return Ok(count - 1);
+    }
+    sets.push(set)?;
+    Ok(count)
+}
