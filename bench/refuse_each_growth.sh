@@ -43,8 +43,8 @@ file "A <- (('')?)*\n" star.peg
 file "A <- '(' A ')' 'x' / '(' A ')' 'y' / 'a'\n" prefix.peg
 file '(a)y' prefix.txt
 times() { printf "%0.s$2" $(seq "$1"); } # a count, and what is written so often
-# No deeper: where the memo's own growth is refused, the run goes on without it, and each level doubles the steps.
-file "$(times 12 '(')a$(times 12 ')y')" deep.txt
+# Without a memo each level doubles the steps: a refused growth costs a result, and never the rest of the memo.
+file "$(times 30 '(')a$(times 30 ')y')" deep.txt
 file "A <- $(times 201 '(')'a'$(times 201 ')')\n" nested.peg
 file "A <- $(times 24 '(')'a'+$(times 24 ')+')\n" large.peg
 head -c 1048577 /dev/zero | tr '\0' ' ' > "$work/long.peg"

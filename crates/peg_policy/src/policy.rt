@@ -4,6 +4,8 @@
 //! with each row that a hit brings, and shrinks by the rows that are kept. A result is kept only where the credit has
 //! grown by its rows at least since its body began. So no more rows are copied than work was done; and a body whose
 //! result is declined for this left rows in the memo for half its work at least, which are found when it is run again.
+//! Of a rule in debt more is asked: that the credit has grown by more than what the beginnings of so many bodies are.
+//! Where a result's rows were each begun once and nothing else was, to run the body again is hardly dearer than a copy.
 //!
 //! **Tiny rules aren't asked.** Their bodies cost less than a look into the memo.
 //!
@@ -59,8 +61,9 @@ pub struct Policy<'a> {
     costs: &'a Costs,
     standings: Vec<Standing>,
     recent: Recent,
-    // What the credit was when each open body began.
+    // What the credit was when each open body began, but for so many of the newest, which found no room.
     open: Vec<u64>,
+    missed: usize,
     credit: u64,
 }
 
@@ -78,6 +81,7 @@ impl<'a> Policy<'a> {
             standings: first_standings(alloc, costs.rules())?,
             recent: Recent::new(alloc, capacity)?,
             open: Vec::new(alloc),
+            missed: 0,
             credit: 0,
         })
     }
@@ -98,11 +102,24 @@ impl<'a> Policy<'a> {
         }
     }
 
-    /// Notes that a body begins. Where memory is refused, nothing is asked for or kept from then on.
+    /// Notes that a body begins. Where memory is refused its result isn't kept, nor are those of the bodies that begin
+    /// within it until there is room again: then they count as begun with the one that found it.
     pub fn begin(&mut self) {
-        match self.open.push(self.credit) {
-            Ok(()) => self.credit = self.credit.saturating_add(BODY),
-            Err(_) => self.standings.clear(),
+        if self.missed > 0 {
+            self.make_room();
+        }
+        if self.missed == 0 && self.open.push(self.credit).is_ok() {
+            self.credit = self.credit.saturating_add(BODY);
+        } else {
+            self.missed = self.missed.saturating_add(1);
+        }
+    }
+
+    // Puts the open bodies that found no room behind the others, if there is room now.
+    fn make_room(&mut self) {
+        let bodies = self.open.len().saturating_add(self.missed);
+        if self.open.resize(bodies, self.credit).is_ok() {
+            self.missed = 0;
         }
     }
 
@@ -117,7 +134,8 @@ impl<'a> Policy<'a> {
         }
     }
 
-    /// Whether the result of a body that has ended is to be kept. The start's own is not: nothing asks for it.
+    /// Whether the result of a body that has ended is to be kept. The start's own is not: nothing asks for it. Nor is
+    /// that of a body that found no room among the open ones.
     pub fn wants(&mut self, rule: u32, place: u32, size: Size) -> bool {
         let Some(standing) = self.standings.get_mut(rule as usize) else {
             return false;
@@ -125,21 +143,26 @@ impl<'a> Policy<'a> {
         if standing.tiny {
             return false;
         }
+        if self.missed > 0 {
+            self.missed = self.missed.saturating_sub(1);
+            return false;
+        }
         let Some(began) = self.open.pop() else {
             return false;
         };
         let work = self.credit.saturating_sub(began);
-        if standing.balance < DEBT && is_small(size, work) {
-            let again = if size.failed {
-                fails_soon(self.costs, rule, self.text, place)
-            } else {
-                standing.bounded
-            };
-            if again && standing.skips(size.rows) {
-                return false;
-            }
+        if work < standing.price_of(size.rows) {
+            return false;
         }
-        size.rows <= work
+        if standing.balance >= DEBT || !is_small(size, work) {
+            return true;
+        }
+        let again = if size.failed {
+            fails_soon(self.costs, rule, self.text, place)
+        } else {
+            standing.bounded
+        };
+        !(again && standing.skips(size.rows))
     }
 
     /// Notes that a result was kept.
@@ -154,6 +177,15 @@ impl<'a> Policy<'a> {
 }
 
 impl Standing {
+    // The least work for which a result with so many rows is kept.
+    fn price_of(&self, rows: u64) -> u64 {
+        if self.balance < DEBT {
+            rows.saturating_mul(BODY).saturating_add(1)
+        } else {
+            rows
+        }
+    }
+
     // Whether a small result is none of the sample.
     fn skips(&mut self, rows: u64) -> bool {
         let period = SAMPLE.saturating_add(rows.saturating_mul(SAMPLE / 16));

@@ -1,11 +1,12 @@
 //! A memo that keeps what pays.
-ghost use Rattle.std.specs.Prelude.{◌≡◌, ◌≤◌, ◌↔◌, IfOk, IsTrue};
+ghost use Rattle.std.specs.Prelude.{◌≡◌, ◌≤◌, ◌↔◌, if◌then◌else◌, IfOk, IsTrue, Some};
 ghost use Rattle.std.specs.FinMap as map;
 ghost use Rattle.peg_memo.specs.Held.{held_in, IsPartOf};
+ghost use Rattle.peg_memo.specs.Kept.{kept_of};
 
 use crate::Costs;
 use crate::policy::Policy;
-use crate::size::size_of;
+use crate::size::{Size, size_of};
 use peg_memo::{Found, Keep, LruMemo};
 use std::alloc::{AllocError, Global};
 
@@ -89,6 +90,29 @@ impl<'a> Selective<'a> {
     }
 }
 
+impl Selective<'_> {
+    ghost use Rattle.peg_policy.specs.Selective.{held_by};
+
+    // Holds a result that pays, for which others are dropped. Whether it is held then. It stands apart, since most
+    // results are declined.
+    #[inline(never)]
+    fn hold(&mut self, rule: u32, place: u32, found: Found<'_>, size: Size) -> bool
+        ensures part { IsPartOf (held_by self.new)
+            (if result then map.insert (held_by self.old) (rule, place) (kept_of found.entry) else held_by self.old) }
+        ensures kept { IsTrue result → map.get (held_by self.new) (rule, place) ≡ Some (kept_of found.entry) }
+        ensures refused { IsTrue self.old.memo.refused → IsTrue self.new.memo.refused }
+    {
+        self.make_room(size.rows);
+        let kept = Keep::keep(&mut self.memo, rule, place, found);
+        if kept {
+            self.held = self.held.saturating_add(1);
+            self.rows = self.rows.saturating_add(size.rows);
+            self.policy.note_kept(rule, place, size);
+        }
+        kept
+    }
+}
+
 impl Keep for Selective<'_> {
     ghost held = { λ it. held_in it.memo.pairs };
 
@@ -120,16 +144,6 @@ impl Keep for Selective<'_> {
 
     fn keep(&mut self, rule: u32, place: u32, found: Found<'_>) -> bool {
         let size = size_of(found, place);
-        if !self.policy.wants(rule, place, size) {
-            return false;
-        }
-        self.make_room(size.rows);
-        let kept = Keep::keep(&mut self.memo, rule, place, found);
-        if kept {
-            self.held = self.held.saturating_add(1);
-            self.rows = self.rows.saturating_add(size.rows);
-            self.policy.note_kept(rule, place, size);
-        }
-        kept
+        self.policy.wants(rule, place, size) && self.hold(rule, place, found, size)
     }
 }

@@ -1,7 +1,7 @@
 use Rattle.peg_memo.specs.Held.{held_in}
 use Rattle.peg_memo.specs.Kept.{kept_of}
 use Rattle.peg_policy.proofs.Parts.{IsPartOf-kept}
-use Rattle.peg_policy.proofs.selective.SelectiveKeep.keep.Goals as goal
+use Rattle.peg_policy.proofs.selective.Selective.hold.Goals as goal
 
 pub returns-then-kept-clause-part : goal.returns-then-kept-clause-part
 returns-then-kept-clause-part c =
