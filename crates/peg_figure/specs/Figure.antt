@@ -1,5 +1,6 @@
--- Ford's figure 1 (Ford 2004, section 2.1): the notation of grammar files, as a grammar. Each rule stands with the
--- places that it has in the figure's text.
+-- Ford's figure 1 (Ford 2004, section 2.1): the notation of grammar files, as a grammar. Its rule Char has one
+-- alternative more, before the others: a byte written by two hexadecimal digits. Each rule stands with the places that
+-- it has in the figure's text.
 use Rattle.std.specs.Prelude.{ℕ, ◌+◌, List, [], ◌∷◌, codes}
 use Rattle.peg_bytes.specs.Extent.{between}
 use Rattle.peg_ford.specs.Form.{Form, Literal, Class, Any, Name, Seq, Choice, Optional, Star, Plus, Not, forms}
@@ -102,34 +103,43 @@ range_body = Choice (Seq (forms (Name (codes "Char") (between 522 526) ∷ Liter
     Name (codes "Char") (between 531 535) ∷ [])) (between 522 535)) (forms (Name (codes "Char") (between 538 542) ∷
     [])) (between 522 542)
 
+-- [0-9a-fA-F], where it stands in the figure's text
+abbrev pub hexadecimal_class : (start end : ℕ) → Form
+hexadecimal_class start end = Class (class_of (range 48 57 ∷ range 97 102 ∷ range 65 70 ∷ [])) (between start end)
+
+-- '\\x' [0-9a-fA-F][0-9a-fA-F]
+abbrev pub char_hexadecimal : Form
+char_hexadecimal = Seq (forms (Literal (codes "\\x") (between 551 556) ∷ hexadecimal_class 557 568 ∷
+    hexadecimal_class 568 579 ∷ [])) (between 551 579)
+
 -- '\\' [nrt'"\[\]\\]
 abbrev pub char_sign : Form
-char_sign = Seq (forms (Literal (codes "\\") (between 551 555) ∷
+char_sign = Seq (forms (Literal (codes "\\") (between 582 586) ∷
     Class (class_of (range 110 110 ∷ range 114 114 ∷ range 116 116 ∷ range 39 39 ∷ range 34 34 ∷ range 91 91 ∷
-    range 93 93 ∷ range 92 92 ∷ [])) (between 556 569) ∷ [])) (between 551 569)
+    range 93 93 ∷ range 92 92 ∷ [])) (between 587 600) ∷ [])) (between 582 600)
 
 -- '\\' [0-2][0-7][0-7]
 abbrev pub char_three_digits : Form
-char_three_digits = Seq (forms (Literal (codes "\\") (between 572 576) ∷
-    Class (class_of (range 48 50 ∷ [])) (between 577 582) ∷ Class (class_of (range 48 55 ∷ [])) (between 582 587) ∷
-    Class (class_of (range 48 55 ∷ [])) (between 587 592) ∷ [])) (between 572 592)
+char_three_digits = Seq (forms (Literal (codes "\\") (between 603 607) ∷
+    Class (class_of (range 48 50 ∷ [])) (between 608 613) ∷ Class (class_of (range 48 55 ∷ [])) (between 613 618) ∷
+    Class (class_of (range 48 55 ∷ [])) (between 618 623) ∷ [])) (between 603 623)
 
 -- '\\' [0-7][0-7]?
 abbrev pub char_two_digits : Form
-char_two_digits = Seq (forms (Literal (codes "\\") (between 595 599) ∷
-    Class (class_of (range 48 55 ∷ [])) (between 600 605) ∷
-    Optional (Class (class_of (range 48 55 ∷ [])) (between 605 610)) (between 605 611) ∷ [])) (between 595 611)
+char_two_digits = Seq (forms (Literal (codes "\\") (between 626 630) ∷
+    Class (class_of (range 48 55 ∷ [])) (between 631 636) ∷
+    Optional (Class (class_of (range 48 55 ∷ [])) (between 636 641)) (between 636 642) ∷ [])) (between 626 642)
 
 -- !'\\' .
 abbrev pub char_alone : Form
 char_alone =
-    Seq (forms (Not (Literal (codes "\\") (between 615 619)) (between 614 619) ∷ Any (between 620 621) ∷ []))
-    (between 614 621)
+    Seq (forms (Not (Literal (codes "\\") (between 646 650)) (between 645 650) ∷ Any (between 651 652) ∷ []))
+    (between 645 652)
 
--- Char <- '\\' [nrt'"\[\]\\] / '\\' [0-2][0-7][0-7] / '\\' [0-7][0-7]? / !'\\' .
+-- Char <- '\\x' [0-9a-fA-F][0-9a-fA-F] / '\\' [nrt'"\[\]\\] / '\\' [0-2][0-7][0-7] / '\\' [0-7][0-7]? / !'\\' .
 unfoldable pub char_body : Form
-char_body =
-    Choice char_sign (forms (char_three_digits ∷ char_two_digits ∷ char_alone ∷ [])) (between 551 621)
+char_body = Choice char_hexadecimal (forms (char_sign ∷ char_three_digits ∷ char_two_digits ∷ char_alone ∷ []))
+    (between 551 652)
 
 -- a sign that stands here in the figure's text, and one place behind it a Spacing
 abbrev pub sign_body : List ℕ → (start end : ℕ) → Form
@@ -138,68 +148,68 @@ sign_body text start end = Seq (forms (Literal text (between start end) ∷
 
 -- LEFTARROW <- '<-' Spacing
 abbrev pub leftarrow_body : Form
-leftarrow_body = sign_body (codes "<-") 635 639
+leftarrow_body = sign_body (codes "<-") 666 670
 
 -- SLASH <- '/' Spacing
 abbrev pub slash_body : Form
-slash_body = sign_body (codes "/") 657 660
+slash_body = sign_body (codes "/") 688 691
 
 -- AND <- '&' Spacing
 abbrev pub and_sign_body : Form
-and_sign_body = sign_body (codes "&") 676 679
+and_sign_body = sign_body (codes "&") 707 710
 
 -- NOT <- '!' Spacing
 abbrev pub not_sign_body : Form
-not_sign_body = sign_body (codes "!") 695 698
+not_sign_body = sign_body (codes "!") 726 729
 
 -- QUESTION <- '?' Spacing
 abbrev pub question_body : Form
-question_body = sign_body (codes "?") 719 722
+question_body = sign_body (codes "?") 750 753
 
 -- STAR <- '*' Spacing
 abbrev pub star_body : Form
-star_body = sign_body (codes "*") 739 742
+star_body = sign_body (codes "*") 770 773
 
 -- PLUS <- '+' Spacing
 abbrev pub plus_body : Form
-plus_body = sign_body (codes "+") 759 762
+plus_body = sign_body (codes "+") 790 793
 
 -- OPEN <- '(' Spacing
 abbrev pub open_sign_body : Form
-open_sign_body = sign_body (codes "(") 779 782
+open_sign_body = sign_body (codes "(") 810 813
 
 -- CLOSE <- ')' Spacing
 abbrev pub close_body : Form
-close_body = sign_body (codes ")") 800 803
+close_body = sign_body (codes ")") 831 834
 
 -- DOT <- '.' Spacing
 abbrev pub dot_body : Form
-dot_body = sign_body (codes ".") 819 822
+dot_body = sign_body (codes ".") 850 853
 
 -- Spacing <- (Space / Comment)*
 unfoldable pub spacing_body : Form
-spacing_body = Star (Choice (Name (codes "Space") (between 843 848)) (forms (Name (codes "Comment") (between 851 858) ∷
-    [])) (between 843 858)) (between 842 860)
+spacing_body = Star (Choice (Name (codes "Space") (between 874 879)) (forms (Name (codes "Comment") (between 882 889) ∷
+    [])) (between 874 889)) (between 873 891)
 
 -- Comment <- '#' (!EndOfLine .)* EndOfLine
 unfoldable pub comment_body : Form
-comment_body = Seq (forms (Literal (codes "#") (between 872 875) ∷ Star
-    (Seq (forms (Not (Name (codes "EndOfLine") (between 878 887)) (between 877 887) ∷ Any (between 888 889) ∷
-    [])) (between 877 889)) (between 876 891) ∷ Name (codes "EndOfLine") (between 892 901) ∷ [])) (between 872 901)
+comment_body = Seq (forms (Literal (codes "#") (between 903 906) ∷ Star
+    (Seq (forms (Not (Name (codes "EndOfLine") (between 909 918)) (between 908 918) ∷ Any (between 919 920) ∷
+    [])) (between 908 920)) (between 907 922) ∷ Name (codes "EndOfLine") (between 923 932) ∷ [])) (between 903 932)
 
 -- Space <- ' ' / '\t' / EndOfLine
 unfoldable pub space_body : Form
-space_body = Choice (Literal (codes " ") (between 911 914))
-    (forms (Literal (codes "\t") (between 917 921) ∷ Name (codes "EndOfLine") (between 924 933) ∷ [])) (between 911 933)
+space_body = Choice (Literal (codes " ") (between 942 945))
+    (forms (Literal (codes "\t") (between 948 952) ∷ Name (codes "EndOfLine") (between 955 964) ∷ [])) (between 942 964)
 
 -- EndOfLine <- '\r\n' / '\n' / '\r'
 unfoldable pub end_of_line_body : Form
-end_of_line_body = Choice (Literal (codes "\r\n") (between 947 953))
-    (forms (Literal (codes "\n") (between 956 960) ∷ Literal (codes "\r") (between 963 967) ∷ [])) (between 947 967)
+end_of_line_body = Choice (Literal (codes "\r\n") (between 978 984))
+    (forms (Literal (codes "\n") (between 987 991) ∷ Literal (codes "\r") (between 994 998) ∷ [])) (between 978 998)
 
 -- EndOfFile <- !.
 unfoldable pub end_of_file_body : Form
-end_of_file_body = Not (Any (between 982 983)) (between 981 983)
+end_of_file_body = Not (Any (between 1013 1014)) (between 1012 1014)
 
 -- ---- the figure
 
@@ -224,19 +234,19 @@ figure =
     ∷ named_rule (codes "Class") 474 479 class_body
     ∷ named_rule (codes "Range") 513 518 range_body
     ∷ named_rule (codes "Char") 543 547 char_body
-    ∷ named_rule (codes "LEFTARROW") 622 631 leftarrow_body
-    ∷ named_rule (codes "SLASH") 648 653 slash_body
-    ∷ named_rule (codes "AND") 669 672 and_sign_body
-    ∷ named_rule (codes "NOT") 688 691 not_sign_body
-    ∷ named_rule (codes "QUESTION") 707 715 question_body
-    ∷ named_rule (codes "STAR") 731 735 star_body
-    ∷ named_rule (codes "PLUS") 751 755 plus_body
-    ∷ named_rule (codes "OPEN") 771 775 open_sign_body
-    ∷ named_rule (codes "CLOSE") 791 796 close_body
-    ∷ named_rule (codes "DOT") 812 815 dot_body
-    ∷ named_rule (codes "Spacing") 831 838 spacing_body
-    ∷ named_rule (codes "Comment") 861 868 comment_body
-    ∷ named_rule (codes "Space") 902 907 space_body
-    ∷ named_rule (codes "EndOfLine") 934 943 end_of_line_body
-    ∷ named_rule (codes "EndOfFile") 968 977 end_of_file_body
+    ∷ named_rule (codes "LEFTARROW") 653 662 leftarrow_body
+    ∷ named_rule (codes "SLASH") 679 684 slash_body
+    ∷ named_rule (codes "AND") 700 703 and_sign_body
+    ∷ named_rule (codes "NOT") 719 722 not_sign_body
+    ∷ named_rule (codes "QUESTION") 738 746 question_body
+    ∷ named_rule (codes "STAR") 762 766 star_body
+    ∷ named_rule (codes "PLUS") 782 786 plus_body
+    ∷ named_rule (codes "OPEN") 802 806 open_sign_body
+    ∷ named_rule (codes "CLOSE") 822 827 close_body
+    ∷ named_rule (codes "DOT") 843 846 dot_body
+    ∷ named_rule (codes "Spacing") 862 869 spacing_body
+    ∷ named_rule (codes "Comment") 892 899 comment_body
+    ∷ named_rule (codes "Space") 933 938 space_body
+    ∷ named_rule (codes "EndOfLine") 965 974 end_of_line_body
+    ∷ named_rule (codes "EndOfFile") 999 1008 end_of_file_body
     ∷ []

@@ -1,4 +1,5 @@
--- The text of Ford's figure 1 (Ford 2004, section 2.1): 29 lines, each ended by one byte 10.
+-- The text of Ford's figure 1 (Ford 2004, section 2.1), with hexadecimal digits in its rule Char: 29 lines, each ended
+-- by one byte 10.
 use Rattle.std.specs.Prelude.{ℕ, List, [], ◌∷◌, ◌++◌, flat_map, codes}
 
 -- the figure's lines
@@ -17,7 +18,7 @@ figure_lines =
     codes "Literal <- ['] (!['] Char)* ['] Spacing / [\"] (![\"] Char)* [\"] Spacing" ∷
     codes "Class <- '[' (!']' Range)* ']' Spacing" ∷
     codes "Range <- Char '-' Char / Char" ∷
-    codes "Char <- '\\\\' [nrt'\"\\[\\]\\\\] / '\\\\' [0-2][0-7][0-7] / '\\\\' [0-7][0-7]? / !'\\\\' ." ∷
+    codes "Char <- '\\\\x' [0-9a-fA-F][0-9a-fA-F] / '\\\\' [nrt'\"\\[\\]\\\\] / '\\\\' [0-2][0-7][0-7] / '\\\\' [0-7][0-7]? / !'\\\\' ." ∷
     codes "LEFTARROW <- '<-' Spacing" ∷
     codes "SLASH <- '/' Spacing" ∷
     codes "AND <- '&' Spacing" ∷

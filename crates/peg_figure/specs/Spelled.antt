@@ -28,16 +28,26 @@ is_octal byte = nat_le 48 byte && nat_le byte 55
 abbrev pub octal : List ℕ → ℕ
 octal digits = fold (λ n digit. n * 8 + (digit - 48)) 0 digits
 
+-- the value of a hexadecimal digit, in upper or lower case
+abbrev pub hexadecimal_digit : ℕ → ℕ
+hexadecimal_digit digit =
+    if nat_le digit 57 then digit - 48 else (if nat_le digit 70 then digit - 55 else digit - 87)
+
+-- the number that hexadecimal digits spell
+abbrev pub hexadecimal : List ℕ → ℕ
+hexadecimal digits = fold (λ n digit. n * 16 + hexadecimal_digit digit) 0 digits
+
 -- `\n`, `\r` and `\t` spell 10, 13 and 9; any other sign behind a backslash spells itself
 abbrev pub escaped : ℕ → ℕ
 escaped sign = if sign == 110 then 10 else (if sign == 114 then 13 else (if sign == 116 then 9 else sign))
 
--- the byte that the text of a Char spells: a byte alone spells itself, and behind a backslash stands a sign or octal
--- digits; no Char has no text
+-- the byte that the text of a Char spells: a byte alone spells itself, and behind a backslash stands an x with
+-- hexadecimal digits, a sign, or octal digits; no Char has no text
 abbrev pub byte_spelled : List ℕ → ℕ
 byte_spelled [] = 0
 byte_spelled (byte ∷ []) = byte
-byte_spelled (backslash ∷ sign ∷ digits) = if is_octal sign then octal (sign ∷ digits) else escaped sign
+byte_spelled (backslash ∷ sign ∷ digits) =
+    if sign == 120 then hexadecimal digits else (if is_octal sign then octal (sign ∷ digits) else escaped sign)
 
 -- ---- the pieces of one kind, in order
 

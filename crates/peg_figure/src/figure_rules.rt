@@ -1,9 +1,10 @@
 //! Ford's figure 1 as definitions, rule by rule.
-ghost use Rattle.std.specs.Prelude.{◌≡◌, IfOk};
+ghost use Rattle.std.specs.Prelude.{◌≡◌, ◌≤◌, IfOk};
 ghost use Rattle.peg_grammar.specs.Written.{form_of, rules_of};
 ghost use Rattle.peg_figure.specs.Figure.{figure};
 ghost use Rattle.peg_figure.specs.Figure.{primary_name, primary_parentheses, literal_single, literal_double};
-ghost use Rattle.peg_figure.specs.Figure.{char_sign, char_three_digits, char_two_digits, char_alone};
+ghost use Rattle.peg_figure.specs.Figure.{hexadecimal_class, char_hexadecimal, char_sign, char_three_digits};
+ghost use Rattle.peg_figure.specs.Figure.{char_two_digits, char_alone};
 ghost use Rattle.peg_figure.specs.FigureParts.{first_ten, next_ten, last_nine};
 ghost use Rattle.peg_figure.specs.Figure.{grammar_body, definition_body, expression_body, sequence_body, prefix_body};
 ghost use Rattle.peg_figure.specs.Figure.{suffix_body, primary_body, identifier_body, ident_start_body};
@@ -19,7 +20,8 @@ use crate::ranges::range;
 use peg_grammar::{Definition, Expr};
 use std::alloc::{AllocError, Global};
 
-/// The definitions of Ford's figure 1 (Ford 2004, section 2.1), with the places that they have in `figure_text`.
+/// The definitions of Ford's figure 1 (Ford 2004, section 2.1), with hexadecimal digits in its rule Char, and with the
+/// places that they have in `figure_text`.
 #[tactic(auto, unfolding(crate::specs::Figure::figure))]
 pub fn figure(alloc: Global) -> Result<Vec<Definition>, AllocError>
     ensures { IfOk result (λ definitions. rules_of definitions.items ≡ figure) }
@@ -59,12 +61,12 @@ fn next_ten(alloc: Global) -> Result<Vec<Definition>, AllocError>
         definition(alloc, "Class", 474, 479, class_body(alloc)?)?,
         definition(alloc, "Range", 513, 518, range_body(alloc)?)?,
         definition(alloc, "Char", 543, 547, char_body(alloc)?)?,
-        definition(alloc, "LEFTARROW", 622, 631, sign(alloc, b"<-", 635, 639)?)?,
-        definition(alloc, "SLASH", 648, 653, sign(alloc, b"/", 657, 660)?)?,
-        definition(alloc, "AND", 669, 672, sign(alloc, b"&", 676, 679)?)?,
-        definition(alloc, "NOT", 688, 691, sign(alloc, b"!", 695, 698)?)?,
-        definition(alloc, "QUESTION", 707, 715, sign(alloc, b"?", 719, 722)?)?,
-        definition(alloc, "STAR", 731, 735, sign(alloc, b"*", 739, 742)?)?,
+        definition(alloc, "LEFTARROW", 653, 662, sign(alloc, b"<-", 666, 670)?)?,
+        definition(alloc, "SLASH", 679, 684, sign(alloc, b"/", 688, 691)?)?,
+        definition(alloc, "AND", 700, 703, sign(alloc, b"&", 707, 710)?)?,
+        definition(alloc, "NOT", 719, 722, sign(alloc, b"!", 726, 729)?)?,
+        definition(alloc, "QUESTION", 738, 746, sign(alloc, b"?", 750, 753)?)?,
+        definition(alloc, "STAR", 762, 766, sign(alloc, b"*", 770, 773)?)?,
     ]?)
 }
 
@@ -74,15 +76,15 @@ fn last_nine(alloc: Global) -> Result<Vec<Definition>, AllocError>
     ensures { IfOk result (λ definitions. rules_of definitions.items ≡ last_nine) }
 {
     Ok(vec![in alloc;
-        definition(alloc, "PLUS", 751, 755, sign(alloc, b"+", 759, 762)?)?,
-        definition(alloc, "OPEN", 771, 775, sign(alloc, b"(", 779, 782)?)?,
-        definition(alloc, "CLOSE", 791, 796, sign(alloc, b")", 800, 803)?)?,
-        definition(alloc, "DOT", 812, 815, sign(alloc, b".", 819, 822)?)?,
-        definition(alloc, "Spacing", 831, 838, spacing_body(alloc)?)?,
-        definition(alloc, "Comment", 861, 868, comment_body(alloc)?)?,
-        definition(alloc, "Space", 902, 907, space_body(alloc)?)?,
-        definition(alloc, "EndOfLine", 934, 943, end_of_line_body(alloc)?)?,
-        definition(alloc, "EndOfFile", 968, 977, end_of_file_body(alloc)?)?,
+        definition(alloc, "PLUS", 782, 786, sign(alloc, b"+", 790, 793)?)?,
+        definition(alloc, "OPEN", 802, 806, sign(alloc, b"(", 810, 813)?)?,
+        definition(alloc, "CLOSE", 822, 827, sign(alloc, b")", 831, 834)?)?,
+        definition(alloc, "DOT", 843, 846, sign(alloc, b".", 850, 853)?)?,
+        definition(alloc, "Spacing", 862, 869, spacing_body(alloc)?)?,
+        definition(alloc, "Comment", 892, 899, comment_body(alloc)?)?,
+        definition(alloc, "Space", 933, 938, space_body(alloc)?)?,
+        definition(alloc, "EndOfLine", 965, 974, end_of_line_body(alloc)?)?,
+        definition(alloc, "EndOfFile", 999, 1008, end_of_file_body(alloc)?)?,
     ]?)
 }
 
@@ -393,21 +395,49 @@ fn range_body(alloc: Global) -> Result<Expr, AllocError>
     )
 }
 
-// Char <- '\\' [nrt'"\[\]\\] / '\\' [0-2][0-7][0-7] / '\\' [0-7][0-7]? / !'\\' .
+// Char <- '\\x' [0-9a-fA-F][0-9a-fA-F] / '\\' [nrt'"\[\]\\] / '\\' [0-2][0-7][0-7] / '\\' [0-7][0-7]? / !'\\' .
 #[tactic(auto, unfolding(crate::specs::Figure::char_body))]
 fn char_body(alloc: Global) -> Result<Expr, AllocError>
     ensures { IfOk result (λ body. form_of body ≡ char_body) }
 {
     choice(
         alloc,
-        char_sign(alloc)?,
+        char_hexadecimal(alloc)?,
         vec![in alloc;
+            char_sign(alloc)?,
             char_three_digits(alloc)?,
             char_two_digits(alloc)?,
             char_alone(alloc)?,
         ]?,
         551,
-        621,
+        652,
+    )
+}
+
+// '\\x' [0-9a-fA-F][0-9a-fA-F]
+fn char_hexadecimal(alloc: Global) -> Result<Expr, AllocError>
+    ensures { IfOk result (λ part. form_of part ≡ char_hexadecimal) }
+{
+    Ok(seq(
+        vec![in alloc;
+            literal(alloc, b"\\x", 551, 556)?,
+            hexadecimal_class(557, 568),
+            hexadecimal_class(568, 579),
+        ]?,
+        551,
+        579,
+    ))
+}
+
+// [0-9a-fA-F]
+fn hexadecimal_class(start: u32, end: u32) -> Expr
+    requires { start ≤ end }
+    ensures { form_of result ≡ hexadecimal_class start end }
+{
+    class(
+        &[range(b'0', b'9'), range(b'a', b'f'), range(b'A', b'F')],
+        start,
+        end,
     )
 }
 
@@ -426,13 +456,13 @@ fn char_sign(alloc: Global) -> Result<Expr, AllocError>
             range(b']', b']'),
             range(b'\\', b'\\'),
         ],
-        556,
-        569,
+        587,
+        600,
     );
     Ok(seq(
-        vec![in alloc; literal(alloc, b"\\", 551, 555)?, signs]?,
-        551,
-        569,
+        vec![in alloc; literal(alloc, b"\\", 582, 586)?, signs]?,
+        582,
+        600,
     ))
 }
 
@@ -442,13 +472,13 @@ fn char_three_digits(alloc: Global) -> Result<Expr, AllocError>
 {
     Ok(seq(
         vec![in alloc;
-            literal(alloc, b"\\", 572, 576)?,
-            class(&[range(b'0', b'2')], 577, 582),
-            class(&[range(b'0', b'7')], 582, 587),
-            class(&[range(b'0', b'7')], 587, 592),
+            literal(alloc, b"\\", 603, 607)?,
+            class(&[range(b'0', b'2')], 608, 613),
+            class(&[range(b'0', b'7')], 613, 618),
+            class(&[range(b'0', b'7')], 618, 623),
         ]?,
-        572,
-        592,
+        603,
+        623,
     ))
 }
 
@@ -458,12 +488,12 @@ fn char_two_digits(alloc: Global) -> Result<Expr, AllocError>
 {
     Ok(seq(
         vec![in alloc;
-            literal(alloc, b"\\", 595, 599)?,
-            class(&[range(b'0', b'7')], 600, 605),
-            optional(alloc, class(&[range(b'0', b'7')], 605, 610), 605, 611)?,
+            literal(alloc, b"\\", 626, 630)?,
+            class(&[range(b'0', b'7')], 631, 636),
+            optional(alloc, class(&[range(b'0', b'7')], 636, 641), 636, 642)?,
         ]?,
-        595,
-        611,
+        626,
+        642,
     ))
 }
 
@@ -473,11 +503,11 @@ fn char_alone(alloc: Global) -> Result<Expr, AllocError>
 {
     Ok(seq(
         vec![in alloc;
-            not(alloc, literal(alloc, b"\\", 615, 619)?, 614, 619)?,
-            any(620, 621),
+            not(alloc, literal(alloc, b"\\", 646, 650)?, 645, 650)?,
+            any(651, 652),
         ]?,
-        614,
-        621,
+        645,
+        652,
     ))
 }
 
@@ -488,12 +518,12 @@ fn spacing_body(alloc: Global) -> Result<Expr, AllocError>
 {
     let blank = choice(
         alloc,
-        name(alloc, "Space", 843, 848)?,
-        vec![in alloc; name(alloc, "Comment", 851, 858)?]?,
-        843,
-        858,
+        name(alloc, "Space", 874, 879)?,
+        vec![in alloc; name(alloc, "Comment", 882, 889)?]?,
+        874,
+        889,
     )?;
-    star(alloc, blank, 842, 860)
+    star(alloc, blank, 873, 891)
 }
 
 // Comment <- '#' (!EndOfLine .)* EndOfLine
@@ -503,21 +533,21 @@ fn comment_body(alloc: Global) -> Result<Expr, AllocError>
 {
     let text_byte = seq(
         vec![in alloc;
-            not(alloc, name(alloc, "EndOfLine", 878, 887)?, 877, 887)?,
-            any(888, 889),
+            not(alloc, name(alloc, "EndOfLine", 909, 918)?, 908, 918)?,
+            any(919, 920),
         ]?,
-        877,
-        889,
+        908,
+        920,
     );
-    let text = star(alloc, text_byte, 876, 891)?;
+    let text = star(alloc, text_byte, 907, 922)?;
     Ok(seq(
         vec![in alloc;
-            literal(alloc, b"#", 872, 875)?,
+            literal(alloc, b"#", 903, 906)?,
             text,
-            name(alloc, "EndOfLine", 892, 901)?,
+            name(alloc, "EndOfLine", 923, 932)?,
         ]?,
-        872,
-        901,
+        903,
+        932,
     ))
 }
 
@@ -528,13 +558,13 @@ fn space_body(alloc: Global) -> Result<Expr, AllocError>
 {
     choice(
         alloc,
-        literal(alloc, b" ", 911, 914)?,
+        literal(alloc, b" ", 942, 945)?,
         vec![in alloc;
-            literal(alloc, b"\t", 917, 921)?,
-            name(alloc, "EndOfLine", 924, 933)?,
+            literal(alloc, b"\t", 948, 952)?,
+            name(alloc, "EndOfLine", 955, 964)?,
         ]?,
-        911,
-        933,
+        942,
+        964,
     )
 }
 
@@ -545,13 +575,13 @@ fn end_of_line_body(alloc: Global) -> Result<Expr, AllocError>
 {
     choice(
         alloc,
-        literal(alloc, b"\r\n", 947, 953)?,
+        literal(alloc, b"\r\n", 978, 984)?,
         vec![in alloc;
-            literal(alloc, b"\n", 956, 960)?,
-            literal(alloc, b"\r", 963, 967)?,
+            literal(alloc, b"\n", 987, 991)?,
+            literal(alloc, b"\r", 994, 998)?,
         ]?,
-        947,
-        967,
+        978,
+        998,
     )
 }
 
@@ -560,5 +590,5 @@ fn end_of_line_body(alloc: Global) -> Result<Expr, AllocError>
 fn end_of_file_body(alloc: Global) -> Result<Expr, AllocError>
     ensures { IfOk result (λ body. form_of body ≡ end_of_file_body) }
 {
-    not(alloc, any(982, 983), 981, 983)
+    not(alloc, any(1013, 1014), 1012, 1014)
 }

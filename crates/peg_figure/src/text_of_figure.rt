@@ -16,7 +16,7 @@ IdentCont <- IdentStart / [0-9]
 Literal <- ['] (!['] Char)* ['] Spacing / ["] (!["] Char)* ["] Spacing
 Class <- '[' (!']' Range)* ']' Spacing
 Range <- Char '-' Char / Char
-Char <- '\\' [nrt'"\[\]\\] / '\\' [0-2][0-7][0-7] / '\\' [0-7][0-7]? / !'\\' .
+Char <- '\\x' [0-9a-fA-F][0-9a-fA-F] / '\\' [nrt'"\[\]\\] / '\\' [0-2][0-7][0-7] / '\\' [0-7][0-7]? / !'\\' .
 LEFTARROW <- '<-' Spacing
 SLASH <- '/' Spacing
 AND <- '&' Spacing
@@ -34,7 +34,8 @@ EndOfLine <- '\r\n' / '\n' / '\r'
 EndOfFile <- !.
 "#;
 
-/// The text of Ford's figure 1 (Ford 2004, section 2.1), a grammar file of 29 rules that defines the notation.
+/// The text of Ford's figure 1 (Ford 2004, section 2.1), with hexadecimal digits in its rule Char: a grammar file of 29
+/// rules that defines the notation.
 pub fn figure_text() -> &'static [u8]
     ensures { result.now ≡ text_of_figure }
 {

@@ -5,9 +5,10 @@ use std::alloc::AllocError;
 // What a literal or a class holds: mostly one of a few letters, so that texts match.
 const LETTERS: [u8; 3] = *b"abc";
 
-const ESCAPES: [&[u8]; 18] = [
+const ESCAPES: [&[u8]; 22] = [
     b"\\n", b"\\r", b"\\t", b"\\'", b"\\\"", b"\\[", b"\\]", b"\\\\", b"\\141", b"\\142", b"\\0",
-    b"\\7", b"\\37", b"\\277", b"\\377", b"\\08", b"\\60", b"\\1411",
+    b"\\7", b"\\37", b"\\277", b"\\377", b"\\08", b"\\60", b"\\1411", b"\\x61", b"\\x6a", b"\\xFF",
+    b"\\x622",
 ];
 
 // Bytes that stand for themselves in a literal and in a class, but for a quote, a bracket or a backslash.
@@ -33,7 +34,7 @@ const SIZES: [usize; 12] = [1, 1, 1, 1, 1, 2, 2, 2, 2, 3, 3, 0];
 // A character as a literal and a class may hold it.
 fn add_character(chance: &mut Chance, file: &mut Vec<u8>) -> Result<(), AllocError> {
     match chance.below(16) {
-        0 => file.extend_from_slice(ESCAPES[chance.below(18)]),
+        0 => file.extend_from_slice(ESCAPES[chance.below(22)]),
         1 => file.extend_from_slice(RAW[chance.below(12)]),
         _ => Ok(file.push(LETTERS[chance.below(3)])?),
     }

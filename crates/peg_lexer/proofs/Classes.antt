@@ -5,7 +5,7 @@ use Rattle.std.proofs.lemmas.Bool.Decides.{nat_tests}
 use Rattle.std.proofs.lemmas.List.{get_or_past}
 use Rattle.std.proofs.lemmas.List.FromFn.{length-map-range_with_len, get_or-map-range_with_len}
 use Rattle.peg_bytes.specs.ByteSet.{has}
-use Rattle.peg_lexer.specs.Lexical.{begins_name, is_sign, is_quote}
+use Rattle.peg_lexer.specs.Lexical.{begins_name, is_sign, is_hexadecimal, is_quote}
 use Rattle.peg_figure.specs.Ranges.{Range, range, holds, in_ranges, class_of}
 
 -- ranges of bytes
@@ -59,6 +59,12 @@ has_name_start byte =
     has-class_of (range 97 122 ∷ range 65 90 ∷ range 95 95 ∷ []) (lit< tt, (lit< tt, (lit< tt, tt))) byte
     ∙ ap (λ t. holds byte (range 97 122) || (holds byte (range 65 90) || t))
     (last_range (range 95 95) byte ∙ one_byte 95 byte)
+
+pub has_hexadecimal : (byte : ℕ) → has (class_of (range 48 57 ∷ range 97 102 ∷ range 65 70 ∷ [])) byte
+    ≡ is_hexadecimal byte
+has_hexadecimal byte =
+    has-class_of (range 48 57 ∷ range 97 102 ∷ range 65 70 ∷ []) (lit< tt, (lit< tt, (lit< tt, tt))) byte
+    ∙ ap (λ t. holds byte (range 48 57) || (holds byte (range 97 102) || t)) (last_range (range 65 70) byte)
 
 pub has_sign : (byte : ℕ) → has (class_of (range 110 110 ∷ range 114 114 ∷ range 116 116 ∷ range 39 39 ∷ range 34 34 ∷
     range 91 91 ∷ range 93 93 ∷ range 92 92 ∷ [])) byte ≡ is_sign byte

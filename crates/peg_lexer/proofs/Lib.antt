@@ -1,4 +1,5 @@
 mod Classes
+pub mod Escapes
 pub mod Lexemes
 pub mod OneLexing
 pub mod PieceLemmas

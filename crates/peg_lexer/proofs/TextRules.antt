@@ -2,14 +2,14 @@
 use Rattle.std.proofs.Common.{ℕ, true, List, [], ◌∷◌, refl, codes, lit<}
 use Rattle.peg_bytes.specs.Extent.{Extent, between}
 use Rattle.peg_ford.specs.Form.{Name, Class}
-use Rattle.peg_figure.specs.Figure.{ident_start_body, ident_cont_body, char_body, range_body}
+use Rattle.peg_figure.specs.Figure.{ident_start_body, ident_cont_body, char_body, range_body, hexadecimal_class}
 use Rattle.peg_figure.specs.FigureRules as rule
-use Rattle.peg_lexer.specs.Lexical.{begins_name, is_digit, in_name, identifier, is_sign, is_low_digit, backslash, octal_digit, three_digits, two_digits, char, is_quote, quoted_char, quoted, literal, range, classed_range, class}
+use Rattle.peg_lexer.specs.Lexical.{begins_name, is_digit, in_name, identifier, is_sign, is_low_digit, is_hexadecimal, backslash, octal_digit, hexadecimal_digit, hexadecimal_digits, three_digits, two_digits, char, is_quote, quoted_char, quoted, literal, range, classed_range, class}
 use Rattle.peg_lexer.specs.Pieces.{one_that, these, followed, unless}
 use Rattle.peg_figure.specs.Ranges as ranges
 use Rattle.peg_figure.specs.Ranges.{class_of}
 use Rattle.peg_figure.specs.Spelled.{Byte, Bytes, is_octal, byte_spelled, range_spelled, bytes_in}
-use Rattle.peg_lexer.proofs.Classes.{has_range, has_name_start, has_sign}
+use Rattle.peg_lexer.proofs.Classes.{has_range, has_name_start, has_hexadecimal, has_sign}
 use Rattle.peg_figure.proofs.FigureNames.{ident_start-meant, ident_cont-meant, char-meant, range-meant}
 use Rattle.peg_lexer.proofs.PieceSizes.{Fits, HasBytes, is_long, fits-these, has-these, fits-one, has-one, fits-followed, has-first, has-next, fits-either, has-either, fits-unless, fits-maybe, fits-star, fits-noded, has-noded}
 use Rattle.peg_lexer.proofs.Takes.{Takes, IsLong, Nodes, takes-these, takes-class, takes-any, takes-then, takes-last, takes-seq, takes-only, takes-or, takes-choice, takes-not, takes-optional, takes-name, takes-node}
@@ -55,21 +55,30 @@ char-nodes = record { spells = λ file before start end last inner. refl; no_spa
 takes-octal : (file : List ℕ) (span : Extent) → Takes file (Class (class_of (ranges.range 48 55 ∷ [])) span) octal_digit
 takes-octal file span = takes-class file _ span is_octal (has_range 48 55 (lit< tt))
 
+-- a hexadecimal digit
+takes-hexadecimal : (file : List ℕ) (start end : ℕ) → Takes file (hexadecimal_class start end) hexadecimal_digit
+takes-hexadecimal file start end = takes-class file _ _ is_hexadecimal has_hexadecimal
+
 pub takes-char : (file : List ℕ) (start end : ℕ) → Takes file (Name (codes "Char") (between start end)) char
 unfolding char char_body
 takes-char file start end =
     takes-node (between start end) _ char-meant.1 char-nodes
     (takes-choice _
+    (takes-or (takes-seq _ (takes-then (takes-these file _ _) (takes-then (takes-hexadecimal file _ _)
+    (takes-last (takes-hexadecimal file _ _)))))
     (takes-or (takes-seq _ (takes-then (takes-these file _ _) (takes-last (takes-class file _ _ is_sign has_sign))))
     (takes-or (takes-seq _ (takes-then (takes-these file _ _) (takes-then
     (takes-class file _ _ is_low_digit (has_range 48 50 (lit< tt)))
     (takes-then (takes-octal file _) (takes-last (takes-octal file _))))))
     (takes-or (takes-seq _ (takes-then (takes-these file _ _) (takes-then (takes-octal file _)
     (takes-last (takes-optional _ (takes-octal file _))))))
-    (takes-only (takes-seq _ (takes-then (takes-not _ (takes-these file _ _)) (takes-last (takes-any file _)))))))))
+    (takes-only (takes-seq _ (takes-then (takes-not _ (takes-these file _ _)) (takes-last (takes-any file _))))))))))
 
 octal-fits : Fits octal_digit
 octal-fits = fits-one is_octal
+
+hexadecimal-fits : Fits hexadecimal_digits
+hexadecimal-fits = fits-followed (fits-one is_hexadecimal) (fits-one is_hexadecimal)
 
 backslash-fits : Fits backslash
 backslash-fits = fits-these (codes "\\")
@@ -81,20 +90,22 @@ pub char-fits : Fits char
 unfolding char
 char-fits =
     fits-noded (λ text inner. Byte (byte_spelled text) ∷ [])
+    (fits-either (fits-followed (fits-these (codes "\\x")) hexadecimal-fits)
     (fits-either (fits-followed backslash-fits (fits-one is_sign))
     (fits-either (fits-followed backslash-fits (fits-followed (fits-one is_low_digit)
     (fits-followed octal-fits octal-fits)))
     (fits-either (fits-followed backslash-fits (fits-followed octal-fits (fits-maybe octal-fits)))
-    (fits-followed (fits-unless backslash) (fits-one (λ byte. true))))))
+    (fits-followed (fits-unless backslash) (fits-one (λ byte. true)))))))
 
 pub char-some : HasBytes char
 unfolding char
 char-some =
     has-noded (λ text inner. Byte (byte_spelled text) ∷ [])
+    (has-either (has-first hexadecimal_digits (has-these (codes "\\x") (lit< tt)))
     (has-either (has-first (one_that is_sign) backslash-some)
     (has-either (has-first three_digits backslash-some)
     (has-either (has-first two_digits backslash-some)
-    (has-next (unless backslash) (has-one (λ byte. true))))))
+    (has-next (unless backslash) (has-one (λ byte. true)))))))
 
 -- ---- literals
 

@@ -53,11 +53,23 @@ is_sign byte =
 abbrev pub is_low_digit : ℕ → Bool
 is_low_digit byte = nat_le 48 byte && nat_le byte 50
 
+-- whether a byte is a hexadecimal digit, in upper or lower case
+abbrev pub is_hexadecimal : ℕ → Bool
+is_hexadecimal byte =
+    (nat_le 48 byte && nat_le byte 57) || ((nat_le 97 byte && nat_le byte 102) || (nat_le 65 byte && nat_le byte 70))
+
 abbrev pub backslash : Finding
 backslash = these (codes "\\")
 
 abbrev pub octal_digit : Finding
 octal_digit = one_that is_octal
+
+abbrev pub hexadecimal_digit : Finding
+hexadecimal_digit = one_that is_hexadecimal
+
+-- two hexadecimal digits
+abbrev pub hexadecimal_digits : Finding
+hexadecimal_digits = followed hexadecimal_digit hexadecimal_digit
 
 -- three octal digits, the first at most 2; one or two
 abbrev pub three_digits : Finding
@@ -68,14 +80,17 @@ two_digits = followed octal_digit (maybe octal_digit)
 
 -- what may stand behind a backslash
 abbrev pub escape : Finding
-escape = either (one_that is_sign) (either three_digits two_digits)
+escape =
+    either (followed (these (codes "x")) hexadecimal_digits)
+    (either (one_that is_sign) (either three_digits two_digits))
 
 abbrev pub char_text : Finding
 char_text =
-    either (followed backslash (one_that is_sign))
+    either (followed (these (codes "\\x")) hexadecimal_digits)
+    (either (followed backslash (one_that is_sign))
     (either (followed backslash three_digits)
     (either (followed backslash two_digits)
-    (followed (unless backslash) (one_that (λ byte. true)))))
+    (followed (unless backslash) (one_that (λ byte. true))))))
 
 unfoldable pub char : Finding
 char rest =

@@ -1,11 +1,12 @@
 //! The texts of names, literals and classes (Ford 2004, section 2.1).
-ghost use Rattle.std.specs.Prelude.{◌≡◌, ◌<◌, ◌≤◌, ◌+◌, length, option_map, IfSome, is_some};
-ghost use Rattle.peg_lexer.specs.Lexical.{begins_name, is_digit, in_name, identifier, is_sign, is_low_digit, escape};
+ghost use Rattle.std.specs.Prelude.{◌≡◌, ◌<◌, ◌≤◌, ◌+◌, length, option_map, IfSome, IsTrue, is_some};
+ghost use Rattle.peg_lexer.specs.Lexical.{begins_name, is_digit, in_name, identifier, is_sign, is_low_digit, is_hexadecimal};
+ghost use Rattle.peg_lexer.specs.Lexical.{escape};
 ghost use Rattle.peg_lexer.specs.Lexical.{backslash, char, is_quote, quoted_char, up_to_quote, quoted, literal, range};
 ghost use Rattle.peg_lexer.specs.Lexical.{classed_range, class};
 ghost use Rattle.peg_lexer.specs.LexicalCode.{char_piece, item_piece, escaped_char};
 ghost use Rattle.peg_lexer.specs.Pieces.{length_of, one_that, followed, many};
-ghost use Rattle.peg_figure.specs.Spelled.{is_octal, escaped};
+ghost use Rattle.peg_figure.specs.Spelled.{is_octal, hexadecimal_digit, escaped};
 
 use peg_figure::ByteRange;
 
@@ -219,7 +220,7 @@ fn range_at(rest: &[u8]) -> Option<Item>
     }
 }
 
-// The character at the front: a byte alone, or a backslash with a sign or octal digits.
+// The character at the front: a byte alone, or a backslash with a sign or with hexadecimal or octal digits.
 #[tactic(auto, unfolding(crate::specs::Lexical::char))]
 fn char_at(rest: &[u8]) -> Option<Char>
     ensures value { option_map char_piece result ≡ char rest.now }
@@ -236,13 +237,18 @@ fn char_at(rest: &[u8]) -> Option<Char>
     }
 }
 
-// What stands behind a backslash: a sign, or one to three octal digits, three only where the first is at most 2.
+// What stands behind a backslash: an x and two hexadecimal digits, a sign, or one to three octal digits, three only
+// where the first is at most 2.
 fn escape(rest: &[u8]) -> Option<Char>
     ensures value { option_map char_piece result ≡ escaped_char rest.now }
     ensures some { IfSome result (λ char. 0 < char.length) }
     ensures fits { IfSome result (λ char. char.length ≤ length rest.now + 1) }
 {
     match rest {
+        [b'x', high, low, ..] if is_hexadecimal(*high) && is_hexadecimal(*low) => Some(Char {
+            byte: 16 * hexadecimal_digit(*high) + hexadecimal_digit(*low),
+            length: 4,
+        }),
         [sign, ..] if is_sign(*sign) => Some(Char {
             byte: escaped(*sign),
             length: 2,
@@ -261,6 +267,19 @@ fn escape(rest: &[u8]) -> Option<Char>
             length: 2,
         }),
         _ => None,
+    }
+}
+
+// The value of a hexadecimal digit.
+fn hexadecimal_digit(digit: u8) -> u8
+    requires { IsTrue (is_hexadecimal digit) }
+    ensures value { result ≡ hexadecimal_digit digit }
+    ensures small { result < 16 }
+{
+    match digit {
+        b'0'..=b'9' => digit - b'0',
+        b'A'..=b'F' => digit - b'A' + 10,
+        _ => digit - b'a' + 10,
     }
 }
 
@@ -298,4 +317,11 @@ fn is_octal(byte: u8) -> bool
     ensures { result ≡ is_octal byte }
 {
     matches!(byte, b'0'..=b'7')
+}
+
+// Whether a byte is a hexadecimal digit, in upper or lower case.
+fn is_hexadecimal(byte: u8) -> bool
+    ensures { result ≡ is_hexadecimal byte }
+{
+    matches!(byte, b'0'..=b'9' | b'a'..=b'f' | b'A'..=b'F')
 }

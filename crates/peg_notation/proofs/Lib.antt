@@ -8,6 +8,10 @@ mod MatchedTokens
 mod Places
 mod PrefixRules
 mod PrimaryRule
+mod PrintedFronts
+mod PrintedHalts
+mod PrintedMeanings
+mod PrintedRules
 mod Progress
 mod Reached
 mod ReachedRules

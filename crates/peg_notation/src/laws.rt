@@ -1,9 +1,19 @@
 //! Laws of the definitions. Each function does nothing; its contract is the law.
-ghost use Rattle.std.specs.Prelude.{◌≢◌, ℕ, List, []};
+ghost use Rattle.std.specs.Prelude.{◌≢◌, ℕ, List, [], codes};
 ghost use Rattle.peg_ford.specs.Rules.{Rule};
-ghost use Rattle.peg_figure.specs.Notation.{IsReading};
+ghost use Rattle.peg_tree.specs.Trees.{Trees};
+ghost use Rattle.peg_figure.specs.Notation.{Matches, IsReading};
+ghost use Rattle.peg_notation.specs.PrintedFigure.{MatchesPrinted, IsPrintedReading};
 
 /// The reading of a file has a rule.
 pub fn a_reading_has_a_rule()
     ensures { (file : List ℕ) (rules : List Rule) → IsReading file rules → rules ≢ [] }
+{}
+
+/// A file that the printed figure matches, whose Char has no hexadecimal digits, is matched by the figure with the same
+/// tree: it is in the notation with the same reading, and its parentheses nest as deep.
+pub fn the_printed_notation_is_kept()
+    ensures tree { (file : List ℕ) (end : ℕ) (trees : Trees) → MatchesPrinted file end trees
+        → Matches file (codes "Grammar") 0 end trees }
+    ensures reading { (file : List ℕ) (rules : List Rule) → IsPrintedReading file rules → IsReading file rules }
 {}

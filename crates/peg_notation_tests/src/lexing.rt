@@ -8,7 +8,7 @@ use std::test::Fail;
 // A token: its kind, its first byte, the byte behind it.
 type Seen = (TokenKind, u32, u32);
 
-// The figure's text (Ford 2004, section 2.1).
+// The figure's text (Ford 2004, section 2.1, with hexadecimal digits in Char).
 const FIGURE: &[u8] = b"\
     Grammar <- Spacing Definition+ EndOfFile\n\
     Definition <- Identifier LEFTARROW Expression\n\
@@ -23,7 +23,8 @@ const FIGURE: &[u8] = b"\
     Literal <- ['] (!['] Char)* ['] Spacing / [\"] (![\"] Char)* [\"] Spacing\n\
     Class <- '[' (!']' Range)* ']' Spacing\n\
     Range <- Char '-' Char / Char\n\
-    Char <- '\\\\' [nrt'\"\\[\\]\\\\] / '\\\\' [0-2][0-7][0-7] / '\\\\' [0-7][0-7]? / !'\\\\' .\n\
+    Char <- '\\\\x' [0-9a-fA-F][0-9a-fA-F] / '\\\\' [nrt'\"\\[\\]\\\\] / '\\\\' [0-2][0-7][0-7] \
+    / '\\\\' [0-7][0-7]? / !'\\\\' .\n\
     LEFTARROW <- '<-' Spacing\n\
     SLASH <- '/' Spacing\n\
     AND <- '&' Spacing\n\
@@ -134,6 +135,11 @@ fn each_escape_stands_in_a_literal_and_in_a_class(rt: HostRuntime) -> Result<(),
         b"'\\000'",
         b"'\\277'",
         b"'\\377'",
+        b"'\\x00'",
+        b"'\\x9f'",
+        b"'\\xF9'",
+        b"'\\xAf'",
+        b"'\\x414'",
         b"\"\\n\\\"\\'\\\\\"",
     ];
     assert_one_token(&rt, alloc, TokenKind::Literal, literals)?;
@@ -150,6 +156,8 @@ fn each_escape_stands_in_a_literal_and_in_a_class(rt: HostRuntime) -> Result<(),
         b"[\\00-\\77]",
         b"[\\000-\\277]",
         b"[\\377]",
+        b"[\\x80-\\xBF]",
+        b"[a-\\xff]",
         b"[a-\\]]",
         b"[\\\\-\\]]",
     ];
@@ -159,8 +167,35 @@ fn each_escape_stands_in_a_literal_and_in_a_class(rt: HostRuntime) -> Result<(),
 #[test]
 fn other_escapes_are_none(rt: HostRuntime) {
     let files: &[&[u8]] = &[
-        b"'\\8'", b"'\\9'", b"'\\-'", b"'\\a'", b"'\\x41'", b"'\\\n'", b"'\\ '", b"[\\8]",
-        b"[\\-]", b"[\\a]", b"[\\^]", b"[a-\\-]", b"'\\", b"'a\\", b"[\\", b"[a-\\", b"\\", b"\\n",
+        b"'\\8'",
+        b"'\\9'",
+        b"'\\-'",
+        b"'\\a'",
+        b"'\\x'",
+        b"'\\x4'",
+        b"'\\xf'",
+        b"'\\x4g'",
+        b"'\\xg4'",
+        b"'\\x4",
+        b"'\\X41'",
+        b"[\\x4]",
+        b"[\\x-z]",
+        b"[a-\\x4]",
+        b"[\\X41]",
+        b"'\\u0041'",
+        b"'\\\n'",
+        b"'\\ '",
+        b"[\\8]",
+        b"[\\-]",
+        b"[\\a]",
+        b"[\\^]",
+        b"[a-\\-]",
+        b"'\\",
+        b"'a\\",
+        b"[\\",
+        b"[a-\\",
+        b"\\",
+        b"\\n",
     ];
     assert_faults(&rt, rt.alloc(), 0, files);
 }
@@ -169,7 +204,7 @@ fn other_escapes_are_none(rt: HostRuntime) {
 // its last digit is a character of its own, that one, the dash and the bracket are a range, and nothing closes the
 // class.
 #[test]
-fn three_octal_digits_begin_with_two_at_most(rt: HostRuntime) -> Result<(), Fail> {
+fn an_escape_has_so_many_digits(rt: HostRuntime) -> Result<(), Fail> {
     let alloc = rt.alloc();
     let closed: &[&[u8]] = &[
         b"[a-\\0-]",
@@ -179,6 +214,7 @@ fn three_octal_digits_begin_with_two_at_most(rt: HostRuntime) -> Result<(), Fail
         b"[a-\\000-]",
         b"[a-\\277-]",
         b"[a-\\n-]",
+        b"[a-\\x41-]",
     ];
     assert_one_token(&rt, alloc, TokenKind::Class, closed)?;
     let open: &[&[u8]] = &[
@@ -190,6 +226,8 @@ fn three_octal_digits_begin_with_two_at_most(rt: HostRuntime) -> Result<(), Fail
         b"[a-\\378-]",
         b"[a-\\278-]",
         b"[a-\\0000-]",
+        b"[a-\\x414-]",
+        b"[a-\\x41a-]",
     ];
     assert_faults(&rt, alloc, 0, open);
     Ok(())
@@ -352,14 +390,14 @@ fn spans_are_places_of_the_file(rt: HostRuntime) -> Result<(), Fail> {
 #[test]
 fn the_figures_text_has_its_tokens(rt: HostRuntime) -> Result<(), Fail> {
     let text = figure_text();
-    assert_eq!(rt; text.len(), 984);
+    assert_eq!(rt; text.len(), 1015);
     let tokens = lex(rt.alloc(), text)?;
     let wanted = [
         (TokenKind::Ident, 82),
-        (TokenKind::Literal, 24),
-        (TokenKind::Class, 14),
+        (TokenKind::Literal, 25),
+        (TokenKind::Class, 16),
         (TokenKind::Arrow, 29),
-        (TokenKind::Slash, 18),
+        (TokenKind::Slash, 19),
         (TokenKind::And, 0),
         (TokenKind::Not, 7),
         (TokenKind::Question, 3),
@@ -373,7 +411,7 @@ fn the_figures_text_has_its_tokens(rt: HostRuntime) -> Result<(), Fail> {
         let found = tokens.iter().filter(|token| token.kind == kind).count();
         assert_eq!(rt; found, count, "of {kind:?}");
     }
-    assert_eq!(rt; tokens.len(), 205);
+    assert_eq!(rt; tokens.len(), 209);
     Ok(())
 }
 

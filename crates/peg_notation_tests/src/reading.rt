@@ -220,6 +220,12 @@ fn escapes_spell_bytes(rt: HostRuntime) -> Result<(), Fail> {
         alloc,
         b"A <- \"\\377\\191\\0\\177\\277a\"",
         "Literal { bytes: [31, 55, 1, 57, 49, 0, 127, 191, 97], span: Span { start: 5, end: 26 } }",
+    )?;
+    assert_body(
+        &rt,
+        alloc,
+        b"A <- '\\x00\\x7f\\xC8\\xfF\\x9a\\xA9\\x414'",
+        "Literal { bytes: [0, 127, 200, 255, 154, 169, 65, 52], span: Span { start: 5, end: 36 } }",
     )
 }
 
@@ -238,13 +244,16 @@ fn class_of(definitions: &[Definition]) -> Option<peg_bytes::ByteSet> {
 #[test]
 fn a_class_holds_the_bytes_of_its_ranges(rt: HostRuntime) -> Result<(), Fail> {
     let alloc = rt.alloc();
-    let files: [(&[u8], u8, u8); 6] = [
+    let files: [(&[u8], u8, u8); 9] = [
         (b"A <- [a-cx]", b'b', b'd'),
         (b"A <- [a-cx]", b'x', b'y'),
         (b"A <- [-+]", b'-', b','),
         (b"A <- [\\]-_]", b'^', b'`'),
         (b"A <- [z-a\\n]", 10, b'm'),
         (b"A <- [\xc8]", 0xc8, 0xc9),
+        (b"A <- [\\x80-\\xbf]", 0xbf, 0xc0),
+        (b"A <- [\\x80-\\xBF]", 0x80, 0x7f),
+        (b"A <- [\\xfF\\x5d]", b']', 0xfe),
     ];
     for (file, held, other) in files {
         let definitions = read(alloc, file)?;

@@ -27,7 +27,7 @@ none_undefined : first_undefined figure ≡ None
 unfolding figure grammar_body definition_body expression_body sequence_body prefix_body suffix_body primary_body identifier_body ident_start_body ident_cont_body literal_body class_body range_body char_body spacing_body comment_body space_body end_of_line_body end_of_file_body
 none_undefined = refl
 
-figure-weight : weight_of figure ≡ 210
+figure-weight : weight_of figure ≡ 216
 unfolding figure grammar_body definition_body expression_body sequence_body prefix_body suffix_body primary_body identifier_body ident_start_body ident_cont_body literal_body class_body range_body char_body spacing_body comment_body space_body end_of_line_body end_of_file_body
 figure-weight = refl
 

@@ -1,0 +1,34 @@
+-- Ford's figure 1 as it is printed (Ford 2004, section 2.1): the figure with a rule Char that has no hexadecimal
+-- digits. Only the law that all files of the printed notation keep their reading speaks of it.
+use Rattle.std.specs.Prelude.{◌≡◌, ℕ, List, [], ◌∷◌, map, codes, bytes_eq, if◌then◌else◌}
+use Rattle.peg_bytes.specs.Extent.{between}
+use Rattle.peg_tree.specs.Trees.{Trees}
+use Rattle.peg_ford.specs.Form.{Form, Name, Choice, forms}
+use Rattle.peg_ford.specs.Record.{Record, Matched, IsRecord}
+use Rattle.peg_ford.specs.Rules.{Rule}
+use Rattle.peg_figure.specs.Figure.{figure, char_sign, char_three_digits, char_two_digits, char_alone}
+use Rattle.peg_figure.specs.Spelled.{rules_spelled}
+
+-- Char <- '\\' [nrt'"\[\]\\] / '\\' [0-2][0-7][0-7] / '\\' [0-7][0-7]? / !'\\' .
+abbrev pub printed_char : Form
+printed_char = Choice char_sign (forms (char_three_digits ∷ char_two_digits ∷ char_alone ∷ [])) (between 582 652)
+
+-- a rule, with this expression where it is Char
+abbrev pub with_char : Form → Rule → Rule
+with_char body rule =
+    if bytes_eq rule.name (codes "Char") then record { name = rule.name; span = rule.span; body = body } else rule
+
+-- the printed figure
+abbrev pub printed_figure : List Rule
+printed_figure = map (with_char printed_char) figure
+
+-- the printed figure matches a file from its front up to a place, and leaves these trees
+abbrev pub MatchesPrinted : List ℕ → (end : ℕ) → Trees → Type 0
+MatchesPrinted file end trees =
+    (r : Record) × (IsRecord printed_figure file (Name (codes "Grammar") (between 0 0)) 0 0 r)
+    × (r.result ≡ Matched end trees)
+
+-- the reading of a file by the printed figure: the rules that its tree spells
+abbrev pub IsPrintedReading : List ℕ → List Rule → Type 0
+IsPrintedReading file rules =
+    (end : ℕ) × (trees : Trees) × MatchesPrinted file end trees × (rules ≡ rules_spelled file trees)
