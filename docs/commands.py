@@ -1,9 +1,12 @@
 #!/usr/bin/env python3
 """Runs the commands that the documents print on the built program, whose path is the argument, and compares what they
 print. In an indented block of README.md or docs/*.md a line that begins with `$ ` is a command for a shell, and the
-lines up to the next one or to an empty line are what it prints."""
+lines up to the next one or to an empty line are what it prints. The commands of a document run in one folder, where the
+program is in the path and the folder of examples is `examples`. A command that uses jq is left out where there is no
+jq."""
 import os
 import re
+import shutil
 import subprocess
 import sys
 import tempfile
@@ -28,20 +31,24 @@ def sessions(text):
 def main():
     program = os.path.realpath(sys.argv[1])
     names = ["README.md"] + sorted(f"docs/{name}" for name in os.listdir(f"{TOP}/docs") if name.endswith(".md"))
-    ran = faults = 0
+    ran = left_out = faults = 0
     for name in names:
         with open(f"{TOP}/{name}", encoding="utf-8") as file:
             text = file.read()
         with tempfile.TemporaryDirectory() as room:
             os.symlink(program, f"{room}/pegtool")
+            os.symlink(f"{TOP}/examples", f"{room}/examples")
             paths = {**os.environ, "PATH": f"{room}:{os.environ['PATH']}"}
             for command, wanted in (pair for session in sessions(text) for pair in session):
+                if re.search(r"\bjq\b", command) and not shutil.which("jq"):
+                    left_out += 1
+                    continue
                 done = subprocess.run(["bash", "-c", command], cwd=room, env=paths, capture_output=True, text=True)
                 ran += 1
                 if done.stdout != "".join(f"{line}\n" for line in wanted):
                     faults += 1
                     print(f"{name}: `{command}` printed\n{done.stdout}{done.stderr}")
-    print(f"documents: {ran} commands, {faults} faults")
+    print(f"documents: {ran} commands, {left_out} left out, {faults} faults")
     return 1 if faults or not ran else 0
 
 

@@ -1,8 +1,9 @@
 #!/usr/bin/env bash
 # Runs the built program over each grammar here (its table, its check, its code, and each of its texts, from files and
-# as one input), and over what can go wrong, and compares the statuses. A text whose name begins with `match` has to be
-# matched (status 0), one with `no_match` to fail (status 1). The argument is the program; without one it is the one that
-# `cd crates/pegtool && rt run < stdin` builds.
+# as one input), and over what can go wrong, and compares the statuses; then the scripts here that read its lines, and
+# compares what they print. A text whose name begins with `match` has to be matched (status 0), one with `no_match` to
+# fail (status 1). The argument is the program; without one it is the one that `cd crates/pegtool && rt run < stdin`
+# builds.
 set -u
 here=$(dirname "$0")
 program=$(realpath -- "${1:-$here/../crates/pegtool/out/pegtool}")
@@ -28,8 +29,21 @@ file_fault() { # the words: a file fault comes, and nothing on standard output
   [ "$(cat "$folder/told")" = "pegtool: file fault" ] || fault "no file fault is told: $*"
 }
 
-is_json() { # the last line goes on into a reader of JSON
-  python3 -m json.tool < "$folder/line" > /dev/null || fault "no JSON: $*"
+is_json() { # the last line is to go on into a reader of JSON, as all_json sees to at the end
+  { tr -d '\n' < "$folder/line"; echo; } >> "$folder/lines"
+  echo "$*" >> "$folder/words"
+}
+
+all_json() { # the lines that were kept go on into a reader of JSON
+  python3 - "$folder/lines" "$folder/words" > "$folder/told" << 'END' || fault "the lines of JSON can't be read"
+import json, sys
+for line, words in zip(*(open(name, encoding="utf-8") for name in sys.argv[1:]), strict=True):
+    try:
+        json.loads(line)
+    except ValueError:
+        print(words, end="")
+END
+  while read -r words; do fault "no JSON: $words"; done < "$folder/told"
 }
 
 unwritten() { # the words, with an output that can't be written as standard output
@@ -39,8 +53,15 @@ unwritten() { # the words, with an output that can't be written as standard outp
   [ "$(cat "$folder/told")" = "pegtool: file fault" ] || fault "no file fault is told, with no output: $*"
 }
 
+prints() { # the wanted status, the wanted lines, and the words of a script
+  status=0
+  PEGTOOL=$program "${@:3}" > "$folder/line" 2> "$folder/told" < /dev/null || status=$?
+  [ "$status" = "$1" ] || fault "status $status and not $1: ${*:3}"
+  [ "$(cat "$folder/line")" = "$2" ] || fault "not the lines that are wanted: ${*:3}"
+}
+
 # Each grammar over its texts.
-for grammar in *.peg; do
+for grammar in *.peg cookbook/*.peg; do
   run 0 /dev/null table "$grammar"
   is_json table "$grammar"
   run 0 /dev/null check "$grammar"
@@ -78,6 +99,17 @@ run 1 /dev/null parse "$folder/line.peg" "$folder/text" --all
 run 6 /dev/null parse "$folder/line.peg" "$folder/text"
 run 0 /dev/null parse "$folder/line.peg" "$folder/text" --rows
 
+# A ladder of precedence takes 17 levels of the tree for each parenthesis.
+printf '((x));' > "$folder/text"
+run 0 /dev/null parse c.peg "$folder/text"
+printf '(((x)));' > "$folder/text"
+run 6 /dev/null parse c.peg "$folder/text"
+run 0 /dev/null parse c.peg "$folder/text" --rows
+
+# Without a memo each parenthesis doubles the steps of a choice whose alternatives begin alike.
+run 6 /dev/null parse cookbook/memo.peg cookbook/memo/match_nested.txt --rows --steps 10000 --memo 0
+run 0 /dev/null parse cookbook/memo.peg cookbook/memo/match_nested.txt --rows --steps 10000
+
 # A refused grammar, of which the text is opened and not read.
 printf 'A <- A\n' > "$folder/refused.peg"
 run 2 /dev/null check "$folder/refused.peg"
@@ -114,6 +146,97 @@ for words in --help "check json.peg" "table json.peg" "code json.peg" "parse jso
   unwritten $words >&4
 done
 exec 4>&-
+
+# Where texts don't match, and where grammars are refused.
+prints 1 "toml/no_match_open_string.txt:1:12: expected '\"' or '\\\\', found '\n'" \
+  ./explain.py toml.peg toml/match_tables.txt toml/no_match_open_string.txt
+prints 1 "log/no_match_second_line.txt:2:5: expected ' ' or [!-~], found '\n'" \
+  ./explain.py log.peg log/no_match_second_line.txt
+prints 1 "http/no_match_body.txt:3:1: expected the end, found 'x'" ./explain.py http.peg http/no_match_body.txt
+prints 0 "" ./explain.py json.peg json/match_object.txt
+printf 'A <- B\n  B <- [+-] "x"\n' > "$folder/refused.peg"
+prints 2 "$folder/refused.peg:2:8: Syntax"$'\n  B <- [+-] "x"\n       ^' ./explain.py "$folder/refused.peg" json.peg
+printf 'A <- B / C\nB <- "b"\n' > "$folder/refused.peg"
+prints 2 "$folder/refused.peg:1:10: Undefined C"$'\nA <- B / C\n         ^' ./explain.py "$folder/refused.peg" json.peg
+printf 'A <- B\r\nB <- ("b"*)*' > "$folder/refused.peg"
+prints 2 "$folder/refused.peg:2:6: EmptyLoop B"$'\nB <- ("b"*)*\n     ^' ./explain.py "$folder/refused.peg" json.peg
+printf 'S <- A\nA <- B "x"\nB <- A\n' > "$folder/refused.peg"
+prints 2 "$folder/refused.peg:2:1: LeftRecursion A B"$'\nA <- B "x"\n^' ./explain.py "$folder/refused.peg" json.peg
+prints 4 "" ./explain.py json.peg "$folder/missing"
+prints 1 "" ./explain.py json.peg
+printf "A <- 'a'\n" > "$folder/part.peg"
+printf 'ab' > "$folder/text"
+prints 1 "$folder/text:1:2: expected the end, found 'b'" ./explain.py "$folder/part.peg" "$folder/text"
+printf "A <- 'a'+\n" > "$folder/part.peg"
+prints 1 "$folder/text:1:2: expected 'a' or the end, found 'b'" ./explain.py "$folder/part.peg" "$folder/text"
+printf "A <- 'a' !.\n" > "$folder/part.peg"
+prints 1 "$folder/text:1:1: expected something else, found 'a'" ./explain.py "$folder/part.peg" "$folder/text"
+
+all_json
+
+# What is told of other notations (docs/NOTATION.md): what the line has to hold, and the grammar.
+while IFS=$'\t' read -r wanted grammar; do
+  printf '%b' "$grammar" > "$folder/other.peg"
+  "$program" check "$folder/other.peg" > "$folder/line"
+  grep -qF -- "$wanted" "$folder/line" || fault "not $wanted: $grammar"
+done << 'END'
+"at":2,	S = 'a'\n
+"at":2,	S ::= 'a'\n
+"at":1,	S: 'a'\n
+"at":2,	S -> 'a'\n
+"at":9,	S <- 'a' | 'b'\n
+"at":7,	S <- S ~ S\n
+"at":6,	S <- S, S\n
+"at":8,	S <- 'a';\n
+"rules":2	S <- 'a' // B\nB <- 'b'\n
+"name":"C"	S <- 'a' // B C\nB <- 'b'\n
+"at":13,	S <- 'a' // B, C\nB <- 'b'\n
+"at":0,	// B\nB <- 'b'\n
+"at":10,	S <- 'a' /* B */\n
+"at":9,	S <- 'a' -- B\n
+"at":10,	S <- 'a' (* B *)\n
+"at":9,	S <- 'a' # B
+"rules":1	S <- 'a' // 'b'\n
+"name":"i"	S <- "ab"i\n
+"name":"i"	S <- [a-z]i\n
+"rules":2	S <- "ab"i\ni <- 'b'\n
+"at":5,	S <- ^"ab"\n
+"at":8,	S <- 'a'{2}\n
+"at":8,	S <- 'a'^2\n
+"rules":1	S <- [^a]\n
+"rules":1	S <- 'a'..'z'\n
+"at":8,	S <- 'a'-'z'\n
+"at":6,	S <- a-z\n
+"rules":1	S <- "\\xff"\n
+"at":5,	S <- "\\xf"\n
+"at":5,	S <- "\\u00e9"\n
+"at":5,	S <- [\\d]\n
+"rules":1	S <- "\\377"\n
+"rules":1	S <- [:alpha:]\n
+"at":15,	S <- [[:alpha:]]\n
+"name":"ANY"	S <- ANY\n
+"at":6,	S <- x:'a'\n
+"at":5,	S <- $'a'\n
+"at":5,	S <- %a\n
+"at":5,	S <- @{ 'a' }\n
+"at":9,	S <- 'a' { b }\n
+"at":5,	S <- < 'a' >\n
+"at":6,	S <- !!'a'\n
+"at":9,	S <- 'a'??\n
+"at":1,	a-rule <- 'a'\n
+"rules":1	S <- 'it''s'\n
+"path":["S"]	S <- S 'a' / 'a'\n
+"at":0,	\xef\xbb\xbfS <- 'a'\n
+"at":5,	S <- [+-]\n
+"rules":2	S <- [+-] T\nT <- [a]\nU <- 'b'\n
+"at":11,	S <- 'don't'\n
+END
+
+# What scripts make of trees.
+prints 0 $'def f ( x ) :\n{ while x > 0 :\n{ x = x - 1\n\n\n} return x\n} pass' ./blocks.py layout/match_blocks.txt
+prints 0 2 cookbook/evaluate.py cookbook/ladder/match_left.txt
+prints 0 512 cookbook/evaluate.py cookbook/ladder/match_right.txt
+prints 0 -16 cookbook/evaluate.py cookbook/ladder/match_levels.txt
 
 echo "$faults faults"
 [ "$faults" = 0 ]

@@ -124,7 +124,7 @@ fn empty_loops_are_told_by_their_place(rt: HostRuntime) -> Result<(), Fail> {
 
 #[test]
 fn files_and_grammars_are_refused_before(rt: HostRuntime) -> Result<(), Fail> {
-    let files: [(&[u8], &str); 8] = [
+    let files: [(&[u8], &str); 10] = [
         (
             b"",
             "{\"at\":0,\"column\":1,\"line\":1,\"refusal\":\"Syntax\"}",
@@ -147,6 +147,14 @@ fn files_and_grammars_are_refused_before(rt: HostRuntime) -> Result<(), Fail> {
         ),
         (
             b"A <- \"a\\-b\"\n",
+            "{\"at\":5,\"column\":6,\"line\":1,\"refusal\":\"Syntax\"}",
+        ),
+        (
+            b"A <- '\\x4g'\n",
+            "{\"at\":5,\"column\":6,\"line\":1,\"refusal\":\"Syntax\"}",
+        ),
+        (
+            b"A <- '\\X41'\n",
             "{\"at\":5,\"column\":6,\"line\":1,\"refusal\":\"Syntax\"}",
         ),
         (

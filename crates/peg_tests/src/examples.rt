@@ -52,7 +52,8 @@ const JSON: &[u8] = b"\
     Spacing <- [ \\t\\r\\n]*\n";
 
 const NOTATION: &[u8] = b"\
-    # The notation of grammar files, in itself: figure 1 of Bryan Ford, \"Parsing Expression Grammars\" (POPL 2004).\n\
+    # The notation of grammar files, in itself: figure 1 of Bryan Ford, \"Parsing Expression Grammars\" (POPL 2004),\n\
+    # with bytes by two hexadecimal digits.\n\
     Grammar <- Spacing Definition+ EndOfFile\n\
     Definition <- Identifier LEFTARROW Expression\n\
     Expression <- Sequence (SLASH Sequence)*\n\
@@ -66,7 +67,8 @@ const NOTATION: &[u8] = b"\
     Literal <- ['] (!['] Char)* ['] Spacing / [\"] (![\"] Char)* [\"] Spacing\n\
     Class <- '[' (!']' Range)* ']' Spacing\n\
     Range <- Char '-' Char / Char\n\
-    Char <- '\\\\' [nrt'\"\\[\\]\\\\] / '\\\\' [0-2][0-7][0-7] / '\\\\' [0-7][0-7]? / !'\\\\' .\n\
+    Char <- '\\\\x' [0-9a-fA-F][0-9a-fA-F] / '\\\\' [nrt'\"\\[\\]\\\\] / '\\\\' [0-2][0-7][0-7] \
+    / '\\\\' [0-7][0-7]? / !'\\\\' .\n\
     LEFTARROW <- '<-' Spacing\n\
     SLASH <- '/' Spacing\n\
     AND <- '&' Spacing\n\

@@ -31,6 +31,25 @@ fn texts_are_counted(rt: HostRuntime) -> Result<(), Fail> {
 }
 
 #[test]
+fn bytes_are_written_by_hexadecimal_digits(rt: HostRuntime) -> Result<(), Fail> {
+    let one =
+        "{\"consumed\":1,\"expected\":[],\"far\":0,\"result\":\"matched\",\"tree\":{\"children\":[],\"end\":1,\"rule\":\"A\",\"start\":0}}";
+    let two =
+        "{\"consumed\":2,\"expected\":[],\"far\":0,\"result\":\"matched\",\"tree\":{\"children\":[],\"end\":2,\"rule\":\"A\",\"start\":0}}";
+    let outside = "{\"expected\":[[5,16]],\"far\":0,\"result\":\"failed\"}";
+    let cases: [(&[u8], &[u8], &str, u8); 4] = [
+        (b"A <- '\\xFF'\n", b"\xff", one, 0),
+        (b"A <- [\\x80-\\xbf]\n", b"\xc0", outside, 1),
+        (b"A <- [\\x80-\\xbf]\n", b"\xbf", one, 0),
+        (b"A <- '\\x414'\n", b"A4", two, 0),
+    ];
+    for (file, text, line, status) in cases {
+        parses(&rt, rt.alloc(), file, text, line, status)?;
+    }
+    Ok(())
+}
+
+#[test]
 fn parses_have_their_lines(rt: HostRuntime) -> Result<(), Fail> {
     let cases: [(&[u8], &[u8], &str, u8); 6] = [
         (

@@ -7,7 +7,7 @@ use std::process::Abort;
 use std::test::Fail;
 
 // How many bytes the figure's text has, in 29 lines.
-const FIGURE_BYTES: usize = 984;
+const FIGURE_BYTES: usize = 1015;
 
 // What the two readers say of a file; None, where it is refused.
 fn both(alloc: Global, file: &[u8]) -> Result<(Option<String>, Option<String>), AllocError> {
@@ -87,8 +87,8 @@ fn the_figure_is_accepted_and_parses_itself(rt: HostRuntime) -> Result<(), Fail>
         rows: true,
     };
     let line = told(&rt, rt.alloc(), &parse)?;
-    assert!(rt; line.starts_with("{\"consumed\":984,\"expected\":[["));
-    let behind = "]],\"far\":984,\"result\":\"matched\",\"rows\":[[1,\"Grammar\",0,984],";
+    assert!(rt; line.starts_with("{\"consumed\":1015,\"expected\":[["));
+    let behind = "]],\"far\":1015,\"result\":\"matched\",\"rows\":[[1,\"Grammar\",0,1015],";
     assert!(rt; line.contains(behind));
     Ok(())
 }
@@ -109,13 +109,16 @@ fn told(rt: &impl Abort, alloc: Global, command: &Command<'_>) -> Result<String,
 
 #[test]
 fn files_are_read_alike(rt: HostRuntime) -> Result<(), Fail> {
-    let files: [&[u8]; 6] = [
+    let files: [&[u8]; 9] = [
         b"S <- 'a' S / 'b'\n",
         b"D <- &(A !'b') 'a'* B !.\nA <- 'a' A 'b' / ''\nB <- 'b' B 'c' / ''\n",
         b"A <- '\\377'",
         b"A <- '(' A ')' 'x' / '(' A ')' 'y' / 'a'",
         b"A <- [z-a] / [] / [\xc8]",
         b"A <- &'x' 'y'+ .?",
+        b"A <- '\\xFF'",
+        b"A <- [\\x80-\\xbf]",
+        b"A <- '\\x414'",
     ];
     assert_read(&rt, rt.alloc(), &files)
 }
@@ -139,6 +142,8 @@ fn files_that_the_figure_refuses(rt: HostRuntime) -> Result<(), Fail> {
     assert_eq!(rt; fault(b""), Some(FigureFault::NotInFigure));
     assert_eq!(rt; fault(b"A <- [a-]"), Some(FigureFault::NotInFigure));
     assert_eq!(rt; fault(b"A <- 'x' #end"), Some(FigureFault::NotInFigure));
+    assert_eq!(rt; fault(b"A <- '\\x4g'"), Some(FigureFault::NotInFigure));
+    assert_eq!(rt; fault(b"A <- '\\X41'"), Some(FigureFault::NotInFigure));
     assert_eq!(rt; fault(&nested(alloc, 201)?), Some(FigureFault::TooNested));
     assert_eq!(rt; fault(&nested(alloc, 200)?), None);
     let mut spaces = vec![in alloc; b' '; 1_048_577]?;

@@ -144,7 +144,8 @@ Example: pegtool parse grammar.peg text
 
 In a class, `-]` makes the bracket the end of a range: `[a-]` isn't closed, and
 goes on to the next bracket, over the rules between. Write `[-a]` for a dash or
-an a.";
+an a. Any byte may be written as `\\xHH`, by two hexadecimal digits, in quotes
+and in classes; of octal digits `\\277` is the last, and `\\377` is `\\37` and `7`.";
 
 // What stands below the help of `check`.
 const CHECK_NOTES: &str = "\
@@ -187,14 +188,20 @@ place at which a terminal failed, and where those that failed there stand in the
 grammar file. A text has at most 67108864 bytes. A tree of more than 60 levels
 is printed with --rows alone.
 
+With --memo N, up to N results of rules are kept, those that pay, and found where
+a rule is asked again at the same place. It changes no answer but the time: where
+alternatives begin alike within one another, a parse without a memo may take time
+exponential in the text's length. Where a grammar seldom tries a rule twice at
+one place, as most formats of data, --memo 0 is faster by up to a third.
+
 A step is one instruction of the grammar's code, which the parsing machine runs.
 With --steps N, a parse that takes more than N steps ends with the refusal
-StepLimit, status 6. This bounds its time, which else may be exponential in the
-text's length. How many steps it takes depends on --memo too.
+StepLimit, which bounds its time. How many it takes depends on --memo too.
 
 Status: 0 matched; 1 failed, or partial under --all; 2 the grammar is refused; 3 a
 fault of the command line, or the start is no rule; 4 a file can't be opened or
-read, or the output can't be written; 5 out of memory; 6 the tree is too deep to
-be printed nested, the text is too long, or the parse takes too many steps.
+read, or the output can't be written; 5 out of memory; 6 there may be an answer,
+but it isn't told: TooDeep, the tree has more than 60 levels, ask with --rows;
+TextTooLong; StepLimit, ask with a greater --steps or --memo.
 
 Example: pegtool parse grammar.peg text --start Value --all --rows";

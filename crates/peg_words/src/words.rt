@@ -75,7 +75,7 @@ pub fn read_words(alloc: Global, words: &[String]) -> Result<Words, WordsFault>
     let program = program(alloc)?;
     match program.try_get_matches_from(words) {
         Ok(matches) => command_of(alloc, &matches),
-        Err(error) => told_by(alloc, &error),
+        Err(error) => told_by(alloc, words, &error),
     }
 }
 
@@ -162,16 +162,37 @@ fn missing(alloc: Global) -> WordsFault {
     }
 }
 
-// What the parser tells in place of a command.
-fn told_by(alloc: Global, error: &Error) -> Result<Words, WordsFault>
+// What the parser tells in place of a command, and where the words are none, how to go on.
+fn told_by(alloc: Global, words: &[String], error: &Error) -> Result<Words, WordsFault>
     ensures { IfOk result IsAsking }
 {
     if error.kind() == ErrorKind::OutOfMemory {
         return Err(WordsFault::Memory);
     }
-    let text = error.to_string(alloc)?;
+    let mut text = error.to_string(alloc)?;
     match error.kind() {
         ErrorKind::DisplayHelp => Ok(Words::Help { text }),
-        _ => Err(WordsFault::Usage { text }),
+        _ => {
+            text.push_str(way_on(words))?;
+            Err(WordsFault::Usage { text })
+        }
+    }
+}
+
+// Where to read on after a fault: the help of the command that was meant, or how a text is parsed.
+fn way_on(words: &[String]) -> &'static str {
+    match words.first() {
+        Some(word) => way_from(word.as_str()),
+        None => way_from(""),
+    }
+}
+
+fn way_from(first: &str) -> &'static str {
+    match first {
+        "check" => "For this command: pegtool check --help\n",
+        "table" => "For this command: pegtool table --help\n",
+        "code" => "For this command: pegtool code --help\n",
+        "parse" => "For this command: pegtool parse --help\n",
+        _ => "To parse a text T by a grammar file G: pegtool parse G T\n",
     }
 }

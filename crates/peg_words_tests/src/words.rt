@@ -158,6 +158,7 @@ fn help_is_told(rt: HostRuntime) -> Result<(), Fail> {
     let cases = [
         ("-h", "Usage: pegtool <COMMAND>"),
         ("--help", "Example: pegtool parse grammar.peg text"),
+        ("--help", "may be written as `\\xHH`"),
         ("check --help", "Usage: pegtool check <G>"),
         ("check --help", "Example: pegtool check grammar.peg"),
         ("table --help", "Usage: pegtool table <G>"),
@@ -167,7 +168,11 @@ fn help_is_told(rt: HostRuntime) -> Result<(), Fail> {
         ("parse --help", "Usage: pegtool parse [OPTIONS] <G> <T>"),
         ("parse --help", "[default: 4096]"),
         ("parse --help", "--steps <N>"),
-        ("parse --help", "StepLimit, status 6"),
+        ("parse --help", "--memo 0 is faster"),
+        (
+            "parse --help",
+            "StepLimit, ask with a greater --steps or --memo",
+        ),
         (
             "parse --help",
             "Example: pegtool parse grammar.peg text --start Value --all --rows",
@@ -223,6 +228,22 @@ fn what_is_no_command_line_is_refused(rt: HostRuntime) -> Result<(), Fail> {
             "parse g t --steps 1 --steps 2",
             "'--steps <N>' cannot be used multiple times",
         ),
+    ];
+    for (line, part) in cases {
+        refused(&rt, rt.alloc(), line, part)?;
+    }
+    Ok(())
+}
+
+#[test]
+fn faults_point_at_the_command_that_was_meant(rt: HostRuntime) -> Result<(), Fail> {
+    let cases = [
+        ("check", "pegtool check --help"),
+        ("table x y", "pegtool table --help"),
+        ("code --all x", "pegtool code --help"),
+        ("parse g", "pegtool parse --help"),
+        ("g.peg text", "pegtool parse G T"),
+        ("--rows g t", "pegtool parse G T"),
     ];
     for (line, part) in cases {
         refused(&rt, rt.alloc(), line, part)?;

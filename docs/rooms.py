@@ -1,0 +1,112 @@
+#!/usr/bin/env python3
+"""Draws the rooms: the crates that the program uses, from crates.txt, and what each hands on. `docs/rooms.py` prints
+the drawing, `docs/rooms.py --write` puts it into ARCHITECTURE.md, and `docs/rooms.py --check` compares it with what
+stands there.
+
+A room is an `o`. The line below it leads down to the rooms that use it, `+` where one of them is and the line goes on,
+`'` where the last one is; `|` between dashes is a line that only crosses. A room that is used through another one, too,
+has no line of its own for that."""
+import os
+import re
+import sys
+
+TOP = os.path.dirname(os.path.dirname(os.path.abspath(__file__)))
+DOCUMENT = f"{TOP}/docs/ARCHITECTURE.md"
+PLACE = re.compile(r"^```rooms\n(.*?)^```$", re.M | re.S)
+
+HANDED_ON = {
+    "peg_bytes": "places, spans, sets of bytes",
+    "peg_tree": "trees as rows, outcomes",
+    "peg_ford": "Ford's definitions; nothing runs",
+    "peg_grammar": "definitions -> a grammar",
+    "peg_figure": "the notation as a grammar",
+    "peg_lexer": "a grammar file -> tokens",
+    "peg_spelling": "a tree of the notation -> definitions",
+    "peg_notation": "tokens -> definitions",
+    "peg_core": "a grammar -> core forms",
+    "peg_check": "core forms -> table, checked grammar",
+    "peg_code": "a checked grammar -> a program",
+    "peg_memo": "results of rules at places, and back",
+    "peg_policy": "a program -> a memo that keeps what pays",
+    "peg_io": "files and streams -> bytes, and back",
+    "peg_machine": "a program, a text -> outcome, tree, furthest failure",
+    "peg_parser": "a grammar file -> a parser or a refusal; a text -> an answer",
+    "peg_reply": "an answer or a refusal -> a line of JSON, a status",
+    "peg_words": "words -> a command",
+    "peg_tool": "a command, bytes -> the line that is written, the status",
+    "pegtool": "the program",
+}
+
+
+def rooms():
+    """Each crate that the program uses, in the order of crates.txt, with the crates that it uses."""
+    with open(f"{TOP}/crates.txt", encoding="utf-8") as file:
+        pairs = (line.split(":") for line in file if not line.startswith("#"))
+        used = {name: libraries.split() for name, libraries in pairs}
+    found, coming = set(), ["pegtool"]
+    while coming:
+        name = coming.pop()
+        if name in used and name not in found:
+            found.add(name)
+            coming.extend(used[name])
+    return {name: {other for other in used[name] if other in used} for name in used if name in found}
+
+
+def nearest(used):
+    """The same without the crates that are used through another one, too."""
+    below = {}
+    for name, others in used.items():
+        below[name] = others.union(*(below[other] for other in others))
+    return {name: others - set().union(*(below[other] for other in others)) for name, others in used.items()}
+
+
+def drawing():
+    """The lines of the drawing."""
+    used = nearest(rooms())
+    last = {other: name for name, others in used.items() for other in others}
+    lanes, lines = [], []
+    for name, others in used.items():
+        ends = {other for other in others if last[other] == name}
+        ways = [lane for lane, other in enumerate(lanes) if other in others]
+        free = [lane for lane, other in enumerate(lanes) if other is None or other in ends] + [len(lanes)]
+        own = free[0]
+        row = [" " if other is None else "|" for other in lanes] + [" "] * (own + 1 - len(lanes))
+        gaps = [" "] * len(row)
+        for way in ways:
+            for lane in range(min(way, own), max(way, own)):
+                gaps[lane] = "-"
+                row[lane] = "-" if row[lane] == " " else row[lane]
+        for way in ways:
+            row[way] = "'" if lanes[way] in ends else "+"
+        row[own] = "o"
+        lanes = [None if other in ends else other for other in lanes] + [None] * (own + 1 - len(lanes))
+        lanes[own] = name if name in last else None
+        lines.append(("".join(char + gap for char, gap in zip(row, gaps)).rstrip(), name))
+    width = max(len(line) for line, _ in lines)
+    longest = max(len(name) for _, name in lines)
+    return "".join(f"{line:{width}}  {name:{longest}}  {HANDED_ON[name]}\n" for line, name in lines)
+
+
+def main(words):
+    strangers = sorted(HANDED_ON.keys() ^ rooms().keys())
+    if strangers:
+        print(f"rooms: what is handed on is told of other crates than the program uses: {', '.join(strangers)}")
+        return 1
+    if words not in ([], ["--check"], ["--write"]):
+        print("rooms: the words are none, --check or --write")
+        return 3
+    with open(DOCUMENT, encoding="utf-8") as file:
+        text = file.read()
+    if not words:
+        print(drawing(), end="")
+    elif words == ["--write"]:
+        with open(DOCUMENT, "w", encoding="utf-8") as file:
+            file.write(PLACE.sub(lambda _: f"```rooms\n{drawing()}```", text))
+    else:
+        same = PLACE.findall(text) == [drawing()]
+        print(f"rooms: {len(rooms())} crates, {'the drawing is theirs' if same else 'the drawing is another'}")
+        return 0 if same else 1
+    return 0
+
+
+sys.exit(main(sys.argv[1:]))
