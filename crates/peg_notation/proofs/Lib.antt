@@ -12,6 +12,7 @@ mod PrintedFronts
 mod PrintedHalts
 mod PrintedMeanings
 mod PrintedRules
+mod PrintedSpelling
 mod Progress
 mod Reached
 mod ReachedRules

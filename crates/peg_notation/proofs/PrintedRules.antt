@@ -58,7 +58,7 @@ byte_in one small None is = cc
 byte_in one small (Some byte) is = ap Some (has_one one byte small is)
 
 module _ (file : List ℕ) where
-  abbrev Old : Form → ℕ → Recognition → Type 0
+  abbrev pub Old : Form → ℕ → Recognition → Type 0
   Old e p x = Derives printed_figure file e p x
 
   abbrev OldItems : Forms → ℕ → Recognition → Type 0
@@ -71,7 +71,7 @@ module _ (file : List ℕ) where
   elsewhere (Derives.name_matched found d t) = Derives.name_matched found d t
   elsewhere (Derives.name_failed found d) = Derives.name_failed found d
 
-  named : {used : List ℕ} {span : Extent} {p : ℕ} {x : Recognition} (m : Meaning)
+  pub named : {used : List ℕ} {span : Extent} {p : ℕ} {x : Recognition} (m : Meaning)
       → meant printed_figure used ≡ Some m → Old (Name used span) p x
       → (y : Recognition) × Old m.body p y × (x ≡ as_tree m.rule p y)
   named {p = p} m known (Derives.name_matched {meaning = other} {end = end} {trees = trees} found d t) =
@@ -163,15 +163,15 @@ module _ (file : List ℕ) where
 
   -- ---- Char
 
-  printed-meant : (t : ℕ) × (meant printed_figure (codes "Char")
+  pub printed-meant : (t : ℕ) × (meant printed_figure (codes "Char")
       ≡ Some (record { rule = 13; terminal = t; body = printed_char }))
   unfolding figure
   printed-meant = (_, refl)
 
-  abbrev printed_meaning : Meaning
+  abbrev pub printed_meaning : Meaning
   printed_meaning = record { rule = 13; terminal = printed-meant.0; body = printed_char }
 
-  no_escape : (p : ℕ) (rest : List ℕ) → drop p file ≡ 92 ∷ 120 ∷ rest → Old printed_char p Failed
+  pub no_escape : (p : ℕ) (rest : List ℕ) → drop p file ≡ 92 ∷ 120 ∷ rest → Old printed_char p Failed
   unfolding class_of
   no_escape p rest is =
       let behind_it : drop (p + 1) file ≡ 120 ∷ rest = sym (drop-drop 1 p file) ∙ ap (drop 1) is in
@@ -706,7 +706,8 @@ module _ (file : List ℕ) where
 
   -- ---- files
 
-  pub printed-kept : (end : ℕ) (trees : Trees) → MatchesPrinted file end trees → Matches file (codes "Grammar") 0 end trees
+  pub printed-kept : (end : ℕ) (trees : Trees) → MatchesPrinted file (codes "Grammar") 0 end trees
+      → Matches file (codes "Grammar") 0 end trees
   printed-kept end trees m =
       let whole : Old (Name (codes "Grammar") (between 0 0)) 0 (Matched end trees) =
       subst (Old (Name (codes "Grammar") (between 0 0)) 0) m.2

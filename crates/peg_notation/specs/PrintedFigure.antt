@@ -7,7 +7,7 @@ use Rattle.peg_ford.specs.Form.{Form, Name, Choice, forms}
 use Rattle.peg_ford.specs.Record.{Record, Matched, IsRecord}
 use Rattle.peg_ford.specs.Rules.{Rule}
 use Rattle.peg_figure.specs.Figure.{figure, char_sign, char_three_digits, char_two_digits, char_alone}
-use Rattle.peg_figure.specs.Spelled.{rules_spelled}
+use Rattle.peg_figure.specs.Spelled.{is_octal, octal, escaped, rules_spelled}
 
 -- Char <- '\\' [nrt'"\[\]\\] / '\\' [0-2][0-7][0-7] / '\\' [0-7][0-7]? / !'\\' .
 abbrev pub printed_char : Form
@@ -22,13 +22,19 @@ with_char body rule =
 abbrev pub printed_figure : List Rule
 printed_figure = map (with_char printed_char) figure
 
--- the printed figure matches a file from its front up to a place, and leaves these trees
-abbrev pub MatchesPrinted : List ℕ → (end : ℕ) → Trees → Type 0
-MatchesPrinted file end trees =
-    (r : Record) × (IsRecord printed_figure file (Name (codes "Grammar") (between 0 0)) 0 0 r)
-    × (r.result ≡ Matched end trees)
+-- a rule of the printed figure matches a file between two places, and leaves these trees
+abbrev pub MatchesPrinted : List ℕ → (name : List ℕ) → (start end : ℕ) → Trees → Type 0
+MatchesPrinted file name start end trees =
+    (r : Record) × (IsRecord printed_figure file (Name name (between 0 0)) 0 start r) × (r.result ≡ Matched end trees)
 
 -- the reading of a file by the printed figure: the rules that its tree spells
 abbrev pub IsPrintedReading : List ℕ → List Rule → Type 0
 IsPrintedReading file rules =
-    (end : ℕ) × (trees : Trees) × MatchesPrinted file end trees × (rules ≡ rules_spelled file trees)
+    (end : ℕ) × (trees : Trees) × MatchesPrinted file (codes "Grammar") 0 end trees × (rules ≡ rules_spelled file trees)
+
+-- the byte that the text of a printed Char spells: a byte alone spells itself, and behind a backslash stands a sign, or
+-- octal digits; no Char has no text
+abbrev pub printed_byte : List ℕ → ℕ
+printed_byte [] = 0
+printed_byte (byte ∷ []) = byte
+printed_byte (backslash ∷ sign ∷ digits) = if is_octal sign then octal (sign ∷ digits) else escaped sign

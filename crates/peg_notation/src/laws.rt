@@ -1,9 +1,10 @@
 //! Laws of the definitions. Each function does nothing; its contract is the law.
-ghost use Rattle.std.specs.Prelude.{◌≢◌, ℕ, List, [], codes};
+ghost use Rattle.std.specs.Prelude.{◌≡◌, ◌≢◌, ℕ, List, [], codes};
 ghost use Rattle.peg_ford.specs.Rules.{Rule};
 ghost use Rattle.peg_tree.specs.Trees.{Trees};
 ghost use Rattle.peg_figure.specs.Notation.{Matches, IsReading};
-ghost use Rattle.peg_notation.specs.PrintedFigure.{MatchesPrinted, IsPrintedReading};
+ghost use Rattle.peg_figure.specs.Spelled.{byte_spelled, part};
+ghost use Rattle.peg_notation.specs.PrintedFigure.{MatchesPrinted, IsPrintedReading, printed_byte};
 
 /// The reading of a file has a rule.
 pub fn a_reading_has_a_rule()
@@ -11,9 +12,13 @@ pub fn a_reading_has_a_rule()
 {}
 
 /// A file that the printed figure matches, whose Char has no hexadecimal digits, is matched by the figure with the same
-/// tree: it is in the notation with the same reading, and its parentheses nest as deep.
+/// tree: it is in the notation with the same reading, and its parentheses nest as deep. What a Char of the printed figure
+/// spells is the byte that it is printed to spell.
 pub fn the_printed_notation_is_kept()
-    ensures tree { (file : List ℕ) (end : ℕ) (trees : Trees) → MatchesPrinted file end trees
+    ensures tree { (file : List ℕ) (end : ℕ) (trees : Trees) → MatchesPrinted file (codes "Grammar") 0 end trees
         → Matches file (codes "Grammar") 0 end trees }
+    ensures spelling { (file : List ℕ) (start end : ℕ) (trees : Trees)
+        → MatchesPrinted file (codes "Char") start end trees
+        → byte_spelled (part file start end) ≡ printed_byte (part file start end) }
     ensures reading { (file : List ℕ) (rules : List Rule) → IsPrintedReading file rules → IsReading file rules }
 {}
