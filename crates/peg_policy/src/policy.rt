@@ -54,6 +54,14 @@ struct Standing {
     balance: u64,
 }
 
+// Bodies that began one in the other with nothing between them: the credit grew by `BODY` from each to the next.
+#[derive(Clone, Copy)]
+struct Nest {
+    // What the credit was behind the beginning of the newest.
+    next: u64,
+    bodies: u64,
+}
+
 /// What was kept of late, and how far it paid.
 #[derive(Drop)]
 pub struct Policy<'a> {
@@ -61,9 +69,9 @@ pub struct Policy<'a> {
     costs: &'a Costs,
     standings: Vec<Standing>,
     recent: Recent,
-    // What the credit was when each open body began, but for so many of the newest, which found no room.
-    open: Vec<u64>,
-    missed: usize,
+    // The open bodies, but for so many of the newest, which found no room.
+    open: Vec<Nest>,
+    missed: u64,
     credit: u64,
 }
 
@@ -105,21 +113,26 @@ impl<'a> Policy<'a> {
     /// Notes that a body begins. Where memory is refused its result isn't kept, nor are those of the bodies that begin
     /// within it until there is room again: then they count as begun with the one that found it.
     pub fn begin(&mut self) {
-        if self.missed > 0 {
-            self.make_room();
-        }
-        if self.missed == 0 && self.open.push(self.credit).is_ok() {
-            self.credit = self.credit.saturating_add(BODY);
-        } else {
-            self.missed = self.missed.saturating_add(1);
+        match self.open.last_mut() {
+            Some(nest) if nest.next == self.credit && self.missed == 0 => {
+                nest.bodies = nest.bodies.saturating_add(1);
+                nest.next = nest.next.saturating_add(BODY);
+                self.credit = nest.next;
+            }
+            _ => self.begin_nest(),
         }
     }
 
-    // Puts the open bodies that found no room behind the others, if there is room now.
-    fn make_room(&mut self) {
-        let bodies = self.open.len().saturating_add(self.missed);
-        if self.open.resize(bodies, self.credit).is_ok() {
+    // Notes that a body begins with which no nest goes on, and with it those that found no room, if there is room now.
+    #[inline(never)]
+    fn begin_nest(&mut self) {
+        let bodies = self.missed.saturating_add(1);
+        let next = self.credit.saturating_add(BODY);
+        if self.open.push(Nest { next, bodies }).is_ok() {
             self.missed = 0;
+            self.credit = next;
+        } else {
+            self.missed = bodies;
         }
     }
 
@@ -147,7 +160,7 @@ impl<'a> Policy<'a> {
             self.missed = self.missed.saturating_sub(1);
             return false;
         }
-        let Some(began) = self.open.pop() else {
+        let Some(began) = end_newest(&mut self.open) else {
             return false;
         };
         let work = self.credit.saturating_sub(began);
@@ -196,6 +209,18 @@ impl Standing {
         self.skipped = 0;
         false
     }
+}
+
+// Ends the newest open body, and tells what the credit was when it began.
+fn end_newest(open: &mut Vec<Nest>) -> Option<u64> {
+    let nest = open.last_mut()?;
+    let began = nest.next.saturating_sub(BODY);
+    nest.next = began;
+    nest.bodies = nest.bodies.saturating_sub(1);
+    if nest.bodies == 0 {
+        open.pop();
+    }
+    Some(began)
 }
 
 // Whether the work for a result, and the bytes that were read for it, are little enough to be done again.
