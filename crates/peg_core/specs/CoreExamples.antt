@@ -22,6 +22,32 @@ signs_core =
     ∷ Choice (Not (Test (only 120) 7)) (Seq (Test [] 8) (Test (only 120) 9))
     ∷ []
 
+-- A <- 'a'{2,4}: two rounds that have to match, and in them two that need not
+abbrev an_a : CoreForm
+an_a = Test (only 97) 0
+
+abbrev up_to_one : CoreForm
+up_to_one = Choice (Seq an_a Empty) Empty
+
+abbrev up_to_two : CoreForm
+up_to_two = Choice (Seq an_a up_to_one) Empty
+
+abbrev pub two_to_four_core : List CoreForm
+two_to_four_core = Seq an_a (Seq an_a up_to_two) ∷ []
+
+-- the core forms that it is made of: the 'a' once, and one or two for each round
+abbrev pub two_to_four_parts : List CoreForm
+two_to_four_parts =
+    an_a
+    ∷ Empty
+    ∷ Seq an_a Empty
+    ∷ up_to_one
+    ∷ Seq an_a up_to_one
+    ∷ up_to_two
+    ∷ Seq an_a up_to_two
+    ∷ Seq an_a (Seq an_a up_to_two)
+    ∷ []
+
 -- what each rule's body can do in n rounds
 abbrev pub all_core_can_in : List CoreForm → ℕ → List Can
 all_core_can_in bodies n = map (core_can_in bodies n) bodies

@@ -1,5 +1,5 @@
 -- Ford's core forms (Ford 2004, section 3.1), and the core form of a written expression by his sugar (section 3.2).
-use Rattle.std.specs.Prelude.{ℕ, ◌+◌, List, [], ◌∷◌, map, length, option_map, unwrap_or}
+use Rattle.std.specs.Prelude.{ℕ, zero, suc, ◌+◌, List, [], ◌∷◌, map, length, option_map, unwrap_or}
 use Rattle.peg_bytes.specs.ByteSet.{Bytes, only, all_bytes}
 use Rattle.peg_bytes.specs.Extent.{Extent}
 use Rattle.peg_ford.specs.Form.{Form, Forms, End, Then, terminals}
@@ -37,12 +37,25 @@ one_of first (next ∷ rest) = Choice first (one_of next rest)
 abbrev pub tests_of : (terminal : ℕ) → List ℕ → List CoreForm
 tests_of terminal bytes = map (λ byte. Test (only byte) terminal) bytes
 
+-- a part at least min times and at most max times, round in round: with max 0 the empty expression; while min is above
+-- 0 the part and then the rest, and from then on these or the empty expression
+abbrev pub unfolded : CoreForm → (min max : ℕ) → CoreForm
+unfolded part min zero = Empty
+unfolded part zero (suc max) = Choice (Seq part (unfolded part zero max)) Empty
+unfolded part (suc min) (suc max) = Seq part (unfolded part min max)
+
+-- A count is what it unfolds to. With max 0, which no grammar has, the part stands behind the empty expression all the
+-- same, where it is never tried: so each count asks for its part, whatever its numbers are.
+abbrev pub count_form : CoreForm → (min max : ℕ) → CoreForm
+count_form part min zero = Choice Empty part
+count_form part min (suc max) = unfolded part min (suc max)
+
 -- the number of the rule that a name means; past all rules where it means none
 abbrev pub number_of : List grammar.Rule → List ℕ → ℕ
 number_of rules name = unwrap_or (option_map (λ (m : Meaning). m.rule) (meant rules name)) (length rules)
 
--- The core form of an expression whose first terminal has this number: `e?` is `e / ''`, `e+` is `e e*`, `&e` is
--- `!(!e)`, a literal is the sequence of its bytes, a class and `.` are one test of a byte.
+-- The core form of an expression whose first terminal has this number: `e?` is `e / ''`, `e+` is `e e*`, a count is
+-- what it unfolds to, `&e` is `!(!e)`, a literal is the sequence of its bytes, a class and `.` are one test of a byte.
 abbrev mutual
   pub core_form : List grammar.Rule → (terminal : ℕ) → Form → CoreForm
   core_form rules terminal (written.Literal bytes span) = all_in_order (tests_of terminal bytes)
@@ -56,6 +69,7 @@ abbrev mutual
   core_form rules terminal (written.Star part span) = Star (core_form rules terminal part) span
   core_form rules terminal (written.Plus part span) =
       Seq (core_form rules terminal part) (Star (core_form rules terminal part) span)
+  core_form rules terminal (written.Counted part min max span) = count_form (core_form rules terminal part) min max
   core_form rules terminal (written.And part span) = Not (Not (core_form rules terminal part))
   core_form rules terminal (written.Not part span) = Not (core_form rules terminal part)
 

@@ -1,15 +1,16 @@
 -- The core forms that a written expression is made of: those of its parts, and then its own, itself last. The part of a
--- plus stands there once, and is named twice.
-use Rattle.std.specs.Prelude.{◌≡◌, ℕ, ◌+◌, Bool, List, [], ◌∷◌, ◌++◌}
+-- plus stands there once, and is named twice; so does that of a count, which is named once for each round.
+use Rattle.std.specs.Prelude.{◌≡◌, ℕ, zero, suc, ◌+◌, Bool, List, [], ◌∷◌, ◌++◌}
 use Rattle.std.specs.List.{list_all}
 use Rattle.peg_bytes.specs.ByteSet.{all_bytes}
 use Rattle.peg_bytes.specs.Extent.{Extent}
-use Rattle.peg_ford.specs.Form.{Form, Forms, End, Then, Reference, terminals}
+use Rattle.peg_ford.specs.Form.{Form, Forms, End, Then, Reference, Count, terminals}
 use Rattle.peg_ford.specs.Form as written
+use Rattle.peg_ford.specs.Grammar.{is_in_range}
 use Rattle.peg_ford.specs.Rules.{is_defined}
 use Rattle.peg_ford.specs.Rules as grammar
 use Rattle.peg_core.specs.CoreForm.{CoreForm, Empty, Test, Rule, Seq, Choice, Star, Not, in_order, one_of, tests_of}
-use Rattle.peg_core.specs.CoreForm.{number_of, core_form, core_forms, core_bodies}
+use Rattle.peg_core.specs.CoreForm.{unfolded, number_of, core_form, core_forms, core_bodies}
 use Rattle.peg_core.specs.Layout.{Desugared, bodies_of}
 
 -- the sequences that forms in order nest to, the shortest first
@@ -35,6 +36,18 @@ optional_forms part = Empty ∷ Choice part Empty ∷ []
 abbrev pub plus_forms : CoreForm → Extent → List CoreForm
 plus_forms part origin = Star part origin ∷ Seq part (Star part origin) ∷ []
 
+-- the rounds of a count, the innermost first
+abbrev pub rounds_of : CoreForm → (min max : ℕ) → List CoreForm
+rounds_of part min zero = []
+rounds_of part zero (suc max) =
+    rounds_of part zero max ++ Seq part (unfolded part zero max) ∷ unfolded part zero (suc max) ∷ []
+rounds_of part (suc min) (suc max) = rounds_of part min max ++ unfolded part (suc min) (suc max) ∷ []
+
+-- a count: the empty expression, and the rounds
+abbrev pub count_forms : CoreForm → (min max : ℕ) → List CoreForm
+count_forms part min zero = Empty ∷ Choice Empty part ∷ []
+count_forms part min (suc max) = Empty ∷ rounds_of part min (suc max)
+
 -- not the predicate that there is none
 abbrev pub and_forms : CoreForm → List CoreForm
 and_forms part = Not part ∷ Not (Not part) ∷ []
@@ -59,6 +72,8 @@ abbrev mutual
       core_parts rules terminal part ++ Star (core_form rules terminal part) span ∷ []
   core_parts rules terminal (written.Plus part span) =
       core_parts rules terminal part ++ plus_forms (core_form rules terminal part) span
+  core_parts rules terminal (written.Counted part min max span) =
+      core_parts rules terminal part ++ count_forms (core_form rules terminal part) min max
   core_parts rules terminal (written.And part span) =
       core_parts rules terminal part ++ and_forms (core_form rules terminal part)
   core_parts rules terminal (written.Not part span) =
@@ -87,3 +102,7 @@ pub record AreCoreFormsOf (rules : List grammar.Rule) (core : Desugared) : Type 
 -- whether all names that are used are defined
 abbrev pub are_defined : List grammar.Rule → List Reference → Bool
 are_defined rules references = list_all (λ (reference : Reference). is_defined rules reference.name) references
+
+-- whether all counts are in range
+abbrev pub are_in_range : List Count → Bool
+are_in_range counts = list_all is_in_range counts

@@ -24,6 +24,10 @@ form_at forms number = slice_index_or forms number Empty
 abbrev pub bodies_of : Desugared → List CoreForm
 bodies_of core = map (form_at core.forms) core.bodies
 
--- the most forms of a grammar: two for each part of the greatest weight
+-- the most forms of one part of the weight: a count of at most 255 rounds has two for each, and the empty one
+abbrev pub most_forms_each : ℕ
+most_forms_each = 511
+
+-- the most forms of a grammar: so many for each part of the greatest weight
 abbrev pub most_forms : ℕ
-most_forms = 2 * most_parts
+most_forms = most_forms_each * most_parts

@@ -28,6 +28,8 @@ abbrev mutual
   numbered_below terminal (written.Optional part span) = numbered_as terminal part ∷ numbered_below terminal part
   numbered_below terminal (written.Star part span) = numbered_as terminal part ∷ numbered_below terminal part
   numbered_below terminal (written.Plus part span) = numbered_as terminal part ∷ numbered_below terminal part
+  numbered_below terminal (written.Counted part min max span) =
+      numbered_as terminal part ∷ numbered_below terminal part
   numbered_below terminal (written.And part span) = numbered_as terminal part ∷ numbered_below terminal part
   numbered_below terminal (written.Not part span) = numbered_as terminal part ∷ numbered_below terminal part
 
@@ -66,6 +68,7 @@ abbrev mutual
       core_stars rules terminal part ++ Star (core_form rules terminal part) span ∷ []
   core_stars rules terminal (written.Plus part span) =
       core_stars rules terminal part ++ Star (core_form rules terminal part) span ∷ []
+  core_stars rules terminal (written.Counted part min max span) = core_stars rules terminal part
   core_stars rules terminal (written.And part span) = core_stars rules terminal part
   core_stars rules terminal (written.Not part span) = core_stars rules terminal part
 

@@ -9,5 +9,5 @@ first_ten = take 10 figure
 abbrev pub next_ten : List Rule
 next_ten = take 10 (drop 10 figure)
 
-abbrev pub last_nine : List Rule
-last_nine = drop 20 figure
+abbrev pub last_eleven : List Rule
+last_eleven = drop 20 figure

@@ -64,26 +64,32 @@ star = 19
 abbrev pub plus : ℕ
 plus = 20
 
+abbrev pub count : ℕ
+count = 21
+
+abbrev pub number : ℕ
+number = 22
+
 abbrev pub open_sign : ℕ
-open_sign = 21
+open_sign = 23
 
 abbrev pub close : ℕ
-close = 22
+close = 24
 
 abbrev pub dot : ℕ
-dot = 23
+dot = 25
 
 abbrev pub spacing : ℕ
-spacing = 24
+spacing = 26
 
 abbrev pub comment : ℕ
-comment = 25
+comment = 27
 
 abbrev pub space : ℕ
-space = 26
+space = 28
 
 abbrev pub end_of_line : ℕ
-end_of_line = 27
+end_of_line = 29
 
 abbrev pub end_of_file : ℕ
-end_of_file = 28
+end_of_file = 30

@@ -1,5 +1,5 @@
--- The text of Ford's figure 1 (Ford 2004, section 2.1), with hexadecimal digits in its rule Char: 29 lines, each ended
--- by one byte 10.
+-- The text of Ford's figure 1 (Ford 2004, section 2.1), with counts in its rule Suffix and hexadecimal digits in its
+-- rule Char: 31 lines, each ended by one byte 10.
 use Rattle.std.specs.Prelude.{ℕ, List, [], ◌∷◌, ◌++◌, flat_map, codes}
 
 -- the figure's lines
@@ -10,7 +10,7 @@ figure_lines =
     codes "Expression <- Sequence (SLASH Sequence)*" ∷
     codes "Sequence <- Prefix*" ∷
     codes "Prefix <- (AND / NOT)? Suffix" ∷
-    codes "Suffix <- Primary (QUESTION / STAR / PLUS)?" ∷
+    codes "Suffix <- Primary (QUESTION / STAR / PLUS / COUNT)?" ∷
     codes "Primary <- Identifier !LEFTARROW / OPEN Expression CLOSE / Literal / Class / DOT" ∷
     codes "Identifier <- IdentStart IdentCont* Spacing" ∷
     codes "IdentStart <- [a-zA-Z_]" ∷
@@ -26,6 +26,8 @@ figure_lines =
     codes "QUESTION <- '?' Spacing" ∷
     codes "STAR <- '*' Spacing" ∷
     codes "PLUS <- '+' Spacing" ∷
+    codes "COUNT <- '{' Number (',' Number)? '}' Spacing" ∷
+    codes "Number <- [0-9]+" ∷
     codes "OPEN <- '(' Spacing" ∷
     codes "CLOSE <- ')' Spacing" ∷
     codes "DOT <- '.' Spacing" ∷

@@ -7,6 +7,7 @@ pub use Rattle.peg_ford.specs.Rules
 pub use Rattle.peg_ford.specs.WellFormed
 pub use Rattle.peg_grammar.specs.Written
 pub use Rattle.peg_tree.specs.Trees
+pub mod EscapedFigure
 pub mod Figure
 pub mod FigureParts
 pub mod FigureRules

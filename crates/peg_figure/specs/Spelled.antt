@@ -1,11 +1,12 @@
--- What a tree of the figure spells: bytes, ranges, names, expressions and rules, with their places in the file (the
+-- What a tree of the figure spells: bytes, ranges, numbers, names, expressions and rules, with their places in the file (the
 -- meaning that Ford 2004, section 2.1 gives to the notation).
 use Rattle.std.specs.Prelude.{ℕ, ◌+◌, ◌-◌, ◌*◌, Bool, List, [], ◌∷◌, ◌++◌, fold, take, drop, if◌then◌else◌, ◌==◌}
-use Rattle.std.specs.Prelude.{◌&&◌, nat_le, slice_get, unwrap_or}
+use Rattle.std.specs.Prelude.{◌&&◌, nat_le, not, slice_get, unwrap_or}
 use Rattle.peg_bytes.specs.Extent.{Extent, between}
 use Rattle.peg_tree.specs.Trees.{Trees, NoTrees, Tree}
-use Rattle.peg_ford.specs.Form.{Form, Literal, Class, Any, Name, Seq, Choice, Optional, Star, Plus, And, Not, End}
-use Rattle.peg_ford.specs.Form.{forms}
+use Rattle.peg_ford.specs.Form.{Form, Literal, Class, Any, Name, Seq, Choice, Optional, Star, Plus, And, Not}
+use Rattle.peg_ford.specs.Form.{Counted, End, forms}
+use Rattle.peg_ford.specs.Grammar.{greatest_count}
 use Rattle.peg_ford.specs.Rules.{Rule}
 use Rattle.peg_figure.specs.FigureRules as figure
 use Rattle.peg_figure.specs.Ranges.{Range, range, class_of}
@@ -14,6 +15,7 @@ use Rattle.peg_figure.specs.Ranges.{Range, range, class_of}
 pub data Spelling : Type 0 where
   Byte : (byte : ℕ) → Spelling
   Bytes : (bytes : Range) → Spelling
+  Numeral : (value : ℕ) → Spelling
   Word : (name : List ℕ) → (span : Extent) → Spelling
   Sign : (form : Form → Extent → Form) → Spelling
   Expression : (form : Form) → Spelling
@@ -49,6 +51,12 @@ byte_spelled (byte ∷ []) = byte
 byte_spelled (backslash ∷ sign ∷ digits) =
     if sign == 120 then hexadecimal digits else (if is_octal sign then octal (sign ∷ digits) else escaped sign)
 
+-- ---- numbers
+
+-- the number that decimal digits spell
+abbrev pub decimal : List ℕ → ℕ
+decimal digits = fold (λ n digit. n * 10 + (digit - 48)) 0 digits
+
 -- ---- the pieces of one kind, in order
 
 abbrev pub bytes_in : List Spelling → List ℕ
@@ -60,6 +68,11 @@ abbrev pub ranges_in : List Spelling → List Range
 ranges_in [] = []
 ranges_in (Bytes bytes ∷ pieces) = bytes ∷ ranges_in pieces
 ranges_in (_ ∷ pieces) = ranges_in pieces
+
+abbrev pub numerals_in : List Spelling → List ℕ
+numerals_in [] = []
+numerals_in (Numeral value ∷ pieces) = value ∷ numerals_in pieces
+numerals_in (_ ∷ pieces) = numerals_in pieces
 
 abbrev pub expressions_in : List Spelling → List Form
 expressions_in [] = []
@@ -85,6 +98,24 @@ abbrev pub range_spelled : List ℕ → Range
 range_spelled [] = range 1 0
 range_spelled (byte ∷ []) = range byte byte
 range_spelled (low ∷ high ∷ _) = range low high
+
+-- the bounds of a count: at least and at most how often its expression is matched
+pub record Bounds : Type 0 where
+  pub min : ℕ
+  pub max : ℕ
+
+abbrev pub bounds : (min max : ℕ) → Bounds
+bounds min max = record { min = min; max = max }
+
+-- a COUNT: two numbers spell the bounds from one to the other, a number alone is both; no COUNT has none or three
+abbrev pub bounds_spelled : List ℕ → Bounds
+bounds_spelled [] = bounds 0 0
+bounds_spelled (times ∷ []) = bounds times times
+bounds_spelled (min ∷ max ∷ _) = bounds min max
+
+-- the expression that bounds make of another
+abbrev pub counted : Bounds → Form → Extent → Form
+counted bounds part span = Counted part bounds.min bounds.max span
 
 -- a Primary: a name alone is the use of a rule; parentheses, literals, classes and dots are what their parts spell
 abbrev pub primary_spelled : List Spelling → List Spelling
@@ -153,6 +184,8 @@ node_spellings file before start end last inner =
     ∷ alone (Sign Optional)  -- QUESTION
     ∷ alone (Sign Star)  -- STAR
     ∷ alone (Sign Plus)  -- PLUS
+    ∷ alone (Sign (counted (bounds_spelled (numerals_in inner))))  -- COUNT
+    ∷ alone (Numeral (decimal (part file start end)))  -- Number
     ∷ inner  -- OPEN
     ∷ inner  -- CLOSE
     ∷ alone (Expression (Any (between start last)))  -- DOT
@@ -178,3 +211,20 @@ spelled file before (Tree rule start end children rest) =
 -- the definitions that a tree of Grammar spells
 abbrev pub rules_spelled : List ℕ → Trees → List Rule
 rules_spelled file trees = rules_in (spelled file 0 trees)
+
+-- ---- counts that are out of range
+
+-- whether bounds are in range: no more at least than at most, and from 1 to 255 at most
+abbrev pub bounds_in_range : Bounds → Bool
+bounds_in_range bounds = nat_le bounds.min bounds.max && nat_le 1 bounds.max && nat_le bounds.max greatest_count
+
+-- the place where a node starts, if it is a COUNT whose bounds, by what its children spell, are out of range
+abbrev pub bad_count : (rule start : ℕ) → List Spelling → List ℕ
+bad_count rule start inner =
+    if rule == figure.count && not (bounds_in_range (bounds_spelled (numerals_in inner))) then start ∷ [] else []
+
+-- the places where the COUNTs of trees start whose bounds are out of range, in written order
+abbrev pub bad_counts : List ℕ → Trees → List ℕ
+bad_counts file NoTrees = []
+bad_counts file (Tree rule start end children rest) =
+    bad_count rule start (spelled file start children) ++ (bad_counts file children ++ bad_counts file rest)

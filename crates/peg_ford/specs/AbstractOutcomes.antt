@@ -2,8 +2,8 @@
 -- something, or fail, whatever the text. Ford's rules, carried to the written forms by his sugar.
 use Rattle.std.specs.Prelude.{◌≡◌, ℕ, zero, suc, Bool, true, false, ◌&&◌, ◌||◌, List, [], ◌∷◌, Option, None, Some}
 use Rattle.peg_bytes.specs.ByteSet.{Bytes, has_some}
-use Rattle.peg_ford.specs.Form.{Form, Forms, Literal, Class, Any, Name, Seq, Choice, Optional, Star, Plus, And, Not}
-use Rattle.peg_ford.specs.Form.{End, Then}
+use Rattle.peg_ford.specs.Form.{Form, Forms, Literal, Class, Any, Name, Seq, Choice, Optional, Star, Plus, Counted}
+use Rattle.peg_ford.specs.Form.{And, Not, End, Then}
 use Rattle.peg_ford.specs.Rules.{Rule, Meaning, meant}
 
 -- Ford's three outcomes: 0 (it succeeds on nothing), 1 (it succeeds on something) and f (it fails)
@@ -61,6 +61,13 @@ again part = record { nothing = part.fails; something = part.something; fails = 
 abbrev pub once_and_again : Can → Can
 once_and_again part = record { nothing = part.nothing && part.fails; something = part.something; fails = part.fails }
 
+-- The part at least min times and at most max times: with max 0 only nothing; while min is above 0 the part and then
+-- the rest, and from then on these or nothing.
+abbrev pub times : Can → (min max : ℕ) → Can
+times part min zero = only_nothing
+times part zero (suc max) = or_nothing (both part (times part zero max))
+times part (suc min) (suc max) = both part (times part min max)
+
 -- what comes of a predicate
 abbrev pub ahead : Can → Can
 ahead part = record { nothing = succeeds part; something = false; fails = part.fails }
@@ -99,6 +106,7 @@ can_table rules judge (Choice first rest span) = judge_first judge first rest
 can_table rules judge (Optional part span) = or_nothing (judge part)
 can_table rules judge (Star part span) = again (judge part)
 can_table rules judge (Plus part span) = once_and_again (judge part)
+can_table rules judge (Counted part min max span) = times (judge part) min max
 can_table rules judge (And part span) = ahead (judge part)
 can_table rules judge (Not part span) = not_ahead (judge part)
 

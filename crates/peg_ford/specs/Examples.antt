@@ -4,9 +4,10 @@ use Rattle.std.specs.Prelude.{ℕ, Bool, true, false, List, [], ◌∷◌, map, 
 use Rattle.peg_bytes.specs.Extent.{between}
 use Rattle.peg_tree.specs.Trees.{Trees, NoTrees, Tree}
 use Rattle.peg_ford.specs.AbstractOutcomes.{Can, cannot, can_in}
-use Rattle.peg_ford.specs.Form.{Form, Literal, Class, Any, Name, Seq, Choice, Optional, Star, Plus, And, Not, End, Then}
+use Rattle.peg_ford.specs.Form.{Form, Literal, Class, Any, Name, Seq, Choice, Optional, Star, Plus, Counted, And, Not}
+use Rattle.peg_ford.specs.Form.{End, Then}
 use Rattle.peg_ford.specs.Furthest.{IsFurthest}
-use Rattle.peg_ford.specs.Record.{Record, Matched, Test, Use, IsRecord}
+use Rattle.peg_ford.specs.Record.{Record, Failed, Matched, Test, Use, IsRecord}
 use Rattle.peg_ford.specs.Rules.{Rule}
 
 abbrev test : (place terminal : ℕ) → Test
@@ -143,6 +144,27 @@ repeated_prefix_record = record {
   uses = use_of 0 0 ∷ use_of 0 1 ∷ use_of 0 1 ∷ [];
 }
 
+-- A <- 'a'{2,4}
+abbrev pub two_to_four : List Rule
+two_to_four =
+    record {
+      name = codes "A";
+      span = between 0 1;
+      body = Counted (Literal (codes "a") (between 5 8)) 2 4 (between 5 13);
+    } ∷ []
+
+-- on aaa: a fourth a is looked for and not there, and the count is matched all the same
+abbrev pub three_record : Record
+three_record = record { result = Matched 3 (node 0 0 3 NoTrees); tests = test 3 0 ∷ []; uses = use_of 0 0 ∷ [] }
+
+-- on a: the second a has to be there
+abbrev pub too_few_record : Record
+too_few_record = record { result = Failed; tests = test 1 0 ∷ []; uses = use_of 0 0 ∷ [] }
+
+-- on aaaaa: the fifth a is not looked at
+abbrev pub four_record : Record
+four_record = record { result = Matched 4 (node 0 0 4 NoTrees); tests = []; uses = use_of 0 0 ∷ [] }
+
 -- whether it can succeed on nothing, succeed on something, fail
 abbrev can : (nothing something fails : Bool) → Can
 can nothing something fails = record { nothing = nothing; something = something; fails = fails }
@@ -158,6 +180,10 @@ counted_can = can true true true ∷ can true true false ∷ can true true false
 -- S <- 'a' S / 'b' takes a byte, or fails
 abbrev pub nested_can : List Can
 nested_can = can false true true ∷ []
+
+-- 'a'{2,4} takes a byte, or fails
+abbrev pub two_to_four_can : List Can
+two_to_four_can = can false true true ∷ []
 
 -- T <- T
 abbrev pub itself : List Rule

@@ -4,7 +4,7 @@ use Rattle.std.specs.Prelude.{ℕ, ◌+◌, List, [], ◌∷◌, ◌++◌, lengt
 use Rattle.peg_bytes.specs.ByteSet.{Bytes}
 use Rattle.peg_bytes.specs.Extent.{Extent}
 
--- one of the eleven forms, and where it stands in the file; several expressions, one after the other
+-- one of the twelve forms, and where it stands in the file; several expressions, one after the other
 mutual
   pub data Form : Type 0 where
     Literal : (bytes : List ℕ) → (span : Extent) → Form
@@ -16,6 +16,7 @@ mutual
     Optional : (part : Form) → (span : Extent) → Form
     Star : (part : Form) → (span : Extent) → Form
     Plus : (part : Form) → (span : Extent) → Form
+    Counted : (part : Form) → (min max : ℕ) → (span : Extent) → Form
     And : (part : Form) → (span : Extent) → Form
     Not : (part : Form) → (span : Extent) → Form
 
@@ -40,6 +41,7 @@ abbrev mutual
   terminals (Optional part span) = terminals part
   terminals (Star part span) = terminals part
   terminals (Plus part span) = terminals part
+  terminals (Counted part min max span) = terminals part
   terminals (And part span) = terminals part
   terminals (Not part span) = terminals part
 
@@ -64,12 +66,40 @@ abbrev mutual
   names_used (Optional part span) = names_used part
   names_used (Star part span) = names_used part
   names_used (Plus part span) = names_used part
+  names_used (Counted part min max span) = names_used part
   names_used (And part span) = names_used part
   names_used (Not part span) = names_used part
 
   pub names_used_by_all : Forms → List Reference
   names_used_by_all End = []
   names_used_by_all (Then e rest) = names_used e ++ names_used_by_all rest
+
+-- a count: at least and at most how often its part is matched, and where the counted expression stands in the file
+pub record Count : Type 0 where
+  pub min : ℕ
+  pub max : ℕ
+  pub span : Extent
+
+-- The counts that an expression writes, in written order: an expression before its parts.
+abbrev mutual
+  pub counts_written : Form → List Count
+  counts_written (Literal bytes span) = []
+  counts_written (Class set span) = []
+  counts_written (Any span) = []
+  counts_written (Name name span) = []
+  counts_written (Seq items span) = counts_written_by_all items
+  counts_written (Choice first rest span) = counts_written first ++ counts_written_by_all rest
+  counts_written (Optional part span) = counts_written part
+  counts_written (Star part span) = counts_written part
+  counts_written (Plus part span) = counts_written part
+  counts_written (Counted part min max span) =
+      record { min = min; max = max; span = span } ∷ counts_written part
+  counts_written (And part span) = counts_written part
+  counts_written (Not part span) = counts_written part
+
+  pub counts_written_by_all : Forms → List Count
+  counts_written_by_all End = []
+  counts_written_by_all (Then e rest) = counts_written e ++ counts_written_by_all rest
 
 -- The weight of an expression: one for it and each expression in it, and one for each byte of a literal.
 abbrev mutual
@@ -83,6 +113,7 @@ abbrev mutual
   form_weight (Optional part span) = 1 + form_weight part
   form_weight (Star part span) = 1 + form_weight part
   form_weight (Plus part span) = 1 + form_weight part
+  form_weight (Counted part min max span) = 1 + form_weight part
   form_weight (And part span) = 1 + form_weight part
   form_weight (Not part span) = 1 + form_weight part
 

@@ -1,15 +1,29 @@
 -- Which lists of rules are grammars (Ford 2004, section 3.1), and why another list is none.
 use Rattle.std.specs.Prelude.{◌≢◌, ℕ, Bool, List, [], ◌∷◌, ◌++◌, All, AllPairs, Contains, Option, None, Some, find, not}
-use Rattle.std.specs.Prelude.{if◌then◌else◌, bytes_eq}
+use Rattle.std.specs.Prelude.{if◌then◌else◌, bytes_eq, ◌≡◌, ◌&&◌, nat_le, true}
 use Rattle.std.specs.List.{list_any}
-use Rattle.peg_ford.specs.Form.{Reference}
-use Rattle.peg_ford.specs.Rules.{Rule, names, uses, defined_at, is_defined}
+use Rattle.peg_ford.specs.Form.{Reference, Count}
+use Rattle.peg_ford.specs.Rules.{Rule, names, uses, counts, defined_at, is_defined}
 
--- a grammar: some rule, names that differ, and a definition for each name that is used
+-- the greatest number of a count
+abbrev pub greatest_count : ℕ
+greatest_count = 255
+
+-- Whether a count is in range: no more at least than at most, and from 1 to 255 at most. Of a count of 0 the part would
+-- never be taken.
+abbrev pub is_in_range : Count → Bool
+is_in_range count = nat_le count.min count.max && nat_le 1 count.max && nat_le count.max greatest_count
+
+-- every count that the rules write is in range
+abbrev pub CountsAreInRange : List Rule → Type 0
+CountsAreInRange rules = All (λ count. is_in_range count ≡ true) (counts rules)
+
+-- a grammar: some rule, names that differ, a definition for each name that is used, and counts in range
 pub record IsGrammar (rules : List Rule) : Type 0 where
   pub some : rules ≢ []
   pub distinct : AllPairs (λ (a b : List ℕ). a ≢ b) (names rules)
   pub defined : All (λ (reference : Reference). Contains (names rules) reference.name) (uses rules)
+  pub counted : CountsAreInRange rules
 
 -- the greatest weight of a grammar
 abbrev pub most_parts : ℕ
@@ -30,6 +44,10 @@ first_duplicate rules = duplicate_after [] rules
 -- the first use, in written order, of a name that no rule has
 abbrev pub first_undefined : List Rule → Option Reference
 first_undefined rules = find (λ (reference : Reference). not (is_defined rules reference.name)) (uses rules)
+
+-- the first count, in written order, that is out of range
+abbrev pub first_bad_count : List Rule → Option Count
+first_bad_count rules = find (λ count. not (is_in_range count)) (counts rules)
 
 -- whether a name that is used is none of the known ones
 abbrev pub is_unknown : List (List ℕ) → Reference → Bool

@@ -1,7 +1,7 @@
 -- Grammars with empty loops and left cycles that were worked by hand, to compare the definitions with.
 use Rattle.std.specs.Prelude.{List, [], ◌∷◌, codes}
 use Rattle.peg_bytes.specs.Extent.{between}
-use Rattle.peg_ford.specs.Form.{Form, Literal, Class, Name, Seq, Optional, Star, End, Then}
+use Rattle.peg_ford.specs.Form.{Form, Literal, Class, Name, Seq, Optional, Star, Counted, End, Then}
 use Rattle.peg_ford.specs.Rules.{Rule}
 
 -- one rule, A
@@ -34,3 +34,11 @@ behind_optional =
 abbrev pub behind_empty_class : List Rule
 behind_empty_class =
     only_rule (Seq (Then (Class [] (between 5 7)) (Then (Name (codes "A") (between 8 9)) End)) (between 5 9))
+
+-- A <- A{0,2}: a count asks for its part, whatever its numbers are
+abbrev pub counted_itself : List Rule
+counted_itself = only_rule (Counted (Name (codes "A") (between 5 6)) 0 2 (between 5 11))
+
+-- A <- ('x'{0,2})*: the count may take nothing
+abbrev pub star_of_count : List Rule
+star_of_count = only_rule (Star (Counted (Literal (codes "x") (between 6 9)) 0 2 (between 6 14)) (between 5 16))

@@ -3,8 +3,8 @@
 use Rattle.std.specs.Prelude.{◌≡◌, ◌⊎◌, ℕ, Contains, List, [], ◌∷◌, ◌++◌, Some, option_map, slice_get}
 use Rattle.peg_bytes.specs.Extent.{Extent}
 use Rattle.peg_ford.specs.AbstractOutcomes.{GivesNothing}
-use Rattle.peg_ford.specs.Form.{Form, Forms, Literal, Class, Any, Name, Seq, Choice, Optional, Star, Plus, And, Not}
-use Rattle.peg_ford.specs.Form.{End, Then}
+use Rattle.peg_ford.specs.Form.{Form, Forms, Literal, Class, Any, Name, Seq, Choice, Optional, Star, Plus, Counted}
+use Rattle.peg_ford.specs.Form.{And, Not, End, Then}
 use Rattle.peg_ford.specs.Rules.{Rule, Meaning, meant}
 use Rattle.peg_ford.specs.WellFormed.{Asking, subexpressions}
 
@@ -22,6 +22,7 @@ abbrev mutual
   Reaches Idles (Optional part span) name = Reaches Idles part name
   Reaches Idles (Star part span) name = Reaches Idles part name
   Reaches Idles (Plus part span) name = Reaches Idles part name
+  Reaches Idles (Counted part min max span) name = Reaches Idles part name
   Reaches Idles (And part span) name = Reaches Idles part name
   Reaches Idles (Not part span) name = Reaches Idles part name
 

@@ -2,7 +2,7 @@
 -- (Ford 2004, section 3.6).
 use Rattle.std.specs.Prelude.{◌≡◌, ℕ, ◌<◌, All, List, true, false}
 use Rattle.peg_ford.specs.AbstractOutcomes.{CanAll, Judging, can_table}
-use Rattle.peg_ford.specs.Form.{Form, Literal, Class, Any, Name, Seq, Choice, Optional, Star, Plus, And, Not}
+use Rattle.peg_ford.specs.Form.{Form, Literal, Class, Any, Name, Seq, Choice, Optional, Star, Plus, Counted, And, Not}
 use Rattle.peg_ford.specs.Loops.{MeetsFirstBy}
 use Rattle.peg_ford.specs.Rules.{Rule}
 use Rattle.peg_ford.specs.WellFormed.{Asking, subexpressions}
@@ -22,6 +22,7 @@ RepeatsSomething judge (Choice first rest span) = Unit {0}
 RepeatsSomething judge (Optional part span) = Unit {0}
 RepeatsSomething judge (Star part span) = (judge part).nothing ≡ false
 RepeatsSomething judge (Plus part span) = (judge part).nothing ≡ false
+RepeatsSomething judge (Counted part min max span) = Unit {0}
 RepeatsSomething judge (And part span) = Unit {0}
 RepeatsSomething judge (Not part span) = Unit {0}
 

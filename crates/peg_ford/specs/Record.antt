@@ -5,8 +5,8 @@ use Rattle.std.specs.Prelude.{option_map, option_and_then, if◌then◌else◌, 
 use Rattle.peg_bytes.specs.ByteSet.{has}
 use Rattle.peg_bytes.specs.Extent.{between}
 use Rattle.peg_tree.specs.Trees.{Trees, NoTrees, Tree, followed_by}
-use Rattle.peg_ford.specs.Form.{Form, Forms, Literal, Class, Any, Name, Seq, Choice, Optional, Star, Plus, And, Not}
-use Rattle.peg_ford.specs.Form.{End, Then, terminals}
+use Rattle.peg_ford.specs.Form.{Form, Forms, Literal, Class, Any, Name, Seq, Choice, Optional, Star, Plus, Counted}
+use Rattle.peg_ford.specs.Form.{And, Not, End, Then, terminals}
 use Rattle.peg_ford.specs.Rules.{Rule, Meaning, meant}
 
 -- what came of an expression at a place: it failed, or it matched up to a place and left these trees
@@ -127,6 +127,15 @@ take_first take e End terminal place = take e terminal place
 take_first take e (Then next rest) terminal place =
     or_else (take e terminal place) (take_first take next rest (terminal + terminals e) place)
 
+-- A part taken at least min times and at most max times, each time from where the one before ended: with max 0 nothing
+-- is matched; while min is above 0 the part has to match, and from then on nothing is matched where it fails.
+abbrev pub take_times : (ℕ → Option Record) → (min max place : ℕ) → Option Record
+take_times take min zero place = Some (matched_at place)
+take_times take zero (suc max) place =
+    option_and_then (λ (round : Record). repeated round.result place round (λ end. take_times take zero max end))
+    (take place)
+take_times take (suc min) (suc max) place = then_at (take place) (λ end. take_times take min max end)
+
 -- The recognition table: what comes of each form, given a way to take its parts.
 abbrev pub table : List Rule → List ℕ → Taking → Taking
 table rules text take (Literal bytes span) terminal place = Some (literal_at terminal place bytes (drop place text))
@@ -143,6 +152,8 @@ table rules text take (Star part span) terminal place =
     (take part terminal place)
 table rules text take (Plus part span) terminal place =
     then_at (take part terminal place) (λ end. take (Star part span) terminal end)
+table rules text take (Counted part min max span) terminal place =
+    take_times (λ at. take part terminal at) min max place
 table rules text take (And part span) terminal place =
     option_map (λ (r : Record). with_result r (if_matched r.result place)) (take part terminal place)
 table rules text take (Not part span) terminal place =

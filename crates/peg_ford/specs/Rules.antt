@@ -3,7 +3,7 @@ use Rattle.std.specs.Prelude.{ℕ, ◌+◌, Bool, List, [], ◌∷◌, map, leng
 use Rattle.std.specs.Prelude.{option_map, unwrap_or, if◌then◌else◌, bytes_eq}
 use Rattle.std.specs.List.{list_any}
 use Rattle.peg_bytes.specs.Extent.{Extent}
-use Rattle.peg_ford.specs.Form.{Form, Reference, terminals, names_used, form_weight}
+use Rattle.peg_ford.specs.Form.{Form, Reference, Count, terminals, names_used, counts_written, form_weight}
 
 -- a definition: a name, where the name stands in the file, and an expression
 pub record Rule : Type 0 where
@@ -22,6 +22,10 @@ defined_at rule = record { name = rule.name; span = rule.span }
 -- the names that the rules use, in written order
 abbrev pub uses : List Rule → List Reference
 uses rules = flat_map (λ rule. names_used rule.body) rules
+
+-- the counts that the rules write, in written order
+abbrev pub counts : List Rule → List Count
+counts rules = flat_map (λ rule. counts_written rule.body) rules
 
 -- the name of the rule with this number; no bytes where there is none
 abbrev pub name_of : List Rule → ℕ → List ℕ

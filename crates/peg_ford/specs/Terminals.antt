@@ -1,8 +1,8 @@
 -- Where the terminals of expressions stand in the file, in written order: literals, classes and dots.
 use Rattle.std.specs.Prelude.{List, [], ◌∷◌, ◌++◌, flat_map}
 use Rattle.peg_bytes.specs.Extent.{Extent}
-use Rattle.peg_ford.specs.Form.{Form, Forms, Literal, Class, Any, Name, Seq, Choice, Optional, Star, Plus, And, Not}
-use Rattle.peg_ford.specs.Form.{End, Then}
+use Rattle.peg_ford.specs.Form.{Form, Forms, Literal, Class, Any, Name, Seq, Choice, Optional, Star, Plus, Counted}
+use Rattle.peg_ford.specs.Form.{And, Not, End, Then}
 use Rattle.peg_ford.specs.Rules.{Rule}
 
 -- Where the terminals of an expression stand, in written order. `''` and the empty class are terminals too.
@@ -17,6 +17,7 @@ abbrev mutual
   terminal_extents (Optional part span) = terminal_extents part
   terminal_extents (Star part span) = terminal_extents part
   terminal_extents (Plus part span) = terminal_extents part
+  terminal_extents (Counted part min max span) = terminal_extents part
   terminal_extents (And part span) = terminal_extents part
   terminal_extents (Not part span) = terminal_extents part
 

@@ -1,7 +1,7 @@
 -- Well-formed expressions and grammars (Ford 2004, section 3.6), on written expressions.
 use Rattle.std.specs.Prelude.{ℕ, zero, suc, List, [], ◌∷◌, ◌++◌, All, Option, None, Some}
-use Rattle.peg_ford.specs.Form.{Form, Forms, Literal, Class, Any, Name, Seq, Choice, Optional, Star, Plus, And, Not}
-use Rattle.peg_ford.specs.Form.{End, Then}
+use Rattle.peg_ford.specs.Form.{Form, Forms, Literal, Class, Any, Name, Seq, Choice, Optional, Star, Plus, Counted}
+use Rattle.peg_ford.specs.Form.{And, Not, End, Then}
 use Rattle.peg_ford.specs.Rules.{Rule, Meaning, meant}
 use Rattle.peg_ford.specs.AbstractOutcomes.{GivesNothing}
 
@@ -39,6 +39,7 @@ WellFormedTable rules Is (Choice first rest span) = Is first × AllAre Is rest
 WellFormedTable rules Is (Optional part span) = Is part
 WellFormedTable rules Is (Star part span) = RepeatsWell rules Is part
 WellFormedTable rules Is (Plus part span) = RepeatsWell rules Is part
+WellFormedTable rules Is (Counted part min max span) = Is part
 WellFormedTable rules Is (And part span) = Is part
 WellFormedTable rules Is (Not part span) = Is part
 
@@ -63,6 +64,7 @@ abbrev mutual
   below (Optional part span) = part ∷ below part
   below (Star part span) = part ∷ below part
   below (Plus part span) = part ∷ below part
+  below (Counted part min max span) = part ∷ below part
   below (And part span) = part ∷ below part
   below (Not part span) = part ∷ below part
 

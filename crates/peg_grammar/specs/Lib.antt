@@ -11,6 +11,7 @@ pub use Rattle.peg_ford.specs.WellFormed
 pub use Rattle.peg_tree.specs.Rows
 pub use Rattle.peg_tree.specs.Trees
 pub use Rattle.peg_tree.specs.TreesOfRows
+pub mod Counts
 pub mod Found
 pub mod GrammarRules
 pub mod Limits

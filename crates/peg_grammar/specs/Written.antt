@@ -7,7 +7,7 @@ use Rattle.peg_ford.specs.Form.{Form, forms}
 use Rattle.peg_ford.specs.Rules.{Rule}
 use Rattle.peg_grammar.specs.declared.expr.Expr.{Expr}
 use Rattle.peg_grammar.specs.declared.expr.Expr.TheOpen.{Expr-F, Literal, Class, Any, Name, Seq, Choice, Optional, Star}
-use Rattle.peg_grammar.specs.declared.expr.Expr.TheOpen.{Plus, And, Not}
+use Rattle.peg_grammar.specs.declared.expr.Expr.TheOpen.{Plus, Counted, And, Not}
 use Rattle.peg_grammar.specs.declared.expr.Expr.TheFolds.{fold-Expr}
 use Rattle.peg_grammar.specs.declared.expr.Definition.{Definition}
 
@@ -22,6 +22,7 @@ node_form (Choice first rest span) = form.Choice first.value (forms rest.items) 
 node_form (Optional part span) = form.Optional part.value (extent span)
 node_form (Star part span) = form.Star part.value (extent span)
 node_form (Plus part span) = form.Plus part.value (extent span)
+node_form (Counted part min max span) = form.Counted part.value min max (extent span)
 node_form (And part span) = form.And part.value (extent span)
 node_form (Not part span) = form.Not part.value (extent span)
 

@@ -2,10 +2,10 @@
 use Rattle.std.specs.Prelude.{ℕ, Bool, true, ◌==◌, ◌&&◌, ◌||◌, nat_le, List, [], ◌∷◌, take, codes, Option, None, Some}
 use Rattle.std.specs.Prelude.{option_map, option_and_then, if◌then◌else◌}
 use Rattle.peg_lexer.specs.Pieces.{Piece, Finding, these, one_that, followed, either, unless, maybe, many, star}
-use Rattle.peg_figure.specs.Spelled.{Byte, Bytes, is_octal, byte_spelled, range_spelled, bytes_in}
+use Rattle.peg_figure.specs.Spelled.{Byte, Bytes, Numeral, decimal, is_octal, byte_spelled, range_spelled, bytes_in}
 use Rattle.peg_lexer.specs.declared.token.TokenKind.{TokenKind}
 use Rattle.peg_lexer.specs.declared.token.TokenKind.TheVariants.{Ident, Literal, Class, Arrow, Slash, And, Not}
-use Rattle.peg_lexer.specs.declared.token.TokenKind.TheVariants.{Question, Star, Plus, Open, Close, Dot}
+use Rattle.peg_lexer.specs.declared.token.TokenKind.TheVariants.{Question, Star, Plus, Count, Open, Close, Dot}
 
 -- ---- spacing
 
@@ -140,6 +140,34 @@ classed_range = followed (unless (these (codes "]"))) range
 unfoldable pub class : Finding
 class = followed (these (codes "[")) (followed (star classed_range) (these (codes "]")))
 
+-- ---- counts
+
+abbrev pub digit : Finding
+digit = one_that is_digit
+
+-- some digits
+abbrev pub digits : Finding
+digits = followed digit (star digit)
+
+unfoldable pub number : Finding
+number rest =
+    option_map (λ (piece : Piece). record {
+      spells = Numeral (decimal (take piece.length rest)) ∷
+          [];
+      length = piece.length;
+    }) (digits rest)
+
+-- a comma and a number
+abbrev pub second_number : Finding
+second_number = followed (these (codes ",")) number
+
+-- what may stand behind the first number
+abbrev pub behind_number : Finding
+behind_number = followed (maybe second_number) (these (codes "}"))
+
+unfoldable pub count : Finding
+count = followed (these (codes "{")) (followed number behind_number)
+
 -- ---- tokens
 
 -- the text of a token, without the spacing behind it
@@ -154,6 +182,7 @@ text_of Not = these (codes "!")
 text_of Question = these (codes "?")
 text_of Star = these (codes "*")
 text_of Plus = these (codes "+")
+text_of Count = count
 text_of Open = these (codes "(")
 text_of Close = these (codes ")")
 text_of Dot = these (codes ".")
@@ -171,10 +200,11 @@ kind_of byte =
     else (if byte == 63 then Some Question
     else (if byte == 42 then Some Star
     else (if byte == 43 then Some Plus
+    else (if byte == 123 then Some Count
     else (if byte == 40 then Some Open
     else (if byte == 41 then Some Close
     else (if byte == 46 then Some Dot
-    else None))))))))))))
+    else None)))))))))))))
 
 -- a token's kind and its text
 pub record Found : Type 0 where

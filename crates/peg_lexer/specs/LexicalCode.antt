@@ -1,9 +1,15 @@
 -- Describes code: what is seen of what the lexer's functions give.
-use Rattle.std.specs.Prelude.{ℕ, ◌+◌, List, [], ◌∷◌, take, Option, option_map, unwrap_or}
-use Rattle.peg_lexer.specs.Lexical.{Found, token, escape}
+use Rattle.std.specs.Prelude.{ℕ, ◌+◌, List, [], ◌∷◌, take, map, min, Option, None, Some, option_map, unwrap_or}
+use Rattle.std.specs.Prelude.{if◌then◌else◌}
+use Rattle.peg_lexer.specs.Lexical.{Found, token, escape, count}
 use Rattle.peg_lexer.specs.Pieces.{Piece}
 use Rattle.peg_figure.specs.RangesCode.{range_of}
-use Rattle.peg_figure.specs.Spelled.{Spelling, Byte, Bytes, byte_spelled}
+use Rattle.peg_figure.specs.Spelled as figure
+use Rattle.peg_figure.specs.Spelled.{Spelling, Byte, Bytes, byte_spelled, bounds, bounds_spelled, bounds_in_range}
+use Rattle.peg_figure.specs.Spelled.{numerals_in}
+use Rattle.peg_lexer.specs.declared.counts.Bounds.{Bounds}
+use Rattle.peg_lexer.specs.declared.counts.CountText.{CountText}
+use Rattle.peg_lexer.specs.declared.counts.NumberText.{NumberText}
 use Rattle.peg_lexer.specs.declared.front.Front.{Front}
 use Rattle.peg_lexer.specs.declared.text.Char.{Char}
 use Rattle.peg_lexer.specs.declared.text.Item.{Item}
@@ -45,3 +51,50 @@ escaped_char rest =
 -- what a piece spells, if there is one
 abbrev pub spells_of : Option Piece → List Spelling
 spells_of found = unwrap_or (option_map (λ (piece : Piece). piece.spells) found) []
+
+-- ---- counts
+
+-- a number as far as code tells it: 256 stands for all that are greater
+abbrev pub told : ℕ → ℕ
+told number = min 256 number
+
+-- bounds as far as code tells them
+abbrev pub bounds_told : figure.Bounds → figure.Bounds
+bounds_told spelled = bounds (told spelled.min) (told spelled.max)
+
+-- the numbers of a piece, and how many bytes it has
+pub record NumbersSeen : Type 0 where
+  pub numbers : List ℕ
+  pub length : ℕ
+
+-- what is seen of a number at the front, and what is to be seen of it
+abbrev pub number_seen : NumberText → NumbersSeen
+number_seen number = record { numbers = number.value ∷ []; length = number.length }
+
+abbrev pub numbers_found : Piece → NumbersSeen
+numbers_found piece = record { numbers = map told (numerals_in piece.spells); length = piece.length }
+
+-- the bounds of a count, and how many bytes it has
+pub record CountSeen : Type 0 where
+  pub bounds : figure.Bounds
+  pub length : ℕ
+
+-- what is seen of a count at the front, and what is to be seen of it
+abbrev pub count_seen : CountText → CountSeen
+count_seen count = record { bounds = bounds count.min count.max; length = count.length }
+
+abbrev pub count_found : Piece → CountSeen
+count_found piece =
+    record { bounds = bounds_told (bounds_spelled (numerals_in piece.spells)); length = piece.length }
+
+-- what `Bounds` stand for
+abbrev pub bounds_of : Bounds → figure.Bounds
+bounds_of told = bounds told.min told.max
+
+-- the bounds that the text of a count at the front spells
+abbrev pub count_spelled : List ℕ → figure.Bounds
+count_spelled rest = bounds_spelled (numerals_in (spells_of (count rest)))
+
+-- the same, if they are in range
+abbrev pub count_in_range : List ℕ → Option figure.Bounds
+count_in_range rest = if bounds_in_range (count_spelled rest) then Some (count_spelled rest) else None

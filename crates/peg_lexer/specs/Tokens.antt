@@ -11,7 +11,7 @@ use Rattle.peg_lexer.specs.declared.fault.LexFault.TheVariants.{FileTooLong, Syn
 use Rattle.peg_lexer.specs.declared.token.Token.{Token}
 use Rattle.peg_lexer.specs.declared.token.TokenKind.{TokenKind}
 use Rattle.peg_lexer.specs.declared.token.TokenKind.TheVariants.{Ident, Literal, Class, Arrow, Slash, And, Not}
-use Rattle.peg_lexer.specs.declared.token.TokenKind.TheVariants.{Question, Star, Plus, Open, Close, Dot}
+use Rattle.peg_lexer.specs.declared.token.TokenKind.TheVariants.{Question, Star, Plus, Count, Open, Close, Dot}
 
 -- the figure's rule of a kind of token
 abbrev pub rule_of_kind : TokenKind → List ℕ
@@ -25,6 +25,7 @@ rule_of_kind Not = codes "NOT"
 rule_of_kind Question = codes "QUESTION"
 rule_of_kind Star = codes "STAR"
 rule_of_kind Plus = codes "PLUS"
+rule_of_kind Count = codes "COUNT"
 rule_of_kind Open = codes "OPEN"
 rule_of_kind Close = codes "CLOSE"
 rule_of_kind Dot = codes "DOT"

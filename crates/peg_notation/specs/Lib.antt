@@ -12,6 +12,7 @@ pub use Rattle.peg_lexer.specs.Pieces
 pub use Rattle.peg_lexer.specs.Tokens
 pub use Rattle.peg_spelling.specs.FigureTrees
 pub use Rattle.peg_tree.specs.Trees
+pub mod EscapedNesting
 pub mod PrintedFigure
 pub mod Reader
 pub mod ReaderCode

@@ -1,7 +1,7 @@
 -- Describes code: what stands at the front of tokens, by functions that mirror the figure's rules from Grammar to
 -- Primary. The private functions of the reader are described in these words; that they say what the figure says is
 -- proved.
-use Rattle.std.specs.Prelude.{ℕ, zero, suc, max, ◌+◌, ◌-◌, Bool, true, false, List, [], ◌∷◌, length, drop, Option}
+use Rattle.std.specs.Prelude.{ℕ, zero, suc, max, ◌+◌, ◌-◌, Bool, true, false, not, ◌&&◌, List, [], ◌∷◌, length, drop, Option}
 use Rattle.std.specs.Prelude.{None, Some}
 use Rattle.std.specs.Prelude.{Result, Ok, Err, option_map, unwrap_or, if◌then◌else◌}
 use Rattle.peg_bytes.specs.Extent.{Extent, between}
@@ -11,16 +11,18 @@ use Rattle.peg_ford.specs.Rules.{Rule}
 use Rattle.peg_lexer.specs.Lexical.{text_of}
 use Rattle.peg_lexer.specs.Pieces.{Piece}
 use Rattle.peg_figure.specs.Ranges.{class_of}
-use Rattle.peg_figure.specs.Spelled.{Spelling, bytes_in, ranges_in, part, sequence_spelled, choice_spelled}
+use Rattle.peg_figure.specs.Spelled.{Spelling, Bounds, bytes_in, ranges_in, numerals_in, part, sequence_spelled}
+use Rattle.peg_figure.specs.Spelled.{choice_spelled, bounds_spelled, bounds_in_range, counted}
 use Rattle.peg_lexer.specs.Tokens.{Lexeme}
 use Rattle.peg_lexer.specs.declared.token.TokenKind.{TokenKind}
 use Rattle.peg_lexer.specs.declared.token.TokenKind.TheVariants.{Ident, Literal, Class, Arrow, Slash, And, Not}
-use Rattle.peg_lexer.specs.declared.token.TokenKind.TheVariants.{Question, Star, Plus, Open, Close, Dot}
+use Rattle.peg_lexer.specs.declared.token.TokenKind.TheVariants.{Question, Star, Plus, Count, Open, Close, Dot}
 
--- why reading stops: at a place no file goes on so, or a parenthesis is one too many
+-- why reading stops: at a place no file goes on so, or a parenthesis is one too many, or a count is out of range
 pub data Halt : Type 0 where
   Unexpected : (at : ℕ) → Halt
   TooDeep : (at : ℕ) → Halt
+  BadCountAt : (at : ℕ) → Halt
 
 -- an expression that was read, how many tokens it has, where the text of the last token before what is next ends, and
 -- how deep its parentheses nest
@@ -78,6 +80,18 @@ abbrev pub pieces_of : List ℕ → Lexeme → List Spelling
 pieces_of file lexeme =
     unwrap_or (option_map (λ (piece : Piece). piece.spells) (text_of lexeme.kind (drop lexeme.text.start file))) []
 
+-- the bounds that a count's text spells
+abbrev pub bounds_of : List ℕ → Lexeme → Bounds
+bounds_of file lexeme = bounds_spelled (numerals_in (pieces_of file lexeme))
+
+-- whether a token is a count that is out of range
+abbrev pub is_count : TokenKind → Bool
+is_count Count = true
+is_count _ = false
+
+abbrev pub is_bad_count : List ℕ → Lexeme → Bool
+is_bad_count file lexeme = is_count lexeme.kind && not (bounds_in_range (bounds_of file lexeme))
+
 -- ---- how readings go on
 
 -- with what is read, or stop
@@ -134,11 +148,12 @@ primary file inner (lexeme ∷ rest) = primary_of file inner lexeme rest lexeme.
 
 -- ---- Suffix and Prefix
 
-abbrev pub suffix_sign : TokenKind → Option (Form → Extent → Form)
-suffix_sign Question = Some form.Optional
-suffix_sign Star = Some form.Star
-suffix_sign Plus = Some form.Plus
-suffix_sign _ = None
+abbrev pub suffix_sign : List ℕ → Lexeme → TokenKind → Option (Form → Extent → Form)
+suffix_sign file lexeme Question = Some form.Optional
+suffix_sign file lexeme Star = Some form.Star
+suffix_sign file lexeme Plus = Some form.Plus
+suffix_sign file lexeme Count = Some (counted (bounds_of file lexeme))
+suffix_sign file lexeme _ = None
 
 abbrev pub with_suffix : (start : ℕ) → FormRead → Lexeme → Option (Form → Extent → Form) → FormRead
 with_suffix start part lexeme None = part
@@ -151,14 +166,20 @@ with_suffix start part lexeme (Some sign) =
       depth = part.depth;
     }
 
-abbrev pub then_suffix : (start : ℕ) → FormRead → List Lexeme → FormRead
-then_suffix start part [] = part
-then_suffix start part (lexeme ∷ more) = with_suffix start part lexeme (suffix_sign lexeme.kind)
+-- an expression with the token behind it, unless that is a count out of range
+abbrev pub with_token : List ℕ → (start : ℕ) → FormRead → Lexeme → Result FormRead Halt
+with_token file start part lexeme =
+    if is_bad_count file lexeme then Err (BadCountAt lexeme.text.start) else Ok
+    (with_suffix start part lexeme (suffix_sign file lexeme lexeme.kind))
+
+abbrev pub then_suffix : List ℕ → (start : ℕ) → FormRead → List Lexeme → Result FormRead Halt
+then_suffix file start part [] = Ok part
+then_suffix file start part (lexeme ∷ more) = with_token file start part lexeme
 
 unfoldable pub suffix : List ℕ → Option Reading → List Lexeme → Result FormRead Halt
 suffix file inner lexemes =
-    and_read (primary file inner lexemes) (λ (part : FormRead). Ok (then_suffix (place_of (length file) lexemes) part
-    (drop part.taken lexemes)))
+    and_read (primary file inner lexemes) (λ (part : FormRead). then_suffix file (place_of (length file) lexemes) part
+    (drop part.taken lexemes))
 
 abbrev pub prefix_sign : TokenKind → Option (Form → Extent → Form)
 prefix_sign And = Some form.And

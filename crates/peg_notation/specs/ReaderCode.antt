@@ -1,18 +1,24 @@
 -- Describes code: what is seen of what the reader's functions take and give.
-use Rattle.std.specs.Prelude.{◌≡◌, ℕ, zero, suc, ◌+◌, ◌≤◌, max, List, [], ◌∷◌, ◌++◌, map, length, drop, Option, None}
+use Rattle.std.specs.Prelude.{◌≡◌, ℕ, zero, suc, ◌+◌, ◌≤◌, max, true, false, List, [], ◌∷◌, ◌++◌, map, length, drop, Option, None}
 use Rattle.std.specs.Prelude.{Some, option_map, Result, Ok, Err}
 use Rattle.peg_grammar.specs.Written.{form_of, rule_of, rules_of}
+use Rattle.peg_figure.specs.Spelled.{bounds_in_range, counted}
+use Rattle.peg_ford.specs.Form.{Form}
+use Rattle.peg_bytes.specs.Extent.{Extent}
+use Rattle.peg_grammar.specs.declared.expr.Expr.{Expr}
 use Rattle.peg_lexer.specs.Lexical.{text_of}
+use Rattle.peg_lexer.specs.LexicalCode as lexical
 use Rattle.peg_lexer.specs.Pieces.{Piece}
-use Rattle.peg_notation.specs.Reader.{Halt, Unexpected, TooDeep, Reading, FormRead, FormsRead, RuleRead, RulesRead}
-use Rattle.peg_notation.specs.Reader.{expression_in}
+use Rattle.peg_notation.specs.Reader.{Halt, Unexpected, TooDeep, BadCountAt, Reading, FormRead, FormsRead, RuleRead}
+use Rattle.peg_notation.specs.Reader.{RulesRead, expression_in, bounds_of}
 use Rattle.peg_lexer.specs.Tokens.{Lexeme, lexeme_of}
 use Rattle.peg_notation.specs.declared.fault.NotationFault.{NotationFault}
-use Rattle.peg_notation.specs.declared.fault.NotationFault.TheVariants.{FileTooLong, Syntax, TooNested, Memory}
+use Rattle.peg_notation.specs.declared.fault.NotationFault.TheVariants.{FileTooLong, Syntax, TooNested, BadCount, Memory}
 use Rattle.peg_notation.specs.declared.expressions.ReadExpr.{ReadExpr}
 use Rattle.peg_notation.specs.declared.expressions.ReadExprs.{ReadExprs}
 use Rattle.peg_notation.specs.declared.rules.ReadRule.{ReadRule}
 use Rattle.peg_notation.specs.declared.rules.ReadRules.{ReadRules}
+use Rattle.peg_lexer.specs.declared.counts.Bounds as code
 use Rattle.peg_lexer.specs.declared.token.Token.{Token}
 
 -- what tokens stand for
@@ -73,9 +79,26 @@ abbrev pub ConveysHalt : {X : Type 0} → Result X Halt → NotationFault → Ty
 ConveysHalt read FileTooLong = ⊥
 ConveysHalt read (Syntax at) = read ≡ Err (Unexpected at)
 ConveysHalt read (TooNested at) = read ≡ Err (TooDeep at)
+ConveysHalt read (BadCount at) = read ≡ Err (BadCountAt at)
 ConveysHalt read Memory = Unit {0}
 
 -- what is seen of an answer is what was read, but for want of memory
 abbrev pub Conveys : {X Y : Type 0} → (seen : Y → X) → Result X Halt → Result Y NotationFault → Type 0
 Conveys seen read (Ok y) = read ≡ Ok (seen y)
 Conveys seen read (Err fault) = ConveysHalt read fault
+
+-- the bounds of a count that is in range, or the fault that it isn't
+abbrev pub IsBounded : List ℕ → (count : Lexeme) → Result code.Bounds NotationFault → Type 0
+IsBounded file count (Ok found) =
+    (bounds_in_range (bounds_of file count) ≡ true) × (lexical.bounds_of found ≡ bounds_of file count)
+IsBounded file count (Err fault) =
+    (bounds_in_range (bounds_of file count) ≡ false) × (fault ≡ BadCount count.text.start)
+
+-- An expression as often as a count says that is in range, or the fault that it isn't; want of memory says nothing.
+abbrev pub IsCounted : List ℕ → (count : Lexeme) → (part : Form) → (span : Extent) → Result Expr NotationFault → Type 0
+IsCounted file count part span (Ok whole) =
+    (bounds_in_range (bounds_of file count) ≡ true) × (form_of whole ≡ counted (bounds_of file count) part span)
+IsCounted file count part span (Err Memory) = Unit {0}
+IsCounted file count part span (Err (BadCount at)) =
+    (bounds_in_range (bounds_of file count) ≡ false) × (at ≡ count.text.start)
+IsCounted file count part span (Err _) = ⊥

@@ -1,5 +1,6 @@
 -- What reading a grammar file answers: its definitions, or why it is refused and where.
-use Rattle.std.specs.Prelude.{◌≡◌, ◌⊎◌, ℕ, ◌+◌, ◌<◌, ◌≤◌, List, ◌∷◌, ◌++◌, map, length, take, sum_by, codes, Contains}
+use Rattle.std.specs.Prelude.{◌≡◌, ◌≢◌, ◌⊎◌, ℕ, ◌+◌, ◌<◌, ◌≤◌, List, [], ◌∷◌, ◌++◌, map, length, take, sum_by, codes}
+use Rattle.std.specs.Prelude.{Contains}
 use Rattle.std.specs.Prelude.{Result, Ok, Err}
 use Rattle.std.specs.declared.alloc.Global.{Global}
 use Rattle.std.specs.declared.vec.Vec.{Vec}
@@ -7,23 +8,29 @@ use Rattle.peg_ford.specs.Rules.{Rule}
 use Rattle.peg_grammar.specs.Written.{rules_of}
 use Rattle.peg_grammar.specs.declared.expr.Definition.{Definition}
 use Rattle.peg_tree.specs.Trees.{Trees}
-use Rattle.peg_figure.specs.Notation.{Matches, IsInNotation, IsReading, most_file_bytes}
+use Rattle.peg_figure.specs.Notation.{Matches, FigureMatches, IsReading, most_file_bytes}
 use Rattle.peg_figure.specs.Nesting.{nesting, most_open}
+use Rattle.peg_figure.specs.Spelled.{bad_counts}
 use Rattle.peg_lexer.specs.Tokens.{Lexeme, IsTokens, IsLexingFault}
 use Rattle.peg_lexer.specs.declared.fault.LexFault.{LexFault}
 use Rattle.peg_lexer.specs.declared.fault.LexFault.TheVariants as lexing
 use Rattle.peg_notation.specs.declared.fault.NotationFault.{NotationFault}
-use Rattle.peg_notation.specs.declared.fault.NotationFault.TheVariants.{FileTooLong, Syntax, TooNested, Memory}
+use Rattle.peg_notation.specs.declared.fault.NotationFault.TheVariants.{FileTooLong, Syntax, TooNested, BadCount, Memory}
 use Rattle.peg_lexer.specs.declared.token.TokenKind.{TokenKind}
-use Rattle.peg_lexer.specs.declared.token.TokenKind.TheVariants.{Open, Close}
+use Rattle.peg_lexer.specs.declared.token.TokenKind.TheVariants.{Open, Close, Count}
 
--- where a file is in the notation, its parentheses nest no deeper than this
+-- where the figure matches a file, its parentheses nest no deeper than this
 abbrev pub NestsWithin : (most : ℕ) → List ℕ → Type 0
 NestsWithin most file = (end : ℕ) (trees : Trees) → Matches file (codes "Grammar") 0 end trees → nesting trees ≤ most
 
--- where a file is in the notation, its parentheses nest deeper than this
+-- where the figure matches a file, its parentheses nest deeper than this
 abbrev pub NestsDeeper : (most : ℕ) → List ℕ → Type 0
 NestsDeeper most file = (end : ℕ) (trees : Trees) → Matches file (codes "Grammar") 0 end trees → most < nesting trees
+
+-- where the figure matches a file, some count of it is out of range
+abbrev pub CountsOutOfRange : List ℕ → Type 0
+CountsOutOfRange file =
+    (end : ℕ) (trees : Trees) → Matches file (codes "Grammar") 0 end trees → bad_counts file trees ≢ []
 
 -- these rules are the reading of a file that nests no deeper than this
 abbrev pub IsReadingWithin : (most : ℕ) → List ℕ → List Rule → Type 0
@@ -61,6 +68,13 @@ IsOneTooMany most file at =
     × (opening.kind ≡ Open) × (at ≡ opening.text.start) × (opens before ≡ closes before + most)
     × ((n : ℕ) → opens (take n before) ≤ closes (take n before) + most)
 
+-- a count of the file starts here whose bounds are out of range
+abbrev pub IsBadCountToken : List ℕ → (at : ℕ) → Type 0
+IsBadCountToken file at =
+    (before : List Lexeme) × (count : Lexeme) × (more : List Lexeme) × IsTokens file (before ++ count ∷ more)
+    × (count.kind ≡ Count) × (at ≡ count.text.start)
+    × ((end : ℕ) × (trees : Trees) × Matches file (codes "COUNT") at end trees × (bad_counts file trees ≡ at ∷ []))
+
 -- ---- the answer
 
 -- a file without tokens isn't read
@@ -70,14 +84,16 @@ fault_of (lexing.Syntax at) = Syntax at
 fault_of lexing.Memory = Memory
 
 -- What reading a file answers. Its definitions are the reading of a file of the notation that nests no deeper than may
--- be; a file that is refused as no syntax isn't in the notation, and the place is its lexing fault, or else where a
--- token starts or its end. Want of memory says nothing.
+-- be; a file that is refused as no syntax isn't matched by the figure, and the place is its lexing fault, or else where
+-- a token starts or its end; one that is refused for a count has one out of range there. Want of memory says nothing.
 abbrev pub Reads : List ℕ → Result (Vec Definition Global) NotationFault → Type 0
 Reads file (Ok definitions) =
     (length file ≤ most_file_bytes) × IsReadingWithin most_open file (rules_of definitions.items)
 Reads file (Err FileTooLong) = most_file_bytes < length file
 Reads file (Err (Syntax at)) =
-    (length file ≤ most_file_bytes) × (¬ IsInNotation file) × (IsLexingFault file at ⊎ IsTokenPlace file at)
+    (length file ≤ most_file_bytes) × (¬ FigureMatches file) × (IsLexingFault file at ⊎ IsTokenPlace file at)
 Reads file (Err (TooNested at)) =
     (length file ≤ most_file_bytes) × NestsDeeper most_open file × IsOneTooMany most_open file at
+Reads file (Err (BadCount at)) =
+    (length file ≤ most_file_bytes) × CountsOutOfRange file × IsBadCountToken file at
 Reads file (Err Memory) = Unit {0}

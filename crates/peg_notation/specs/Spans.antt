@@ -3,13 +3,13 @@ use Rattle.std.specs.Prelude.{ℕ, ◌≤◌, All, Result, Ok, Err}
 use Rattle.std.specs.declared.alloc.Global.{Global}
 use Rattle.std.specs.declared.vec.Vec.{Vec}
 use Rattle.peg_bytes.specs.Extent.{Extent}
-use Rattle.peg_ford.specs.Form.{Form, Forms, Literal, Class, Any, Name, Seq, Choice, Optional, Star, Plus, And, Not}
-use Rattle.peg_ford.specs.Form.{End, Then}
+use Rattle.peg_ford.specs.Form.{Form, Forms, Literal, Class, Any, Name, Seq, Choice, Optional, Star, Plus, Counted}
+use Rattle.peg_ford.specs.Form.{And, Not, End, Then}
 use Rattle.peg_ford.specs.Rules.{Rule}
 use Rattle.peg_grammar.specs.Written.{rules_of}
 use Rattle.peg_grammar.specs.declared.expr.Definition.{Definition}
 use Rattle.peg_notation.specs.declared.fault.NotationFault.{NotationFault}
-use Rattle.peg_notation.specs.declared.fault.NotationFault.TheVariants.{FileTooLong, Syntax, TooNested, Memory}
+use Rattle.peg_notation.specs.declared.fault.NotationFault.TheVariants.{FileTooLong, Syntax, TooNested, BadCount, Memory}
 
 -- a part of a file of this length
 abbrev pub LiesIn : (size : ℕ) → Extent → Type 0
@@ -27,6 +27,7 @@ abbrev mutual
   FormLiesIn size (Optional part span) = LiesIn size span × FormLiesIn size part
   FormLiesIn size (Star part span) = LiesIn size span × FormLiesIn size part
   FormLiesIn size (Plus part span) = LiesIn size span × FormLiesIn size part
+  FormLiesIn size (Counted part min max span) = LiesIn size span × FormLiesIn size part
   FormLiesIn size (And part span) = LiesIn size span × FormLiesIn size part
   FormLiesIn size (Not part span) = LiesIn size span × FormLiesIn size part
 
@@ -44,4 +45,5 @@ AnswerLiesIn size (Ok definitions) = All (RuleLiesIn size) (rules_of definitions
 AnswerLiesIn size (Err FileTooLong) = Unit {0}
 AnswerLiesIn size (Err (Syntax at)) = at ≤ size
 AnswerLiesIn size (Err (TooNested at)) = at ≤ size
+AnswerLiesIn size (Err (BadCount at)) = at ≤ size
 AnswerLiesIn size (Err Memory) = Unit {0}

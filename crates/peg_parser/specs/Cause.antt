@@ -9,6 +9,7 @@ pub data Cause : Type 0 where
   FileTooLong : Cause
   Syntax : (at : ℕ) → Cause
   TooNested : (at : ℕ) → Cause
+  BadCount : (at : ℕ) → Cause
   NoRule : Cause
   Duplicate : (name : Reference) → Cause
   Undefined : (name : Reference) → Cause

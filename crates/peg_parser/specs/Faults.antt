@@ -15,8 +15,8 @@ use Rattle.peg_grammar.specs.declared.grammar.Grammar.{Grammar}
 use Rattle.peg_notation.specs.declared.fault.NotationFault.{NotationFault}
 use Rattle.peg_notation.specs.declared.fault.NotationFault.TheVariants as notation
 use Rattle.peg_tree.specs.Names.{name_at}
-use Rattle.peg_parser.specs.Cause.{Cause, FileTooLong, Syntax, TooNested, NoRule, Duplicate, Undefined, TooManyParts}
-use Rattle.peg_parser.specs.Cause.{EmptyLoop, LeftRecursion, CodeTooLarge, reference}
+use Rattle.peg_parser.specs.Cause.{Cause, FileTooLong, Syntax, TooNested, BadCount, NoRule, Duplicate, Undefined}
+use Rattle.peg_parser.specs.Cause.{TooManyParts, EmptyLoop, LeftRecursion, CodeTooLarge, reference}
 use Rattle.peg_parser.specs.Refusals.{Shows}
 use Rattle.peg_parser.specs.declared.refusal.Refusal.{Refusal}
 use Rattle.peg_parser.specs.declared.refusal.Refusal.TheVariants as refusal
@@ -27,12 +27,14 @@ abbrev pub notation_cause : NotationFault → Option Cause
 notation_cause notation.FileTooLong = Some FileTooLong
 notation_cause (notation.Syntax at) = Some (Syntax at)
 notation_cause (notation.TooNested at) = Some (TooNested at)
+notation_cause (notation.BadCount at) = Some (BadCount at)
 notation_cause notation.Memory = None
 
 abbrev pub grammar_cause : GrammarFault → Option Cause
 grammar_cause grammar.NoRule = Some NoRule
 grammar_cause (grammar.Duplicate name span) = Some (Duplicate (reference (string_bytes name) (extent span)))
 grammar_cause (grammar.Undefined name span) = Some (Undefined (reference (string_bytes name) (extent span)))
+grammar_cause (grammar.BadCount span) = Some (BadCount (extent span).start)
 grammar_cause grammar.TooManyParts = Some TooManyParts
 grammar_cause grammar.Memory = None
 
@@ -64,6 +66,7 @@ cause_told why = refusal_cause (names_told why) why
 abbrev pub StartsIn : (size : ℕ) → Cause → Type 0
 StartsIn size (Syntax at) = at ≤ size
 StartsIn size (TooNested at) = at ≤ size
+StartsIn size (BadCount at) = at ≤ size
 StartsIn size (Duplicate name) = name.span.start ≤ size
 StartsIn size (Undefined name) = name.span.start ≤ size
 StartsIn size (EmptyLoop rule) = rule.span.start ≤ size

@@ -7,24 +7,27 @@ use Rattle.peg_ford.specs.Loops.{IsEmptyLoop, IsLeftCycle}
 use Rattle.peg_ford.specs.Rules.{Rule, name_of, weight_of}
 use Rattle.peg_ford.specs.WellFormed.{IsWellFormedGrammar}
 use Rattle.peg_check.specs.Verdicts.{AllDiffer}
-use Rattle.peg_figure.specs.Notation.{IsInNotation, IsReading, most_file_bytes}
+use Rattle.peg_figure.specs.Notation.{FigureMatches, IsInNotation, IsReading, most_file_bytes}
 use Rattle.peg_lexer.specs.Tokens.{IsLexingFault}
 use Rattle.peg_figure.specs.Nesting.{most_open}
-use Rattle.peg_notation.specs.Reads.{NestsDeeper, IsTokenPlace, IsOneTooMany}
+use Rattle.peg_notation.specs.Reads.{CountsOutOfRange, IsBadCountToken, IsOneTooMany, IsTokenPlace, NestsDeeper}
 use Rattle.peg_code.specs.Compiled.{most_instructions}
 use Rattle.peg_parser.specs.Accepts.{IsRead, IsTaken, code_size}
-use Rattle.peg_parser.specs.Cause.{Cause, FileTooLong, Syntax, TooNested, Duplicate, Undefined, TooManyParts, EmptyLoop}
-use Rattle.peg_parser.specs.Cause.{LeftRecursion, CodeTooLarge, reference}
+use Rattle.peg_parser.specs.Cause.{Cause, FileTooLong, Syntax, TooNested, BadCount, Duplicate, Undefined, TooManyParts}
+use Rattle.peg_parser.specs.Cause.{EmptyLoop, LeftRecursion, CodeTooLarge, reference}
 
 -- The file isn't read, or the rules that it spells, of which there are some, are no grammar that is taken. A place of a
 -- file without syntax is its lexing fault, or else where a token starts or the end; a parenthesis is one too many where
--- it is the first that opens inside too many others.
+-- it is the first that opens inside too many others; a count that is told is out of range, and where the figure matches
+-- the file some count is.
 pub data IsNoGrammar (file : List ℕ) : Cause → Type 0 where
   file_too_long : most_file_bytes < length file → IsNoGrammar file FileTooLong
-  not_in_the_notation : {at : ℕ} → length file ≤ most_file_bytes → ¬ IsInNotation file
+  not_in_the_notation : {at : ℕ} → length file ≤ most_file_bytes → ¬ FigureMatches file
       → IsLexingFault file at ⊎ IsTokenPlace file at → IsNoGrammar file (Syntax at)
   too_nested : {at : ℕ} → length file ≤ most_file_bytes → NestsDeeper most_open file
       → IsOneTooMany most_open file at → IsNoGrammar file (TooNested at)
+  count_out_of_range : {at : ℕ} → length file ≤ most_file_bytes → CountsOutOfRange file
+      → IsBadCountToken file at → IsNoGrammar file (BadCount at)
   a_name_twice : {rules : List Rule} {name : Reference} → IsRead file rules → first_duplicate rules ≡ Some name
       → IsNoGrammar file (Duplicate name)
   a_name_missing : {rules : List Rule} {name : Reference} → IsRead file rules → first_duplicate rules ≡ None

@@ -4,8 +4,8 @@ use Rattle.serde_json.specs.Data.{Data, unsigned, number, string, array, object,
 use Rattle.serde_json.specs.View.{items_of}
 use Rattle.peg_bytes.specs.Place.{line_at, column_at}
 use Rattle.peg_ford.specs.Form.{Reference}
-use Rattle.peg_parser.specs.Cause.{Cause, FileTooLong, Syntax, TooNested, NoRule, Duplicate, Undefined, TooManyParts}
-use Rattle.peg_parser.specs.Cause.{EmptyLoop, LeftRecursion, CodeTooLarge, NoSuchStart, StepLimit, TooDeep, TextTooLong}
+use Rattle.peg_parser.specs.Cause.{Cause, FileTooLong, Syntax, TooNested, BadCount, NoRule, Duplicate, Undefined}
+use Rattle.peg_parser.specs.Cause.{TooManyParts, EmptyLoop, LeftRecursion, CodeTooLarge, NoSuchStart, StepLimit, TooDeep, TextTooLong}
 
 -- the printed object of a refusal that has no more to tell
 abbrev pub bare_data : (refusal : List ℕ) → Data
@@ -52,6 +52,7 @@ abbrev pub cause_data : (file : List ℕ) → Cause → Data
 cause_data file FileTooLong = bare_data (codes "FileTooLong")
 cause_data file (Syntax at) = place_data file (codes "Syntax") at
 cause_data file (TooNested at) = place_data file (codes "TooNested") at
+cause_data file (BadCount at) = place_data file (codes "BadCount") at
 cause_data file NoRule = bare_data (codes "NoRule")
 cause_data file (Duplicate name) = name_data file (codes "Duplicate") name
 cause_data file (Undefined name) = name_data file (codes "Undefined") name
@@ -69,6 +70,7 @@ abbrev pub cause_status : Cause → ℕ
 cause_status FileTooLong = 2
 cause_status (Syntax at) = 2
 cause_status (TooNested at) = 2
+cause_status (BadCount at) = 2
 cause_status NoRule = 2
 cause_status (Duplicate name) = 2
 cause_status (Undefined name) = 2

@@ -2,11 +2,13 @@
 use Rattle.std.specs.Prelude.{ℕ, List, if◌then◌else◌, ◌==◌}
 use Rattle.peg_bytes.specs.Extent.{Extent}
 use Rattle.peg_figure.specs.FigureRules as figure
-use Rattle.peg_figure.specs.Notation.{Matches}
+use Rattle.peg_figure.specs.Notation.{Matches, IsFirstBadCount}
 use Rattle.peg_ford.specs.Form.{Form, And, Not, Optional, Star, Plus}
 use Rattle.peg_tree.specs.Branches.{tree_of_branch}
 use Rattle.peg_tree.specs.Trees.{Trees, NoTrees, Tree}
 use Rattle.peg_tree.specs.declared.forest.Branch.{Branch}
+use Rattle.peg_spelling.specs.declared.fault.DefinitionsFault.{DefinitionsFault}
+use Rattle.peg_spelling.specs.declared.fault.DefinitionsFault.TheVariants.{TooNested, BadCount, Memory}
 
 -- a node is a match of the figure's rule of this name
 abbrev pub IsNode : List ℕ → (name : List ℕ) → Branch → Type 0
@@ -24,3 +26,9 @@ sign_form rule =
     else (if rule == figure.not_sign then Not
     else (if rule == figure.question then Optional
     else (if rule == figure.star then Star else Plus)))
+
+-- a fault that names a count names the first of the trees that is out of range
+abbrev pub HasBadCount : List ℕ → Trees → DefinitionsFault → Type 0
+HasBadCount file trees TooNested = Unit {0}
+HasBadCount file trees (BadCount at) = IsFirstBadCount file trees at
+HasBadCount file trees Memory = Unit {0}

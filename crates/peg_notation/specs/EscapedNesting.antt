@@ -1,0 +1,18 @@
+-- How deep the parentheses of a tree of the figure before counts nest: as in the figure, but for the number of OPEN.
+use Rattle.std.specs.Prelude.{ℕ, ◌+◌, Bool, false, max, if◌then◌else◌, ◌==◌, ◌&&◌, ◌||◌}
+use Rattle.peg_tree.specs.Trees.{Trees, NoTrees, Tree}
+use Rattle.peg_figure.specs.FigureRules as figure
+
+-- OPEN stood right behind PLUS, where COUNT stands now
+abbrev pub escaped_open : ℕ
+escaped_open = figure.count
+
+abbrev pub has_escaped_open : Trees → Bool
+has_escaped_open NoTrees = false
+has_escaped_open (Tree rule start end children rest) = rule == escaped_open || has_escaped_open rest
+
+abbrev pub escaped_nesting : Trees → ℕ
+escaped_nesting NoTrees = 0
+escaped_nesting (Tree rule start end children rest) =
+    max ((if rule == figure.primary && has_escaped_open children then 1 else 0) + escaped_nesting children)
+    (escaped_nesting rest)
