@@ -81,8 +81,8 @@ fn a_memo_of_one_result_saves_six_steps(rt: HostRuntime) -> Result<(), Fail> {
     Ok(())
 }
 
-// So many parentheses round an `a`, each followed by `y`.
-fn parentheses(alloc: Global, count: usize) -> Result<Vec<u8>, AllocError> {
+/// So many parentheses round an `a`, each followed by `y`.
+pub(crate) fn parentheses(alloc: Global, count: usize) -> Result<Vec<u8>, AllocError> {
     let mut text = vec![in alloc; b'('; count]?;
     text.push(b'a')?;
     for _ in 0..count {
@@ -190,6 +190,27 @@ fn a_missing_byte_is_told_with_each_memo(rt: HostRuntime) -> Result<(), Fail> {
     let case = failed(b"aabbc", 5, &[7]);
     let outcome = same_outcome_with_memos(&rt, alloc, &pair, case.text, 0)?;
     assert_outcome(&rt, alloc, &outcome, case)?;
+    Ok(())
+}
+
+// The evaluator's outcome comes with each memo, one that forgets among them.
+#[test]
+fn worked_texts_have_one_outcome_with_each_memo(rt: HostRuntime) -> Result<(), Fail> {
+    let alloc = rt.alloc();
+    let cases: [(&[u8], &[u8]); 8] = [
+        (RIGHT, b"aab"),
+        (RIGHT, b""),
+        (COUNTS, b"aabbcc"),
+        (b"S <- 'a' / 'ab'", b"ab"),
+        (b"A <-", b"zz"),
+        (TWICE, b"(a)y"),
+        (b"S <- !''", b"q"),
+        (b"A <- [z-a] / [] / [\xc8]", b"\xc8"),
+    ];
+    for (file, text) in cases {
+        let pair = pair_of(alloc, file)?;
+        same_outcome_with_memos(&rt, alloc, &pair, text, 0)?;
+    }
     Ok(())
 }
 

@@ -2,6 +2,7 @@
 ghost use Rattle.std.specs.Prelude.{◌≡◌, ◌<◌, [], false, true, length, IfOk};
 ghost use Rattle.peg_memo.specs.Held.{held_in};
 
+use crate::memos::parentheses;
 use crate::outcomes::assert_alike;
 use crate::pairs::program_of;
 use crate::runs::{run_from, run_plain};
@@ -14,11 +15,6 @@ use std::process::Abort;
 use std::test::Fail;
 
 const TWICE: &[u8] = b"A <- '(' A ')' 'x' / '(' A ')' 'y' / 'a'";
-
-// Thirty parentheses round an `a`, each followed by `y`.
-const NESTED: &[u8] = b"\
-    ((((((((((((((((((((((((((((((a\
-    )y)y)y)y)y)y)y)y)y)y)y)y)y)y)y)y)y)y)y)y)y)y)y)y)y)y)y)y)y)y";
 
 // Keeps all results but the one with this number, of which it says that it couldn't keep it.
 #[derive(Drop)]
@@ -149,20 +145,30 @@ fn a_watch_that_refuses_ends_the_run(rt: HostRuntime) -> Result<(), Fail> {
     Ok(())
 }
 
-// Without a memo no machine would come to the end of this text: the outcome is that with all results kept.
-#[test]
-fn a_result_that_is_refused_changes_no_long_answer(rt: HostRuntime) -> Result<(), Fail> {
-    let alloc = rt.alloc();
+// Without a memo no machine would come to the end of so many parentheses: the outcome is that with all results kept.
+fn assert_parentheses(rt: &impl Abort, alloc: Global, count: u32) -> Result<(), Fail>
+    requires { count < 1000 }
+{
     let program = program_of(alloc, TWICE)?;
     assert!(rt; program.rules() > 0);
-    let (answer, _) = run_all_but(alloc, &program, NESTED, 0)?;
-    assert_eq!(rt; answer.outcome.far, 90);
+    let text = parentheses(alloc, count as usize)?;
+    let (answer, _) = run_all_but(alloc, &program, &text, 0)?;
+    assert_eq!(rt; answer.outcome.far, 3 * count);
     assert_eq!(rt; answer.outcome.expected.as_slice(), [2].as_slice());
     match &answer.outcome.result {
         Parsed::Failed => assert!(rt; false, "no match"),
-        Parsed::Matched { end, tree } => assert_eq!(rt; (*end, tree.len()), (91, 31)),
+        Parsed::Matched { end, tree } => {
+            assert_eq!(rt; *end, 3 * count + 1);
+            assert_eq!(rt; tree.len(), count as usize + 1);
+        }
     }
-    let refused = assert_all_but(&rt, alloc, NESTED, &answer)?;
-    assert_eq!(rt; refused, 31);
+    let refused = assert_all_but(rt, alloc, &text, &answer)?;
+    assert_eq!(rt; refused, count + 1);
     Ok(())
+}
+
+#[test]
+fn a_result_that_is_refused_changes_no_long_answer(rt: HostRuntime) -> Result<(), Fail> {
+    assert_parentheses(&rt, rt.alloc(), 30)?;
+    assert_parentheses(&rt, rt.alloc(), 100)
 }
