@@ -12,6 +12,9 @@ mod MachineLemmas
 mod MomentEnds
 mod MomentLemmas
 mod NotedLemmas
+mod OneByteGoing
+mod OneByteMoments
+mod OneByteRuns
 mod OutcomeLemmas
 mod PackratLemmas
 mod Promises

@@ -7,6 +7,8 @@ pub mod Local
 pub mod Machine
 pub mod Moments
 pub mod Noted
+pub mod OneByte
+pub mod OneByteGoing
 pub mod OpenRows
 pub mod Packrat
 pub mod Remembered

@@ -19,6 +19,7 @@ pub mod going_laws;
 mod input;
 pub mod laws;
 mod machine;
+pub mod one_byte_laws;
 pub mod packrat_laws;
 mod rounds;
 pub mod run_laws;
