@@ -1,6 +1,7 @@
 -- What the forms of parts make of the forms of the whole, form by form.
 use Rattle.std.proofs.Common.{◌≡◌, ℕ, zero, suc, ◌+◌, ◌*◌, ◌<◌, ◌≤◌, Bool, true, false, ◌&&◌, List, [], ◌∷◌, ◌++◌, All, length, map, get_or, nat_lt, slice_get, position, bytes_eq, cond, not, ◌||◌, None, Some, option_map, refl, sym, ap, ◌∙◌, subst, arith, length-append, append_assoc, append-nil}
 use Rattle.std.proofs.lemmas.Bool.{lt-ltb}
+use Rattle.std.proofs.lemmas.Bool.Decides.{nat_tests}
 use Rattle.std.specs.List.{list_any, position_or_len}
 use Rattle.std.proofs.lemmas.List.{length-map, map-append}
 use Rattle.std.proofs.lemmas.List.Elements.{All-nil, All-push}
@@ -8,23 +9,24 @@ use Rattle.std.proofs.lemmas.List.Folds.{list_all-append}
 use Rattle.peg_bytes.specs.ByteSet.{all_bytes, bytes_of, has, only}
 use Rattle.peg_bytes.specs.Extent.{Extent}
 use Rattle.peg_bytes.specs.declared.byte_set.ByteSet.{ByteSet}
-use Rattle.peg_ford.specs.Form.{Form, Forms, Literal, Class, Any, Name, Optional, Plus, And, End, Then, Reference, terminals, form_weight, forms_weight, names_used, names_used_by_all}
+use Rattle.peg_ford.specs.Form.{Form, Forms, Literal, Class, Any, Name, Optional, Plus, Counted, And, End, Then, Reference, Count, terminals, counts_written, counts_written_by_all, form_weight, forms_weight, names_used, names_used_by_all}
 use Rattle.peg_ford.specs.Form as written
+use Rattle.peg_ford.specs.Grammar.{greatest_count, is_in_range}
 use Rattle.peg_ford.specs.Rules.{is_defined, names, meant}
 use Rattle.peg_ford.specs.Rules as grammar
 use Rattle.peg_ford.specs.Terminals.{terminal_extents, terminal_extents_of_all}
 use Rattle.peg_ford.specs.Numbers.{first_from}
 use Rattle.peg_ford.proofs.RulesLemmas.{terminals-weight, position-within, meant-position, meaning}
 use Rattle.peg_ford.proofs.TerminalLemmas.{length-terminal_extents}
-use Rattle.peg_core.specs.CoreForm.{CoreForm, Test, Choice, Star, Not, all_in_order, one_of, tests_of, core_form, core_forms, number_of}
-use Rattle.peg_core.specs.CoreParts.{sequences_of, choices_of, optional_forms, plus_forms, and_forms, core_parts, core_parts_of_all, are_defined}
+use Rattle.peg_core.specs.CoreForm.{CoreForm, Test, Seq, Choice, Star, Not, all_in_order, one_of, tests_of, unfolded, core_form, core_forms, number_of}
+use Rattle.peg_core.specs.CoreParts.{sequences_of, choices_of, optional_forms, plus_forms, rounds_of, count_forms, and_forms, core_parts, core_parts_of_all, are_defined, are_in_range}
 use Rattle.peg_core.specs.Laid.{Lays, LaysAll, LaysForm, LaysForms}
-use Rattle.peg_core.specs.Layout.{Layout, form_at}
+use Rattle.peg_core.specs.Layout.{Layout, form_at, most_forms_each}
 use Rattle.peg_core.proofs.LaidLemmas.{Lays-then, form_at-kept, forms-kept, all_within-grown, length-sequences_of}
 use Rattle.peg_core.proofs.Meanings.{number_of-meant}
 use Rattle.peg_core.proofs.Sets.{bytes_of-all}
 
--- ---- how many core forms there are: fewer than two for each part of the weight
+-- ---- how many core forms there are: fewer than most_forms_each for each part of the weight
 
 length-tests_of : (terminal : ℕ) (bytes : List ℕ) → length (tests_of terminal bytes) ≡ length bytes
 length-tests_of terminal bytes = length-map bytes (λ byte. Test (only byte) terminal)
@@ -34,46 +36,86 @@ length-choices_of first [] = refl
 length-choices_of first (next ∷ rest) =
     omega (arith, length-append (choices_of next rest) (Choice first (one_of next rest) ∷ []), length-choices_of next rest)
 
+length-rounds_of : (part : CoreForm) (min max : ℕ) → length (rounds_of part min max) ≤ 2 * max
+length-rounds_of part min zero = omega arith
+length-rounds_of part zero (suc max) =
+    omega (arith, length-append (rounds_of part zero max) (Seq part (unfolded part zero max) ∷ unfolded part zero (suc max) ∷ []), length-rounds_of part zero max)
+length-rounds_of part (suc min) (suc max) =
+    omega (arith, length-append (rounds_of part min max) (unfolded part (suc min) (suc max) ∷ []), length-rounds_of part min max)
+
+length-count_forms : (part : CoreForm) (min max : ℕ) → max ≤ greatest_count
+    → length (count_forms part min max) ≤ most_forms_each
+length-count_forms part min zero few = omega arith
+length-count_forms part min (suc max) few = omega (arith, few, length-rounds_of part min (suc max))
+
+and_left : (a b : Bool) → (a && b) ≡ true → a ≡ true
+and_left true b e = refl
+and_left false b e = cc
+
+and_right : (a b : Bool) → (a && b) ≡ true → b ≡ true
+and_right true b e = e
+and_right false b e = cc
+
+-- counts that are in range
+pub are_in_range-left : (some more : List Count) → are_in_range (some ++ more) ≡ true → are_in_range some ≡ true
+are_in_range-left some more e =
+    and_left (are_in_range some) (are_in_range more) (sym (list_all-append is_in_range some more) ∙ e)
+
+pub are_in_range-right : (some more : List Count) → are_in_range (some ++ more) ≡ true → are_in_range more ≡ true
+are_in_range-right some more e =
+    and_right (are_in_range some) (are_in_range more) (sym (list_all-append is_in_range some more) ∙ e)
+
+in_range-max : (count : Count) → is_in_range count ≡ true → count.max ≤ greatest_count
+in_range-max count e = grind (arith, nat_tests)
+
 module _ (rules : List grammar.Rule) where
   mutual
-    pub length-core_parts : (e : Form) (terminal : ℕ) → length (core_parts rules terminal e) + 1 ≤ 2 * form_weight e
-    length-core_parts (Literal bytes span) terminal =
+    pub length-core_parts : (e : Form) (terminal : ℕ) → are_in_range (counts_written e) ≡ true
+        → length (core_parts rules terminal e) + 1 ≤ most_forms_each * form_weight e
+    length-core_parts (Literal bytes span) terminal ranged =
         omega (arith, length-append (tests_of terminal bytes) (sequences_of (tests_of terminal bytes)), length-sequences_of (tests_of terminal bytes), length-tests_of terminal bytes)
-    length-core_parts (Class set span) terminal = omega arith
-    length-core_parts (Any span) terminal = omega arith
-    length-core_parts (Name name span) terminal = omega arith
-    length-core_parts (written.Seq items span) terminal =
-        omega (arith, length-core_parts_of_all items terminal, length-sequences_of (core_forms rules terminal items), length-append (core_parts_of_all rules terminal items) (sequences_of (core_forms rules terminal items)))
-    length-core_parts (written.Choice first rest span) terminal =
+    length-core_parts (Class set span) terminal ranged = omega arith
+    length-core_parts (Any span) terminal ranged = omega arith
+    length-core_parts (Name name span) terminal ranged = omega arith
+    length-core_parts (written.Seq items span) terminal ranged =
+        omega (arith, length-core_parts_of_all items terminal ranged, length-sequences_of (core_forms rules terminal items), length-append (core_parts_of_all rules terminal items) (sequences_of (core_forms rules terminal items)))
+    length-core_parts (written.Choice first rest span) terminal ranged =
         let later = terminal + terminals first in
         let parts = core_parts rules terminal first in
         let more = core_parts_of_all rules later rest in
         let choices = choices_of (core_form rules terminal first) (core_forms rules later rest) in
-        omega (arith, length-core_parts first terminal, length-core_parts_of_all rest later, length-choices_of (core_form rules terminal first) (core_forms rules later rest), length-append (parts ++ more) choices, length-append parts more)
-    length-core_parts (Optional part span) terminal =
-        omega (arith, length-core_parts part terminal, length-append (core_parts rules terminal part) (optional_forms (core_form rules terminal part)))
-    length-core_parts (written.Star part span) terminal =
-        omega (arith, length-core_parts part terminal, length-append (core_parts rules terminal part) (Star (core_form rules terminal part) span ∷ []))
-    length-core_parts (Plus part span) terminal =
-        omega (arith, length-core_parts part terminal, length-append (core_parts rules terminal part) (plus_forms (core_form rules terminal part) span))
-    length-core_parts (And part span) terminal =
-        omega (arith, length-core_parts part terminal, length-append (core_parts rules terminal part) (and_forms (core_form rules terminal part)))
-    length-core_parts (written.Not part span) terminal =
-        omega (arith, length-core_parts part terminal, length-append (core_parts rules terminal part) (Not (core_form rules terminal part) ∷ []))
+        omega (arith, length-core_parts first terminal (are_in_range-left (counts_written first) (counts_written_by_all rest) ranged), length-core_parts_of_all rest later (are_in_range-right (counts_written first) (counts_written_by_all rest) ranged), length-choices_of (core_form rules terminal first) (core_forms rules later rest), length-append (parts ++ more) choices, length-append parts more)
+    length-core_parts (Optional part span) terminal ranged =
+        omega (arith, length-core_parts part terminal ranged, length-append (core_parts rules terminal part) (optional_forms (core_form rules terminal part)))
+    length-core_parts (written.Star part span) terminal ranged =
+        omega (arith, length-core_parts part terminal ranged, length-append (core_parts rules terminal part) (Star (core_form rules terminal part) span ∷ []))
+    length-core_parts (Plus part span) terminal ranged =
+        omega (arith, length-core_parts part terminal ranged, length-append (core_parts rules terminal part) (plus_forms (core_form rules terminal part) span))
+    length-core_parts (Counted part min max span) terminal ranged =
+        let count : Count = record { min = min; max = max; span = span } in
+        let few = in_range-max count (and_left (is_in_range count) (are_in_range (counts_written part)) ranged) in
+        let behind = and_right (is_in_range count) (are_in_range (counts_written part)) ranged in
+        let form = core_form rules terminal part in
+        omega (arith, length-core_parts part terminal behind, length-count_forms form min max few, length-append (core_parts rules terminal part) (count_forms form min max))
+    length-core_parts (And part span) terminal ranged =
+        omega (arith, length-core_parts part terminal ranged, length-append (core_parts rules terminal part) (and_forms (core_form rules terminal part)))
+    length-core_parts (written.Not part span) terminal ranged =
+        omega (arith, length-core_parts part terminal ranged, length-append (core_parts rules terminal part) (Not (core_form rules terminal part) ∷ []))
 
-    pub length-core_parts_of_all : (items : Forms) (terminal : ℕ)
-        → length (core_parts_of_all rules terminal items) + length (core_forms rules terminal items) ≤ 2 * forms_weight items
-    length-core_parts_of_all End terminal = omega arith
-    length-core_parts_of_all (Then e rest) terminal =
+    pub length-core_parts_of_all : (items : Forms) (terminal : ℕ) → are_in_range (counts_written_by_all items) ≡ true
+        → length (core_parts_of_all rules terminal items) + length (core_forms rules terminal items) ≤ most_forms_each * forms_weight items
+    length-core_parts_of_all End terminal ranged = omega arith
+    length-core_parts_of_all (Then e rest) terminal ranged =
         let later = terminal + terminals e in
-        omega (arith, length-core_parts e terminal, length-core_parts_of_all rest later, length-append (core_parts rules terminal e) (core_parts_of_all rules later rest))
+        omega (arith, length-core_parts e terminal (are_in_range-left (counts_written e) (counts_written_by_all rest) ranged), length-core_parts_of_all rest later (are_in_range-right (counts_written e) (counts_written_by_all rest) ranged), length-append (core_parts rules terminal e) (core_parts_of_all rules later rest))
 
   -- ---- room for more
 
   pub LaysForm-room : (e : Form) (old new : Layout) (number : ℕ) → LaysForm rules e old number new
-      → length new.forms + 1 ≤ length old.forms + 2 * form_weight e
-  LaysForm-room e old new number lays =
-      omega (arith, ap length lays.forms, length-append old.forms (core_parts rules (length old.spans) e), length-core_parts e (length old.spans))
+      → are_in_range (counts_written e) ≡ true
+      → length new.forms + 1 ≤ length old.forms + most_forms_each * form_weight e
+  LaysForm-room e old new number lays ranged =
+      omega (arith, ap length lays.forms, length-append old.forms (core_parts rules (length old.spans) e), length-core_parts e (length old.spans) ranged)
 
   pub LaysForm-spans : (e : Form) (old new : Layout) (number : ℕ) → LaysForm rules e old number new
       → length new.spans ≡ length old.spans + terminals e
@@ -86,11 +128,12 @@ module _ (rules : List grammar.Rule) where
   LaysForm-few e old new number lays = omega (arith, LaysForm-spans e old new number lays, terminals-weight e)
 
   pub LaysForms-room : (items : Forms) (old new : Layout) (numbers : List ℕ) → LaysForms rules items old numbers new
-      → length new.forms + length numbers ≤ length old.forms + 2 * forms_weight items
-  LaysForms-room items old new numbers lays =
+      → are_in_range (counts_written_by_all items) ≡ true
+      → length new.forms + length numbers ≤ length old.forms + most_forms_each * forms_weight items
+  LaysForms-room items old new numbers lays ranged =
       let t = length old.spans in
       let many : length numbers ≡ length (core_forms rules t items) = sym (length-map numbers (form_at new.forms)) ∙ ap length lays.each in
-      omega (arith, many, ap length lays.forms, length-append old.forms (core_parts_of_all rules t items), length-core_parts_of_all items t)
+      omega (arith, many, ap length lays.forms, length-append old.forms (core_parts_of_all rules t items), length-core_parts_of_all items t ranged)
 
   -- ---- the whole from its parts
 
@@ -213,14 +256,6 @@ module _ (rules : List grammar.Rule) where
       }
 
   -- ---- names
-
-  and_left : (a b : Bool) → (a && b) ≡ true → a ≡ true
-  and_left true b e = refl
-  and_left false b e = cc
-
-  and_right : (a b : Bool) → (a && b) ≡ true → b ≡ true
-  and_right true b e = e
-  and_right false b e = cc
 
   abbrev here : Reference → Bool
   here reference = is_defined rules reference.name

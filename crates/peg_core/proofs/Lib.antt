@@ -4,6 +4,7 @@ pub mod CoreRefutations
 pub mod CoreRounds
 pub mod CoreShown
 pub mod CoreWithin
+mod CountLemmas
 mod FlatLemmas
 mod FormsAmong
 mod LaidLemmas

@@ -5,13 +5,13 @@ use Rattle.std.proofs.lemmas.List.{map-append}
 use Rattle.std.proofs.lemmas.List.Elements.{All-nil, All-cons, All-head, All-tail, All-append, All-contains, All-weaker, All-push, All-map, Contains-append_left, Contains-append_right, Contains-push, filter-append}
 use Rattle.peg_bytes.specs.ByteSet.{only}
 use Rattle.peg_bytes.specs.Extent.{Extent}
-use Rattle.peg_ford.specs.Form.{Form, Forms, Literal, Class, Any, Name, Optional, Plus, And, End, Then, terminals}
+use Rattle.peg_ford.specs.Form.{Form, Forms, Literal, Class, Any, Name, Optional, Plus, Counted, And, End, Then, terminals}
 use Rattle.peg_ford.specs.Form as written
 use Rattle.peg_ford.specs.Rules as grammar
 use Rattle.peg_ford.specs.WellFormed.{IsWellFormedIn, IsWellFormed, IsWellFormedGrammar, below, below_all, subexpressions}
-use Rattle.peg_core.specs.CoreForm.{CoreForm, Empty, Test, Seq, Choice, Star, Not, in_order, all_in_order, one_of, tests_of, core_form, core_forms, core_bodies}
+use Rattle.peg_core.specs.CoreForm.{CoreForm, Empty, Test, Seq, Choice, Star, Not, in_order, all_in_order, one_of, tests_of, unfolded, count_form, core_form, core_forms, core_bodies}
 use Rattle.peg_core.specs.CoreOutcomes.{IsCoreWellFormedIn, IsCoreWellFormed}
-use Rattle.peg_core.specs.CoreParts.{sequences_from, sequences_of, choices_of, optional_forms, plus_forms, and_forms, core_parts, core_parts_of_all, core_parts_from, all_core_parts}
+use Rattle.peg_core.specs.CoreParts.{sequences_from, sequences_of, choices_of, optional_forms, plus_forms, rounds_of, count_forms, and_forms, core_parts, core_parts_of_all, core_parts_from, all_core_parts}
 use Rattle.peg_core.specs.Subexpressions.{Numbered, numbered_as, numbered_below, numbered_below_all, numbered_in, numbered_from, numbered_subexpressions, core_stars, core_stars_of_all, core_stars_from, all_core_stars, is_star}
 use Rattle.peg_core.proofs.CoreRounds.{IsCoreWellFormedIn-later}
 use Rattle.peg_core.proofs.SugarWellFormed.{IsWellFormed-to_core, IsWellFormed-from_core}
@@ -39,6 +39,21 @@ choice-there parts first [] there = Contains-append_left parts [] first there
 choice-there parts first (next ∷ rest) there =
     Contains-append_right parts (choices_of first (next ∷ rest)) (one_of first (next ∷ rest))
     (Contains-push (choices_of next rest) (Choice first (one_of next rest)))
+
+-- what a count unfolds to is its last round, and a count's form is the last of its own
+round-there : (parts : List CoreForm) (part : CoreForm) (min max : ℕ)
+    → Contains (parts ++ rounds_of part min (suc max)) (unfolded part min (suc max))
+round-there parts part zero max =
+    Contains-append_right parts (rounds_of part zero (suc max)) (unfolded part zero (suc max))
+    (Contains-append_right (rounds_of part zero max) (Seq part (unfolded part zero max) ∷ unfolded part zero (suc max) ∷ [])
+    (unfolded part zero (suc max)) (Contains-push (Seq part (unfolded part zero max) ∷ []) (unfolded part zero (suc max))))
+round-there parts part (suc min) max =
+    Contains-append_right parts (rounds_of part (suc min) (suc max)) (unfolded part (suc min) (suc max))
+    (Contains-push (rounds_of part min max) (unfolded part (suc min) (suc max)))
+
+count-there : (part : CoreForm) (min max : ℕ) → Contains (count_forms part min max) (count_form part min max)
+count-there part min zero = Contains-push (Empty ∷ []) (Choice Empty part)
+count-there part min (suc max) = round-there (Empty ∷ []) part min max
 
 all-there : (forms : List CoreForm) → All (Contains forms) forms
 all-there [] = All-nil (Contains [])
@@ -110,6 +125,13 @@ module _ (rules : List grammar.Rule) where
         All-cons (Stands (parts ++ plus_forms form span)) (numbered_as t (Plus part span)) (numbered_in t part)
         (Contains-append_right parts (plus_forms form span) (Seq form (Star form span)) (Contains-push (Star form span ∷ []) (Seq form (Star form span))))
         (more-left parts (plus_forms form span) (numbered_in t part) (stand part t))
+    stand (Counted part min max span) t =
+        let parts = core_parts rules t part in
+        let form = core_form rules t part in
+        let own = count_forms form min max in
+        All-cons (Stands (parts ++ own)) (numbered_as t (Counted part min max span)) (numbered_in t part)
+        (Contains-append_right parts own (count_form form min max) (count-there form min max))
+        (more-left parts own (numbered_in t part) (stand part t))
     stand (And part span) t =
         let parts = core_parts rules t part in
         let form = core_form rules t part in
@@ -172,6 +194,7 @@ mutual
   forms_below (Optional part span) t = ap (λ l. part ∷ l) (forms_below part t)
   forms_below (written.Star part span) t = ap (λ l. part ∷ l) (forms_below part t)
   forms_below (Plus part span) t = ap (λ l. part ∷ l) (forms_below part t)
+  forms_below (Counted part min max span) t = ap (λ l. part ∷ l) (forms_below part t)
   forms_below (And part span) t = ap (λ l. part ∷ l) (forms_below part t)
   forms_below (written.Not part span) t = ap (λ l. part ∷ l) (forms_below part t)
 
@@ -216,6 +239,19 @@ no-choice first (next ∷ rest) =
     filter-append is_star (choices_of next rest) (Choice first (one_of next rest) ∷ [])
     ∙ (append-nil (filter is_star (choices_of next rest)) ∙ no-choice next rest)
 
+no-round : (part : CoreForm) (min max : ℕ) → filter is_star (rounds_of part min max) ≡ []
+no-round part min zero = refl
+no-round part zero (suc max) =
+    filter-append is_star (rounds_of part zero max) (Seq part (unfolded part zero max) ∷ unfolded part zero (suc max) ∷ [])
+    ∙ (append-nil (filter is_star (rounds_of part zero max)) ∙ no-round part zero max)
+no-round part (suc min) (suc max) =
+    filter-append is_star (rounds_of part min max) (unfolded part (suc min) (suc max) ∷ [])
+    ∙ (append-nil (filter is_star (rounds_of part min max)) ∙ no-round part min max)
+
+no-count : (part : CoreForm) (min max : ℕ) → filter is_star (count_forms part min max) ≡ []
+no-count part min zero = refl
+no-count part min (suc max) = no-round part min (suc max)
+
 -- forms without a star add none
 stars-only : (xs ys stars : List CoreForm) → filter is_star xs ≡ stars → filter is_star ys ≡ []
     → filter is_star (xs ++ ys) ≡ stars
@@ -248,6 +284,8 @@ module _ (rules : List grammar.Rule) where
         stars-both (core_parts rules t part) (Star (core_form rules t part) span ∷ []) (core_stars rules t part) (Star (core_form rules t part) span ∷ []) (stars part t) refl
     stars (Plus part span) t =
         stars-both (core_parts rules t part) (plus_forms (core_form rules t part) span) (core_stars rules t part) (Star (core_form rules t part) span ∷ []) (stars part t) refl
+    stars (Counted part min max span) t =
+        stars-only (core_parts rules t part) (count_forms (core_form rules t part) min max) (core_stars rules t part) (stars part t) (no-count (core_form rules t part) min max)
     stars (And part span) t =
         stars-only (core_parts rules t part) (and_forms (core_form rules t part)) (core_stars rules t part) (stars part t) refl
     stars (written.Not part span) t =
@@ -345,6 +383,33 @@ module _ (rules : List grammar.Rule) where
       All-push Right (choices_of next rest) (Choice first (one_of next rest))
       (right-choices next rest (All-tail Right first (next ∷ rest) all)) (right-one_of first (next ∷ rest) all)
 
+  right-unfolded : (part : CoreForm) → Right part → (min max : ℕ) → Right (unfolded part min max)
+  right-unfolded part h min zero = right-Empty
+  right-unfolded part h zero (suc max) =
+      right-Choice (Seq part (unfolded part zero max)) Empty
+      (right-Seq part (unfolded part zero max) h (right-unfolded part h zero max)) right-Empty
+  right-unfolded part h (suc min) (suc max) =
+      right-Seq part (unfolded part min max) h (right-unfolded part h min max)
+
+  right-rounds : (part : CoreForm) → Right part → (min max : ℕ) → All Right (rounds_of part min max)
+  right-rounds part h min zero = All-nil Right
+  right-rounds part h zero (suc max) =
+      let round = Seq part (unfolded part zero max) in
+      All-append Right (rounds_of part zero max) (round ∷ unfolded part zero (suc max) ∷ []) (right-rounds part h zero max)
+      (All-cons Right round (unfolded part zero (suc max) ∷ [])
+      (right-Seq part (unfolded part zero max) h (right-unfolded part h zero max))
+      (All-cons Right (unfolded part zero (suc max)) [] (right-unfolded part h zero (suc max)) (All-nil Right)))
+  right-rounds part h (suc min) (suc max) =
+      All-push Right (rounds_of part min max) (unfolded part (suc min) (suc max)) (right-rounds part h min max)
+      (right-unfolded part h (suc min) (suc max))
+
+  right-count : (part : CoreForm) → Right part → (min max : ℕ) → All Right (count_forms part min max)
+  right-count part h min zero =
+      All-cons Right Empty (Choice Empty part ∷ []) right-Empty
+      (All-cons Right (Choice Empty part) [] (right-Choice Empty part right-Empty h) (All-nil Right))
+  right-count part h min (suc max) =
+      All-cons Right Empty (rounds_of part min (suc max)) right-Empty (right-rounds part h min (suc max))
+
   abbrev Fine : Form → Type 0
   Fine e = IsWellFormed rules e
 
@@ -407,6 +472,12 @@ module _ (rules : List grammar.Rule) where
         All-append Right (core_parts rules t part) (plus_forms form span) (rights part t fine)
         (All-cons Right (Star form span) (Seq form (Star form span) ∷ []) (fine-right (written.Star part span) t (plus-star part span here))
         (All-cons Right (Seq form (Star form span)) [] (fine-right plus t here) (All-nil Right)))
+    rights (Counted part min max span) t all =
+        let fine = All-tail Fine (Counted part min max span) (subexpressions part) all in
+        let form = core_form rules t part in
+        let right = fine-right part t (All-head Fine part (below part) fine) in
+        All-append Right (core_parts rules t part) (count_forms form min max) (rights part t fine)
+        (right-count form right min max)
     rights (And part span) t all =
         let fine = All-tail Fine (And part span) (subexpressions part) all in
         let form = core_form rules t part in

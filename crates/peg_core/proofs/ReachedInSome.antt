@@ -1,10 +1,11 @@
 -- How records of parts that are reached in some n make records of the whole that are reached in some n: one rule for each
 -- combinator of the recognition table, for written expressions and core forms alike.
-use Rattle.std.proofs.Common.{◌≡◌, ℕ, zero, suc, ◌+◌, Option, None, Some, refl, sym, ap, ◌∙◌, subst, option_map, option_and_then, append-nil, zero-add, suc-add, add_comm}
-use Rattle.peg_tree.specs.Trees.{NoTrees}
+use Rattle.std.proofs.Common.{◌≡◌, ◌≢◌, ℕ, zero, suc, ◌+◌, Option, None, Some, refl, sym, ap, ◌∙◌, subst, option_map, option_and_then, append-nil, zero-add, suc-add, add_comm}
+use Rattle.peg_tree.specs.Trees.{Trees, NoTrees}
 use Rattle.peg_tree.specs.TreesCode.{followed_by-none}
-use Rattle.peg_ford.specs.Record.{Recognition, Failed, Matched, Record, after_both, behind, followed, then_at, replaced, or_else, repeated, matched_at, if_matched, if_failed, with_result}
+use Rattle.peg_ford.specs.Record.{Recognition, Failed, Matched, Record, after_both, behind, followed, then_at, replaced, or_else, repeated, matched_at, if_matched, if_failed, with_result, take_times}
 use Rattle.peg_ford.proofs.RecordLemmas.{Extends}
+use Rattle.peg_ford.proofs.ResultSteps.{rounds_cases, some_case}
 
 -- answers, one for each n, that stay
 abbrev pub Grows : (ℕ → Option Record) → Type 0
@@ -161,6 +162,50 @@ behind-none (Matched end trees) = refl
 
 pub after_both-nothing : (end : ℕ) (p : Record) → after_both (matched_at end) p (behind NoTrees p.result) ≡ p
 after_both-nothing end p = λ i. record { result = behind-none p.result i; tests = p.tests; uses = p.uses }
+
+-- ---- a part at most so many times is the part and the rest, or else nothing
+
+-- a match behind another is one
+behind-matches : (trees : Trees) (x : Recognition) → x ≢ Failed → behind trees x ≢ Failed
+behind-matches trees Failed matches is = matches refl
+behind-matches trees (Matched end more) matches is = cc
+
+-- at most so many times is never too few
+times-match : (take : ℕ → Option Record) (max place : ℕ) (r : Record) → take_times take zero max place ≡ Some r
+    → r.result ≢ Failed
+times-match take zero place r is = some_case (λ x. x ≢ Failed) (matched_at place) r (λ bad. cc) is
+times-match take (suc max) place r is =
+    rounds_cases (λ x. x ≢ Failed) (take place) place (λ end. take_times take zero max end) r (λ part e f bad. cc)
+    (λ part more end trees e f g. behind-matches trees more.result (times-match take max end more g)) is
+
+-- so the round that matched stands as it is
+round-stands : (x : Recognition) → x ≢ Failed → (r : Record) (other : Option Record) → replaced x r other ≡ Some r
+round-stands Failed matches r other = absurd (matches refl)
+round-stands (Matched end trees) matches r other = refl
+
+pub rounds-times : (take : ℕ → Option Record) (max place : ℕ) (tried : Option Record)
+    → option_and_then (λ (round : Record). repeated round.result place round (λ end. take_times take zero max end)) tried
+    ≡ or_else (then_at tried (λ end. take_times take zero max end)) (Some (matched_at place))
+rounds-times take max place None = refl
+rounds-times take max place (Some round) = by round.result refl
+  where
+    next : ℕ → Option Record
+    next end = take_times take zero max end
+
+    matched : (end : ℕ) (trees : Trees) (o : Option Record) → next end ≡ o
+        → option_map (λ more. after_both round more (behind trees more.result)) o
+        ≡ or_else (option_map (λ more. after_both round more (behind trees more.result)) o) (Some (matched_at place))
+    matched end trees None is = refl
+    matched end trees (Some more) is =
+        let both = after_both round more (behind trees more.result) in
+        sym
+        (round-stands both.result (behind-matches trees more.result (times-match take max end more is)) both
+        (Some (matched_at place)))
+
+    by : (x : Recognition) → round.result ≡ x
+        → repeated x place round next ≡ or_else (followed x round next) (Some (matched_at place))
+    by Failed is = ap (λ x. replaced x round (Some (matched_at place))) (sym is)
+    by (Matched end trees) is = matched end trees (next end) refl
 
 -- the predicate of the predicate
 abbrev pub unless : ℕ → Record → Record

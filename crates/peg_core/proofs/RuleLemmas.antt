@@ -4,16 +4,16 @@ use Rattle.std.specs.List.{list_all}
 use Rattle.std.proofs.lemmas.List.{map-append}
 use Rattle.std.proofs.lemmas.List.Elements.{All-nil, All-push}
 use Rattle.std.proofs.lemmas.List.Sums.{sum_by-cons}
-use Rattle.peg_ford.specs.Form.{Form, Reference, terminals, form_weight}
-use Rattle.peg_ford.specs.Grammar.{IsGrammar}
-use Rattle.peg_ford.specs.Rules.{Rule, uses, is_defined, weight_of}
+use Rattle.peg_ford.specs.Form.{Form, Reference, counts_written, terminals, form_weight}
+use Rattle.peg_ford.specs.Grammar.{IsGrammar, is_in_range}
+use Rattle.peg_ford.specs.Rules.{Rule, counts, uses, is_defined, weight_of}
 use Rattle.peg_ford.specs.Terminals.{terminal_extents, extents_of_terminals}
 use Rattle.peg_ford.proofs.GrammarLemmas.{searches_from_IsGrammar}
 use Rattle.peg_core.specs.CoreForm.{core_form, core_bodies_from, core_bodies}
-use Rattle.peg_core.specs.CoreParts.{core_parts, core_parts_from, all_core_parts, are_defined}
+use Rattle.peg_core.specs.CoreParts.{core_parts, core_parts_from, all_core_parts, are_defined, are_in_range}
 use Rattle.peg_core.specs.Laid.{LaysForm}
-use Rattle.peg_core.specs.Layout.{Layout, form_at}
-use Rattle.peg_core.proofs.AddLemmas.{LaysForm-spans, length-core_parts}
+use Rattle.peg_core.specs.Layout.{Layout, form_at, most_forms_each}
+use Rattle.peg_core.proofs.AddLemmas.{LaysForm-spans, length-core_parts, are_in_range-left, are_in_range-right}
 use Rattle.peg_core.proofs.LaidLemmas.{forms-kept, all_within-grown}
 
 -- how much the expressions of rules weigh
@@ -30,14 +30,14 @@ rules-drop (r ∷ rs) (suc i) e is =
 
 -- ---- names
 
--- where no reference fails a test, all pass it
-all_pass : (p : Reference → Bool) (references : List Reference) → find (λ (r : Reference). not (p r)) references ≡ None
-    → list_all p references ≡ true
+-- where none fails a test, all pass it
+all_pass : {X : Type 0} (p : X → Bool) (some : List X) → find (λ (x : X). not (p x)) some ≡ None
+    → list_all p some ≡ true
 all_pass p [] none = refl
-all_pass p (r ∷ rs) none = by (p r) refl none (all_pass p rs)
+all_pass {X} p (r ∷ rs) none = by (p r) refl none (all_pass p rs)
   where
-    by : (b : Bool) → p r ≡ b → cond (not b) (Some r) (find (λ (r : Reference). not (p r)) rs) ≡ None
-        → (find (λ (r : Reference). not (p r)) rs ≡ None → list_all p rs ≡ true)
+    by : (b : Bool) → p r ≡ b → cond (not b) (Some r) (find (λ (x : X). not (p x)) rs) ≡ None
+        → (find (λ (x : X). not (p x)) rs ≡ None → list_all p rs ≡ true)
         → list_all p (r ∷ rs) ≡ true
     by true is none later = ap (λ b. b && list_all p rs) is ∙ later none
     by false is none later = cc
@@ -47,17 +47,24 @@ pub grammar-defined : (rules : List Rule) → IsGrammar rules → are_defined ru
 grammar-defined rules grammar =
     all_pass (λ (r : Reference). is_defined rules r.name) (uses rules) (searches_from_IsGrammar rules grammar).2
 
+-- and its counts are in range
+pub grammar-ranged : (rules : List Rule) → IsGrammar rules → are_in_range (counts rules) ≡ true
+grammar-ranged rules grammar = all_pass is_in_range (counts rules) (searches_from_IsGrammar rules grammar).3
+
 -- ---- how many core forms there are
 
-length-core_parts_from : (rules : List Rule) (terminal : ℕ) (some : List Rule)
-    → length (core_parts_from rules terminal some) ≤ 2 * body_weights some
-length-core_parts_from rules terminal [] = omega arith
-length-core_parts_from rules terminal (r ∷ rs) =
+length-core_parts_from : (rules : List Rule) (terminal : ℕ) (some : List Rule) → are_in_range (counts some) ≡ true
+    → length (core_parts_from rules terminal some) ≤ most_forms_each * body_weights some
+length-core_parts_from rules terminal [] ranged = omega arith
+length-core_parts_from rules terminal (r ∷ rs) ranged =
     let later = terminal + terminals r.body in
-    omega (arith, length-core_parts rules r.body terminal, length-core_parts_from rules later rs, length-append (core_parts rules terminal r.body) (core_parts_from rules later rs), sum_by-cons (λ (rule : Rule). form_weight rule.body) r rs)
+    let here = are_in_range-left (counts_written r.body) (counts rs) ranged in
+    let behind = are_in_range-right (counts_written r.body) (counts rs) ranged in
+    omega (arith, length-core_parts rules r.body terminal here, length-core_parts_from rules later rs behind, length-append (core_parts rules terminal r.body) (core_parts_from rules later rs), sum_by-cons (λ (rule : Rule). form_weight rule.body) r rs)
 
-pub length-all_core_parts : (rules : List Rule) → length (all_core_parts rules) ≤ 2 * weight_of rules
-length-all_core_parts rules = omega (arith, length-core_parts_from rules 0 rules)
+pub length-all_core_parts : (rules : List Rule) → are_in_range (counts rules) ≡ true
+    → length (all_core_parts rules) ≤ most_forms_each * weight_of rules
+length-all_core_parts rules ranged = omega (arith, length-core_parts_from rules 0 rules ranged)
 
 -- ---- rule by rule
 

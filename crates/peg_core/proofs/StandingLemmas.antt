@@ -1,12 +1,12 @@
 -- Each core form of a grammar stands in the body of a rule.
-use Rattle.std.proofs.Common.{ℕ, suc, ◌+◌, ◌⊎◌, inl, inr, All, List, [], ◌∷◌, ◌++◌, refl}
+use Rattle.std.proofs.Common.{ℕ, zero, suc, ◌+◌, ◌⊎◌, inl, inr, All, List, [], ◌∷◌, ◌++◌, refl}
 use Rattle.std.proofs.lemmas.List.Elements.{All-nil, All-cons, All-append, All-weaker}
 use Rattle.peg_ford.specs.Form.{Form, Forms, End, Then, terminals}
 use Rattle.peg_ford.specs.Form as written
 use Rattle.peg_ford.specs.Rules.{Rule as WrittenRule}
-use Rattle.peg_core.specs.CoreForm.{CoreForm, Empty, Test, Rule, Seq, Choice, Star, Not, in_order, all_in_order, one_of, tests_of, core_form, core_forms, core_bodies, core_bodies_from}
+use Rattle.peg_core.specs.CoreForm.{CoreForm, Empty, Test, Rule, Seq, Choice, Star, Not, in_order, all_in_order, one_of, tests_of, unfolded, count_form, core_form, core_forms, core_bodies, core_bodies_from}
 use Rattle.peg_core.specs.CoreLoops.{StandsIn, StandsInBody}
-use Rattle.peg_core.specs.CoreParts.{sequences_from, sequences_of, choices_of, core_parts, core_parts_of_all, core_parts_from, all_core_parts}
+use Rattle.peg_core.specs.CoreParts.{sequences_from, sequences_of, choices_of, rounds_of, count_forms, core_parts, core_parts_of_all, core_parts_from, all_core_parts}
 
 pub stands-itself : (form : CoreForm) → StandsIn form form
 stands-itself Empty = refl
@@ -74,6 +74,45 @@ choices_of-stand first (next ∷ rest) =
     (All-weaker (λ form. StandsIn form (one_of next rest)) P (λ form h. inr (inr h)) (choices_of next rest) (choices_of-stand next rest))
     (one-stands P (one_of first (next ∷ rest)) (inl refl))
 
+-- ---- in counts
+
+in-count : (part : CoreForm) (min max : ℕ) (form : CoreForm) → StandsIn form part → StandsIn form (count_form part min max)
+in-count part min zero form h = inr (inr h)
+in-count part zero (suc max) form h = inr (inl (inr (inl h)))
+in-count part (suc min) (suc max) form h = inr (inl h)
+
+empty-in : (part : CoreForm) (min max : ℕ) → StandsIn Empty (unfolded part min max)
+empty-in part min zero = refl
+empty-in part zero (suc max) = inr (inr refl)
+empty-in part (suc min) (suc max) = inr (inr (empty-in part min max))
+
+rounds_of-stand : (part : CoreForm) (min max : ℕ)
+    → All (λ form. StandsIn form (unfolded part min max)) (rounds_of part min max)
+rounds_of-stand part min zero = All-nil (λ form. StandsIn form Empty)
+rounds_of-stand part zero (suc max) =
+    let inner = unfolded part zero max in
+    let whole = unfolded part zero (suc max) in
+    let P = λ (form : CoreForm). StandsIn form whole in
+    All-append P (rounds_of part zero max) (Seq part inner ∷ whole ∷ [])
+    (All-weaker (λ form. StandsIn form inner) P (λ form h. inr (inl (inr (inr h)))) (rounds_of part zero max) (rounds_of-stand part zero max))
+    (All-cons P (Seq part inner) (whole ∷ []) (inr (inl (inl refl))) (one-stands P whole (inl refl)))
+rounds_of-stand part (suc min) (suc max) =
+    let inner = unfolded part min max in
+    let whole = unfolded part (suc min) (suc max) in
+    let P = λ (form : CoreForm). StandsIn form whole in
+    All-append P (rounds_of part min max) (whole ∷ [])
+    (All-weaker (λ form. StandsIn form inner) P (λ form h. inr (inr h)) (rounds_of part min max) (rounds_of-stand part min max))
+    (one-stands P whole (inl refl))
+
+count_forms-stand : (part : CoreForm) (min max : ℕ)
+    → All (λ form. StandsIn form (count_form part min max)) (count_forms part min max)
+count_forms-stand part min zero =
+    let P = λ (form : CoreForm). StandsIn form (Choice Empty part) in
+    All-cons P Empty (Choice Empty part ∷ []) (inr (inl refl)) (one-stands P (Choice Empty part) (inl refl))
+count_forms-stand part min (suc max) =
+    All-cons (λ form. StandsIn form (unfolded part min (suc max))) Empty (rounds_of part min (suc max))
+    (empty-in part min (suc max)) (rounds_of-stand part min (suc max))
+
 -- ---- of an expression, and of all rules
 
 module _ (rules : List WrittenRule) where
@@ -130,6 +169,12 @@ module _ (rules : List WrittenRule) where
         All-append P (core_parts rules terminal part) (again ∷ Seq one again ∷ [])
         (All-weaker (λ form. StandsIn form one) P (λ form h. inr (inl h)) (core_parts rules terminal part) (parts-stand terminal part))
         (All-cons P again (Seq one again ∷ []) (inr (inr (inl refl))) (one-stands P (Seq one again) (inl refl)))
+    parts-stand terminal (written.Counted part min max span) =
+        let one = core_form rules terminal part in
+        let P = λ (form : CoreForm). StandsIn form (count_form one min max) in
+        All-append P (core_parts rules terminal part) (count_forms one min max)
+        (All-weaker (λ form. StandsIn form one) P (λ form h. in-count one min max form h) (core_parts rules terminal part) (parts-stand terminal part))
+        (count_forms-stand one min max)
     parts-stand terminal (written.And part span) =
         let one = core_form rules terminal part in
         let P = λ (form : CoreForm). StandsIn form (Not (Not one)) in

@@ -1,16 +1,16 @@
 -- The empty loops of a rule are the same on written expressions and on their core forms.
-use Rattle.std.proofs.Common.{◌≡◌, ◌⊎◌, inl, inr, ℕ, ◌+◌, List, [], ◌∷◌, ◌++◌, All, Contains}
+use Rattle.std.proofs.Common.{◌≡◌, ◌⊎◌, inl, inr, ℕ, zero, suc, ◌+◌, List, [], ◌∷◌, ◌++◌, All, Contains}
 use Rattle.std.proofs.Common.{Option, None, Some, slice_get, refl, sym, ap, ◌∙◌, subst}
 use Rattle.std.proofs.lemmas.List.Elements.{All-contains, All-weaker, All-map, Contains-append_left}
 use Rattle.std.proofs.lemmas.List.Elements.{Contains-append_right, Contains-push}
 use Rattle.peg_bytes.specs.Extent.{Extent}
-use Rattle.peg_ford.specs.Form.{Form, Forms, Literal, Class, Any, Name, Optional, Plus, And, End, Then, terminals}
+use Rattle.peg_ford.specs.Form.{Form, Forms, Literal, Class, Any, Name, Optional, Plus, Counted, And, End, Then, terminals}
 use Rattle.peg_ford.specs.Form as written_form
 use Rattle.peg_ford.specs.Loops.{WritesLoop, IsEmptyLoop}
 use Rattle.peg_ford.specs.Rules as grammar
 use Rattle.peg_ford.specs.WellFormed.{below, below_all, subexpressions}
 use Rattle.peg_core.specs.CoreForm.{CoreForm, Empty, Test, Rule, Seq, Choice, Star, Not, in_order, all_in_order, one_of}
-use Rattle.peg_core.specs.CoreForm.{tests_of}
+use Rattle.peg_core.specs.CoreForm.{tests_of, unfolded, count_form}
 use Rattle.peg_core.specs.CoreForm.{core_form, core_forms, core_bodies}
 use Rattle.peg_core.specs.CoreLoops.{StandsIn, IsCoreEmptyLoop}
 use Rattle.peg_core.specs.CoreOutcomes.{CoreGivesNothing, BodyIs}
@@ -103,6 +103,24 @@ module _ (part : CoreForm) (origin : Extent) where
   not-test terminal (b ∷ bs) (inl is) = cc
   not-test terminal (b ∷ bs) (inr there) = not-test terminal bs there
 
+  -- a star in a count stands in its part
+  unfolded-part : (round : CoreForm) (min max : ℕ) → StandsIn star (unfolded round min max) → StandsIn star round
+  unfolded-part round min zero is = cc
+  unfolded-part round zero (suc max) (inl is) = cc
+  unfolded-part round zero (suc max) (inr (inl (inl is))) = cc
+  unfolded-part round zero (suc max) (inr (inl (inr (inl here)))) = here
+  unfolded-part round zero (suc max) (inr (inl (inr (inr there)))) = unfolded-part round zero max there
+  unfolded-part round zero (suc max) (inr (inr is)) = cc
+  unfolded-part round (suc min) (suc max) (inl is) = cc
+  unfolded-part round (suc min) (suc max) (inr (inl here)) = here
+  unfolded-part round (suc min) (suc max) (inr (inr there)) = unfolded-part round min max there
+
+  count-part : (round : CoreForm) (min max : ℕ) → StandsIn star (count_form round min max) → StandsIn star round
+  count-part round min zero (inl is) = cc
+  count-part round min zero (inr (inl is)) = cc
+  count-part round min zero (inr (inr here)) = here
+  count-part round min (suc max) stands = unfolded-part round min (suc max) stands
+
   module _ (rules : List grammar.Rule) where
     -- the star is that of a loop among these expressions
     abbrev ComesOf : List Form → Type 0
@@ -174,6 +192,9 @@ module _ (part : CoreForm) (origin : Extent) where
       star-comes (Plus e span) terminal (inr (inr (inl is))) = from-plus e span terminal is
       star-comes (Plus e span) terminal (inr (inr (inr here))) =
           comes-below (Plus e span) (subexpressions e) (star-comes e terminal here)
+      star-comes (Counted e min max span) terminal stands =
+          comes-below (Counted e min max span) (subexpressions e)
+          (star-comes e terminal (count-part (core_form rules terminal e) min max stands))
       star-comes (And e span) terminal (inl is) = cc
       star-comes (And e span) terminal (inr (inl is)) = cc
       star-comes (And e span) terminal (inr (inr here)) =

@@ -3,13 +3,13 @@ use Rattle.std.proofs.Common.{◌≡◌, ◌⊎◌, inl, inr, ℕ, zero, suc, �
 use Rattle.std.proofs.Common.{Option, None, Some, option_map, unwrap_or, slice_get, refl, sym, ap, ◌∙◌, subst, arith}
 use Rattle.std.proofs.lemmas.Option.{slice_get_within}
 use Rattle.peg_ford.specs.AbstractOutcomes.{GivesNothing}
-use Rattle.peg_ford.specs.Form.{Form, Forms, Literal, Class, Any, Name, Optional, Plus, And, End, Then, terminals}
+use Rattle.peg_ford.specs.Form.{Form, Forms, Literal, Class, Any, Name, Optional, Plus, Counted, And, End, Then, terminals}
 use Rattle.peg_ford.specs.Form as written_form
 use Rattle.peg_ford.specs.Loops.{Reaches, ItemsReach, SomeReaches, MeetsFirst, MeetInTurn, IsLeftCycle}
 use Rattle.peg_ford.specs.Rules.{Meaning, meant}
 use Rattle.peg_ford.specs.Rules as grammar
 use Rattle.peg_bytes.specs.ByteSet.{only}
-use Rattle.peg_core.specs.CoreForm.{CoreForm, Test, in_order, all_in_order, one_of, tests_of, number_of}
+use Rattle.peg_core.specs.CoreForm.{CoreForm, Test, in_order, all_in_order, one_of, tests_of, unfolded, count_form, number_of}
 use Rattle.peg_core.specs.CoreForm.{core_form, core_forms, core_bodies_from, core_bodies}
 use Rattle.peg_core.specs.CoreLoops.{CoreMeets, CoreMeetsFirst, CoreMeetInTurn, IsCoreLeftCycle}
 use Rattle.peg_core.specs.CoreOutcomes.{CoreGivesNothing, BodyIs}
@@ -55,6 +55,28 @@ module _ (bodies : List CoreForm) (rule : ℕ) where
         | inr there ↦ tests-meet terminal bs there.1
       ]
 
+  -- a count meets what its part does
+  count-to : (part : CoreForm) (min max : ℕ) → CoreMeets bodies part rule → CoreMeets bodies (count_form part min max) rule
+  count-to part min zero meets = inr meets
+  count-to part zero (suc max) meets = inl (inl meets)
+  count-to part (suc min) (suc max) meets = inl meets
+
+  unfolded-from : (part : CoreForm) (min max : ℕ) → CoreMeets bodies (unfolded part min max) rule
+      → CoreMeets bodies part rule
+  unfolded-from part min zero meets = absurd meets
+  unfolded-from part zero (suc max) meets =
+      elim meets [
+        | inl round ↦ elim round [ inl here ↦ here | inr there ↦ unfolded-from part zero max there.1 ]
+        | inr nothing ↦ absurd nothing
+      ]
+  unfolded-from part (suc min) (suc max) meets =
+      elim meets [ inl here ↦ here | inr there ↦ unfolded-from part min max there.1 ]
+
+  count-from : (part : CoreForm) (min max : ℕ) → CoreMeets bodies (count_form part min max) rule
+      → CoreMeets bodies part rule
+  count-from part min zero meets = elim meets [ inl nothing ↦ absurd nothing | inr here ↦ here ]
+  count-from part min (suc max) meets = unfolded-from part min (suc max) meets
+
 -- ---- from an expression a name is reached where its rule is met from the core form
 
 module _ (rules : List grammar.Rule) where
@@ -85,6 +107,8 @@ module _ (rules : List grammar.Rule) where
       reached-met (Optional part span) terminal reached = inl (reached-met part terminal reached)
       reached-met (written_form.Star part span) terminal reached = reached-met part terminal reached
       reached-met (Plus part span) terminal reached = inl (reached-met part terminal reached)
+      reached-met (Counted part min max span) terminal reached =
+          count-to bodies number (core_form rules terminal part) min max (reached-met part terminal reached)
       reached-met (And part span) terminal reached = reached-met part terminal reached
       reached-met (written_form.Not part span) terminal reached = reached-met part terminal reached
 
@@ -137,6 +161,8 @@ module _ (rules : List grammar.Rule) where
       met-reached (written_form.Star part span) terminal meets = met-reached part terminal meets
       met-reached (Plus part span) terminal meets =
           elim meets [ inl here ↦ met-reached part terminal here | inr there ↦ met-reached part terminal there.1 ]
+      met-reached (Counted part min max span) terminal meets =
+          met-reached part terminal (count-from bodies rule (core_form rules terminal part) min max meets)
       met-reached (And part span) terminal meets = met-reached part terminal meets
       met-reached (written_form.Not part span) terminal meets = met-reached part terminal meets
 

@@ -2,13 +2,13 @@
 use Rattle.std.proofs.Common.{◌≡◌, ℕ, zero, suc, ◌+◌, Bool, true, false, List, [], ◌∷◌, Option, None, Some, refl, sym, ap, subst, slice_get, zero-add, suc-add, add_comm}
 use Rattle.peg_bytes.specs.ByteSet.{only, all_bytes}
 use Rattle.peg_bytes.specs.Extent.{Extent}
-use Rattle.peg_ford.specs.AbstractOutcomes.{Can, CanAll, cannot, only_nothing, something_or_fails, can_of_set, both, either, or_nothing, again, once_and_again, ahead, not_ahead, judge_items, judge_first, judge_meaning, can_table, can_in, GivesNothing, GivesSomething, CanFail}
-use Rattle.peg_ford.specs.Form.{Form, Forms, Literal, Class, Any, Name, Optional, Plus, And, End, Then, terminals}
+use Rattle.peg_ford.specs.AbstractOutcomes.{Can, CanAll, cannot, only_nothing, something_or_fails, can_of_set, both, either, or_nothing, again, once_and_again, times, ahead, not_ahead, judge_items, judge_first, judge_meaning, can_table, can_in, GivesNothing, GivesSomething, CanFail}
+use Rattle.peg_ford.specs.Form.{Form, Forms, Literal, Class, Any, Name, Optional, Plus, Counted, And, End, Then, terminals}
 use Rattle.peg_ford.specs.Form as written_form
 use Rattle.peg_ford.specs.Rules.{Meaning, meant}
 use Rattle.peg_ford.specs.Rules as grammar
-use Rattle.peg_ford.proofs.RoundsLemmas.{CanAll-refl, CanAll-trans, CanAll-cannot, CanAll-both, CanAll-either, CanAll-again, CanAll-not_ahead, CanAll-items, CanAll-first, can_in-more}
-use Rattle.peg_core.specs.CoreForm.{CoreForm, Empty, Test, Rule, Seq, Choice, Star, Not, in_order, all_in_order, one_of, tests_of, number_of, core_form, core_forms, core_bodies}
+use Rattle.peg_ford.proofs.RoundsLemmas.{CanAll-refl, CanAll-trans, CanAll-cannot, CanAll-both, CanAll-either, CanAll-again, CanAll-times, CanAll-not_ahead, CanAll-items, CanAll-first, can_in-more}
+use Rattle.peg_core.specs.CoreForm.{CoreForm, Empty, Test, Rule, Seq, Choice, Star, Not, in_order, all_in_order, one_of, tests_of, unfolded, count_form, number_of, core_form, core_forms, core_bodies}
 use Rattle.peg_core.specs.CoreOutcomes.{judge_body, core_can_table, core_can_in, CoreGivesNothing, CoreGivesSomething, CoreCanFail}
 use Rattle.peg_core.proofs.CoreRounds.{core_can_in-more}
 use Rattle.peg_core.proofs.Meanings.{body-meant, body-unmeant}
@@ -186,6 +186,24 @@ module _ (rules : List grammar.Rule) where
   unfolding core_can_in
   core-Not part a h = Shows-shift (not_ahead a) (core (Not part)) (h.0, CanAll-not_ahead a (core part h.0) h.1)
 
+  -- a count, round in round
+  core-unfolded : (part : CoreForm) (a : Can) → Shows a (core part) → (min max : ℕ)
+      → Shows (times a min max) (core (unfolded part min max))
+  core-unfolded part a h min zero = core-Empty
+  core-unfolded part a h zero (suc max) =
+      let inner = unfolded part zero max in
+      let round = both a (times a zero max) in
+      Shows-from (or_nothing round) (either round only_nothing) (core (Choice (Seq part inner) Empty)) (or_nothing-either round)
+      (core-Choice (Seq part inner) Empty round only_nothing
+      (core-Seq part inner a (times a zero max) h (core-unfolded part a h zero max)) core-Empty)
+  core-unfolded part a h (suc min) (suc max) =
+      core-Seq part (unfolded part min max) a (times a min max) h (core-unfolded part a h min max)
+
+  core-count : (part : CoreForm) (a : Can) → Shows a (core part) → (min max : ℕ)
+      → Shows (times a min max) (core (count_form part min max))
+  core-count part a h min zero = core-Choice Empty part only_nothing a core-Empty h
+  core-count part a h min (suc max) = core-unfolded part a h min (suc max)
+
   -- the tests of a literal
   to_tests : (b : ℕ) (bs : List ℕ) (terminal : ℕ)
       → Shows something_or_fails (core (in_order (Test (only b) terminal) (tests_of terminal bs)))
@@ -256,6 +274,8 @@ module _ (rules : List grammar.Rule) where
         let form = core_form rules terminal part in
         Shows-from (once_and_again a) (both a (again a)) (core (Seq form (Star form span))) (once_and_again-both a)
         (core-Seq form (Star form span) a (again a) (h part terminal) (core-Star form span a (h part terminal)))
+    to_core-table (Counted part min max span) terminal =
+        core-count (core_form rules terminal part) (can_in rules n part) (h part terminal) min max
     to_core-table (And part span) terminal =
         let a = can_in rules n part in
         let form = core_form rules terminal part in
@@ -313,6 +333,43 @@ module _ (rules : List grammar.Rule) where
       Shows-both (core (Test (only b) terminal) n) (core rest n) (λ m. something_or_fails) (λ m. something_or_fails)
       (λ m. CanAll-refl something_or_fails) (λ m. CanAll-refl something_or_fails) (one_test n b terminal)
       (from_tests n c bs terminal)
+
+  -- what is shown in one round of a part is shown of what it can do in fewer
+  sooner : (part : CoreForm) (f : ℕ → Can) (n : ℕ) → Shows (core part (suc n)) f → Shows (core part n) f
+  sooner part f n h = (h.0, CanAll-trans (core part n) (core part (suc n)) (f h.0) (core-grows part n) h.1)
+
+  -- a count, round in round, in any number of rounds
+  from_unfolded : (part : CoreForm) (f : ℕ → Can) → Grows f → (min max n : ℕ) → Shows (core part n) f
+      → Shows (core (unfolded part min max) n) (λ m. times (f m) min max)
+  unfolding core_can_in
+  from_unfolded part f grows min zero n h = from_empty n
+  from_unfolded part f grows zero (suc max) zero h = Shows-cannot (λ m. times (f m) zero (suc max))
+  from_unfolded part f grows zero (suc max) (suc zero) h = Shows-cannot (λ m. times (f m) zero (suc max))
+  from_unfolded part f grows zero (suc max) (suc (suc n)) h =
+      let a = core part n in
+      let b = core (unfolded part zero max) n in
+      let k = sooner part f n (sooner part f (suc n) h) in
+      let round = λ (m : ℕ). both (f m) (times (f m) zero max) in
+      let inner = from_unfolded part f grows zero max n k in
+      Shows-same (either (both a b) only_nothing) (λ m. either (round m) only_nothing) (λ m. or_nothing (round m))
+      (λ m. sym (or_nothing-either (round m)))
+      (Shows-either (both a b) only_nothing round (λ m. only_nothing)
+      (λ m. CanAll-both (f m) (times (f m) zero max) (f (suc m)) (times (f (suc m)) zero max) (grows m)
+      (CanAll-times (f m) (f (suc m)) (grows m) zero max)) (λ m. CanAll-refl only_nothing)
+      (Shows-both a b f (λ m. times (f m) zero max) grows (λ m. CanAll-times (f m) (f (suc m)) (grows m) zero max) k inner)
+      (Shows-constant only_nothing))
+  from_unfolded part f grows (suc min) (suc max) zero h = Shows-cannot (λ m. times (f m) (suc min) (suc max))
+  from_unfolded part f grows (suc min) (suc max) (suc n) h =
+      let k = sooner part f n h in
+      Shows-both (core part n) (core (unfolded part min max) n) f (λ m. times (f m) min max) grows
+      (λ m. CanAll-times (f m) (f (suc m)) (grows m) min max) k (from_unfolded part f grows min max n k)
+
+  from_count : (part : CoreForm) (f : ℕ → Can) → Grows f → (min max n : ℕ) → Shows (tabled n part) f
+      → Shows (tabled n (count_form part min max)) (λ m. times (f m) min max)
+  unfolding core_can_in
+  from_count part f grows min zero zero h = Shows-cannot (λ m. only_nothing)
+  from_count part f grows min zero (suc n) h = Shows-constant only_nothing
+  from_count part f grows min (suc max) n h = from_unfolded part f grows min (suc max) (suc n) h
 
   -- items and alternatives of written expressions, by rounds
   abbrev items_in : Forms → ℕ → Can
@@ -399,6 +456,10 @@ module _ (rules : List grammar.Rule) where
           (Shows-both a b (written part) (λ m. again (written part m)) (written-grows part)
           (λ m. CanAll-again (written part m) (written part (suc m)) (written-grows part m)) (h part terminal)
           (unshown star b (h star terminal))))
+      from_core-table (Counted part min max span) terminal =
+          let form = core_form rules terminal part in
+          shown (Counted part min max span) (tabled n (count_form form min max))
+          (from_count form (written part) (written-grows part) min max n (from_core-table part terminal))
       from_core-table (And part span) terminal =
           let not : Form = written_form.Not part span in
           let b = core (core_form rules terminal not) n in

@@ -6,17 +6,17 @@ use Rattle.std.proofs.lemmas.List.{drop-drop}
 use Rattle.std.proofs.lemmas.List.Elements.{All-drop, All-head}
 use Rattle.peg_bytes.specs.ByteSet.{Bytes, has, only, all_bytes}
 use Rattle.peg_bytes.specs.Extent.{Extent}
-use Rattle.peg_ford.specs.Form.{Form, Forms, Literal, Class, Any, Name, Optional, Plus, And, End, Then, terminals}
+use Rattle.peg_ford.specs.Form.{Form, Forms, Literal, Class, Any, Name, Optional, Plus, Counted, And, End, Then, terminals}
 use Rattle.peg_ford.specs.Form as written_form
-use Rattle.peg_ford.specs.Record.{Record, matched_at, failed_at, then_at, or_else, repeated, as_use, literal_at, byte_at, take_items, take_first, table, record_in, IsRecord}
+use Rattle.peg_ford.specs.Record.{Record, matched_at, failed_at, then_at, or_else, repeated, as_use, literal_at, byte_at, take_items, take_first, take_times, table, record_in, IsRecord}
 use Rattle.peg_ford.specs.Rules.{Meaning, meant}
 use Rattle.peg_ford.specs.Rules as grammar
-use Rattle.peg_ford.proofs.RecordLemmas.{Extends-take_items, Extends-take_first, record_in-more}
-use Rattle.peg_core.specs.CoreForm.{CoreForm, Empty, Test, Rule, Seq, Choice, Star, Not, in_order, all_in_order, one_of, tests_of, number_of, core_form, core_forms, core_bodies}
+use Rattle.peg_ford.proofs.RecordLemmas.{Extends-take_items, Extends-take_first, Extends-take_times, Extends-then_at, record_in-more}
+use Rattle.peg_core.specs.CoreForm.{CoreForm, Empty, Test, Rule, Seq, Choice, Star, Not, in_order, all_in_order, one_of, tests_of, unfolded, count_form, number_of, core_form, core_forms, core_bodies}
 use Rattle.peg_core.specs.CoreRecord.{AreBytes, core_table, core_record_in, IsCoreRecord}
 use Rattle.peg_core.proofs.CoreRounds.{core_record_in-more, one_core_record}
 use Rattle.peg_core.proofs.Meanings.{number_of-meant, body-meant, body-unmeant}
-use Rattle.peg_core.proofs.ReachedInSome.{Grows, IsReached, IsReached-some, IsReached-shift, IsReached-unshift, IsReached-same, IsReached-from, IsReached-none, IsReached-map, IsReached-then_at, IsReached-rounds, IsReached-or_else, then_at-nothing, after_both-nothing, unless, provided, unless-unless}
+use Rattle.peg_core.proofs.ReachedInSome.{Grows, IsReached, IsReached-some, IsReached-shift, IsReached-unshift, IsReached-same, IsReached-from, IsReached-none, IsReached-map, IsReached-then_at, IsReached-rounds, IsReached-or_else, then_at-nothing, after_both-nothing, rounds-times, unless, provided, unless-unless}
 use Rattle.peg_core.proofs.Sets.{has-only, has-all_bytes}
 
 same_test : (a b : ℕ) → (a == b) ≡ (b == a)
@@ -105,6 +105,28 @@ module _ (rules : List grammar.Rule) (text : List ℕ) where
       IsReached-from (option_map (provided place) o) (option_map (unless place) (option_map (unless place) o))
       (core (Not (Not a)) place) (sym (unless-unless place o))
       (core-Not (Not a) (option_map (unless place) o) place (core-Not a o place h))
+
+  -- a count, round in round
+  core-unfolded : (part : CoreForm) (take : ℕ → Option Record) → ((at : ℕ) → IsReached (take at) (core part at))
+      → (min max place : ℕ) → IsReached (take_times take min max place) (core (unfolded part min max) place)
+  core-unfolded part take h min zero place = core-Empty place
+  core-unfolded part take h zero (suc max) place =
+      let inner = unfolded part zero max in
+      let next = λ (end : ℕ). take_times take zero max end in
+      IsReached-from (rounds (take place) place next) (or_else (then_at (take place) next) (Some (matched_at place)))
+      (core (Choice (Seq part inner) Empty) place) (rounds-times take max place (take place))
+      (core-Choice (Seq part inner) Empty (then_at (take place) next) (Some (matched_at place)) place
+      (core-Seq part inner (take place) next place (h place) (λ end. core-unfolded part take h zero max end))
+      (core-Empty place))
+  core-unfolded part take h (suc min) (suc max) place =
+      core-Seq part (unfolded part min max) (take place) (λ end. take_times take min max end) place (h place)
+      (λ end. core-unfolded part take h min max end)
+
+  core-count : (part : CoreForm) (take : ℕ → Option Record) → ((at : ℕ) → IsReached (take at) (core part at))
+      → (min max place : ℕ) → IsReached (take_times take min max place) (core (count_form part min max) place)
+  core-count part take h min zero place =
+      core-Choice Empty part (Some (matched_at place)) (take place) place (core-Empty place) (h place)
+  core-count part take h min (suc max) place = core-unfolded part take h min (suc max) place
 
   -- ---- literals
 
@@ -242,6 +264,9 @@ module _ (rules : List grammar.Rule) (text : List ℕ) where
       (record_in rules text n part terminal place)
       (λ end. record_in rules text n (written_form.Star part span) terminal end) place
       (h part terminal place) (λ end. h (written_form.Star part span) terminal end)
+  to_core-table bytes n h (Counted part min max span) terminal place =
+      core-count (core_form rules terminal part) (λ at. record_in rules text n part terminal at)
+      (λ at. h part terminal at) min max place
   to_core-table bytes n h (And part span) terminal place =
       core-And (core_form rules terminal part) (record_in rules text n part terminal place) place (h part terminal place)
   to_core-table bytes n h (written_form.Not part span) terminal place =
@@ -284,6 +309,59 @@ module _ (rules : List grammar.Rule) (text : List ℕ) where
   unfolding core_record_in
   from_empty zero place = IsReached-none (λ m. Some (matched_at place))
   from_empty (suc n) place = IsReached-some (matched_at place)
+
+  -- a part some times, by n
+  abbrev times_in : (f : ℕ → ℕ → Option Record) → (min max place n : ℕ) → Option Record
+  times_in f min max place n = take_times (λ at. f at n) min max place
+
+  times-grow : (f : ℕ → ℕ → Option Record) → ((at : ℕ) → Grows (f at)) → (min max place : ℕ)
+      → Grows (times_in f min max place)
+  times-grow f grows min max place n =
+      Extends-take_times (λ at. f at n) (λ at. f at (suc n)) (λ at. grows at n) min max place
+
+  -- what is reached from the records of a form in one n is reached from those in fewer
+  abbrev AllReached : CoreForm → (n : ℕ) → (f : ℕ → ℕ → Option Record) → Type 0
+  AllReached part n f = (at : ℕ) → IsReached (core part at n) (f at)
+
+  sooner : (part : CoreForm) (n : ℕ) (f : ℕ → ℕ → Option Record) → AllReached part (suc n) f → AllReached part n f
+  sooner part n f h = λ at r is. h at r (core-grows part at n r is)
+
+  -- a count, round in round, in any n
+  from_unfolded : (part : CoreForm) (f : ℕ → ℕ → Option Record) → ((at : ℕ) → Grows (f at)) → (min max n : ℕ)
+      → AllReached part n f → (place : ℕ) → IsReached (core (unfolded part min max) place n) (times_in f min max place)
+  unfolding core_record_in
+  from_unfolded part f grows min zero n h place = from_empty n place
+  from_unfolded part f grows zero (suc max) zero h place = IsReached-none (times_in f zero (suc max) place)
+  from_unfolded part f grows zero (suc max) (suc zero) h place = IsReached-none (times_in f zero (suc max) place)
+  from_unfolded part f grows zero (suc max) (suc (suc n)) h place =
+      let k = sooner part n f (sooner part (suc n) f h) in
+      let tried = core part place n in
+      let next = λ (end : ℕ). core (unfolded part zero max) end n in
+      let round = λ (m : ℕ). then_at (f place m) (λ end. times_in f zero max end m) in
+      IsReached-same (or_else (then_at tried next) (Some (matched_at place)))
+      (λ m. or_else (round m) (Some (matched_at place))) (times_in f zero (suc max) place)
+      (λ m. sym (rounds-times (λ at. f at m) max place (f place m)))
+      (IsReached-or_else (then_at tried next) (Some (matched_at place)) round (λ m. Some (matched_at place))
+      (λ m. Extends-then_at (f place m) (f place (suc m)) (λ end. times_in f zero max end m)
+      (λ end. times_in f zero max end (suc m)) (grows place m) (λ end. times-grow f grows zero max end m))
+      (λ m r is. is)
+      (IsReached-then_at tried next (f place) (λ m end. times_in f zero max end m) (grows place)
+      (λ end. times-grow f grows zero max end) (k place) (λ end. from_unfolded part f grows zero max n k end))
+      (IsReached-some (matched_at place)))
+  from_unfolded part f grows (suc min) (suc max) zero h place = IsReached-none (times_in f (suc min) (suc max) place)
+  from_unfolded part f grows (suc min) (suc max) (suc n) h place =
+      let k = sooner part n f h in
+      IsReached-then_at (core part place n) (λ end. core (unfolded part min max) end n) (f place)
+      (λ m end. times_in f min max end m) (grows place) (λ end. times-grow f grows min max end) (k place)
+      (λ end. from_unfolded part f grows min max n k end)
+
+  from_count : (part : CoreForm) (f : ℕ → ℕ → Option Record) → ((at : ℕ) → Grows (f at)) → (min max n : ℕ)
+      → ((at : ℕ) → IsReached (tabled n part at) (f at)) → (place : ℕ)
+      → IsReached (tabled n (count_form part min max) place) (times_in f min max place)
+  unfolding core_record_in
+  from_count part f grows min zero zero h place = IsReached-none (λ m. Some (matched_at place))
+  from_count part f grows min zero (suc n) h place = IsReached-some (matched_at place)
+  from_count part f grows min (suc max) n h place = from_unfolded part f grows min (suc max) (suc n) h place
 
   module _ (n : ℕ) (h : FromCore n) where
     -- the rest of a sequence, and of a choice
@@ -395,6 +473,11 @@ module _ (rules : List grammar.Rule) (text : List ℕ) where
           (IsReached-then_at tried next (written part terminal place) (λ m end. written star terminal end m)
           (written-grows part terminal place) (λ end. written-grows star terminal end) (h part terminal place)
           (λ end. h star terminal end))
+      from_core-table bytes (Counted part min max span) terminal place =
+          let form = core_form rules terminal part in
+          IsReached-shift (tabled n (count_form form min max) place) (written (Counted part min max span) terminal place)
+          (from_count form (λ at. written part terminal at) (λ at. written-grows part terminal at) min max n
+          (λ at. from_core-table bytes part terminal at) place)
       from_core-table bytes (And part span) terminal place =
           let not : Form = written_form.Not part span in
           let tried = core (core_form rules terminal not) place n in

@@ -3,13 +3,13 @@ use Rattle.std.proofs.Common.{◌≡◌, ℕ, zero, suc, ◌+◌, Bool, List, []
 use Rattle.peg_bytes.specs.ByteSet.{only, all_bytes}
 use Rattle.peg_bytes.specs.Extent.{Extent}
 use Rattle.peg_ford.specs.AbstractOutcomes.{GivesNothing}
-use Rattle.peg_ford.specs.Form.{Form, Forms, Literal, Class, Any, Name, Optional, Plus, And, End, Then, terminals}
+use Rattle.peg_ford.specs.Form.{Form, Forms, Literal, Class, Any, Name, Optional, Plus, Counted, And, End, Then, terminals}
 use Rattle.peg_ford.specs.Form as written_form
 use Rattle.peg_ford.specs.Rules.{Meaning, meant}
 use Rattle.peg_ford.specs.Rules as grammar
 use Rattle.peg_ford.specs.WellFormed.{ItemsAre, AllAre, MeaningIs, RepeatsWell, WellFormedTable, IsWellFormedIn, IsWellFormed}
 use Rattle.peg_ford.proofs.RoundsLemmas.{ItemsAre-more, AllAre-more, IsWellFormedIn-more}
-use Rattle.peg_core.specs.CoreForm.{CoreForm, Empty, Test, Rule, Seq, Choice, Star, Not, in_order, all_in_order, one_of, tests_of, number_of, core_form, core_forms, core_bodies}
+use Rattle.peg_core.specs.CoreForm.{CoreForm, Empty, Test, Rule, Seq, Choice, Star, Not, in_order, all_in_order, one_of, tests_of, unfolded, count_form, number_of, core_form, core_forms, core_bodies}
 use Rattle.peg_core.specs.CoreOutcomes.{CoreGivesNothing, BodyIs, CoreWellFormedTable, IsCoreWellFormedIn, IsCoreWellFormed}
 use Rattle.peg_core.proofs.CoreRounds.{IsCoreWellFormedIn-more}
 use Rattle.peg_core.proofs.Meanings.{body-meant, body-unmeant}
@@ -125,6 +125,28 @@ module _ (rules : List grammar.Rule) where
   to_literal P [] terminal = core-Empty P
   to_literal P (b ∷ bs) terminal = to_tests P b bs terminal
 
+  -- a count of a well-formed part
+  core-unfolded : (P : Type 0) (part : CoreForm) → Follows P (core part) → (min max : ℕ)
+      → Follows P (core (unfolded part min max))
+  core-unfolded P part h min zero = core-Empty P
+  core-unfolded P part h zero (suc max) =
+      let inner = unfolded part zero max in
+      Follows-from P (P × P) (core (Choice (Seq part inner) Empty)) (λ p. (p, p))
+      (core-Choice (Seq part inner) Empty P P
+      (Follows-from P (P × (CoreGivesNothing bodies part → P)) (core (Seq part inner)) (λ p. (p, λ gives. p))
+      (core-Seq part inner P P (CoreGivesNothing bodies part) (λ gives. gives) h (core-unfolded P part h zero max)))
+      (core-Empty P))
+  core-unfolded P part h (suc min) (suc max) =
+      let inner = unfolded part min max in
+      Follows-from P (P × (CoreGivesNothing bodies part → P)) (core (Seq part inner)) (λ p. (p, λ gives. p))
+      (core-Seq part inner P P (CoreGivesNothing bodies part) (λ gives. gives) h (core-unfolded P part h min max))
+
+  core-count : (P : Type 0) (part : CoreForm) → Follows P (core part) → (min max : ℕ)
+      → Follows P (core (count_form part min max))
+  core-count P part h min zero =
+      Follows-from P (P × P) (core (Choice Empty part)) (λ p. (p, p)) (core-Choice Empty part P P (core-Empty P) h)
+  core-count P part h min (suc max) = core-unfolded P part h min (suc max)
+
   -- ---- from a written expression to its core form
 
   abbrev ToCore : ℕ → Type 0
@@ -189,6 +211,8 @@ module _ (rules : List grammar.Rule) where
         (λ is. (is.0, λ gives. is))
         (core-Seq form (Star form span) (Is part) P (CoreGivesNothing bodies form) (λ gives. gives) (h part terminal)
         (to_star part span terminal))
+    to_core-table (Counted part min max span) terminal =
+        core-count (Is part) (core_form rules terminal part) (h part terminal) min max
     to_core-table (And part span) terminal =
         let form = core_form rules terminal part in
         core-Not (Not form) (Is part) (core-Not form (Is part) (h part terminal))
@@ -221,6 +245,17 @@ module _ (rules : List grammar.Rule) where
   unfolding IsCoreWellFormedIn
   star_takes zero part origin is = absurd is
   star_takes (suc n) part origin is = is.1
+
+  -- a well-formed count's part is well-formed
+  round_part : (n : ℕ) (part inner : CoreForm) → core (Seq part inner) n → core part n
+  unfolding IsCoreWellFormedIn
+  round_part zero part inner is = is
+  round_part (suc n) part inner is = core-grows part n is.0
+
+  count_part : (n : ℕ) (part : CoreForm) (min max : ℕ) → tabled n (count_form part min max) → core part n
+  count_part n part min zero is = is.1
+  count_part n part zero (suc max) is = round_part n part (unfolded part zero max) is.0
+  count_part n part (suc min) (suc max) is = is.0
 
   abbrev items_in : Forms → ℕ → Type 0
   items_in items n = ItemsAre rules (IsWellFormedIn rules n) items
@@ -295,6 +330,11 @@ module _ (rules : List grammar.Rule) where
           let k = h part terminal in
           shown (Plus part span) (core form n × (CoreGivesNothing bodies form → core (Star form span) n))
           (k.0, λ is. (k.1 is.0, λ gives. let also = GivesNothing-to_core rules part terminal gives in star_takes n form span (is.1 also) also))
+      from_core-table (Counted part min max span) terminal =
+          let form = core_form rules terminal part in
+          let P = tabled n (count_form form min max) in
+          shown (Counted part min max span) P
+          (Follows-from P (core form n) (written part) (count_part n form min max) (h part terminal))
       from_core-table (And part span) terminal =
           let not : Form = written_form.Not part span in
           let P = core (core_form rules terminal not) n in

@@ -3,6 +3,7 @@ ghost use Rattle.std.specs.Prelude.{◌≡◌, ◌↔◌, ◌<◌, codes, All, C
 ghost use Rattle.std.specs.Prelude.{Some};
 ghost use Rattle.peg_bytes.specs.Extent.{Extent};
 ghost use Rattle.peg_core.specs.CoreExamples.{nested_core, signs_core, all_core_can_in};
+ghost use Rattle.peg_core.specs.CoreExamples.{two_to_four_core, two_to_four_parts};
 ghost use Rattle.peg_core.specs.CoreForm.{Rule as use_of};
 ghost use Rattle.peg_core.specs.CoreForm.{CoreForm, core_bodies, core_form};
 ghost use Rattle.peg_core.specs.CoreLoops.{CoreMeetsFirst, IsCoreEmptyLoop, IsCoreLeftCycle, StandsInBody};
@@ -12,7 +13,7 @@ ghost use Rattle.peg_core.specs.CoreParts.{all_core_parts};
 ghost use Rattle.peg_core.specs.Subexpressions.{Numbered, numbered_subexpressions, all_core_stars, is_star};
 ghost use Rattle.peg_core.specs.CoreRecord.{AreBytes, core_record_in, IsCoreRecord};
 ghost use Rattle.peg_ford.specs.AbstractOutcomes.{CanAll, GivesNothing, GivesSomething, CanFail};
-ghost use Rattle.peg_ford.specs.Examples.{nested, nested_record, signs, signs_can};
+ghost use Rattle.peg_ford.specs.Examples.{nested, nested_record, signs, signs_can, two_to_four, three_record};
 ghost use Rattle.peg_ford.specs.Form.{Form};
 ghost use Rattle.peg_ford.specs.Loops.{MeetsFirst, IsEmptyLoop, IsLeftCycle};
 ghost use Rattle.peg_ford.specs.Record.{Record, IsRecord};
@@ -107,4 +108,7 @@ pub fn the_core_forms_agree_with_hand_worked_grammars()
     ensures signs { core_bodies signs ≡ signs_core }
     ensures recognized { IsCoreRecord nested_core (codes "aab") (use_of 0) 0 nested_record }
     ensures outcomes { all_core_can_in signs_core 8 ≡ signs_can }
+    ensures two_to_four { core_bodies two_to_four ≡ two_to_four_core }
+    ensures two_to_four_parts { all_core_parts two_to_four ≡ two_to_four_parts }
+    ensures three { IsCoreRecord two_to_four_core (codes "aaa") (use_of 0) 0 three_record }
 {}

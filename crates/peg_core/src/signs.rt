@@ -2,10 +2,10 @@
 ghost use Rattle.std.specs.Prelude.{◌+◌, ◌<◌, ◌≤◌, [], ◌∷◌, length, IfOk};
 ghost use Rattle.peg_bytes.specs.ByteSet.{all_bytes, bytes_of};
 ghost use Rattle.peg_bytes.specs.Extent.{extent};
-ghost use Rattle.peg_core.specs.CoreForm.{Empty, Rule, Seq, Choice, Star, Not, Test};
-ghost use Rattle.peg_core.specs.CoreParts.{optional_forms, plus_forms, and_forms};
+ghost use Rattle.peg_core.specs.CoreForm.{Empty, Rule, Seq, Choice, Star, Not, Test, count_form};
+ghost use Rattle.peg_core.specs.CoreParts.{optional_forms, plus_forms, count_forms, and_forms};
 ghost use Rattle.peg_core.specs.Laid.{Lays};
-ghost use Rattle.peg_core.specs.Layout.{form_at, most_forms};
+ghost use Rattle.peg_core.specs.Layout.{form_at, most_forms, most_forms_each};
 ghost use Rattle.peg_ford.specs.Grammar.{most_parts};
 
 use crate::Node;
@@ -48,6 +48,29 @@ pub(crate) fn add_plus(part: u32, flat: &mut Flat, origin: Span) -> Result<u32, 
 {
     let star = flat.push(Node::Star(part), origin)?;
     flat.push(Node::Seq(part, star), nowhere())
+}
+
+/// The part at least `min` times and at most `max` times: round in round, the innermost first. With a `max` of 0 the
+/// part stands where it is never tried, so that what it asks for is still asked for.
+pub(crate) fn add_count(part: u32, flat: &mut Flat, min: u8, max: u8) -> Result<u32, AllocError>
+    requires room { length flat.old.forms + most_forms_each ≤ most_forms }
+    requires part { part < length flat.old.forms }
+    ensures { IfOk result (λ number. Lays flat.old (count_forms (form_at flat.old.forms part) min max) []
+        (count_form (form_at flat.old.forms part) min max) number flat.new) }
+{
+    let nothing = flat.push(Node::Empty, nowhere())?;
+    if max == 0 {
+        return flat.push(Node::Choice(nothing, part), nowhere());
+    }
+    let optional = max.saturating_sub(min);
+    let mut rest = nothing;
+    for done in 0..max {
+        rest = flat.push(Node::Seq(part, rest), nowhere())?;
+        if done < optional {
+            rest = flat.push(Node::Choice(rest, nothing), nowhere())?;
+        }
+    }
+    Ok(rest)
 }
 
 /// Nothing, where not even the part's failing comes.

@@ -1,16 +1,17 @@
-//! The sugar taken away (Ford 2004, section 3.2): `e?` is `e / ''`, `e+` is `e e*`, `&e` is `!(!e)`, a literal is the
-//! sequence of its bytes, a class and `.` are one test of a byte.
+//! The sugar taken away (Ford 2004, section 3.2): `e?` is `e / ''`, `e+` is `e e*`, a count is what it unfolds to, `&e`
+//! is `!(!e)`, a literal is the sequence of its bytes, a class and `.` are one test of a byte.
 ghost use Rattle.std.specs.Prelude.{◌≡◌, ◌↔◌, ℕ, List, All, Contains, filter, ◌+◌, ◌*◌, ◌≤◌, ◌<◌, true, [], ◌∷◌};
 ghost use Rattle.std.specs.Prelude.{length, map, IfOk};
 ghost use Rattle.peg_bytes.specs.Extent.{Extent};
 ghost use Rattle.peg_core.specs.CoreForm.{Rule, core_bodies, core_form, number_of};
 ghost use Rattle.peg_core.specs.CoreLoops.{CoreMeetsFirst, IsCoreEmptyLoop, IsCoreLeftCycle};
 ghost use Rattle.peg_core.specs.CoreOutcomes.{IsCoreWellFormed};
-ghost use Rattle.peg_core.specs.CoreParts.{all_core_parts, are_defined};
+ghost use Rattle.peg_core.specs.CoreParts.{all_core_parts, are_defined, are_in_range};
 ghost use Rattle.peg_core.specs.Laid.{Lays, LaysForm, LaysForms};
-ghost use Rattle.peg_core.specs.Layout.{bodies_of, most_forms};
+ghost use Rattle.peg_core.specs.Layout.{bodies_of, most_forms, most_forms_each};
 ghost use Rattle.peg_core.specs.Subexpressions.{numbered_subexpressions, all_core_stars, is_star};
-ghost use Rattle.peg_ford.specs.Form.{form_weight, forms, forms_weight, names_used, names_used_by_all};
+ghost use Rattle.peg_ford.specs.Form.{counts_written, counts_written_by_all, form_weight, forms, forms_weight};
+ghost use Rattle.peg_ford.specs.Form.{names_used, names_used_by_all};
 ghost use Rattle.peg_ford.specs.Grammar.{most_parts};
 ghost use Rattle.peg_grammar.specs.GrammarRules.{rules_in};
 ghost use Rattle.peg_ford.specs.Loops.{MeetsFirst, IsEmptyLoop, IsLeftCycle};
@@ -23,21 +24,21 @@ use crate::Core;
 use crate::flat::Flat;
 use crate::nest::{add_choices, add_literal, add_sequence};
 use crate::signs::{
-    add_and, add_any, add_class, add_not, add_optional, add_plus, add_star, add_use,
+    add_and, add_any, add_class, add_count, add_not, add_optional, add_plus, add_star, add_use,
 };
 use peg_grammar::{Expr, Grammar};
 use std::alloc::{AllocError, Global};
 
 /// The core forms of a grammar (Ford 2004, section 3.2): for each written expression, those of its parts and then its
-/// own, rule by rule and in written order; the part of a plus stands once and is named twice. There are at most two for
-/// each part of the grammar's weight, and it takes time and memory linear in that, but for hashing. It recurses as deep
-/// as expressions nest.
+/// own, rule by rule and in written order; the part of a plus or a count stands once and is named by each round. There
+/// are at most two for each part of the grammar's weight and for each round of its counts, and it takes time and memory
+/// linear in that, but for hashing. It recurses as deep as expressions nest.
 pub fn desugar(alloc: Global, grammar: &Grammar) -> Result<Core, AllocError>
     ensures forms { IfOk result (λ core. core.forms ≡ all_core_parts (rules_in grammar.now)) }
     ensures bodies { IfOk result (λ core. bodies_of core ≡ core_bodies (rules_in grammar.now)) }
     ensures count { IfOk result (λ core. length core.bodies ≡ length (rules_in grammar.now)) }
     ensures spans { IfOk result (λ core. core.spans ≡ extents_of_terminals (rules_in grammar.now)) }
-    ensures few { IfOk result (λ core. length core.forms ≤ 2 * weight_of (rules_in grammar.now)) }
+    ensures few { IfOk result (λ core. length core.forms ≤ most_forms_each * weight_of (rules_in grammar.now)) }
 
     // So what is asked of written expressions can be asked of the core forms.
     ensures subexpressions { IfOk result (λ core.
@@ -67,10 +68,11 @@ pub fn desugar(alloc: Global, grammar: &Grammar) -> Result<Core, AllocError>
 // The core forms of an expression, and the number of its own. It recurses as deep as expressions nest.
 #[cycle(sugar)]
 fn add(alloc: Global, flat: &mut Flat, grammar: &Grammar, expr: &Expr) -> Result<u32, AllocError>
-    requires room { length flat.old.forms + 2 * form_weight (form_of expr.now) ≤ most_forms }
+    requires room { length flat.old.forms + most_forms_each * form_weight (form_of expr.now) ≤ most_forms }
     requires few { length flat.old.spans + form_weight (form_of expr.now) ≤ most_parts }
     requires rules { flat.old.rules ≡ length (rules_in grammar.now) }
     requires defined { are_defined (rules_in grammar.now) (names_used (form_of expr.now)) ≡ true }
+    requires ranged { are_in_range (counts_written (form_of expr.now)) ≡ true }
     ensures { IfOk result (λ number. LaysForm (rules_in grammar.now) (form_of expr.now) flat.old number flat.new) }
 {
     match expr {
@@ -90,6 +92,9 @@ fn add(alloc: Global, flat: &mut Flat, grammar: &Grammar, expr: &Expr) -> Result
         Expr::Optional { part, .. } => add_optional(add(alloc, flat, grammar, part)?, flat),
         Expr::Star { part, span } => add_star(add(alloc, flat, grammar, part)?, flat, *span),
         Expr::Plus { part, span } => add_plus(add(alloc, flat, grammar, part)?, flat, *span),
+        Expr::Counted { part, min, max, .. } => {
+            add_count(add(alloc, flat, grammar, part)?, flat, *min, *max)
+        }
         Expr::And { part, .. } => add_and(add(alloc, flat, grammar, part)?, flat),
         Expr::Not { part, .. } => add_not(add(alloc, flat, grammar, part)?, flat),
     }
@@ -103,10 +108,12 @@ fn add_all(
     grammar: &Grammar,
     items: &[Expr],
 ) -> Result<Vec<u32>, AllocError>
-    requires room { length flat.old.forms + 2 * forms_weight (forms (map form_of items.now)) ≤ most_forms }
+    requires room { length flat.old.forms + most_forms_each * forms_weight (forms (map form_of items.now))
+        ≤ most_forms }
     requires few { length flat.old.spans + forms_weight (forms (map form_of items.now)) ≤ most_parts }
     requires rules { flat.old.rules ≡ length (rules_in grammar.now) }
     requires defined { are_defined (rules_in grammar.now) (names_used_by_all (forms (map form_of items.now))) ≡ true }
+    requires ranged { are_in_range (counts_written_by_all (forms (map form_of items.now))) ≡ true }
     ensures { IfOk result (λ numbers.
         LaysForms (rules_in grammar.now) (forms (map form_of items.now)) flat.old numbers.items flat.new) }
 {

@@ -81,6 +81,30 @@ fn all_sugar_is_taken_away(rt: HostRuntime) -> Result<(), Fail> {
     assert_nodes(&rt, rt.alloc(), b"A <- &'x' 'yz'+ .?", &wanted, 3)
 }
 
+// The 'a' once, the empty expression once, and for each round one form that has to match, or two that need not.
+#[test]
+fn a_count_unfolds_from_its_last_round(rt: HostRuntime) -> Result<(), Fail> {
+    let wanted = [
+        byte(b'a', 0),
+        Node::Empty,
+        Node::Seq(0, 1),
+        Node::Choice(2, 1),
+        Node::Seq(0, 3),
+        Node::Choice(4, 1),
+        Node::Seq(0, 5),
+        Node::Seq(0, 6),
+    ];
+    assert_nodes(&rt, rt.alloc(), b"A <- 'a'{2,4}", &wanted, 1)
+}
+
+// 3 levels of 255 rounds, two forms each where they need not match.
+#[test]
+fn counts_in_counts_stay_few(rt: HostRuntime) -> Result<(), Fail> {
+    let core = core_of(rt.alloc(), b"A <- (('a'{0,255}){255}){255}")?;
+    assert_eq!(rt; core.len(), 1 + 511 + 256 + 256);
+    Ok(())
+}
+
 // The optional isn't dropped.
 #[test]
 fn an_optional_round_the_empty_literal_stays(rt: HostRuntime) -> Result<(), Fail> {

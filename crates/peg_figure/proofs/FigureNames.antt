@@ -1,7 +1,7 @@
 -- What the figure's names mean.
 use Rattle.std.proofs.Common.{◌≡◌, ℕ, codes, Some, refl}
 use Rattle.peg_ford.specs.Rules.{meant}
-use Rattle.peg_figure.specs.Figure.{figure, grammar_body, definition_body, expression_body, sequence_body, prefix_body, suffix_body, primary_body, identifier_body, ident_start_body, ident_cont_body, literal_body, class_body, range_body, char_body, leftarrow_body, slash_body, and_sign_body, not_sign_body, question_body, star_body, plus_body, open_sign_body, close_body, dot_body, spacing_body, comment_body, space_body, end_of_line_body, end_of_file_body}
+use Rattle.peg_figure.specs.Figure.{figure, grammar_body, definition_body, expression_body, sequence_body, prefix_body, suffix_body, primary_body, identifier_body, ident_start_body, ident_cont_body, literal_body, class_body, range_body, char_body, leftarrow_body, slash_body, and_sign_body, not_sign_body, question_body, star_body, plus_body, count_body, number_body, open_sign_body, close_body, dot_body, spacing_body, comment_body, space_body, end_of_line_body, end_of_file_body}
 use Rattle.peg_figure.specs.FigureRules as rule
 
 pub grammar-meant : (t : ℕ) × (meant figure (codes "Grammar")
@@ -108,6 +108,16 @@ pub plus-meant : (t : ℕ) ×
     (meant figure (codes "PLUS") ≡ Some (record { rule = rule.plus; terminal = t; body = plus_body }))
 unfolding figure
 plus-meant = (_, refl)
+
+pub count-meant : (t : ℕ) ×
+    (meant figure (codes "COUNT") ≡ Some (record { rule = rule.count; terminal = t; body = count_body }))
+unfolding figure
+count-meant = (_, refl)
+
+pub number-meant : (t : ℕ) ×
+    (meant figure (codes "Number") ≡ Some (record { rule = rule.number; terminal = t; body = number_body }))
+unfolding figure
+number-meant = (_, refl)
 
 pub open_sign-meant : (t : ℕ) × (meant figure (codes "OPEN") ≡ Some
     (record { rule = rule.open_sign; terminal = t; body = open_sign_body }))

@@ -9,7 +9,7 @@ use Rattle.peg_figure.specs.Figure.{figure, grammar_body}
 use Rattle.peg_figure.specs.Figure.{definition_body, expression_body, sequence_body, prefix_body, suffix_body}
 use Rattle.peg_figure.specs.Figure.{primary_body, identifier_body, ident_start_body, ident_cont_body, literal_body}
 use Rattle.peg_figure.specs.Figure.{class_body, range_body, char_body}
-use Rattle.peg_figure.specs.Figure.{spacing_body, comment_body, space_body, end_of_line_body}
+use Rattle.peg_figure.specs.Figure.{count_body, number_body, spacing_body, comment_body, space_body, end_of_line_body}
 use Rattle.peg_figure.specs.Figure.{end_of_file_body}
 
 abbrev told : (nothing something fails : Bool) → (rank : ℕ) → Told
@@ -40,6 +40,8 @@ figure_told =
     ∷ told false true true 0  -- QUESTION
     ∷ told false true true 0  -- STAR
     ∷ told false true true 0  -- PLUS
+    ∷ told false true true 0  -- COUNT
+    ∷ told false true true 0  -- Number
     ∷ told false true true 0  -- OPEN
     ∷ told false true true 0  -- CLOSE
     ∷ told false true true 0  -- DOT
@@ -51,12 +53,12 @@ figure_told =
     ∷ []
 
 figure-shown : shows_well_formed figure figure_told ≡ true
-unfolding class_of figure grammar_body definition_body expression_body sequence_body prefix_body suffix_body primary_body identifier_body ident_start_body ident_cont_body literal_body class_body range_body char_body spacing_body comment_body space_body end_of_line_body end_of_file_body
+unfolding class_of figure grammar_body definition_body expression_body sequence_body prefix_body suffix_body primary_body identifier_body ident_start_body ident_cont_body literal_body class_body range_body char_body count_body number_body spacing_body comment_body space_body end_of_line_body end_of_file_body
 figure-shown = refl
 
 pub figure-grammar : IsGrammar figure
-unfolding class_of figure grammar_body definition_body expression_body sequence_body prefix_body suffix_body primary_body identifier_body ident_start_body ident_cont_body literal_body class_body range_body char_body spacing_body comment_body space_body end_of_line_body end_of_file_body
-figure-grammar = IsGrammar-from_searches figure (λ none. cc) refl refl
+unfolding class_of figure grammar_body definition_body expression_body sequence_body prefix_body suffix_body primary_body identifier_body ident_start_body ident_cont_body literal_body class_body range_body char_body count_body number_body spacing_body comment_body space_body end_of_line_body end_of_file_body
+figure-grammar = IsGrammar-from_searches figure (λ none. cc) refl refl refl
 
 pub figure-well_formed : IsWellFormedGrammar figure
 figure-well_formed = IsWellFormedGrammar-shown figure figure_told figure-shown figure-grammar

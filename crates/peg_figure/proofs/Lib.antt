@@ -1,3 +1,4 @@
 mod ClassSets
+pub mod CountsInRange
 pub mod FigureNames
 pub mod FigureWellFormed

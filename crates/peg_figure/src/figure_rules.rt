@@ -5,12 +5,12 @@ ghost use Rattle.peg_figure.specs.Figure.{figure};
 ghost use Rattle.peg_figure.specs.Figure.{primary_name, primary_parentheses, literal_single, literal_double};
 ghost use Rattle.peg_figure.specs.Figure.{hexadecimal_class, char_hexadecimal, char_sign, char_three_digits};
 ghost use Rattle.peg_figure.specs.Figure.{char_two_digits, char_alone};
-ghost use Rattle.peg_figure.specs.FigureParts.{first_ten, next_ten, last_nine};
+ghost use Rattle.peg_figure.specs.FigureParts.{first_ten, next_ten, last_eleven};
 ghost use Rattle.peg_figure.specs.Figure.{grammar_body, definition_body, expression_body, sequence_body, prefix_body};
 ghost use Rattle.peg_figure.specs.Figure.{suffix_body, primary_body, identifier_body, ident_start_body};
 ghost use Rattle.peg_figure.specs.Figure.{ident_cont_body};
 ghost use Rattle.peg_figure.specs.Figure.{literal_body, class_body, range_body, char_body};
-ghost use Rattle.peg_figure.specs.Figure.{spacing_body};
+ghost use Rattle.peg_figure.specs.Figure.{count_body, number_body, spacing_body};
 ghost use Rattle.peg_figure.specs.Figure.{comment_body, space_body, end_of_line_body, end_of_file_body};
 
 use crate::builders::{
@@ -20,15 +20,15 @@ use crate::ranges::range;
 use peg_grammar::{Definition, Expr};
 use std::alloc::{AllocError, Global};
 
-/// The definitions of Ford's figure 1 (Ford 2004, section 2.1), with hexadecimal digits in its rule Char, and with the
-/// places that they have in `figure_text`.
+/// The definitions of Ford's figure 1 (Ford 2004, section 2.1), with counts in its rule Suffix and hexadecimal digits in
+/// its rule Char, and with the places that they have in `figure_text`.
 #[tactic(auto, unfolding(crate::specs::Figure::figure))]
 pub fn figure(alloc: Global) -> Result<Vec<Definition>, AllocError>
     ensures { IfOk result (λ definitions. rules_of definitions.items ≡ figure) }
 {
     let mut rules = first_ten(alloc)?;
     rules.append(&mut next_ten(alloc)?)?;
-    rules.append(&mut last_nine(alloc)?)?;
+    rules.append(&mut last_eleven(alloc)?)?;
     Ok(rules)
 }
 
@@ -44,10 +44,10 @@ fn first_ten(alloc: Global) -> Result<Vec<Definition>, AllocError>
         definition(alloc, "Sequence", 128, 136, sequence_body(alloc)?)?,
         definition(alloc, "Prefix", 148, 154, prefix_body(alloc)?)?,
         definition(alloc, "Suffix", 178, 184, suffix_body(alloc)?)?,
-        definition(alloc, "Primary", 222, 229, primary_body(alloc)?)?,
-        definition(alloc, "Identifier", 303, 313, identifier_body(alloc)?)?,
-        definition(alloc, "IdentStart", 347, 357, ident_start_body(alloc)?)?,
-        definition(alloc, "IdentCont", 371, 380, ident_cont_body(alloc)?)?,
+        definition(alloc, "Primary", 230, 237, primary_body(alloc)?)?,
+        definition(alloc, "Identifier", 311, 321, identifier_body(alloc)?)?,
+        definition(alloc, "IdentStart", 355, 365, ident_start_body(alloc)?)?,
+        definition(alloc, "IdentCont", 379, 388, ident_cont_body(alloc)?)?,
     ]?)
 }
 
@@ -57,34 +57,36 @@ fn next_ten(alloc: Global) -> Result<Vec<Definition>, AllocError>
     ensures { IfOk result (λ definitions. rules_of definitions.items ≡ next_ten) }
 {
     Ok(vec![in alloc;
-        definition(alloc, "Literal", 403, 410, literal_body(alloc)?)?,
-        definition(alloc, "Class", 474, 479, class_body(alloc)?)?,
-        definition(alloc, "Range", 513, 518, range_body(alloc)?)?,
-        definition(alloc, "Char", 543, 547, char_body(alloc)?)?,
-        definition(alloc, "LEFTARROW", 653, 662, sign(alloc, b"<-", 666, 670)?)?,
-        definition(alloc, "SLASH", 679, 684, sign(alloc, b"/", 688, 691)?)?,
-        definition(alloc, "AND", 700, 703, sign(alloc, b"&", 707, 710)?)?,
-        definition(alloc, "NOT", 719, 722, sign(alloc, b"!", 726, 729)?)?,
-        definition(alloc, "QUESTION", 738, 746, sign(alloc, b"?", 750, 753)?)?,
-        definition(alloc, "STAR", 762, 766, sign(alloc, b"*", 770, 773)?)?,
+        definition(alloc, "Literal", 411, 418, literal_body(alloc)?)?,
+        definition(alloc, "Class", 482, 487, class_body(alloc)?)?,
+        definition(alloc, "Range", 521, 526, range_body(alloc)?)?,
+        definition(alloc, "Char", 551, 555, char_body(alloc)?)?,
+        definition(alloc, "LEFTARROW", 661, 670, sign(alloc, b"<-", 674, 678)?)?,
+        definition(alloc, "SLASH", 687, 692, sign(alloc, b"/", 696, 699)?)?,
+        definition(alloc, "AND", 708, 711, sign(alloc, b"&", 715, 718)?)?,
+        definition(alloc, "NOT", 727, 730, sign(alloc, b"!", 734, 737)?)?,
+        definition(alloc, "QUESTION", 746, 754, sign(alloc, b"?", 758, 761)?)?,
+        definition(alloc, "STAR", 770, 774, sign(alloc, b"*", 778, 781)?)?,
     ]?)
 }
 
-// Its last nine: signs and spacing.
+// Its last eleven: counts, signs and spacing.
 #[tactic(auto, unfolding(crate::specs::Figure::figure))]
-fn last_nine(alloc: Global) -> Result<Vec<Definition>, AllocError>
-    ensures { IfOk result (λ definitions. rules_of definitions.items ≡ last_nine) }
+fn last_eleven(alloc: Global) -> Result<Vec<Definition>, AllocError>
+    ensures { IfOk result (λ definitions. rules_of definitions.items ≡ last_eleven) }
 {
     Ok(vec![in alloc;
-        definition(alloc, "PLUS", 782, 786, sign(alloc, b"+", 790, 793)?)?,
-        definition(alloc, "OPEN", 802, 806, sign(alloc, b"(", 810, 813)?)?,
-        definition(alloc, "CLOSE", 822, 827, sign(alloc, b")", 831, 834)?)?,
-        definition(alloc, "DOT", 843, 846, sign(alloc, b".", 850, 853)?)?,
-        definition(alloc, "Spacing", 862, 869, spacing_body(alloc)?)?,
-        definition(alloc, "Comment", 892, 899, comment_body(alloc)?)?,
-        definition(alloc, "Space", 933, 938, space_body(alloc)?)?,
-        definition(alloc, "EndOfLine", 965, 974, end_of_line_body(alloc)?)?,
-        definition(alloc, "EndOfFile", 999, 1008, end_of_file_body(alloc)?)?,
+        definition(alloc, "PLUS", 790, 794, sign(alloc, b"+", 798, 801)?)?,
+        definition(alloc, "COUNT", 810, 815, count_body(alloc)?)?,
+        definition(alloc, "Number", 856, 862, number_body(alloc)?)?,
+        definition(alloc, "OPEN", 873, 877, sign(alloc, b"(", 881, 884)?)?,
+        definition(alloc, "CLOSE", 893, 898, sign(alloc, b")", 902, 905)?)?,
+        definition(alloc, "DOT", 914, 917, sign(alloc, b".", 921, 924)?)?,
+        definition(alloc, "Spacing", 933, 940, spacing_body(alloc)?)?,
+        definition(alloc, "Comment", 963, 970, comment_body(alloc)?)?,
+        definition(alloc, "Space", 1004, 1009, space_body(alloc)?)?,
+        definition(alloc, "EndOfLine", 1036, 1045, end_of_line_body(alloc)?)?,
+        definition(alloc, "EndOfFile", 1070, 1079, end_of_file_body(alloc)?)?,
     ]?)
 }
 
@@ -169,7 +171,7 @@ fn prefix_body(alloc: Global) -> Result<Expr, AllocError>
     ))
 }
 
-// Suffix <- Primary (QUESTION / STAR / PLUS)?
+// Suffix <- Primary (QUESTION / STAR / PLUS / COUNT)?
 #[tactic(auto, unfolding(crate::specs::Figure::suffix_body))]
 fn suffix_body(alloc: Global) -> Result<Expr, AllocError>
     ensures { IfOk result (λ body. form_of body ≡ suffix_body) }
@@ -180,15 +182,16 @@ fn suffix_body(alloc: Global) -> Result<Expr, AllocError>
         vec![in alloc;
             name(alloc, "STAR", 208, 212)?,
             name(alloc, "PLUS", 215, 219)?,
+            name(alloc, "COUNT", 222, 227)?,
         ]?,
         197,
-        219,
+        227,
     )?;
-    let maybe_sign = optional(alloc, sign, 196, 221)?;
+    let maybe_sign = optional(alloc, sign, 196, 229)?;
     Ok(seq(
         vec![in alloc; name(alloc, "Primary", 188, 195)?, maybe_sign]?,
         188,
-        221,
+        229,
     ))
 }
 
@@ -202,12 +205,12 @@ fn primary_body(alloc: Global) -> Result<Expr, AllocError>
         primary_name(alloc)?,
         vec![in alloc;
             primary_parentheses(alloc)?,
-            name(alloc, "Literal", 281, 288)?,
-            name(alloc, "Class", 291, 296)?,
-            name(alloc, "DOT", 299, 302)?,
+            name(alloc, "Literal", 289, 296)?,
+            name(alloc, "Class", 299, 304)?,
+            name(alloc, "DOT", 307, 310)?,
         ]?,
-        233,
-        302,
+        241,
+        310,
     )
 }
 
@@ -217,11 +220,11 @@ fn primary_name(alloc: Global) -> Result<Expr, AllocError>
 {
     Ok(seq(
         vec![in alloc;
-            name(alloc, "Identifier", 233, 243)?,
-            not(alloc, name(alloc, "LEFTARROW", 245, 254)?, 244, 254)?,
+            name(alloc, "Identifier", 241, 251)?,
+            not(alloc, name(alloc, "LEFTARROW", 253, 262)?, 252, 262)?,
         ]?,
-        233,
-        254,
+        241,
+        262,
     ))
 }
 
@@ -231,12 +234,12 @@ fn primary_parentheses(alloc: Global) -> Result<Expr, AllocError>
 {
     Ok(seq(
         vec![in alloc;
-            name(alloc, "OPEN", 257, 261)?,
-            name(alloc, "Expression", 262, 272)?,
-            name(alloc, "CLOSE", 273, 278)?,
+            name(alloc, "OPEN", 265, 269)?,
+            name(alloc, "Expression", 270, 280)?,
+            name(alloc, "CLOSE", 281, 286)?,
         ]?,
-        257,
-        278,
+        265,
+        286,
     ))
 }
 
@@ -247,12 +250,12 @@ fn identifier_body(alloc: Global) -> Result<Expr, AllocError>
 {
     Ok(seq(
         vec![in alloc;
-            name(alloc, "IdentStart", 317, 327)?,
-            star(alloc, name(alloc, "IdentCont", 328, 337)?, 328, 338)?,
-            name(alloc, "Spacing", 339, 346)?,
+            name(alloc, "IdentStart", 325, 335)?,
+            star(alloc, name(alloc, "IdentCont", 336, 345)?, 336, 346)?,
+            name(alloc, "Spacing", 347, 354)?,
         ]?,
-        317,
-        346,
+        325,
+        354,
     ))
 }
 
@@ -263,8 +266,8 @@ fn ident_start_body(alloc: Global) -> Result<Expr, AllocError>
 {
     Ok(class(
         &[range(b'a', b'z'), range(b'A', b'Z'), range(b'_', b'_')],
-        361,
-        370,
+        369,
+        378,
     ))
 }
 
@@ -275,10 +278,10 @@ fn ident_cont_body(alloc: Global) -> Result<Expr, AllocError>
 {
     choice(
         alloc,
-        name(alloc, "IdentStart", 384, 394)?,
-        vec![in alloc; class(&[range(b'0', b'9')], 397, 402)]?,
-        384,
-        402,
+        name(alloc, "IdentStart", 392, 402)?,
+        vec![in alloc; class(&[range(b'0', b'9')], 405, 410)]?,
+        392,
+        410,
     )
 }
 
@@ -291,8 +294,8 @@ fn literal_body(alloc: Global) -> Result<Expr, AllocError>
         alloc,
         literal_single(alloc)?,
         vec![in alloc; literal_double(alloc)?]?,
-        414,
-        473,
+        422,
+        481,
     )
 }
 
@@ -302,22 +305,22 @@ fn literal_single(alloc: Global) -> Result<Expr, AllocError>
 {
     let one_char = seq(
         vec![in alloc;
-            not(alloc, class(&[range(b'\'', b'\'')], 420, 423), 419, 423)?,
-            name(alloc, "Char", 424, 428)?,
+            not(alloc, class(&[range(b'\'', b'\'')], 428, 431), 427, 431)?,
+            name(alloc, "Char", 432, 436)?,
         ]?,
-        419,
-        428,
+        427,
+        436,
     );
-    let chars = star(alloc, one_char, 418, 430)?;
+    let chars = star(alloc, one_char, 426, 438)?;
     Ok(seq(
         vec![in alloc;
-            class(&[range(b'\'', b'\'')], 414, 417),
+            class(&[range(b'\'', b'\'')], 422, 425),
             chars,
-            class(&[range(b'\'', b'\'')], 431, 434),
-            name(alloc, "Spacing", 435, 442)?,
+            class(&[range(b'\'', b'\'')], 439, 442),
+            name(alloc, "Spacing", 443, 450)?,
         ]?,
-        414,
-        442,
+        422,
+        450,
     ))
 }
 
@@ -327,22 +330,22 @@ fn literal_double(alloc: Global) -> Result<Expr, AllocError>
 {
     let one_char = seq(
         vec![in alloc;
-            not(alloc, class(&[range(b'"', b'"')], 451, 454), 450, 454)?,
-            name(alloc, "Char", 455, 459)?,
+            not(alloc, class(&[range(b'"', b'"')], 459, 462), 458, 462)?,
+            name(alloc, "Char", 463, 467)?,
         ]?,
-        450,
-        459,
+        458,
+        467,
     );
-    let chars = star(alloc, one_char, 449, 461)?;
+    let chars = star(alloc, one_char, 457, 469)?;
     Ok(seq(
         vec![in alloc;
-            class(&[range(b'"', b'"')], 445, 448),
+            class(&[range(b'"', b'"')], 453, 456),
             chars,
-            class(&[range(b'"', b'"')], 462, 465),
-            name(alloc, "Spacing", 466, 473)?,
+            class(&[range(b'"', b'"')], 470, 473),
+            name(alloc, "Spacing", 474, 481)?,
         ]?,
-        445,
-        473,
+        453,
+        481,
     ))
 }
 
@@ -353,22 +356,22 @@ fn class_body(alloc: Global) -> Result<Expr, AllocError>
 {
     let one_range = seq(
         vec![in alloc;
-            not(alloc, literal(alloc, b"]", 489, 492)?, 488, 492)?,
-            name(alloc, "Range", 493, 498)?,
+            not(alloc, literal(alloc, b"]", 497, 500)?, 496, 500)?,
+            name(alloc, "Range", 501, 506)?,
         ]?,
-        488,
-        498,
+        496,
+        506,
     );
-    let ranges = star(alloc, one_range, 487, 500)?;
+    let ranges = star(alloc, one_range, 495, 508)?;
     Ok(seq(
         vec![in alloc;
-            literal(alloc, b"[", 483, 486)?,
+            literal(alloc, b"[", 491, 494)?,
             ranges,
-            literal(alloc, b"]", 501, 504)?,
-            name(alloc, "Spacing", 505, 512)?,
+            literal(alloc, b"]", 509, 512)?,
+            name(alloc, "Spacing", 513, 520)?,
         ]?,
-        483,
-        512,
+        491,
+        520,
     ))
 }
 
@@ -379,19 +382,19 @@ fn range_body(alloc: Global) -> Result<Expr, AllocError>
 {
     let from_to = seq(
         vec![in alloc;
-            name(alloc, "Char", 522, 526)?,
-            literal(alloc, b"-", 527, 530)?,
-            name(alloc, "Char", 531, 535)?,
+            name(alloc, "Char", 530, 534)?,
+            literal(alloc, b"-", 535, 538)?,
+            name(alloc, "Char", 539, 543)?,
         ]?,
-        522,
-        535,
+        530,
+        543,
     );
     choice(
         alloc,
         from_to,
-        vec![in alloc; name(alloc, "Char", 538, 542)?]?,
-        522,
-        542,
+        vec![in alloc; name(alloc, "Char", 546, 550)?]?,
+        530,
+        550,
     )
 }
 
@@ -409,8 +412,8 @@ fn char_body(alloc: Global) -> Result<Expr, AllocError>
             char_two_digits(alloc)?,
             char_alone(alloc)?,
         ]?,
-        551,
-        652,
+        559,
+        660,
     )
 }
 
@@ -420,12 +423,12 @@ fn char_hexadecimal(alloc: Global) -> Result<Expr, AllocError>
 {
     Ok(seq(
         vec![in alloc;
-            literal(alloc, b"\\x", 551, 556)?,
-            hexadecimal_class(557, 568),
-            hexadecimal_class(568, 579),
+            literal(alloc, b"\\x", 559, 564)?,
+            hexadecimal_class(565, 576),
+            hexadecimal_class(576, 587),
         ]?,
-        551,
-        579,
+        559,
+        587,
     ))
 }
 
@@ -456,13 +459,13 @@ fn char_sign(alloc: Global) -> Result<Expr, AllocError>
             range(b']', b']'),
             range(b'\\', b'\\'),
         ],
-        587,
-        600,
+        595,
+        608,
     );
     Ok(seq(
-        vec![in alloc; literal(alloc, b"\\", 582, 586)?, signs]?,
-        582,
-        600,
+        vec![in alloc; literal(alloc, b"\\", 590, 594)?, signs]?,
+        590,
+        608,
     ))
 }
 
@@ -472,13 +475,13 @@ fn char_three_digits(alloc: Global) -> Result<Expr, AllocError>
 {
     Ok(seq(
         vec![in alloc;
-            literal(alloc, b"\\", 603, 607)?,
-            class(&[range(b'0', b'2')], 608, 613),
-            class(&[range(b'0', b'7')], 613, 618),
-            class(&[range(b'0', b'7')], 618, 623),
+            literal(alloc, b"\\", 611, 615)?,
+            class(&[range(b'0', b'2')], 616, 621),
+            class(&[range(b'0', b'7')], 621, 626),
+            class(&[range(b'0', b'7')], 626, 631),
         ]?,
-        603,
-        623,
+        611,
+        631,
     ))
 }
 
@@ -488,12 +491,12 @@ fn char_two_digits(alloc: Global) -> Result<Expr, AllocError>
 {
     Ok(seq(
         vec![in alloc;
-            literal(alloc, b"\\", 626, 630)?,
-            class(&[range(b'0', b'7')], 631, 636),
-            optional(alloc, class(&[range(b'0', b'7')], 636, 641), 636, 642)?,
+            literal(alloc, b"\\", 634, 638)?,
+            class(&[range(b'0', b'7')], 639, 644),
+            optional(alloc, class(&[range(b'0', b'7')], 644, 649), 644, 650)?,
         ]?,
-        626,
-        642,
+        634,
+        650,
     ))
 }
 
@@ -503,12 +506,47 @@ fn char_alone(alloc: Global) -> Result<Expr, AllocError>
 {
     Ok(seq(
         vec![in alloc;
-            not(alloc, literal(alloc, b"\\", 646, 650)?, 645, 650)?,
-            any(651, 652),
+            not(alloc, literal(alloc, b"\\", 654, 658)?, 653, 658)?,
+            any(659, 660),
         ]?,
-        645,
-        652,
+        653,
+        660,
     ))
+}
+
+// COUNT <- '{' Number (',' Number)? '}' Spacing
+#[tactic(auto, unfolding(crate::specs::Figure::count_body))]
+fn count_body(alloc: Global) -> Result<Expr, AllocError>
+    ensures { IfOk result (λ body. form_of body ≡ count_body) }
+{
+    let comma_number = seq(
+        vec![in alloc;
+            literal(alloc, b",", 831, 834)?,
+            name(alloc, "Number", 835, 841)?,
+        ]?,
+        831,
+        841,
+    );
+    let second = optional(alloc, comma_number, 830, 843)?;
+    Ok(seq(
+        vec![in alloc;
+            literal(alloc, b"{", 819, 822)?,
+            name(alloc, "Number", 823, 829)?,
+            second,
+            literal(alloc, b"}", 844, 847)?,
+            name(alloc, "Spacing", 848, 855)?,
+        ]?,
+        819,
+        855,
+    ))
+}
+
+// Number <- [0-9]+
+#[tactic(auto, unfolding(crate::specs::Figure::number_body))]
+fn number_body(alloc: Global) -> Result<Expr, AllocError>
+    ensures { IfOk result (λ body. form_of body ≡ number_body) }
+{
+    plus(alloc, class(&[range(b'0', b'9')], 866, 871), 866, 872)
 }
 
 // Spacing <- (Space / Comment)*
@@ -518,12 +556,12 @@ fn spacing_body(alloc: Global) -> Result<Expr, AllocError>
 {
     let blank = choice(
         alloc,
-        name(alloc, "Space", 874, 879)?,
-        vec![in alloc; name(alloc, "Comment", 882, 889)?]?,
-        874,
-        889,
+        name(alloc, "Space", 945, 950)?,
+        vec![in alloc; name(alloc, "Comment", 953, 960)?]?,
+        945,
+        960,
     )?;
-    star(alloc, blank, 873, 891)
+    star(alloc, blank, 944, 962)
 }
 
 // Comment <- '#' (!EndOfLine .)* EndOfLine
@@ -533,21 +571,21 @@ fn comment_body(alloc: Global) -> Result<Expr, AllocError>
 {
     let text_byte = seq(
         vec![in alloc;
-            not(alloc, name(alloc, "EndOfLine", 909, 918)?, 908, 918)?,
-            any(919, 920),
+            not(alloc, name(alloc, "EndOfLine", 980, 989)?, 979, 989)?,
+            any(990, 991),
         ]?,
-        908,
-        920,
+        979,
+        991,
     );
-    let text = star(alloc, text_byte, 907, 922)?;
+    let text = star(alloc, text_byte, 978, 993)?;
     Ok(seq(
         vec![in alloc;
-            literal(alloc, b"#", 903, 906)?,
+            literal(alloc, b"#", 974, 977)?,
             text,
-            name(alloc, "EndOfLine", 923, 932)?,
+            name(alloc, "EndOfLine", 994, 1003)?,
         ]?,
-        903,
-        932,
+        974,
+        1003,
     ))
 }
 
@@ -558,13 +596,13 @@ fn space_body(alloc: Global) -> Result<Expr, AllocError>
 {
     choice(
         alloc,
-        literal(alloc, b" ", 942, 945)?,
+        literal(alloc, b" ", 1013, 1016)?,
         vec![in alloc;
-            literal(alloc, b"\t", 948, 952)?,
-            name(alloc, "EndOfLine", 955, 964)?,
+            literal(alloc, b"\t", 1019, 1023)?,
+            name(alloc, "EndOfLine", 1026, 1035)?,
         ]?,
-        942,
-        964,
+        1013,
+        1035,
     )
 }
 
@@ -575,13 +613,13 @@ fn end_of_line_body(alloc: Global) -> Result<Expr, AllocError>
 {
     choice(
         alloc,
-        literal(alloc, b"\r\n", 978, 984)?,
+        literal(alloc, b"\r\n", 1049, 1055)?,
         vec![in alloc;
-            literal(alloc, b"\n", 987, 991)?,
-            literal(alloc, b"\r", 994, 998)?,
+            literal(alloc, b"\n", 1058, 1062)?,
+            literal(alloc, b"\r", 1065, 1069)?,
         ]?,
-        978,
-        998,
+        1049,
+        1069,
     )
 }
 
@@ -590,5 +628,5 @@ fn end_of_line_body(alloc: Global) -> Result<Expr, AllocError>
 fn end_of_file_body(alloc: Global) -> Result<Expr, AllocError>
     ensures { IfOk result (λ body. form_of body ≡ end_of_file_body) }
 {
-    not(alloc, any(1013, 1014), 1012, 1014)
+    not(alloc, any(1084, 1085), 1083, 1085)
 }

@@ -2,13 +2,13 @@
 ghost use Rattle.std.specs.Prelude.{◌≡◌};
 ghost use Rattle.peg_figure.specs.FigureText.{text_of_figure};
 
-// The figure's 29 lines.
+// The figure's 31 lines.
 const FIGURE_TEXT: &[u8] = br#"Grammar <- Spacing Definition+ EndOfFile
 Definition <- Identifier LEFTARROW Expression
 Expression <- Sequence (SLASH Sequence)*
 Sequence <- Prefix*
 Prefix <- (AND / NOT)? Suffix
-Suffix <- Primary (QUESTION / STAR / PLUS)?
+Suffix <- Primary (QUESTION / STAR / PLUS / COUNT)?
 Primary <- Identifier !LEFTARROW / OPEN Expression CLOSE / Literal / Class / DOT
 Identifier <- IdentStart IdentCont* Spacing
 IdentStart <- [a-zA-Z_]
@@ -24,6 +24,8 @@ NOT <- '!' Spacing
 QUESTION <- '?' Spacing
 STAR <- '*' Spacing
 PLUS <- '+' Spacing
+COUNT <- '{' Number (',' Number)? '}' Spacing
+Number <- [0-9]+
 OPEN <- '(' Spacing
 CLOSE <- ')' Spacing
 DOT <- '.' Spacing
@@ -34,8 +36,8 @@ EndOfLine <- '\r\n' / '\n' / '\r'
 EndOfFile <- !.
 "#;
 
-/// The text of Ford's figure 1 (Ford 2004, section 2.1), with hexadecimal digits in its rule Char: a grammar file of 29
-/// rules that defines the notation.
+/// The text of Ford's figure 1 (Ford 2004, section 2.1), with counts in its rule Suffix and hexadecimal digits in its
+/// rule Char: a grammar file of 31 rules that defines the notation.
 pub fn figure_text() -> &'static [u8]
     ensures { result.now ≡ text_of_figure }
 {

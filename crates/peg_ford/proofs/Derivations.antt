@@ -7,13 +7,14 @@ use Rattle.std.specs.List.{starts_with}
 use Rattle.peg_bytes.specs.ByteSet.{Bytes, has}
 use Rattle.peg_bytes.specs.Extent.{Extent}
 use Rattle.peg_tree.specs.Trees.{Trees, NoTrees, Tree, followed_by}
-use Rattle.peg_ford.specs.Form.{Form, Forms, Literal, Class, Any, Name, Seq, Choice, Optional, Star, Plus, And, Not}
+use Rattle.peg_ford.specs.Form.{Form, Forms, Literal, Class, Any, Name, Seq, Choice, Optional, Star, Plus, Counted, And, Not}
 use Rattle.peg_ford.specs.Form.{End, Then, terminals}
 use Rattle.peg_ford.specs.Rules.{Rule, Meaning, meant}
 use Rattle.peg_ford.specs.Record.{Recognition, Failed, Matched, Record, Taking, IsRecord, matched_at}
 use Rattle.peg_ford.specs.Record.{behind, if_matched, if_failed, with_result}
-use Rattle.peg_ford.specs.Record.{literal_at, byte_at, as_tree, as_use, take_items, take_first, table, record_in}
-use Rattle.peg_ford.proofs.RecordLemmas.{Extends-refl, Extends-take_items, Extends-take_first, record_in-later}
+use Rattle.peg_ford.specs.Record.{literal_at, byte_at, as_tree, as_use, take_items, take_first, take_times, table, record_in}
+use Rattle.peg_ford.proofs.RecordLemmas.{Extends-refl, Extends-take_items, Extends-take_first, Extends-take_times}
+use Rattle.peg_ford.proofs.RecordLemmas.{record_in-later}
 use Rattle.peg_ford.proofs.ResultSteps.{begins_with, passes_any, starts_with-front, starts_with-rest}
 use Rattle.peg_ford.proofs.ResultSteps.{literal_at-matched, literal_at-failed, byte_at-matched, byte_at-failed}
 use Rattle.peg_ford.proofs.ResultSteps.{Recorded, Grows, Both, both, Recorded-same, Recorded-result, Recorded-map}
@@ -23,8 +24,13 @@ use Rattle.peg_ford.proofs.RecordLemmas as record_lemmas
 
 -- ---- the relation
 
+-- one less, and of none none
+abbrev pub one_less : ℕ → ℕ
+one_less zero = zero
+one_less (suc n) = n
+
 -- What comes of an expression at a place of a text; of items, each from where the one before ended; of alternatives, at
--- one place.
+-- one place; of a part that is matched at least min times and at most max times, each from where the one before ended.
 mutual
   pub data Derives (rules : List Rule) (text : List ℕ) : Form → (place : ℕ) → Recognition → Type 0 where
     literal_matched : {bytes : List ℕ} {span : Extent} {place end : ℕ}
@@ -70,6 +76,9 @@ mutual
         → Derives rules text part place (Matched middle first)
         → Derives rules text (Star part span) middle (Matched end more) → trees ≡ followed_by first more
         → Derives rules text (Plus part span) place (Matched end trees)
+    counted : {part : Form} {min max : ℕ} {span : Extent} {place : ℕ} {result : Recognition}
+        → DerivesTimes rules text part min max place result
+        → Derives rules text (Counted part min max span) place result
     and_matched : {part : Form} {span : Extent} {place end : ℕ} {trees : Trees}
         → Derives rules text part place (Matched end trees)
         → Derives rules text (And part span) place (Matched place NoTrees)
@@ -98,6 +107,19 @@ mutual
     alternative_failed : {first next : Form} {rest : Forms} {place : ℕ} {result : Recognition}
         → Derives rules text first place Failed → DerivesFirst rules text next rest place result
         → DerivesFirst rules text first (Then next rest) place result
+
+  pub data DerivesTimes (rules : List Rule) (text : List ℕ)
+      : Form → (min max place : ℕ) → Recognition → Type 0 where
+    times_none : {part : Form} {min place : ℕ} → DerivesTimes rules text part min zero place (Matched place NoTrees)
+    times_stopped : {part : Form} {max place : ℕ}
+        → Derives rules text part place Failed
+        → DerivesTimes rules text part zero (suc max) place (Matched place NoTrees)
+    times_failed : {part : Form} {min max place : ℕ}
+        → Derives rules text part place Failed → DerivesTimes rules text part (suc min) (suc max) place Failed
+    times_then : {part : Form} {min max place middle : ℕ} {trees : Trees} {more result : Recognition}
+        → Derives rules text part place (Matched middle trees)
+        → DerivesTimes rules text part (one_less min) max middle more → result ≡ behind trees more
+        → DerivesTimes rules text part min (suc max) place result
 
 -- a star never fails
 pub star_never_fails : {rules : List Rule} {text : List ℕ} {part : Form} {span : Extent} {place : ℕ}
@@ -146,7 +168,7 @@ module _ {rules : List Rule} {text : List ℕ} {span : Extent} {place : ℕ} whe
 -- ---- records by derivations
 
 module _ (rules : List Rule) (text : List ℕ) where
-  -- the records of an expression, of items and of alternatives, by n
+  -- the records of an expression, of items, of alternatives and of a part some times, by n
   abbrev pub records_of : Form → (terminal place n : ℕ) → Option Record
   records_of e terminal place n = record_in rules text n e terminal place
 
@@ -155,6 +177,10 @@ module _ (rules : List Rule) (text : List ℕ) where
 
   abbrev pub records_of_first : Form → Forms → (terminal place n : ℕ) → Option Record
   records_of_first first rest terminal place n = take_first (record_in rules text n) first rest terminal place
+
+  abbrev pub records_of_times : Form → (min max terminal place n : ℕ) → Option Record
+  records_of_times part min max terminal place n =
+      take_times (λ at. record_in rules text n part terminal at) min max place
 
   grows : (e : Form) (terminal place : ℕ) → Grows (records_of e terminal place)
   grows e terminal place more n = record_in-later rules text more n e terminal place
@@ -168,6 +194,12 @@ module _ (rules : List Rule) (text : List ℕ) where
   first_grows first rest terminal place more n =
       Extends-take_first (record_in rules text n) (record_in rules text (more + n)) (record_in-later rules text more n)
       first rest terminal place
+
+  times_grow : (part : Form) (min max terminal place : ℕ) → Grows (records_of_times part min max terminal place)
+  times_grow part min max terminal place more n =
+      Extends-take_times (λ at. record_in rules text n part terminal at)
+      (λ at. record_in rules text (more + n) part terminal at)
+      (λ at. record_in-later rules text more n part terminal at) min max place
 
   -- what the table gives of the records in n is the record in n + 1
   above : (e : Form) (terminal place : ℕ) {x : Recognition}
@@ -240,6 +272,10 @@ module _ (rules : List Rule) (text : List ℕ) where
   abbrev items_next : Form → Forms → ℕ → ℕ → ℕ → Option Record
   items_next item rest terminal n end = take_items (record_in rules text n) rest (terminal + terminals item) end
 
+  -- the rounds behind the first
+  abbrev times_next : Form → (min max terminal : ℕ) → ℕ → ℕ → Option Record
+  times_next part min max terminal n end = take_times (λ at. record_in rules text n part terminal at) min max end
+
   -- a predicate, by what it makes of its part's result
   turned : (turn : Recognition → ℕ → Recognition) (part : Form) (terminal place : ℕ) {x : Recognition}
       → Recorded (records_of part terminal place) x
@@ -303,6 +339,8 @@ module _ (rules : List Rule) (text : List ℕ) where
         (then_matched (records_of part terminal place) (star_next part span terminal) middle first
         (Matched end more)
         (round part span terminal place middle (to_record d terminal) (to_record ds terminal))))
+    to_record (counted {part} {min} {max} {span} {place} ds) terminal =
+        above (Counted part min max span) terminal place (to_times ds terminal)
     to_record (and_matched {part} {span} {place} d) terminal =
         above (And part span) terminal place (turned if_matched part terminal place (to_record d terminal))
     to_record (and_failed {part} {span} {place} d) terminal =
@@ -341,12 +379,34 @@ module _ (rules : List Rule) (text : List ℕ) where
         (first_grows next rest (terminal + terminals first) place) (to_record d terminal)
         (to_first ds (terminal + terminals first)))
 
+    -- and of a part some times
+    to_times : {part : Form} {min max place : ℕ} {x : Recognition}
+        → DerivesTimes rules text part min max place x → (terminal : ℕ)
+        → Recorded (records_of_times part min max terminal place) x
+    to_times (times_none {place = place}) terminal = Recorded-result (matched_at place) refl
+    to_times (times_stopped {part} {max} {place} d) terminal =
+        rounds_failed (records_of part terminal place) place (times_next part zero max terminal) (to_record d terminal)
+    to_times (times_failed {part} {min} {max} {place} d) terminal =
+        then_failed (records_of part terminal place) (times_next part min max terminal) (to_record d terminal)
+    to_times (times_then {part} {min = zero} {max} {place} {middle} {trees} {more} d ds is) terminal =
+        Recorded-same (records_of_times part zero (suc max) terminal place) is
+        (rounds_matched (records_of part terminal place) place (times_next part zero max terminal) middle trees more
+        (both (records_of part terminal place) (records_of_times part zero max terminal middle)
+        (grows part terminal place) (times_grow part zero max terminal middle) (to_record d terminal)
+        (to_times ds terminal)))
+    to_times (times_then {part} {min = suc min} {max} {place} {middle} {trees} {more} d ds is) terminal =
+        Recorded-same (records_of_times part (suc min) (suc max) terminal place) is
+        (then_matched (records_of part terminal place) (times_next part min max terminal) middle trees more
+        (both (records_of part terminal place) (records_of_times part min max terminal middle)
+        (grows part terminal place) (times_grow part min max terminal middle) (to_record d terminal)
+        (to_times ds terminal)))
+
 -- what is derived of an expression is the result of a record, whatever the number of its first terminal
 pub recorded : {rules : List Rule} {text : List ℕ} {e : Form} {place : ℕ} {x : Recognition}
     → Derives rules text e place x → (terminal : ℕ) → Recorded (records_of rules text e terminal place) x
 recorded {rules} {text} d terminal = to_record rules text d terminal
 
--- and of items, and of alternatives
+-- and of items, of alternatives, and of a part some times
 pub items_recorded : {rules : List Rule} {text : List ℕ} {items : Forms} {place : ℕ} {x : Recognition}
     → DerivesItems rules text items place x → (terminal : ℕ)
     → Recorded (records_of_items rules text items terminal place) x
@@ -356,6 +416,11 @@ pub first_recorded : {rules : List Rule} {text : List ℕ} {first : Form} {rest 
     → DerivesFirst rules text first rest place x → (terminal : ℕ)
     → Recorded (records_of_first rules text first rest terminal place) x
 first_recorded {rules} {text} ds terminal = to_first rules text ds terminal
+
+pub times_recorded : {rules : List Rule} {text : List ℕ} {part : Form} {min max place : ℕ} {x : Recognition}
+    → DerivesTimes rules text part min max place x → (terminal : ℕ)
+    → Recorded (records_of_times rules text part min max terminal place) x
+times_recorded {rules} {text} ds terminal = to_times rules text ds terminal
 
 -- any record of an expression, whatever the number of its first terminal, has the result that is derived
 pub one_record : {rules : List Rule} {text : List ℕ} {e : Form} {place : ℕ} {x : Recognition} {r : Record}
@@ -404,6 +469,24 @@ module _ (rules : List Rule) (text : List ℕ) (take : Taking) (taken : (e : For
       (λ part more e f g.
       alternative_failed (part_taken first terminal place part e f)
       (first_derived next rest (terminal + terminals first) place more g)) is
+
+  times_derived : (part : Form) (terminal min max place : ℕ) (r : Record)
+      → take_times (λ at. take part terminal at) min max place ≡ Some r
+      → DerivesTimes rules text part min max place r.result
+  times_derived part terminal min zero place r is =
+      some_case (DerivesTimes rules text part min zero place) (matched_at place) r times_none is
+  times_derived part terminal zero (suc max) place r is =
+      rounds_cases (DerivesTimes rules text part zero (suc max) place) (take part terminal place) place
+      (λ end. take_times (λ at. take part terminal at) zero max end) r
+      (λ p e f. times_stopped (part_taken part terminal place p e f))
+      (λ p more end trees e f g.
+      times_then (part_taken part terminal place p e f) (times_derived part terminal zero max end more g) refl) is
+  times_derived part terminal (suc min) (suc max) place r is =
+      then_cases (DerivesTimes rules text part (suc min) (suc max) place) (take part terminal place)
+      (λ end. take_times (λ at. take part terminal at) min max end) r
+      (λ p e f. times_failed (part_taken part terminal place p e f))
+      (λ p more end trees e f g.
+      times_then (part_taken part terminal place p e f) (times_derived part terminal min max end more g) refl) is
 
   -- of each form
   literal_derived : (bytes : List ℕ) (span : Extent) (terminal place : ℕ)
@@ -504,6 +587,8 @@ module _ (rules : List Rule) (text : List ℕ) (take : Taking) (taken : (e : For
       (λ p more end trees e f g.
       plus_derived part span place end trees more.result (part_taken part terminal place p e f)
       (taken (Star part span) terminal end more g)) is
+  table_derived (Counted part min max span) terminal place r is =
+      counted (times_derived part terminal min max place r is)
   table_derived (And part span) terminal place r is =
       map_cases (Derives rules text (And part span) place) (take part terminal place)
       (λ (r : Record). with_result r (if_matched r.result place)) r

@@ -2,7 +2,7 @@
 -- each text. By induction on the bytes left, and at one place on the rounds in which the expression is well-formed: a
 -- part that is asked for after some byte is at a later place, one asked for after none is well-formed in fewer rounds.
 use Rattle.std.proofs.Common.{◌≡◌, ℕ, zero, suc, ◌+◌, ◌<◌, ◌≤◌, inl, inr, nat_eq, Bool, true, false, List, [], ◌∷◌}
-use Rattle.std.proofs.Common.{◌++◌, All, Contains, length, drop, Option, None, Some, refl, sym, subst, arith}
+use Rattle.std.proofs.Common.{◌++◌, All, Contains, length, drop, Option, None, Some, refl, sym, subst, le_refl, arith}
 use Rattle.std.specs.List.{starts_with}
 use Rattle.std.proofs.lemmas.List.Elements.{All-cons, All-head, All-contains}
 use Rattle.std.proofs.lemmas.List.Elements.{Contains-append_left, Contains-append_right, Contains-push}
@@ -10,7 +10,7 @@ use Rattle.peg_bytes.specs.ByteSet.{Bytes, has}
 use Rattle.peg_bytes.specs.Extent.{Extent, between}
 use Rattle.peg_tree.specs.Trees.{Trees}
 use Rattle.peg_ford.specs.AbstractOutcomes.{GivesNothing, can_in}
-use Rattle.peg_ford.specs.Form.{Form, Forms, Literal, Class, Any, Name, Seq, Choice, Optional, Star, Plus, And, Not}
+use Rattle.peg_ford.specs.Form.{Form, Forms, Literal, Class, Any, Name, Seq, Choice, Optional, Star, Plus, Counted, And, Not}
 use Rattle.peg_ford.specs.Form.{End, Then}
 use Rattle.peg_ford.specs.Record.{Recognition, Failed, Matched, Record, IsRecord, behind, start_record}
 use Rattle.peg_ford.specs.Rules.{Rule, Meaning, names, name_of, meant}
@@ -21,6 +21,7 @@ use Rattle.peg_ford.proofs.Derivations.{any_matched, any_failed, name_matched, n
 use Rattle.peg_ford.proofs.Derivations.{optional_some, optional_none, star_none, star_more, plus_failed}
 use Rattle.peg_ford.proofs.Derivations.{plus_matched, and_matched, and_failed, not_matched, not_failed}
 use Rattle.peg_ford.proofs.Derivations.{star_never_fails, recorded, DerivesItems, items_none, items_failed, items_then, DerivesFirst}
+use Rattle.peg_ford.proofs.Derivations.{counted, DerivesTimes, times_none, times_stopped, times_failed, times_then}
 use Rattle.peg_ford.proofs.Derivations.{alternative_last, alternative_matched, alternative_failed}
 use Rattle.peg_ford.proofs.FineForms.{IsFine, AreFine, fine-first, fine-rest, fine-below, fine-star, fine-inside}
 use Rattle.peg_ford.proofs.MeaningLemmas.{All-numbered, meant-is_at, meant-known}
@@ -28,7 +29,7 @@ use Rattle.peg_ford.proofs.ResultSteps.{begins_with, passes_any}
 use Rattle.peg_ford.proofs.ShownOutcomes.{Ends, Shows, none_or_some, record_in-shows}
 use Rattle.peg_ford.proofs.TerminalLemmas.{record_in-ends}
 
--- a result of an expression at a place; of items, and of alternatives
+-- a result of an expression at a place; of items, of alternatives, and of a part some times
 abbrev pub HasResult : List Rule → List ℕ → Form → ℕ → Type 0
 HasResult rules text e place = (x : Recognition) × Derives rules text e place x
 
@@ -37,6 +38,9 @@ ItemsHave rules text items place = (x : Recognition) × DerivesItems rules text 
 
 abbrev FirstHas : List Rule → List ℕ → Form → Forms → ℕ → Type 0
 FirstHas rules text first rest place = (x : Recognition) × DerivesFirst rules text first rest place x
+
+abbrev TimesHave : List Rule → List ℕ → Form → (min max place : ℕ) → Type 0
+TimesHave rules text part min max place = (x : Recognition) × DerivesTimes rules text part min max place x
 
 -- a match within the text ends there, at its place or later; where it ends at its place, the expression gives 0
 record Reached (rules : List Rule) (text : List ℕ) (e : Form) (place end : ℕ) : Type 0 where
@@ -70,6 +74,36 @@ module _ (rules : List Rule) (text : List ℕ) (grammar : IsWellFormedGrammar ru
       → (x : Recognition) → Derives rules text m.body place x → HasResult rules text (Name name span) place
   name_has name span m place known Failed d = (Failed, name_failed known d)
   name_has name span m place known (Matched end trees) d = (_, name_matched known d refl)
+
+  -- a part some times, from a place on, where it has a result at each place from there
+  times_have : (part : Form) (place : ℕ)
+      → ((at : ℕ) → place ≤ at → at ≤ length text → HasResult rules text part at)
+      → (min max at : ℕ) → place ≤ at → at ≤ length text → TimesHave rules text part min max at
+  times_have part place has min zero at from within = (_, times_none)
+  times_have part place has zero (suc max) at from within =
+      let first = has at from within in
+      by first.0 first.1 (times_have part place has zero max)
+    where
+      by : (x : Recognition) → Derives rules text part at x
+          → ((next : ℕ) → place ≤ next → next ≤ length text → TimesHave rules text part zero max next)
+          → TimesHave rules text part zero (suc max) at
+      by Failed d next = (_, times_stopped d)
+      by (Matched end trees) d next =
+          let r = reached rules text part at end trees within d in
+          let more = next end (omega (arith, from, r.onward)) r.within in
+          (behind trees more.0, times_then d more.1 refl)
+  times_have part place has (suc min) (suc max) at from within =
+      let first = has at from within in
+      by first.0 first.1 (times_have part place has min max)
+    where
+      by : (x : Recognition) → Derives rules text part at x
+          → ((next : ℕ) → place ≤ next → next ≤ length text → TimesHave rules text part min max next)
+          → TimesHave rules text part (suc min) (suc max) at
+      by Failed d next = (_, times_failed d)
+      by (Matched end trees) d next =
+          let r = reached rules text part at end trees within d in
+          let more = next end (omega (arith, from, r.onward)) r.within in
+          (behind trees more.0, times_then d more.1 refl)
 
   -- Where fine expressions have results at later places, and those that are fewer rounds off have them here, so have
   -- those that the rules make of them.
@@ -162,6 +196,19 @@ module _ (rules : List Rule) (text : List ℕ) (grammar : IsWellFormedGrammar ru
                 (_, plus_matched d more.2 refl)
           ]
 
+      counted_here : (part : Form) (min max : ℕ) (span : Extent) → Is part → IsFine rules part
+          → HasResult rules text (Counted part min max span) place
+      counted_here part min max span is fine =
+          let all = times_have part place from_here min max place (le_refl place) here in
+          (all.0, counted all.1)
+        where
+          from_here : (at : ℕ) → place ≤ at → at ≤ length text → HasResult rules text part at
+          from_here at onward within =
+              elim (none_or_some place at onward) [
+                | inl none ↦ subst (HasResult rules text part) (sym none) (now part is fine)
+                | inr some ↦ later at some within part fine
+              ]
+
       optional_here : (part : Form) (span : Extent) (x : Recognition) → Derives rules text part place x
           → HasResult rules text (Optional part span) place
       optional_here part span Failed d = (_, optional_none d)
@@ -220,6 +267,8 @@ module _ (rules : List Rule) (text : List ℕ) (grammar : IsWellFormedGrammar ru
       table_here (Plus part span) is fine =
           let a = now part is.0 (fine-below rules (Plus part span) fine) in
           plus_here part span is.1 (fine-star rules part span fine) a.0 a.1
+      table_here (Counted part min max span) is fine =
+          counted_here part min max span is (fine-below rules (Counted part min max span) fine)
       table_here (And part span) is fine =
           let a = now part is (fine-below rules (And part span) fine) in
           and_here part span a.0 a.1

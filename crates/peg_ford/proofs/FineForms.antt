@@ -2,7 +2,7 @@
 use Rattle.std.proofs.Common.{ℕ, zero, suc, List, ◌∷◌, ◌++◌, All}
 use Rattle.std.proofs.lemmas.List.Elements.{All-nil, All-cons, All-head, All-tail, All-append}
 use Rattle.peg_bytes.specs.Extent.{Extent}
-use Rattle.peg_ford.specs.Form.{Form, Forms, Literal, Class, Any, Name, Seq, Choice, Optional, Star, Plus, And, Not}
+use Rattle.peg_ford.specs.Form.{Form, Forms, Literal, Class, Any, Name, Seq, Choice, Optional, Star, Plus, Counted, And, Not}
 use Rattle.peg_ford.specs.Form.{End, Then}
 use Rattle.peg_ford.specs.Rules.{Rule}
 use Rattle.peg_ford.specs.WellFormed.{IsWellFormedIn, IsWellFormed, below, below_all, subexpressions}
@@ -70,6 +70,7 @@ mutual
   fine-inside rules (Optional part span) fine = part-inside rules part fine (fine-inside rules part)
   fine-inside rules (Star part span) fine = part-inside rules part fine (fine-inside rules part)
   fine-inside rules (Plus part span) fine = part-inside rules part fine (fine-inside rules part)
+  fine-inside rules (Counted part min max span) fine = part-inside rules part fine (fine-inside rules part)
   fine-inside rules (And part span) fine = part-inside rules part fine (fine-inside rules part)
   fine-inside rules (Not part span) fine = part-inside rules part fine (fine-inside rules part)
 

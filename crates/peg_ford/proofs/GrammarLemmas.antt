@@ -10,9 +10,10 @@ use Rattle.std.proofs.lemmas.List.Folds.{list_any_at, list_any_none}
 use Rattle.std.proofs.lemmas.List.Quantifiers.{all_pairs_push}
 use Rattle.std.proofs.lemmas.Map.Views.{Contains-from_any, list_any-from_Contains}
 use Rattle.std.proofs.lemmas.Slice.Eq.{bytes_eq-Decides}
-use Rattle.peg_ford.specs.Form.{Reference}
-use Rattle.peg_ford.specs.Rules.{Rule, names, uses, defined_at}
-use Rattle.peg_ford.specs.Grammar.{IsGrammar, duplicate_after, first_duplicate, first_undefined, is_unknown}
+use Rattle.peg_ford.specs.Form.{Count, Reference}
+use Rattle.peg_ford.specs.Rules.{Rule, counts, names, uses, defined_at}
+use Rattle.peg_ford.specs.Grammar.{IsGrammar, duplicate_after, first_bad_count, first_duplicate, first_undefined}
+use Rattle.peg_ford.specs.Grammar.{is_in_range, is_unknown}
 
 -- some names that differ
 abbrev Distinct : List (List ℕ) → Type 0
@@ -111,17 +112,49 @@ no_unknown known (reference ∷ used) all =
     let is = list_any-from_Contains nat_list_eq_equiv reference.name known (All-head (IsKnown known) reference used all) in
     found known reference used is ∙ no_unknown known used (All-tail (IsKnown known) reference used all)
 
+-- where no count out of range is found, all are in range
+abbrev IsInRange : Count → Type 0
+IsInRange count = is_in_range count ≡ true
+
+abbrev is_bad : Count → Bool
+is_bad count = not (is_in_range count)
+
+bad_found : (count : Count) (written : List Count) {ranged : Bool} → is_in_range count ≡ ranged
+    → find is_bad (count ∷ written) ≡ (if not ranged then Some count else find is_bad written)
+bad_found count written is = ap (λ b. if not b then Some count else find is_bad written) is
+
+all_in_range : (written : List Count) → find is_bad written ≡ None → All IsInRange written
+all_in_range [] none = All-nil IsInRange
+all_in_range (count ∷ written) none = by (is_in_range count) refl (all_in_range written)
+  where
+    by : (ranged : Bool) → is_in_range count ≡ ranged → (find is_bad written ≡ None → All IsInRange written)
+        → All IsInRange (count ∷ written)
+    by false is rest = absurd (some≢none (sym (bad_found count written is) ∙ none))
+    by true is rest = All-cons IsInRange count written is (rest (sym (bad_found count written is) ∙ none))
+
+-- where all are in range, none out of range is found
+no_bad_count : (written : List Count) → All IsInRange written → find is_bad written ≡ None
+no_bad_count [] all = refl
+no_bad_count (count ∷ written) all =
+    bad_found count written (All-head IsInRange count written all)
+    ∙ no_bad_count written (All-tail IsInRange count written all)
+
 -- rules of which nothing is wrong are a grammar
 pub IsGrammar-from_searches : (rules : List Rule) → rules ≢ [] → first_duplicate rules ≡ None
-    → first_undefined rules ≡ None → IsGrammar rules
-IsGrammar-from_searches rules some distinct defined = record {
+    → first_undefined rules ≡ None → first_bad_count rules ≡ None → IsGrammar rules
+IsGrammar-from_searches rules some distinct defined counted = record {
   some = some;
   distinct = distinct_after [] rules distinct (λ i j d before within. absurd (omega arith));
   defined = all_known (names rules) (uses rules) defined;
+  counted = all_in_range (counts rules) counted;
 }
 
 -- nothing is wrong with the rules of a grammar
 pub searches_from_IsGrammar : (rules : List Rule) → IsGrammar rules
-    → (rules ≢ []) × (first_duplicate rules ≡ None) × (first_undefined rules ≡ None)
-searches_from_IsGrammar rules grammar =
-    (grammar.some, no_duplicate_after [] rules grammar.distinct, no_unknown (names rules) (uses rules) grammar.defined)
+    → (rules ≢ []) × (first_duplicate rules ≡ None) × (first_undefined rules ≡ None) × (first_bad_count rules ≡ None)
+searches_from_IsGrammar rules grammar = (
+  grammar.some,
+  no_duplicate_after [] rules grammar.distinct,
+  no_unknown (names rules) (uses rules) grammar.defined,
+  no_bad_count (counts rules) grammar.counted,
+)

@@ -5,7 +5,7 @@ use Rattle.std.proofs.Common.{option_map, slice_get, refl, sym, ap, ◌∙◌, s
 use Rattle.std.proofs.lemmas.List.Elements.{All-head, All-contains}
 use Rattle.peg_bytes.specs.Extent.{Extent}
 use Rattle.peg_ford.specs.AbstractOutcomes.{GivesNothing}
-use Rattle.peg_ford.specs.Form.{Form, Forms, Literal, Class, Any, Name, Seq, Choice, Optional, Star, Plus, And, Not}
+use Rattle.peg_ford.specs.Form.{Form, Forms, Literal, Class, Any, Name, Seq, Choice, Optional, Star, Plus, Counted, And, Not}
 use Rattle.peg_ford.specs.Form.{End, Then}
 use Rattle.peg_ford.specs.Loops.{Reaches, ItemsReach, SomeReaches, MeetsFirst, MeetInTurn, IsLeftCycle, IsEmptyLoop}
 use Rattle.peg_ford.specs.Rules.{Rule, Meaning, meant}
@@ -55,6 +55,9 @@ module _ (rules : List Rule) where
     reached_sooner (Plus part span) n name is reached =
         let before = round_before n (Plus part span) is in
         later name before.0 n before.1 (reached_sooner part before.0 name before.2.0 reached)
+    reached_sooner (Counted part min max span) n name is reached =
+        let before = round_before n (Counted part min max span) is in
+        later name before.0 n before.1 (reached_sooner part before.0 name before.2 reached)
     reached_sooner (And part span) n name is reached =
         let before = round_before n (And part span) is in
         later name before.0 n before.1 (reached_sooner part before.0 name before.2 reached)

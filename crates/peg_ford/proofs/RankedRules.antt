@@ -5,7 +5,7 @@ use Rattle.std.proofs.Common.{Option, None, Some, option_map, slice_get, refl, s
 use Rattle.std.proofs.lemmas.Bool.{true≢false}
 use Rattle.std.proofs.lemmas.List.Elements.{All-nil, All-cons, All-head, All-tail, All-append}
 use Rattle.peg_ford.specs.AbstractOutcomes.{CanAll, Judging, can_table, can_in, GivesNothing}
-use Rattle.peg_ford.specs.Form.{Form, Forms, Reference, Literal, Class, Any, Name, Seq, Choice, Optional, Star, Plus}
+use Rattle.peg_ford.specs.Form.{Form, Forms, Reference, Literal, Class, Any, Name, Seq, Choice, Optional, Star, Plus, Counted}
 use Rattle.peg_ford.specs.Form.{And, Not, End, Then, names_used, names_used_by_all}
 use Rattle.peg_ford.specs.Grammar.{IsGrammar}
 use Rattle.peg_ford.specs.Loops.{Reaches, ItemsReach, SomeReaches}
@@ -147,6 +147,9 @@ module _ (rules : List Rule) (judge : Judging) (closed : (e : Form) → CanAll (
     reached_fine (Plus part span) sound fine =
         let is = reached_fine part (sound_part (Plus part span) part sound.0 sound.1) fine in
         next_round rules is.0 (Plus part span) (is.1, repeats (Plus part span) part (λ h. h) sound.1)
+    reached_fine (Counted part min max span) sound fine =
+        let is = reached_fine part (sound_part (Counted part min max span) part sound.0 sound.1) fine in
+        next_round rules is.0 (Counted part min max span) is.1
     reached_fine (And part span) sound fine =
         let is = reached_fine part (sound_part (And part span) part sound.0 sound.1) fine in
         next_round rules is.0 (And part span) is.1
@@ -196,6 +199,8 @@ module _ (rules : List Rule) (judge : Judging) (closed : (e : Form) → CanAll (
           let here = sound_part (Star part span) part sound.0 sound.1 in with_parts part here (parts_fine part here)
       parts_fine (Plus part span) sound =
           let here = sound_part (Plus part span) part sound.0 sound.1 in with_parts part here (parts_fine part here)
+      parts_fine (Counted part min max span) sound =
+          let here = sound_part (Counted part min max span) part sound.0 sound.1 in with_parts part here (parts_fine part here)
       parts_fine (And part span) sound =
           let here = sound_part (And part span) part sound.0 sound.1 in with_parts part here (parts_fine part here)
       parts_fine (Not part span) sound =

@@ -8,9 +8,9 @@ use Rattle.std.proofs.lemmas.Bool.{ltb-true}
 use Rattle.std.proofs.lemmas.List.Elements.{All-nil, All-cons, All-append}
 use Rattle.peg_ford.specs.AbstractOutcomes.{Can, CanAll, cannot, only_nothing, something_or_fails, can_of_set, both}
 use Rattle.peg_ford.specs.AbstractOutcomes.{either}
-use Rattle.peg_ford.specs.AbstractOutcomes.{or_nothing, again, once_and_again, ahead, not_ahead}
+use Rattle.peg_ford.specs.AbstractOutcomes.{or_nothing, again, once_and_again, times, ahead, not_ahead}
 use Rattle.peg_ford.specs.AbstractOutcomes.{judge_items, judge_first, judge_meaning, can_table}
-use Rattle.peg_ford.specs.Form.{Form, Forms, Literal, Class, Any, Name, Seq, Choice, Optional, Star, Plus, And, Not}
+use Rattle.peg_ford.specs.Form.{Form, Forms, Literal, Class, Any, Name, Seq, Choice, Optional, Star, Plus, Counted, And, Not}
 use Rattle.peg_ford.specs.Form.{End, Then}
 use Rattle.peg_ford.specs.Form.{terminals}
 use Rattle.peg_ford.specs.Grammar.{IsGrammar}
@@ -49,6 +49,7 @@ abbrev mutual
   judged told (Optional part span) = or_nothing (judged told part)
   judged told (Star part span) = again (judged told part)
   judged told (Plus part span) = once_and_again (judged told part)
+  judged told (Counted part min max span) = times (judged told part) min max
   judged told (And part span) = ahead (judged told part)
   judged told (Not part span) = not_ahead (judged told part)
 
@@ -72,6 +73,7 @@ abbrev mutual
   repeats_something told (Optional part span) = repeats_something told part
   repeats_something told (Star part span) = not (judged told part).nothing && repeats_something told part
   repeats_something told (Plus part span) = not (judged told part).nothing && repeats_something told part
+  repeats_something told (Counted part min max span) = repeats_something told part
   repeats_something told (And part span) = repeats_something told part
   repeats_something told (Not part span) = repeats_something told part
 
@@ -91,6 +93,7 @@ abbrev mutual
   falls told rank (Optional part span) = falls told rank part
   falls told rank (Star part span) = falls told rank part
   falls told rank (Plus part span) = falls told rank part
+  falls told rank (Counted part min max span) = falls told rank part
   falls told rank (And part span) = falls told rank part
   falls told rank (Not part span) = falls told rank part
 
@@ -185,6 +188,8 @@ module _ (told : List ℕ → Told) where
     repeats-shown (Plus part span) e =
         All-cons Repeats (Plus part span) (subexpressions part) (loop-shown part e)
         (repeats-shown part (part-shown part e))
+    repeats-shown (Counted part min max span) e =
+        All-cons Repeats (Counted part min max span) (subexpressions part) tt (repeats-shown part e)
     repeats-shown (And part span) e = All-cons Repeats (And part span) (subexpressions part) tt (repeats-shown part e)
     repeats-shown (Not part span) e = All-cons Repeats (Not part span) (subexpressions part) tt (repeats-shown part e)
 
@@ -214,6 +219,7 @@ module _ (told : List ℕ → Told) where
       falls-shown (Optional part span) e reached = falls-shown part e reached
       falls-shown (Star part span) e reached = falls-shown part e reached
       falls-shown (Plus part span) e reached = falls-shown part e reached
+      falls-shown (Counted part min max span) e reached = falls-shown part e reached
       falls-shown (And part span) e reached = falls-shown part e reached
       falls-shown (Not part span) e reached = falls-shown part e reached
 
@@ -265,6 +271,7 @@ module _ (told : List ℕ → Told) where
   judged-closed rules names (Optional part span) = CanAll-refl (judged told (Optional part span))
   judged-closed rules names (Star part span) = CanAll-refl (judged told (Star part span))
   judged-closed rules names (Plus part span) = CanAll-refl (judged told (Plus part span))
+  judged-closed rules names (Counted part min max span) = CanAll-refl (judged told (Counted part min max span))
   judged-closed rules names (And part span) = CanAll-refl (judged told (And part span))
   judged-closed rules names (Not part span) = CanAll-refl (judged told (Not part span))
 

@@ -1,8 +1,8 @@
 -- What has a record in n has the same in n + 1, and so two records of one expression at one place are the same.
 use Rattle.std.proofs.Common.{◌≡◌, ℕ, zero, suc, ◌+◌, List, Option, None, Some, refl, ap, ◌∙◌, option_map, option_and_then, zero-add, suc-add, add_comm}
-use Rattle.peg_ford.specs.Form.{Form, Forms, Literal, Class, Any, Name, Seq, Choice, Optional, Star, Plus, And, Not, End, Then, terminals}
+use Rattle.peg_ford.specs.Form.{Form, Forms, Literal, Class, Any, Name, Seq, Choice, Optional, Star, Plus, Counted, And, Not, End, Then, terminals}
 use Rattle.peg_ford.specs.Rules.{Rule, Meaning, meant}
-use Rattle.peg_ford.specs.Record.{Recognition, Failed, Matched, Record, Taking, IsRecord, after_both, behind, followed, then_at, replaced, or_else, repeated, matched_at, as_use, if_matched, if_failed, with_result, take_items, take_first, table, record_in}
+use Rattle.peg_ford.specs.Record.{Recognition, Failed, Matched, Record, Taking, IsRecord, after_both, behind, followed, then_at, replaced, or_else, repeated, matched_at, as_use, if_matched, if_failed, with_result, take_items, take_first, take_times, table, record_in}
 
 -- what the first answers, the second answers too
 abbrev pub Extends : {A : Type 0} → Option A → Option A → Type 0
@@ -43,6 +43,14 @@ pub Extends-repeated : (result : Recognition) (place : ℕ) (part : Record) (nex
 Extends-repeated Failed place part next more h = Extends-refl (replaced Failed part (Some (matched_at place)))
 Extends-repeated (Matched end trees) place part next more h = Extends-followed (Matched end trees) part next more h
 
+-- where a part is taken wherever another is, so is it some times
+pub Extends-take_times : (one other : ℕ → Option Record) → ((place : ℕ) → Extends (one place) (other place)) → (min max place : ℕ) → Extends (take_times one min max place) (take_times other min max place)
+Extends-take_times one other h min zero place = Extends-refl (Some (matched_at place))
+Extends-take_times one other h zero (suc max) place =
+    Extends-and_then (λ (round : Record). repeated round.result place round (λ end. take_times one zero max end)) (λ (round : Record). repeated round.result place round (λ end. take_times other zero max end)) (one place) (other place) (λ round. Extends-repeated round.result place round (λ end. take_times one zero max end) (λ end. take_times other zero max end) (λ end. Extends-take_times one other h zero max end)) (h place)
+Extends-take_times one other h (suc min) (suc max) place =
+    Extends-then_at (one place) (other place) (λ end. take_times one min max end) (λ end. take_times other min max end) (h place) (λ end. Extends-take_times one other h min max end)
+
 -- where one way to take parts answers all that another does, so does the table over it
 module _ (take more : Taking) (h : (e : Form) (terminal place : ℕ) → Extends (take e terminal place) (more e terminal place)) where
   pub Extends-take_items : (items : Forms) (terminal place : ℕ) → Extends (take_items take items terminal place) (take_items more items terminal place)
@@ -69,6 +77,8 @@ module _ (take more : Taking) (h : (e : Form) (terminal place : ℕ) → Extends
       Extends-and_then (λ (round : Record). repeated round.result place round (λ end. take (Star part span) terminal end)) (λ (round : Record). repeated round.result place round (λ end. more (Star part span) terminal end)) (take part terminal place) (more part terminal place) (λ round. Extends-repeated round.result place round (λ end. take (Star part span) terminal end) (λ end. more (Star part span) terminal end) (λ end. h (Star part span) terminal end)) (h part terminal place)
   Extends-table rules text (Plus part span) terminal place =
       Extends-then_at (take part terminal place) (more part terminal place) (λ end. take (Star part span) terminal end) (λ end. more (Star part span) terminal end) (h part terminal place) (λ end. h (Star part span) terminal end)
+  Extends-table rules text (Counted part min max span) terminal place =
+      Extends-take_times (λ at. take part terminal at) (λ at. more part terminal at) (λ at. h part terminal at) min max place
   Extends-table rules text (And part span) terminal place =
       Extends-map (λ (r : Record). with_result r (if_matched r.result place)) (take part terminal place) (more part terminal place) (h part terminal place)
   Extends-table rules text (Not part span) terminal place =

@@ -1,8 +1,8 @@
 -- What an expression can do in n rounds it can do in n + 1, and what is well-formed in n is in n + 1.
 use Rattle.std.proofs.Common.{◌≡◌, ℕ, zero, suc, ◌+◌, Bool, true, false, ◌&&◌, ◌||◌, List, [], ◌∷◌, Option, None, Some, refl, ap, ◌∙◌, zero-add, suc-add}
-use Rattle.peg_ford.specs.Form.{Form, Forms, Literal, Class, Any, Name, Seq, Choice, Optional, Star, Plus, And, Not, End, Then}
+use Rattle.peg_ford.specs.Form.{Form, Forms, Literal, Class, Any, Name, Seq, Choice, Optional, Star, Plus, Counted, And, Not, End, Then}
 use Rattle.peg_ford.specs.Rules.{Rule, Meaning, meant}
-use Rattle.peg_ford.specs.AbstractOutcomes.{Can, CanAll, cannot, succeeds, both, either, or_nothing, again, once_and_again, ahead, not_ahead, Judging, judge_items, judge_first, judge_meaning, can_table, can_in}
+use Rattle.peg_ford.specs.AbstractOutcomes.{Can, CanAll, cannot, succeeds, both, either, or_nothing, again, once_and_again, times, ahead, not_ahead, Judging, judge_items, judge_first, judge_meaning, can_table, can_in}
 use Rattle.peg_ford.specs.WellFormed.{Asking, ItemsAre, AllAre, MeaningIs, WellFormedTable, IsWellFormedIn}
 
 -- where the first test is true, the second is
@@ -78,6 +78,14 @@ CanAll-once_and_again a c h = record {
   fails = h.fails;
 }
 
+pub CanAll-times : (a c : Can) → CanAll a c → (min max : ℕ) → CanAll (times a min max) (times c min max)
+CanAll-times a c h min zero = CanAll-refl (times a min zero)
+CanAll-times a c h zero (suc max) =
+    CanAll-or_nothing (both a (times a zero max)) (both c (times c zero max))
+    (CanAll-both a (times a zero max) c (times c zero max) h (CanAll-times a c h zero max))
+CanAll-times a c h (suc min) (suc max) =
+    CanAll-both a (times a min max) c (times c min max) h (CanAll-times a c h min max)
+
 pub CanAll-ahead : (a c : Can) → CanAll a c → CanAll (ahead a) (ahead c)
 CanAll-ahead a c h = record { nothing = Implies-succeeds a c h; something = λ e. e; fails = h.fails }
 
@@ -111,6 +119,7 @@ module _ (judge more : Judging) (h : (e : Form) → CanAll (judge e) (more e)) w
   CanAll-table rules (Optional part span) = CanAll-or_nothing (judge part) (more part) (h part)
   CanAll-table rules (Star part span) = CanAll-again (judge part) (more part) (h part)
   CanAll-table rules (Plus part span) = CanAll-once_and_again (judge part) (more part) (h part)
+  CanAll-table rules (Counted part min max span) = CanAll-times (judge part) (more part) (h part) min max
   CanAll-table rules (And part span) = CanAll-ahead (judge part) (more part) (h part)
   CanAll-table rules (Not part span) = CanAll-not_ahead (judge part) (more part) (h part)
 
@@ -152,6 +161,7 @@ module _ (rules : List Rule) (Is More : Asking) (h : (e : Form) → Is e → Mor
   WellFormedTable-more (Optional part span) is = h part is
   WellFormedTable-more (Star part span) is = (h part is.0, is.1)
   WellFormedTable-more (Plus part span) is = (h part is.0, is.1)
+  WellFormedTable-more (Counted part min max span) is = h part is
   WellFormedTable-more (And part span) is = h part is
   WellFormedTable-more (Not part span) is = h part is
 

@@ -5,7 +5,7 @@ use Rattle.std.proofs.lemmas.List.{length-map}
 use Rattle.std.proofs.lemmas.List.Sums.{sum_by-cons}
 use Rattle.std.proofs.lemmas.Option.{slice_get_past}
 use Rattle.std.specs.List.{position_or_len}
-use Rattle.peg_ford.specs.Form.{Form, Forms, Literal, Class, Any, Name, Seq, Choice, Optional, Star, Plus, And, Not, End, Then, terminals, terminals_of_all, form_weight, forms_weight}
+use Rattle.peg_ford.specs.Form.{Form, Forms, Literal, Class, Any, Name, Seq, Choice, Optional, Star, Plus, Counted, And, Not, End, Then, terminals, terminals_of_all, form_weight, forms_weight}
 use Rattle.peg_ford.specs.Numbers.{first_from, terminals_of}
 use Rattle.peg_ford.specs.Record.{Taking, as_use}
 use Rattle.peg_ford.specs.Rules.{Rule, Meaning, names, meant_from, weight_of}
@@ -24,6 +24,7 @@ mutual
   terminals-weight (Optional part span) = omega (arith, terminals-weight part)
   terminals-weight (Star part span) = omega (arith, terminals-weight part)
   terminals-weight (Plus part span) = omega (arith, terminals-weight part)
+  terminals-weight (Counted part min max span) = omega (arith, terminals-weight part)
   terminals-weight (And part span) = omega (arith, terminals-weight part)
   terminals-weight (Not part span) = omega (arith, terminals-weight part)
 

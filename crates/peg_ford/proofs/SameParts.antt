@@ -1,12 +1,12 @@
 -- What the recognition table makes of an expression depends only on what its case asks of.
-use Rattle.std.proofs.Common.{◌≡◌, ℕ, ◌+◌, ◌≤◌, List, Contains, Option, None, Some, refl, ap, ◌∙◌}
+use Rattle.std.proofs.Common.{◌≡◌, ℕ, zero, suc, ◌+◌, ◌≤◌, List, Contains, Option, None, Some, refl, ap, ◌∙◌}
 use Rattle.std.proofs.Common.{option_map, option_and_then}
 use Rattle.peg_tree.specs.Trees.{Trees}
-use Rattle.peg_ford.specs.Form.{Form, Forms, Literal, Class, Any, Name, Seq, Choice, Optional, Star, Plus, And, Not}
+use Rattle.peg_ford.specs.Form.{Form, Forms, Literal, Class, Any, Name, Seq, Choice, Optional, Star, Plus, Counted, And, Not}
 use Rattle.peg_ford.specs.Form.{End, Then, terminals}
 use Rattle.peg_ford.specs.Record.{Recognition, Failed, Matched, Record, Taking, after_both, behind, followed}
 use Rattle.peg_ford.specs.Record.{then_at, or_else, repeated, matched_at, as_use, if_matched, if_failed, with_result}
-use Rattle.peg_ford.specs.Record.{take_items, take_first, table}
+use Rattle.peg_ford.specs.Record.{take_items, take_first, take_times, table}
 use Rattle.peg_ford.specs.Rules.{Rule, Meaning, meant}
 use Rattle.peg_ford.proofs.States.{Part, part_of, AreAmong, AsksAmong}
 
@@ -71,6 +71,24 @@ module _ (known : List Part) (len : ℕ) (take more : Taking)
       ∙ ap (λ tried. or_else tried (take_first more next rest (terminal + terminals e) place))
       (agree e terminal place among.0 here)
 
+  same-times : (part : Form) (terminal min max place : ℕ) → Contains known (part_of terminal part) → place ≤ len
+      → take_times (λ at. take part terminal at) min max place ≡ take_times (λ at. more part terminal at) min max place
+  same-times part terminal min zero place there here = refl
+  same-times part terminal zero (suc max) place there here =
+      let next = λ (end : ℕ). take_times (λ at. take part terminal at) zero max end in
+      let others = λ (end : ℕ). take_times (λ at. more part terminal at) zero max end in
+      same-rounds (take part terminal place) place next others
+      (λ r end trees is matched.
+      same-times part terminal zero max end there (ends part terminal place end trees r here is matched))
+      ∙ ap (λ tried. rounds place tried others) (agree part terminal place there here)
+  same-times part terminal (suc min) (suc max) place there here =
+      let next = λ (end : ℕ). take_times (λ at. take part terminal at) min max end in
+      let others = λ (end : ℕ). take_times (λ at. more part terminal at) min max end in
+      same-then_at (take part terminal place) next others
+      (λ r end trees is matched.
+      same-times part terminal min max end there (ends part terminal place end trees r here is matched))
+      ∙ ap (λ tried. then_at tried others) (agree part terminal place there here)
+
   same-meaning : (place : ℕ) (meaning : Option Meaning)
       → ((m : Meaning) → meaning ≡ Some m → Contains known (part_of m.terminal m.body)) → place ≤ len
       → option_and_then (λ (m : Meaning). option_map (as_use m.rule place) (take m.body m.terminal place)) meaning
@@ -109,6 +127,8 @@ module _ (known : List Part) (len : ℕ) (take more : Taking)
       (λ r end trees is matched.
       agree (Star part span) terminal end among.0 (ends part terminal place end trees r here is matched))
       ∙ ap (λ tried. then_at tried others) (agree part terminal place among.1 here)
+  same-table rules text means (Counted part min max span) terminal place there among here =
+      same-times part terminal min max place among here
   same-table rules text means (And part span) terminal place there among here =
       ap (option_map (λ (r : Record). with_result r (if_matched r.result place))) (agree part terminal place among here)
   same-table rules text means (Not part span) terminal place there among here =

@@ -9,13 +9,14 @@ use Rattle.peg_bytes.specs.ByteSet.{Bytes, has, has_some}
 use Rattle.peg_bytes.specs.Extent.{Extent}
 use Rattle.peg_tree.specs.Trees.{Trees}
 use Rattle.peg_ford.specs.AbstractOutcomes.{Can, CanAll, only_nothing, something_or_fails, can_of_set, succeeds}
-use Rattle.peg_ford.specs.AbstractOutcomes.{both, either, or_nothing, again, once_and_again, ahead, not_ahead}
+use Rattle.peg_ford.specs.AbstractOutcomes.{both, either, or_nothing, again, once_and_again, times, ahead}
+use Rattle.peg_ford.specs.AbstractOutcomes.{not_ahead}
 use Rattle.peg_ford.specs.AbstractOutcomes.{Judging, judge_items, judge_first, judge_meaning, can_table, can_in}
-use Rattle.peg_ford.specs.Form.{Form, Forms, Literal, Class, Any, Name, Seq, Choice, Optional, Star, Plus, And, Not}
+use Rattle.peg_ford.specs.Form.{Form, Forms, Literal, Class, Any, Name, Seq, Choice, Optional, Star, Plus, Counted, And, Not}
 use Rattle.peg_ford.specs.Form.{End, Then, terminals}
 use Rattle.peg_ford.specs.Record.{Recognition, Failed, Matched, Record, Taking, matched_at, behind, if_matched}
 use Rattle.peg_ford.specs.Record.{if_failed, with_result, literal_at, byte_at, as_tree, as_use, take_items}
-use Rattle.peg_ford.specs.Record.{take_first, table, record_in}
+use Rattle.peg_ford.specs.Record.{take_first, take_times, table, record_in}
 use Rattle.peg_ford.specs.Rules.{Rule, Meaning, meant}
 use Rattle.peg_ford.proofs.ResultSteps.{begins_with, passes_any, literal_at-matched, literal_at-failed}
 use Rattle.peg_ford.proofs.ResultSteps.{byte_at-matched, byte_at-failed, some_case, map_cases, then_cases, or_cases}
@@ -141,6 +142,15 @@ Shows-once_and_again part star place middle trees (Matched end more) within roun
   something = rounds-something part star place middle end within round rest;
 }
 
+-- a part, and then as many more as may follow: these never fail
+Shows-or_both : (part : Can) (max place middle : ℕ) (trees : Trees) (x : Recognition) → Ends part place middle
+    → Shows (times part 0 max) middle x → Shows (or_nothing (both part (times part 0 max))) place (behind trees x)
+Shows-or_both part zero place middle trees Failed here rest = let never : false ≡ true = rest in cc
+Shows-or_both part (suc max) place middle trees Failed here rest = let never : false ≡ true = rest in cc
+Shows-or_both part max place middle trees (Matched end more) here rest =
+    Ends-or_nothing (both part (times part 0 max)) place end
+    (Shows-both part (times part 0 max) place middle trees (Matched end more) here rest)
+
 Shows-ahead : (part : Can) (place : ℕ) (x : Recognition) → Shows part place x
     → Shows (ahead part) place (if_matched x place)
 Shows-ahead part place Failed is = is
@@ -222,6 +232,33 @@ module _ (rules : List Rule) (text : List ℕ) (take : Taking) (judge : Judging)
       Shows-both (judge item) (judge_items judge rest) place end trees more.result
       (part_shown item terminal place part e f) (items_shown rest (terminal + terminals item) end more g)) is
 
+  times_shown : (part : Form) (terminal min max place : ℕ) (r : Record)
+      → take_times (λ at. take part terminal at) min max place ≡ Some r
+      → Shows (times (judge part) min max) place r.result
+  times_shown part terminal min zero place r is =
+      some_case (Shows only_nothing place) (matched_at place) r (Ends-here only_nothing place refl) is
+  times_shown part terminal zero (suc max) place r is =
+      let rest = times (judge part) 0 max in
+      let once = both (judge part) rest in
+      rounds_cases (Shows (or_nothing once) place) (take part terminal place) place
+      (λ end. take_times (λ at. take part terminal at) 0 max end) r
+      (λ p e f.
+      Ends-here (or_nothing once) place
+      (or_right once.nothing once.fails
+      (or_left (judge part).fails (succeeds (judge part) && rest.fails) (part_shown part terminal place p e f))))
+      (λ p more end trees e f g.
+      Shows-or_both (judge part) max place end trees more.result (part_shown part terminal place p e f)
+      (times_shown part terminal 0 max end more g)) is
+  times_shown part terminal (suc min) (suc max) place r is =
+      let rest = times (judge part) min max in
+      then_cases (Shows (both (judge part) rest) place) (take part terminal place)
+      (λ end. take_times (λ at. take part terminal at) min max end) r
+      (λ p e f.
+      or_left (judge part).fails (succeeds (judge part) && rest.fails) (part_shown part terminal place p e f))
+      (λ p more end trees e f g.
+      Shows-both (judge part) rest place end trees more.result (part_shown part terminal place p e f)
+      (times_shown part terminal min max end more g)) is
+
   first_shown : (first : Form) (rest : Forms) (terminal place : ℕ) (r : Record)
       → take_first take first rest terminal place ≡ Some r → Shows (judge_first judge first rest) place r.result
   first_shown first End terminal place r is = shown first terminal place r is
@@ -281,6 +318,7 @@ module _ (rules : List Rule) (text : List ℕ) (take : Taking) (judge : Judging)
       (λ p more end trees e f g.
       Shows-once_and_again (judge part) (judge (Star part span)) place end trees more.result (star part span)
       (part_shown part terminal place p e f) (shown (Star part span) terminal end more g)) is
+  table_shown (Counted part min max span) terminal place r is = times_shown part terminal min max place r is
   table_shown (And part span) terminal place r is =
       map_cases (Shows (ahead (judge part)) place) (take part terminal place)
       (λ (r : Record). with_result r (if_matched r.result place)) r

@@ -7,7 +7,7 @@ use Rattle.std.proofs.lemmas.List.Elements.{All-nil, All-cons, All-head, All-tai
 use Rattle.std.proofs.lemmas.List.Elements.{All-contains_itself}
 use Rattle.std.proofs.lemmas.List.Sums.{sum_by-cons}
 use Rattle.peg_bytes.specs.Extent.{between}
-use Rattle.peg_ford.specs.Form.{Form, Forms, Literal, Class, Any, Name, Seq, Choice, Optional, Star, Plus, And, Not}
+use Rattle.peg_ford.specs.Form.{Form, Forms, Literal, Class, Any, Name, Seq, Choice, Optional, Star, Plus, Counted, And, Not}
 use Rattle.peg_ford.specs.Form.{End, Then, terminals, form_weight, forms_weight}
 use Rattle.peg_ford.specs.Rules.{Rule, Meaning, meant_from, meant, weight_of}
 use Rattle.peg_ford.proofs.MeaningLemmas.{All-front, All-back}
@@ -33,6 +33,7 @@ abbrev mutual
   below terminal (Optional part span) = part_of terminal part ∷ below terminal part
   below terminal (Star part span) = part_of terminal part ∷ below terminal part
   below terminal (Plus part span) = part_of terminal (Star part span) ∷ part_of terminal part ∷ below terminal part
+  below terminal (Counted part min max span) = part_of terminal part ∷ below terminal part
   below terminal (And part span) = part_of terminal part ∷ below terminal part
   below terminal (Not part span) = part_of terminal part ∷ below terminal part
 
@@ -63,6 +64,7 @@ mutual
   length-below terminal (Optional part span) = omega (arith, length-below terminal part)
   length-below terminal (Star part span) = omega (arith, length-below terminal part)
   length-below terminal (Plus part span) = omega (arith, length-below terminal part)
+  length-below terminal (Counted part min max span) = omega (arith, length-below terminal part)
   length-below terminal (And part span) = omega (arith, length-below terminal part)
   length-below terminal (Not part span) = omega (arith, length-below terminal part)
 
@@ -104,6 +106,7 @@ module _ (known : List Part) where
   AsksAmong terminal (Star part span) = Contains known (part_of terminal part)
   AsksAmong terminal (Plus part span) =
       Contains known (part_of terminal (Star part span)) × Contains known (part_of terminal part)
+  AsksAmong terminal (Counted part min max span) = Contains known (part_of terminal part)
   AsksAmong terminal (And part span) = Contains known (part_of terminal part)
   AsksAmong terminal (Not part span) = Contains known (part_of terminal part)
 
@@ -141,6 +144,8 @@ module _ (known : List Part) where
         All-head (Contains known) (part_of terminal part) (below terminal part)
             (All-tail (Contains known) star rest all),
       )
+  asks_among terminal (Counted part min max span) all =
+      All-head (Contains known) (part_of terminal part) (below terminal part) all
   asks_among terminal (And part span) all =
       All-head (Contains known) (part_of terminal part) (below terminal part) all
   asks_among terminal (Not part span) all =
@@ -182,6 +187,7 @@ module _ (known : List Part) where
         let behind = All-tail (Contains known) star rest all in
         All-cons Closed star rest (asks_among terminal (Star part span) behind)
         (closed terminal part behind (closed_below terminal part))
+    closed_below terminal (Counted part min max span) all = closed terminal part all (closed_below terminal part)
     closed_below terminal (And part span) all = closed terminal part all (closed_below terminal part)
     closed_below terminal (Not part span) all = closed terminal part all (closed_below terminal part)
 

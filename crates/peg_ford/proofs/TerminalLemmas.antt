@@ -8,13 +8,13 @@ use Rattle.std.proofs.lemmas.List.Elements.{All-nil, All-cons, All-append, All-c
 use Rattle.peg_bytes.specs.Extent.{between}
 use Rattle.peg_bytes.specs.ByteSet.{has}
 use Rattle.peg_tree.specs.Trees.{Trees}
-use Rattle.peg_ford.specs.Form.{Form, Forms, Literal, Class, Any, Name, Seq, Choice, Optional, Star, Plus, And, Not, End, Then}
+use Rattle.peg_ford.specs.Form.{Form, Forms, Literal, Class, Any, Name, Seq, Choice, Optional, Star, Plus, Counted, And, Not, End, Then}
 use Rattle.peg_ford.specs.Form.{terminals, terminals_of_all}
 use Rattle.peg_ford.specs.Furthest.{IsFurthest}
 use Rattle.peg_ford.specs.Rules.{Rule, Meaning, meant_from, meant}
 use Rattle.peg_ford.specs.Record.{Recognition, Failed, Matched, Test, Record, Taking, matched_at, failed_at, after_both, behind, followed, then_at}
 use Rattle.peg_ford.specs.Record.{replaced, or_else, repeated, if_matched, if_failed, with_result, literal_at, byte_at, as_tree, as_use}
-use Rattle.peg_ford.specs.Record.{take_items, take_first, table, record_in, start_record}
+use Rattle.peg_ford.specs.Record.{take_items, take_first, take_times, table, record_in, start_record}
 use Rattle.peg_ford.specs.Terminals.{terminal_extents, terminal_extents_of_all, extents_of_terminals}
 
 -- an expression's terminals have as many extents as there are terminals
@@ -32,6 +32,7 @@ mutual
   length-terminal_extents (Optional part span) = length-terminal_extents part
   length-terminal_extents (Star part span) = length-terminal_extents part
   length-terminal_extents (Plus part span) = length-terminal_extents part
+  length-terminal_extents (Counted part min max span) = length-terminal_extents part
   length-terminal_extents (And part span) = length-terminal_extents part
   length-terminal_extents (Not part span) = length-terminal_extents part
 
@@ -184,6 +185,17 @@ module _ (most len : ℕ) where
   Keeps-rounds None place next here h k = tt
   Keeps-rounds (Some round) place next here h k = Keeps-repeated round.result place round next here h.ends h k
 
+  -- a part some times
+  Keeps-take_times : (take : ℕ → Option Record) → KeepsNext take → (min max place : ℕ) → place ≤ len
+      → Keeps (take_times take min max place)
+  Keeps-take_times take h min zero place here = IsWithin-matched_at place here
+  Keeps-take_times take h zero (suc max) place here =
+      Keeps-rounds (take place) place (λ end. take_times take zero max end) here (h place here)
+      (λ end within. Keeps-take_times take h zero max end within)
+  Keeps-take_times take h (suc min) (suc max) place here =
+      Keeps-then_at (take place) (λ end. take_times take min max end) (h place here)
+      (λ end within. Keeps-take_times take h min max end within)
+
   EndsBy-if_matched : (place : ℕ) → place ≤ len → (result : Recognition) → EndsBy len (if_matched result place)
   EndsBy-if_matched place here Failed = tt
   EndsBy-if_matched place here (Matched end trees) = here
@@ -279,6 +291,9 @@ module _ (most len : ℕ) where
       Keeps-table (Plus part span) terminal place room here =
           Keeps-then_at (take part terminal place) (λ end. take (Star part span) terminal end)
           (h part terminal place room here) (λ end within. h (Star part span) terminal end room within)
+      Keeps-table (Counted part min max span) terminal place room here =
+          Keeps-take_times (λ at. take part terminal at) (λ at within. h part terminal at room within) min max place
+          here
       Keeps-table (And part span) terminal place room here =
           Keeps-predicate (take part terminal place) (λ result. if_matched result place) (EndsBy-if_matched place here)
           (h part terminal place room here)

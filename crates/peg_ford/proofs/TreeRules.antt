@@ -5,12 +5,12 @@ use Rattle.peg_bytes.specs.Extent.{between}
 use Rattle.peg_bytes.specs.ByteSet.{has}
 use Rattle.peg_tree.specs.Nodes.{RulesBelow}
 use Rattle.peg_tree.specs.Trees.{Trees, NoTrees, Tree, followed_by}
-use Rattle.peg_ford.specs.Form.{Form, Forms, Literal, Class, Any, Name, Seq, Choice, Optional, Star, Plus, And, Not, End, Then}
+use Rattle.peg_ford.specs.Form.{Form, Forms, Literal, Class, Any, Name, Seq, Choice, Optional, Star, Plus, Counted, And, Not, End, Then}
 use Rattle.peg_ford.specs.Form.{terminals}
 use Rattle.peg_ford.specs.Rules.{Rule, Meaning, meant_from, meant}
 use Rattle.peg_ford.specs.Record.{Recognition, Failed, Matched, Record, Taking, matched_at, failed_at, after_both, behind, followed, then_at}
 use Rattle.peg_ford.specs.Record.{replaced, or_else, repeated, if_matched, if_failed, with_result, literal_at, byte_at, as_tree, as_use}
-use Rattle.peg_ford.specs.Record.{take_items, take_first, table, record_in, start_record}
+use Rattle.peg_ford.specs.Record.{take_items, take_first, take_times, table, record_in, start_record}
 
 -- the rules of trees that stand before others are those of both
 RulesBelow-followed_by : (most : ℕ) (trees more : Trees) → RulesBelow most trees → RulesBelow most more
@@ -107,6 +107,17 @@ module _ (most : ℕ) where
   Keeps-rounds None place next h k = tt
   Keeps-rounds (Some round) place next h k = Keeps-repeated round.result place round next h h k
 
+  -- a part some times
+  Keeps-take_times : (take : ℕ → Option Record) → KeepsNext take → (min max place : ℕ)
+      → Keeps (take_times take min max place)
+  Keeps-take_times take h min zero place = tt
+  Keeps-take_times take h zero (suc max) place =
+      Keeps-rounds (take place) place (λ end. take_times take zero max end) (h place)
+      (λ end. Keeps-take_times take h zero max end)
+  Keeps-take_times take h (suc min) (suc max) place =
+      Keeps-then_at (take place) (λ end. take_times take min max end) (h place)
+      (λ end. Keeps-take_times take h min max end)
+
   LeavesBelow-if_matched : (place : ℕ) (result : Recognition) → LeavesBelow most (if_matched result place)
   LeavesBelow-if_matched place Failed = tt
   LeavesBelow-if_matched place (Matched end trees) = tt
@@ -197,6 +208,8 @@ Keeps-table rules text take h (Star part span) terminal place =
 Keeps-table rules text take h (Plus part span) terminal place =
     Keeps-then_at (length rules) (take part terminal place) (λ end. take (Star part span) terminal end)
     (h part terminal place) (λ end. h (Star part span) terminal end)
+Keeps-table rules text take h (Counted part min max span) terminal place =
+    Keeps-take_times (length rules) (λ at. take part terminal at) (λ at. h part terminal at) min max place
 Keeps-table rules text take h (And part span) terminal place =
     Keeps-predicate (length rules) (take part terminal place) (λ result. if_matched result place)
     (LeavesBelow-if_matched (length rules) place)

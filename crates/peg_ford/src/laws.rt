@@ -8,12 +8,14 @@ ghost use Rattle.peg_ford.specs.Examples.{Gives, nested, nested_record, counted,
 ghost use Rattle.peg_ford.specs.Examples.{ordered_record, repeated_prefix, repeated_prefix_record};
 ghost use Rattle.peg_ford.specs.Examples.{all_can_in, nested_can, counted_can, itself, itself_can, signs, signs_can};
 ghost use Rattle.peg_ford.specs.Examples.{star_of_star, plus_of_empty, star_of_optional};
+ghost use Rattle.peg_ford.specs.Examples.{two_to_four, three_record, too_few_record, four_record, two_to_four_can};
 ghost use Rattle.peg_ford.specs.Form.{Form, Name};
 ghost use Rattle.peg_ford.specs.Rules.{Rule, name_of};
 ghost use Rattle.peg_ford.specs.LoopExamples.{only_rule, star_of_stuck_star, behind_optional, behind_empty_class};
+ghost use Rattle.peg_ford.specs.LoopExamples.{counted_itself, star_of_count};
 ghost use Rattle.peg_ford.specs.Loops.{IsEmptyLoop, IsLeftCycle, MeetsFirst};
 ghost use Rattle.peg_ford.specs.Ranked.{IsRanked};
-ghost use Rattle.peg_ford.specs.Grammar.{IsGrammar, first_duplicate, first_undefined};
+ghost use Rattle.peg_ford.specs.Grammar.{IsGrammar, first_bad_count, first_duplicate, first_undefined};
 ghost use Rattle.peg_ford.specs.Furthest.{IsFurthest};
 ghost use Rattle.peg_ford.specs.FurthestPass.{furthest_of};
 ghost use Rattle.peg_ford.specs.Record.{Failed, Matched, Record, IsRecord, Test, record_in, start_record};
@@ -41,12 +43,15 @@ pub fn one_pass_gives_the_furthest_failure()
     ensures { (tests : List Test) → IsFurthest tests (furthest_of tests).far (furthest_of tests).expected }
 {}
 
-/// The definitions on four grammars that were worked by hand: result, trees, failed tests, uses and furthest failure.
+/// The definitions on five grammars that were worked by hand: result, trees, failed tests, uses and furthest failure.
 pub fn the_definitions_agree_with_hand_worked_grammars()
     ensures nested { Gives nested (codes "S") (codes "aab") nested_record 2 (0 ∷ []) }
     ensures counted { Gives counted (codes "D") (codes "aabbcc") counted_record 6 (2 ∷ []) }
     ensures ordered { Gives ordered (codes "S") (codes "ab") ordered_record 0 [] }
     ensures repeated_prefix { Gives repeated_prefix (codes "A") (codes "(a)y") repeated_prefix_record 3 (2 ∷ []) }
+    ensures three { Gives two_to_four (codes "A") (codes "aaa") three_record 3 (0 ∷ []) }
+    ensures too_few { Gives two_to_four (codes "A") (codes "a") too_few_record 1 (0 ∷ []) }
+    ensures four { Gives two_to_four (codes "A") (codes "aaaaa") four_record 0 [] }
 {}
 
 /// What expressions can do, by hand: a rule that is only itself can do nothing, in any number of rounds, and a star or
@@ -55,6 +60,7 @@ pub fn the_outcomes_agree_with_hand_worked_grammars()
     ensures nested { all_can_in nested 8 ≡ nested_can }
     ensures counted { all_can_in counted 8 ≡ counted_can }
     ensures signs { all_can_in signs 8 ≡ signs_can }
+    ensures two_to_four { all_can_in two_to_four 8 ≡ two_to_four_can }
     ensures itself { (n : ℕ) → all_can_in itself n ≡ itself_can }
     ensures star_of_star { ¬ IsWellFormed [] star_of_star }
     ensures plus_of_empty { ¬ IsWellFormed [] plus_of_empty }
@@ -62,12 +68,13 @@ pub fn the_outcomes_agree_with_hand_worked_grammars()
     ensures well_formed { IsWellFormedGrammar nested }
 {}
 
-/// Rules are a grammar exactly where there is one, none has the name of an earlier one, and no name is used that none
-/// has. So each of these faults is of rules that are no grammar, and rules that are none have one of them. Does
-/// nothing.
+/// Rules are a grammar exactly where there is one, none has the name of an earlier one, no name is used that none has,
+/// and no count is out of range. So each of these faults is of rules that are no grammar, and rules that are none have
+/// one of them. Does nothing.
 pub fn grammars_are_not_refused()
     ensures { (rules : List Rule) → IsGrammar rules
-        ↔ ((rules ≢ []) × (first_duplicate rules ≡ None) × (first_undefined rules ≡ None)) }
+        ↔ ((rules ≢ []) × (first_duplicate rules ≡ None) × (first_undefined rules ≡ None)
+        × (first_bad_count rules ≡ None)) }
 {}
 
 /// Every failed test is of a terminal that the rules write, and so is every terminal of a furthest failure: its number
@@ -172,4 +179,6 @@ pub fn the_loops_agree_with_hand_worked_grammars()
     ensures behind_optional { IsLeftCycle behind_optional (0 ∷ 1 ∷ []) }
     ensures behind_empty_class { ¬ MeetsFirst behind_empty_class 0 0 }
     ensures itself { IsLeftCycle itself (0 ∷ []) }
+    ensures counted_itself { IsLeftCycle counted_itself (0 ∷ []) }
+    ensures star_of_count { IsEmptyLoop star_of_count 0 (between 5 16) }
 {}

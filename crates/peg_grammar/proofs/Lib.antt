@@ -1,6 +1,8 @@
+mod BadCounts
 pub mod LoopLemmas
 mod NameLists
 mod OutcomeLemmas
 mod SeenLemmas
 mod StepLemmas
+mod TimesLemmas
 pub mod WrittenForms

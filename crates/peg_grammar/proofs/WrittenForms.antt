@@ -1,5 +1,5 @@
 -- What each written expression stands for, where a value in code holds boxes and lists.
-use Rattle.std.proofs.Common.{◌≡◌, map, sym, ap, ◌∙◌, string_bytes}
+use Rattle.std.proofs.Common.{◌≡◌, ℕ, map, sym, ap, ◌∙◌, string_bytes}
 use Rattle.std.specs.declared.alloc.Global.{Global}
 use Rattle.std.specs.declared.boxed.Box.{Box}
 use Rattle.std.specs.declared.string.String.{String}
@@ -10,8 +10,8 @@ use Rattle.peg_ford.specs.Form as form
 use Rattle.peg_ford.specs.Form.{Form, forms}
 use Rattle.peg_grammar.specs.Written.{form_of, node_form}
 use Rattle.peg_grammar.specs.declared.expr.Expr.{Expr}
-use Rattle.peg_grammar.specs.declared.expr.Expr.TheViews.{Seq, Choice, Optional, Star, Plus, And, Not}
-use Rattle.peg_grammar.specs.declared.expr.Expr.TheVariants.{Name, rolls-Name, rolls-Seq, rolls-Choice, rolls-Optional, rolls-Star, rolls-Plus, rolls-And, rolls-Not}
+use Rattle.peg_grammar.specs.declared.expr.Expr.TheViews.{Seq, Choice, Optional, Star, Plus, Counted, And, Not}
+use Rattle.peg_grammar.specs.declared.expr.Expr.TheVariants.{Name, rolls-Name, rolls-Seq, rolls-Choice, rolls-Optional, rolls-Star, rolls-Plus, rolls-Counted, rolls-And, rolls-Not}
 use Rattle.peg_grammar.specs.declared.expr.Expr.TheOpen as layer
 use Rattle.peg_grammar.specs.declared.expr.Expr.TheFolds.{fold-roll-Expr}
 
@@ -39,6 +39,10 @@ form_of-Star part span = ap form_of (sym (rolls-Star part span)) ∙ fold-roll-E
 
 pub form_of-Plus : (part : Box Expr Global) (span : Span) → form_of (Plus part span) ≡ form.Plus (form_of part.value) (extent span)
 form_of-Plus part span = ap form_of (sym (rolls-Plus part span)) ∙ fold-roll-Expr Form node_form (layer.Plus part span)
+
+pub form_of-Counted : (part : Box Expr Global) (min max : ℕ) (span : Span) → form_of (Counted part min max span) ≡ form.Counted (form_of part.value) min max (extent span)
+form_of-Counted part min max span =
+    ap form_of (sym (rolls-Counted part min max span)) ∙ fold-roll-Expr Form node_form (layer.Counted part min max span)
 
 pub form_of-And : (part : Box Expr Global) (span : Span) → form_of (And part span) ≡ form.And (form_of part.value) (extent span)
 form_of-And part span = ap form_of (sym (rolls-And part span)) ∙ fold-roll-Expr Form node_form (layer.And part span)

@@ -50,6 +50,13 @@ pub enum Expr {
         part: Box<Expr>,
         span: Span,
     },
+    /// The part at least `min` times and at most `max` times, until it fails.
+    Counted {
+        part: Box<Expr>,
+        min: u8,
+        max: u8,
+        span: Span,
+    },
     /// Nothing, where the part matches.
     And {
         part: Box<Expr>,

@@ -15,6 +15,10 @@ pub enum GrammarFault {
     /// The first use of a name that no definition has, and where it stands.
     #[error("no rule has a name that is used")]
     Undefined { name: String, span: Span },
+    /// The first count that is out of range, an expression before its parts, and where the counted expression stands:
+    /// `min` over `max`, or `max` 0.
+    #[error("a count is out of range")]
+    BadCount { span: Span },
     /// A grammar whose weight is over `MOST_PARTS`.
     #[error("the grammar has too many parts")]
     TooManyParts,

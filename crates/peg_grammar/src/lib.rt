@@ -1,6 +1,7 @@
 //! Grammars as written, in code, and the plain evaluators of Ford's recognition relation.
 #![tactic(auto)]
 
+mod counts;
 mod expr;
 mod fault;
 mod found;

@@ -10,6 +10,7 @@ ghost use Rattle.peg_grammar.specs.Refusal.{Refuses};
 ghost use Rattle.peg_ford.specs.Rules.{names as names_of, uses};
 ghost use Rattle.peg_grammar.specs.Written.{form_of, rules_of};
 
+use crate::counts::first_bad_count;
 use crate::name_key::NameKey;
 use crate::{Definition, Expr, GrammarFault};
 use indexmap::IndexSet;
@@ -32,6 +33,9 @@ pub(crate) fn checked_names(
     if let Some((name, span)) = first_unknown(&names, definitions) {
         let name = String::from_str(alloc, name)?;
         return Err(GrammarFault::Undefined { name, span });
+    }
+    if let Some(count) = first_bad_count(definitions) {
+        return Err(GrammarFault::BadCount { span: count.span });
     }
     Ok(names)
 }
@@ -124,6 +128,7 @@ fn unknown_in<'a>(
         Expr::Optional { part, .. }
         | Expr::Star { part, .. }
         | Expr::Plus { part, .. }
+        | Expr::Counted { part, .. }
         | Expr::And { part, .. }
         | Expr::Not { part, .. } => unknown_in(names, part),
     }

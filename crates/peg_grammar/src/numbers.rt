@@ -21,6 +21,7 @@ pub(crate) fn count_of(expr: &Expr) -> u32
         Expr::Optional { part, .. }
         | Expr::Star { part, .. }
         | Expr::Plus { part, .. }
+        | Expr::Counted { part, .. }
         | Expr::And { part, .. }
         | Expr::Not { part, .. } => count_of(part),
     }

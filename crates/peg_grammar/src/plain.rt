@@ -100,7 +100,8 @@ impl<'a> Plain<'a> {
     ghost use Rattle.std.specs.Prelude.{◌≡◌, ℕ, ◌+◌, ◌<◌, ◌≤◌, map, length, drop, IfOk, Some, true, string_bytes};
     ghost use Rattle.peg_bytes.specs.ByteSet.{has, bytes_of};
     ghost use Rattle.peg_bytes.specs.Extent.{Extent};
-    ghost use Rattle.peg_ford.specs.Form.{Name, Seq, Choice, Optional, Star, Plus, And, Not, forms, terminals};
+    ghost use Rattle.peg_ford.specs.Form.{Name, Seq, Choice, Optional, Star, Plus, Counted, And, Not, forms};
+    ghost use Rattle.peg_ford.specs.Form.{terminals};
     ghost use Rattle.peg_ford.specs.Form.{terminals_of_all};
     ghost use Rattle.peg_grammar.specs.Found.{seen_in};
     ghost use Rattle.peg_ford.specs.Grammar.{most_parts};
@@ -222,6 +223,9 @@ impl<'a> Plain<'a> {
             Expr::Optional { part, .. } => self.optional(found, part, terminal, place, depth),
             Expr::Star { part, .. } => self.rounds(found, part, terminal, place, depth),
             Expr::Plus { part, .. } => self.plus(found, part, terminal, place, depth),
+            Expr::Counted { part, min, max, .. } => {
+                self.counted(found, part, *min, *max, terminal, place, depth)
+            }
             Expr::And { part, .. } => self.and(found, part, terminal, place, depth),
             Expr::Not { part, .. } => self.not(found, part, terminal, place, depth),
         }
@@ -391,6 +395,43 @@ impl<'a> Plain<'a> {
             Ok(Verdict::Fails) => Ok(Verdict::Fails),
             Ok(Verdict::EndsAt { end }) => self.star(found, part, terminal, end, depth),
         }
+    }
+
+    /// The part at least `min` times and at most `max` times, each time from where the one before ended.
+    #[cycle(plain)]
+    fn counted(
+        &self,
+        found: &mut Found,
+        part: &Expr,
+        min: u8,
+        max: u8,
+        terminal: u32,
+        place: u32,
+        depth: u64,
+    ) -> Result<Verdict, Stop>
+        requires place { place ≤ length (text_of self.now) }
+        requires few { terminal + terminals (form_of part.now) ≤ most_parts }
+        ensures evaluates { (span : Extent) → Evaluates
+            (table_in self.now depth (Counted (form_of part.now) min max span) terminal place)
+            (seen_in found.old) result (seen_in found.new) }
+        ensures within { IfOk result (EndsWithin place (length (text_of self.now))) }
+    {
+        let held = found.rows.len();
+        let mut at = place;
+        for round in 0..max {
+            match self.expression(found, part, terminal, at, depth) {
+                Err(stop) => return Err(stop),
+                Ok(Verdict::Fails) => {
+                    if round >= min {
+                        return Ok(Verdict::EndsAt { end: at });
+                    }
+                    found.rows.truncate(held);
+                    return Ok(Verdict::Fails);
+                }
+                Ok(Verdict::EndsAt { end }) => at = end,
+            }
+        }
+        Ok(Verdict::EndsAt { end: at })
     }
 
     /// Nothing, where the part matches; what it left is dropped.

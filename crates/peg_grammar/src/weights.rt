@@ -35,6 +35,7 @@ fn expression_weight(expression: &Expr) -> u64
         Expr::Optional { part, .. }
         | Expr::Star { part, .. }
         | Expr::Plus { part, .. }
+        | Expr::Counted { part, .. }
         | Expr::And { part, .. }
         | Expr::Not { part, .. } => expression_weight(part),
     };

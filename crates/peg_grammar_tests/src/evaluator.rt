@@ -61,6 +61,36 @@ fn a_plus_has_its_parts_terminals_once(rt: HostRuntime) -> Result<(), Fail> {
     assert_cases(&rt, rt.alloc(), b"S <- [a-c]+ 'x'?", &cases)
 }
 
+// The round that fails leaves its test; the fifth a is not looked at.
+#[test]
+fn a_count_goes_round_as_often_as_it_may(rt: HostRuntime) -> Result<(), Fail> {
+    let cases = [
+        matched(b"aaa", 3, 3, &[0], &[(0, 0, 3, 0)]),
+        failed(b"a", 1, &[0]),
+        matched(b"aaaaa", 4, 0, &[], &[(0, 0, 4, 0)]),
+    ];
+    assert_cases(&rt, rt.alloc(), b"A <- 'a'{2,4}", &cases)
+}
+
+// Of the second round of `(B 'x')`, which fails, neither the byte nor the node of B stays.
+#[test]
+fn the_round_of_a_count_that_fails_is_dropped(rt: HostRuntime) -> Result<(), Fail> {
+    let cases = [
+        matched(b"bxby", 2, 3, &[0], &[(0, 0, 2, 1), (1, 0, 1, 0)]),
+        matched(b"y", 0, 0, &[1], &[(0, 0, 0, 0)]),
+    ];
+    assert_cases(&rt, rt.alloc(), b"A <- (B 'x'){0,3}    B <- 'b'", &cases)
+}
+
+#[test]
+fn a_count_may_go_round_on_nothing(rt: HostRuntime) -> Result<(), Fail> {
+    let cases = [
+        matched(b"a", 0, 0, &[], &[(0, 0, 0, 0)]),
+        matched(b"", 0, 0, &[], &[(0, 0, 0, 0)]),
+    ];
+    assert_cases(&rt, rt.alloc(), b"A <- (''){3}", &cases)
+}
+
 #[test]
 fn an_empty_literal_matches_and_an_empty_class_fails(rt: HostRuntime) -> Result<(), Fail> {
     let cases = [

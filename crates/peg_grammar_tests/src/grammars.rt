@@ -1,9 +1,9 @@
 //! Tests of grammars made of definitions, and of what is wrong with others.
 use crate::outcomes::grammar_of;
 use peg_bytes::Span;
-use peg_grammar::{Expr, Grammar, GrammarFault, weight};
+use peg_grammar::{Definition, Expr, Grammar, GrammarFault, weight};
 use peg_notation::read;
-use std::alloc::Global;
+use std::alloc::{AllocError, Global};
 use std::process::Abort;
 use std::test::Fail;
 
@@ -71,4 +71,55 @@ fn all_forms_are_weighed_and_their_names_looked_up(rt: HostRuntime) -> Result<()
     assert_eq!(rt; grammar_of(alloc, file)?.rules(), 1);
     let file = b"S <- [a-z]. 'xy'? (!T)* [a-z]+ &S";
     assert_undefined(&rt, alloc, file, Span::new(20, 21))
+}
+
+// One rule with this body.
+fn only_rule(alloc: Global, body: Expr) -> Result<Vec<Definition>, Fail> {
+    let (name, span) = (String::from_str(alloc, "A")?, Span::new(0, 1));
+    let mut definitions = Vec::new(alloc);
+    definitions.push(Definition { name, span, body })?;
+    Ok(definitions)
+}
+
+// A count of a part.
+fn counted(alloc: Global, part: Expr, min: u8, max: u8, span: Span) -> Result<Expr, AllocError> {
+    let part = Box::new(alloc, part)?;
+    Ok(Expr::Counted {
+        part,
+        min,
+        max,
+        span,
+    })
+}
+
+// A rule of two counts, one in the other, is refused for the one that is out of range; of two such for the outer one.
+#[test]
+fn the_first_count_out_of_range_is_told(rt: HostRuntime) -> Result<(), Fail> {
+    let alloc = rt.alloc();
+    let (inner, outer) = (Span::new(6, 12), Span::new(5, 18));
+    let cases = [
+        ((2, 1), (1, 1), Some(inner)),
+        ((2, 1), (0, 0), Some(outer)),
+        ((1, 2), (3, 2), Some(outer)),
+        ((1, 1), (2, 1), Some(outer)),
+        ((0, 1), (255, 255), None),
+    ];
+    for ((min, max), (least, most), wanted) in cases {
+        let part = counted(
+            alloc,
+            Expr::Any {
+                span: Span::new(6, 7),
+            },
+            min,
+            max,
+            inner,
+        )?;
+        let body = counted(alloc, part, least, most, outer)?;
+        let told = match Grammar::new(alloc, only_rule(alloc, body)?) {
+            Err(GrammarFault::BadCount { span }) => Some(span),
+            _ => None,
+        };
+        assert_eq!(rt; told, wanted);
+    }
+    Ok(())
 }

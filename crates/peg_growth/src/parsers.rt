@@ -40,7 +40,7 @@ pub(crate) fn call(rt: &impl Print, alloc: Global, word: &str) -> io::Result<boo
         "parse_memo_1" => parsed(rt, alloc, None, 1)?,
         "parse_memo" => parsed(rt, alloc, Some("A"), DEFAULT_MEMO)?,
         "parse_no_start" => parsed(rt, alloc, Some("B"), DEFAULT_MEMO)?,
-        "read_by_figure" => figured(rt, alloc, CHAIN)?,
+        "read_by_figure" => figured(rt, alloc, COUNTS)?,
         "read_by_figure_fault" => figured(rt, alloc, OPEN)?,
         _ => return Ok(false),
     }

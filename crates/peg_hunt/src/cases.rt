@@ -28,12 +28,13 @@ const TOO_DEEP: u8 = 6;
 // How deep the cases of recognition nest at most.
 const DEPTH: u64 = 5_000;
 
-/// A grammar file by chance.
+/// A grammar file by chance, for which texts are made by chance; or a grammar file with a text.
 #[derive(Drop)]
 struct Case {
     seed: u64,
     number: u64,
     file: Vec<u8>,
+    text: Option<Vec<u8>>,
 }
 
 // The place that a refusal tells first, if it does.
@@ -48,6 +49,28 @@ fn place_in(line: &[u8]) -> u32 {
             .saturating_add(u32::from(byte.saturating_sub(b'0')));
     }
     place
+}
+
+// Whether a count stands at a place of a file whose numbers are out of range.
+fn is_bad_count(file: &[u8], at: u32) -> bool {
+    let (mut least, mut number, mut two) = (0u64, 0u64, false);
+    for byte in file.iter().skip(at as usize).skip(1) {
+        match byte {
+            b'0'..=b'9' => {
+                number = number
+                    .saturating_mul(10)
+                    .saturating_add(u64::from(byte.saturating_sub(b'0')))
+            }
+            b',' => {
+                least = number;
+                number = 0;
+                two = true;
+            }
+            b'}' => return number == 0 || number > 255 || (two && least > number),
+            _ => return false,
+        }
+    }
+    false
 }
 
 impl Case {
@@ -106,6 +129,55 @@ impl Case {
         self.refuses(rt, alloc, &wanted, counts)
     }
 
+    // A file whose first count out of range stands there.
+    fn miscounted(
+        &self,
+        rt: &impl Print,
+        alloc: Global,
+        at: u32,
+        counts: &mut Counts,
+    ) -> io::Result<()> {
+        counts.unread = counts.unread.saturating_add(1);
+        let wanted = unread_line(alloc, &self.file, at, "BadCount")?;
+        self.refuses(rt, alloc, &wanted, counts)
+    }
+
+    // A file that the figure doesn't match: no syntax, or a count out of range stands before what is wrong.
+    fn unmatched(&self, rt: &impl Print, alloc: Global, counts: &mut Counts) -> io::Result<()> {
+        let told = run_on(alloc, &self.file, b"", &Command::Check).bytes;
+        let at = place_in(&told);
+        let miscounted = unread_line(alloc, &self.file, at, "BadCount")?;
+        if told.as_slice() == miscounted.text.as_bytes() && is_bad_count(&self.file, at) {
+            return self.miscounted(rt, alloc, at, counts);
+        }
+        self.unread(rt, alloc, "Syntax", counts)
+    }
+
+    // A file: what it is refused for, or its grammar.
+    fn judge(
+        &self,
+        rt: &impl Print,
+        alloc: Global,
+        chance: &mut Chance,
+        counts: &mut Counts,
+    ) -> io::Result<()> {
+        let definitions = match read_by_figure(alloc, &self.file) {
+            Ok(definitions) => definitions,
+            Err(FigureFault::Memory) => return Err(io::Error::from(AllocError)),
+            Err(FigureFault::TooNested) => return self.unread(rt, alloc, "TooNested", counts),
+            Err(FigureFault::BadCount { at }) => return self.miscounted(rt, alloc, at, counts),
+            Err(_) => return self.unmatched(rt, alloc, counts),
+        };
+        match Grammar::new(alloc, definitions) {
+            Ok(grammar) => self.grammar(rt, alloc, chance, &grammar, counts),
+            Err(fault) => {
+                counts.no_grammar = counts.no_grammar.saturating_add(1);
+                let wanted = no_grammar_line(alloc, &self.file, &fault)?;
+                self.refuses(rt, alloc, &wanted, counts)
+            }
+        }
+    }
+
     // A grammar: its table, and what it is refused for, or its parses.
     fn grammar(
         &self,
@@ -137,7 +209,7 @@ impl Case {
         Ok(())
     }
 
-    // Some texts, of which all but the first are broken.
+    // The text of the case; or some texts by chance, of which all but the first are broken.
     fn texts(
         &self,
         rt: &impl Print,
@@ -147,17 +219,34 @@ impl Case {
         parser: &Parser,
         counts: &mut Counts,
     ) -> io::Result<()> {
+        if let Some(text) = &self.text {
+            return self.small_text(rt, alloc, chance, grammar, parser, text, counts);
+        }
         for at in 0..TEXTS {
             let mut text = some_text(alloc, chance, grammar)?;
             if at > 0 {
                 break_text(chance, &mut text)?;
             }
-            if is_small(alloc, parser, &text)? {
-                self.text(rt, alloc, chance, grammar, &text, counts)?;
-            } else {
-                counts.skipped = counts.skipped.saturating_add(1);
-            }
+            self.small_text(rt, alloc, chance, grammar, parser, &text, counts)?;
         }
+        Ok(())
+    }
+
+    // A text, unless a parse of it takes too many steps.
+    fn small_text(
+        &self,
+        rt: &impl Print,
+        alloc: Global,
+        chance: &mut Chance,
+        grammar: &Grammar,
+        parser: &Parser,
+        text: &[u8],
+        counts: &mut Counts,
+    ) -> io::Result<()> {
+        if is_small(alloc, parser, text)? {
+            return self.text(rt, alloc, chance, grammar, text, counts);
+        }
+        counts.skipped = counts.skipped.saturating_add(1);
         Ok(())
     }
 
@@ -252,19 +341,29 @@ pub(crate) fn run_case(
     if chance.one_in(10) {
         break_bytes(&mut chance, &mut file)?;
     }
-    let case = Case { seed, number, file };
-    let definitions = match read_by_figure(alloc, &case.file) {
-        Ok(definitions) => definitions,
-        Err(FigureFault::Memory) => return Err(io::Error::from(AllocError)),
-        Err(FigureFault::TooNested) => return case.unread(rt, alloc, "TooNested", counts),
-        Err(_) => return case.unread(rt, alloc, "Syntax", counts),
+    let case = Case {
+        seed,
+        number,
+        file,
+        text: None,
     };
-    match Grammar::new(alloc, definitions) {
-        Ok(grammar) => case.grammar(rt, alloc, &mut chance, &grammar, counts),
-        Err(fault) => {
-            counts.no_grammar = counts.no_grammar.saturating_add(1);
-            let wanted = no_grammar_line(alloc, &case.file, &fault)?;
-            case.refuses(rt, alloc, &wanted, counts)
-        }
-    }
+    case.judge(rt, alloc, &mut chance, counts)
+}
+
+/// The case of a grammar file and a text.
+pub(crate) fn run_pair(
+    rt: &impl Print,
+    alloc: Global,
+    file: Vec<u8>,
+    text: Vec<u8>,
+    counts: &mut Counts,
+) -> io::Result<()> {
+    counts.cases = counts.cases.saturating_add(1);
+    let case = Case {
+        seed: 0,
+        number: 0,
+        file,
+        text: Some(text),
+    };
+    case.judge(rt, alloc, &mut Chance::new(0, 0), counts)
 }

@@ -30,6 +30,31 @@ const LEVELS: u32 = 3;
 
 const ALTERNATIVES: [usize; 6] = [1, 1, 1, 2, 2, 3];
 
+// Counts that are in range, and some that aren't.
+const COUNTS: [&[u8]; 12] = [
+    b"{1}",
+    b"{2}",
+    b"{3}",
+    b"{0,1}",
+    b"{0,2}",
+    b"{1,2}",
+    b"{1,3}",
+    b"{2,4}",
+    b"{0,5}",
+    b"{02}",
+    b"{00,001}",
+    b"{3,3}",
+];
+
+const COUNTS_OUT_OF_RANGE: [&[u8]; 6] = [
+    b"{0}",
+    b"{00,0}",
+    b"{2,1}",
+    b"{256}",
+    b"{0,999}",
+    b"{1,18446744073709551617}",
+];
+
 const ITEMS: [usize; 12] = [0, 1, 1, 1, 1, 2, 2, 2, 2, 2, 3, 3];
 
 /// The names of a file's rules, and how many it has; and the rule whose expression is written.
@@ -107,6 +132,17 @@ fn add_sequence(
     Ok(())
 }
 
+// A count with its spacing, at times one that is out of range.
+fn add_count(chance: &mut Chance, file: &mut Vec<u8>) -> Result<(), AllocError> {
+    let count = if chance.one_in(80) {
+        COUNTS_OUT_OF_RANGE[chance.below(6)]
+    } else {
+        COUNTS[chance.below(12)]
+    };
+    file.extend_from_slice(count)?;
+    add_spacing(chance, file)
+}
+
 // A primary, with a sign before it and one behind it, or without.
 #[cycle(expression)]
 fn add_item(
@@ -127,6 +163,10 @@ fn add_item(
         }
         1 => add_repeated(chance, file, rules, levels, b'*'),
         2 => add_repeated(chance, file, rules, levels, b'+'),
+        3 => {
+            add_primary(chance, file, rules, levels, false)?;
+            add_count(chance, file)
+        }
         _ => add_primary(chance, file, rules, levels, false),
     }
 }

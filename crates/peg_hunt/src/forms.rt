@@ -101,9 +101,23 @@ fn can(expr: &Expr, forms: &Forms<'_>) -> Can {
             let once = can(part, forms);
             once.then(once.repeated())
         }
+        Expr::Counted { part, min, max, .. } => counted(can(part, forms), *min, *max),
         Expr::And { part, .. } => can(part, forms).denied().denied(),
         Expr::Not { part, .. } => can(part, forms).denied(),
     }
+}
+
+// What a part can do at least so often and at most so often.
+fn counted(part: Can, min: u8, max: u8) -> Can {
+    let optional = max.saturating_sub(min);
+    let mut all = Can::NOTHING;
+    for done in 0..max {
+        all = part.then(all);
+        if done < optional {
+            all = all.or(Can::NOTHING);
+        }
+    }
+    all
 }
 
 // What a sequence can do.
@@ -142,9 +156,10 @@ fn loop_in(expr: &Expr, forms: &Forms<'_>) -> Option<Span> {
             }
             loop_in(part, forms)
         }
-        Expr::Optional { part, .. } | Expr::And { part, .. } | Expr::Not { part, .. } => loop_in(
-            part, forms,
-        ),
+        Expr::Optional { part, .. }
+        | Expr::Counted { part, .. }
+        | Expr::And { part, .. }
+        | Expr::Not { part, .. } => loop_in(part, forms),
     }
 }
 
@@ -177,6 +192,7 @@ fn add_uses(expr: &Expr, forms: &Forms<'_>, uses: &mut Vec<u32>) -> Result<(), A
         Expr::Optional { part, .. }
         | Expr::Star { part, .. }
         | Expr::Plus { part, .. }
+        | Expr::Counted { part, .. }
         | Expr::And { part, .. }
         | Expr::Not { part, .. } => add_uses(part, forms, uses),
     }

@@ -40,6 +40,7 @@ fn add_terminals(expr: &Expr, spans: &mut Vec<Span>) -> Result<(), AllocError> {
         Expr::Optional { part, .. }
         | Expr::Star { part, .. }
         | Expr::Plus { part, .. }
+        | Expr::Counted { part, .. }
         | Expr::And { part, .. }
         | Expr::Not { part, .. } => add_terminals(part, spans),
     }
@@ -135,6 +136,10 @@ pub(crate) fn no_grammar_line(
             *span,
         ),
         GrammarFault::NoRule => Ok(refused(String::from_str(alloc, "no rule")?)),
+        GrammarFault::BadCount { .. } => Ok(refused(String::from_str(
+            alloc,
+            "a count out of range",
+        )?)),
         GrammarFault::TooManyParts => Ok(refused(String::from_str(alloc, "too many parts")?)),
         GrammarFault::Memory => Err(AllocError),
     }

@@ -1,5 +1,5 @@
 //! Texts by chance that a grammar is likely to match, and what breaks a text or a file.
-ghost use Rattle.std.specs.Prelude.{◌<◌, ◌≤◌};
+ghost use Rattle.std.specs.Prelude.{◌+◌, ◌<◌, ◌≤◌};
 
 use crate::chance::Chance;
 use peg_bytes::ByteSet;
@@ -74,6 +74,11 @@ impl<'a> Walk<'a> {
             Expr::Optional { part, .. } => self.repeat(part, 0, 2, levels - 1),
             Expr::Star { part, .. } => self.repeat(part, 0, 4, levels - 1),
             Expr::Plus { part, .. } => self.repeat(part, 1, 3, levels - 1),
+            Expr::Counted { part, min, max, .. } => {
+                let least = usize::from(*min);
+                let optional = usize::from(*max).saturating_sub(least);
+                self.repeat(part, least, optional + 1, levels - 1)
+            }
             Expr::And { .. } | Expr::Not { .. } => Ok(()),
         }
     }
@@ -110,7 +115,7 @@ impl<'a> Walk<'a> {
         levels: u32,
     ) -> Result<(), AllocError>
         requires some { 0 < more }
-        requires few { least ≤ 1 }
+        requires few { least + more ≤ 1000 }
     {
         if levels == 0 {
             return Ok(());

@@ -7,13 +7,13 @@ use Rattle.peg_ford.specs.Form.{Name}
 use Rattle.peg_ford.specs.Record.{Failed, Matched}
 use Rattle.peg_ford.proofs.Derivations.{Derives, recorded}
 use Rattle.peg_figure.specs.Figure.{figure}
-use Rattle.peg_lexer.specs.Lexical.{begins_name, identifier, literal, quoted, class, text_of, kind_of, Found, token_of, spacing}
+use Rattle.peg_lexer.specs.Lexical.{begins_name, identifier, literal, quoted, class, count, text_of, kind_of, Found, token_of, spacing}
 use Rattle.peg_lexer.specs.LexicalCode.{Seen, seen_found, token_seen}
 use Rattle.peg_figure.specs.Notation.{Matches, Fails}
 use Rattle.peg_lexer.specs.Pieces.{Piece, these}
 use Rattle.peg_lexer.specs.Tokens.{rule_of_kind, Lexeme, IsLexeme, Lexemes, Begins, IsLexingFault}
 use Rattle.peg_lexer.specs.declared.token.TokenKind.{TokenKind}
-use Rattle.peg_lexer.specs.declared.token.TokenKind.TheVariants.{Ident, Literal, Class, Arrow, Slash, And, Not, Question, Star, Plus, Open, Close, Dot}
+use Rattle.peg_lexer.specs.declared.token.TokenKind.TheVariants.{Ident, Literal, Class, Arrow, Slash, And, Not, Question, Star, Plus, Count, Open, Close, Dot}
 use Rattle.peg_lexer.proofs.PieceLemmas.{from, from-drop}
 use Rattle.peg_lexer.proofs.SpacingRules.{finds-spacing}
 use Rattle.peg_lexer.proofs.Texts.{FindsToken, behind_text}
@@ -57,6 +57,7 @@ kind_matches file Question p piece found = lexeme_found Question
     ((rules.takes-question file).some (between 0 0) p piece found)
 kind_matches file Star p piece found = lexeme_found Star ((rules.takes-star_sign file).some (between 0 0) p piece found)
 kind_matches file Plus p piece found = lexeme_found Plus ((rules.takes-plus file).some (between 0 0) p piece found)
+kind_matches file Count p piece found = lexeme_found Count ((rules.takes-count file).some (between 0 0) p piece found)
 kind_matches file Open p piece found = lexeme_found Open ((rules.takes-open_sign file).some (between 0 0) p piece found)
 kind_matches file Close p piece found = lexeme_found Close ((rules.takes-close file).some (between 0 0) p piece found)
 kind_matches file Dot p piece found = lexeme_found Dot ((rules.takes-dot file).some (between 0 0) p piece found)
@@ -73,6 +74,7 @@ kind_fails file Not p none = fails ((rules.takes-not_sign file).none (between 0 
 kind_fails file Question p none = fails ((rules.takes-question file).none (between 0 0) p none)
 kind_fails file Star p none = fails ((rules.takes-star_sign file).none (between 0 0) p none)
 kind_fails file Plus p none = fails ((rules.takes-plus file).none (between 0 0) p none)
+kind_fails file Count p none = fails ((rules.takes-count file).none (between 0 0) p none)
 kind_fails file Open p none = fails ((rules.takes-open_sign file).none (between 0 0) p none)
 kind_fails file Close p none = fails ((rules.takes-close file).none (between 0 0) p none)
 kind_fails file Dot p none = fails ((rules.takes-dot file).none (between 0 0) p none)
@@ -99,7 +101,7 @@ of_sign kind sign more byte rest is =
 
 pub kinds_apart : (kind : TokenKind) (byte : ℕ) (rest : List ℕ)
     → (kind_of byte ≡ Some kind) ⊎ (text_of kind (byte ∷ rest) ≡ None)
-unfolding kind_of identifier literal quoted class
+unfolding kind_of identifier literal quoted class count
 kinds_apart Ident byte rest = by (begins_name byte) refl
   where
     by : (t : Bool) → begins_name byte ≡ t → (kind_of byte ≡ Some Ident) ⊎ (text_of Ident (byte ∷ rest) ≡ None)
@@ -121,6 +123,8 @@ kinds_apart Not byte rest = of_sign Not 33 [] byte rest refl
 kinds_apart Question byte rest = of_sign Question 63 [] byte rest refl
 kinds_apart Star byte rest = of_sign Star 42 [] byte rest refl
 kinds_apart Plus byte rest = of_sign Plus 43 [] byte rest refl
+kinds_apart Count byte rest =
+    elim (of_sign Count 123 [] byte rest refl) [ inl same ↦ inl same | inr none ↦ inr (rw none refl) ]
 kinds_apart Open byte rest = of_sign Open 40 [] byte rest refl
 kinds_apart Close byte rest = of_sign Close 41 [] byte rest refl
 kinds_apart Dot byte rest = of_sign Dot 46 [] byte rest refl

@@ -1,4 +1,5 @@
 mod Classes
+mod CountTexts
 pub mod Escapes
 pub mod Lexemes
 pub mod OneLexing

@@ -7,12 +7,12 @@ use Rattle.peg_ford.specs.Form.{Name}
 use Rattle.peg_ford.specs.Record.{Record, Failed, Matched}
 use Rattle.peg_ford.proofs.RecordLemmas.{one_record}
 use Rattle.peg_figure.specs.Figure.{figure}
-use Rattle.peg_lexer.specs.Lexical.{identifier, literal, quoted, class, text_of, kind_of}
+use Rattle.peg_lexer.specs.Lexical.{identifier, literal, quoted, class, text_of, kind_of, count}
 use Rattle.peg_figure.specs.Notation.{Matches, Fails}
 use Rattle.peg_figure.specs.Spelled.{text_end}
 use Rattle.peg_lexer.specs.Tokens.{rule_of_kind, Lexeme, IsLexeme, Lexemes, Begins, IsTokens, IsLexingFault}
 use Rattle.peg_lexer.specs.declared.token.TokenKind.{TokenKind}
-use Rattle.peg_lexer.specs.declared.token.TokenKind.TheVariants.{Ident, Literal, Class, Arrow, Slash, And, Not, Question, Star, Plus, Open, Close, Dot}
+use Rattle.peg_lexer.specs.declared.token.TokenKind.TheVariants.{Ident, Literal, Class, Arrow, Slash, And, Not, Question, Star, Plus, Count, Open, Close, Dot}
 use Rattle.peg_lexer.proofs.Lexemes.{kind_fails, kinds_apart}
 
 -- ---- what a rule of the figure matches at a place is one
@@ -37,7 +37,7 @@ not_both file name place {end} {trees} a b =
 
 -- where no bytes are left no kind has a text
 no_text : (kind : TokenKind) → text_of kind [] ≡ None
-unfolding identifier literal quoted class
+unfolding identifier literal quoted class count
 no_text Ident = refl
 no_text Literal = refl
 no_text Class = refl
@@ -48,6 +48,7 @@ no_text Not = refl
 no_text Question = refl
 no_text Star = refl
 no_text Plus = refl
+no_text Count = refl
 no_text Open = refl
 no_text Close = refl
 no_text Dot = refl

@@ -1,5 +1,5 @@
 -- The figure's rules from Spacing to EndOfLine, as functions on the bytes at the front.
-use Rattle.std.proofs.Common.{max, ◌≡◌, ℕ, ◌+◌, true, List, [], length, drop, refl, ap, ◌∙◌, codes, lit<, append-nil, arith}
+use Rattle.std.proofs.Common.{max, ◌≡◌, ℕ, ◌+◌, true, List, [], ◌++◌, length, drop, refl, ap, ◌∙◌, codes, lit<, append-nil, arith}
 use Rattle.peg_bytes.specs.Extent.{Extent, between}
 use Rattle.peg_tree.specs.Trees.{Trees, NoTrees, Tree}
 use Rattle.peg_ford.specs.Record.{Matched}
@@ -9,7 +9,7 @@ use Rattle.peg_figure.specs.Figure.{figure, end_of_line_body, space_body, commen
 use Rattle.peg_figure.specs.FigureRules as rule
 use Rattle.peg_lexer.specs.Lexical.{end_of_line, space, comment, in_comment, space_or_comment, spacing}
 use Rattle.peg_lexer.specs.Pieces.{Piece, followed, star, unless, many}
-use Rattle.peg_figure.specs.Spelled.{spelled, text_end}
+use Rattle.peg_figure.specs.Spelled.{spelled, text_end, bad_counts}
 use Rattle.peg_figure.specs.Nesting.{nesting}
 use Rattle.peg_figure.proofs.FigureNames.{end_of_line-meant, space-meant, comment-meant, spacing-meant}
 use Rattle.peg_lexer.proofs.PieceSizes.{Fits, HasBytes, is_long, fits-these, has-these, fits-one, has-one, fits-followed, has-first, has-next, fits-either, has-either, fits-unless, fits-star, IsBlank, blank-these, blank-one, blank-followed, blank-either, blank-unless, blank-many, blank-star}
@@ -29,7 +29,7 @@ end_of_line-some =
     (has-these (codes "\r") (lit< tt)))
 
 end_of_line-nodes : Nodes rule.end_of_line (λ text inner. inner)
-end_of_line-nodes = record { spells = λ file before start end last inner. refl; no_spacing = refl; no_primary = refl }
+end_of_line-nodes = record { spells = λ file before start end last inner. refl; no_spacing = refl; no_primary = refl; no_count = refl }
 
 pub takes-end_of_line : (file : List ℕ) (start end : ℕ)
     → Takes file (Name (codes "EndOfLine") (between start end)) end_of_line
@@ -51,7 +51,7 @@ space-some =
     has-either (has-these (codes " ") (lit< tt)) (has-either (has-these (codes "\t") (lit< tt)) end_of_line-some)
 
 space-nodes : Nodes rule.space (λ text inner. inner)
-space-nodes = record { spells = λ file before start end last inner. refl; no_spacing = refl; no_primary = refl }
+space-nodes = record { spells = λ file before start end last inner. refl; no_spacing = refl; no_primary = refl; no_count = refl }
 
 pub takes-space : (file : List ℕ) (start end : ℕ) → Takes file (Name (codes "Space") (between start end)) space
 unfolding space space_body
@@ -77,7 +77,7 @@ unfolding comment
 comment-some = has-first (followed (star in_comment) end_of_line) (has-these (codes "#") (lit< tt))
 
 comment-nodes : Nodes rule.comment (λ text inner. inner)
-comment-nodes = record { spells = λ file before start end last inner. refl; no_spacing = refl; no_primary = refl }
+comment-nodes = record { spells = λ file before start end last inner. refl; no_spacing = refl; no_primary = refl; no_count = refl }
 
 pub takes-comment : (file : List ℕ) (start end : ℕ) → Takes file (Name (codes "Comment") (between start end)) comment
 unfolding comment comment_body
@@ -123,6 +123,7 @@ pub record FindsSpacing (file : List ℕ) (span : Extent) (p : ℕ) : Type 0 whe
   pub spells : (before : ℕ) → spelled file before trees ≡ []
   pub ends : (before : ℕ) → text_end before trees ≡ p
   pub flat : nesting trees ≡ 0
+  pub fine : bad_counts file trees ≡ []
 
 pub finds-spacing : (file : List ℕ) (span : Extent) (p : ℕ) → FindsSpacing file span p
 unfolding spacing spacing_body
@@ -141,4 +142,5 @@ finds-spacing file span p =
           (space_or_comment (drop p file)) refl);
       ends = λ before. refl;
       flat = ap (λ n. max (0 + n) 0) it.spelled.flat;
+      fine = ap (λ l. l ++ []) it.spelled.fine;
     }

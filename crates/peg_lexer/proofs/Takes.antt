@@ -1,13 +1,13 @@
 -- What the figure's rules say, by functions on the bytes at the front: a way to find pieces and an expression take the
 -- same at each place of a file.
 use Rattle.std.proofs.Common.{max, ◌≡◌, ℕ, zero, suc, ◌+◌, ◌<◌, ◌≤◌, Bool, true, false, List, [], ◌∷◌, ◌++◌, ◌&&◌, length, take, drop, add_assoc}
-use Rattle.std.proofs.Common.{Option, None, Some, option_map, option_and_then, if◌then◌else◌, ◌==◌, nat_eq, refl, sym, ap, ◌∙◌, subst, arith, append_assoc, append-nil, length-drop}
+use Rattle.std.proofs.Common.{Option, None, Some, option_map, option_and_then, if◌then◌else◌, ◌==◌, nat_eq, refl, sym, ap, ◌∙◌, subst, arith, append_assoc, append-nil, not, length-drop}
 use Rattle.std.proofs.lemmas.List.{drop-drop}
 use Rattle.std.specs.List.{starts_with}
 use Rattle.peg_bytes.specs.ByteSet.{has}
 use Rattle.peg_bytes.specs.Extent.{Extent}
 use Rattle.peg_tree.specs.Trees.{Trees, NoTrees, Tree, followed_by}
-use Rattle.peg_ford.specs.Form.{Form, Forms, Literal, Class, Any, Name, Seq, Choice, Optional, Star, Not, End, Then}
+use Rattle.peg_ford.specs.Form.{Form, Forms, Literal, Class, Any, Name, Seq, Choice, Optional, Star, Plus, Not, End, Then}
 use Rattle.peg_ford.specs.Record.{Failed, Matched}
 use Rattle.peg_ford.specs.Rules.{Meaning, meant}
 use Rattle.peg_ford.proofs.Derivations.{Derives, DerivesItems, DerivesFirst}
@@ -16,7 +16,7 @@ use Rattle.peg_figure.specs.Figure.{figure}
 use Rattle.peg_figure.specs.FigureRules as rule
 use Rattle.peg_lexer.specs.Pieces.{Piece, Finding, plain, both, these, one_that, followed, or_piece, either, none_of, unless, maybe, many, star}
 use Rattle.peg_figure.specs.Ranges.{Range, class_of}
-use Rattle.peg_figure.specs.Spelled.{Spelling, text_end, part, node_spelled, spelled}
+use Rattle.peg_figure.specs.Spelled.{Spelling, text_end, part, node_spelled, spelled, numerals_in, bounds_spelled, bounds_in_range, bad_count, bad_counts}
 use Rattle.peg_figure.specs.Nesting.{nesting, has_open}
 use Rattle.peg_lexer.proofs.PieceLemmas.{many-none, many-some}
 
@@ -43,14 +43,25 @@ nesting-followed (Tree r start end children rest) b =
     let own : ℕ = (if r == rule.primary && has_open children then 1 else 0) + nesting children in
     omega (arith, nesting-followed rest b)
 
+pub bad_counts-followed : (file : List ℕ) (a b : Trees)
+    → bad_counts file (followed_by a b) ≡ bad_counts file a ++ bad_counts file b
+bad_counts-followed file NoTrees b = refl
+bad_counts-followed file (Tree r start end children rest) b =
+    let own : List ℕ = bad_count r start (spelled file start children) in
+    let inside : List ℕ = bad_counts file children in
+    ap (λ (l : List ℕ). own ++ (inside ++ l)) (bad_counts-followed file rest b)
+    ∙ (ap (λ (l : List ℕ). own ++ l) (sym (append_assoc inside (bad_counts file rest) (bad_counts file b)))
+    ∙ sym (append_assoc own (inside ++ bad_counts file rest) (bad_counts file b)))
+
 -- trees without a token's end among them spell these pieces
 pub record SpellsAs (file : List ℕ) (trees : Trees) (pieces : List Spelling) : Type 0 where
   pub spells : (before : ℕ) → spelled file before trees ≡ pieces
   pub no_token : (before : ℕ) → text_end before trees ≡ before
   pub flat : nesting trees ≡ 0
+  pub fine : bad_counts file trees ≡ []
 
 pub SpellsAs-none : (file : List ℕ) → SpellsAs file NoTrees []
-SpellsAs-none file = record { spells = λ before. refl; no_token = λ before. refl; flat = refl }
+SpellsAs-none file = record { spells = λ before. refl; no_token = λ before. refl; flat = refl; fine = refl }
 
 pub SpellsAs-both : {file : List ℕ} {a b : Trees} {xs ys : List Spelling} → SpellsAs file a xs → SpellsAs file b ys
     → SpellsAs file (followed_by a b) (xs ++ ys)
@@ -60,6 +71,7 @@ SpellsAs-both {file} {a} {b} {xs} {ys} first next = record {
       ∙ ap (λ (pieces : List Spelling). pieces ++ ys) (first.spells before));
   no_token = λ before. text_end-followed before a b ∙ (next.no_token (text_end before a) ∙ first.no_token before);
   flat = nesting-followed a b ∙ (ap (λ n. max n (nesting b)) first.flat ∙ ap (λ n. max 0 n) next.flat);
+  fine = bad_counts-followed file a b ∙ (ap (λ (l : List ℕ). l ++ bad_counts file b) first.fine ∙ next.fine);
 }
 
 -- ---- an expression and a way to find pieces
@@ -359,6 +371,39 @@ takes-star {file} {part} {find} span a long = record {
       (rounds span a long (length (drop p file)) p (omega arith) (find (drop p file)) refl);
 }
 
+-- ---- one and more
+
+pub takes-plus : {file : List ℕ} {part : Form} {find : Finding} (span : Extent) → Takes file part find → IsLong find
+    → Takes file (Plus part span) (followed find (star find))
+takes-plus {file} {part} {find} span a long = record {
+  none = λ p none. fails p (find (drop p file)) refl none;
+  some = λ p piece found. matches p (find (drop p file)) refl piece found;
+}
+  where
+    fails : (p : ℕ) (x : Option Piece) → find (drop p file) ≡ x
+        → option_and_then (λ (x : Piece). option_map (both x) (star find (drop x.length (drop p file)))) x ≡ None
+        → Derives figure file (Plus part span) p Failed
+    fails p None is none = Derives.plus_failed (a.none p is)
+    fails p (Some x) is none = cc
+
+    matches : (p : ℕ) (x : Option Piece) → find (drop p file) ≡ x → (piece : Piece)
+        → option_and_then (λ (x : Piece). option_map (both x) (star find (drop x.length (drop p file)))) x ≡ Some piece
+        → Finds file (Plus part span) p piece
+    matches p None is piece found = cc
+    matches p (Some x) is piece found =
+        let same : both x (many find (drop x.length (drop p file))) ≡ piece = cc in
+        let moved : both x (many find (drop (p + x.length) file)) ≡ piece =
+        ap (λ bytes. both x (many find bytes)) (sym (drop-drop x.length p file)) ∙ same in
+        let rest : Piece = many find (drop (p + x.length) file) in
+        let it = a.some p x is in
+        let more = (takes-star span a long).some (p + x.length) rest refl in
+        subst (λ (z : Piece). Finds file (Plus part span) p z) moved (record {
+          trees = followed_by it.trees more.trees;
+          derives = subst (λ n. Derives figure file (Plus part span) p (Matched n (followed_by it.trees more.trees)))
+              (add_assoc p x.length rest.length) (Derives.plus_matched it.derives more.derives refl);
+          spelled = SpellsAs-both it.spelled more.spelled;
+        })
+
 -- ---- names
 
 -- a piece of a rule's body, as the rule's node spells it
@@ -374,6 +419,7 @@ pub record Nodes (number : ℕ) (spell : List ℕ → List Spelling → List Spe
       → node_spelled file number before start end last inner ≡ spell (part file start end) inner
   pub no_spacing : (number == rule.spacing) ≡ false
   pub no_primary : (number == rule.primary) ≡ false
+  pub no_count : (number == rule.count) ≡ false
 
 -- a way to find that finds the same
 pub takes-same : {file : List ℕ} {e : Form} {find other : Finding} → ((rest : List ℕ) → find rest ≡ other rest)
@@ -413,6 +459,10 @@ takes-node {file} {used} {find} {spell} span m known nodes a = record {
         flat =
             ap (λ (t : Bool). max ((if t && has_open it.trees then 1 else 0) + nesting it.trees) 0) nodes.no_primary
             ∙ ap (λ n. max (0 + n) 0) it.spelled.flat;
+        fine =
+            ap (λ (t : Bool). (if t && not (bounds_in_range (bounds_spelled (numerals_in (spelled file p it.trees))))
+            then p ∷ [] else []) ++ (bad_counts file it.trees ++ [])) nodes.no_count
+            ∙ ap (λ (l : List ℕ). l ++ []) it.spelled.fine;
       };
     }
 

@@ -2,22 +2,22 @@
 use Rattle.std.proofs.Common.{ℕ, true, List, [], ◌∷◌, refl, codes, lit<}
 use Rattle.peg_bytes.specs.Extent.{Extent, between}
 use Rattle.peg_ford.specs.Form.{Name, Class}
-use Rattle.peg_figure.specs.Figure.{ident_start_body, ident_cont_body, char_body, range_body, hexadecimal_class}
+use Rattle.peg_figure.specs.Figure.{ident_start_body, ident_cont_body, char_body, range_body, hexadecimal_class, number_body}
 use Rattle.peg_figure.specs.FigureRules as rule
-use Rattle.peg_lexer.specs.Lexical.{begins_name, is_digit, in_name, identifier, is_sign, is_low_digit, is_hexadecimal, backslash, octal_digit, hexadecimal_digit, hexadecimal_digits, three_digits, two_digits, char, is_quote, quoted_char, quoted, literal, range, classed_range, class}
+use Rattle.peg_lexer.specs.Lexical.{begins_name, is_digit, in_name, identifier, is_sign, is_low_digit, is_hexadecimal, backslash, octal_digit, hexadecimal_digit, hexadecimal_digits, three_digits, two_digits, char, is_quote, quoted_char, quoted, literal, range, classed_range, class, digit, number, count}
 use Rattle.peg_lexer.specs.Pieces.{one_that, these, followed, unless}
 use Rattle.peg_figure.specs.Ranges as ranges
 use Rattle.peg_figure.specs.Ranges.{class_of}
-use Rattle.peg_figure.specs.Spelled.{Byte, Bytes, is_octal, byte_spelled, range_spelled, bytes_in}
+use Rattle.peg_figure.specs.Spelled.{Byte, Bytes, Numeral, decimal, is_octal, byte_spelled, range_spelled, bytes_in}
 use Rattle.peg_lexer.proofs.Classes.{has_range, has_name_start, has_hexadecimal, has_sign}
-use Rattle.peg_figure.proofs.FigureNames.{ident_start-meant, ident_cont-meant, char-meant, range-meant}
+use Rattle.peg_figure.proofs.FigureNames.{ident_start-meant, ident_cont-meant, char-meant, range-meant, number-meant}
 use Rattle.peg_lexer.proofs.PieceSizes.{Fits, HasBytes, is_long, fits-these, has-these, fits-one, has-one, fits-followed, has-first, has-next, fits-either, has-either, fits-unless, fits-maybe, fits-star, fits-noded, has-noded}
-use Rattle.peg_lexer.proofs.Takes.{Takes, IsLong, Nodes, takes-these, takes-class, takes-any, takes-then, takes-last, takes-seq, takes-only, takes-or, takes-choice, takes-not, takes-optional, takes-name, takes-node}
+use Rattle.peg_lexer.proofs.Takes.{Takes, IsLong, Nodes, takes-these, takes-class, takes-any, takes-then, takes-last, takes-seq, takes-only, takes-or, takes-choice, takes-not, takes-optional, takes-plus, takes-name, takes-node}
 
 -- ---- names
 
 ident_start-nodes : Nodes rule.ident_start (λ text inner. inner)
-ident_start-nodes = record { spells = λ file before start end last inner. refl; no_spacing = refl; no_primary = refl }
+ident_start-nodes = record { spells = λ file before start end last inner. refl; no_spacing = refl; no_primary = refl; no_count = refl }
 
 pub takes-ident_start : (file : List ℕ) (start end : ℕ)
     → Takes file (Name (codes "IdentStart") (between start end)) (one_that begins_name)
@@ -27,7 +27,7 @@ takes-ident_start file start end =
     (takes-class file _ _ begins_name has_name_start)
 
 ident_cont-nodes : Nodes rule.ident_cont (λ text inner. inner)
-ident_cont-nodes = record { spells = λ file before start end last inner. refl; no_spacing = refl; no_primary = refl }
+ident_cont-nodes = record { spells = λ file before start end last inner. refl; no_spacing = refl; no_primary = refl; no_count = refl }
 
 pub takes-ident_cont : (file : List ℕ) (start end : ℕ) → Takes file
     (Name (codes "IdentCont") (between start end)) in_name
@@ -49,7 +49,7 @@ identifier-fits = fits-followed (fits-one begins_name) (fits-star in_name-long)
 -- ---- characters
 
 char-nodes : Nodes rule.char (λ text inner. Byte (byte_spelled text) ∷ [])
-char-nodes = record { spells = λ file before start end last inner. refl; no_spacing = refl; no_primary = refl }
+char-nodes = record { spells = λ file before start end last inner. refl; no_spacing = refl; no_primary = refl; no_count = refl }
 
 -- an octal digit
 takes-octal : (file : List ℕ) (span : Extent) → Takes file (Class (class_of (ranges.range 48 55 ∷ [])) span) octal_digit
@@ -127,7 +127,7 @@ literal-fits = fits-either (quoted-fits 39) (quoted-fits 34)
 -- ---- classes
 
 range-nodes : Nodes rule.range (λ text inner. Bytes (range_spelled (bytes_in inner)) ∷ [])
-range-nodes = record { spells = λ file before start end last inner. refl; no_spacing = refl; no_primary = refl }
+range-nodes = record { spells = λ file before start end last inner. refl; no_spacing = refl; no_primary = refl; no_count = refl }
 
 pub takes-range : (file : List ℕ) (start end : ℕ) → Takes file (Name (codes "Range") (between start end)) range
 unfolding range range_body
@@ -159,3 +159,28 @@ pub class-fits : Fits class
 unfolding class
 class-fits =
     fits-followed (fits-these (codes "[")) (fits-followed (fits-star classed_range-long) (fits-these (codes "]")))
+
+-- ---- counts
+
+number-nodes : Nodes rule.number (λ text inner. Numeral (decimal text) ∷ [])
+number-nodes = record { spells = λ file before start end last inner. refl; no_spacing = refl; no_primary = refl; no_count = refl }
+
+pub digit-long : IsLong digit
+digit-long = is_long (has-one is_digit) (fits-one is_digit)
+
+pub takes-number : (file : List ℕ) (start end : ℕ) → Takes file (Name (codes "Number") (between start end)) number
+unfolding number number_body
+takes-number file start end =
+    takes-node (between start end) _ number-meant.1 number-nodes
+    (takes-plus _ (takes-class file _ _ is_digit (has_range 48 57 (lit< tt))) digit-long)
+
+number-fits : Fits number
+unfolding number
+number-fits =
+    fits-noded (λ text inner. Numeral (decimal text) ∷ []) (fits-followed (fits-one is_digit) (fits-star digit-long))
+
+pub count-fits : Fits count
+unfolding count
+count-fits =
+    fits-followed (fits-these (codes "{")) (fits-followed number-fits
+    (fits-followed (fits-maybe (fits-followed (fits-these (codes ",")) number-fits)) (fits-these (codes "}"))))

@@ -1,5 +1,5 @@
 -- What the figure's rules with Spacing behind them say: a text, and how far the spacing behind it goes.
-use Rattle.std.proofs.Common.{◌≡◌, ℕ, max, ◌+◌, Bool, true, false, ◌&&◌, ◌||◌, List, ◌++◌, drop, add_assoc, append-nil}
+use Rattle.std.proofs.Common.{◌≡◌, ℕ, max, ◌+◌, Bool, true, false, ◌&&◌, ◌||◌, List, [], ◌++◌, drop, add_assoc, append-nil}
 use Rattle.std.proofs.Common.{Option, None, Some, option_map, option_and_then, if◌then◌else◌, ◌==◌, codes, refl, sym, ap, ◌∙◌, subst}
 use Rattle.std.proofs.lemmas.List.{drop-drop}
 use Rattle.peg_bytes.specs.Extent.{Extent}
@@ -12,10 +12,10 @@ use Rattle.peg_figure.specs.Figure.{figure}
 use Rattle.peg_figure.specs.FigureRules as rule
 use Rattle.peg_lexer.specs.Lexical.{spacing}
 use Rattle.peg_lexer.specs.Pieces.{Piece, Finding, both, followed, or_piece, either}
-use Rattle.peg_figure.specs.Spelled.{Spelling, text_end, node_spelled, spelled}
+use Rattle.peg_figure.specs.Spelled.{Spelling, text_end, node_spelled, spelled, bad_count, bad_counts}
 use Rattle.peg_figure.specs.Nesting.{nesting, has_open}
 use Rattle.peg_lexer.proofs.SpacingRules.{FindsSpacing, finds-spacing}
-use Rattle.peg_lexer.proofs.Takes.{Takes, SpellsAs, spelled-followed, text_end-followed, nesting-followed}
+use Rattle.peg_lexer.proofs.Takes.{Takes, SpellsAs, spelled-followed, text_end-followed, nesting-followed, bad_counts-followed}
 
 -- where the spacing behind a text of so many bytes ends
 abbrev pub behind_text : List ℕ → (p size : ℕ) → ℕ
@@ -26,6 +26,7 @@ pub record Spells (file : List ℕ) (trees : Trees) (pieces : List Spelling) (la
   pub spells : (before : ℕ) → spelled file before trees ≡ pieces
   pub ends : (before : ℕ) → text_end before trees ≡ last
   pub flat : nesting trees ≡ 0
+  pub fine : bad_counts file trees ≡ []
 
 -- items whose last is Spacing
 pub record FindsItems (file : List ℕ) (items : Forms) (p : ℕ) (piece : Piece) : Type 0 where
@@ -74,6 +75,10 @@ text-last {file} {e} {find} span a = record {
               nesting-followed it.trees (followed_by gap.trees NoTrees)
               ∙ (ap (λ n. max n (nesting (followed_by gap.trees NoTrees))) it.spelled.flat
               ∙ ap (λ n. max 0 n) (nesting-followed gap.trees NoTrees ∙ ap (λ n. max n 0) gap.flat));
+          fine =
+              bad_counts-followed file it.trees (followed_by gap.trees NoTrees)
+              ∙ (ap (λ (l : List ℕ). l ++ bad_counts file (followed_by gap.trees NoTrees)) it.spelled.fine
+              ∙ (bad_counts-followed file gap.trees NoTrees ∙ ap (λ (l : List ℕ). l ++ []) gap.fine));
         };
       };
 }
@@ -101,6 +106,9 @@ both_items {file} {e} {rest} {p} first next a b =
         flat =
             nesting-followed a.trees b.trees
             ∙ (ap (λ n. max n (nesting b.trees)) a.spelled.flat ∙ ap (λ n. max 0 n) b.spelled.flat);
+        fine =
+            bad_counts-followed file a.trees b.trees
+            ∙ (ap (λ (l : List ℕ). l ++ bad_counts file b.trees) a.spelled.fine ∙ b.spelled.fine);
       };
     }
 
@@ -199,6 +207,7 @@ pub record FindsToken (file : List ℕ) (number : ℕ) (used : List ℕ) (span :
       ≡ node_spelled file number before p (behind_text file p piece.length) (p + piece.length) piece.spells
   pub flat : nesting trees ≡ 0
   pub opens : has_open trees ≡ (number == rule.open_sign)
+  pub counts : bad_counts file trees ≡ bad_count number p piece.spells
 
 pub record TakesToken (file : List ℕ) (number : ℕ) (used : List ℕ) (find : Finding) : Type 0 where
   pub none : (span : Extent) (p : ℕ) → find (drop p file) ≡ None → Derives figure file (Name used span) p Failed
@@ -228,5 +237,10 @@ takes-token {file} {used} {find} m known no_spacing no_primary a = record {
             ap (λ (t : Bool). max ((if t && has_open it.trees then 1 else 0) + nesting it.trees) 0) no_primary
             ∙ ap (λ n. max (0 + n) 0) it.spelled.flat;
         opens = or_false (m.rule == rule.open_sign);
+        counts =
+            ap (λ (inner : List Spelling). bad_count m.rule p inner ++ (bad_counts file it.trees ++ []))
+            (it.spelled.spells p)
+            ∙ (ap (λ (l : List ℕ). bad_count m.rule p piece.spells ++ (l ++ [])) it.spelled.fine
+            ∙ append-nil (bad_count m.rule p piece.spells));
       };
 }

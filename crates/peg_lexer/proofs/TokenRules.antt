@@ -1,13 +1,13 @@
 -- The figure's rules of tokens, as functions on the bytes at the front.
 use Rattle.std.proofs.Common.{ℕ, List, refl, codes, lit<}
-use Rattle.peg_figure.specs.Figure.{identifier_body, literal_body, class_body}
+use Rattle.peg_figure.specs.Figure.{identifier_body, literal_body, class_body, count_body}
 use Rattle.peg_figure.specs.FigureRules as rule
-use Rattle.peg_lexer.specs.Lexical.{identifier, literal, class, quoted, is_quote}
+use Rattle.peg_lexer.specs.Lexical.{identifier, literal, class, quoted, count, is_quote}
 use Rattle.peg_lexer.specs.Pieces.{these}
 use Rattle.peg_lexer.proofs.Classes.{has_one}
-use Rattle.peg_figure.proofs.FigureNames.{identifier-meant, literal-meant, class-meant, leftarrow-meant, slash-meant, and_sign-meant, not_sign-meant, question-meant, star-meant, plus-meant, open_sign-meant, close-meant, dot-meant}
-use Rattle.peg_lexer.proofs.Takes.{takes-these, takes-class, takes-then, takes-last, takes-seq, takes-not, takes-star}
-use Rattle.peg_lexer.proofs.TextRules.{takes-ident_start, takes-ident_cont, in_name-long, takes-char, quoted_char-long, takes-range, classed_range-long}
+use Rattle.peg_figure.proofs.FigureNames.{identifier-meant, literal-meant, class-meant, leftarrow-meant, slash-meant, and_sign-meant, not_sign-meant, question-meant, star-meant, plus-meant, count-meant, open_sign-meant, close-meant, dot-meant}
+use Rattle.peg_lexer.proofs.Takes.{takes-these, takes-class, takes-then, takes-last, takes-seq, takes-not, takes-optional, takes-star}
+use Rattle.peg_lexer.proofs.TextRules.{takes-ident_start, takes-ident_cont, in_name-long, takes-char, quoted_char-long, takes-range, classed_range-long, takes-number}
 use Rattle.peg_lexer.proofs.Texts.{TakesToken, text-last, text-then, text-seq, text-either, takes-token}
 
 pub takes-identifier : (file : List ℕ) → TakesToken file rule.identifier (codes "Identifier") identifier
@@ -66,6 +66,14 @@ takes-star_sign file =
 pub takes-plus : (file : List ℕ) → TakesToken file rule.plus (codes "PLUS") (these (codes "+"))
 takes-plus file =
     takes-token _ plus-meant.1 refl refl (text-seq _ (text-last _ (takes-these file _ _)))
+
+pub takes-count : (file : List ℕ) → TakesToken file rule.count (codes "COUNT") count
+unfolding count count_body
+takes-count file =
+    takes-token _ count-meant.1 refl refl
+    (text-seq _ (text-then (takes-these file _ _) (text-then (takes-number file _ _)
+    (text-then (takes-optional _ (takes-seq _ (takes-then (takes-these file _ _) (takes-last (takes-number file _ _)))))
+    (text-last _ (takes-these file _ _))))))
 
 pub takes-open_sign : (file : List ℕ) → TakesToken file rule.open_sign (codes "OPEN") (these (codes "("))
 takes-open_sign file =

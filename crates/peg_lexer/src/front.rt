@@ -4,6 +4,7 @@ ghost use Rattle.peg_lexer.specs.Lexical.{kind_of, text_of};
 ghost use Rattle.peg_lexer.specs.LexicalCode.{seen_at_front, token_seen};
 ghost use Rattle.peg_lexer.specs.Pieces.{length_of, these};
 
+use crate::counts::count;
 use crate::text::{begins_name, class, identifier, literal};
 use crate::token::TokenKind;
 
@@ -46,6 +47,7 @@ fn kind_of(first: u8) -> Option<TokenKind>
         b'?' => Some(TokenKind::Question),
         b'*' => Some(TokenKind::Star),
         b'+' => Some(TokenKind::Plus),
+        b'{' => Some(TokenKind::Count),
         b'(' => Some(TokenKind::Open),
         b')' => Some(TokenKind::Close),
         b'.' => Some(TokenKind::Dot),
@@ -70,6 +72,7 @@ fn text_length(kind: TokenKind, rest: &[u8]) -> Option<usize>
         TokenKind::Question => sign(b"?", rest),
         TokenKind::Star => sign(b"*", rest),
         TokenKind::Plus => sign(b"+", rest),
+        TokenKind::Count => count(rest),
         TokenKind::Open => sign(b"(", rest),
         TokenKind::Close => sign(b")", rest),
         TokenKind::Dot => sign(b".", rest),

@@ -24,6 +24,8 @@ pub enum TokenKind {
     Star,
     /// `+`
     Plus,
+    /// A number, or two with a comma between them, in braces.
+    Count,
     /// `(`
     Open,
     /// `)`

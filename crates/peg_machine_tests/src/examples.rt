@@ -54,13 +54,13 @@ pub(crate) const JSON: &[u8] = b"\
 
 pub(crate) const NOTATION: &[u8] = b"\
     # The notation of grammar files, in itself: figure 1 of Bryan Ford, \"Parsing Expression Grammars\" (POPL 2004),\n\
-    # with bytes by two hexadecimal digits.\n\
+    # with bytes by two hexadecimal digits and counted repetition.\n\
     Grammar <- Spacing Definition+ EndOfFile\n\
     Definition <- Identifier LEFTARROW Expression\n\
     Expression <- Sequence (SLASH Sequence)*\n\
     Sequence <- Prefix*\n\
     Prefix <- (AND / NOT)? Suffix\n\
-    Suffix <- Primary (QUESTION / STAR / PLUS)?\n\
+    Suffix <- Primary (QUESTION / STAR / PLUS / COUNT)?\n\
     Primary <- Identifier !LEFTARROW / OPEN Expression CLOSE / Literal / Class / DOT\n\
     Identifier <- IdentStart IdentCont* Spacing\n\
     IdentStart <- [a-zA-Z_]\n\
@@ -77,6 +77,8 @@ pub(crate) const NOTATION: &[u8] = b"\
     QUESTION <- '?' Spacing\n\
     STAR <- '*' Spacing\n\
     PLUS <- '+' Spacing\n\
+    COUNT <- '{' Number (',' Number)? '}' Spacing\n\
+    Number <- [0-9]+\n\
     OPEN <- '(' Spacing\n\
     CLOSE <- ')' Spacing\n\
     DOT <- '.' Spacing\n\

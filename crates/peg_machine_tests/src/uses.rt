@@ -76,6 +76,9 @@ impl Evaluator<'_> {
             Expr::Optional { part, .. } => Some(
                 self.end_of(part, place, depth - 1).unwrap_or(place),
             ),
+            Expr::Counted { part, min, max, .. } => {
+                self.end_of_count(part, *min, *max, place, depth - 1)
+            }
             Expr::And { part, .. } => self.place_if(part, true, place, depth - 1),
             Expr::Not { part, .. } => self.place_if(part, false, place, depth - 1),
         }
@@ -91,6 +94,30 @@ impl Evaluator<'_> {
             return Some(place);
         }
         None
+    }
+
+    // A part so often at least and so often at most.
+    #[cycle(end_of)]
+    fn end_of_count(
+        &mut self,
+        part: &Expr,
+        min: u8,
+        max: u8,
+        place: u32,
+        depth: u32,
+    ) -> Option<u32> {
+        if depth == 0 {
+            return self.give_up();
+        }
+        let mut end = place;
+        for done in 0..max {
+            match self.end_of(part, end, depth - 1) {
+                Some(next) => end = next,
+                None if done >= min => return Some(end),
+                None => return None,
+            }
+        }
+        Some(end)
     }
 
     // A use of a rule, which is noted.

@@ -1,6 +1,6 @@
 -- The reader's `sequence` and `expression` say what the figure's Sequence and Expression say.
-use Rattle.std.proofs.Common.{◌≡◌, ℕ, zero, suc, ◌+◌, ◌≤◌, Bool, true, false, List, [], ◌∷◌, ◌++◌, map, length, drop, length-drop, codes, inl, inr}
-use Rattle.std.proofs.Common.{Option, None, Some, Result, Ok, Err, refl, sym, ap, ◌∙◌, subst, arith}
+use Rattle.std.proofs.Common.{◌≡◌, ℕ, zero, suc, ◌+◌, Bool, true, false, List, [], ◌∷◌, ◌++◌, map, length, drop, codes, inl, inr}
+use Rattle.std.proofs.Common.{if◌then◌else◌, Option, None, Some, Result, Ok, Err, refl, sym, ap, ◌∙◌, subst, arith}
 use Rattle.std.proofs.lemmas.List.{drop-drop}
 use Rattle.peg_bytes.specs.Extent.{Extent, between}
 use Rattle.peg_tree.specs.Trees.{Trees, NoTrees, Tree, followed_by}
@@ -12,8 +12,8 @@ use Rattle.peg_figure.specs.Figure.{figure, sequence_body, expression_body}
 use Rattle.peg_figure.specs.FigureRules as rule
 use Rattle.peg_lexer.specs.Lexical.{text_of}
 use Rattle.peg_lexer.specs.Pieces.{Piece}
-use Rattle.peg_notation.specs.Reader.{Halt, Unexpected, TooDeep, FormRead, FormsRead, Reading, place_of, starts_with_arrow, kind_begins, begins_prefix, and_read, many, primary, suffix, prefix, whole_sequence, sequence, is_slash, starts_with_slash, behind, alternative, whole_choice, expression, expression_in}
-use Rattle.peg_figure.specs.Spelled.{Spelling, Expression, text_end, spelled, expressions_in, sequence_spelled, choice_spelled}
+use Rattle.peg_notation.specs.Reader.{Halt, Unexpected, TooDeep, BadCountAt, FormRead, FormsRead, Reading, place_of, starts_with_arrow, kind_begins, begins_prefix, and_read, many, is_bad_count, suffix_sign, with_suffix, then_suffix, primary, suffix, prefix, whole_sequence, sequence, is_slash, starts_with_slash, behind, alternative, whole_choice, expression, expression_in}
+use Rattle.peg_figure.specs.Spelled.{Spelling, Expression, part, text_end, spelled, expressions_in, sequence_spelled, choice_spelled}
 use Rattle.peg_lexer.specs.Tokens.{Lexeme}
 use Rattle.peg_lexer.specs.declared.token.TokenKind.{TokenKind}
 use Rattle.peg_lexer.specs.declared.token.TokenKind.TheVariants as kind
@@ -57,7 +57,27 @@ none_begins file inner p (_ ∷ more) (Stream.next k piece lexeme found is rest)
     by kind.Question begins = (p, refl)
     by kind.Star begins = (p, refl)
     by kind.Plus begins = (p, refl)
+    by kind.Count begins = (p, refl)
     by kind.Close begins = (p, refl)
+
+-- behind an expression no token is one that can't stand there
+never_unexpected : (file : List ℕ) (start : ℕ) (part_read : FormRead) (left : List Lexeme) (at : ℕ)
+    → then_suffix file start part_read left ≡ Err (Unexpected at) → ⊥
+never_unexpected file start part_read [] at is = cc
+never_unexpected file start part_read (lexeme ∷ more) at is = by (is_bad_count file lexeme) is
+  where
+    by : (t : Bool) → (if t then Err (BadCountAt lexeme.text.start) else Ok
+        (with_suffix start part_read lexeme (suffix_sign file lexeme lexeme.kind))) ≡ Err (Unexpected at) → ⊥
+    by true is = cc
+    by false is = cc
+
+suffix_goes_on : (file : List ℕ) (inner : Option Reading) (lexemes : List Lexeme) (part_read : FormRead) (at : ℕ)
+    → primary file inner lexemes ≡ Ok part_read → suffix file inner lexemes ≡ Err (Unexpected at) → ⊥
+unfolding suffix
+suffix_goes_on file inner lexemes part_read at read is =
+    never_unexpected file (place_of (length file) lexemes) part_read (drop part_read.taken lexemes) at
+    (sym (ap (λ (x : Result FormRead Halt). and_read x (λ (p : FormRead). then_suffix file (place_of (length file) lexemes) p
+    (drop p.taken lexemes))) read) ∙ is)
 
 -- where one begins and none is read, a sign or a parenthesis stands
 begun_stuck : (file : List ℕ) (inner : Option Reading) (p at : ℕ) (lexemes : List Lexeme) → Stream file p lexemes
@@ -71,7 +91,13 @@ begun_stuck file inner p at (_ ∷ more) (Stream.next k piece lexeme found is re
     name : (t : Bool) → starts_with_arrow more ≡ t → kind_begins kind.Ident t ≡ true
         → prefix file inner (lexeme_at kind.Ident p piece.length ∷ more) ≡ Err (Unexpected at) → IsStuck file p
     name true arrow yes_begins e = cc
-    name false arrow yes_begins e = absurd (let bad = rw arrow at e in cc)
+    name false arrow yes_begins e =
+        absurd (suffix_goes_on file inner (lexeme_at kind.Ident p piece.length ∷ more) (record {
+          form = form.Name (part file p (p + piece.length)) (between p (p + piece.length));
+          taken = 1;
+          last = p + piece.length;
+          depth = 0;
+        }) at (rw arrow refl) e)
 
     by : (k : TokenKind) → text_of k (drop p file) ≡ Some piece → kind_begins k (starts_with_arrow more) ≡ true
         → prefix file inner (lexeme_at k p piece.length ∷ more) ≡ Err (Unexpected at) → IsStuck file p
@@ -79,29 +105,33 @@ begun_stuck file inner p at (_ ∷ more) (Stream.next k piece lexeme found is re
     by kind.Not there yes_begins e = record { kind = kind.Not; piece = piece; found = there; opens = inr (inl refl) }
     by kind.Open there yes_begins e = record { kind = kind.Open; piece = piece; found = there; opens = inr (inr refl) }
     by kind.Ident there yes_begins e = name (starts_with_arrow more) refl yes_begins e
-    by kind.Literal there yes_begins e = cc
-    by kind.Class there yes_begins e = cc
-    by kind.Dot there yes_begins e = cc
+    by kind.Literal there yes_begins e =
+        absurd (suffix_goes_on file inner (lexeme_at kind.Literal p piece.length ∷ more) _ at refl e)
+    by kind.Class there yes_begins e =
+        absurd (suffix_goes_on file inner (lexeme_at kind.Class p piece.length ∷ more) _ at refl e)
+    by kind.Dot there yes_begins e =
+        absurd (suffix_goes_on file inner (lexeme_at kind.Dot p piece.length ∷ more) _ at refl e)
     by kind.Arrow there yes_begins e = cc
     by kind.Slash there yes_begins e = cc
     by kind.Question there yes_begins e = cc
     by kind.Star there yes_begins e = cc
     by kind.Plus there yes_begins e = cc
+    by kind.Count there yes_begins e = cc
     by kind.Close there yes_begins e = cc
 
 -- ---- Sequence
 
-prefix_rounds : (file : List ℕ) (most : ℕ) (inner : Option Reading) → Good file most inner
+prefix_rounds : (file : List ℕ) (inner : Option Reading) → Good file inner
     → Rounds file (Name (codes "Prefix") (between 140 146)) (between 140 147) begins_prefix
-    (λ before. prefix file inner) most
-prefix_rounds file most inner good = record {
-  none = λ p lexemes stream few none.
+    (λ before. prefix file inner)
+prefix_rounds file inner good = record {
+  none = λ p lexemes stream none.
       let it = none_begins file inner p lexemes stream none in
       subst (λ (x : Result FormRead Halt). ExactAny file (codes "Prefix") p lexemes x) it.1
-      (prefix-exact file most inner good p lexemes stream few) (between 140 146);
-  one = λ before p lexemes stream few begins.
+      (prefix-exact file inner good p lexemes stream) (between 140 146);
+  one = λ before p lexemes stream begins.
       by p lexemes stream begins (prefix file inner lexemes) refl
-      (prefix-exact file most inner good p lexemes stream few);
+      (prefix-exact file inner good p lexemes stream);
 }
   where
     by : (p : ℕ) (lexemes : List Lexeme) → Stream file p lexemes → begins_prefix lexemes ≡ true → (x : Result FormRead Halt)
@@ -123,7 +153,8 @@ prefix_rounds file most inner good = record {
       derives = Derives.star_none (fails (between 140 146));
       stuck = begun_stuck file inner p at lexemes stream begins is;
     }
-    by p lexemes stream begins (Err (TooDeep at)) is e = absurd e
+    by p lexemes stream begins (Err (TooDeep at)) is e = tt
+    by p lexemes stream begins (Err (BadCountAt at)) is e = tt
 
 -- the expressions among spelled expressions
 expressions-all : (forms : List Form) → expressions_in (map Expression forms) ≡ forms
@@ -131,13 +162,13 @@ expressions-all [] = refl
 expressions-all (e ∷ forms) = ap (λ (more : List Form). e ∷ more) (expressions-all forms)
 
 -- Sequence is what is read
-pub sequence-exact : (file : List ℕ) (most : ℕ) (inner : Option Reading) → Good file most inner
-    → (before p : ℕ) (lexemes : List Lexeme) → Stream file p lexemes → length lexemes ≤ most
+pub sequence-exact : (file : List ℕ) (inner : Option Reading) → Good file inner
+    → (before p : ℕ) (lexemes : List Lexeme) → Stream file p lexemes
     → ExactAt file (codes "Sequence") before p lexemes (sequence file inner before lexemes)
 unfolding sequence sequence_body
-sequence-exact file most inner good before p lexemes stream few =
+sequence-exact file inner good before p lexemes stream =
     by (many begins_prefix (λ b. prefix file inner) before lexemes)
-    (rounds (prefix_rounds file most inner good) (length lexemes) before p lexemes (omega arith) stream few refl)
+    (rounds (prefix_rounds file inner good) (length lexemes) before p lexemes (omega arith) stream refl)
   where
     by : (x : Result FormsRead Halt) → ExactMany file (Name (codes "Prefix") (between 140 146))
         (between 140 147) before p lexemes x → ExactAt file (codes "Sequence") before p lexemes
@@ -155,7 +186,8 @@ sequence-exact file most inner good before p lexemes stream few =
       derives = λ span. Derives.name_matched sequence-meant.1 stops.derives refl;
       stuck = stops.stuck;
     }
-    by (Err (TooDeep at)) m = absurd m
+    by (Err (TooDeep at)) m = tt
+    by (Err (BadCountAt at)) m = tt
 
 -- ---- alternatives
 
@@ -222,14 +254,15 @@ one_alternative file p piece rest found (Err (Unexpected at)) stops =
           (Derives.star_none (no_slash (stuck_slash file stops.end stops.stuck))) refl;
       stuck = stops.stuck;
     }
-one_alternative file p piece rest found (Err (TooDeep at)) e = absurd e
+one_alternative file p piece rest found (Err (TooDeep at)) e = tt
+one_alternative file p piece rest found (Err (BadCountAt at)) e = tt
 
-alternative_rounds : (file : List ℕ) (most : ℕ) (inner : Option Reading) → Good file most inner
-    → Rounds file slash_sequence (between 110 127) starts_with_slash (alternative file inner) most
+alternative_rounds : (file : List ℕ) (inner : Option Reading) → Good file inner
+    → Rounds file slash_sequence (between 110 127) starts_with_slash (alternative file inner)
 unfolding alternative
-alternative_rounds file most inner good = record {
-  none = λ p lexemes stream few none. fails p lexemes stream none;
-  one = λ before p lexemes stream few begins. reads before p lexemes stream few begins;
+alternative_rounds file inner good = record {
+  none = λ p lexemes stream none. fails p lexemes stream none;
+  one = λ before p lexemes stream begins. reads before p lexemes stream begins;
 }
   where
     fails : (p : ℕ) (lexemes : List Lexeme) → Stream file p lexemes → starts_with_slash lexemes ≡ false
@@ -240,11 +273,11 @@ alternative_rounds file most inner good = record {
         ≡ false = ap (λ (x : TokenKind). is_slash x) same
         ∙ (ap (λ (l : Lexeme). is_slash l.kind) (sym is) ∙ none) in cc))
 
-    reads : (before p : ℕ) (lexemes : List Lexeme) → Stream file p lexemes → length lexemes ≤ most
+    reads : (before p : ℕ) (lexemes : List Lexeme) → Stream file p lexemes
         → starts_with_slash lexemes ≡ true → ExactRound file slash_sequence (between 110 127) p lexemes
         (alternative file inner before lexemes)
-    reads before p [] stream few begins = cc
-    reads before p (_ ∷ more) (Stream.next k piece lexeme found is rest) few begins =
+    reads before p [] stream begins = cc
+    reads before p (_ ∷ more) (Stream.next k piece lexeme found is rest) begins =
         subst (λ (l : Lexeme). ExactRound file slash_sequence (between 110 127) p (l ∷
         more) (and_read (sequence file inner l.text.end more) (λ (part : FormRead). Ok (behind 1 part)))) (sym is)
         (by k found (ap (λ (l : Lexeme). is_slash l.kind) (sym is) ∙ begins))
@@ -254,8 +287,7 @@ alternative_rounds file most inner good = record {
             more) (and_read (sequence file inner (p + piece.length) more) (λ (part : FormRead). Ok (behind 1 part)))
         by kind.Slash there slash =
             one_alternative file p piece more there (sequence file inner (p + piece.length) more)
-            (sequence-exact file most inner good (p + piece.length) (behind_text file p piece.length) more rest
-            (omega arith))
+            (sequence-exact file inner good (p + piece.length) (behind_text file p piece.length) more rest)
         by kind.Ident there slash = cc
         by kind.Literal there slash = cc
         by kind.Class there slash = cc
@@ -265,6 +297,7 @@ alternative_rounds file most inner good = record {
         by kind.Question there slash = cc
         by kind.Star there slash = cc
         by kind.Plus there slash = cc
+        by kind.Count there slash = cc
         by kind.Open there slash = cc
         by kind.Close there slash = cc
         by kind.Dot there slash = cc
@@ -301,24 +334,24 @@ both_parts file before p lexemes first e (Err (Unexpected at)) stops = record {
       (DerivesItems.items_then stops.derives DerivesItems.items_none refl) refl)) refl;
   stuck = stops.stuck;
 }
-both_parts file before p lexemes first e (Err (TooDeep at)) m = absurd m
+both_parts file before p lexemes first e (Err (TooDeep at)) m = tt
+both_parts file before p lexemes first e (Err (BadCountAt at)) m = tt
 
 -- Expression is what is read
-expression-exact : (file : List ℕ) (most : ℕ) (inner : Option Reading) → Good file most inner
-    → (before p : ℕ) (lexemes : List Lexeme) → Stream file p lexemes → length lexemes ≤ most
+expression-exact : (file : List ℕ) (inner : Option Reading) → Good file inner
+    → (before p : ℕ) (lexemes : List Lexeme) → Stream file p lexemes
     → ExactAt file (codes "Expression") before p lexemes (expression file inner before lexemes)
 unfolding expression_body
-expression-exact file most inner good before p lexemes stream few =
-    by (sequence file inner before lexemes) (sequence-exact file most inner good before p lexemes stream few)
+expression-exact file inner good before p lexemes stream =
+    by (sequence file inner before lexemes) (sequence-exact file inner good before p lexemes stream)
   where
     by : (x : Result FormRead Halt) → ExactAt file (codes "Sequence") before p lexemes x
         → ExactAt file (codes "Expression") before p lexemes
         (and_read x (λ (first : FormRead). and_read (many starts_with_slash (alternative file inner) first.last
         (drop first.taken lexemes)) (λ (more : FormsRead). Ok (whole_choice (place_of (length file) lexemes) first more))))
     by (Ok first) e =
-        let fewer : length (drop first.taken lexemes) ≤ most = omega (arith, length-drop first.taken lexemes) in
-        let m = rounds (alternative_rounds file most inner good) (length (drop first.taken lexemes)) first.last e.end
-        (drop first.taken lexemes) (omega arith) e.left fewer refl in
+        let m = rounds (alternative_rounds file inner good) (length (drop first.taken lexemes)) first.last e.end
+        (drop first.taken lexemes) (omega arith) e.left refl in
         subst (λ start. ExactAt file (codes "Expression") before p lexemes
         (and_read (many starts_with_slash (alternative file inner) first.last (drop first.taken lexemes))
         (λ (more : FormsRead). Ok (whole_choice start first more)))) (sym (place-is stream))
@@ -333,15 +366,14 @@ expression-exact file most inner good before p lexemes stream few =
           (no_slash (stuck_slash file stops.end stops.stuck))) DerivesItems.items_none refl) refl)) refl;
       stuck = stops.stuck;
     }
-    by (Err (TooDeep at)) e = absurd e
+    by (Err (TooDeep at)) e = tt
+    by (Err (BadCountAt at)) e = tt
 
--- In as many parentheses as there are tokens, Expression is what is read, and none is one too many.
+-- with as many parentheses as may be open, Expression is what is read
 pub expression_in-exact : (file : List ℕ) (most before p : ℕ) (lexemes : List Lexeme) → Stream file p lexemes
-    → length lexemes ≤ most → ExactAt file (codes "Expression") before p lexemes
+    → ExactAt file (codes "Expression") before p lexemes
     (expression_in file most before lexemes)
 unfolding expression_in
-expression_in-exact file zero before p lexemes stream few =
-    expression-exact file zero None refl before p lexemes stream few
-expression_in-exact file (suc n) before p lexemes stream few =
-    expression-exact file (suc n) (Some (expression_in file n))
-    (λ b q more there less. expression_in-exact file n b q more there (omega arith)) before p lexemes stream few
+expression_in-exact file zero before p lexemes stream = expression-exact file None tt before p lexemes stream
+expression_in-exact file (suc n) before p lexemes stream =
+    expression-exact file (Some (expression_in file n)) (expression_in-exact file n) before p lexemes stream

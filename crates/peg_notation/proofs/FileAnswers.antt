@@ -1,7 +1,6 @@
 -- What is read of the tokens of a file, joined into what reading the file answers.
-use Rattle.std.proofs.Common.{◌≡◌, ◌⊎◌, inl, inr, ℕ, zero, suc, ◌+◌, ◌<◌, ◌≤◌, List, [], ◌∷◌, ◌++◌, length, take, map, codes, Contains, All}
-use Rattle.std.proofs.Common.{Option, option_map, Result, Ok, Err, refl, sym, ap, ◌∙◌, subst, arith}
-use Rattle.std.proofs.lemmas.Bool.{cases_lt}
+use Rattle.std.proofs.Common.{◌≡◌, ◌≢◌, ◌⊎◌, inl, inr, ℕ, zero, suc, ◌+◌, ◌≤◌, Bool, true, false, not, ◌&&◌, if◌then◌else◌, List, [], ◌∷◌, ◌++◌, length, take, drop, map, codes, Contains, All}
+use Rattle.std.proofs.Common.{Option, Some, option_map, Result, Ok, Err, refl, sym, ap, ◌∙◌, subst, arith}
 use Rattle.std.proofs.lemmas.List.Sums.{sum_by-cons}
 use Rattle.peg_bytes.specs.Extent.{between}
 use Rattle.peg_tree.specs.Trees.{Trees}
@@ -9,12 +8,16 @@ use Rattle.peg_ford.specs.Form.{Name}
 use Rattle.peg_ford.specs.Record.{Failed, Matched}
 use Rattle.peg_ford.proofs.Derivations.{Derives, one_result}
 use Rattle.peg_figure.specs.Figure.{figure}
-use Rattle.peg_figure.specs.Notation.{Matches, IsInNotation, IsReading, most_file_bytes}
+use Rattle.peg_figure.specs.Notation.{Matches, FigureMatches, most_file_bytes}
+use Rattle.peg_lexer.specs.Lexical.{text_of}
 use Rattle.peg_lexer.specs.Pieces.{Piece}
-use Rattle.peg_notation.specs.Reader.{Halt, Unexpected, TooDeep, RulesRead, grammar}
+use Rattle.peg_figure.specs.Spelled.{text_end, bounds_in_range, bad_counts}
+use Rattle.peg_lexer.specs.declared.token.TokenKind.{TokenKind}
+use Rattle.peg_lexer.specs.declared.token.TokenKind.TheVariants as token
+use Rattle.peg_notation.specs.Reader.{Halt, Unexpected, TooDeep, BadCountAt, RulesRead, bounds_of, is_count, is_bad_count, grammar}
 use Rattle.peg_notation.specs.ReaderCode.{IsText, AreTexts, ConveysHalt}
 use Rattle.peg_figure.specs.Nesting.{most_open}
-use Rattle.peg_notation.specs.Reads.{fault_of, Reads, IsReadingWithin, NestsDeeper, IsTokenPlace, one_if_open, opens, one_if_close, closes, IsOneTooMany}
+use Rattle.peg_notation.specs.Reads.{fault_of, Reads, IsReadingWithin, NestsDeeper, CountsOutOfRange, IsTokenPlace, one_if_open, opens, one_if_close, closes, IsOneTooMany, IsBadCountToken}
 use Rattle.peg_notation.specs.Spans.{RuleLiesIn, AnswerLiesIn}
 use Rattle.peg_figure.specs.Nesting.{nesting}
 use Rattle.peg_lexer.specs.Tokens.{Lexeme, IsTokens, Lexes}
@@ -22,16 +25,14 @@ use Rattle.peg_lexer.specs.declared.fault.LexFault.{LexFault}
 use Rattle.peg_lexer.specs.declared.fault.LexFault.TheVariants.{FileTooLong, Syntax, Memory}
 use Rattle.peg_notation.specs.declared.fault.NotationFault.{NotationFault}
 use Rattle.peg_notation.specs.declared.fault.NotationFault.TheVariants as answer
-use Rattle.peg_notation.proofs.Cuts.{IsCut}
 use Rattle.peg_notation.proofs.GrammarRules.{ExactFile, first_place, grammar-exact}
 use Rattle.peg_lexer.proofs.Lexemes.{lexeme_at, matches}
-use Rattle.peg_notation.proofs.MatchedTokens.{derives, fault_not_matched}
+use Rattle.peg_notation.proofs.MatchedTokens.{deepest, derives, fault_not_matched, lexeme_here, token-counts, counts-tokens, nests-tokens}
 use Rattle.peg_notation.proofs.Places.{IsPlace, StopsAt, grammar-stops}
-use Rattle.peg_notation.proofs.Reached.{Runs, IsDeepAt, token-order, texts-within, texts-from}
-use Rattle.peg_notation.proofs.ReachedRules.{RulesReach, grammar-reaches}
-use Rattle.peg_notation.proofs.ReaderCuts.{grammar-cut}
+use Rattle.peg_notation.proofs.Reached.{Runs, IsDeepAt, IsBadAt, token-order, texts-within, texts-from}
+use Rattle.peg_notation.proofs.ReachedRules.{bad_places, RulesReach, grammar-reaches}
 use Rattle.peg_lexer.proofs.SpacingRules.{finds-spacing}
-use Rattle.peg_notation.proofs.Streams.{Stream, stream}
+use Rattle.peg_notation.proofs.Streams.{Stream, stream, here}
 use Rattle.peg_lexer.proofs.Texts.{behind_text}
 
 -- ---- tokens
@@ -118,19 +119,19 @@ stays_passed most a lexemes less = record { before = []; same = refl; count = re
     by zero = omega arith
     by (suc n) = omega arith
 
-runs-passed : {most a b : ℕ} {lexemes rest : List Lexeme} → a ≤ most → Runs most a lexemes b rest
+runs-passed : {file : List ℕ} {most a b : ℕ} {lexemes rest : List Lexeme} → a ≤ most → Runs file most a lexemes b rest
     → Passed most a b lexemes rest
-runs-passed {most} {a} {b} {lexemes} less Runs.stays = stays_passed most a lexemes less
-runs-passed {most} {a} {b} less (Runs.opened {lexeme = lexeme} {more = more} {rest = rest} is smaller run) =
+runs-passed {most = most} {a} {b} {lexemes} less Runs.stays = stays_passed most a lexemes less
+runs-passed {most = most} {a} {b} less (Runs.opened {lexeme = lexeme} {more = more} {rest = rest} is smaller run) =
     one_passed most a (suc a) b lexeme more rest less (omega (arith, ap one_if_open is, ap one_if_close is))
     (runs-passed (omega arith) run)
-runs-passed {most} {a} {b} less (Runs.shut {a = c} {lexeme = lexeme} {more = more} {rest = rest} is run) =
+runs-passed {most = most} {a} {b} less (Runs.shut {a = c} {lexeme = lexeme} {more = more} {rest = rest} is run) =
     one_passed most (suc c) c b lexeme more rest less (omega (arith, ap one_if_open is, ap one_if_close is))
     (runs-passed (omega arith) run)
-runs-passed {most} {a} {b} less (Runs.other {lexeme = lexeme} {more = more} {rest = rest} is too run) =
-    one_passed most a a b lexeme more rest less (omega (arith, is, too)) (runs-passed less run)
+runs-passed {most = most} {a} {b} less (Runs.other {lexeme = lexeme} {more = more} {rest = rest} plain run) =
+    one_passed most a a b lexeme more rest less (omega (arith, plain.no_open, plain.no_close)) (runs-passed less run)
 
-too_many : (most : ℕ) (file : List ℕ) (lexemes : List Lexeme) (at : ℕ) → IsTokens file lexemes → IsDeepAt most 0 lexemes at
+too_many : (most : ℕ) (file : List ℕ) (lexemes : List Lexeme) (at : ℕ) → IsTokens file lexemes → IsDeepAt file most 0 lexemes at
     → IsOneTooMany most file at
 too_many most file lexemes at tokens deep =
     let p = runs-passed (omega arith) deep.runs in (
@@ -146,81 +147,155 @@ too_many most file lexemes at tokens deep =
 
 -- ---- the answer
 
--- a reading is the figure's, where it is read with as many parentheses as there are tokens and nests no deeper than is
--- allowed
-read_within : (file : List ℕ) (most : ℕ) (all cut : Result RulesRead Halt) → ExactFile file all
-    → IsCut (λ (p : RulesRead). p.depth) most all cut → (read : RulesRead) → cut ≡ Ok read → IsReadingWithin most file read.rules
-read_within file most (Ok x) cut exact is read found = by (cases_lt most x.depth)
+-- a reading is the figure's, and nests no deeper than is allowed
+read_within : (file : List ℕ) (most : ℕ) (lexemes : List Lexeme) (read : RulesRead) → IsTokens file lexemes
+    → ExactFile file (Ok read) → RulesReach file most lexemes (Ok read) → IsReadingWithin most file read.rules
+read_within file most lexemes read tokens exact reach =
+    let matched : Matches file (codes "Grammar") 0 exact.end exact.trees = matches (exact.derives (between 0 0)) in
+    let fine = counts-tokens file lexemes tokens exact.end exact.trees matched ∙ reach.2 in
+    ((exact.end, exact.trees, matched, fine, exact.spells), λ end trees m. flat end trees m)
   where
-    flat : (end : ℕ) (trees : Trees) → Matches file (codes "Grammar") 0 end trees → x.depth ≤ most → nesting trees ≤ most
-    flat end trees m shallow =
+    flat : (end : ℕ) (trees : Trees) → Matches file (codes "Grammar") 0 end trees → nesting trees ≤ most
+    flat end trees m =
         let same : Matched end trees ≡ Matched exact.end exact.trees = one_result (derives m) (exact.derives (between 0 0)) in
         let one : trees ≡ exact.trees = cc in
-        omega (arith, ap nesting one, exact.nests)
-
-    by : (most < x.depth) ⊎ (x.depth ≤ most) → IsReadingWithin most file read.rules
-    by (inr shallow) =
-        let same : Ok x ≡ Ok read = sym (is.0 shallow) ∙ found in
-        let it : x ≡ read = cc in
-        let reading : IsReading file read.rules = (
-          exact.end,
-          exact.trees,
-          matches (exact.derives (between 0 0)),
-          ap (λ (r : RulesRead). r.rules) (sym it) ∙ exact.spells,
-        ) in
-        (reading, λ end trees m. flat end trees m shallow)
-    by (inl deep) = absurd (let bad = sym found ∙ (is.1 deep).1 in cc)
-read_within file most (Err (Unexpected at)) cut exact (inl same) read found = absurd (let bad = sym found ∙ same in cc)
-read_within file most (Err (Unexpected at)) cut exact (inr deep) read found = absurd (let bad = sym found ∙ deep.1 in cc)
-read_within file most (Err (TooDeep at)) cut exact is read found = absurd exact
+        omega (arith, ap nesting one, exact.nests, reach.1)
 
 not_matched : (file : List ℕ) → ((span : Rattle.peg_bytes.specs.Extent.Extent) → Derives figure file (Name (codes "Grammar") span) 0 Failed)
     → (end : ℕ) (trees : Trees) → Matches file (codes "Grammar") 0 end trees → ⊥
 not_matched file fails end trees m =
     let bad : Matched end trees ≡ Failed = one_result (derives m) (fails (between 0 0)) in cc
 
-not_read : (file : List ℕ) (most : ℕ) (all cut : Result RulesRead Halt) → ExactFile file all
-    → IsCut (λ (p : RulesRead). p.depth) most all cut → (at : ℕ) → cut ≡ Err (Unexpected at) → ¬ IsInNotation file
-not_read file most (Ok x) cut exact is at found m = by (cases_lt most x.depth)
-  where
-    by : (most < x.depth) ⊎ (x.depth ≤ most) → ⊥
-    by (inr shallow) = let bad = sym found ∙ is.0 shallow in cc
-    by (inl deep) = let bad = sym found ∙ (is.1 deep).1 in cc
-not_read file most (Err (Unexpected other)) cut exact is at found m = not_matched file exact m.0 m.1 m.2
-not_read file most (Err (TooDeep other)) cut exact is at found m = exact
+-- where so many parentheses are open behind tokens, and another opens, they nest deeper
+runs-deepest : {file : List ℕ} {most a b : ℕ} {lexemes rest : List Lexeme} → Runs file most a lexemes b rest
+    → b + deepest rest ≤ a + deepest lexemes
+runs-deepest Runs.stays = omega arith
+runs-deepest (Runs.opened is less run) = omega (arith, ap one_if_open is, ap one_if_close is, runs-deepest run)
+runs-deepest (Runs.shut is run) = omega (arith, ap one_if_open is, ap one_if_close is, runs-deepest run)
+runs-deepest (Runs.other plain run) = omega (arith, plain.no_open, plain.no_close, runs-deepest run)
 
-nests_deeper : (file : List ℕ) (most : ℕ) (all cut : Result RulesRead Halt) → ExactFile file all
-    → IsCut (λ (p : RulesRead). p.depth) most all cut → (at : ℕ) → cut ≡ Err (TooDeep at) → NestsDeeper most file
-nests_deeper file most (Ok x) cut exact is at found end trees m = by (cases_lt most x.depth)
+nests_deeper : (file : List ℕ) (most : ℕ) (lexemes : List Lexeme) (at : ℕ) → IsTokens file lexemes
+    → IsDeepAt file most 0 lexemes at → NestsDeeper most file
+nests_deeper file most lexemes at tokens deep end trees m =
+    omega (
+      arith,
+      nests-tokens file lexemes tokens end trees m,
+      runs-deepest deep.runs,
+      ap one_if_open deep.opens,
+      ap one_if_close deep.opens,
+    )
+
+-- ---- a count out of range
+
+bad_somewhere : (file : List ℕ) (before : List Lexeme) (count : Lexeme) (more : List Lexeme)
+    → is_bad_count file count ≡ true → bad_places file (before ++ count ∷ more) ≢ []
+bad_somewhere file [] count more bad none =
+    let some : bad_places file (count ∷ more) ≡ count.text.start ∷ bad_places file more =
+    ap (λ (t : Bool). (if t then count.text.start ∷ [] else []) ++ bad_places file more) bad in
+    let no : [] ≡ count.text.start ∷ bad_places file more = sym none ∙ some in
+    cc
+bad_somewhere file (lexeme ∷ before) count more bad none =
+    by (λ is. bad_somewhere file before count more bad is) (is_bad_count file lexeme) none
   where
-    by : (most < x.depth) ⊎ (x.depth ≤ most) → most < nesting trees
-    by (inr shallow) = absurd (let bad = sym found ∙ is.0 shallow in cc)
-    by (inl deep) =
-        let same : Matched end trees ≡ Matched exact.end exact.trees = one_result (derives m) (exact.derives (between 0 0)) in
-        let one : trees ≡ exact.trees = cc in
-        omega (arith, ap nesting one, exact.nests)
-nests_deeper file most (Err (Unexpected other)) cut exact is at found end trees m = absurd (not_matched file exact end trees m)
-nests_deeper file most (Err (TooDeep other)) cut exact is at found end trees m = absurd exact
+    by : (bad_places file (before ++ count ∷ more) ≡ [] → ⊥) → (t : Bool) → (if t then lexeme.text.start ∷ [] else []) ++ bad_places file (before ++ count ∷ more) ≡ [] → ⊥
+    by behind true is = cc
+    by behind false is = behind is
+
+out_of_range : (file : List ℕ) (lexemes : List Lexeme) (at : ℕ) → IsTokens file lexemes → IsBadAt file lexemes at
+    → CountsOutOfRange file
+out_of_range file lexemes at tokens it end trees m none =
+    bad_somewhere file it.before it.count it.more it.bad
+    (ap (bad_places file) (sym it.same) ∙ (sym (counts-tokens file lexemes tokens end trees m) ∙ none))
+
+-- tokens behind others are a stream too
+stream-behind : (file : List ℕ) (before rest : List Lexeme) (p : ℕ) → Stream file p (before ++ rest)
+    → (q : ℕ) × Stream file q rest
+stream-behind file [] rest p there = (p, there)
+stream-behind file (lexeme ∷ before) rest p (Stream.next k piece l found is more) =
+    stream-behind file before rest (behind_text file p piece.length) more
+
+count_kind : (k : TokenKind) (t : Bool) → (is_count k && t) ≡ true → k ≡ token.Count
+count_kind token.Count t is = refl
+count_kind token.Ident t is = cc
+count_kind token.Literal t is = cc
+count_kind token.Class t is = cc
+count_kind token.Arrow t is = cc
+count_kind token.Slash t is = cc
+count_kind token.And t is = cc
+count_kind token.Not t is = cc
+count_kind token.Question t is = cc
+count_kind token.Star t is = cc
+count_kind token.Plus t is = cc
+count_kind token.Open t is = cc
+count_kind token.Close t is = cc
+count_kind token.Dot t is = cc
+
+-- the figure's COUNT of such a token
+bad_tree : (file : List ℕ) (count : Lexeme) (more : List Lexeme) (q : ℕ) → Stream file q (count ∷ more)
+    → is_bad_count file count ≡ true
+    → (end : ℕ) × (trees : Trees) × Matches file (codes "COUNT") count.text.start end trees
+    × (bad_counts file trees ≡ count.text.start ∷ [])
+bad_tree file count more q (Stream.next k piece lexeme found is rest) bad =
+    let counts : count.kind ≡ token.Count = count_kind count.kind (not (bounds_in_range (bounds_of file count))) bad in
+    let kinds : k ≡ token.Count = sym (ap (λ (l : Lexeme). l.kind) is) ∙ counts in
+    let starts : count.text.start ≡ q = ap (λ (l : Lexeme). l.text.start) is in
+    let there : text_of token.Count (drop q file) ≡ Some piece = subst (λ k. text_of k (drop q file) ≡ Some piece) kinds found in
+    let it = here token.Count piece (between 0 0) there in
+    let one : Lexeme = lexeme_here token.Count q it.trees in
+    let same : is_bad_count file one ≡ is_bad_count file count =
+    λ i. is_bad_count file (record { kind = sym counts i; text = between (sym starts i) (text_end q it.trees) }) in
+    let told : bad_counts file it.trees ≡ q ∷ [] =
+    token-counts token.Count it.derives
+    ∙ ap (λ (t : Bool). (if t then q ∷ [] else []) ++ []) (same ∙ bad) in
+    subst (λ n. (end : ℕ) × (trees : Trees) × Matches file (codes "COUNT") n end trees × (bad_counts file trees ≡ n ∷ []))
+    (sym starts) (behind_text file q piece.length, it.trees, matches it.derives, told)
+
+bad_token : (file : List ℕ) (lexemes : List Lexeme) (at : ℕ) → IsTokens file lexemes → IsBadAt file lexemes at
+    → IsBadCountToken file at
+bad_token file lexemes at tokens it =
+    let all : IsTokens file (it.before ++ it.count ∷ it.more) = subst (IsTokens file) it.same tokens in
+    let there = stream-behind file it.before (it.count ∷ it.more) (first_place file) (tokens-stream file (it.before ++ it.count ∷ it.more) all) in (
+      it.before,
+      it.count,
+      it.more,
+      all,
+      count_kind it.count.kind (not (bounds_in_range (bounds_of file it.count))) it.bad,
+      it.place,
+      subst (λ n. (end : ℕ) × (trees : Trees) × Matches file (codes "COUNT") n end trees × (bad_counts file trees ≡ n ∷ []))
+          (sym it.place) (bad_tree file it.count it.more there.0 there.1 it.bad),
+    )
+
+-- it starts in the file
+bad_within : (file : List ℕ) (before : List Lexeme) (count : Lexeme) (more : List Lexeme) (at from : ℕ)
+    → AreTexts file from (before ++ count ∷ more) → at ≡ count.text.start → at ≤ length file
+bad_within file [] count more at from texts place =
+    omega (arith, place, token-order file from count more texts, texts-within file count.text.end more texts.2)
+bad_within file (lexeme ∷ before) count more at from texts place =
+    bad_within file before count more at lexeme.text.end texts.2 place
 
 -- What is read of the tokens of a file with so many parentheses at most.
 pub record OfTokens (file : List ℕ) (most : ℕ) (lexemes : List Lexeme) : Type 0 where
   pub read : (r : RulesRead) → grammar file most lexemes ≡ Ok r → IsReadingWithin most file r.rules
   pub lies : (r : RulesRead) → grammar file most lexemes ≡ Ok r → All (RuleLiesIn (length file)) r.rules
-  pub unread : (at : ℕ) → grammar file most lexemes ≡ Err (Unexpected at) → (¬ IsInNotation file) × IsTokenPlace file at
+  pub unread : (at : ℕ) → grammar file most lexemes ≡ Err (Unexpected at) → (¬ FigureMatches file) × IsTokenPlace file at
   pub deep : (at : ℕ) → grammar file most lexemes ≡ Err (TooDeep at) → NestsDeeper most file × IsOneTooMany most file at
+  pub bad : (at : ℕ) → grammar file most lexemes ≡ Err (BadCountAt at) → CountsOutOfRange file × IsBadCountToken file at
+      × (at ≤ length file)
 
 pub answers : (file : List ℕ) (most : ℕ) (lexemes : List Lexeme) → IsTokens file lexemes → OfTokens file most lexemes
 answers file most lexemes tokens =
-    let all = grammar file (length lexemes) lexemes in
-    let cut = grammar file most lexemes in
-    let exact : ExactFile file all = grammar-exact file (length lexemes) lexemes (tokens-stream file lexemes tokens) (omega arith) in
-    let is : IsCut (λ (p : RulesRead). p.depth) most all cut = grammar-cut file (length lexemes) most lexemes in
-    let reach : RulesReach file most lexemes cut = grammar-reaches file most 0 lexemes (tokens-texts file lexemes tokens) in
+    let read = grammar file most lexemes in
+    let exact : ExactFile file read = grammar-exact file most lexemes (tokens-stream file lexemes tokens) in
+    let reach : RulesReach file most lexemes read = grammar-reaches file most 0 lexemes (tokens-texts file lexemes tokens) in
+    let exact_as : (x : Result RulesRead Halt) → read ≡ x → ExactFile file x =
+    λ x found. subst (λ (y : Result RulesRead Halt). ExactFile file y) found exact in
+    let reach_as : (x : Result RulesRead Halt) → read ≡ x → RulesReach file most lexemes x =
+    λ x found. subst (λ (y : Result RulesRead Halt). RulesReach file most lexemes y) found reach in
     record {
-      read = λ r found. read_within file most all cut exact is r found;
-      lies = λ r found. subst (λ (x : Result RulesRead Halt). RulesReach file most lexemes x) found reach;
+      read = λ r found. read_within file most lexemes r tokens (exact_as (Ok r) found) (reach_as (Ok r) found);
+      lies = λ r found. (reach_as (Ok r) found).0;
       unread = λ at found. (
-        not_read file most all cut exact is at found,
+        λ m. not_matched file (exact_as (Err (Unexpected at)) found) m.0 m.1 m.2,
         (
           lexemes,
           tokens,
@@ -229,9 +304,16 @@ answers file most lexemes tokens =
         ),
       );
       deep = λ at found. (
-        nests_deeper file most all cut exact is at found,
-        too_many most file lexemes at tokens (subst (λ (x : Result RulesRead Halt). RulesReach file most lexemes x) found reach),
+        nests_deeper file most lexemes at tokens (reach_as (Err (TooDeep at)) found),
+        too_many most file lexemes at tokens (reach_as (Err (TooDeep at)) found),
       );
+      bad = λ at found.
+          let it = reach_as (Err (BadCountAt at)) found in (
+            out_of_range file lexemes at tokens it,
+            bad_token file lexemes at tokens it,
+            bad_within file it.before it.count it.more at 0
+                (subst (AreTexts file 0) it.same (tokens-texts file lexemes tokens)) it.place,
+          );
     }
 
 -- a file without tokens isn't read
@@ -253,6 +335,8 @@ fault_reads file lexemes (answer.Syntax at) short tokens is =
     let it = (answers file most_open lexemes tokens).unread at is in (short, it.0, inr it.1)
 fault_reads file lexemes (answer.TooNested at) short tokens is =
     let it = (answers file most_open lexemes tokens).deep at is in (short, it.0, it.1)
+fault_reads file lexemes (answer.BadCount at) short tokens is =
+    let it = (answers file most_open lexemes tokens).bad at is in (short, it.0, it.1)
 fault_reads file lexemes answer.Memory short tokens is = tt
 
 -- a place where a token starts lies in the file
@@ -263,12 +347,12 @@ starts_within file from (lexeme ∷ more) at texts (IsPlace.first is) =
     omega (arith, is, token-order file from lexeme more texts, texts-within file lexeme.text.end more texts.2)
 starts_within file from (lexeme ∷ more) at texts (IsPlace.later rest) = starts_within file lexeme.text.end more at texts.2 rest
 
-runs_within : (file : List ℕ) {most a b : ℕ} {lexemes rest : List Lexeme} → Runs most a lexemes b rest → (from : ℕ)
+runs_within : (file : List ℕ) {most a b : ℕ} {lexemes rest : List Lexeme} → Runs file most a lexemes b rest → (from : ℕ)
     → AreTexts file from lexemes → (to : ℕ) × AreTexts file to rest
 runs_within file Runs.stays from texts = (from, texts)
 runs_within file (Runs.opened {lexeme = lexeme} is less run) from texts = runs_within file run lexeme.text.end texts.2
 runs_within file (Runs.shut {lexeme = lexeme} is run) from texts = runs_within file run lexeme.text.end texts.2
-runs_within file (Runs.other {lexeme = lexeme} is too run) from texts = runs_within file run lexeme.text.end texts.2
+runs_within file (Runs.other {lexeme = lexeme} plain run) from texts = runs_within file run lexeme.text.end texts.2
 
 pub fault_lies : (file : List ℕ) (lexemes : List Lexeme) (fault : NotationFault) → IsTokens file lexemes
     → ConveysHalt (grammar file most_open lexemes) fault → AnswerLiesIn (length file) (Err fault)
@@ -278,7 +362,7 @@ fault_lies file lexemes (answer.Syntax at) tokens is =
     (subst (λ (x : Result RulesRead Halt). StopsAt (length file) lexemes x) is (grammar-stops file most_open lexemes))
 fault_lies file lexemes (answer.TooNested at) tokens is =
     let texts = tokens-texts file lexemes tokens in
-    let deep : IsDeepAt most_open 0 lexemes at =
+    let deep : IsDeepAt file most_open 0 lexemes at =
     subst (λ (x : Result RulesRead Halt). RulesReach file most_open lexemes x) is (grammar-reaches file most_open 0 lexemes texts) in
     let left = runs_within file deep.runs 0 texts in
     omega (
@@ -287,4 +371,5 @@ fault_lies file lexemes (answer.TooNested at) tokens is =
       token-order file left.0 deep.opening deep.more left.1,
       texts-within file deep.opening.text.end deep.more left.1.2,
     )
+fault_lies file lexemes (answer.BadCount at) tokens is = ((answers file most_open lexemes tokens).bad at is).2
 fault_lies file lexemes answer.Memory tokens is = tt

@@ -12,7 +12,7 @@ use Rattle.peg_figure.specs.FigureRules as rule
 use Rattle.peg_lexer.specs.Lexical.{text_of}
 use Rattle.peg_lexer.specs.Pieces.{Piece}
 use Rattle.peg_figure.specs.Notation.{IsReading}
-use Rattle.peg_figure.specs.Spelled.{Spelling, Byte, Bytes, Word, Sign, Expression, Definition}
+use Rattle.peg_figure.specs.Spelled.{Spelling, Byte, Bytes, Numeral, Word, Sign, Expression, Definition}
 use Rattle.peg_figure.specs.Spelled.{text_end, part, spelled, choice_spelled, definition_spelled, expressions_in}
 use Rattle.peg_figure.specs.Spelled.{rules_in, rules_spelled}
 use Rattle.peg_lexer.specs.declared.token.TokenKind.TheVariants as kind
@@ -159,6 +159,7 @@ rules_in-some [] r others none = cc
 rules_in-some (Definition first ∷ pieces) r others none = cc
 rules_in-some (Byte byte ∷ pieces) r others none = rules_in-some pieces r others none
 rules_in-some (Bytes bytes ∷ pieces) r others none = rules_in-some pieces r others none
+rules_in-some (Numeral value ∷ pieces) r others none = rules_in-some pieces r others none
 rules_in-some (Word name span ∷ pieces) r others none = rules_in-some pieces r others none
 rules_in-some (Sign sign ∷ pieces) r others none = rules_in-some pieces r others none
 rules_in-some (Expression form ∷ pieces) r others none = rules_in-some pieces r others none
@@ -190,4 +191,4 @@ IsReading-some file rules reading none =
     let whole : rules_spelled file reading.1
     ≡ rules_in (spelled file 0 gap.first ++ Definition one.0 ∷ (others ++ last)) =
     ap (rules_spelled file) node.is ∙ ap rules_in (append-nil (spelled file 0 node.inner) ∙ all) in
-    rules_in-some (spelled file 0 gap.first) one.0 (others ++ last) (sym whole ∙ (sym reading.3 ∙ none))
+    rules_in-some (spelled file 0 gap.first) one.0 (others ++ last) (sym whole ∙ (sym reading.4 ∙ none))

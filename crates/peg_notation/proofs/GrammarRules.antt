@@ -13,7 +13,7 @@ use Rattle.peg_figure.specs.Figure.{figure, definition_body, grammar_body, end_o
 use Rattle.peg_figure.specs.FigureRules as rule
 use Rattle.peg_lexer.specs.Lexical.{text_of, spacing}
 use Rattle.peg_lexer.specs.Pieces.{Piece}
-use Rattle.peg_notation.specs.Reader.{Halt, Unexpected, TooDeep, FormRead, starts_with_arrow, is_arrow, and_read, expression_in, RuleRead, RulesRead, and_rules, rule_of, definition_behind, definition_of, definition, definitions_behind, grammar}
+use Rattle.peg_notation.specs.Reader.{Halt, Unexpected, TooDeep, BadCountAt, FormRead, starts_with_arrow, is_arrow, and_read, expression_in, RuleRead, RulesRead, and_rules, rule_of, definition_behind, definition_of, definition, definitions_behind, grammar}
 use Rattle.peg_figure.specs.Spelled.{Spelling, Definition, Word, Expression, text_end, part, spelled, definition_spelled, rules_in, rules_spelled}
 use Rattle.peg_figure.specs.Nesting.{nesting}
 use Rattle.peg_lexer.specs.Tokens.{Lexeme}
@@ -68,7 +68,8 @@ ExactRule file p lexemes (Ok part_read) = ReadsRule file p lexemes part_read
 ExactRule file p lexemes (Err (Unexpected at)) =
     ((span : Extent) → Derives figure file (Name (codes "Definition") span) p Failed) ⊎ Stops file
     (codes "Definition") p
-ExactRule file p lexemes (Err (TooDeep at)) = ⊥
+ExactRule file p lexemes (Err (TooDeep at)) = Unit {0}
+ExactRule file p lexemes (Err (BadCountAt at)) = Unit {0}
 
 -- no definition begins without a name
 no_name : {file : List ℕ} {p : ℕ} → ((span : Extent) → Derives figure file (Name (codes "Identifier") span) p Failed)
@@ -149,16 +150,17 @@ definition_read file p piece found arrow there rest (Err (Unexpected at)) stops 
           (DerivesItems.items_then (stops.derives (between 76 86)) DerivesItems.items_none refl) refl) refl)) refl;
       stuck = stops.stuck;
     })
-definition_read file p piece found arrow there rest (Err (TooDeep at)) e = absurd e
+definition_read file p piece found arrow there rest (Err (TooDeep at)) e = tt
+definition_read file p piece found arrow there rest (Err (BadCountAt at)) e = tt
 
 -- what stands behind a name
 behind_name : (file : List ℕ) (most p : ℕ) (piece : Piece) (more : List Lexeme) → text_of kind.Ident (drop p file)
-    ≡ Some piece → Stream file (behind_text file p piece.length) more → length more ≤ most
+    ≡ Some piece → Stream file (behind_text file p piece.length) more
     → ExactRule file p (lexeme_at kind.Ident p piece.length ∷
     more) (definition_behind file most (lexeme_at kind.Ident p piece.length) more (starts_with_arrow more))
-behind_name file most p piece [] found (Stream.ended last) few =
+behind_name file most p piece [] found (Stream.ended last) =
     inl (no_arrow piece found (λ span. none_here kind.Arrow span last))
-behind_name file most p piece (_ ∷ rest) found (Stream.next k arrow lexeme there is left) few =
+behind_name file most p piece (_ ∷ rest) found (Stream.next k arrow lexeme there is left) =
     subst (λ (l : Lexeme). ExactRule file p (lexeme_at kind.Ident p piece.length ∷ l ∷
     rest) (definition_behind file most (lexeme_at kind.Ident p piece.length) (l ∷
     rest) (is_arrow l.kind))) (sym is) (by k there)
@@ -180,7 +182,7 @@ behind_name file most p piece (_ ∷ rest) found (Stream.next k arrow lexeme the
         definition_read file p piece found arrow at_end rest
         (expression_in file most (behind_text file p piece.length + arrow.length) rest)
         (expression_in-exact file most (behind_text file p piece.length + arrow.length)
-        (behind_text file (behind_text file p piece.length) arrow.length) rest left (omega arith))
+        (behind_text file (behind_text file p piece.length) arrow.length) rest left)
     by kind.Ident at_end = none kind.Ident at_end (λ e. cc)
     by kind.Literal at_end = none kind.Literal at_end (λ e. cc)
     by kind.Class at_end = none kind.Class at_end (λ e. cc)
@@ -190,16 +192,17 @@ behind_name file most p piece (_ ∷ rest) found (Stream.next k arrow lexeme the
     by kind.Question at_end = none kind.Question at_end (λ e. cc)
     by kind.Star at_end = none kind.Star at_end (λ e. cc)
     by kind.Plus at_end = none kind.Plus at_end (λ e. cc)
+    by kind.Count at_end = none kind.Count at_end (λ e. cc)
     by kind.Open at_end = none kind.Open at_end (λ e. cc)
     by kind.Close at_end = none kind.Close at_end (λ e. cc)
     by kind.Dot at_end = none kind.Dot at_end (λ e. cc)
 
 -- Definition is what is read
 pub definition-exact : (file : List ℕ) (most p : ℕ) (lexemes : List Lexeme) → Stream file p lexemes
-    → length lexemes ≤ most → ExactRule file p lexemes (definition file most lexemes)
+    → ExactRule file p lexemes (definition file most lexemes)
 unfolding definition
-definition-exact file most p [] (Stream.ended last) few = inl (no_name (λ span. none_here kind.Ident span last))
-definition-exact file most p (_ ∷ more) (Stream.next k piece lexeme found is rest) few =
+definition-exact file most p [] (Stream.ended last) = inl (no_name (λ span. none_here kind.Ident span last))
+definition-exact file most p (_ ∷ more) (Stream.next k piece lexeme found is rest) =
     subst (λ (l : Lexeme). ExactRule file p (l ∷ more) (definition_of file most l more l.kind)) (sym is) (by k found)
   where
     none : (k : TokenKind) → text_of k (drop p file) ≡ Some piece → kind.Ident ≢ k
@@ -210,7 +213,7 @@ definition-exact file most p (_ ∷ more) (Stream.next k piece lexeme found is r
     by : (k : TokenKind) → text_of k (drop p file) ≡ Some piece
         → ExactRule file p (lexeme_at k p piece.length ∷ more)
         (definition_of file most (lexeme_at k p piece.length) more k)
-    by kind.Ident there = behind_name file most p piece more there rest (omega arith)
+    by kind.Ident there = behind_name file most p piece more there rest
     by kind.Literal there = none kind.Literal there (λ e. cc)
     by kind.Class there = none kind.Class there (λ e. cc)
     by kind.Arrow there = none kind.Arrow there (λ e. cc)
@@ -220,6 +223,7 @@ definition-exact file most p (_ ∷ more) (Stream.next k piece lexeme found is r
     by kind.Question there = none kind.Question there (λ e. cc)
     by kind.Star there = none kind.Star there (λ e. cc)
     by kind.Plus there = none kind.Plus there (λ e. cc)
+    by kind.Count there = none kind.Count there (λ e. cc)
     by kind.Open there = none kind.Open there (λ e. cc)
     by kind.Close there = none kind.Close there (λ e. cc)
     by kind.Dot there = none kind.Dot there (λ e. cc)
@@ -260,7 +264,8 @@ pub record StopsEarly (file : List ℕ) (p : ℕ) : Type 0 where
 abbrev pub ExactRules : (file : List ℕ) (p : ℕ) → Result RulesRead Halt → Type 0
 ExactRules file p (Ok read) = ReadsRules file p read
 ExactRules file p (Err (Unexpected at)) = StopsEarly file p
-ExactRules file p (Err (TooDeep at)) = ⊥
+ExactRules file p (Err (TooDeep at)) = Unit {0}
+ExactRules file p (Err (BadCountAt at)) = Unit {0}
 
 -- skipping tokens is dropping them
 pub definitions_behind-drop : (file : List ℕ) (most : ℕ) (lexemes : List Lexeme) (skipped : ℕ)
@@ -290,7 +295,8 @@ more_rules file p lexemes first e (Err (Unexpected at)) stops = record {
   derives = Derives.star_more (e.derives (between 19 29)) stops.derives refl;
   more = stops.more;
 }
-more_rules file p lexemes first e (Err (TooDeep at)) m = absurd m
+more_rules file p lexemes first e (Err (TooDeep at)) m = tt
+more_rules file p lexemes first e (Err (BadCountAt at)) m = tt
 
 -- where a definition goes no further than a token that nothing can follow, the star ends there
 rules_stop : (file : List ℕ) (p : ℕ) → Stops file (codes "Definition") p → StopsEarly file p
@@ -304,9 +310,9 @@ rules_stop file p stops = record {
 
 -- the definitions up to the end are what is read
 definitions : (file : List ℕ) (most n p : ℕ) (lexemes : List Lexeme) → length lexemes ≤ n → Stream file p lexemes
-    → length lexemes ≤ most → ExactRules file p (definitions_behind file most lexemes 0)
+    → ExactRules file p (definitions_behind file most lexemes 0)
 unfolding definitions_behind
-definitions file most n p [] few (Stream.ended last) within = record {
+definitions file most n p [] few (Stream.ended last) = record {
   trees = NoTrees;
   derives =
       subst (λ end. Derives figure file (Star (Name (codes "Definition") (between 19 29)) (between 19 30)) p
@@ -315,9 +321,9 @@ definitions file most n p [] few (Stream.ended last) within = record {
   spells = λ b. refl;
   nests = refl;
 }
-definitions file most zero p (l ∷ rest) few stream within = absurd (omega arith)
-definitions file most (suc n) p (l ∷ rest) few stream within =
-    step (definition file most (l ∷ rest)) (definition-exact file most p (l ∷ rest) stream within)
+definitions file most zero p (l ∷ rest) few stream = absurd (omega arith)
+definitions file most (suc n) p (l ∷ rest) few stream =
+    step (definition file most (l ∷ rest)) (definition-exact file most p (l ∷ rest) stream)
     (λ part_read e.
     let one : part_read.taken ≡ suc (part_read.taken - 1) = omega (arith, e.some) in
     let same : drop part_read.taken (l ∷ rest) ≡ drop (part_read.taken - 1) rest = ap (λ k. drop k (l ∷ rest)) one in
@@ -325,8 +331,7 @@ definitions file most (suc n) p (l ∷ rest) few stream within =
     (ap (λ ls. definitions_behind file most ls 0) same ∙ sym
     (definitions_behind-drop file most rest (part_read.taken - 1)))
     (definitions file most n e.end (drop part_read.taken (l ∷ rest))
-    (omega (arith, length-drop part_read.taken (l ∷ rest), e.some)) e.left
-    (omega (arith, length-drop part_read.taken (l ∷ rest), e.some))))
+    (omega (arith, length-drop part_read.taken (l ∷ rest), e.some)) e.left))
   where
     stops_here : (k : TokenKind) (piece : Piece) → text_of k (drop p file) ≡ Some piece
         → ((span : Extent) → Derives figure file (Name (codes "Definition") span) p Failed) → StopsEarly file p
@@ -351,7 +356,8 @@ definitions file most (suc n) p (l ∷ rest) few stream within =
     step (Err (Unexpected at)) (inl fails) later =
         let token = a_token stream in stops_here token.0 token.1 token.2 fails
     step (Err (Unexpected at)) (inr stops) later = rules_stop file p stops
-    step (Err (TooDeep at)) e later = absurd e
+    step (Err (TooDeep at)) e later = tt
+    step (Err (BadCountAt at)) e later = tt
 
 -- ---- Grammar
 
@@ -368,11 +374,12 @@ pub record ReadsFile (file : List ℕ) (read : RulesRead) : Type 0 where
   pub spells : read.rules ≡ rules_spelled file trees
   pub nests : nesting trees ≡ read.depth
 
--- what is read is matched, and where nothing is read the figure doesn't match
+-- what is read is matched, and where a token can't stand there the figure doesn't match
 abbrev pub ExactFile : List ℕ → Result RulesRead Halt → Type 0
 ExactFile file (Ok read) = ReadsFile file read
 ExactFile file (Err (Unexpected at)) = (span : Extent) → Derives figure file (Name (codes "Grammar") span) 0 Failed
-ExactFile file (Err (TooDeep at)) = ⊥
+ExactFile file (Err (TooDeep at)) = Unit {0}
+ExactFile file (Err (BadCountAt at)) = Unit {0}
 
 -- where the first spacing ends
 abbrev pub first_place : List ℕ → ℕ
@@ -432,17 +439,18 @@ grammar_read file lexemes first e (Ok more) m =
 grammar_read file lexemes first e (Err (Unexpected at)) stops =
     grammar_fails file (DerivesItems.items_then (Derives.plus_matched (e.derives (between 19 29)) stops.derives refl)
     (DerivesItems.items_failed (stops.more (between 31 40))) refl)
-grammar_read file lexemes first e (Err (TooDeep at)) m = absurd m
+grammar_read file lexemes first e (Err (TooDeep at)) m = tt
+grammar_read file lexemes first e (Err (BadCountAt at)) m = tt
 
--- Grammar is what is read, where as many parentheses may be open as there are tokens.
+-- Grammar is what is read.
 pub grammar-exact : (file : List ℕ) (most : ℕ) (lexemes : List Lexeme) → Stream file (first_place file) lexemes
-    → length lexemes ≤ most → ExactFile file (grammar file most lexemes)
+    → ExactFile file (grammar file most lexemes)
 unfolding grammar definitions_behind
-grammar-exact file most [] (Stream.ended last) few =
+grammar-exact file most [] (Stream.ended last) =
     grammar_fails file (DerivesItems.items_failed (Derives.plus_failed
     (no_name (λ span. none_here kind.Ident span last) (between 19 29))))
-grammar-exact file most (l ∷ rest) stream few =
-    step (definition file most (l ∷ rest)) (definition-exact file most (first_place file) (l ∷ rest) stream few)
+grammar-exact file most (l ∷ rest) stream =
+    step (definition file most (l ∷ rest)) (definition-exact file most (first_place file) (l ∷ rest) stream)
     (λ part_read e.
     let one : part_read.taken ≡ suc (part_read.taken - 1) = omega (arith, e.some) in
     let same : drop part_read.taken (l ∷ rest) ≡ drop (part_read.taken - 1) rest = ap (λ k. drop k (l ∷ rest)) one in
@@ -450,7 +458,7 @@ grammar-exact file most (l ∷ rest) stream few =
     (ap (λ ls. definitions_behind file most ls 0) same ∙ sym
     (definitions_behind-drop file most rest (part_read.taken - 1)))
     (definitions file most (length (drop part_read.taken (l ∷ rest))) e.end (drop part_read.taken (l ∷ rest))
-    (omega arith) e.left (omega (arith, length-drop part_read.taken (l ∷ rest)))))
+    (omega arith) e.left))
   where
     step : (x : Result RuleRead Halt) → ExactRule file (first_place file) (l ∷ rest) x
         → ((part_read : RuleRead) → (e : ReadsRule file (first_place file) (l ∷ rest) part_read)
@@ -467,4 +475,5 @@ grammar-exact file most (l ∷ rest) stream few =
         (Derives.star_none (no_name (stuck_name file stops.end stops.stuck) (between 19 29))) refl)
         (DerivesItems.items_failed (not_ended stops.stuck.kind stops.stuck.piece stops.stuck.found
         (between 31 40))) refl)
-    step (Err (TooDeep at)) e later = absurd e
+    step (Err (TooDeep at)) e later = tt
+    step (Err (BadCountAt at)) e later = tt

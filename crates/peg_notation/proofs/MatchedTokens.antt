@@ -1,23 +1,37 @@
--- What the figure matches has tokens: from Definition to Primary, whatever is matched is one token behind the other.
-use Rattle.std.proofs.Common.{◌≡◌, ◌⊎◌, inl, inr, ℕ, ◌≤◌, false, List, [], ◌∷◌, ◌++◌, length, drop, codes}
-use Rattle.std.proofs.Common.{Some, refl, sym, ap, ◌∙◌, subst, arith, length-drop}
+-- What the figure matches has tokens: from Definition to Primary, whatever is matched is one token behind the other, and
+-- its trees nest as deep as parentheses of these tokens are open at once, and have the counts that are out of range.
+use Rattle.std.proofs.Common.{◌≡◌, ◌⊎◌, inl, inr, ℕ, suc, ◌+◌, ◌-◌, ◌≤◌, max, Bool, true, false, not, ◌||◌, List, [], ◌∷◌, ◌++◌, length, drop, codes}
+use Rattle.std.proofs.Common.{append_assoc, append-nil, Option, None, Some, option_map, unwrap_or, if◌then◌else◌, ◌==◌, ◌&&◌, refl, sym, ap, ◌∙◌, subst, arith, length-drop}
+use Rattle.std.proofs.lemmas.List.Sums.{sum_by-append, sum_by-cons}
 use Rattle.peg_bytes.specs.Extent.{Extent, between}
-use Rattle.peg_tree.specs.Trees.{Trees}
-use Rattle.peg_ford.specs.Form.{Form, Forms, Literal, Class, Any, Name, Seq, Choice, Optional, Star, Plus, And, Not, End, Then}
+use Rattle.peg_tree.specs.Trees.{Trees, NoTrees, Tree, followed_by}
+use Rattle.peg_ford.specs.Form.{Form, Forms, Literal, Class, Any, Name, Seq, Choice, Optional, Star, Plus, Counted, And, Not, End, Then}
 use Rattle.peg_ford.specs.Record.{Recognition, Failed, Matched, behind}
 use Rattle.peg_ford.specs.Rules.{Meaning, meant}
-use Rattle.peg_ford.proofs.Derivations.{Derives, DerivesItems, DerivesFirst, recorded, derived}
+use Rattle.peg_ford.proofs.Derivations.{Derives, DerivesItems, DerivesFirst, recorded, derived, one_result}
 use Rattle.peg_ford.proofs.ResultSteps.{begins_with, passes_any}
 use Rattle.peg_ford.proofs.TerminalLemmas.{record_in-ends}
 use Rattle.peg_figure.specs.Figure.{figure, grammar_body, definition_body, expression_body, sequence_body, prefix_body, suffix_body, primary_body, end_of_file_body}
-use Rattle.peg_figure.specs.Notation.{Matches, IsInNotation}
-use Rattle.peg_figure.specs.Spelled.{text_end}
+use Rattle.peg_figure.specs.FigureRules as rule
+use Rattle.peg_figure.specs.Nesting.{nesting, has_open}
+use Rattle.peg_figure.specs.Notation.{Matches, FigureMatches}
+use Rattle.peg_figure.specs.Spelled.{text_end, spelled, numerals_in, bounds_spelled, bounds_in_range, bad_counts}
 use Rattle.peg_lexer.specs.Tokens.{rule_of_kind, Lexeme, Lexemes, IsTokens, IsLexingFault}
 use Rattle.peg_lexer.specs.declared.token.TokenKind.{TokenKind}
 use Rattle.peg_lexer.specs.declared.token.TokenKind.TheVariants as kind
-use Rattle.peg_figure.proofs.FigureNames.{grammar-meant, definition-meant, expression-meant, sequence-meant, prefix-meant, suffix-meant, primary-meant, end_of_file-meant}
+use Rattle.peg_figure.proofs.FigureNames.{grammar-meant, definition-meant, expression-meant, sequence-meant, prefix-meant, suffix-meant, primary-meant, open_sign-meant, end_of_file-meant}
 use Rattle.peg_lexer.proofs.Lexemes.{matches}
-use Rattle.peg_lexer.proofs.OneLexing.{tokens_or_fault}
+use Rattle.peg_lexer.proofs.OneLexing.{tokens_or_fault, one_list}
+use Rattle.peg_lexer.proofs.Takes.{nesting-followed, bad_counts-followed}
+use Rattle.peg_notation.specs.Reads.{one_if_open, opens, one_if_close, closes}
+use Rattle.peg_notation.specs.Reader.{is_count, is_bad_count}
+use Rattle.peg_notation.proofs.Readings.{has_open-followed}
+use Rattle.peg_notation.proofs.ReachedRules.{bad_places}
+use Rattle.peg_lexer.specs.Lexical.{text_of}
+use Rattle.peg_lexer.specs.Pieces.{Piece}
+use Rattle.peg_lexer.proofs.SpacingRules.{finds-spacing}
+use Rattle.peg_lexer.proofs.Texts.{FindsToken, behind_text}
+use Rattle.peg_spelling.proofs.TokenNodes.{number_of, takes-kind}
 
 -- ---- expressions over tokens
 
@@ -30,10 +44,17 @@ pub data IsSyntax (name : List ℕ) : Type 0 where
   is_suffix : name ≡ codes "Suffix" → IsSyntax name
   is_primary : name ≡ codes "Primary" → IsSyntax name
 
-abbrev IsToken : List ℕ → Type 0
-IsToken name = (k : TokenKind) × (name ≡ rule_of_kind k)
+-- a token that is no parenthesis
+pub record IsToken (name : List ℕ) : Type 0 where
+  pub kind : TokenKind
+  pub is : name ≡ rule_of_kind kind
+  pub no_open : one_if_open kind ≡ 0
+  pub no_close : one_if_close kind ≡ 0
 
--- an expression that takes tokens alone
+token : (k : TokenKind) → one_if_open k ≡ 0 → one_if_close k ≡ 0 → IsToken (rule_of_kind k)
+token k no_open no_close = record { kind = k; is = refl; no_open = no_open; no_close = no_close }
+
+-- an expression that takes tokens alone, and no parenthesis but inside a Primary
 abbrev mutual
   pub OfTokens : Form → Type 0
   OfTokens (Literal bytes span) = ⊥
@@ -45,6 +66,7 @@ abbrev mutual
   OfTokens (Optional part span) = OfTokens part
   OfTokens (Star part span) = OfTokens part
   OfTokens (Plus part span) = OfTokens part
+  OfTokens (Counted part min max span) = ⊥
   OfTokens (And part span) = Unit {0}
   OfTokens (Not part span) = Unit {0}
 
@@ -54,12 +76,12 @@ abbrev mutual
 
 definition-takes : OfTokens definition_body
 unfolding definition_body
-definition-takes = (inl (kind.Ident, refl), (inl (kind.Arrow, refl), (inr (IsSyntax.is_expression refl), tt)))
+definition-takes = (inl (token kind.Ident refl refl), (inl (token kind.Arrow refl refl), (inr (IsSyntax.is_expression refl), tt)))
 
 expression-takes : OfTokens expression_body
 unfolding expression_body
 expression-takes =
-    (inr (IsSyntax.is_sequence refl), ((inl (kind.Slash, refl), (inr (IsSyntax.is_sequence refl), tt)), tt))
+    (inr (IsSyntax.is_sequence refl), ((inl (token kind.Slash refl refl), (inr (IsSyntax.is_sequence refl), tt)), tt))
 
 sequence-takes : OfTokens sequence_body
 unfolding sequence_body
@@ -67,145 +89,482 @@ sequence-takes = inr (IsSyntax.is_prefix refl)
 
 prefix-takes : OfTokens prefix_body
 unfolding prefix_body
-prefix-takes = ((inl (kind.And, refl), (inl (kind.Not, refl), tt)), (inr (IsSyntax.is_suffix refl), tt))
+prefix-takes = ((inl (token kind.And refl refl), (inl (token kind.Not refl refl), tt)), (inr (IsSyntax.is_suffix refl), tt))
 
 suffix-takes : OfTokens suffix_body
 unfolding suffix_body
 suffix-takes = (
   inr (IsSyntax.is_primary refl),
-  ((inl (kind.Question, refl), (inl (kind.Star, refl), (inl (kind.Plus, refl), tt))), tt),
+  ((inl (token kind.Question refl refl), (inl (token kind.Star refl refl), (inl (token kind.Plus refl refl), (inl (token kind.Count refl refl), tt)))), tt),
 )
 
-primary-takes : OfTokens primary_body
+-- an expression in parentheses
+data IsParenthesized : Form → Type 0 where
+  parenthesized : {inside : Form} {first last span : Extent} → OfTokens inside → IsParenthesized
+      (Seq (Then (Name (codes "OPEN") first) (Then inside (Then (Name (codes "CLOSE") last) End))) span)
+
+-- what an alternative of Primary takes
+abbrev OfPrimary : Form → Type 0
+OfPrimary e = OfTokens e ⊎ IsParenthesized e
+
+abbrev AllOfPrimary : Forms → Type 0
+AllOfPrimary End = Unit {0}
+AllOfPrimary (Then first rest) = OfPrimary first × AllOfPrimary rest
+
+abbrev IsPrimaryChoice : Form → Type 0
+IsPrimaryChoice (Choice first rest span) = OfPrimary first × AllOfPrimary rest
+IsPrimaryChoice _ = ⊥
+
+primary-takes : IsPrimaryChoice primary_body
 unfolding primary_body
 primary-takes = (
-  (inl (kind.Ident, refl), (tt, tt)),
+  inl (inl (token kind.Ident refl refl), (tt, tt)),
   (
-    (inl (kind.Open, refl), (inr (IsSyntax.is_expression refl), (inl (kind.Close, refl), tt))),
-    (inl (kind.Literal, refl), (inl (kind.Class, refl), (inl (kind.Dot, refl), tt))),
+    inr (IsParenthesized.parenthesized (inr (IsSyntax.is_expression refl))),
+    (
+      inl (inl (token kind.Literal refl refl)),
+      (inl (inl (token kind.Class refl refl)), (inl (inl (token kind.Dot refl refl)), tt)),
+    ),
   ),
 )
 
--- what a name means is one thing
-meant_body : (name used : List ℕ) (m : Meaning) (rule terminal : ℕ) (body : Form) → used ≡ name
-    → meant figure name ≡ Some (record { rule = rule; terminal = terminal; body = body }) → meant figure used ≡ Some m
-    → OfTokens body → OfTokens m.body
-meant_body name used m rule terminal body is known found takes =
-    let same : Some (record { rule = rule; terminal = terminal; body = body }) ≡ Some m = sym known ∙ (ap (meant figure) (sym is) ∙ found) in
-    let one : record { rule = rule; terminal = terminal; body = body } ≡ m = cc in
-    subst (λ (x : Meaning). OfTokens x.body) one takes
+-- what a rule's body takes: that of Primary takes parentheses
+abbrev TakesBody : Meaning → Type 0
+TakesBody m =
+    (OfTokens m.body ⊎ (IsPrimaryChoice m.body × (m.rule ≡ rule.primary))) × ((m.rule == rule.count) ≡ false)
 
-body-takes : (used : List ℕ) (m : Meaning) → IsSyntax used → meant figure used ≡ Some m → OfTokens m.body
+-- what a name means is one thing
+meant_body : (name used : List ℕ) (m known : Meaning) → used ≡ name → meant figure name ≡ Some known
+    → meant figure used ≡ Some m → TakesBody known → TakesBody m
+meant_body name used m known is there found takes =
+    let same : Some known ≡ Some m = sym there ∙ (ap (meant figure) (sym is) ∙ found) in
+    let one : known ≡ m = cc in
+    subst (λ (x : Meaning). TakesBody x) one takes
+
+body-takes : (used : List ℕ) (m : Meaning) → IsSyntax used → meant figure used ≡ Some m → TakesBody m
 body-takes used m (IsSyntax.is_definition is) found =
-    meant_body (codes "Definition") used m _ _ _ is definition-meant.1 found definition-takes
+    meant_body (codes "Definition") used m _ is definition-meant.1 found (inl definition-takes, refl)
 body-takes used m (IsSyntax.is_expression is) found =
-    meant_body (codes "Expression") used m _ _ _ is expression-meant.1 found expression-takes
+    meant_body (codes "Expression") used m _ is expression-meant.1 found (inl expression-takes, refl)
 body-takes used m (IsSyntax.is_sequence is) found =
-    meant_body (codes "Sequence") used m _ _ _ is sequence-meant.1 found sequence-takes
+    meant_body (codes "Sequence") used m _ is sequence-meant.1 found (inl sequence-takes, refl)
 body-takes used m (IsSyntax.is_prefix is) found =
-    meant_body (codes "Prefix") used m _ _ _ is prefix-meant.1 found prefix-takes
+    meant_body (codes "Prefix") used m _ is prefix-meant.1 found (inl prefix-takes, refl)
 body-takes used m (IsSyntax.is_suffix is) found =
-    meant_body (codes "Suffix") used m _ _ _ is suffix-meant.1 found suffix-takes
+    meant_body (codes "Suffix") used m _ is suffix-meant.1 found (inl suffix-takes, refl)
 body-takes used m (IsSyntax.is_primary is) found =
-    meant_body (codes "Primary") used m _ _ _ is primary-meant.1 found primary-takes
+    meant_body (codes "Primary") used m _ is primary-meant.1 found (inr (primary-takes, refl), refl)
+
+-- ---- how deep tokens nest
+
+-- How many more parentheses of some tokens are open at once, at most, than where they begin.
+abbrev pub deepest : List Lexeme → ℕ
+deepest [] = 0
+deepest (lexeme ∷ more) = (one_if_open lexeme.kind + deepest more) - one_if_close lexeme.kind
+
+opens-append : (a b : List Lexeme) → opens (a ++ b) ≡ opens a + opens b
+opens-append a b = sum_by-append (λ (lexeme : Lexeme). one_if_open lexeme.kind) a b
+
+closes-append : (a b : List Lexeme) → closes (a ++ b) ≡ closes a + closes b
+closes-append a b = sum_by-append (λ (lexeme : Lexeme). one_if_close lexeme.kind) a b
+
+pub opens-cons : (lexeme : Lexeme) (more : List Lexeme) → opens (lexeme ∷ more) ≡ one_if_open lexeme.kind + opens more
+opens-cons lexeme more = sum_by-cons (λ (l : Lexeme). one_if_open l.kind) lexeme more
+
+pub closes-cons : (lexeme : Lexeme) (more : List Lexeme)
+    → closes (lexeme ∷ more) ≡ one_if_close lexeme.kind + closes more
+closes-cons lexeme more = sum_by-cons (λ (l : Lexeme). one_if_close l.kind) lexeme more
+
+-- of tokens and those behind them
+deepest-append : (a b : List Lexeme)
+    → deepest (a ++ b) ≤ max (deepest a) ((deepest b + opens a) - closes a)
+deepest-append [] b = omega arith
+deepest-append (lexeme ∷ a) b =
+    omega (arith, deepest-append a b, opens-cons lexeme a, closes-cons lexeme a)
+
+-- ---- counts out of range
+
+bad_places-append : (file : List ℕ) (a b : List Lexeme)
+    → bad_places file (a ++ b) ≡ bad_places file a ++ bad_places file b
+bad_places-append file [] b = refl
+bad_places-append file (lexeme ∷ a) b =
+    let own : List ℕ = if is_bad_count file lexeme then lexeme.text.start ∷ [] else [] in
+    ap (λ (l : List ℕ). own ++ l) (bad_places-append file a b)
+    ∙ sym (append_assoc own (bad_places file a) (bad_places file b))
 
 -- ---- tokens from one place to another
 
-pub record Stand (file : List ℕ) (place end : ℕ) : Type 0 where
+-- Tokens stand from one place to another, each parenthesis of them is closed, trees nest as deep, and the counts that are
+-- out of range are those of the trees.
+record Stand (file : List ℕ) (place end : ℕ) (trees : Trees) : Type 0 where
   pub list : List Lexeme
   pub stand : Lexemes file place list end
+  pub even : opens list ≡ closes list
+  pub deep : deepest list ≤ nesting trees
+  pub counts : bad_counts file trees ≡ bad_places file list
 
-nothing : (file : List ℕ) (place : ℕ) → Stand file place place
-nothing file place = record { list = []; stand = Lexemes.none }
+-- the same of what comes of an expression, if it matches
+abbrev Stood : List ℕ → (place : ℕ) → Recognition → Type 0
+Stood file place Failed = Unit {0}
+Stood file place (Matched end trees) = Stand file place end trees
+
+nothing : (file : List ℕ) (place : ℕ) → Stand file place place NoTrees
+nothing file place = record {
+  list = [];
+  stand = Lexemes.none;
+  even = refl;
+  deep = omega arith;
+  counts = refl;
+}
 
 and_stand : {file : List ℕ} {a b c : ℕ} {list more : List Lexeme} → Lexemes file a list b → Lexemes file b more c
     → Lexemes file a (list ++ more) c
 and_stand Lexemes.none next = next
 and_stand (Lexemes.one first rest) next = Lexemes.one first (and_stand rest next)
 
-both_stand : {file : List ℕ} {a b c : ℕ} → Stand file a b → Stand file b c → Stand file a c
-both_stand x y = record { list = x.list ++ y.list; stand = and_stand x.stand y.stand }
-
-one_stands : {file : List ℕ} {place end : ℕ} {trees : Trees} (k : TokenKind) → Matches file (rule_of_kind k) place end trees
-    → Stand file place end
-one_stands {file} {place} {end} {trees} k m = record {
-  list = record { kind = k; text = between place (text_end place trees) } ∷ [];
-  stand = Lexemes.one (trees, m, refl) Lexemes.none;
+both_stand : {file : List ℕ} {a b c : ℕ} {one more trees : Trees} → Stand file a b one → Stand file b c more
+    → trees ≡ followed_by one more → Stand file a c trees
+both_stand {file} {one = one} {more = more} x y is = record {
+  list = x.list ++ y.list;
+  stand = and_stand x.stand y.stand;
+  even = omega (arith, opens-append x.list y.list, closes-append x.list y.list, x.even, y.even);
+  deep =
+      omega (arith, deepest-append x.list y.list, x.even, x.deep, y.deep, ap nesting is, nesting-followed one more);
+  counts =
+      ap (bad_counts file) is ∙ (bad_counts-followed file one more
+      ∙ ((λ i. x.counts i ++ y.counts i) ∙ sym (bad_places-append file x.list y.list)));
 }
+
+behind_stands : {file : List ℕ} {place middle : ℕ} {one : Trees} → Stand file place middle one → (x : Recognition)
+    → Stood file middle x → Stood file place (behind one x)
+behind_stands first Failed rest = tt
+behind_stands first (Matched end more) rest = both_stand first rest refl
+
+-- a node of another rule than COUNT has the counts of what is inside
+node-counts : (file : List ℕ) (number place end : ℕ) (inside : Trees) → (number == rule.count) ≡ false
+    → bad_counts file (Tree number place end inside NoTrees) ≡ bad_counts file inside
+node-counts file number place end inside no_count =
+    ap (λ (t : Bool). (if t && not (bounds_in_range (bounds_spelled (numerals_in (spelled file place inside)))) then place ∷ []
+    else []) ++ (bad_counts file inside ++ [])) no_count
+    ∙ append-nil (bad_counts file inside)
+
+-- the trees of a rule's node nest no less than those inside
+node_stands : {file : List ℕ} {place end : ℕ} {inside tree : Trees} (number : ℕ) → (number == rule.count) ≡ false
+    → Stand file place end inside → tree ≡ Tree number place end inside NoTrees → Stand file place end tree
+node_stands {file} {place} {end} {inside = inside} number no_count x is = record {
+  list = x.list;
+  stand = x.stand;
+  even = x.even;
+  deep = omega (arith, x.deep, ap nesting is, by (number == rule.primary && has_open inside));
+  counts = ap (bad_counts file) is ∙ (node-counts file number place end inside no_count ∙ x.counts);
+}
+  where
+    by : (t : Bool) → nesting inside ≤ max ((if t then 1 else 0) + nesting inside) 0
+    by true = omega arith
+    by false = omega arith
+
+-- ---- one token
+
+-- a token of this kind
+abbrev pub lexeme_here : TokenKind → (place : ℕ) → Trees → Lexeme
+lexeme_here k place trees = record { kind = k; text = between place (text_end place trees) }
+
+-- what a name matches, wherever it is used
+elsewhere : {file : List ℕ} {used : List ℕ} {span : Extent} (other : Extent) {place : ℕ} {x : Recognition}
+    → Derives figure file (Name used span) place x → Derives figure file (Name used other) place x
+elsewhere other (Derives.name_matched found d t) = Derives.name_matched found d t
+elsewhere other (Derives.name_failed found d) = Derives.name_failed found d
+
+-- one token stands where its rule matches
+one_token : {file : List ℕ} {span : Extent} {place end : ℕ} {trees : Trees} (k : TokenKind)
+    → Derives figure file (Name (rule_of_kind k) span) place (Matched end trees)
+    → Lexemes file place (lexeme_here k place trees ∷ []) end
+one_token {trees = trees} k d = Lexemes.one (trees, matches (elsewhere (between 0 0) d), refl) Lexemes.none
+
+-- COUNT alone is the rule of counts
+count-number : (k : TokenKind) → (number_of k == rule.count) ≡ is_count k
+count-number kind.Ident = refl
+count-number kind.Literal = refl
+count-number kind.Class = refl
+count-number kind.Arrow = refl
+count-number kind.Slash = refl
+count-number kind.And = refl
+count-number kind.Not = refl
+count-number kind.Question = refl
+count-number kind.Star = refl
+count-number kind.Plus = refl
+count-number kind.Count = refl
+count-number kind.Open = refl
+count-number kind.Close = refl
+count-number kind.Dot = refl
+
+-- the trees of a token have the count that it is, if that is out of range
+pub token-counts : {file : List ℕ} {span : Extent} {place end : ℕ} {trees : Trees} (k : TokenKind)
+    → Derives figure file (Name (rule_of_kind k) span) place (Matched end trees)
+    → bad_counts file trees ≡ bad_places file (lexeme_here k place trees ∷ [])
+token-counts {file} {span} {place} {end} {trees} k d = by (text_of k (drop place file)) refl
+  where
+    by : (text : Option Piece) → text_of k (drop place file) ≡ text
+        → bad_counts file trees ≡ bad_places file (lexeme_here k place trees ∷ [])
+    by None none = let bad : Matched end trees ≡ Failed = one_result d ((takes-kind file k).none span place none) in cc
+    by (Some piece) found =
+        let it : FindsToken file (number_of k) (rule_of_kind k) span place piece =
+        (takes-kind file k).some span place piece found in
+        let same : Matched end trees ≡ Matched (behind_text file place piece.length) it.trees = one_result d it.derives in
+        let one : trees ≡ it.trees = cc in
+        let pieces : unwrap_or (option_map (λ (piece : Piece). piece.spells) (text_of k (drop place file))) [] ≡ piece.spells =
+        ap (λ text. unwrap_or (option_map (λ (x : Piece). x.spells) text) []) found in
+        ap (bad_counts file) one ∙ (it.counts
+        ∙ ((λ i. if count-number k i && not (bounds_in_range (bounds_spelled (numerals_in (sym pieces i)))) then place ∷ []
+        else []) ∙ sym (append-nil (if is_bad_count file (lexeme_here k place trees) then place ∷ [] else []))))
+
+token_stands : {file : List ℕ} {used : List ℕ} {span : Extent} {place : ℕ} (x : Recognition) → IsToken used
+    → Derives figure file (Name used span) place x → Stood file place x
+token_stands Failed is d = tt
+token_stands {file} {used} {span} {place} (Matched end trees) is d =
+    let here : Derives figure file (Name (rule_of_kind is.kind) span) place (Matched end trees) =
+    subst (λ n. Derives figure file (Name n span) place (Matched end trees)) is.is d in
+    let lexeme : Lexeme = lexeme_here is.kind place trees in
+    record {
+      list = lexeme ∷ [];
+      stand = one_token is.kind here;
+      even = omega (arith, opens-cons lexeme [], closes-cons lexeme [], is.no_open, is.no_close);
+      deep = omega (arith, is.no_open);
+      counts = token-counts is.kind here;
+    }
+
+-- ---- an expression in parentheses
+
+-- an expression, and the parenthesis that closes behind it
+record Closing (file : List ℕ) (place end : ℕ) (trees : Trees) : Type 0 where
+  pub list : List Lexeme
+  pub stand : Lexemes file place list end
+  pub odd : suc (opens list) ≡ closes list
+  pub deep : deepest list ≤ nesting trees
+  pub counts : bad_counts file trees ≡ bad_places file list
+
+abbrev Closed : List ℕ → (place : ℕ) → Recognition → Type 0
+Closed file place Failed = Unit {0}
+Closed file place (Matched end trees) = Closing file place end trees
+
+close_stands : {file : List ℕ} {last : Extent} {place : ℕ} {x : Recognition}
+    → DerivesItems figure file (Then (Name (codes "CLOSE") last) End) place x → Closed file place x
+close_stands (DerivesItems.items_failed d) = tt
+close_stands {file} {last} {place} (DerivesItems.items_then {middle = middle} {trees = one} d DerivesItems.items_none is) =
+    let lexeme : Lexeme = lexeme_here kind.Close place one in
+    subst (Closed file place) (sym is) (record {
+      list = lexeme ∷ [];
+      stand = one_token kind.Close d;
+      odd = omega (arith, opens-cons lexeme [], closes-cons lexeme []);
+      deep = omega arith;
+      counts =
+          bad_counts-followed file one NoTrees
+          ∙ (append-nil (bad_counts file one) ∙ token-counts kind.Close d);
+    })
+
+behind_closes : {file : List ℕ} {place middle : ℕ} {one : Trees} → Stand file place middle one → (x : Recognition)
+    → Closed file middle x → Closed file place (behind one x)
+behind_closes first Failed rest = tt
+behind_closes {file} {one = one} first (Matched end more) rest = record {
+  list = first.list ++ rest.list;
+  stand = and_stand first.stand rest.stand;
+  odd = omega (arith, opens-append first.list rest.list, closes-append first.list rest.list, first.even, rest.odd);
+  deep =
+      omega (
+        arith,
+        deepest-append first.list rest.list,
+        first.even,
+        first.deep,
+        rest.deep,
+        nesting-followed one more,
+      );
+  counts =
+      bad_counts-followed file one more ∙ ((λ i. first.counts i ++ rest.counts i)
+      ∙ sym (bad_places-append file first.list rest.list));
+}
+
+-- The trees of an expression in parentheses, inside their Primary.
+record Parentheses (file : List ℕ) (place end : ℕ) (trees : Trees) : Type 0 where
+  pub list : List Lexeme
+  pub stand : Lexemes file place list end
+  pub even : opens list ≡ closes list
+  pub deep : deepest list ≤ suc (nesting trees)
+  pub opening : has_open trees ≡ true
+  pub counts : bad_counts file trees ≡ bad_places file list
+
+-- what stands inside a Primary
+abbrev InPrimary : List ℕ → (place : ℕ) → Recognition → Type 0
+InPrimary file place Failed = Unit {0}
+InPrimary file place (Matched end trees) = Stand file place end trees ⊎ Parentheses file place end trees
+
+-- the tree of OPEN
+open-tree : {file : List ℕ} {first : Extent} {place end : ℕ} {trees : Trees}
+    → Derives figure file (Name (codes "OPEN") first) place (Matched end trees) → has_open trees ≡ true
+open-tree {place = place} {end = end} (Derives.name_matched {meaning = m} {trees = inside} found d t) =
+    let same : Some m ≡ Some _ = sym found ∙ open_sign-meant.1 in
+    let number : m.rule ≡ rule.open_sign = cc in
+    ap has_open t ∙ ap (λ n. has_open (Tree n place end inside NoTrees)) number
+
+opened_stands : {file : List ℕ} {first : Extent} {place middle : ℕ} {one : Trees}
+    → Derives figure file (Name (codes "OPEN") first) place (Matched middle one) → (x : Recognition)
+    → Closed file middle x → InPrimary file place (behind one x)
+opened_stands d Failed rest = tt
+opened_stands {file} {first} {place} {middle} {one} d (Matched end more) rest =
+    let lexeme : Lexeme = lexeme_here kind.Open place one in
+    inr (record {
+      list = lexeme ∷ rest.list;
+      stand = and_stand (one_token kind.Open d) rest.stand;
+      even = omega (arith, opens-cons lexeme rest.list, closes-cons lexeme rest.list, rest.odd);
+      deep = omega (arith, rest.deep, nesting-followed one more);
+      opening = has_open-followed one more ∙ ap (λ (t : Bool). t || has_open more) (open-tree d);
+      counts =
+          bad_counts-followed file one more ∙ ((λ i. token-counts kind.Open d i ++ rest.counts i)
+          ∙ sym (bad_places-append file (lexeme ∷ []) rest.list));
+    })
+
+in_primary : (file : List ℕ) (place : ℕ) (x : Recognition) → Stood file place x → InPrimary file place x
+in_primary file place Failed s = tt
+in_primary file place (Matched end trees) s = inl s
+
+-- a Primary's tree
+primary_stands : {file : List ℕ} {place end : ℕ} {inside tree : Trees} (number : ℕ) → (number == rule.count) ≡ false
+    → number ≡ rule.primary → InPrimary file place (Matched end inside) → tree ≡ Tree number place end inside NoTrees
+    → Stand file place end tree
+primary_stands number no_count primary (inl s) is = node_stands number no_count s is
+primary_stands {file} {place} {end} {inside} number no_count primary (inr s) is =
+    let test : (number == rule.primary && has_open inside) ≡ true =
+    λ i. primary i == rule.primary && s.opening i in
+    let one : max ((if number == rule.primary && has_open inside then 1 else 0) + nesting inside) 0
+    ≡ max (1 + nesting inside) 0 = ap (λ (t : Bool). max ((if t then 1 else 0) + nesting inside) 0) test in
+    record {
+      list = s.list;
+      stand = s.stand;
+      even = s.even;
+      deep = omega (arith, s.deep, ap nesting is, one);
+      counts = ap (bad_counts file) is ∙ (node-counts file number place end inside no_count ∙ s.counts);
+    }
+
+-- ---- what is matched has tokens
+
+mutual
+  stands : {file : List ℕ} {e : Form} {place : ℕ} {x : Recognition} → OfTokens e → Derives figure file e place x
+      → Stood file place x
+  stands takes (Derives.literal_matched a b) = absurd takes
+  stands takes (Derives.literal_failed a) = absurd takes
+  stands takes (Derives.class_matched a b) = absurd takes
+  stands takes (Derives.class_failed a) = absurd takes
+  stands takes (Derives.any_matched a b) = absurd takes
+  stands takes (Derives.any_failed a) = absurd takes
+  stands (inl word) (Derives.name_matched {span = span} {end = last} {tree = tree} found d t) =
+      token_stands {span = span} (Matched last tree) word (Derives.name_matched found d t)
+  stands (inr syntax) (Derives.name_matched {used = used} {meaning = m} found d t) =
+      let body = body-takes used m syntax found in
+      elim body.0 [
+        | inl takes ↦ node_stands m.rule body.1 (stands takes d) t
+        | inr primary ↦ primary_stands m.rule body.1 primary.1 (alternatives_stand primary.0 d) t
+      ]
+  stands takes (Derives.name_failed found d) = tt
+  stands takes (Derives.sequence items) = items_stand takes items
+  stands takes (Derives.choice first) = first_stands takes.0 takes.1 first
+  stands takes (Derives.optional_some d) = stands takes d
+  stands {file} {place = place} takes (Derives.optional_none d) = nothing file place
+  stands {file} {place = place} takes (Derives.star_none d) = nothing file place
+  stands takes (Derives.star_more d rest t) = both_stand (stands takes d) (stands takes rest) t
+  stands takes (Derives.plus_failed d) = tt
+  stands takes (Derives.plus_matched d rest t) = both_stand (stands takes d) (stands takes rest) t
+  stands takes (Derives.counted times) = absurd takes
+  stands {file} {place = place} takes (Derives.and_matched d) = nothing file place
+  stands takes (Derives.and_failed d) = tt
+  stands {file} {place = place} takes (Derives.not_matched d) = nothing file place
+  stands takes (Derives.not_failed d) = tt
+
+  alternatives_stand : {file : List ℕ} {e : Form} {place : ℕ} {x : Recognition} → IsPrimaryChoice e
+      → Derives figure file e place x → InPrimary file place x
+  alternatives_stand takes (Derives.choice first) = either_stands takes.0 takes.1 first
+  alternatives_stand takes (Derives.literal_matched a b) = absurd takes
+  alternatives_stand takes (Derives.literal_failed a) = absurd takes
+  alternatives_stand takes (Derives.class_matched a b) = absurd takes
+  alternatives_stand takes (Derives.class_failed a) = absurd takes
+  alternatives_stand takes (Derives.any_matched a b) = absurd takes
+  alternatives_stand takes (Derives.any_failed a) = absurd takes
+  alternatives_stand takes (Derives.name_matched found d t) = absurd takes
+  alternatives_stand takes (Derives.name_failed found d) = absurd takes
+  alternatives_stand takes (Derives.sequence items) = absurd takes
+  alternatives_stand takes (Derives.optional_some d) = absurd takes
+  alternatives_stand takes (Derives.optional_none d) = absurd takes
+  alternatives_stand takes (Derives.star_none d) = absurd takes
+  alternatives_stand takes (Derives.star_more d rest t) = absurd takes
+  alternatives_stand takes (Derives.plus_failed d) = absurd takes
+  alternatives_stand takes (Derives.plus_matched d rest t) = absurd takes
+  alternatives_stand takes (Derives.counted times) = absurd takes
+  alternatives_stand takes (Derives.and_matched d) = absurd takes
+  alternatives_stand takes (Derives.and_failed d) = absurd takes
+  alternatives_stand takes (Derives.not_matched d) = absurd takes
+  alternatives_stand takes (Derives.not_failed d) = absurd takes
+
+  either_stands : {file : List ℕ} {first : Form} {rest : Forms} {place : ℕ} {x : Recognition} → OfPrimary first
+      → AllOfPrimary rest → DerivesFirst figure file first rest place x → InPrimary file place x
+  either_stands {file} {place = place} {x = x} (inl takes) more (DerivesFirst.alternative_last d) =
+      in_primary file place x (stands takes d)
+  either_stands (inr (IsParenthesized.parenthesized takes)) more
+      (DerivesFirst.alternative_last (Derives.sequence items)) = parentheses_stand takes items
+  either_stands {file} {place = place} (inl takes) more
+      (DerivesFirst.alternative_matched {end = end} {trees = trees} d) = in_primary file place (Matched end trees) (stands takes d)
+  either_stands (inr (IsParenthesized.parenthesized takes)) more
+      (DerivesFirst.alternative_matched (Derives.sequence items)) = parentheses_stand takes items
+  either_stands takes more (DerivesFirst.alternative_failed d rest) = either_stands more.0 more.1 rest
+
+  parentheses_stand : {file : List ℕ} {inside : Form} {first last : Extent} {place : ℕ} {x : Recognition}
+      → OfTokens inside → DerivesItems figure file
+      (Then (Name (codes "OPEN") first) (Then inside (Then (Name (codes "CLOSE") last) End))) place x
+      → InPrimary file place x
+  parentheses_stand takes (DerivesItems.items_failed d) = tt
+  parentheses_stand {file} {place = place} takes (DerivesItems.items_then {more = more} d rest is) =
+      subst (InPrimary file place) (sym is) (opened_stands d more (closing_stands takes rest))
+
+  closing_stands : {file : List ℕ} {inside : Form} {last : Extent} {place : ℕ} {x : Recognition} → OfTokens inside
+      → DerivesItems figure file (Then inside (Then (Name (codes "CLOSE") last) End)) place x → Closed file place x
+  closing_stands takes (DerivesItems.items_failed d) = tt
+  closing_stands {file} {place = place} takes (DerivesItems.items_then {more = more} d rest is) =
+      subst (Closed file place) (sym is) (behind_closes (stands takes d) more (close_stands rest))
+
+  items_stand : {file : List ℕ} {items : Forms} {place : ℕ} {x : Recognition} → AllOfTokens items
+      → DerivesItems figure file items place x → Stood file place x
+  items_stand {file} {place = place} takes DerivesItems.items_none = nothing file place
+  items_stand takes (DerivesItems.items_failed d) = tt
+  items_stand {file} {place = place} takes (DerivesItems.items_then {more = more} d rest is) =
+      subst (Stood file place) (sym is) (behind_stands (stands takes.0 d) more (items_stand takes.1 rest))
+
+  first_stands : {file : List ℕ} {first : Form} {rest : Forms} {place : ℕ} {x : Recognition} → OfTokens first
+      → AllOfTokens rest → DerivesFirst figure file first rest place x → Stood file place x
+  first_stands takes more (DerivesFirst.alternative_last d) = stands takes d
+  first_stands takes more (DerivesFirst.alternative_matched d) = stands takes d
+  first_stands takes more (DerivesFirst.alternative_failed d rest) = first_stands more.0 more.1 rest
+
+-- ---- whole files
 
 -- what is matched ends where it is said to
 ends_at : {a b : ℕ} {t u : Trees} → Matched a t ≡ Matched b u → a ≡ b
 ends_at e = cc
 
-to_end : {file : List ℕ} {place a b : ℕ} → a ≡ b → Stand file place a → Stand file place b
-to_end {file} {place} e s = subst (Stand file place) e s
-
--- ---- what is matched has tokens
-
 -- trees before a match are trees of a match that ends there
 behind_matched : (one : Trees) (more : Recognition) (end : ℕ) (trees : Trees) → behind one more ≡ Matched end trees
-    → (rest : Trees) × (more ≡ Matched end rest)
+    → (rest : Trees) × (more ≡ Matched end rest) × (trees ≡ followed_by one rest)
 behind_matched one Failed end trees is = cc
-behind_matched one (Matched last rest) end trees is = (rest, ap (λ n. Matched n rest) (ends_at is))
-
-mutual
-  stands : {file : List ℕ} {e : Form} {place : ℕ} {x : Recognition} → OfTokens e → Derives figure file e place x
-      → (end : ℕ) (trees : Trees) → x ≡ Matched end trees → Stand file place end
-  stands takes (Derives.literal_matched a b) end trees is = absurd takes
-  stands takes (Derives.literal_failed a) end trees is = absurd takes
-  stands takes (Derives.class_matched a b) end trees is = absurd takes
-  stands takes (Derives.class_failed a) end trees is = absurd takes
-  stands takes (Derives.any_matched a b) end trees is = absurd takes
-  stands takes (Derives.any_failed a) end trees is = absurd takes
-  stands {file} {place = place} (inl token) (Derives.name_matched {used = used} {end = last} {tree = tree} found d t) end trees is =
-      to_end (ends_at is) (one_stands token.0 (matches (subst (λ n. Derives figure file (Name n (between 0 0)) place (Matched last tree))
-      token.1 (Derives.name_matched found d t))))
-  stands (inr syntax) (Derives.name_matched {used = used} {meaning = m} {end = last} {trees = inside} found d t) end trees is =
-      to_end (ends_at is) (stands (body-takes used m syntax found) d last inside refl)
-  stands takes (Derives.name_failed found d) end trees is = cc
-  stands takes (Derives.sequence items) end trees is = items_stand takes items end trees is
-  stands takes (Derives.choice first) end trees is = first_stands takes.0 takes.1 first end trees is
-  stands takes (Derives.optional_some {end = last} {trees = inside} d) end trees is = to_end (ends_at is) (stands takes d last inside refl)
-  stands {file} {place = place} takes (Derives.optional_none d) end trees is = to_end (ends_at is) (nothing file place)
-  stands {file} {place = place} takes (Derives.star_none d) end trees is = to_end (ends_at is) (nothing file place)
-  stands takes (Derives.star_more {middle = middle} {end = last} {first = one} {more = more} d rest t) end trees is =
-      to_end (ends_at is) (both_stand (stands takes d middle one refl) (stands takes rest last more refl))
-  stands takes (Derives.plus_failed d) end trees is = cc
-  stands takes (Derives.plus_matched {middle = middle} {end = last} {first = one} {more = more} d rest t) end trees is =
-      to_end (ends_at is) (both_stand (stands takes d middle one refl) (stands takes rest last more refl))
-  stands {file} {place = place} takes (Derives.and_matched d) end trees is = to_end (ends_at is) (nothing file place)
-  stands takes (Derives.and_failed d) end trees is = cc
-  stands {file} {place = place} takes (Derives.not_matched d) end trees is = to_end (ends_at is) (nothing file place)
-  stands takes (Derives.not_failed d) end trees is = cc
-
-  items_stand : {file : List ℕ} {items : Forms} {place : ℕ} {x : Recognition} → AllOfTokens items
-      → DerivesItems figure file items place x → (end : ℕ) (trees : Trees) → x ≡ Matched end trees → Stand file place end
-  items_stand {file} {place = place} takes DerivesItems.items_none end trees is = to_end (ends_at is) (nothing file place)
-  items_stand takes (DerivesItems.items_failed d) end trees is = cc
-  items_stand takes (DerivesItems.items_then {middle = middle} {trees = one} {more = more} d rest same) end trees is =
-      let last = behind_matched one more end trees (sym same ∙ is) in
-      both_stand (stands takes.0 d middle one refl) (items_stand takes.1 rest end last.0 last.1)
-
-  first_stands : {file : List ℕ} {first : Form} {rest : Forms} {place : ℕ} {x : Recognition} → OfTokens first → AllOfTokens rest
-      → DerivesFirst figure file first rest place x → (end : ℕ) (trees : Trees) → x ≡ Matched end trees → Stand file place end
-  first_stands takes more (DerivesFirst.alternative_last d) end trees is = stands takes d end trees is
-  first_stands takes more (DerivesFirst.alternative_matched {end = last} {trees = inside} d) end trees is =
-      to_end (ends_at is) (stands takes d last inside refl)
-  first_stands takes more (DerivesFirst.alternative_failed d rest) end trees is = first_stands more.0 more.1 rest end trees is
-
--- ---- whole files
+behind_matched one (Matched last rest) end trees is = (rest, ap (λ n. Matched n rest) (ends_at is), cc)
 
 -- a first item, and those behind it
-record FirstItem (file : List ℕ) (first : Form) (others : Forms) (place end : ℕ) : Type 0 where
+record FirstItem (file : List ℕ) (first : Form) (others : Forms) (place end : ℕ) (trees : Trees) : Type 0 where
   pub middle : ℕ
   pub one : Trees
   pub more : Trees
   pub item : Derives figure file first place (Matched middle one)
   pub rest : DerivesItems figure file others middle (Matched end more)
+  pub is : trees ≡ followed_by one more
 
 first_item : {file : List ℕ} {item : Form} {rest : Forms} {place : ℕ} {x : Recognition}
     → DerivesItems figure file (Then item rest) place x → (end : ℕ) (trees : Trees) → x ≡ Matched end trees
-    → FirstItem file item rest place end
+    → FirstItem file item rest place end trees
 first_item (DerivesItems.items_failed d) end trees is = cc
 first_item {file} {item} {rest} {place} (DerivesItems.items_then {middle = middle} {trees = one} {more = more} d others same) end trees is =
     let last = behind_matched one more end trees (sym same ∙ is) in
@@ -215,31 +574,39 @@ first_item {file} {item} {rest} {place} (DerivesItems.items_then {middle = middl
       more = last.0;
       item = d;
       rest = subst (λ (y : Recognition). DerivesItems figure file rest middle y) last.1 others;
+      is = last.2;
     }
+
+named_tree : {place a b : ℕ} {tree trees inside : Trees} {m : Meaning} {number terminal : ℕ} {body : Form}
+    → Matched a tree ≡ Matched b trees → tree ≡ Tree m.rule place a inside NoTrees
+    → m ≡ record { rule = number; terminal = terminal; body = body } → trees ≡ Tree number place b inside NoTrees
+named_tree {place = place} {a = a} {inside = inside} {number = number} is t one =
+    let trees_are = same_trees is in
+    sym trees_are ∙ (t ∙ (ap (λ (m : Meaning). Tree m.rule place a inside NoTrees) one
+    ∙ ap (λ n. Tree number place n inside NoTrees) (ends_at is)))
+  where
+    same_trees : {a b : ℕ} {t u : Trees} → Matched a t ≡ Matched b u → t ≡ u
+    same_trees e = cc
 
 -- what a name matches is matched by its body
 named : {file : List ℕ} {used : List ℕ} {span : Extent} {place : ℕ} {x : Recognition} → Derives figure file (Name used span) place x
     → (end : ℕ) (trees : Trees) → x ≡ Matched end trees → (rule terminal : ℕ) (body : Form)
     → meant figure used ≡ Some (record { rule = rule; terminal = terminal; body = body })
     → (inside : Trees) × Derives figure file body place (Matched end inside)
+    × (trees ≡ Tree rule place end inside NoTrees)
 named {file} {place = place} (Derives.name_matched {meaning = m} {end = last} {trees = inside} found d t) end trees is rule terminal body known =
     let same : Some m ≡ Some (record { rule = rule; terminal = terminal; body = body }) = sym found ∙ known in
     let one : m ≡ record { rule = rule; terminal = terminal; body = body } = cc in (
       inside,
       subst (λ n. Derives figure file body place (Matched n inside)) (ends_at is)
           (subst (λ (y : Meaning). Derives figure file y.body place (Matched last inside)) one d),
+      named_tree is t one,
     )
 named (Derives.name_failed found d) end trees is rule terminal body known = cc
 
 items_of : {file : List ℕ} {items : Forms} {span : Extent} {place : ℕ} {x : Recognition}
     → Derives figure file (Seq items span) place x → DerivesItems figure file items place x
 items_of (Derives.sequence items) = items
-
--- what a name matches, wherever it is used
-elsewhere : {file : List ℕ} {used : List ℕ} {span : Extent} (other : Extent) {place : ℕ} {x : Recognition}
-    → Derives figure file (Name used span) place x → Derives figure file (Name used other) place x
-elsewhere other (Derives.name_matched found d t) = Derives.name_matched found d t
-elsewhere other (Derives.name_failed found d) = Derives.name_failed found d
 
 -- a match ends within the file
 ends_within : {file : List ℕ} {e : Form} {place end : ℕ} {trees : Trees} → Derives figure file e place (Matched end trees)
@@ -271,32 +638,98 @@ derives {file} {name} {p} m =
     subst (λ (x : Recognition). Derives figure file (Name name (between 0 0)) p x) m.2
     (derived figure file m.1.0 (Name name (between 0 0)) 0 p m.0 m.1.1)
 
--- a file of the notation has tokens
-pub has_tokens : (file : List ℕ) → IsInNotation file → (lexemes : List Lexeme) × IsTokens file lexemes
+-- The tokens of a file that the figure matches, and its trees, which nest as deep and have the counts that are out of
+-- range.
+pub record MatchedFile (file : List ℕ) (trees : Trees) : Type 0 where
+  pub lexemes : List Lexeme
+  pub tokens : IsTokens file lexemes
+  pub deep : deepest lexemes ≤ nesting trees
+  pub counts : bad_counts file trees ≡ bad_places file lexemes
+
+-- no count is in spacing
+spacing-fine : {file : List ℕ} {span : Extent} {place end : ℕ} {trees : Trees}
+    → Derives figure file (Name (codes "Spacing") span) place (Matched end trees) → bad_counts file trees ≡ []
+spacing-fine {file} {span} {place} {end} {trees} d =
+    let gap = finds-spacing file span place in
+    let same : Matched end trees ≡ Matched _ gap.trees = one_result d gap.derives in
+    let one : trees ≡ gap.trees = cc in
+    ap (bad_counts file) one ∙ gap.fine
+
+-- no items leave no tree
+no_items : {file : List ℕ} {place end : ℕ} {trees : Trees} → DerivesItems figure file End place (Matched end trees)
+    → trees ≡ NoTrees
+no_items DerivesItems.items_none = refl
+
+-- a predicate leaves no tree
+not_leaves : {file : List ℕ} {part : Form} {span : Extent} {place end : ℕ} {trees : Trees}
+    → Derives figure file (Not part span) place (Matched end trees) → trees ≡ NoTrees
+not_leaves (Derives.not_matched d) = refl
+
+-- a file that the figure matches has tokens
+pub has_tokens : (file : List ℕ) (end : ℕ) (trees : Trees) → Matches file (codes "Grammar") 0 end trees
+    → MatchedFile file trees
 unfolding grammar_body end_of_file_body
-has_tokens file m =
-    let whole = named (derives m.2) m.0 m.1 refl _ _ grammar_body grammar-meant.1 in
-    let gap = first_item (items_of whole.1) m.0 whole.0 refl in
-    let rules = first_item gap.rest m.0 gap.more refl in
-    let last = first_item rules.rest m.0 rules.more refl in
+has_tokens file end trees m =
+    let whole = named (derives m) end trees refl _ _ grammar_body grammar-meant.1 in
+    let gap = first_item (items_of whole.1) end whole.0 refl in
+    let rules = first_item gap.rest end gap.more refl in
+    let last = first_item rules.rest end rules.more refl in
     let inside = named last.item last.middle last.one refl _ _ end_of_file_body end_of_file-meant.1 in
     let past : length file ≤ rules.middle = no_byte inside.1 last.middle inside.0 refl in
     let start : gap.middle ≤ length file = ends_within gap.item (omega arith) in
     let within : rules.middle ≤ length file = ends_within rules.item start in
-    let tokens = stands (inr (IsSyntax.is_definition refl)) rules.item rules.middle rules.one refl in
-    let end : rules.middle ≡ length file = omega (arith, past, within) in (
-      tokens.list,
-      (
+    let tokens : Stand file gap.middle rules.middle rules.one =
+    stands (inr (IsSyntax.is_definition refl)) rules.item in
+    let last_end : rules.middle ≡ length file = omega (arith, past, within) in
+    record {
+      lexemes = tokens.list;
+      tokens = (
         gap.middle,
         gap.one,
         matches (elsewhere (between 0 0) gap.item),
-        subst (Lexemes file gap.middle tokens.list) end tokens.stand,
-      ),
-    )
+        subst (Lexemes file gap.middle tokens.list) last_end tokens.stand,
+      );
+      deep =
+          omega (
+            arith,
+            tokens.deep,
+            ap nesting whole.2,
+            ap nesting gap.is,
+            nesting-followed gap.one gap.more,
+            ap nesting rules.is,
+            nesting-followed rules.one rules.more,
+          );
+      counts =
+          ap (bad_counts file) whole.2
+          ∙ (node-counts file rule.grammar 0 end whole.0 refl
+          ∙ (ap (bad_counts file) gap.is
+          ∙ (bad_counts-followed file gap.one gap.more
+          ∙ (ap (λ (l : List ℕ). l ++ bad_counts file gap.more) (spacing-fine gap.item)
+          ∙ (ap (bad_counts file) rules.is
+          ∙ (bad_counts-followed file rules.one rules.more
+          ∙ (ap (λ (l : List ℕ). bad_counts file rules.one ++ l) (ap (bad_counts file) last.is ∙ (ap (λ (t : Trees). bad_counts file (followed_by last.one t)) (no_items last.rest)
+          ∙ (ap (λ (t : Trees). bad_counts file (followed_by t NoTrees)) inside.2
+          ∙ ap (λ (t : Trees). bad_counts file (followed_by (Tree rule.end_of_file rules.middle last.middle t NoTrees) NoTrees)) (not_leaves inside.1))))
+          ∙ (append-nil (bad_counts file rules.one) ∙ tokens.counts))))))));
+    }
 
--- a file with a lexing fault isn't in the notation
-pub fault_not_matched : (file : List ℕ) (at : ℕ) → IsLexingFault file at → ¬ IsInNotation file
+-- the figure doesn't match a file with a lexing fault
+pub fault_not_matched : (file : List ℕ) (at : ℕ) → IsLexingFault file at → ¬ FigureMatches file
 fault_not_matched file at fault m =
-    let tokens = has_tokens file m in tokens_or_fault file tokens.0 at tokens.1 fault
+    let it = has_tokens file m.0 m.1 m.2 in tokens_or_fault file it.lexemes at it.tokens fault
+
+-- the counts of a file's trees that are out of range are those of its tokens
+pub counts-tokens : (file : List ℕ) (lexemes : List Lexeme) → IsTokens file lexemes → (end : ℕ) (trees : Trees)
+    → Matches file (codes "Grammar") 0 end trees → bad_counts file trees ≡ bad_places file lexemes
+counts-tokens file lexemes tokens end trees m =
+    let it = has_tokens file end trees m in
+    it.counts ∙ ap (bad_places file) (one_list file it.lexemes lexemes it.tokens tokens)
+
+-- the trees of a file nest as deep as its tokens
+pub nests-tokens : (file : List ℕ) (lexemes : List Lexeme) → IsTokens file lexemes → (end : ℕ) (trees : Trees)
+    → Matches file (codes "Grammar") 0 end trees → deepest lexemes ≤ nesting trees
+nests-tokens file lexemes tokens end trees m =
+    let it = has_tokens file end trees m in
+    subst (λ list. deepest list ≤ nesting trees) (one_list file it.lexemes lexemes it.tokens tokens) it.deep
 
 pub ruleset checked = (fault_not_matched)

@@ -4,7 +4,7 @@ use Rattle.std.proofs.Common.{Option, None, Some, Result, Ok, Err, if◌then◌e
 use Rattle.peg_bytes.specs.Extent.{Extent}
 use Rattle.peg_ford.specs.Form as form
 use Rattle.peg_ford.specs.Form.{Form}
-use Rattle.peg_notation.specs.Reader.{Halt, Unexpected, TooDeep, FormRead, FormsRead, Reading, place_of, starts_with_arrow, begins_prefix, and_read, one_token, no_more, and_form, close_of, closed, parenthesized, named, primary_of, primary, then_suffix, suffix, with_prefix, prefix_sign, prefix_of, prefix, many_behind, many, whole_sequence, sequence, starts_with_slash, behind, alternative, whole_choice, expression, expression_in, RuleRead, RulesRead, and_rules, rule_of, definition_behind, definition_of, definition, definitions_behind, grammar}
+use Rattle.peg_notation.specs.Reader.{Halt, Unexpected, TooDeep, BadCountAt, FormRead, FormsRead, Reading, place_of, starts_with_arrow, begins_prefix, and_read, one_token, no_more, and_form, close_of, closed, parenthesized, named, primary_of, primary, is_bad_count, suffix_sign, with_suffix, then_suffix, suffix, with_prefix, prefix_sign, prefix_of, prefix, many_behind, many, whole_sequence, sequence, starts_with_slash, behind, alternative, whole_choice, expression, expression_in, RuleRead, RulesRead, and_rules, rule_of, definition_behind, definition_of, definition, definitions_behind, grammar}
 use Rattle.peg_figure.specs.Spelled.{part}
 use Rattle.peg_lexer.specs.Tokens.{Lexeme}
 use Rattle.peg_lexer.specs.declared.token.TokenKind.{TokenKind}
@@ -30,24 +30,28 @@ abbrev pub StopsAt : {X : Type 0} → ℕ → List Lexeme → Result X Halt → 
 StopsAt size lexemes (Ok x) = Unit {0}
 StopsAt size lexemes (Err (Unexpected at)) = IsPlace size lexemes at
 StopsAt size lexemes (Err (TooDeep at)) = Unit {0}
+StopsAt size lexemes (Err (BadCountAt at)) = Unit {0}
 
 stops_later : {X : Type 0} (size : ℕ) (lexeme : Lexeme) (more : List Lexeme) (x : Result X Halt) → StopsAt size more x
     → StopsAt size (lexeme ∷ more) x
 stops_later size lexeme more (Ok x) is = tt
 stops_later size lexeme more (Err (Unexpected at)) is = IsPlace.later is
 stops_later size lexeme more (Err (TooDeep at)) is = tt
+stops_later size lexeme more (Err (BadCountAt at)) is = tt
 
 stops_drop : {X : Type 0} (size n : ℕ) (lexemes : List Lexeme) (x : Result X Halt) → StopsAt size (drop n lexemes) x
     → StopsAt size lexemes x
 stops_drop size n lexemes (Ok x) is = tt
 stops_drop size n lexemes (Err (Unexpected at)) is = from_drop size n lexemes at is
 stops_drop size n lexemes (Err (TooDeep at)) is = tt
+stops_drop size n lexemes (Err (BadCountAt at)) is = tt
 
 stops_next : {X Y : Type 0} (size : ℕ) (lexemes : List Lexeme) (x : Result X Halt) (next : X → Result Y Halt)
     → StopsAt size lexemes x → ((a : X) → StopsAt size lexemes (next a)) → StopsAt size lexemes (and_read x next)
 stops_next size lexemes (Ok a) next is more = more a
 stops_next size lexemes (Err (Unexpected at)) next is more = is
 stops_next size lexemes (Err (TooDeep at)) next is more = tt
+stops_next size lexemes (Err (BadCountAt at)) next is more = tt
 
 -- ---- Primary
 
@@ -64,6 +68,7 @@ close_of-stops size inside lexeme more kind.Not = IsPlace.first refl
 close_of-stops size inside lexeme more kind.Question = IsPlace.first refl
 close_of-stops size inside lexeme more kind.Star = IsPlace.first refl
 close_of-stops size inside lexeme more kind.Plus = IsPlace.first refl
+close_of-stops size inside lexeme more kind.Count = IsPlace.first refl
 close_of-stops size inside lexeme more kind.Open = IsPlace.first refl
 close_of-stops size inside lexeme more kind.Dot = IsPlace.first refl
 
@@ -111,6 +116,7 @@ primary_of-stops file inner is lexeme rest kind.Not = IsPlace.first refl
 primary_of-stops file inner is lexeme rest kind.Question = IsPlace.first refl
 primary_of-stops file inner is lexeme rest kind.Star = IsPlace.first refl
 primary_of-stops file inner is lexeme rest kind.Plus = IsPlace.first refl
+primary_of-stops file inner is lexeme rest kind.Count = IsPlace.first refl
 primary_of-stops file inner is lexeme rest kind.Close = IsPlace.first refl
 
 primary-stops : (file : List ℕ) (inner : Option Reading) → InnerStops (length file) inner → (lexemes : List Lexeme)
@@ -121,13 +127,24 @@ primary-stops file inner is (lexeme ∷ rest) = primary_of-stops file inner is l
 
 -- ---- Suffix and Prefix
 
+then_suffix-stops : (file : List ℕ) (size start : ℕ) (p : FormRead) (lexemes left : List Lexeme)
+    → StopsAt size lexemes (then_suffix file start p left)
+then_suffix-stops file size start p lexemes [] = tt
+then_suffix-stops file size start p lexemes (lexeme ∷ more) = by (is_bad_count file lexeme)
+  where
+    by : (t : Bool) → StopsAt size lexemes (if t then Err (BadCountAt lexeme.text.start) else Ok
+        (with_suffix start p lexeme (suffix_sign file lexeme lexeme.kind)))
+    by true = tt
+    by false = tt
+
 suffix-stops : (file : List ℕ) (inner : Option Reading) → InnerStops (length file) inner → (lexemes : List Lexeme)
     → StopsAt (length file) lexemes (suffix file inner lexemes)
 unfolding suffix
 suffix-stops file inner is lexemes =
     stops_next (length file) lexemes (primary file inner lexemes)
-    (λ (p : FormRead). Ok (then_suffix (place_of (length file) lexemes) p (drop p.taken lexemes)))
-    (primary-stops file inner is lexemes) (λ p. tt)
+    (λ (p : FormRead). then_suffix file (place_of (length file) lexemes) p (drop p.taken lexemes))
+    (primary-stops file inner is lexemes)
+    (λ p. then_suffix-stops file (length file) (place_of (length file) lexemes) p lexemes (drop p.taken lexemes))
 
 prefix_of-stops : (file : List ℕ) (inner : Option Reading) → InnerStops (length file) inner
     → (lexeme : Lexeme) (rest : List Lexeme) (sign : Option (Form → Extent → Form))
@@ -238,6 +255,7 @@ definition_of-stops file most lexeme rest kind.Not = IsPlace.first refl
 definition_of-stops file most lexeme rest kind.Question = IsPlace.first refl
 definition_of-stops file most lexeme rest kind.Star = IsPlace.first refl
 definition_of-stops file most lexeme rest kind.Plus = IsPlace.first refl
+definition_of-stops file most lexeme rest kind.Count = IsPlace.first refl
 definition_of-stops file most lexeme rest kind.Open = IsPlace.first refl
 definition_of-stops file most lexeme rest kind.Close = IsPlace.first refl
 definition_of-stops file most lexeme rest kind.Dot = IsPlace.first refl

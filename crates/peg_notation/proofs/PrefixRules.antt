@@ -1,5 +1,5 @@
 -- The reader's `suffix` and `prefix` say what the figure's Suffix and Prefix say.
-use Rattle.std.proofs.Common.{◌≡◌, ◌≢◌, ℕ, suc, ◌+◌, ◌≤◌, List, [], ◌∷◌, ◌++◌, length, drop, codes}
+use Rattle.std.proofs.Common.{◌≡◌, ◌≢◌, ℕ, suc, ◌+◌, Bool, true, false, if◌then◌else◌, List, [], ◌∷◌, ◌++◌, length, drop, codes}
 use Rattle.std.proofs.Common.{Option, Some, Result, Ok, Err, refl, sym, ap, ◌∙◌, subst, arith}
 use Rattle.std.proofs.lemmas.List.{drop-drop}
 use Rattle.peg_bytes.specs.Extent.{Extent, between}
@@ -12,14 +12,14 @@ use Rattle.peg_figure.specs.Figure.{figure, suffix_body, prefix_body}
 use Rattle.peg_figure.specs.FigureRules as rule
 use Rattle.peg_lexer.specs.Lexical.{text_of}
 use Rattle.peg_lexer.specs.Pieces.{Piece}
-use Rattle.peg_notation.specs.Reader.{Halt, Unexpected, TooDeep, FormRead, Reading, place_of, and_read, primary, then_suffix, suffix, with_prefix, prefix_of, prefix_sign, prefix}
-use Rattle.peg_figure.specs.Spelled.{Spelling, Expression, Sign, text_end, spelled, signed}
+use Rattle.peg_notation.specs.Reader.{Halt, Unexpected, TooDeep, BadCountAt, FormRead, Reading, place_of, and_read, pieces_of, bounds_of, is_bad_count, primary, with_token, then_suffix, suffix, with_prefix, prefix_of, prefix_sign, prefix}
+use Rattle.peg_figure.specs.Spelled.{Spelling, Expression, Sign, text_end, spelled, signed, counted, bounds_spelled, numerals_in}
 use Rattle.peg_lexer.specs.Tokens.{Lexeme}
 use Rattle.peg_lexer.specs.declared.token.TokenKind.{TokenKind}
 use Rattle.peg_lexer.specs.declared.token.TokenKind.TheVariants as kind
 use Rattle.peg_figure.proofs.FigureNames.{suffix-meant, prefix-meant}
 use Rattle.peg_lexer.proofs.Lexemes.{lexeme_at}
-use Rattle.peg_notation.proofs.PrimaryRule.{primary-exact}
+use Rattle.peg_notation.proofs.PrimaryRule.{pieces_here, primary-exact}
 use Rattle.peg_notation.proofs.Readings.{followed-none, ReadsAny, ExactAny, Good, node_any, place-is}
 use Rattle.peg_notation.proofs.Streams.{Stream, here, not_here, none_here}
 use Rattle.peg_lexer.proofs.Takes.{spelled-followed, text_end-followed, nesting-followed}
@@ -37,14 +37,15 @@ no_suffix : (file : List ℕ) (p : ℕ) (lexemes : List Lexeme) (part : FormRead
     → ((span : Extent) → Derives figure file (Name (codes "QUESTION") span) e.end Failed)
     → ((span : Extent) → Derives figure file (Name (codes "STAR") span) e.end Failed)
     → ((span : Extent) → Derives figure file (Name (codes "PLUS") span) e.end Failed)
+    → ((span : Extent) → Derives figure file (Name (codes "COUNT") span) e.end Failed)
     → ReadsAny file (codes "Suffix") p lexemes part
 unfolding suffix_body
-no_suffix file p lexemes part e question star plus =
+no_suffix file p lexemes part e question star plus count =
     node_any _ suffix-meant.1 refl refl
     (Derives.sequence (DerivesItems.items_then (e.derives _)
     (DerivesItems.items_then (Derives.optional_none (Derives.choice
     (DerivesFirst.alternative_failed (question _) (DerivesFirst.alternative_failed (star _)
-    (DerivesFirst.alternative_last (plus _)))))) DerivesItems.items_none refl)
+    (DerivesFirst.alternative_failed (plus _) (DerivesFirst.alternative_last (count _))))))) DerivesItems.items_none refl)
     (ap (λ (t : Trees). Matched e.end t) (sym (followed-none e.trees)))))
     part (λ before. ap (signed (between p part.last)) (e.spells before)) e.ends e.nests e.some e.left
 
@@ -82,13 +83,13 @@ one_suffix file p lexemes part e {number} {used} {span} {piece} sign rest it spe
 
 suffix_read : (file : List ℕ) (p : ℕ) (lexemes : List Lexeme) (part : FormRead)
     → (e : ReadsAny file (codes "Primary") p lexemes part) → (left : List Lexeme) → drop part.taken lexemes ≡ left
-    → Stream file e.end left → ReadsAny file (codes "Suffix") p lexemes (then_suffix p part left)
+    → Stream file e.end left → ExactAny file (codes "Suffix") p lexemes (then_suffix file p part left)
 unfolding suffix_body
 suffix_read file p lexemes part e [] same (Stream.ended last) =
     no_suffix file p lexemes part e (λ span. none_here kind.Question span last) (λ span. none_here kind.Star span last)
-    (λ span. none_here kind.Plus span last)
+    (λ span. none_here kind.Plus span last) (λ span. none_here kind.Count span last)
 suffix_read file p lexemes part e (_ ∷ rest) same (Stream.next k piece lexeme there is left) =
-    subst (λ (l : Lexeme). ReadsAny file (codes "Suffix") p lexemes (then_suffix p part (l ∷ rest))) (sym is)
+    subst (λ (l : Lexeme). ExactAny file (codes "Suffix") p lexemes (with_token file p part l)) (sym is)
     (by k there (same ∙ ap (λ (l : Lexeme). l ∷ rest) is))
   where
     next_left : (k : TokenKind) → drop part.taken lexemes ≡ lexeme_at k e.end piece.length ∷ rest
@@ -97,15 +98,22 @@ suffix_read file p lexemes part e (_ ∷ rest) same (Stream.next k piece lexeme 
         subst (λ (l : List Lexeme). Stream file (behind_text file e.end piece.length) l)
         (sym (after_one lexemes part.taken ∙ ap (drop 1) left_is)) left
 
+    -- a count that is out of range says nothing
+    in_range : {part : FormRead} (at : ℕ) (t : Bool) → ReadsAny file (codes "Suffix") p lexemes part
+        → ExactAny file (codes "Suffix") p lexemes (if t then Err (BadCountAt at) else Ok part)
+    in_range at true it = tt
+    in_range at false it = it
+
     none : (k : TokenKind) → text_of k (drop e.end file) ≡ Some piece → kind.Question ≢ k → kind.Star ≢ k
-        → kind.Plus ≢ k → ReadsAny file (codes "Suffix") p lexemes part
-    none k at_end a b c =
+        → kind.Plus ≢ k → kind.Count ≢ k → ReadsAny file (codes "Suffix") p lexemes part
+    none k at_end a b c d =
         no_suffix file p lexemes part e (λ span. not_here k piece kind.Question span at_end a)
         (λ span. not_here k piece kind.Star span at_end b) (λ span. not_here k piece kind.Plus span at_end c)
+        (λ span. not_here k piece kind.Count span at_end d)
 
     by : (k : TokenKind) → text_of k (drop e.end file) ≡ Some piece → drop part.taken lexemes
-        ≡ lexeme_at k e.end piece.length ∷ rest → ReadsAny file (codes "Suffix") p lexemes
-        (then_suffix p part (lexeme_at k e.end piece.length ∷ rest))
+        ≡ lexeme_at k e.end piece.length ∷ rest → ExactAny file (codes "Suffix") p lexemes
+        (with_token file p part (lexeme_at k e.end piece.length))
     by kind.Question at_end left_is =
         let it : FindsToken file rule.question (codes "QUESTION")
         (between 197 205) e.end piece = here kind.Question piece (between 197 205) at_end in
@@ -135,38 +143,59 @@ suffix_read file p lexemes part e (_ ∷ rest) same (Stream.next k piece lexeme 
         (DerivesItems.items_then (Derives.optional_some (Derives.choice
         (DerivesFirst.alternative_failed (not_here kind.Plus piece kind.Question _ at_end (λ x. cc))
         (DerivesFirst.alternative_failed (not_here kind.Plus piece kind.Star _ at_end (λ x. cc))
-        (DerivesFirst.alternative_last it.derives))))) DerivesItems.items_none refl)
+        (DerivesFirst.alternative_matched it.derives))))) DerivesItems.items_none refl)
         (ap (λ (t : Trees). Matched (behind_text file e.end piece.length) (followed_by e.trees t))
         (sym (followed-none it.trees)))))
         (next_left kind.Plus left_is)
-    by kind.Ident at_end left_is = none kind.Ident at_end (λ x. cc) (λ x. cc) (λ x. cc)
-    by kind.Literal at_end left_is = none kind.Literal at_end (λ x. cc) (λ x. cc) (λ x. cc)
-    by kind.Class at_end left_is = none kind.Class at_end (λ x. cc) (λ x. cc) (λ x. cc)
-    by kind.Arrow at_end left_is = none kind.Arrow at_end (λ x. cc) (λ x. cc) (λ x. cc)
-    by kind.Slash at_end left_is = none kind.Slash at_end (λ x. cc) (λ x. cc) (λ x. cc)
-    by kind.And at_end left_is = none kind.And at_end (λ x. cc) (λ x. cc) (λ x. cc)
-    by kind.Not at_end left_is = none kind.Not at_end (λ x. cc) (λ x. cc) (λ x. cc)
-    by kind.Open at_end left_is = none kind.Open at_end (λ x. cc) (λ x. cc) (λ x. cc)
-    by kind.Close at_end left_is = none kind.Close at_end (λ x. cc) (λ x. cc) (λ x. cc)
-    by kind.Dot at_end left_is = none kind.Dot at_end (λ x. cc) (λ x. cc) (λ x. cc)
+    by kind.Count at_end left_is =
+        let it : FindsToken file rule.count (codes "COUNT") (between 222 227) e.end piece = here kind.Count piece
+        (between 222 227) at_end in
+        let pieces : pieces_of file (lexeme_at kind.Count e.end piece.length) ≡ piece.spells =
+        pieces_here file kind.Count e.end piece at_end in
+        let sign = counted (bounds_of file (lexeme_at kind.Count e.end piece.length)) in
+        let spells : (before : ℕ) → spelled file before it.trees ≡ Sign sign ∷ [] =
+        λ before. it.spells before
+        ∙ ap (λ (l : List Spelling). Sign (counted (bounds_spelled (numerals_in l))) ∷ []) (sym pieces) in
+        in_range e.end (is_bad_count file (lexeme_at kind.Count e.end piece.length))
+        (one_suffix file p lexemes part e sign rest it spells
+        (Derives.sequence (DerivesItems.items_then (e.derives _)
+        (DerivesItems.items_then (Derives.optional_some (Derives.choice
+        (DerivesFirst.alternative_failed (not_here kind.Count piece kind.Question _ at_end (λ x. cc))
+        (DerivesFirst.alternative_failed (not_here kind.Count piece kind.Star _ at_end (λ x. cc))
+        (DerivesFirst.alternative_failed (not_here kind.Count piece kind.Plus _ at_end (λ x. cc))
+        (DerivesFirst.alternative_last it.derives)))))) DerivesItems.items_none refl)
+        (ap (λ (t : Trees). Matched (behind_text file e.end piece.length) (followed_by e.trees t))
+        (sym (followed-none it.trees)))))
+        (next_left kind.Count left_is))
+    by kind.Ident at_end left_is = none kind.Ident at_end (λ x. cc) (λ x. cc) (λ x. cc) (λ x. cc)
+    by kind.Literal at_end left_is = none kind.Literal at_end (λ x. cc) (λ x. cc) (λ x. cc) (λ x. cc)
+    by kind.Class at_end left_is = none kind.Class at_end (λ x. cc) (λ x. cc) (λ x. cc) (λ x. cc)
+    by kind.Arrow at_end left_is = none kind.Arrow at_end (λ x. cc) (λ x. cc) (λ x. cc) (λ x. cc)
+    by kind.Slash at_end left_is = none kind.Slash at_end (λ x. cc) (λ x. cc) (λ x. cc) (λ x. cc)
+    by kind.And at_end left_is = none kind.And at_end (λ x. cc) (λ x. cc) (λ x. cc) (λ x. cc)
+    by kind.Not at_end left_is = none kind.Not at_end (λ x. cc) (λ x. cc) (λ x. cc) (λ x. cc)
+    by kind.Open at_end left_is = none kind.Open at_end (λ x. cc) (λ x. cc) (λ x. cc) (λ x. cc)
+    by kind.Close at_end left_is = none kind.Close at_end (λ x. cc) (λ x. cc) (λ x. cc) (λ x. cc)
+    by kind.Dot at_end left_is = none kind.Dot at_end (λ x. cc) (λ x. cc) (λ x. cc) (λ x. cc)
 
 -- Suffix is what is read
-pub suffix-exact : (file : List ℕ) (most : ℕ) (inner : Option Reading) → Good file most inner
-    → (p : ℕ) (lexemes : List Lexeme) → Stream file p lexemes → length lexemes ≤ most
+pub suffix-exact : (file : List ℕ) (inner : Option Reading) → Good file inner
+    → (p : ℕ) (lexemes : List Lexeme) → Stream file p lexemes
     → ExactAny file (codes "Suffix") p lexemes (suffix file inner lexemes)
 unfolding suffix suffix_body
-suffix-exact file most inner good p lexemes stream few =
-    by (primary file inner lexemes) (primary-exact file most inner good p lexemes stream few)
+suffix-exact file inner good p lexemes stream =
+    by (primary file inner lexemes) (primary-exact file inner good p lexemes stream)
   where
     by : (x : Result FormRead Halt) → ExactAny file (codes "Primary") p lexemes x
         → ExactAny file (codes "Suffix") p lexemes (and_read x
-        (λ (part : FormRead). Ok (then_suffix (place_of (length file) lexemes) part (drop part.taken lexemes))))
+        (λ (part : FormRead). then_suffix file (place_of (length file) lexemes) part (drop part.taken lexemes)))
     by (Ok part) e =
-        subst (λ start. ReadsAny file (codes "Suffix") p lexemes (then_suffix start part (drop part.taken lexemes)))
+        subst (λ start. ExactAny file (codes "Suffix") p lexemes (then_suffix file start part (drop part.taken lexemes)))
         (sym (place-is stream)) (suffix_read file p lexemes part e (drop part.taken lexemes) refl e.left)
     by (Err (Unexpected at)) fails =
         λ span. Derives.name_failed suffix-meant.1 (Derives.sequence (DerivesItems.items_failed (fails _)))
-    by (Err (TooDeep at)) e = absurd e
+    by (Err (TooDeep at)) e = tt
+    by (Err (BadCountAt at)) e = tt
 
 -- ---- Prefix
 
@@ -188,7 +217,8 @@ no_prefix file p lexemes ands nots (Err (Unexpected at)) fails =
     (Derives.sequence (DerivesItems.items_then (Derives.optional_none
     (Derives.choice (DerivesFirst.alternative_failed (ands _) (DerivesFirst.alternative_last (nots _)))))
     (DerivesItems.items_failed (fails _)) refl))
-no_prefix file p lexemes ands nots (Err (TooDeep at)) e = absurd e
+no_prefix file p lexemes ands nots (Err (TooDeep at)) e = tt
+no_prefix file p lexemes ands nots (Err (BadCountAt at)) e = tt
 
 -- a sign before the suffix
 one_prefix : (file : List ℕ) (p : ℕ) (lexeme : Lexeme)
@@ -216,17 +246,18 @@ one_prefix file p lexeme more {number} {used} {span} {piece} sign it spells d (O
 one_prefix file p lexeme more sign it spells d (Err (Unexpected at)) fails =
     λ span. Derives.name_failed prefix-meant.1
     (Derives.sequence (DerivesItems.items_then d (DerivesItems.items_failed (fails _)) refl))
-one_prefix file p lexeme more sign it spells d (Err (TooDeep at)) e = absurd e
+one_prefix file p lexeme more sign it spells d (Err (TooDeep at)) e = tt
+one_prefix file p lexeme more sign it spells d (Err (BadCountAt at)) e = tt
 
 -- Prefix is what is read
-pub prefix-exact : (file : List ℕ) (most : ℕ) (inner : Option Reading) → Good file most inner
-    → (p : ℕ) (lexemes : List Lexeme) → Stream file p lexemes → length lexemes ≤ most
+pub prefix-exact : (file : List ℕ) (inner : Option Reading) → Good file inner
+    → (p : ℕ) (lexemes : List Lexeme) → Stream file p lexemes
     → ExactAny file (codes "Prefix") p lexemes (prefix file inner lexemes)
 unfolding prefix
-prefix-exact file most inner good p [] (Stream.ended last) few =
+prefix-exact file inner good p [] (Stream.ended last) =
     no_prefix file p [] (λ span. none_here kind.And span last) (λ span. none_here kind.Not span last)
-    (suffix file inner []) (suffix-exact file most inner good p [] (Stream.ended last) few)
-prefix-exact file most inner good p (_ ∷ more) (Stream.next k piece lexeme found is rest) few =
+    (suffix file inner []) (suffix-exact file inner good p [] (Stream.ended last))
+prefix-exact file inner good p (_ ∷ more) (Stream.next k piece lexeme found is rest) =
     subst (λ (l : Lexeme). ExactAny file (codes "Prefix") p (l ∷ more)
     (prefix_of file inner l more (prefix_sign l.kind))) (sym is) (by k found)
   where
@@ -236,8 +267,8 @@ prefix-exact file most inner good p (_ ∷ more) (Stream.next k piece lexeme fou
     plain k there a b =
         no_prefix file p (lexeme_at k p piece.length ∷ more) (λ span. not_here k piece kind.And span there a)
         (λ span. not_here k piece kind.Not span there b) (suffix file inner (lexeme_at k p piece.length ∷
-        more)) (suffix-exact file most inner good p (lexeme_at k p piece.length ∷
-        more) (Stream.next k piece (lexeme_at k p piece.length) there refl rest) few)
+        more)) (suffix-exact file inner good p (lexeme_at k p piece.length ∷
+        more) (Stream.next k piece (lexeme_at k p piece.length) there refl rest))
 
     by : (k : TokenKind) → text_of k (drop p file) ≡ Some piece
         → ExactAny file (codes "Prefix") p (lexeme_at k p piece.length ∷
@@ -247,19 +278,18 @@ prefix-exact file most inner good p (_ ∷ more) (Stream.next k piece lexeme fou
         (between 159 162) there in
         one_prefix file p (lexeme_at kind.And p piece.length) more form.And it it.spells
         (Derives.optional_some (Derives.choice (DerivesFirst.alternative_matched it.derives)))
-        (suffix file inner more) (suffix-exact file most inner good (behind_text file p piece.length) more rest
-        (omega arith))
+        (suffix file inner more) (suffix-exact file inner good (behind_text file p piece.length) more rest)
     by kind.Not there =
         let it : FindsToken file rule.not_sign (codes "NOT") (between 165 168) p piece = here kind.Not piece
         (between 165 168) there in
         one_prefix file p (lexeme_at kind.Not p piece.length) more form.Not it it.spells
         (Derives.optional_some (Derives.choice (DerivesFirst.alternative_failed
         (not_here kind.Not piece kind.And _ there (λ x. cc)) (DerivesFirst.alternative_last it.derives))))
-        (suffix file inner more) (suffix-exact file most inner good (behind_text file p piece.length) more rest
-        (omega arith))
+        (suffix file inner more) (suffix-exact file inner good (behind_text file p piece.length) more rest)
     by kind.Question there = plain kind.Question there (λ x. cc) (λ x. cc)
     by kind.Star there = plain kind.Star there (λ x. cc) (λ x. cc)
     by kind.Plus there = plain kind.Plus there (λ x. cc) (λ x. cc)
+    by kind.Count there = plain kind.Count there (λ x. cc) (λ x. cc)
     by kind.Ident there = plain kind.Ident there (λ x. cc) (λ x. cc)
     by kind.Literal there = plain kind.Literal there (λ x. cc) (λ x. cc)
     by kind.Class there = plain kind.Class there (λ x. cc) (λ x. cc)

@@ -1,5 +1,5 @@
 -- The reader's `primary` says what the figure's Primary says.
-use Rattle.std.proofs.Common.{◌≡◌, ◌≢◌, ℕ, suc, max, ◌+◌, ◌≤◌, Bool, true, false, ◌||◌, List, [], ◌∷◌, ◌++◌, length, drop, codes, ◌⊎◌, inl, inr}
+use Rattle.std.proofs.Common.{◌≡◌, ◌≢◌, ℕ, suc, max, ◌+◌, Bool, true, false, ◌||◌, List, [], ◌∷◌, ◌++◌, length, drop, codes, ◌⊎◌, inl, inr}
 use Rattle.std.proofs.Common.{Option, None, Some, Result, Ok, Err, option_map, unwrap_or, if◌then◌else◌, ◌==◌, refl, sym, ap, ◌∙◌, subst, arith, append-nil}
 use Rattle.std.proofs.lemmas.List.{drop-drop}
 use Rattle.peg_bytes.specs.Extent.{Extent, between}
@@ -13,7 +13,7 @@ use Rattle.peg_figure.specs.FigureRules as rule
 use Rattle.peg_lexer.specs.Lexical.{text_of}
 use Rattle.peg_lexer.specs.Pieces.{Piece}
 use Rattle.peg_figure.specs.Ranges.{class_of}
-use Rattle.peg_notation.specs.Reader.{Halt, Unexpected, TooDeep, FormRead, Reading, pieces_of, and_read, closed, parenthesized, primary, primary_of, starts_with_arrow}
+use Rattle.peg_notation.specs.Reader.{Halt, Unexpected, TooDeep, BadCountAt, FormRead, Reading, pieces_of, and_read, closed, parenthesized, primary, primary_of, starts_with_arrow}
 use Rattle.peg_figure.specs.Spelled.{Spelling, Expression, bytes_in, ranges_in, part, text_end, spelled, node_spelled, primary_spelled}
 use Rattle.peg_figure.specs.Nesting.{nesting, has_open}
 use Rattle.peg_lexer.specs.Tokens.{Lexeme, rule_of_kind}
@@ -118,6 +118,7 @@ arrow_next {file} {p} (Stream.next {more = more} k piece lexeme found is rest) =
     by kind.Question there = inr (refl, λ span. not_here kind.Question piece kind.Arrow span there (λ e. cc))
     by kind.Star there = inr (refl, λ span. not_here kind.Star piece kind.Arrow span there (λ e. cc))
     by kind.Plus there = inr (refl, λ span. not_here kind.Plus piece kind.Arrow span there (λ e. cc))
+    by kind.Count there = inr (refl, λ span. not_here kind.Count piece kind.Arrow span there (λ e. cc))
     by kind.Open there = inr (refl, λ span. not_here kind.Open piece kind.Arrow span there (λ e. cc))
     by kind.Close there = inr (refl, λ span. not_here kind.Close piece kind.Arrow span there (λ e. cc))
     by kind.Dot there = inr (refl, λ span. not_here kind.Dot piece kind.Arrow span there (λ e. cc))
@@ -150,8 +151,8 @@ name_primary file p piece more inner found rest =
         (lexeme_at kind.Ident p piece.length ∷ more) (primary_of file inner
         (lexeme_at kind.Ident p piece.length) more kind.Ident)
     read none =
-        let it : FindsToken file rule.identifier (codes "Identifier") (between 233 243) p piece = here kind.Ident piece
-        (between 233 243) found in
+        let it : FindsToken file rule.identifier (codes "Identifier") (between 241 251) p piece = here kind.Ident piece
+        (between 241 251) found in
         rw none.0 (of_token (form.Name (part file p (p + piece.length)) (between p (p + piece.length))) it refl
         (λ before. refl)
         (Derives.choice (DerivesFirst.alternative_matched (Derives.sequence
@@ -162,7 +163,7 @@ name_primary file p piece more inner found rest =
 -- ---- literals, classes and dots
 
 -- what a token spells
-pieces_here : (file : List ℕ) (k : TokenKind) (p : ℕ) (piece : Piece) → text_of k (drop p file) ≡ Some piece
+pub pieces_here : (file : List ℕ) (k : TokenKind) (p : ℕ) (piece : Piece) → text_of k (drop p file) ≡ Some piece
     → pieces_of file (lexeme_at k p piece.length) ≡ piece.spells
 pieces_here file k p piece found = ap (λ text. unwrap_or (option_map (λ (x : Piece). x.spells) text) []) found
 
@@ -172,8 +173,8 @@ literal_primary : (file : List ℕ) (p : ℕ) (piece : Piece) (more : List Lexem
     more) (primary_of file inner (lexeme_at kind.Literal p piece.length) more kind.Literal)
 unfolding primary_body
 literal_primary file p piece more inner found rest =
-    let it : FindsToken file rule.literal (codes "Literal") (between 281 288) p piece = here kind.Literal piece
-    (between 281 288) found in
+    let it : FindsToken file rule.literal (codes "Literal") (between 289 296) p piece = here kind.Literal piece
+    (between 289 296) found in
     of_token (form.Literal (bytes_in (pieces_of file (lexeme_at kind.Literal p piece.length)))
     (between p (p + piece.length))) it refl
     (λ before. ap (λ pieces. Expression (form.Literal (bytes_in pieces) (between p (p + piece.length))) ∷ [])
@@ -190,8 +191,8 @@ class_primary : (file : List ℕ) (p : ℕ) (piece : Piece) (more : List Lexeme)
     more) (primary_of file inner (lexeme_at kind.Class p piece.length) more kind.Class)
 unfolding primary_body
 class_primary file p piece more inner found rest =
-    let it : FindsToken file rule.class (codes "Class") (between 291 296) p piece = here kind.Class piece
-    (between 291 296) found in
+    let it : FindsToken file rule.class (codes "Class") (between 299 304) p piece = here kind.Class piece
+    (between 299 304) found in
     of_token (form.Class (class_of (ranges_in (pieces_of file (lexeme_at kind.Class p piece.length))))
     (between p (p + piece.length))) it refl
     (λ before. ap (λ pieces. Expression (form.Class (class_of (ranges_in pieces)) (between p (p + piece.length))) ∷ [])
@@ -209,8 +210,8 @@ dot_primary : (file : List ℕ) (p : ℕ) (piece : Piece) (more : List Lexeme) (
     more) (primary_of file inner (lexeme_at kind.Dot p piece.length) more kind.Dot)
 unfolding primary_body
 dot_primary file p piece more inner found rest =
-    let it : FindsToken file rule.dot (codes "DOT") (between 299 302) p piece = here kind.Dot piece
-    (between 299 302) found in
+    let it : FindsToken file rule.dot (codes "DOT") (between 307 310) p piece = here kind.Dot piece
+    (between 307 310) found in
     of_token (form.Any (between p (p + piece.length))) it refl (λ before. refl)
     (Derives.choice (DerivesFirst.alternative_failed (Derives.sequence
     (DerivesItems.items_failed (not_here kind.Dot piece kind.Ident _ found (λ e. cc))))
@@ -255,10 +256,10 @@ parentheses : (file : List ℕ) (p : ℕ) (piece : Piece) (more : List Lexeme) (
     more) (record { form = part.form; taken = part.taken + 2; last = e.end + closing.length; depth = part.depth + 1 })
 unfolding primary_body
 parentheses file p piece more part found e closing rest there left_is left =
-    let o : FindsToken file rule.open_sign (codes "OPEN") (between 257 261) p piece = here kind.Open piece
-    (between 257 261) found in
-    let c : FindsToken file rule.close (codes "CLOSE") (between 273 278) e.end closing = here kind.Close closing
-    (between 273 278) there in
+    let o : FindsToken file rule.open_sign (codes "OPEN") (between 265 269) p piece = here kind.Open piece
+    (between 265 269) found in
+    let c : FindsToken file rule.close (codes "CLOSE") (between 281 286) e.end closing = here kind.Close closing
+    (between 281 286) there in
     let end : ℕ = behind_text file e.end closing.length in
     let inside : Trees = followed_by o.trees (followed_by e.trees (followed_by c.trees NoTrees)) in
     let o_blank : piece.spells ≡ [] = (blank-these (codes "(")).blank (drop p file) piece found in
@@ -363,6 +364,8 @@ close_read file p piece more part found e (_ ∷ rest) same (Stream.next k closi
         (λ span. not_here kind.Star closing kind.Close span here_is (λ x. cc))
     by kind.Plus here_is left_is = no_close file p piece more part found e
         (λ span. not_here kind.Plus closing kind.Close span here_is (λ x. cc))
+    by kind.Count here_is left_is = no_close file p piece more part found e
+        (λ span. not_here kind.Count closing kind.Close span here_is (λ x. cc))
     by kind.Open here_is left_is = no_close file p piece more part found e
         (λ span. not_here kind.Open closing kind.Close span here_is (λ x. cc))
     by kind.Dot here_is left_is = no_close file p piece more part found e
@@ -383,15 +386,13 @@ stuck_close file q stuck span =
       ]
     ]
 
-open_primary : (file : List ℕ) (most p : ℕ) (piece : Piece) (more : List Lexeme) (inner : Option Reading)
-    → Good file most inner → length (lexeme_at kind.Open p piece.length ∷ more) ≤ most → text_of kind.Open (drop p file)
-    ≡ Some piece → Stream file (behind_text file p piece.length) more
+open_primary : (file : List ℕ) (p : ℕ) (piece : Piece) (more : List Lexeme) (inner : Option Reading)
+    → Good file inner → text_of kind.Open (drop p file) ≡ Some piece → Stream file (behind_text file p piece.length) more
     → ExactAny file (codes "Primary") p (lexeme_at kind.Open p piece.length ∷
     more) (parenthesized inner (length file) (lexeme_at kind.Open p piece.length) more)
-open_primary file most p piece more None good few found rest = absurd (omega (arith, good))
-open_primary file most p piece more (Some read) good few found rest =
-    by (read (p + piece.length) more) (good (p + piece.length) (behind_text file p piece.length) more rest
-    (omega arith))
+open_primary file p piece more None good found rest = tt
+open_primary file p piece more (Some read) good found rest =
+    by (read (p + piece.length) more) (good (p + piece.length) (behind_text file p piece.length) more rest)
   where
     by : (x : Result FormRead Halt) → ExactAt file (codes "Expression") (p + piece.length)
         (behind_text file p piece.length) more x → ExactAny file (codes "Primary") p (lexeme_at kind.Open p piece.length ∷
@@ -400,20 +401,21 @@ open_primary file most p piece more (Some read) good few found rest =
     by (Err (Unexpected at)) stops =
         open_fails file p piece found (λ span next. DerivesItems.items_then (stops.derives span)
         (DerivesItems.items_failed (stuck_close file stops.end stops.stuck next)) refl)
-    by (Err (TooDeep at)) e = absurd e
+    by (Err (TooDeep at)) e = tt
+    by (Err (BadCountAt at)) e = tt
 
 -- ---- every kind
 
 -- Primary is what is read
-pub primary-exact : (file : List ℕ) (most : ℕ) (inner : Option Reading) → Good file most inner
-    → (p : ℕ) (lexemes : List Lexeme) → Stream file p lexemes → length lexemes ≤ most
+pub primary-exact : (file : List ℕ) (inner : Option Reading) → Good file inner
+    → (p : ℕ) (lexemes : List Lexeme) → Stream file p lexemes
     → ExactAny file (codes "Primary") p lexemes (primary file inner lexemes)
 unfolding primary
-primary-exact file most inner good p [] (Stream.ended last) few =
+primary-exact file inner good p [] (Stream.ended last) =
     failed (λ span. none_here kind.Ident span last) (λ span. none_here kind.Open span last)
     (λ span. none_here kind.Literal span last) (λ span. none_here kind.Class span last)
     (λ span. none_here kind.Dot span last)
-primary-exact file most inner good p (_ ∷ more) (Stream.next k piece lexeme found is rest) few =
+primary-exact file inner good p (_ ∷ more) (Stream.next k piece lexeme found is rest) =
     subst (λ (l : Lexeme). ExactAny file (codes "Primary") p (l ∷ more) (primary_of file inner l more l.kind)) (sym is)
     (by k found)
   where
@@ -424,7 +426,7 @@ primary-exact file most inner good p (_ ∷ more) (Stream.next k piece lexeme fo
     by kind.Literal there = literal_primary file p piece more inner there rest
     by kind.Class there = class_primary file p piece more inner there rest
     by kind.Dot there = dot_primary file p piece more inner there rest
-    by kind.Open there = open_primary file most p piece more inner good few there rest
+    by kind.Open there = open_primary file p piece more inner good there rest
     by kind.Arrow there = other_fails kind.Arrow piece there (λ e. cc) (λ e. cc) (λ e. cc) (λ e. cc) (λ e. cc)
     by kind.Slash there = other_fails kind.Slash piece there (λ e. cc) (λ e. cc) (λ e. cc) (λ e. cc) (λ e. cc)
     by kind.And there = other_fails kind.And piece there (λ e. cc) (λ e. cc) (λ e. cc) (λ e. cc) (λ e. cc)
@@ -432,4 +434,5 @@ primary-exact file most inner good p (_ ∷ more) (Stream.next k piece lexeme fo
     by kind.Question there = other_fails kind.Question piece there (λ e. cc) (λ e. cc) (λ e. cc) (λ e. cc) (λ e. cc)
     by kind.Star there = other_fails kind.Star piece there (λ e. cc) (λ e. cc) (λ e. cc) (λ e. cc) (λ e. cc)
     by kind.Plus there = other_fails kind.Plus piece there (λ e. cc) (λ e. cc) (λ e. cc) (λ e. cc) (λ e. cc)
+    by kind.Count there = other_fails kind.Count piece there (λ e. cc) (λ e. cc) (λ e. cc) (λ e. cc) (λ e. cc)
     by kind.Close there = other_fails kind.Close piece there (λ e. cc) (λ e. cc) (λ e. cc) (λ e. cc) (λ e. cc)

@@ -1,4 +1,4 @@
--- The printed figure beside the figure: what it makes of a form at a place the figure makes of it too, or the printed
+-- The printed figure beside the escaped figure: what it makes of a form at a place that makes of it too, or the printed
 -- figure has halted, at a place where nothing that it has may follow.
 use Rattle.std.proofs.Common.{◌≡◌, ◌⊎◌, inl, inr, ℕ, ◌+◌, false, List, drop, codes, bytes_eq}
 use Rattle.std.proofs.Common.{Option, Some, refl, sym, ap, ◌∙◌, subst}
@@ -8,9 +8,9 @@ use Rattle.peg_ford.specs.Form.{Form, Forms, Name, Seq, Choice, Star, Plus, End,
 use Rattle.peg_ford.specs.Record.{Recognition, Failed, Matched, behind}
 use Rattle.peg_ford.specs.Rules.{Meaning, meant}
 use Rattle.peg_ford.proofs.Derivations.{Derives, DerivesItems, DerivesFirst}
-use Rattle.peg_figure.specs.Figure.{figure}
+use Rattle.peg_figure.specs.EscapedFigure.{escaped_figure}
 use Rattle.peg_notation.specs.PrintedFigure.{printed_figure}
-use Rattle.peg_notation.proofs.PrintedFronts.{front}
+use Rattle.peg_notation.proofs.Fronts.{front}
 use Rattle.peg_notation.proofs.PrintedMeanings.{meant-printed}
 
 -- how the printed figure may halt before hexadecimal digits
@@ -137,7 +137,7 @@ module _ (file : List ℕ) where
   mutual
     pub data Carries : Form → Halt → Type 0 where
       shown : {e : Form} {k : Halt} → ((p : ℕ) (x : Recognition) → Derives printed_figure file e p x
-          → Derives figure file e p x ⊎ Halts k p x) → Carries e k
+          → Derives escaped_figure file e p x ⊎ Halts k p x) → Carries e k
       name : {used : List ℕ} {span : Extent} {k : Halt} → IsHalting used k → Carries (Name used span) k
       sequence : {items : Forms} {span : Extent} {k : Halt} → CarriesItems items k → Carries (Seq items span) k
       choice : {first : Form} {rest : Forms} {span : Extent} {k : Halt} → CarriesFirst first rest k
@@ -154,7 +154,7 @@ module _ (file : List ℕ) where
 
     pub data CarriesItems : Forms → Halt → Type 0 where
       items_shown : {items : Forms} {k : Halt} → ((p : ℕ) (x : Recognition)
-          → DerivesItems printed_figure file items p x → DerivesItems figure file items p x ⊎ Halts k p x)
+          → DerivesItems printed_figure file items p x → DerivesItems escaped_figure file items p x ⊎ Halts k p x)
           → CarriesItems items k
       item : {first : Form} {rest : Forms} {k l m : Halt} → Carries first k → CarriesItems rest l
           → ((p : ℕ) → FailsAt k p → FailsAt m p)
@@ -173,19 +173,19 @@ module _ (file : List ℕ) where
           → ((p : ℕ) (x : Recognition) → Halts l p x → Halts m p x)
           → CarriesFirst first (Then next rest) m
 
-  -- what comes of a form by the printed figure comes of it by the figure, or the printed figure halts
+  -- what comes of a form by the printed figure comes of it by the escaped figure, or the printed figure halts
   module _ (body-carries : (used : List ℕ) (k : Halt) (m : Meaning) → IsHalting used k
       → meant printed_figure used ≡ Some m → Carries m.body k) where
     mutual
       pub carried : {e : Form} {p : ℕ} {x : Recognition} {k : Halt} → Derives printed_figure file e p x → Carries e k
-          → Derives figure file e p x ⊎ Halts k p x
+          → Derives escaped_figure file e p x ⊎ Halts k p x
       carried {p = p} {x} d (Carries.shown f) = f p x d
       carried (Derives.name_matched {used = used} {meaning = m} {place = p} {end = end} {trees = trees} found d t)
           (Carries.name is) =
           let same = meant-printed used m (no_char is) found in
           elim (carried d (body-carries used _ m is found)) [
             | inl d ↦ inl (Derives.name_matched same.known
-                (subst (λ (body : Form). Derives figure file body p (Matched end trees)) (sym same.body_is) d)
+                (subst (λ (body : Form). Derives escaped_figure file body p (Matched end trees)) (sym same.body_is) d)
                 (t ∙ ap (λ rule. Tree rule p end trees NoTrees) (sym same.rule_is)))
             | inr s ↦ inr s
           ]
@@ -193,7 +193,7 @@ module _ (file : List ℕ) where
           let same = meant-printed used m (no_char is) found in
           elim (carried d (body-carries used _ m is found)) [
             | inl d ↦ inl (Derives.name_failed same.known
-                (subst (λ (body : Form). Derives figure file body p Failed) (sym same.body_is) d))
+                (subst (λ (body : Form). Derives escaped_figure file body p Failed) (sym same.body_is) d))
             | inr s ↦ inr s
           ]
       carried (Derives.sequence ds) (Carries.sequence c) =
@@ -234,7 +234,7 @@ module _ (file : List ℕ) where
           ]
 
       items_carried : {items : Forms} {p : ℕ} {x : Recognition} {k : Halt} → DerivesItems printed_figure file items p x
-          → CarriesItems items k → DerivesItems figure file items p x ⊎ Halts k p x
+          → CarriesItems items k → DerivesItems escaped_figure file items p x ⊎ Halts k p x
       items_carried {p = p} {x} ds (CarriesItems.items_shown f) = f p x ds
       items_carried (DerivesItems.items_failed {place = p} d) (CarriesItems.item c cs fail stop go) =
           elim (carried d c) [
@@ -253,7 +253,7 @@ module _ (file : List ℕ) where
 
       first_carried : {first : Form} {rest : Forms} {p : ℕ} {x : Recognition} {k : Halt}
           → DerivesFirst printed_figure file first rest p x → CarriesFirst first rest k
-          → DerivesFirst figure file first rest p x ⊎ Halts k p x
+          → DerivesFirst escaped_figure file first rest p x ⊎ Halts k p x
       first_carried (DerivesFirst.alternative_last d) (CarriesFirst.only c) =
           elim (carried d c) [
             | inl d ↦ inl (DerivesFirst.alternative_last d)

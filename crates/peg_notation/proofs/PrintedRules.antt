@@ -1,4 +1,5 @@
--- How the rules of the printed figure halt, from Char up to Grammar, which is matched only where the figure matches it.
+-- How the rules of the printed figure halt, from Char up to Grammar, which is matched only where the escaped figure
+-- matches it.
 use Rattle.std.proofs.Common.{◌≡◌, ◌⊎◌, inl, inr, ℕ, ◌+◌, Bool, true, false, ◌&&◌, ◌||◌, ◌==◌, nat_eq, List, [], ◌∷◌, length, drop, codes}
 use Rattle.std.proofs.Common.{Option, None, Some, ◌<◌, nat_le, refl, sym, ap, ◌∙◌, subst, arith}
 use Rattle.std.proofs.lemmas.Bool.{cases_lt}
@@ -12,19 +13,20 @@ use Rattle.peg_tree.specs.Trees.{Trees, NoTrees, Tree}
 use Rattle.peg_ford.specs.Form.{Form, Forms, Literal, Class, Name, Seq, Choice, Optional, Star, Plus, Not, End, Then}
 use Rattle.peg_ford.specs.Record.{Recognition, Failed, Matched, behind, as_tree}
 use Rattle.peg_ford.specs.Rules.{Meaning, meant}
-use Rattle.peg_ford.proofs.Derivations.{Derives, DerivesItems, DerivesFirst, derived, one_result, star_never_fails, literal_here, class_missing}
+use Rattle.peg_ford.proofs.Derivations.{Derives, DerivesItems, DerivesFirst, recorded, derived, one_result, star_never_fails, literal_here, class_missing}
 use Rattle.peg_ford.proofs.ResultSteps.{begins_with, passes_any, starts_with-rest}
 use Rattle.peg_figure.specs.Ranges.{range, class_of, in_ranges}
+use Rattle.peg_figure.specs.EscapedFigure.{escaped_figure, escaped_suffix, MatchesEscaped, numbered_now}
 use Rattle.peg_figure.specs.Figure.{figure, grammar_body, definition_body, expression_body, sequence_body, prefix_body, suffix_body, primary_body, identifier_body, ident_start_body, ident_cont_body, literal_body, class_body, range_body, char_body, spacing_body, comment_body, space_body, end_of_line_body, end_of_file_body}
 use Rattle.peg_figure.specs.FigureRules as rule
 use Rattle.peg_figure.specs.Notation.{Matches, IsReading}
-use Rattle.peg_figure.proofs.FigureNames.{char-meant}
-use Rattle.peg_lexer.proofs.Lexemes.{matches}
 use Rattle.peg_ford.specs.Rules.{Rule}
 use Rattle.peg_notation.specs.PrintedFigure.{printed_char, printed_figure, MatchesPrinted, IsPrintedReading}
-use Rattle.peg_notation.proofs.PrintedFronts.{front, is_byte, is_in, name_may_match, may_match, some_may_match, matches_front, items_blocked, first_blocked, star_blocked}
+use Rattle.peg_notation.proofs.Fronts.{front, is_byte, is_in, name_may_match, may_match, some_may_match, matches_front, items_blocked, first_blocked, star_blocked}
 use Rattle.peg_notation.proofs.PrintedHalts.{Halt, IsOpener, IsQuote, IsLoose, at, IsDead, IsDash, FailsAt, EndsAt, Halts, IsHalting, Carries, CarriesItems, CarriesFirst, carried}
-use Rattle.peg_notation.proofs.PrintedMeanings.{without_char, all_without_char, leads_elsewhere, alike, items_alike}
+use Rattle.peg_notation.proofs.EscapedRules.{escaped-kept, escaped-reading}
+use Rattle.peg_notation.proofs.Meanings.{without, all_without}
+use Rattle.peg_notation.proofs.PrintedMeanings.{leads_past, alike, items_alike}
 
 -- ---- what the bytes at places say
 
@@ -86,8 +88,8 @@ module _ (file : List ℕ) where
       let it : other ≡ m = cc in
       (Failed, subst (λ (z : Meaning). Old z.body p Failed) it d, refl)
 
-  named_anew : {used : List ℕ} {p : ℕ} (m : Meaning) (span : Extent) → meant figure used ≡ Some m → (y : Recognition)
-      → Derives figure file m.body p y → Derives figure file (Name used span) p (as_tree m.rule p y)
+  named_anew : {used : List ℕ} {p : ℕ} (m : Meaning) (span : Extent) → meant escaped_figure used ≡ Some m → (y : Recognition)
+      → Derives escaped_figure file m.body p y → Derives escaped_figure file (Name used span) p (as_tree m.rule p y)
   named_anew m span known Failed d = Derives.name_failed known d
   named_anew m span known (Matched end trees) d = Derives.name_matched known d refl
 
@@ -122,15 +124,15 @@ module _ (file : List ℕ) where
   never_halts p Failed s = s
   never_halts p (Matched end trees) s = s
 
-  plain : {e : Form} {k : Halt} → without_char (leads_elsewhere 5) e ≡ true → Carries file e k
+  plain : {e : Form} {k : Halt} → without (leads_past 5) e ≡ true → Carries file e k
   plain is = Carries.shown (λ p x d. inl (alike 5 d is))
 
-  plain_items : {items : Forms} {k : Halt} → all_without_char (leads_elsewhere 5) items ≡ true
+  plain_items : {items : Forms} {k : Halt} → all_without (leads_past 5) items ≡ true
       → CarriesItems file items k
   plain_items is = CarriesItems.items_shown (λ p x ds. inl (items_alike 5 ds is))
 
   -- a plain item, and those behind it
-  plain_then : {e : Form} {rest : Forms} {l m : Halt} → without_char (leads_elsewhere 5) e ≡ true
+  plain_then : {e : Form} {rest : Forms} {l m : Halt} → without (leads_past 5) e ≡ true
       → CarriesItems file rest l
       → ((p middle : ℕ) (trees : Trees) (x : Recognition) → Old e p (Matched middle trees) → Halts file l middle x
       → Halts file m p (behind trees x))
@@ -140,7 +142,7 @@ module _ (file : List ℕ) where
 
   -- an item that halts, and plain items behind it
   then_plain : {e : Form} {rest : Forms} {k m : Halt} → Carries file e k
-      → all_without_char (leads_elsewhere 5) rest ≡ true → ((p : ℕ) → FailsAt file k p → FailsAt file m p)
+      → all_without (leads_past 5) rest ≡ true → ((p : ℕ) → FailsAt file k p → FailsAt file m p)
       → ((p middle : ℕ) (trees : Trees) (x : Recognition) → EndsAt file k middle → OldItems rest middle x
       → Halts file m p (behind trees x))
       → CarriesItems file (Then e rest) m
@@ -165,7 +167,7 @@ module _ (file : List ℕ) where
 
   pub printed-meant : (t : ℕ) × (meant printed_figure (codes "Char")
       ≡ Some (record { rule = 13; terminal = t; body = printed_char }))
-  unfolding figure
+  unfolding escaped_figure figure escaped_suffix
   printed-meant = (_, refl)
 
   abbrev pub printed_meaning : Meaning
@@ -185,12 +187,17 @@ module _ (file : List ℕ) where
       (DerivesFirst.alternative_last (Derives.sequence
       (DerivesItems.items_failed (Derives.not_failed (literal_here (120 ∷ rest) is))))))))
 
+  char-meant : (t : ℕ) × (meant escaped_figure (codes "Char")
+      ≡ Some (record { rule = 13; terminal = t; body = char_body }))
+  unfolding escaped_figure figure
+  char-meant = (_, refl)
+
   alternatives : {first : Form} {rest : Forms} {span : Extent} {p : ℕ} {y : Recognition}
-      → Derives figure file (Choice first rest span) p y → DerivesFirst figure file first rest p y
+      → Derives escaped_figure file (Choice first rest span) p y → DerivesFirst escaped_figure file first rest p y
   alternatives (Derives.choice ds) = ds
 
   char_by : (p : ℕ) (b : Bool) → starts_with nat_eq (drop p file) (codes "\\x") ≡ b → (y : Recognition)
-      → Old printed_char p y → Derives figure file char_body p y ⊎ ((at file p ≡ Some 92) × (y ≡ Failed))
+      → Old printed_char p y → Derives escaped_figure file char_body p y ⊎ ((at file p ≡ Some 92) × (y ≡ Failed))
   unfolding char_body
   char_by p true is y d =
       let whole = starts_with-rest (codes "\\x") (drop p file) is in
@@ -203,11 +210,11 @@ module _ (file : List ℕ) where
   char_carried {span} = Carries.shown by
     where
       by : (p : ℕ) (x : Recognition) → Old (Name (codes "Char") span) p x
-          → Derives figure file (Name (codes "Char") span) p x ⊎ Halts file Halt.character p x
+          → Derives escaped_figure file (Name (codes "Char") span) p x ⊎ Halts file Halt.character p x
       by p x d =
           let it = named printed_meaning printed-meant.1 d in
           elim (char_by p (starts_with nat_eq (drop p file) (codes "\\x")) refl it.0 it.1) [
-            | inl new ↦ inl (subst (λ (z : Recognition). Derives figure file (Name (codes "Char") span) p z) (sym it.2)
+            | inl new ↦ inl (subst (λ (z : Recognition). Derives escaped_figure file (Name (codes "Char") span) p z) (sym it.2)
                 (named_anew _ span char-meant.1 it.0 new))
             | inr dead ↦
                 let fails : x ≡ Failed = it.2 ∙ ap (as_tree 13 p) dead.1 in
@@ -287,7 +294,7 @@ module _ (file : List ℕ) where
 
   range-meant : (t : ℕ) × (meant printed_figure (codes "Range")
       ≡ Some (record { rule = 12; terminal = t; body = range_body }))
-  unfolding figure
+  unfolding escaped_figure figure escaped_suffix
   range-meant = (_, refl)
 
   range_chars : {span : Extent} {p end : ℕ} {trees : Trees} → Old (Name (codes "Range") span) p (Matched end trees)
@@ -362,7 +369,7 @@ module _ (file : List ℕ) where
   loose_no_bracket h IsLoose.dash = refl
 
   class_carried : Carries file class_body (Halt.begun 91)
-  unfolding figure grammar_body definition_body expression_body sequence_body prefix_body suffix_body primary_body identifier_body ident_start_body ident_cont_body literal_body class_body range_body char_body spacing_body comment_body space_body end_of_line_body end_of_file_body class_of
+  unfolding escaped_figure figure escaped_suffix grammar_body definition_body expression_body sequence_body prefix_body suffix_body primary_body identifier_body ident_start_body ident_cont_body literal_body class_body range_body char_body spacing_body comment_body space_body end_of_line_body end_of_file_body class_of
   class_carried = Carries.sequence (plain_then {l = Halt.whole} refl
       (then_plain {k = Halt.loose} ranges refl (λ p s. absurd s) stop) go)
     where
@@ -401,7 +408,7 @@ module _ (file : List ℕ) where
       → {r s t u v w x y z : Extent} → Carries file (Seq (Then (one_byte byte r)
       (Then (Star (Seq (Then (Not (one_byte byte s) t) (Then (Name (codes "Char") u) End)) v) w)
       (Then (one_byte byte x) (Then (Name (codes "Spacing") y) End)))) z) (Halt.begun byte)
-  unfolding figure grammar_body definition_body expression_body sequence_body prefix_body suffix_body primary_body identifier_body ident_start_body ident_cont_body literal_body class_body range_body char_body spacing_body comment_body space_body end_of_line_body end_of_file_body class_of
+  unfolding escaped_figure figure escaped_suffix grammar_body definition_body expression_body sequence_body prefix_body suffix_body primary_body identifier_body ident_start_body ident_cont_body literal_body class_body range_body char_body spacing_body comment_body space_body end_of_line_body end_of_file_body class_of
   quoted_carried byte small loose {r} {s} {t} {x = e} =
       Carries.sequence (plain_then {l = Halt.whole} refl
       (then_plain {k = Halt.loose} chars refl (λ p s. absurd s) stop) go)
@@ -460,8 +467,8 @@ module _ (file : List ℕ) where
   -- ---- Primary
 
   opener_no_close : (h : Option ℕ) → IsOpener h
-      → may_match (name_may_match 5 h) h (Name (codes "CLOSE") (between 0 0)) ≡ false
-  unfolding figure grammar_body definition_body expression_body sequence_body prefix_body suffix_body primary_body identifier_body ident_start_body ident_cont_body literal_body class_body range_body char_body spacing_body comment_body space_body end_of_line_body end_of_file_body class_of
+      → may_match (name_may_match printed_figure 5 h) h (Name (codes "CLOSE") (between 0 0)) ≡ false
+  unfolding escaped_figure figure escaped_suffix grammar_body definition_body expression_body sequence_body prefix_body suffix_body primary_body identifier_body ident_start_body ident_cont_body literal_body class_body range_body char_body spacing_body comment_body space_body end_of_line_body end_of_file_body class_of
   opener_no_close h IsOpener.single = refl
   opener_no_close h IsOpener.double = refl
   opener_no_close h IsOpener.bracket = refl
@@ -470,8 +477,8 @@ module _ (file : List ℕ) where
   opener_no_close h IsOpener.exclamation = refl
 
   opener_no_slash : (h : Option ℕ) → IsOpener h
-      → may_match (name_may_match 5 h) h (Name (codes "SLASH") (between 0 0)) ≡ false
-  unfolding figure grammar_body definition_body expression_body sequence_body prefix_body suffix_body primary_body identifier_body ident_start_body ident_cont_body literal_body class_body range_body char_body spacing_body comment_body space_body end_of_line_body end_of_file_body class_of
+      → may_match (name_may_match printed_figure 5 h) h (Name (codes "SLASH") (between 0 0)) ≡ false
+  unfolding escaped_figure figure escaped_suffix grammar_body definition_body expression_body sequence_body prefix_body suffix_body primary_body identifier_body ident_start_body ident_cont_body literal_body class_body range_body char_body spacing_body comment_body space_body end_of_line_body end_of_file_body class_of
   opener_no_slash h IsOpener.single = refl
   opener_no_slash h IsOpener.double = refl
   opener_no_slash h IsOpener.bracket = refl
@@ -480,8 +487,8 @@ module _ (file : List ℕ) where
   opener_no_slash h IsOpener.exclamation = refl
 
   opener_no_definition : (h : Option ℕ) → IsOpener h
-      → may_match (name_may_match 5 h) h (Name (codes "Definition") (between 0 0)) ≡ false
-  unfolding figure grammar_body definition_body expression_body sequence_body prefix_body suffix_body primary_body identifier_body ident_start_body ident_cont_body literal_body class_body range_body char_body spacing_body comment_body space_body end_of_line_body end_of_file_body class_of
+      → may_match (name_may_match printed_figure 5 h) h (Name (codes "Definition") (between 0 0)) ≡ false
+  unfolding escaped_figure figure escaped_suffix grammar_body definition_body expression_body sequence_body prefix_body suffix_body primary_body identifier_body ident_start_body ident_cont_body literal_body class_body range_body char_body spacing_body comment_body space_body end_of_line_body end_of_file_body class_of
   opener_no_definition h IsOpener.single = refl
   opener_no_definition h IsOpener.double = refl
   opener_no_definition h IsOpener.bracket = refl
@@ -490,8 +497,8 @@ module _ (file : List ℕ) where
   opener_no_definition h IsOpener.exclamation = refl
 
   opener_no_end : (h : Option ℕ) → IsOpener h
-      → may_match (name_may_match 5 h) h (Name (codes "EndOfFile") (between 0 0)) ≡ false
-  unfolding figure grammar_body definition_body expression_body sequence_body prefix_body suffix_body primary_body identifier_body ident_start_body ident_cont_body literal_body class_body range_body char_body spacing_body comment_body space_body end_of_line_body end_of_file_body class_of
+      → may_match (name_may_match printed_figure 5 h) h (Name (codes "EndOfFile") (between 0 0)) ≡ false
+  unfolding escaped_figure figure escaped_suffix grammar_body definition_body expression_body sequence_body prefix_body suffix_body primary_body identifier_body ident_start_body ident_cont_body literal_body class_body range_body char_body spacing_body comment_body space_body end_of_line_body end_of_file_body class_of
   opener_no_end h IsOpener.single = refl
   opener_no_end h IsOpener.double = refl
   opener_no_end h IsOpener.bracket = refl
@@ -504,27 +511,27 @@ module _ (file : List ℕ) where
   token_halts p (Matched end trees) is opens = absurd (matched≢failed is)
 
   parenthesis_alone : (h : Option ℕ) → h ≡ Some 40
-      → (may_match (name_may_match 5 h) h (Name (codes "Literal") (between 0 0)) ≡ false)
-      × (some_may_match (name_may_match 5 h) h (Then (Name (codes "Class") (between 0 0)) (Then (Name (codes "DOT") (between 0 0)) End))
+      → (may_match (name_may_match printed_figure 5 h) h (Name (codes "Literal") (between 0 0)) ≡ false)
+      × (some_may_match (name_may_match printed_figure 5 h) h (Then (Name (codes "Class") (between 0 0)) (Then (Name (codes "DOT") (between 0 0)) End))
       ≡ false)
-  unfolding figure grammar_body definition_body expression_body sequence_body prefix_body suffix_body primary_body identifier_body ident_start_body ident_cont_body literal_body class_body range_body char_body spacing_body comment_body space_body end_of_line_body end_of_file_body class_of
+  unfolding escaped_figure figure escaped_suffix grammar_body definition_body expression_body sequence_body prefix_body suffix_body primary_body identifier_body ident_start_body ident_cont_body literal_body class_body range_body char_body spacing_body comment_body space_body end_of_line_body end_of_file_body class_of
   parenthesis_alone h is =
-      subst (λ h. (may_match (name_may_match 5 h) h (Name (codes "Literal") (between 0 0)) ≡ false)
-      × (some_may_match (name_may_match 5 h) h (Then (Name (codes "Class") (between 0 0))
+      subst (λ h. (may_match (name_may_match printed_figure 5 h) h (Name (codes "Literal") (between 0 0)) ≡ false)
+      × (some_may_match (name_may_match printed_figure 5 h) h (Then (Name (codes "Class") (between 0 0))
       (Then (Name (codes "DOT") (between 0 0)) End)) ≡ false)) (sym is) (refl, refl)
 
   quote_alone : (h : Option ℕ) → IsQuote h
-      → (may_match (name_may_match 5 h) h (Name (codes "Class") (between 0 0)) ≡ false)
-      × (some_may_match (name_may_match 5 h) h (Then (Name (codes "DOT") (between 0 0)) End) ≡ false)
-  unfolding figure grammar_body definition_body expression_body sequence_body prefix_body suffix_body primary_body identifier_body ident_start_body ident_cont_body literal_body class_body range_body char_body spacing_body comment_body space_body end_of_line_body end_of_file_body class_of
+      → (may_match (name_may_match printed_figure 5 h) h (Name (codes "Class") (between 0 0)) ≡ false)
+      × (some_may_match (name_may_match printed_figure 5 h) h (Then (Name (codes "DOT") (between 0 0)) End) ≡ false)
+  unfolding escaped_figure figure escaped_suffix grammar_body definition_body expression_body sequence_body prefix_body suffix_body primary_body identifier_body ident_start_body ident_cont_body literal_body class_body range_body char_body spacing_body comment_body space_body end_of_line_body end_of_file_body class_of
   quote_alone h IsQuote.one = (refl, refl)
   quote_alone h IsQuote.two = (refl, refl)
 
   bracket_alone : (h : Option ℕ) → h ≡ Some 91
-      → may_match (name_may_match 5 h) h (Name (codes "DOT") (between 0 0)) ≡ false
-  unfolding figure grammar_body definition_body expression_body sequence_body prefix_body suffix_body primary_body identifier_body ident_start_body ident_cont_body literal_body class_body range_body char_body spacing_body comment_body space_body end_of_line_body end_of_file_body class_of
+      → may_match (name_may_match printed_figure 5 h) h (Name (codes "DOT") (between 0 0)) ≡ false
+  unfolding escaped_figure figure escaped_suffix grammar_body definition_body expression_body sequence_body prefix_body suffix_body primary_body identifier_body ident_start_body ident_cont_body literal_body class_body range_body char_body spacing_body comment_body space_body end_of_line_body end_of_file_body class_of
   bracket_alone h is =
-      subst (λ h. may_match (name_may_match 5 h) h (Name (codes "DOT") (between 0 0)) ≡ false) (sym is) refl
+      subst (λ h. may_match (name_may_match printed_figure 5 h) h (Name (codes "DOT") (between 0 0)) ≡ false) (sym is) refl
 
   quote_opens : (h : Option ℕ) → IsQuote h → IsOpener h
   quote_opens h IsQuote.one = IsOpener.single
@@ -532,12 +539,12 @@ module _ (file : List ℕ) where
 
   open_front : {span : Extent} {p end : ℕ} {trees : Trees} → Old (Name (codes "OPEN") span) p (Matched end trees)
       → at file p ≡ Some 40
-  unfolding figure grammar_body definition_body expression_body sequence_body prefix_body suffix_body primary_body identifier_body ident_start_body ident_cont_body literal_body class_body range_body char_body spacing_body comment_body space_body end_of_line_body end_of_file_body class_of
+  unfolding escaped_figure figure escaped_suffix grammar_body definition_body expression_body sequence_body prefix_body suffix_body primary_body identifier_body ident_start_body ident_cont_body literal_body class_body range_body char_body spacing_body comment_body space_body end_of_line_body end_of_file_body class_of
   open_front {p = p} d = byte_is (at file p) 40 (matches_front 5 d)
 
   parentheses_carried : {s t u : Extent} → CarriesItems file (Then (Name (codes "OPEN") s)
       (Then (Name (codes "Expression") t) (Then (Name (codes "CLOSE") u) End))) (Halt.begun 40)
-  unfolding figure grammar_body definition_body expression_body sequence_body prefix_body suffix_body primary_body identifier_body ident_start_body ident_cont_body literal_body class_body range_body char_body spacing_body comment_body space_body end_of_line_body end_of_file_body class_of
+  unfolding escaped_figure figure escaped_suffix grammar_body definition_body expression_body sequence_body prefix_body suffix_body primary_body identifier_body ident_start_body ident_cont_body literal_body class_body range_body char_body spacing_body comment_body space_body end_of_line_body end_of_file_body class_of
   parentheses_carried {s} {u = u} =
       plain_then {l = Halt.whole} refl
       (then_plain {k = Halt.words} (Carries.name IsHalting.is_expression) refl (λ p h. absurd h) stop) go
@@ -552,7 +559,7 @@ module _ (file : List ℕ) where
       go p middle trees (Matched end more) d h = h
 
   primary_carried : Carries file primary_body Halt.token
-  unfolding figure grammar_body definition_body expression_body sequence_body prefix_body suffix_body primary_body identifier_body ident_start_body ident_cont_body literal_body class_body range_body char_body spacing_body comment_body space_body end_of_line_body end_of_file_body class_of
+  unfolding escaped_figure figure escaped_suffix grammar_body definition_body expression_body sequence_body prefix_body suffix_body primary_body identifier_body ident_start_body ident_cont_body literal_body class_body range_body char_body spacing_body comment_body space_body end_of_line_body end_of_file_body class_of
   primary_carried =
       Carries.choice
       (CarriesFirst.other {l = Halt.token} (plain {k = Halt.never} refl)
@@ -576,8 +583,8 @@ module _ (file : List ℕ) where
 
   -- ---- Suffix, Prefix, Sequence
 
-  suffix_carried : Carries file suffix_body Halt.token
-  unfolding figure grammar_body definition_body expression_body sequence_body prefix_body suffix_body primary_body identifier_body ident_start_body ident_cont_body literal_body class_body range_body char_body spacing_body comment_body space_body end_of_line_body end_of_file_body class_of
+  suffix_carried : Carries file escaped_suffix Halt.token
+  unfolding escaped_figure figure escaped_suffix grammar_body definition_body expression_body sequence_body prefix_body suffix_body primary_body identifier_body ident_start_body ident_cont_body literal_body class_body range_body char_body spacing_body comment_body space_body end_of_line_body end_of_file_body class_of
   suffix_carried =
       Carries.sequence (then_plain (Carries.name IsHalting.is_primary) refl (λ p h. h)
       (λ p middle trees x h ds. absurd h))
@@ -594,12 +601,12 @@ module _ (file : List ℕ) where
   sign_front : {s t u v : Extent} {p end : ℕ} {trees : Trees}
       → Old (Optional (Choice (Name (codes "AND") s) (Then (Name (codes "NOT") t) End) u) v) p (Matched end trees)
       → IsOpener (at file end) → IsOpener (at file p)
-  unfolding figure grammar_body definition_body expression_body sequence_body prefix_body suffix_body primary_body identifier_body ident_start_body ident_cont_body literal_body class_body range_body char_body spacing_body comment_body space_body end_of_line_body end_of_file_body class_of
+  unfolding escaped_figure figure escaped_suffix grammar_body definition_body expression_body sequence_body prefix_body suffix_body primary_body identifier_body ident_start_body ident_cont_body literal_body class_body range_body char_body spacing_body comment_body space_body end_of_line_body end_of_file_body class_of
   sign_front (Derives.optional_none d) h = h
   sign_front {p = p} (Derives.optional_some d) h = sign_opens (at file p) (matches_front 5 d)
 
   prefix_carried : Carries file prefix_body Halt.token
-  unfolding figure grammar_body definition_body expression_body sequence_body prefix_body suffix_body primary_body identifier_body ident_start_body ident_cont_body literal_body class_body range_body char_body spacing_body comment_body space_body end_of_line_body end_of_file_body class_of
+  unfolding escaped_figure figure escaped_suffix grammar_body definition_body expression_body sequence_body prefix_body suffix_body primary_body identifier_body ident_start_body ident_cont_body literal_body class_body range_body char_body spacing_body comment_body space_body end_of_line_body end_of_file_body class_of
   prefix_carried = Carries.sequence (plain_then refl (last_item (Carries.name IsHalting.is_suffix)) go)
     where
       go : {s t u v : Extent} (p middle : ℕ) (trees : Trees) (x : Recognition)
@@ -622,7 +629,7 @@ module _ (file : List ℕ) where
 
   slashes_carried : {s t u v : Extent} → Carries file
       (Star (Seq (Then (Name (codes "SLASH") s) (Then (Name (codes "Sequence") t) End)) u) v) Halt.words
-  unfolding figure grammar_body definition_body expression_body sequence_body prefix_body suffix_body primary_body identifier_body ident_start_body ident_cont_body literal_body class_body range_body char_body spacing_body comment_body space_body end_of_line_body end_of_file_body class_of
+  unfolding escaped_figure figure escaped_suffix grammar_body definition_body expression_body sequence_body prefix_body suffix_body primary_body identifier_body ident_start_body ident_cont_body literal_body class_body range_body char_body spacing_body comment_body space_body end_of_line_body end_of_file_body class_of
   slashes_carried =
       Carries.star {k = Halt.words}
       (Carries.sequence (plain_then {l = Halt.words} refl (last_item (Carries.name IsHalting.is_sequence))
@@ -631,7 +638,7 @@ module _ (file : List ℕ) where
       (sym (star_blocked 5 (opener_no_slash (at file middle) h) d)) h)
 
   expression_carried : Carries file expression_body Halt.words
-  unfolding figure grammar_body definition_body expression_body sequence_body prefix_body suffix_body primary_body identifier_body ident_start_body ident_cont_body literal_body class_body range_body char_body spacing_body comment_body space_body end_of_line_body end_of_file_body class_of
+  unfolding escaped_figure figure escaped_suffix grammar_body definition_body expression_body sequence_body prefix_body suffix_body primary_body identifier_body ident_start_body ident_cont_body literal_body class_body range_body char_body spacing_body comment_body space_body end_of_line_body end_of_file_body class_of
   expression_carried =
       Carries.sequence (CarriesItems.item {k = Halt.words} {l = Halt.words} (Carries.name IsHalting.is_sequence)
       (last_item slashes_carried)
@@ -646,14 +653,14 @@ module _ (file : List ℕ) where
           (subst (λ n. IsOpener (at file n)) (sym (star_blocked 5 (opener_no_slash (at file middle) h) d)) h)
 
   definition_carried : Carries file definition_body Halt.words
-  unfolding figure grammar_body definition_body expression_body sequence_body prefix_body suffix_body primary_body identifier_body ident_start_body ident_cont_body literal_body class_body range_body char_body spacing_body comment_body space_body end_of_line_body end_of_file_body class_of
+  unfolding escaped_figure figure escaped_suffix grammar_body definition_body expression_body sequence_body prefix_body suffix_body primary_body identifier_body ident_start_body ident_cont_body literal_body class_body range_body char_body spacing_body comment_body space_body end_of_line_body end_of_file_body class_of
   definition_carried =
       Carries.sequence (plain_then {l = Halt.words} refl
       (plain_then {l = Halt.words} refl (last_item (Carries.name IsHalting.is_expression))
       (λ p middle trees x d h. words_on p middle trees x h)) (λ p middle trees x d h. words_on p middle trees x h))
 
   grammar_carried : Carries file grammar_body Halt.whole
-  unfolding figure grammar_body definition_body expression_body sequence_body prefix_body suffix_body primary_body identifier_body ident_start_body ident_cont_body literal_body class_body range_body char_body spacing_body comment_body space_body end_of_line_body end_of_file_body class_of
+  unfolding escaped_figure figure escaped_suffix grammar_body definition_body expression_body sequence_body prefix_body suffix_body primary_body identifier_body ident_start_body ident_cont_body literal_body class_body range_body char_body spacing_body comment_body space_body end_of_line_body end_of_file_body class_of
   grammar_carried =
       Carries.sequence (plain_then {l = Halt.whole} refl
       (then_plain {k = Halt.words} definitions refl (λ p h. absurd h)
@@ -682,7 +689,7 @@ module _ (file : List ℕ) where
 
   body_carries : (used : List ℕ) (k : Halt) (m : Meaning) → IsHalting file used k → meant printed_figure used ≡ Some m
       → Carries file m.body k
-  unfolding figure
+  unfolding escaped_figure figure escaped_suffix
   body_carries used k m IsHalting.is_grammar found =
       same_body (codes "Grammar") m rule.grammar _ grammar_body refl found grammar_carried
   body_carries used k m IsHalting.is_definition found =
@@ -694,7 +701,7 @@ module _ (file : List ℕ) where
   body_carries used k m IsHalting.is_prefix found =
       same_body (codes "Prefix") m rule.prefix _ prefix_body refl found prefix_carried
   body_carries used k m IsHalting.is_suffix found =
-      same_body (codes "Suffix") m rule.suffix _ suffix_body refl found suffix_carried
+      same_body (codes "Suffix") m rule.suffix _ escaped_suffix refl found suffix_carried
   body_carries used k m IsHalting.is_primary found =
       same_body (codes "Primary") m rule.primary _ primary_body refl found primary_carried
   body_carries used k m IsHalting.is_literal found =
@@ -706,16 +713,20 @@ module _ (file : List ℕ) where
 
   -- ---- files
 
-  pub printed-kept : (end : ℕ) (trees : Trees) → MatchesPrinted file (codes "Grammar") 0 end trees
-      → Matches file (codes "Grammar") 0 end trees
-  printed-kept end trees m =
+  printed-escaped : (end : ℕ) (trees : Trees) → MatchesPrinted file (codes "Grammar") 0 end trees
+      → MatchesEscaped file (codes "Grammar") 0 end trees
+  printed-escaped end trees m =
       let whole : Old (Name (codes "Grammar") (between 0 0)) 0 (Matched end trees) =
       subst (Old (Name (codes "Grammar") (between 0 0)) 0) m.2
       (derived printed_figure file m.1.0 (Name (codes "Grammar") (between 0 0)) 0 0 m.0 m.1.1) in
       elim (carried file body_carries whole (Carries.name IsHalting.is_grammar)) [
-        | inl d ↦ matches d
+        | inl d ↦ let known = recorded d 0 in (known.found, (known.depth, known.is), known.result_is)
         | inr h ↦ absurd h
       ]
 
+  pub printed-kept : (end : ℕ) (trees : Trees) → MatchesPrinted file (codes "Grammar") 0 end trees
+      → Matches file (codes "Grammar") 0 end (numbered_now trees)
+  printed-kept end trees m = escaped-kept file end trees (printed-escaped end trees m)
+
   pub printed-reading : (rules : List Rule) → IsPrintedReading file rules → IsReading file rules
-  printed-reading rules r = (r.0, r.1, printed-kept r.0 r.1 r.2, r.3)
+  printed-reading rules r = escaped-reading file rules (r.0, r.1, printed-escaped r.0 r.1 r.2, r.3)

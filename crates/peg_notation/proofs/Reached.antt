@@ -1,6 +1,6 @@
 -- What a reading of tokens reaches: where its spans lie, which tokens are left, and how many parentheses are open on the
 -- way.
-use Rattle.std.proofs.Common.{◌≡◌, ℕ, suc, ◌+◌, ◌<◌, ◌≤◌, Bool, true, false, List, [], ◌∷◌, length, drop}
+use Rattle.std.proofs.Common.{◌≡◌, ℕ, suc, ◌+◌, ◌-◌, ◌<◌, ◌≤◌, Bool, true, false, not, ◌&&◌, List, [], ◌∷◌, ◌++◌, length, drop}
 use Rattle.std.proofs.Common.{Option, None, Some, option_map, Result, Ok, Err, if◌then◌else◌, refl, sym, ap, ◌∙◌, subst, arith}
 use Rattle.std.proofs.lemmas.List.{drop-drop}
 use Rattle.peg_bytes.specs.Extent.{Extent, between}
@@ -9,11 +9,11 @@ use Rattle.peg_ford.specs.Form.{Form, Forms, forms}
 use Rattle.peg_lexer.specs.Lexical.{text_of}
 use Rattle.peg_lexer.specs.Pieces.{Piece}
 use Rattle.peg_figure.specs.Ranges.{class_of}
-use Rattle.peg_notation.specs.Reader.{Halt, Unexpected, TooDeep, FormRead, Reading, place_of, starts_with_arrow, and_read, one_token, pieces_of, close_of, closed, parenthesized, named, primary_of, primary, suffix_sign, with_suffix, then_suffix, suffix, with_prefix, prefix_sign, prefix_of, prefix}
+use Rattle.peg_notation.specs.Reader.{Halt, Unexpected, TooDeep, BadCountAt, FormRead, Reading, place_of, starts_with_arrow, and_read, one_token, pieces_of, bounds_of, is_count, is_bad_count, close_of, closed, parenthesized, named, primary_of, primary, suffix_sign, with_suffix, then_suffix, suffix, with_prefix, prefix_sign, prefix_of, prefix}
 use Rattle.peg_notation.specs.ReaderCode.{AreTexts}
 use Rattle.peg_notation.specs.Reads.{one_if_open, one_if_close}
 use Rattle.peg_notation.specs.Spans.{LiesIn, FormLiesIn}
-use Rattle.peg_figure.specs.Spelled.{part, bytes_in, ranges_in}
+use Rattle.peg_figure.specs.Spelled.{part, bytes_in, ranges_in, bounds_in_range, counted}
 use Rattle.peg_lexer.specs.Tokens.{Lexeme}
 use Rattle.peg_lexer.specs.declared.token.TokenKind.{TokenKind}
 use Rattle.peg_lexer.specs.declared.token.TokenKind.TheVariants as kind
@@ -52,33 +52,48 @@ token-lies file from lexeme more texts =
 
 -- ---- open parentheses
 
--- From tokens with so many parentheses open to the tokens left, with so many open, and never more than the most.
-pub data Runs (most : ℕ) : ℕ → List Lexeme → ℕ → List Lexeme → Type 0 where
-  stays : {a : ℕ} {lexemes : List Lexeme} → Runs most a lexemes a lexemes
-  opened : {a b : ℕ} {lexeme : Lexeme} {more rest : List Lexeme} → lexeme.kind ≡ kind.Open → a < most
-      → Runs most (suc a) more b rest → Runs most a (lexeme ∷ more) b rest
-  shut : {a b : ℕ} {lexeme : Lexeme} {more rest : List Lexeme} → lexeme.kind ≡ kind.Close → Runs most a more b rest
-      → Runs most (suc a) (lexeme ∷ more) b rest
-  other : {a b : ℕ} {lexeme : Lexeme} {more rest : List Lexeme} → one_if_open lexeme.kind ≡ 0
-      → one_if_close lexeme.kind ≡ 0 → Runs most a more b rest → Runs most a (lexeme ∷ more) b rest
+-- a token that is no parenthesis, and no count out of range
+pub record IsPlain (file : List ℕ) (lexeme : Lexeme) : Type 0 where
+  pub no_open : one_if_open lexeme.kind ≡ 0
+  pub no_close : one_if_close lexeme.kind ≡ 0
+  pub fine : is_bad_count file lexeme ≡ false
 
-pub runs-then : {most a b c : ℕ} {lexemes mid rest : List Lexeme} → Runs most a lexemes b mid → Runs most b mid c rest
-    → Runs most a lexemes c rest
+pub plain-kind : (file : List ℕ) (lexeme : Lexeme) (k : TokenKind) → lexeme.kind ≡ k → one_if_open k ≡ 0 → one_if_close k ≡ 0
+    → is_count k ≡ false → IsPlain file lexeme
+plain-kind file lexeme k is no_open no_close no_count = record {
+  no_open = ap one_if_open is ∙ no_open;
+  no_close = ap one_if_close is ∙ no_close;
+  fine = ap (λ (t : Bool). t && not (bounds_in_range (bounds_of file lexeme))) (ap is_count is ∙ no_count);
+}
+
+-- From tokens with so many parentheses open to the tokens left, with so many open, and never more than the most; no count
+-- is out of range.
+pub data Runs (file : List ℕ) (most : ℕ) : ℕ → List Lexeme → ℕ → List Lexeme → Type 0 where
+  stays : {a : ℕ} {lexemes : List Lexeme} → Runs file most a lexemes a lexemes
+  opened : {a b : ℕ} {lexeme : Lexeme} {more rest : List Lexeme} → lexeme.kind ≡ kind.Open → a < most
+      → Runs file most (suc a) more b rest → Runs file most a (lexeme ∷ more) b rest
+  shut : {a b : ℕ} {lexeme : Lexeme} {more rest : List Lexeme} → lexeme.kind ≡ kind.Close → Runs file most a more b rest
+      → Runs file most (suc a) (lexeme ∷ more) b rest
+  other : {a b : ℕ} {lexeme : Lexeme} {more rest : List Lexeme} → IsPlain file lexeme → Runs file most a more b rest
+      → Runs file most a (lexeme ∷ more) b rest
+
+pub runs-then : {file : List ℕ} {most a b c : ℕ} {lexemes mid rest : List Lexeme} → Runs file most a lexemes b mid → Runs file most b mid c rest
+    → Runs file most a lexemes c rest
 runs-then Runs.stays next = next
 runs-then (Runs.opened is less more) next = Runs.opened is less (runs-then more next)
 runs-then (Runs.shut is more) next = Runs.shut is (runs-then more next)
-runs-then (Runs.other is too more) next = Runs.other is too (runs-then more next)
+runs-then (Runs.other plain more) next = Runs.other plain (runs-then more next)
 
 -- the parenthesis that opens at a place is one too many
-pub record IsDeepAt (most a : ℕ) (lexemes : List Lexeme) (at : ℕ) : Type 0 where
+pub record IsDeepAt (file : List ℕ) (most a : ℕ) (lexemes : List Lexeme) (at : ℕ) : Type 0 where
   pub opening : Lexeme
   pub more : List Lexeme
   pub opens : opening.kind ≡ kind.Open
   pub place : at ≡ opening.text.start
-  pub runs : Runs most a lexemes most (opening ∷ more)
+  pub runs : Runs file most a lexemes most (opening ∷ more)
 
-pub deep-behind : {most a b : ℕ} {lexemes rest : List Lexeme} {at : ℕ} → Runs most a lexemes b rest → IsDeepAt most b rest at
-    → IsDeepAt most a lexemes at
+pub deep-behind : {file : List ℕ} {most a b : ℕ} {lexemes rest : List Lexeme} {at : ℕ} → Runs file most a lexemes b rest → IsDeepAt file most b rest at
+    → IsDeepAt file most a lexemes at
 deep-behind runs deep = record {
   opening = deep.opening;
   more = deep.more;
@@ -86,6 +101,35 @@ deep-behind runs deep = record {
   place = deep.place;
   runs = runs-then runs deep.runs;
 }
+
+-- ---- counts out of range
+
+-- the count at a place is out of range
+pub record IsBadAt (file : List ℕ) (lexemes : List Lexeme) (at : ℕ) : Type 0 where
+  pub before : List Lexeme
+  pub count : Lexeme
+  pub more : List Lexeme
+  pub same : lexemes ≡ before ++ count ∷ more
+  pub bad : is_bad_count file count ≡ true
+  pub place : at ≡ count.text.start
+
+pub bad-later : {file : List ℕ} {lexeme : Lexeme} {more : List Lexeme} {at : ℕ} → IsBadAt file more at
+    → IsBadAt file (lexeme ∷ more) at
+bad-later {lexeme = lexeme} bad = record {
+  before = lexeme ∷ bad.before;
+  count = bad.count;
+  more = bad.more;
+  same = ap (λ l. lexeme ∷ l) bad.same;
+  bad = bad.bad;
+  place = bad.place;
+}
+
+pub bad-behind : {file : List ℕ} {most a b : ℕ} {lexemes rest : List Lexeme} {at : ℕ} → Runs file most a lexemes b rest
+    → IsBadAt file rest at → IsBadAt file lexemes at
+bad-behind Runs.stays bad = bad
+bad-behind (Runs.opened is less more) bad = bad-later (bad-behind more bad)
+bad-behind (Runs.shut is more) bad = bad-later (bad-behind more bad)
+bad-behind (Runs.other plain more) bad = bad-later (bad-behind more bad)
 
 -- ---- what is reached
 
@@ -95,7 +139,8 @@ pub record Taken (file : List ℕ) (most a : ℕ) (lexemes : List Lexeme) (p : F
   pub some : 0 < p.taken
   pub order : place_of (length file) lexemes ≤ p.last
   pub behind : AreTexts file p.last (drop p.taken lexemes)
-  pub runs : Runs most a lexemes a (drop p.taken lexemes)
+  pub runs : Runs file most a lexemes a (drop p.taken lexemes)
+  pub shallow : p.depth ≤ most - a
 
 -- by an expression behind a token whose text ends at a place
 pub record Reached (file : List ℕ) (most a before : ℕ) (lexemes : List Lexeme) (p : FormRead) : Type 0 where
@@ -103,17 +148,20 @@ pub record Reached (file : List ℕ) (most a before : ℕ) (lexemes : List Lexem
   pub after : before ≤ p.last
   pub order : 0 < p.taken → place_of (length file) lexemes ≤ p.last
   pub behind : AreTexts file p.last (drop p.taken lexemes)
-  pub runs : Runs most a lexemes a (drop p.taken lexemes)
+  pub runs : Runs file most a lexemes a (drop p.taken lexemes)
+  pub shallow : p.depth ≤ most - a
 
 abbrev pub Takes : (file : List ℕ) (most a : ℕ) (lexemes : List Lexeme) → Result FormRead Halt → Type 0
 Takes file most a lexemes (Ok p) = Taken file most a lexemes p
 Takes file most a lexemes (Err (Unexpected at)) = Unit {0}
-Takes file most a lexemes (Err (TooDeep at)) = IsDeepAt most a lexemes at
+Takes file most a lexemes (Err (TooDeep at)) = IsDeepAt file most a lexemes at
+Takes file most a lexemes (Err (BadCountAt at)) = IsBadAt file lexemes at
 
 abbrev pub Reaches : (file : List ℕ) (most a before : ℕ) (lexemes : List Lexeme) → Result FormRead Halt → Type 0
 Reaches file most a before lexemes (Ok p) = Reached file most a before lexemes p
 Reaches file most a before lexemes (Err (Unexpected at)) = Unit {0}
-Reaches file most a before lexemes (Err (TooDeep at)) = IsDeepAt most a lexemes at
+Reaches file most a before lexemes (Err (TooDeep at)) = IsDeepAt file most a lexemes at
+Reaches file most a before lexemes (Err (BadCountAt at)) = IsBadAt file lexemes at
 
 -- a way to read inside parentheses, where so many are open: none may be opened, or one more
 abbrev pub InnerReaches : (file : List ℕ) (most a : ℕ) → Option Reading → Type 0
@@ -125,14 +173,15 @@ InnerReaches file most a (Some read) =
 -- ---- Primary
 
 one_token-takes : (file : List ℕ) (most a from : ℕ) (lexeme : Lexeme) (rest : List Lexeme) (f : Form)
-    → AreTexts file from (lexeme ∷ rest) → FormLiesIn (length file) f → one_if_open lexeme.kind ≡ 0
-    → one_if_close lexeme.kind ≡ 0 → Takes file most a (lexeme ∷ rest) (one_token f lexeme)
-one_token-takes file most a from lexeme rest f texts lies opens closes = record {
+    → AreTexts file from (lexeme ∷ rest) → FormLiesIn (length file) f → IsPlain file lexeme
+    → Takes file most a (lexeme ∷ rest) (one_token f lexeme)
+one_token-takes file most a from lexeme rest f texts lies plain = record {
   form = lies;
   some = omega arith;
   order = token-order file from lexeme rest texts;
   behind = texts.2;
-  runs = Runs.other opens closes Runs.stays;
+  runs = Runs.other plain Runs.stays;
+  shallow = omega arith;
 }
 
 -- a parenthesis that closes, behind what stood inside
@@ -145,13 +194,14 @@ shut-takes file most a from opening rest inside lexeme more texts opens less e l
     let count : inside.taken + 2 ≡ suc (inside.taken + 1) = omega arith in
     let gone : more ≡ drop (inside.taken + 2) (opening ∷ rest) =
     ap (drop 1) (sym left) ∙ (drop-drop 1 inside.taken rest ∙ ap (λ n. drop n (opening ∷ rest)) (sym count)) in
-    let over : Runs most (suc a) rest (suc a) (lexeme ∷ more) = subst (Runs most (suc a) rest (suc a)) left e.runs in
+    let over : Runs file most (suc a) rest (suc a) (lexeme ∷ more) = subst (Runs file most (suc a) rest (suc a)) left e.runs in
     record {
       form = e.form;
       some = omega arith;
       order = omega (arith, token-order file from opening rest texts, e.after, behind.0, token-order file inside.last lexeme more behind);
       behind = subst (AreTexts file lexeme.text.end) gone behind.2;
-      runs = Runs.opened opens less (runs-then over (subst (Runs most (suc a) (lexeme ∷ more) a) gone (Runs.shut closes Runs.stays)));
+      runs = Runs.opened opens less (runs-then over (subst (Runs file most (suc a) (lexeme ∷ more) a) gone (Runs.shut closes Runs.stays)));
+      shallow = omega (arith, less, e.shallow);
     }
 
 close_of-takes : (file : List ℕ) (most a from : ℕ) (opening : Lexeme) (rest : List Lexeme) (inside : FormRead) (lexeme : Lexeme)
@@ -170,6 +220,7 @@ close_of-takes file most a from opening rest inside lexeme more texts opens less
 close_of-takes file most a from opening rest inside lexeme more texts opens less e left kind.Question is = tt
 close_of-takes file most a from opening rest inside lexeme more texts opens less e left kind.Star is = tt
 close_of-takes file most a from opening rest inside lexeme more texts opens less e left kind.Plus is = tt
+close_of-takes file most a from opening rest inside lexeme more texts opens less e left kind.Count is = tt
 close_of-takes file most a from opening rest inside lexeme more texts opens less e left kind.Open is = tt
 close_of-takes file most a from opening rest inside lexeme more texts opens less e left kind.Dot is = tt
 
@@ -189,7 +240,7 @@ parenthesized-takes file most a from None is opening rest texts opens = record {
   more = rest;
   opens = opens;
   place = refl;
-  runs = subst (λ b. Runs most b (opening ∷ rest) most (opening ∷ rest)) (sym is) Runs.stays;
+  runs = subst (λ b. Runs file most b (opening ∷ rest) most (opening ∷ rest)) (sym is) Runs.stays;
 }
 parenthesized-takes file most a from (Some read) is opening rest texts opens =
     by (read opening.text.end rest) (is.1 opening.text.end rest texts.2)
@@ -199,6 +250,7 @@ parenthesized-takes file most a from (Some read) is opening rest texts opens =
     by (Ok inside) e = closed-takes file most a from opening rest inside texts opens is.0 e (drop inside.taken rest) refl
     by (Err (Unexpected at)) e = tt
     by (Err (TooDeep at)) e = deep-behind (Runs.opened opens is.0 Runs.stays) e
+    by (Err (BadCountAt at)) e = bad-later e
 
 named-takes : (file : List ℕ) (most a from : ℕ) (lexeme : Lexeme) (rest : List Lexeme) → AreTexts file from (lexeme ∷ rest)
     → lexeme.kind ≡ kind.Ident → Takes file most a (lexeme ∷ rest) (named file lexeme rest)
@@ -209,7 +261,7 @@ named-takes file most a from lexeme rest texts is = by (starts_with_arrow rest)
     by true = tt
     by false =
         one_token-takes file most a from lexeme rest (form.Name (part file lexeme.text.start lexeme.text.end) lexeme.text) texts
-        (token-lies file from lexeme rest texts) (ap one_if_open is) (ap one_if_close is)
+        (token-lies file from lexeme rest texts) (plain-kind file lexeme kind.Ident is refl refl refl)
 
 primary_of-takes : (file : List ℕ) (most a from : ℕ) (inner : Option Reading) → InnerReaches file most a inner
     → (lexeme : Lexeme) (rest : List Lexeme) → AreTexts file from (lexeme ∷ rest) → (k : TokenKind) → lexeme.kind ≡ k
@@ -217,13 +269,13 @@ primary_of-takes : (file : List ℕ) (most a from : ℕ) (inner : Option Reading
 primary_of-takes file most a from inner e lexeme rest texts kind.Ident is = named-takes file most a from lexeme rest texts is
 primary_of-takes file most a from inner e lexeme rest texts kind.Literal is =
     one_token-takes file most a from lexeme rest (form.Literal (bytes_in (pieces_of file lexeme)) lexeme.text) texts
-    (token-lies file from lexeme rest texts) (ap one_if_open is) (ap one_if_close is)
+    (token-lies file from lexeme rest texts) (plain-kind file lexeme kind.Literal is refl refl refl)
 primary_of-takes file most a from inner e lexeme rest texts kind.Class is =
     one_token-takes file most a from lexeme rest (form.Class (class_of (ranges_in (pieces_of file lexeme))) lexeme.text) texts
-    (token-lies file from lexeme rest texts) (ap one_if_open is) (ap one_if_close is)
+    (token-lies file from lexeme rest texts) (plain-kind file lexeme kind.Class is refl refl refl)
 primary_of-takes file most a from inner e lexeme rest texts kind.Dot is =
     one_token-takes file most a from lexeme rest (form.Any lexeme.text) texts
-    (token-lies file from lexeme rest texts) (ap one_if_open is) (ap one_if_close is)
+    (token-lies file from lexeme rest texts) (plain-kind file lexeme kind.Dot is refl refl refl)
 primary_of-takes file most a from inner e lexeme rest texts kind.Open is = parenthesized-takes file most a from inner e lexeme rest texts is
 primary_of-takes file most a from inner e lexeme rest texts kind.Arrow is = tt
 primary_of-takes file most a from inner e lexeme rest texts kind.Slash is = tt
@@ -232,6 +284,7 @@ primary_of-takes file most a from inner e lexeme rest texts kind.Not is = tt
 primary_of-takes file most a from inner e lexeme rest texts kind.Question is = tt
 primary_of-takes file most a from inner e lexeme rest texts kind.Star is = tt
 primary_of-takes file most a from inner e lexeme rest texts kind.Plus is = tt
+primary_of-takes file most a from inner e lexeme rest texts kind.Count is = tt
 primary_of-takes file most a from inner e lexeme rest texts kind.Close is = tt
 
 pub primary-takes : (file : List ℕ) (most a from : ℕ) (inner : Option Reading) → InnerReaches file most a inner
@@ -245,50 +298,68 @@ primary-takes file most a from inner e (lexeme ∷ rest) texts =
 
 -- a sign behind an expression
 signed-takes : (file : List ℕ) (most a : ℕ) (lexemes : List Lexeme) (p : FormRead) → Taken file most a lexemes p
-    → (lexeme : Lexeme) (more : List Lexeme) → drop p.taken lexemes ≡ lexeme ∷ more → one_if_open lexeme.kind ≡ 0
-    → one_if_close lexeme.kind ≡ 0 → (sign : Form → Extent → Form)
+    → (lexeme : Lexeme) (more : List Lexeme) → drop p.taken lexemes ≡ lexeme ∷ more → IsPlain file lexeme
+    → (sign : Form → Extent → Form)
     → ((f : Form) (span : Extent) → FormLiesIn (length file) f → LiesIn (length file) span → FormLiesIn (length file) (sign f span))
     → Taken file most a lexemes (with_suffix (place_of (length file) lexemes) p lexeme (Some sign))
-signed-takes file most a lexemes p e lexeme more left opens closes sign lies =
+signed-takes file most a lexemes p e lexeme more left plain sign lies =
     let texts : AreTexts file p.last (lexeme ∷ more) = subst (AreTexts file p.last) left e.behind in
     let gone : more ≡ drop (p.taken + 1) lexemes = ap (drop 1) (sym left) ∙ drop-drop 1 p.taken lexemes in
     let order : place_of (length file) lexemes ≤ lexeme.text.end =
     omega (arith, e.order, texts.0, token-order file p.last lexeme more texts) in
-    let over : Runs most a lexemes a (lexeme ∷ more) = subst (Runs most a lexemes a) left e.runs in
+    let over : Runs file most a lexemes a (lexeme ∷ more) = subst (Runs file most a lexemes a) left e.runs in
     record {
       form = lies p.form (between (place_of (length file) lexemes) lexeme.text.end) e.form
           (order, texts-within file lexeme.text.end more texts.2);
       some = omega arith;
       order = order;
       behind = subst (AreTexts file lexeme.text.end) gone texts.2;
-      runs = runs-then over (subst (Runs most a (lexeme ∷ more) a) gone (Runs.other opens closes Runs.stays));
+      runs = runs-then over (subst (Runs file most a (lexeme ∷ more) a) gone (Runs.other plain Runs.stays));
+      shallow = e.shallow;
     }
 
+-- a count that is in range is plain, and so is what is no count and no parenthesis
 sign_of-takes : (file : List ℕ) (most a : ℕ) (lexemes : List Lexeme) (p : FormRead) → Taken file most a lexemes p
-    → (lexeme : Lexeme) (more : List Lexeme) → drop p.taken lexemes ≡ lexeme ∷ more → (k : TokenKind) → lexeme.kind ≡ k
-    → Taken file most a lexemes (with_suffix (place_of (length file) lexemes) p lexeme (suffix_sign k))
-sign_of-takes file most a lexemes p e lexeme more left kind.Question is =
-    signed-takes file most a lexemes p e lexeme more left (ap one_if_open is) (ap one_if_close is) form.Optional (λ f span l s. (s, l))
-sign_of-takes file most a lexemes p e lexeme more left kind.Star is =
-    signed-takes file most a lexemes p e lexeme more left (ap one_if_open is) (ap one_if_close is) form.Star (λ f span l s. (s, l))
-sign_of-takes file most a lexemes p e lexeme more left kind.Plus is =
-    signed-takes file most a lexemes p e lexeme more left (ap one_if_open is) (ap one_if_close is) form.Plus (λ f span l s. (s, l))
-sign_of-takes file most a lexemes p e lexeme more left kind.Ident is = e
-sign_of-takes file most a lexemes p e lexeme more left kind.Literal is = e
-sign_of-takes file most a lexemes p e lexeme more left kind.Class is = e
-sign_of-takes file most a lexemes p e lexeme more left kind.Arrow is = e
-sign_of-takes file most a lexemes p e lexeme more left kind.Slash is = e
-sign_of-takes file most a lexemes p e lexeme more left kind.And is = e
-sign_of-takes file most a lexemes p e lexeme more left kind.Not is = e
-sign_of-takes file most a lexemes p e lexeme more left kind.Open is = e
-sign_of-takes file most a lexemes p e lexeme more left kind.Close is = e
-sign_of-takes file most a lexemes p e lexeme more left kind.Dot is = e
+    → (lexeme : Lexeme) (more : List Lexeme) → drop p.taken lexemes ≡ lexeme ∷ more → is_bad_count file lexeme ≡ false
+    → (k : TokenKind) → lexeme.kind ≡ k
+    → Taken file most a lexemes (with_suffix (place_of (length file) lexemes) p lexeme (suffix_sign file lexeme k))
+sign_of-takes file most a lexemes p e lexeme more left fine kind.Question is =
+    signed-takes file most a lexemes p e lexeme more left (plain-kind file lexeme kind.Question is refl refl refl) form.Optional
+    (λ f span l s. (s, l))
+sign_of-takes file most a lexemes p e lexeme more left fine kind.Star is =
+    signed-takes file most a lexemes p e lexeme more left (plain-kind file lexeme kind.Star is refl refl refl) form.Star
+    (λ f span l s. (s, l))
+sign_of-takes file most a lexemes p e lexeme more left fine kind.Plus is =
+    signed-takes file most a lexemes p e lexeme more left (plain-kind file lexeme kind.Plus is refl refl refl) form.Plus
+    (λ f span l s. (s, l))
+sign_of-takes file most a lexemes p e lexeme more left fine kind.Count is =
+    signed-takes file most a lexemes p e lexeme more left
+    (record { no_open = ap one_if_open is; no_close = ap one_if_close is; fine = fine }) (counted (bounds_of file lexeme))
+    (λ f span l s. (s, l))
+sign_of-takes file most a lexemes p e lexeme more left fine kind.Ident is = e
+sign_of-takes file most a lexemes p e lexeme more left fine kind.Literal is = e
+sign_of-takes file most a lexemes p e lexeme more left fine kind.Class is = e
+sign_of-takes file most a lexemes p e lexeme more left fine kind.Arrow is = e
+sign_of-takes file most a lexemes p e lexeme more left fine kind.Slash is = e
+sign_of-takes file most a lexemes p e lexeme more left fine kind.And is = e
+sign_of-takes file most a lexemes p e lexeme more left fine kind.Not is = e
+sign_of-takes file most a lexemes p e lexeme more left fine kind.Open is = e
+sign_of-takes file most a lexemes p e lexeme more left fine kind.Close is = e
+sign_of-takes file most a lexemes p e lexeme more left fine kind.Dot is = e
 
 then_suffix-takes : (file : List ℕ) (most a : ℕ) (lexemes : List Lexeme) (p : FormRead) → Taken file most a lexemes p
     → (left : List Lexeme) → drop p.taken lexemes ≡ left
-    → Taken file most a lexemes (then_suffix (place_of (length file) lexemes) p left)
+    → Takes file most a lexemes (then_suffix file (place_of (length file) lexemes) p left)
 then_suffix-takes file most a lexemes p e [] left = e
-then_suffix-takes file most a lexemes p e (lexeme ∷ more) left = sign_of-takes file most a lexemes p e lexeme more left lexeme.kind refl
+then_suffix-takes file most a lexemes p e (lexeme ∷ more) left = by (is_bad_count file lexeme) refl
+  where
+    by : (t : Bool) → is_bad_count file lexeme ≡ t → Takes file most a lexemes
+        (if t then Err (BadCountAt lexeme.text.start) else Ok
+        (with_suffix (place_of (length file) lexemes) p lexeme (suffix_sign file lexeme lexeme.kind)))
+    by true bad =
+        bad-behind (subst (Runs file most a lexemes a) left e.runs)
+        (record { before = []; count = lexeme; more = more; same = refl; bad = bad; place = refl })
+    by false fine = sign_of-takes file most a lexemes p e lexeme more left fine lexeme.kind refl
 
 pub suffix-takes : (file : List ℕ) (most a from : ℕ) (inner : Option Reading) → InnerReaches file most a inner
     → (lexemes : List Lexeme) → AreTexts file from lexemes → Takes file most a lexemes (suffix file inner lexemes)
@@ -297,18 +368,18 @@ suffix-takes file most a from inner is lexemes texts =
     by (primary file inner lexemes) (primary-takes file most a from inner is lexemes texts)
   where
     by : (x : Result FormRead Halt) → Takes file most a lexemes x → Takes file most a lexemes
-        (and_read x (λ (p : FormRead). Ok (then_suffix (place_of (length file) lexemes) p (drop p.taken lexemes))))
+        (and_read x (λ (p : FormRead). then_suffix file (place_of (length file) lexemes) p (drop p.taken lexemes)))
     by (Ok p) e = then_suffix-takes file most a lexemes p e (drop p.taken lexemes) refl
     by (Err (Unexpected at)) e = tt
     by (Err (TooDeep at)) e = e
+    by (Err (BadCountAt at)) e = e
 
 -- a sign before an expression
 prefixed-takes : (file : List ℕ) (most a from : ℕ) (inner : Option Reading) → InnerReaches file most a inner
-    → (lexeme : Lexeme) (rest : List Lexeme) → AreTexts file from (lexeme ∷ rest) → one_if_open lexeme.kind ≡ 0
-    → one_if_close lexeme.kind ≡ 0 → (sign : Form → Extent → Form)
+    → (lexeme : Lexeme) (rest : List Lexeme) → AreTexts file from (lexeme ∷ rest) → IsPlain file lexeme → (sign : Form → Extent → Form)
     → ((f : Form) (span : Extent) → FormLiesIn (length file) f → LiesIn (length file) span → FormLiesIn (length file) (sign f span))
     → Takes file most a (lexeme ∷ rest) (prefix_of file inner lexeme rest (Some sign))
-prefixed-takes file most a from inner is lexeme rest texts opens closes sign lies =
+prefixed-takes file most a from inner is lexeme rest texts plain sign lies =
     by (suffix file inner rest) (suffix-takes file most a lexeme.text.end inner is rest texts.2)
   where
     by : (x : Result FormRead Halt) → Takes file most a rest x → Takes file most a (lexeme ∷ rest)
@@ -323,18 +394,20 @@ prefixed-takes file most a from inner is lexeme rest texts opens closes sign lie
           some = omega arith;
           order = order;
           behind = subst (AreTexts file p.last) gone e.behind;
-          runs = subst (Runs most a (lexeme ∷ rest) a) gone (Runs.other opens closes e.runs);
+          runs = subst (Runs file most a (lexeme ∷ rest) a) gone (Runs.other plain e.runs);
+          shallow = e.shallow;
         }
     by (Err (Unexpected at)) e = tt
-    by (Err (TooDeep at)) e = deep-behind (Runs.other opens closes Runs.stays) e
+    by (Err (TooDeep at)) e = deep-behind (Runs.other plain Runs.stays) e
+    by (Err (BadCountAt at)) e = bad-later e
 
 prefix_of-takes : (file : List ℕ) (most a from : ℕ) (inner : Option Reading) → InnerReaches file most a inner
     → (lexeme : Lexeme) (rest : List Lexeme) → AreTexts file from (lexeme ∷ rest) → (k : TokenKind) → lexeme.kind ≡ k
     → Takes file most a (lexeme ∷ rest) (prefix_of file inner lexeme rest (prefix_sign k))
 prefix_of-takes file most a from inner is lexeme rest texts kind.And e =
-    prefixed-takes file most a from inner is lexeme rest texts (ap one_if_open e) (ap one_if_close e) form.And (λ f span l s. (s, l))
+    prefixed-takes file most a from inner is lexeme rest texts (plain-kind file lexeme kind.And e refl refl refl) form.And (λ f span l s. (s, l))
 prefix_of-takes file most a from inner is lexeme rest texts kind.Not e =
-    prefixed-takes file most a from inner is lexeme rest texts (ap one_if_open e) (ap one_if_close e) form.Not (λ f span l s. (s, l))
+    prefixed-takes file most a from inner is lexeme rest texts (plain-kind file lexeme kind.Not e refl refl refl) form.Not (λ f span l s. (s, l))
 prefix_of-takes file most a from inner is lexeme rest texts kind.Ident e = suffix-takes file most a from inner is (lexeme ∷ rest) texts
 prefix_of-takes file most a from inner is lexeme rest texts kind.Literal e = suffix-takes file most a from inner is (lexeme ∷ rest) texts
 prefix_of-takes file most a from inner is lexeme rest texts kind.Class e = suffix-takes file most a from inner is (lexeme ∷ rest) texts
@@ -343,6 +416,7 @@ prefix_of-takes file most a from inner is lexeme rest texts kind.Slash e = suffi
 prefix_of-takes file most a from inner is lexeme rest texts kind.Question e = suffix-takes file most a from inner is (lexeme ∷ rest) texts
 prefix_of-takes file most a from inner is lexeme rest texts kind.Star e = suffix-takes file most a from inner is (lexeme ∷ rest) texts
 prefix_of-takes file most a from inner is lexeme rest texts kind.Plus e = suffix-takes file most a from inner is (lexeme ∷ rest) texts
+prefix_of-takes file most a from inner is lexeme rest texts kind.Count e = suffix-takes file most a from inner is (lexeme ∷ rest) texts
 prefix_of-takes file most a from inner is lexeme rest texts kind.Open e = suffix-takes file most a from inner is (lexeme ∷ rest) texts
 prefix_of-takes file most a from inner is lexeme rest texts kind.Close e = suffix-takes file most a from inner is (lexeme ∷ rest) texts
 prefix_of-takes file most a from inner is lexeme rest texts kind.Dot e = suffix-takes file most a from inner is (lexeme ∷ rest) texts

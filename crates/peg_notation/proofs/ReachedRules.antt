@@ -1,20 +1,19 @@
 -- What a reading of sequences, expressions, rules and whole files reaches.
-use Rattle.std.proofs.Common.{◌≡◌, ℕ, zero, suc, ◌+◌, ◌-◌, ◌<◌, ◌≤◌, Bool, true, false, List, [], ◌∷◌, length, drop, length-drop, All}
+use Rattle.std.proofs.Common.{◌≡◌, ℕ, zero, suc, ◌+◌, ◌-◌, ◌<◌, ◌≤◌, Bool, true, false, not, ◌&&◌, List, [], ◌∷◌, ◌++◌, length, drop, length-drop, All}
 use Rattle.std.proofs.Common.{Option, None, Some, Result, Ok, Err, if◌then◌else◌, refl, sym, ap, ◌∙◌, subst, arith}
 use Rattle.std.proofs.lemmas.List.{drop-drop}
 use Rattle.std.proofs.lemmas.List.Elements.{All-cons}
 use Rattle.peg_bytes.specs.Extent.{between}
 use Rattle.peg_ford.specs.Form.{Form, forms}
-use Rattle.peg_notation.specs.Reader.{Halt, Unexpected, TooDeep, FormRead, FormsRead, Reading, place_of, is_arrow, starts_with_arrow, begins_prefix, and_read, no_more, and_form, prefix, many_behind, many, whole_sequence, sequence, starts_with_slash, is_slash, behind, alternative, whole_choice, expression, expression_in, RuleRead, RulesRead, and_rules, rule_of, definition_behind, definition_of, definition, definitions_behind, grammar}
+use Rattle.peg_notation.specs.Reader.{Halt, Unexpected, TooDeep, BadCountAt, FormRead, FormsRead, Reading, place_of, bounds_of, is_count, is_bad_count, is_arrow, starts_with_arrow, begins_prefix, and_read, no_more, and_form, prefix, many_behind, many, whole_sequence, sequence, starts_with_slash, is_slash, behind, alternative, whole_choice, expression, expression_in, RuleRead, RulesRead, and_rules, rule_of, definition_behind, definition_of, definition, definitions_behind, grammar}
 use Rattle.peg_notation.specs.ReaderCode.{AreTexts}
-use Rattle.peg_notation.specs.Reads.{one_if_open, one_if_close}
 use Rattle.peg_notation.specs.Spans.{FormLiesIn, FormsLieIn, RuleLiesIn}
-use Rattle.peg_figure.specs.Spelled.{sequence_spelled, choice_spelled}
+use Rattle.peg_figure.specs.Spelled.{sequence_spelled, choice_spelled, bounds_in_range}
 use Rattle.peg_lexer.specs.Tokens.{Lexeme}
 use Rattle.peg_lexer.specs.declared.token.TokenKind.{TokenKind}
 use Rattle.peg_lexer.specs.declared.token.TokenKind.TheVariants as kind
 use Rattle.peg_notation.proofs.GrammarRules.{definitions_behind-drop}
-use Rattle.peg_notation.proofs.Reached.{token-order, token-lies, texts-within, texts-from, texts-place, Runs, runs-then, IsDeepAt, deep-behind, Taken, Reached, Takes, Reaches, InnerReaches, prefix-takes}
+use Rattle.peg_notation.proofs.Reached.{token-order, token-lies, texts-within, texts-from, texts-place, Runs, runs-then, IsPlain, plain-kind, IsDeepAt, deep-behind, IsBadAt, bad-later, bad-behind, Taken, Reached, Takes, Reaches, InnerReaches, prefix-takes}
 use Rattle.peg_notation.proofs.Repeats.{many_behind-drop}
 
 -- ---- several in a row
@@ -26,12 +25,14 @@ pub record Passes (file : List ℕ) (most a before : ℕ) (lexemes : List Lexeme
   pub some : 0 < length p.forms → 0 < p.taken
   pub order : 0 < p.taken → place_of (length file) lexemes ≤ p.last
   pub behind : AreTexts file p.last (drop p.taken lexemes)
-  pub runs : Runs most a lexemes a (drop p.taken lexemes)
+  pub runs : Runs file most a lexemes a (drop p.taken lexemes)
+  pub shallow : p.depth ≤ most - a
 
 abbrev pub PassesAll : (file : List ℕ) (most a before : ℕ) (lexemes : List Lexeme) → Result FormsRead Halt → Type 0
 PassesAll file most a before lexemes (Ok p) = Passes file most a before lexemes p
 PassesAll file most a before lexemes (Err (Unexpected at)) = Unit {0}
-PassesAll file most a before lexemes (Err (TooDeep at)) = IsDeepAt most a lexemes at
+PassesAll file most a before lexemes (Err (TooDeep at)) = IsDeepAt file most a lexemes at
+PassesAll file most a before lexemes (Err (BadCountAt at)) = IsBadAt file lexemes at
 
 none-passes : (file : List ℕ) (most a before : ℕ) (lexemes : List Lexeme) → AreTexts file before lexemes
     → Passes file most a before lexemes (no_more before)
@@ -42,6 +43,7 @@ none-passes file most a before lexemes texts = record {
   order = λ h. absurd (omega arith);
   behind = texts;
   runs = Runs.stays;
+  shallow = omega arith;
 }
 
 one-passes : (file : List ℕ) (most a before : ℕ) (lexemes : List Lexeme) → AreTexts file before lexemes → (p : FormRead)
@@ -55,10 +57,12 @@ one-passes file most a before lexemes texts p e (Ok parts) m =
       some = λ h. omega (arith, e.some);
       order = λ h. omega (arith, e.order, m.after);
       behind = subst (AreTexts file parts.last) at m.behind;
-      runs = subst (Runs most a lexemes a) at (runs-then e.runs m.runs);
+      runs = subst (Runs file most a lexemes a) at (runs-then e.runs m.runs);
+      shallow = omega (arith, e.shallow, m.shallow);
     }
 one-passes file most a before lexemes texts p e (Err (Unexpected at)) m = tt
 one-passes file most a before lexemes texts p e (Err (TooDeep at)) m = deep-behind e.runs m
+one-passes file most a before lexemes texts p e (Err (BadCountAt at)) m = bad-behind e.runs m
 
 -- a way to read one, where one begins
 abbrev pub Rounds : (file : List ℕ) (most a : ℕ) (begins : List Lexeme → Bool) → Reading → Type 0
@@ -90,6 +94,7 @@ many-passes file most a begins read is (suc n) before (l ∷ rest) few texts =
         one-passes file most a before (l ∷ rest) texts p e (many_behind begins read p.last rest (p.taken - 1)) (later p e)
     step (Err (Unexpected at)) e later = tt
     step (Err (TooDeep at)) e later = e
+    step (Err (BadCountAt at)) e later = e
 
     by : (t : Bool) → begins (l ∷ rest) ≡ t → ((p : FormRead) → (e : Taken file most a (l ∷ rest) p)
         → PassesAll file most a p.last (drop p.taken (l ∷ rest)) (many_behind begins read p.last rest (p.taken - 1)))
@@ -130,40 +135,44 @@ sequence-reaches file most a inner is before lexemes texts =
       order = e.order;
       behind = e.behind;
       runs = e.runs;
+      shallow = e.shallow;
     }
     by (Err (Unexpected at)) e = tt
     by (Err (TooDeep at)) e = e
+    by (Err (BadCountAt at)) e = e
 
--- a slash is no parenthesis, and neither is an arrow
-slash-other : (k : TokenKind) → is_slash k ≡ true → (one_if_open k ≡ 0) × (one_if_close k ≡ 0)
-slash-other kind.Slash is = (refl, refl)
-slash-other kind.Open is = cc
-slash-other kind.Close is = cc
-slash-other kind.Ident is = cc
-slash-other kind.Literal is = cc
-slash-other kind.Class is = cc
-slash-other kind.Arrow is = cc
-slash-other kind.And is = cc
-slash-other kind.Not is = cc
-slash-other kind.Question is = cc
-slash-other kind.Star is = cc
-slash-other kind.Plus is = cc
-slash-other kind.Dot is = cc
+-- a slash is plain, and so is an arrow
+slash-plain : (file : List ℕ) (lexeme : Lexeme) (k : TokenKind) → lexeme.kind ≡ k → is_slash k ≡ true → IsPlain file lexeme
+slash-plain file lexeme kind.Slash is slash = plain-kind file lexeme kind.Slash is refl refl refl
+slash-plain file lexeme kind.Ident is slash = cc
+slash-plain file lexeme kind.Literal is slash = cc
+slash-plain file lexeme kind.Class is slash = cc
+slash-plain file lexeme kind.Arrow is slash = cc
+slash-plain file lexeme kind.And is slash = cc
+slash-plain file lexeme kind.Not is slash = cc
+slash-plain file lexeme kind.Question is slash = cc
+slash-plain file lexeme kind.Star is slash = cc
+slash-plain file lexeme kind.Plus is slash = cc
+slash-plain file lexeme kind.Count is slash = cc
+slash-plain file lexeme kind.Open is slash = cc
+slash-plain file lexeme kind.Close is slash = cc
+slash-plain file lexeme kind.Dot is slash = cc
 
-arrow-other : (k : TokenKind) → is_arrow k ≡ true → (one_if_open k ≡ 0) × (one_if_close k ≡ 0)
-arrow-other kind.Arrow is = (refl, refl)
-arrow-other kind.Open is = cc
-arrow-other kind.Close is = cc
-arrow-other kind.Ident is = cc
-arrow-other kind.Literal is = cc
-arrow-other kind.Class is = cc
-arrow-other kind.Slash is = cc
-arrow-other kind.And is = cc
-arrow-other kind.Not is = cc
-arrow-other kind.Question is = cc
-arrow-other kind.Star is = cc
-arrow-other kind.Plus is = cc
-arrow-other kind.Dot is = cc
+arrow-plain : (file : List ℕ) (lexeme : Lexeme) (k : TokenKind) → lexeme.kind ≡ k → is_arrow k ≡ true → IsPlain file lexeme
+arrow-plain file lexeme kind.Arrow is arrow = plain-kind file lexeme kind.Arrow is refl refl refl
+arrow-plain file lexeme kind.Ident is arrow = cc
+arrow-plain file lexeme kind.Literal is arrow = cc
+arrow-plain file lexeme kind.Class is arrow = cc
+arrow-plain file lexeme kind.Slash is arrow = cc
+arrow-plain file lexeme kind.And is arrow = cc
+arrow-plain file lexeme kind.Not is arrow = cc
+arrow-plain file lexeme kind.Question is arrow = cc
+arrow-plain file lexeme kind.Star is arrow = cc
+arrow-plain file lexeme kind.Plus is arrow = cc
+arrow-plain file lexeme kind.Count is arrow = cc
+arrow-plain file lexeme kind.Open is arrow = cc
+arrow-plain file lexeme kind.Close is arrow = cc
+arrow-plain file lexeme kind.Dot is arrow = cc
 
 pub alternative-takes : (file : List ℕ) (most a : ℕ) (inner : Option Reading) → InnerReaches file most a inner
     → (before : ℕ) (lexemes : List Lexeme) → AreTexts file before lexemes → starts_with_slash lexemes ≡ true
@@ -178,16 +187,18 @@ alternative-takes file most a inner is before (slash ∷ rest) texts begun =
     by (Ok p) e =
         let count : 1 + p.taken ≡ suc p.taken = omega arith in
         let gone : drop p.taken rest ≡ drop (1 + p.taken) (slash ∷ rest) = ap (λ n. drop n (slash ∷ rest)) (sym count) in
-        let kinds = slash-other slash.kind begun in
+        let plain = slash-plain file slash slash.kind refl begun in
         record {
           form = e.form;
           some = omega arith;
           order = omega (arith, token-order file before slash rest texts, e.after);
           behind = subst (AreTexts file p.last) gone e.behind;
-          runs = subst (Runs most a (slash ∷ rest) a) gone (Runs.other kinds.0 kinds.1 e.runs);
+          runs = subst (Runs file most a (slash ∷ rest) a) gone (Runs.other plain e.runs);
+          shallow = e.shallow;
         }
     by (Err (Unexpected at)) e = tt
-    by (Err (TooDeep at)) e = let kinds = slash-other slash.kind begun in deep-behind (Runs.other kinds.0 kinds.1 Runs.stays) e
+    by (Err (TooDeep at)) e = let plain = slash-plain file slash slash.kind refl begun in deep-behind (Runs.other plain Runs.stays) e
+    by (Err (BadCountAt at)) e = bad-later e
 
 pub alternatives-pass : (file : List ℕ) (most a : ℕ) (inner : Option Reading) → InnerReaches file most a inner
     → (before : ℕ) (lexemes : List Lexeme) → AreTexts file before lexemes
@@ -229,10 +240,12 @@ expression-reaches file most a inner is before lexemes texts =
           after = omega (arith, e.after, m.after);
           order = order;
           behind = subst (AreTexts file more.last) at m.behind;
-          runs = subst (Runs most a lexemes a) at (runs-then e.runs m.runs);
+          runs = subst (Runs file most a lexemes a) at (runs-then e.runs m.runs);
+          shallow = omega (arith, e.shallow, m.shallow);
         }
     more_reach p e (Err (Unexpected at)) m = tt
     more_reach p e (Err (TooDeep at)) m = deep-behind e.runs m
+    more_reach p e (Err (BadCountAt at)) m = bad-behind e.runs m
 
     by : (x : Result FormRead Halt) → Reaches file most a before lexemes x → Reaches file most a before lexemes
         (and_read x (λ (p : FormRead). and_read (many starts_with_slash (alternative file inner) p.last (drop p.taken lexemes))
@@ -242,6 +255,7 @@ expression-reaches file most a inner is before lexemes texts =
         (alternatives-pass file most a inner is p.last (drop p.taken lexemes) e.behind)
     by (Err (Unexpected at)) e = tt
     by (Err (TooDeep at)) e = e
+    by (Err (BadCountAt at)) e = e
 
 pub expression_in-reaches : (file : List ℕ) (most n a : ℕ) → a + n ≡ most → (before : ℕ) (lexemes : List Lexeme)
     → AreTexts file before lexemes → Reaches file most a before lexemes (expression_in file n before lexemes)
@@ -259,12 +273,14 @@ pub record RuleReached (file : List ℕ) (most : ℕ) (lexemes : List Lexeme) (r
   pub lies : RuleLiesIn (length file) r.rule
   pub some : 0 < r.taken
   pub behind : AreTexts file 0 (drop r.taken lexemes)
-  pub runs : Runs most 0 lexemes 0 (drop r.taken lexemes)
+  pub runs : Runs file most 0 lexemes 0 (drop r.taken lexemes)
+  pub shallow : r.depth ≤ most
 
 abbrev pub RuleReaches : (file : List ℕ) (most : ℕ) (lexemes : List Lexeme) → Result RuleRead Halt → Type 0
 RuleReaches file most lexemes (Ok r) = RuleReached file most lexemes r
 RuleReaches file most lexemes (Err (Unexpected at)) = Unit {0}
-RuleReaches file most lexemes (Err (TooDeep at)) = IsDeepAt most 0 lexemes at
+RuleReaches file most lexemes (Err (TooDeep at)) = IsDeepAt file most 0 lexemes at
+RuleReaches file most lexemes (Err (BadCountAt at)) = IsBadAt file lexemes at
 
 behind-reaches : (file : List ℕ) (most from : ℕ) (name : Lexeme) (rest : List Lexeme) → AreTexts file from (name ∷ rest)
     → name.kind ≡ kind.Ident → (t : Bool) → starts_with_arrow rest ≡ t
@@ -275,10 +291,10 @@ behind-reaches file most from name (arrow ∷ rest) texts is true next =
     by (expression_in file most arrow.text.end rest)
     (expression_in-reaches file most most 0 (omega arith) arrow.text.end rest texts.2.2)
   where
-    runs : Runs most 0 (name ∷ arrow ∷ rest) 0 rest
+    runs : Runs file most 0 (name ∷ arrow ∷ rest) 0 rest
     runs =
-        let kinds = arrow-other arrow.kind next in
-        Runs.other (ap one_if_open is) (ap one_if_close is) (Runs.other kinds.0 kinds.1 Runs.stays)
+        Runs.other (plain-kind file name kind.Ident is refl refl refl)
+        (Runs.other (arrow-plain file arrow arrow.kind refl next) Runs.stays)
 
     by : (x : Result FormRead Halt) → Reaches file most 0 arrow.text.end rest x → RuleReaches file most (name ∷ arrow ∷ rest)
         (and_read x (λ (body : FormRead). Ok (rule_of file name body)))
@@ -290,10 +306,12 @@ behind-reaches file most from name (arrow ∷ rest) texts is true next =
           lies = (token-lies file from name (arrow ∷ rest) texts, e.form);
           some = omega arith;
           behind = subst (AreTexts file 0) gone (texts-from file body.last 0 (drop body.taken rest) (omega arith) e.behind);
-          runs = subst (Runs most 0 (name ∷ arrow ∷ rest) 0) gone (runs-then runs e.runs);
+          runs = subst (Runs file most 0 (name ∷ arrow ∷ rest) 0) gone (runs-then runs e.runs);
+          shallow = omega (arith, e.shallow);
         }
     by (Err (Unexpected at)) e = tt
     by (Err (TooDeep at)) e = deep-behind runs e
+    by (Err (BadCountAt at)) e = bad-behind runs e
 
 definition_of-reaches : (file : List ℕ) (most from : ℕ) (lexeme : Lexeme) (rest : List Lexeme)
     → AreTexts file from (lexeme ∷ rest) → (k : TokenKind) → lexeme.kind ≡ k
@@ -309,6 +327,7 @@ definition_of-reaches file most from lexeme rest texts kind.Not is = tt
 definition_of-reaches file most from lexeme rest texts kind.Question is = tt
 definition_of-reaches file most from lexeme rest texts kind.Star is = tt
 definition_of-reaches file most from lexeme rest texts kind.Plus is = tt
+definition_of-reaches file most from lexeme rest texts kind.Count is = tt
 definition_of-reaches file most from lexeme rest texts kind.Open is = tt
 definition_of-reaches file most from lexeme rest texts kind.Close is = tt
 definition_of-reaches file most from lexeme rest texts kind.Dot is = tt
@@ -320,16 +339,46 @@ definition-reaches file most from [] texts = tt
 definition-reaches file most from (lexeme ∷ rest) texts =
     definition_of-reaches file most from lexeme rest texts lexeme.kind refl
 
+-- where the counts of some tokens start that are out of range
+abbrev pub bad_places : List ℕ → List Lexeme → List ℕ
+bad_places file [] = []
+bad_places file (lexeme ∷ more) =
+    (if is_bad_count file lexeme then lexeme.text.start ∷ [] else []) ++ bad_places file more
+
+-- no parenthesis is a count
+paren-fine : (file : List ℕ) (lexeme : Lexeme) (k : TokenKind) → lexeme.kind ≡ k → is_count k ≡ false
+    → is_bad_count file lexeme ≡ false
+paren-fine file lexeme k is no_count =
+    ap (λ (t : Bool). t && not (bounds_in_range (bounds_of file lexeme))) (ap is_count is ∙ no_count)
+
+bad_places-fine : (file : List ℕ) (lexeme : Lexeme) (more : List Lexeme) → is_bad_count file lexeme ≡ false
+    → bad_places file (lexeme ∷ more) ≡ bad_places file more
+bad_places-fine file lexeme more fine =
+    ap (λ (t : Bool). (if t then lexeme.text.start ∷ [] else []) ++ bad_places file more) fine
+
+-- tokens that are run over have no such count
+pub runs-bad_places : {file : List ℕ} {most a b : ℕ} {lexemes rest : List Lexeme} → Runs file most a lexemes b rest
+    → bad_places file lexemes ≡ bad_places file rest
+runs-bad_places Runs.stays = refl
+runs-bad_places {file} (Runs.opened {lexeme = lexeme} {more = more} is less run) =
+    bad_places-fine file lexeme more (paren-fine file lexeme kind.Open is refl) ∙ runs-bad_places run
+runs-bad_places {file} (Runs.shut {lexeme = lexeme} {more = more} is run) =
+    bad_places-fine file lexeme more (paren-fine file lexeme kind.Close is refl) ∙ runs-bad_places run
+runs-bad_places {file} (Runs.other {lexeme = lexeme} {more = more} plain run) =
+    bad_places-fine file lexeme more plain.fine ∙ runs-bad_places run
+
 -- by all rules
 abbrev pub RulesReach : (file : List ℕ) (most : ℕ) (lexemes : List Lexeme) → Result RulesRead Halt → Type 0
-RulesReach file most lexemes (Ok read) = All (RuleLiesIn (length file)) read.rules
+RulesReach file most lexemes (Ok read) =
+    All (RuleLiesIn (length file)) read.rules × (read.depth ≤ most) × (bad_places file lexemes ≡ [])
 RulesReach file most lexemes (Err (Unexpected at)) = Unit {0}
-RulesReach file most lexemes (Err (TooDeep at)) = IsDeepAt most 0 lexemes at
+RulesReach file most lexemes (Err (TooDeep at)) = IsDeepAt file most 0 lexemes at
+RulesReach file most lexemes (Err (BadCountAt at)) = IsBadAt file lexemes at
 
 definitions-reach : (file : List ℕ) (most n from : ℕ) (lexemes : List Lexeme) → length lexemes ≤ n
     → AreTexts file from lexemes → RulesReach file most lexemes (definitions_behind file most lexemes 0)
 unfolding definitions_behind
-definitions-reach file most n from [] few texts = λ k d h. absurd (omega arith)
+definitions-reach file most n from [] few texts = (λ k d h. absurd (omega arith), omega arith, refl)
 definitions-reach file most zero from (l ∷ rest) few texts = absurd (omega arith)
 definitions-reach file most (suc n) from (l ∷ rest) few texts =
     by (definition file most (l ∷ rest)) (definition-reaches file most from (l ∷ rest) texts)
@@ -344,9 +393,14 @@ definitions-reach file most (suc n) from (l ∷ rest) few texts =
     both : (r : RuleRead) → RuleReached file most (l ∷ rest) r → (x : Result RulesRead Halt)
         → RulesReach file most (drop r.taken (l ∷ rest)) x
         → RulesReach file most (l ∷ rest) (and_read x (λ (more : RulesRead). Ok (and_rules r more)))
-    both r e (Ok more) m = All-cons (RuleLiesIn (length file)) r.rule more.rules e.lies m
+    both r e (Ok more) m = (
+      All-cons (RuleLiesIn (length file)) r.rule more.rules e.lies m.0,
+      omega (arith, e.shallow, m.1),
+      runs-bad_places e.runs ∙ m.2,
+    )
     both r e (Err (Unexpected at)) m = tt
     both r e (Err (TooDeep at)) m = deep-behind e.runs m
+    both r e (Err (BadCountAt at)) m = bad-behind e.runs m
 
     by : (x : Result RuleRead Halt) → RuleReaches file most (l ∷ rest) x
         → ((r : RuleRead) → RuleReached file most (l ∷ rest) r
@@ -356,6 +410,7 @@ definitions-reach file most (suc n) from (l ∷ rest) few texts =
     by (Ok r) e later = both r e (definitions_behind file most rest (r.taken - 1)) (later r e)
     by (Err (Unexpected at)) e later = tt
     by (Err (TooDeep at)) e later = e
+    by (Err (BadCountAt at)) e later = e
 
 pub grammar-reaches : (file : List ℕ) (most from : ℕ) (lexemes : List Lexeme) → AreTexts file from lexemes
     → RulesReach file most lexemes (grammar file most lexemes)

@@ -2,13 +2,13 @@
 use Rattle.std.proofs.Common.{◌≡◌, ℕ, zero, suc, ◌-◌, ◌<◌, ◌≤◌, ◌≢◌, List, [], ◌∷◌, length, drop, take, get_or, true}
 use Rattle.std.proofs.Common.{Option, Result, Ok, Err, refl, sym, ap, ◌∙◌, subst, arith}
 use Rattle.peg_bytes.specs.Extent.{extent}
-use Rattle.peg_notation.specs.Reader.{Halt, Unexpected, TooDeep, FormRead, FormsRead, Reading, place_of, and_read, many, begins_prefix, starts_with_slash, parenthesized, closed, primary, suffix, prefix, whole_sequence, sequence, alternative, whole_choice, expression, expression_in, RuleRead, rule_of, definition_behind, definitions_behind, grammar, starts_with_arrow}
+use Rattle.peg_notation.specs.Reader.{Halt, Unexpected, TooDeep, BadCountAt, FormRead, FormsRead, Reading, place_of, and_read, many, begins_prefix, starts_with_slash, parenthesized, closed, primary, suffix, prefix, whole_sequence, sequence, alternative, whole_choice, expression, expression_in, RuleRead, rule_of, definition_behind, definitions_behind, grammar, starts_with_arrow}
 use Rattle.peg_notation.specs.ReaderCode.{lexemes, AreTexts, inner_of, ConveysHalt}
 use Rattle.peg_notation.specs.Spans.{LiesIn}
 use Rattle.peg_lexer.specs.Tokens.{Lexeme, lexeme_of}
 use Rattle.peg_lexer.specs.declared.token.Token.{Token}
 use Rattle.peg_notation.specs.declared.fault.NotationFault.{NotationFault}
-use Rattle.peg_notation.specs.declared.fault.NotationFault.TheVariants.{FileTooLong, Syntax, TooNested, Memory}
+use Rattle.peg_notation.specs.declared.fault.NotationFault.TheVariants.{FileTooLong, Syntax, TooNested, BadCount, Memory}
 use Rattle.peg_notation.proofs.ManyLoops.{SoFar, so_far-halt}
 use Rattle.peg_notation.proofs.Reached.{token-order, token-lies, texts-from, texts-place, Taken, Reached, Takes, Reaches, InnerReaches, primary-takes, suffix-takes}
 use Rattle.peg_notation.proofs.ReachedRules.{Passes, PassesAll, items-pass, alternatives-pass, sequence-reaches, both-order, expression_in-reaches}
@@ -20,6 +20,7 @@ pub fault_passes : {X Y : Type 0} (x : Result X Halt) (next : X → Result Y Hal
 fault_passes x next FileTooLong is = is
 fault_passes {X} {Y} x next (Syntax at) is = ap (λ (r : Result X Halt). and_read r next) is
 fault_passes {X} {Y} x next (TooNested at) is = ap (λ (r : Result X Halt). and_read r next) is
+fault_passes {X} {Y} x next (BadCount at) is = ap (λ (r : Result X Halt). and_read r next) is
 fault_passes x next Memory is = tt
 
 -- a fault of the part is that of the whole, where each halt of the part is one of the whole
@@ -28,6 +29,7 @@ pub fault_same : {X Y : Type 0} (x : Result X Halt) (y : Result Y Halt) (fault :
 fault_same x y FileTooLong same is = is
 fault_same x y (Syntax at) same is = same (Unexpected at) is
 fault_same x y (TooNested at) same is = same (TooDeep at) is
+fault_same x y (BadCount at) same is = same (BadCountAt at) is
 fault_same x y Memory same is = tt
 
 -- what may be read inside parentheses is an expression with one parenthesis less
@@ -68,11 +70,11 @@ pub front_texts : (file : List ℕ) (from : ℕ) (tokens : List Token) (token : 
     → AreTexts file from (lexeme_of token ∷ lexemes (take (length tokens - 1) (drop 1 tokens)))
 front_texts file from tokens token long is texts = subst (AreTexts file from) (front_token tokens token long is) texts
 
-pub front_lies : (file : List ℕ) (tokens : List Token) (token : Token) → 1 ≤ length tokens
-    → token ≡ get_or tokens 0 token → AreTexts file 0 (lexemes tokens) → LiesIn (length file) (extent token.span)
-front_lies file tokens token long is texts =
-    token-lies file 0 (lexeme_of token) (lexemes (take (length tokens - 1) (drop 1 tokens)))
-    (front_texts file 0 tokens token long is texts)
+pub front_lies : (file : List ℕ) (from : ℕ) (tokens : List Token) (token : Token) → 1 ≤ length tokens
+    → token ≡ get_or tokens 0 token → AreTexts file from (lexemes tokens) → LiesIn (length file) (extent token.span)
+front_lies file from tokens token long is texts =
+    token-lies file from (lexeme_of token) (lexemes (take (length tokens - 1) (drop 1 tokens)))
+    (front_texts file from tokens token long is texts)
 
 -- ---- order of places
 

@@ -12,7 +12,7 @@ use Rattle.peg_figure.specs.Figure.{figure}
 use Rattle.peg_figure.specs.FigureRules as rule
 use Rattle.peg_lexer.specs.Lexical.{text_of}
 use Rattle.peg_lexer.specs.Pieces.{Piece}
-use Rattle.peg_notation.specs.Reader.{Halt, Unexpected, TooDeep, FormRead, Reading, place_of}
+use Rattle.peg_notation.specs.Reader.{Halt, Unexpected, TooDeep, BadCountAt, FormRead, Reading, place_of}
 use Rattle.peg_figure.specs.Spelled.{Expression, text_end, node_spelled, spelled}
 use Rattle.peg_figure.specs.Nesting.{nesting, has_open}
 use Rattle.peg_lexer.specs.Tokens.{Lexeme}
@@ -48,11 +48,13 @@ pub record ReadsAny (file used : List ℕ) (p : ℕ) (lexemes : List Lexeme) (pa
   pub nests : nesting trees ≡ part.depth
   pub some : 0 < part.taken
 
--- what is read is matched, and where nothing is read the rule fails
+-- What is read is matched, and where a token can't stand there the rule fails. A reading that stops for a parenthesis too
+-- many says nothing.
 abbrev pub ExactAny : (file used : List ℕ) (p : ℕ) (lexemes : List Lexeme) → Result FormRead Halt → Type 0
 ExactAny file used p lexemes (Ok part) = ReadsAny file used p lexemes part
 ExactAny file used p lexemes (Err (Unexpected at)) = (span : Extent) → Derives figure file (Name used span) p Failed
-ExactAny file used p lexemes (Err (TooDeep at)) = ⊥
+ExactAny file used p lexemes (Err (TooDeep at)) = Unit {0}
+ExactAny file used p lexemes (Err (BadCountAt at)) = Unit {0}
 
 -- ---- rules that never fail
 
@@ -83,13 +85,14 @@ pub record Stops (file used : List ℕ) (p : ℕ) : Type 0 where
 abbrev pub ExactAt : (file used : List ℕ) (before p : ℕ) (lexemes : List Lexeme) → Result FormRead Halt → Type 0
 ExactAt file used before p lexemes (Ok part) = ReadsAt file used before p lexemes part
 ExactAt file used before p lexemes (Err (Unexpected at)) = Stops file used p
-ExactAt file used before p lexemes (Err (TooDeep at)) = ⊥
+ExactAt file used before p lexemes (Err (TooDeep at)) = Unit {0}
+ExactAt file used before p lexemes (Err (BadCountAt at)) = Unit {0}
 
--- a way to read inside parentheses that says what Expression says, as long as fewer tokens than these are left
-abbrev pub Good : (file : List ℕ) (most : ℕ) → Option Reading → Type 0
-Good file most None = most ≡ 0
-Good file most (Some read) =
-    (before p : ℕ) (lexemes : List Lexeme) → Stream file p lexemes → length lexemes < most
+-- a way to read inside parentheses that says what Expression says
+abbrev pub Good : (file : List ℕ) → Option Reading → Type 0
+Good file None = Unit {0}
+Good file (Some read) =
+    (before p : ℕ) (lexemes : List Lexeme) → Stream file p lexemes
     → ExactAt file (codes "Expression") before p lexemes (read before lexemes)
 
 -- ---- nodes

@@ -8,7 +8,7 @@ use Rattle.peg_ford.specs.Form.{Form, Star}
 use Rattle.peg_ford.specs.Record.{Failed, Matched}
 use Rattle.peg_ford.proofs.Derivations.{Derives}
 use Rattle.peg_figure.specs.Figure.{figure}
-use Rattle.peg_notation.specs.Reader.{Halt, Unexpected, TooDeep, FormRead, FormsRead, Reading, and_read, no_more, and_form, many_behind, many}
+use Rattle.peg_notation.specs.Reader.{Halt, Unexpected, TooDeep, BadCountAt, FormRead, FormsRead, Reading, and_read, no_more, and_form, many_behind, many}
 use Rattle.peg_figure.specs.Spelled.{Spelling, Expression, text_end, spelled}
 use Rattle.peg_figure.specs.Nesting.{nesting}
 use Rattle.peg_lexer.specs.Tokens.{Lexeme}
@@ -47,15 +47,16 @@ abbrev pub ExactRound : (file : List ℕ) (element : Form) (span : Extent) (p : 
     → Result FormRead Halt → Type 0
 ExactRound file element span p lexemes (Ok part) = ReadsRound file element p lexemes part
 ExactRound file element span p lexemes (Err (Unexpected at)) = StarStops file element span p
-ExactRound file element span p lexemes (Err (TooDeep at)) = ⊥
+ExactRound file element span p lexemes (Err (TooDeep at)) = Unit {0}
+ExactRound file element span p lexemes (Err (BadCountAt at)) = Unit {0}
 
 -- where one begins, it is what is read; elsewhere it fails
-pub record Rounds (file : List ℕ) (element : Form) (span : Extent) (begins : List Lexeme → Bool) (read : Reading)
-    (most : ℕ) : Type 0 where
-  pub none : (p : ℕ) (lexemes : List Lexeme) → Stream file p lexemes → length lexemes ≤ most → begins lexemes ≡ false
+pub record Rounds (file : List ℕ) (element : Form) (span : Extent) (begins : List Lexeme → Bool)
+    (read : Reading) : Type 0 where
+  pub none : (p : ℕ) (lexemes : List Lexeme) → Stream file p lexemes → begins lexemes ≡ false
       → Derives figure file element p Failed
-  pub one : (before p : ℕ) (lexemes : List Lexeme) → Stream file p lexemes → length lexemes ≤ most → begins lexemes
-      ≡ true → ExactRound file element span p lexemes (read before lexemes)
+  pub one : (before p : ℕ) (lexemes : List Lexeme) → Stream file p lexemes → begins lexemes ≡ true
+      → ExactRound file element span p lexemes (read before lexemes)
 
 -- all rounds: expressions behind a token whose text ends at a place
 pub record ReadsMany (file : List ℕ) (element : Form) (span : Extent) (before p : ℕ) (lexemes : List Lexeme)
@@ -72,7 +73,8 @@ abbrev pub ExactMany : (file : List ℕ) (element : Form) (span : Extent) (befor
     → Result FormsRead Halt → Type 0
 ExactMany file element span before p lexemes (Ok parts) = ReadsMany file element span before p lexemes parts
 ExactMany file element span before p lexemes (Err (Unexpected at)) = StarStops file element span p
-ExactMany file element span before p lexemes (Err (TooDeep at)) = ⊥
+ExactMany file element span before p lexemes (Err (TooDeep at)) = Unit {0}
+ExactMany file element span before p lexemes (Err (BadCountAt at)) = Unit {0}
 
 no_round : {file : List ℕ} {element : Form} {span : Extent} {p : ℕ} (before : ℕ) (lexemes : List Lexeme)
     → Stream file p lexemes → Derives figure file element p Failed
@@ -111,27 +113,27 @@ more_rounds span before lexemes part e (Err (Unexpected at)) stops = record {
   derives = Derives.star_more e.derives stops.derives refl;
   stuck = stops.stuck;
 }
-more_rounds span before lexemes part e (Err (TooDeep at)) m = absurd m
+more_rounds span before lexemes part e (Err (TooDeep at)) m = tt
+more_rounds span before lexemes part e (Err (BadCountAt at)) m = tt
 
 -- the star is what is read
-pub rounds : {file : List ℕ} {element : Form} {span : Extent} {begins : List Lexeme → Bool} {read : Reading} {most : ℕ}
-    → Rounds file element span begins read most → (n before p : ℕ) (lexemes : List Lexeme) → length lexemes ≤ n
-    → Stream file p lexemes → length lexemes ≤ most → begins [] ≡ false
+pub rounds : {file : List ℕ} {element : Form} {span : Extent} {begins : List Lexeme → Bool} {read : Reading}
+    → Rounds file element span begins read → (n before p : ℕ) (lexemes : List Lexeme) → length lexemes ≤ n
+    → Stream file p lexemes → begins [] ≡ false
     → ExactMany file element span before p lexemes (many begins read before lexemes)
 unfolding many_behind
-rounds {file} {element} {span} {begins} {read} {most} r n before p [] few stream within empty =
-    no_round before [] stream (r.none p [] stream within empty)
-rounds r zero before p (l ∷ rest) few stream within empty = absurd (omega arith)
-rounds {file} {element} {span} {begins} {read} {most} r (suc n) before p (l ∷ rest) few stream within empty =
+rounds {file} {element} {span} {begins} {read} r n before p [] few stream empty =
+    no_round before [] stream (r.none p [] stream empty)
+rounds r zero before p (l ∷ rest) few stream empty = absurd (omega arith)
+rounds {file} {element} {span} {begins} {read} r (suc n) before p (l ∷ rest) few stream empty =
     by (begins (l ∷ rest)) refl
     (λ part e.
     let one : part.taken ≡ suc (part.taken - 1) = omega (arith, e.some) in
     let same : drop part.taken (l ∷ rest) ≡ drop (part.taken - 1) rest = ap (λ k. drop k (l ∷ rest)) one in
     let fewer : length (drop part.taken (l ∷ rest)) ≤ n = omega (arith, length-drop part.taken (l ∷ rest), e.some) in
-    let still : length (drop part.taken (l ∷ rest)) ≤ most = omega (arith, length-drop part.taken (l ∷ rest), e.some) in
     subst (λ (x : Result FormsRead Halt). ExactMany file element span part.last e.end (drop part.taken (l ∷ rest)) x)
     (ap (many begins read part.last) same ∙ sym (many_behind-drop begins read part.last rest (part.taken - 1)))
-    (rounds r n part.last e.end (drop part.taken (l ∷ rest)) fewer e.left still empty))
+    (rounds r n part.last e.end (drop part.taken (l ∷ rest)) fewer e.left empty))
   where
     step : (x : Result FormRead Halt) → ExactRound file element span p (l ∷ rest) x
         → ((part : FormRead) → (e : ReadsRound file element p (l ∷ rest) part)
@@ -144,7 +146,8 @@ rounds {file} {element} {span} {begins} {read} {most} r (suc n) before p (l ∷ 
         more_rounds span before (l ∷ rest) part e (many_behind begins read part.last rest (part.taken - 1))
         (later part e)
     step (Err (Unexpected at)) stops later = stops
-    step (Err (TooDeep at)) e later = absurd e
+    step (Err (TooDeep at)) e later = tt
+    step (Err (BadCountAt at)) e later = tt
 
     by : (t : Bool) → begins (l ∷ rest) ≡ t → ((part : FormRead) → (e : ReadsRound file element p (l ∷ rest) part)
         → ExactMany file element span part.last e.end (drop part.taken (l ∷
@@ -152,5 +155,5 @@ rounds {file} {element} {span} {begins} {read} {most} r (suc n) before p (l ∷ 
         → ExactMany file element span before p (l ∷ rest) (if t then and_read (read before (l ∷
         rest)) (λ (part : FormRead). and_read (many_behind begins read part.last rest (part.taken - 1))
         (λ (parts : FormsRead). Ok (and_form part parts))) else Ok (no_more before))
-    by true is later = step (read before (l ∷ rest)) (r.one before p (l ∷ rest) stream within is) later
-    by false is later = no_round before (l ∷ rest) stream (r.none p (l ∷ rest) stream within is)
+    by true is later = step (read before (l ∷ rest)) (r.one before p (l ∷ rest) stream is) later
+    by false is later = no_round before (l ∷ rest) stream (r.none p (l ∷ rest) stream is)

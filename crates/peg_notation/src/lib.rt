@@ -11,5 +11,5 @@ mod rules;
 pub use fault::NotationFault;
 pub use file::read;
 pub use peg_figure::{figure, figure_text};
-pub use peg_lexer::{LexFault, MOST_FILE_BYTES, Token, TokenKind, lex};
+pub use peg_lexer::{Bounds, LexFault, MOST_FILE_BYTES, Token, TokenKind, count_bounds, lex};
 pub use peg_spelling::{DefinitionsFault, MOST_OPEN, definitions_of};

@@ -8,10 +8,11 @@ ghost use Rattle.peg_grammar.specs.Written.{form_of};
 ghost use Rattle.peg_figure.specs.Notation.{most_file_bytes};
 ghost use Rattle.peg_figure.specs.Ranges.{class_of};
 ghost use Rattle.peg_notation.specs.Reader.{starts_with_arrow, starts_with_slash, begins_prefix, place_of, pieces_of};
-ghost use Rattle.peg_notation.specs.Reader.{one_token, closed, parenthesized, named, primary, suffix_sign, with_suffix};
+ghost use Rattle.peg_notation.specs.Reader.{one_token, closed, parenthesized, named, primary, with_token};
 ghost use Rattle.peg_notation.specs.Reader.{then_suffix, suffix, with_prefix, prefix, sequence, alternative};
 ghost use Rattle.peg_notation.specs.Reader.{expression};
-ghost use Rattle.peg_notation.specs.ReaderCode.{lexemes, IsText, AreTexts, form_seen, inner_of, Conveys};
+ghost use Rattle.peg_notation.specs.ReaderCode.{lexemes, IsText, AreTexts, form_seen, inner_of, Conveys, IsCounted};
+ghost use Rattle.peg_notation.specs.ReaderCode.{IsBounded};
 ghost use Rattle.peg_notation.specs.Spans.{LiesIn};
 ghost use Rattle.peg_figure.specs.Spelled.{bytes_in, ranges_in};
 ghost use Rattle.peg_lexer.specs.Tokens.{lexeme_of};
@@ -20,7 +21,7 @@ use crate::expressions::{ReadExpr, ReadExprs};
 use crate::fault::NotationFault;
 use peg_bytes::{ByteSet, Span};
 use peg_grammar::Expr;
-use peg_lexer::{Token, TokenKind, class_bytes, literal_bytes, name_text};
+use peg_lexer::{Bounds, Token, TokenKind, class_bytes, count_bounds, literal_bytes, name_text};
 use std::alloc::{AllocError, Global};
 
 /// What is read: a file, whose tokens are given call by call.
@@ -233,7 +234,7 @@ impl<'a> Reader<'a> {
         })
     }
 
-    // An expression, with the sign behind it if there is one.
+    // An expression, with the sign or the count behind it if there is one.
     #[cycle(reader)]
     #[tactic(auto, using(crate::proofs::ReaderSteps::faults), unfolding(crate::specs::Reader::suffix))]
     fn suffix(&self, tokens: &[Token], left: usize) -> Result<ReadExpr, NotationFault>
@@ -246,20 +247,24 @@ impl<'a> Reader<'a> {
     {
         let part = self.primary(tokens, left)?;
         let start = self.place_of(tokens);
-        Ok(self.then_suffix(start, behind(tokens, part.taken), part)?)
+        self.then_suffix(start, behind(tokens, part.taken), part)
     }
 
-    // An expression with the sign that is next, if one is; `start` is where it starts.
+    // An expression with the sign or the count that is next, if one is; `start` is where it starts.
     fn then_suffix(
         &self,
         start: u32,
         rest: &[Token],
         part: ReadExpr,
-    ) -> Result<ReadExpr, AllocError>
+    ) -> Result<ReadExpr, NotationFault>
         requires few { part.taken < 2 ^ 63 }
         requires order { start ≤ part.last }
         requires texts { AreTexts (file_of self.now) part.last (lexemes rest.now) }
-        ensures { IfOk result (λ whole. form_seen whole ≡ then_suffix start (form_seen part) (lexemes rest.now)) }
+        ensures read { Conveys form_seen
+            (then_suffix (file_of self.now) start (form_seen part) (lexemes rest.now)) result }
+        ensures fits { IfOk result (λ whole. whole.taken ≤ part.taken + length rest.now) }
+        ensures some { IfOk result (λ whole. part.taken ≤ whole.taken) }
+        ensures depth { IfOk result (λ whole. whole.depth ≡ part.depth) }
     {
         match rest {
             [sign, ..] => self.with_suffix(start, *sign, part),
@@ -267,12 +272,22 @@ impl<'a> Reader<'a> {
         }
     }
 
-    // An expression with this token behind it, if it is a sign.
-    fn with_suffix(&self, start: u32, sign: Token, part: ReadExpr) -> Result<ReadExpr, AllocError>
+    // An expression with this token behind it, if it is a sign or a count.
+    fn with_suffix(
+        &self,
+        start: u32,
+        sign: Token,
+        part: ReadExpr,
+    ) -> Result<ReadExpr, NotationFault>
         requires few { part.taken < 2 ^ 63 }
         requires order { start ≤ sign.span.end }
-        ensures { IfOk result (λ whole. form_seen whole
-            ≡ with_suffix start (form_seen part) (lexeme_of sign) (suffix_sign sign.kind)) }
+        requires text { IsText (file_of self.now) (lexeme_of sign) }
+        requires inside { LiesIn (length (file_of self.now)) (extent sign.span) }
+        ensures read { Conveys form_seen
+            (with_token (file_of self.now) start (form_seen part) (lexeme_of sign)) result }
+        ensures fits { IfOk result (λ whole. whole.taken ≤ part.taken + 1) }
+        ensures some { IfOk result (λ whole. part.taken ≤ whole.taken) }
+        ensures depth { IfOk result (λ whole. whole.depth ≡ part.depth) }
     {
         let span = Span::new(start, sign.span.end);
         let ReadExpr {
@@ -294,6 +309,7 @@ impl<'a> Reader<'a> {
                 part: Box::new(self.alloc, expression)?,
                 span,
             },
+            TokenKind::Count => self.counted(sign, expression, span)?,
             _ => {
                 return Ok(ReadExpr {
                     expression,
@@ -309,6 +325,34 @@ impl<'a> Reader<'a> {
             last: sign.span.end,
             depth,
         })
+    }
+
+    // An expression as often as the count behind it says.
+    fn counted(&self, count: Token, part: Expr, span: Span) -> Result<Expr, NotationFault>
+        requires inside { LiesIn (length (file_of self.now)) (extent count.span) }
+        requires count { count.kind ≡ TokenKind.Count }
+        ensures { IsCounted (file_of self.now) (lexeme_of count) (form_of part) (extent span) result }
+    {
+        let bounds = self.bounds(count)?;
+        Ok(Expr::Counted {
+            part: Box::new(self.alloc, part)?,
+            min: bounds.min,
+            max: bounds.max,
+            span,
+        })
+    }
+
+    // The bounds of a count, if they are in range.
+    fn bounds(&self, count: Token) -> Result<Bounds, NotationFault>
+        requires inside { LiesIn (length (file_of self.now)) (extent count.span) }
+        requires count { count.kind ≡ TokenKind.Count }
+        ensures { IsBounded (file_of self.now) (lexeme_of count) result }
+    {
+        let at = count.span.start;
+        match count_bounds(&self.file[at as usize..]) {
+            Some(bounds) => Ok(bounds),
+            None => Err(NotationFault::BadCount { at }),
+        }
     }
 
     // A name, a literal, a class or a dot, or an expression in parentheses.

@@ -1,6 +1,8 @@
 //! Tests of the lexer and of the figure. Every value that is wanted was worked out by hand from the figure.
 use peg_bytes::Span;
-use peg_notation::{LexFault, MOST_FILE_BYTES, Token, TokenKind, figure, figure_text, lex};
+use peg_notation::{
+    Bounds, LexFault, MOST_FILE_BYTES, Token, TokenKind, count_bounds, figure, figure_text, lex,
+};
 use std::alloc::Global;
 use std::process::Abort;
 use std::test::Fail;
@@ -8,14 +10,14 @@ use std::test::Fail;
 // A token: its kind, its first byte, the byte behind it.
 type Seen = (TokenKind, u32, u32);
 
-// The figure's text (Ford 2004, section 2.1, with hexadecimal digits in Char).
+// The figure's text (Ford 2004, section 2.1, with hexadecimal digits in Char, and with counts).
 const FIGURE: &[u8] = b"\
     Grammar <- Spacing Definition+ EndOfFile\n\
     Definition <- Identifier LEFTARROW Expression\n\
     Expression <- Sequence (SLASH Sequence)*\n\
     Sequence <- Prefix*\n\
     Prefix <- (AND / NOT)? Suffix\n\
-    Suffix <- Primary (QUESTION / STAR / PLUS)?\n\
+    Suffix <- Primary (QUESTION / STAR / PLUS / COUNT)?\n\
     Primary <- Identifier !LEFTARROW / OPEN Expression CLOSE / Literal / Class / DOT\n\
     Identifier <- IdentStart IdentCont* Spacing\n\
     IdentStart <- [a-zA-Z_]\n\
@@ -32,6 +34,8 @@ const FIGURE: &[u8] = b"\
     QUESTION <- '?' Spacing\n\
     STAR <- '*' Spacing\n\
     PLUS <- '+' Spacing\n\
+    COUNT <- '{' Number (',' Number)? '}' Spacing\n\
+    Number <- [0-9]+\n\
     OPEN <- '(' Spacing\n\
     CLOSE <- ')' Spacing\n\
     DOT <- '.' Spacing\n\
@@ -98,11 +102,12 @@ fn each_kind_has_its_text_without_the_spacing(rt: HostRuntime) -> Result<(), Fai
         (TokenKind::Question, 27, 28),
         (TokenKind::Star, 28, 29),
         (TokenKind::Plus, 29, 30),
-        (TokenKind::Open, 31, 32),
-        (TokenKind::Close, 32, 33),
-        (TokenKind::Dot, 35, 36),
+        (TokenKind::Count, 30, 35),
+        (TokenKind::Open, 36, 37),
+        (TokenKind::Close, 37, 38),
+        (TokenKind::Dot, 40, 41),
     ];
-    let file = b"\ta_1 # c\n<-\r\n'b'\"c\"[d] / &!?*+ ()\r\t. ";
+    let file = b"\ta_1 # c\n<-\r\n'b'\"c\"[d] / &!?*+{1,2} ()\r\t. ";
     assert_tokens(&rt, rt.alloc(), file, &wanted)
 }
 
@@ -282,6 +287,48 @@ fn a_class_ends_at_a_bracket_that_ends_no_range(rt: HostRuntime) -> Result<(), F
 }
 
 #[test]
+fn a_count_is_one_token_without_spacing_inside(rt: HostRuntime) -> Result<(), Fail> {
+    let counts: &[&[u8]] = &[
+        b"{0}",
+        b"{2}",
+        b"{007}",
+        b"{2,4}",
+        b"{9,0}",
+        b"{256}",
+        b"{00,1234567890}",
+    ];
+    assert_one_token(&rt, rt.alloc(), TokenKind::Count, counts)?;
+    let others: &[&[u8]] = &[
+        b"{", b"}", b"{}", b"{,}", b"{2", b"{2,", b"{2,}", b"{,2}", b"{ 2}", b"{2 }", b"{2, 4}",
+        b"{2,4,8}", b"{-2}", b"{a}", b"{0x2}",
+    ];
+    assert_faults(&rt, rt.alloc(), 0, others);
+    Ok(())
+}
+
+#[test]
+fn counts_have_bounds_where_they_are_in_range(rt: HostRuntime) -> Result<(), Fail> {
+    let counts: [(&[u8], Option<Bounds>); 12] = [
+        (b"{1}", Some(Bounds { min: 1, max: 1 })),
+        (b"{255}", Some(Bounds { min: 255, max: 255 })),
+        (b"{0,255}", Some(Bounds { min: 0, max: 255 })),
+        (b"{2,4} # c", Some(Bounds { min: 2, max: 4 })),
+        (b"{0007,010}", Some(Bounds { min: 7, max: 10 })),
+        (b"{0}", None),
+        (b"{0,0}", None),
+        (b"{4,2}", None),
+        (b"{256}", None),
+        (b"{1,256}", None),
+        (b"{1,18446744073709551617}", None),
+        (b"{2,}", None),
+    ];
+    for (text, bounds) in counts {
+        assert_eq!(rt; count_bounds(text), bounds, "of {text:?}");
+    }
+    Ok(())
+}
+
+#[test]
 fn a_comment_ends_with_a_line_end(rt: HostRuntime) -> Result<(), Fail> {
     let alloc = rt.alloc();
     for file in [
@@ -386,32 +433,34 @@ fn spans_are_places_of_the_file(rt: HostRuntime) -> Result<(), Fail> {
     Ok(())
 }
 
-// Counted line by line: 4, 4, 4, 2, 4, 5, 9, 4, 1, 2, 5, 3, 4, 1, ten times 2, 3, 3, 2, 1 and 1 names; and so on.
+// Counted line by line: 4, 4, 4, 2, 4, 6, 9, 4, 1, 2, 5, 3, 4, 1, seven times 2, 4, 1, three times 2, 3, 3, 2, 1 and 1
+// names; and so on.
 #[test]
 fn the_figures_text_has_its_tokens(rt: HostRuntime) -> Result<(), Fail> {
     let text = figure_text();
-    assert_eq!(rt; text.len(), 1015);
+    assert_eq!(rt; text.len(), 1086);
     let tokens = lex(rt.alloc(), text)?;
     let wanted = [
-        (TokenKind::Ident, 82),
-        (TokenKind::Literal, 25),
-        (TokenKind::Class, 16),
-        (TokenKind::Arrow, 29),
-        (TokenKind::Slash, 19),
+        (TokenKind::Ident, 88),
+        (TokenKind::Literal, 28),
+        (TokenKind::Class, 17),
+        (TokenKind::Arrow, 31),
+        (TokenKind::Slash, 20),
         (TokenKind::And, 0),
         (TokenKind::Not, 7),
-        (TokenKind::Question, 3),
+        (TokenKind::Question, 4),
         (TokenKind::Star, 8),
-        (TokenKind::Plus, 1),
-        (TokenKind::Open, 8),
-        (TokenKind::Close, 8),
+        (TokenKind::Plus, 2),
+        (TokenKind::Count, 0),
+        (TokenKind::Open, 9),
+        (TokenKind::Close, 9),
         (TokenKind::Dot, 3),
     ];
     for (kind, count) in wanted {
         let found = tokens.iter().filter(|token| token.kind == kind).count();
         assert_eq!(rt; found, count, "of {kind:?}");
     }
-    assert_eq!(rt; tokens.len(), 209);
+    assert_eq!(rt; tokens.len(), 226);
     Ok(())
 }
 
@@ -420,7 +469,7 @@ fn the_figure_has_its_text_and_names_where_they_stand(rt: HostRuntime) -> Result
     let text = figure_text();
     assert_eq!(rt; text, FIGURE);
     let rules = figure(rt.alloc())?;
-    assert_eq!(rt; rules.len(), 29);
+    assert_eq!(rt; rules.len(), 31);
     for rule in &rules {
         let name = text.get(rule.span.start as usize..rule.span.end as usize);
         assert_eq!(rt; name, Some(rule.name.as_bytes()));

@@ -17,6 +17,18 @@ fn assert_refused(rt: &impl Abort, alloc: Global, files: &[(&[u8], u32)]) {
     }
 }
 
+// Each file is refused for a count out of range at the place beside it.
+fn assert_bad_counts(rt: &impl Abort, alloc: Global, files: &[(&[u8], u32)]) {
+    for (file, at) in files {
+        let fault = read(alloc, file).err();
+        assert_eq!(rt;
+            fault,
+            Some(NotationFault::BadCount { at: *at }),
+            "in {file:?}"
+        );
+    }
+}
+
 // What a file's definitions print as.
 fn printed(alloc: Global, file: &[u8]) -> Result<String, Fail> {
     let definitions = read(alloc, file)?;
@@ -39,6 +51,17 @@ fn assert_rules(rt: &impl Abort, alloc: Global, files: &[(&[u8], usize)]) -> Res
         assert_eq!(rt; definitions.len(), *count, "in {file:?}");
     }
     Ok(())
+}
+
+// A rule whose body is `'x'` with a count of a thousand digits, all of them alike but for the last one.
+fn long_count(alloc: Global, digit: u8, last: u8) -> Result<Vec<u8>, AllocError> {
+    let mut file = Vec::from_slice(alloc, b"A <- 'x'{")?;
+    for _ in 0..999 {
+        file.push(digit)?;
+    }
+    file.push(last)?;
+    file.push(b'}')?;
+    Ok(file)
 }
 
 // A rule whose body is `'a'` in so many parentheses, and a line end.
@@ -186,6 +209,121 @@ fn signs_hold_their_part_and_its_parentheses(rt: HostRuntime) -> Result<(), Fail
 }
 
 #[test]
+fn counts_hold_their_part_and_their_numbers(rt: HostRuntime) -> Result<(), Fail> {
+    let alloc = rt.alloc();
+    assert_body(
+        &rt,
+        alloc,
+        b"A <- 'a'{2,4}",
+        "Counted { part: Literal { bytes: [97], span: Span { start: 5, end: 8 } }, \
+        min: 2, max: 4, span: Span { start: 5, end: 13 } }",
+    )?;
+    assert_body(
+        &rt,
+        alloc,
+        b"A <- B {003} 'c'",
+        "Seq { items: [Counted { part: Name { name: \"B\", span: Span { start: 5, end: 6 } }, \
+        min: 3, max: 3, span: Span { start: 5, end: 12 } }, \
+        Literal { bytes: [99], span: Span { start: 13, end: 16 } }], span: Span { start: 5, end: 16 } }",
+    )?;
+    assert_body(
+        &rt,
+        alloc,
+        b"A <- !('a' .){0,1} # c\n",
+        "Not { part: Counted { part: Seq { items: [Literal { bytes: [97], span: Span { start: 7, end: 10 } }, \
+        Any { span: Span { start: 11, end: 12 } }], span: Span { start: 7, end: 12 } }, \
+        min: 0, max: 1, span: Span { start: 6, end: 18 } }, span: Span { start: 5, end: 18 } }",
+    )
+}
+
+#[test]
+fn counts_in_range_are_read(rt: HostRuntime) -> Result<(), Fail> {
+    let files: [(&[u8], usize); 6] = [
+        (b"A <- 'x' {007}", 1),
+        (b"A <- (''){3}", 1),
+        (b"A <- [a-z]{1,255}", 1),
+        (b"A <- .{255}", 1),
+        (b"A <- B{2}\nB <- (A{1}){0,1}", 2),
+        (b"A <- B{2}C <- 'x'", 2),
+    ];
+    assert_rules(&rt, rt.alloc(), &files)
+}
+
+#[test]
+fn a_count_stands_behind_a_primary_alone(rt: HostRuntime) {
+    let files: [(&[u8], u32); 8] = [
+        (b"A <- 'x'{2,}", 8),
+        (b"A <- 'x'{2}{3}", 11),
+        (b"A <- ('x'{2}){3}{4}{5}", 16),
+        (b"A <- 'x'{2}?", 11),
+        (b"A <- 'x'*{2}", 9),
+        (b"A <- {2}", 5),
+        (b"A <- !{2}", 6),
+        (b"A{2} <- 'x'", 1),
+    ];
+    assert_refused(&rt, rt.alloc(), &files);
+}
+
+#[test]
+fn a_count_out_of_range_is_told_where_it_starts(rt: HostRuntime) -> Result<(), Fail> {
+    let alloc = rt.alloc();
+    let files: [(&[u8], u32); 10] = [
+        (b"A <- 'x'{0}", 8),
+        (b"A <- 'x'{3,2}", 8),
+        (b"A <- 'x'{256}", 8),
+        (b"A <- 'x'{0,0}", 8),
+        (b"A <- 'x'{0,256}", 8),
+        (b"A <- 'x' # c\n{2,1}", 13),
+        (b"A <- ('x'{1}){0}", 13),
+        (b"A <- ('x'{0}){0}", 9),
+        (b"A <- 'x'{1} 'y'{2,1} 'z'{0}", 15),
+        (b"A <- 'x'{2}\nB <- A{300}", 18),
+    ];
+    assert_bad_counts(&rt, alloc, &files);
+    Ok(())
+}
+
+#[test]
+fn a_count_of_many_digits_is_read(rt: HostRuntime) -> Result<(), Fail> {
+    let alloc = rt.alloc();
+    let ones = long_count(alloc, b'1', b'1')?;
+    let zeros = long_count(alloc, b'0', b'0')?;
+    assert_bad_counts(&rt, alloc, &[(ones.as_slice(), 8), (zeros.as_slice(), 8)]);
+    let seven = long_count(alloc, b'0', b'7')?;
+    assert_rules(&rt, alloc, &[(seven.as_slice(), 1)])
+}
+
+#[test]
+fn of_a_count_and_another_fault_the_first_is_told(rt: HostRuntime) -> Result<(), Fail> {
+    let alloc = rt.alloc();
+    let counts: [(&[u8], u32); 4] = [
+        (b"A <- 'x'{0} ?", 8),
+        (b"A <- ('x'{0}", 9),
+        (b"A <- 'x'{0}{1}", 8),
+        (b"A <- 'x'{0} )", 8),
+    ];
+    assert_bad_counts(&rt, alloc, &counts);
+    let others: [(&[u8], u32); 4] = [
+        (b"A <- ? 'x'{0}", 5),
+        (b"A <- {0}", 5),
+        (b"A <- 'x'{1}{0}", 11),
+        (b"A <- 'x'{0} {", 12),
+    ];
+    assert_refused(&rt, alloc, &others);
+    let mut file = Vec::from_slice(alloc, b"B <- 'x'{0} ")?;
+    add_nested(&mut file, MOST_OPEN + 1)?;
+    assert_bad_counts(&rt, alloc, &[(file.as_slice(), 8)]);
+    let mut other = Vec::new(alloc);
+    add_nested(&mut other, MOST_OPEN + 1)?;
+    other.extend_from_slice(b"B <- 'x'{0}")?;
+    assert_eq!(rt;
+        read(alloc, &other).err(),
+        Some(NotationFault::TooNested { at: 205 })
+    );
+    Ok(())
+}
+
+#[test]
 fn one_item_is_itself_and_more_are_a_sequence(rt: HostRuntime) -> Result<(), Fail> {
     let alloc = rt.alloc();
     assert_body(
@@ -312,6 +450,10 @@ fn each_fault_has_a_text(rt: HostRuntime) -> Result<(), Fail> {
         (
             NotationFault::TooNested { at: 0 },
             "one parenthesis too many opens at byte 0 of the grammar file",
+        ),
+        (
+            NotationFault::BadCount { at: 8 },
+            "the count at byte 8 of the grammar file is out of range",
         ),
         (NotationFault::Memory, "out of memory"),
     ];

@@ -1,6 +1,7 @@
 -- What the layers' faults tell of a grammar file.
-use Rattle.std.proofs.Common.{◌≡◌, inl, inr, ℕ, List, All, IsErrAnd, IfErr, IfOk, IfSome, OnOk, Result, Ok, Err, Option, None, Some, length, map, ◌<◌, ◌≤◌, refl, subst, sym, ◌∙◌, arith}
+use Rattle.std.proofs.Common.{◌≡◌, inl, inr, ℕ, true, not, if◌then◌else◌, List, [], ◌∷◌, find, option_map, ap, All, IsErrAnd, IfErr, IfOk, IfSome, OnOk, Result, Ok, Err, Option, None, Some, length, map, ◌<◌, ◌≤◌, refl, subst, sym, ◌∙◌, arith}
 use Rattle.std.proofs.lemmas.List.{length-map}
+use Rattle.std.proofs.lemmas.List.Elements.{All-head, All-tail}
 use Rattle.peg_bytes.specs.Extent.{extent}
 use Rattle.peg_check.specs.Verdicts.{IsIllFormedBy, NamesRules}
 use Rattle.peg_check.specs.declared.fault.CheckFault.{CheckFault}
@@ -8,8 +9,11 @@ use Rattle.peg_check.specs.declared.fault.CheckFault.TheVariants as check
 use Rattle.peg_code.specs.Compiled.{most_instructions}
 use Rattle.peg_code.specs.declared.fault.CodeFault.{CodeFault}
 use Rattle.peg_code.specs.declared.fault.CodeFault.TheVariants as code
-use Rattle.peg_ford.specs.Rules.{Rule, names}
+use Rattle.peg_ford.specs.Form.{Count}
+use Rattle.peg_ford.specs.Grammar.{is_in_range}
+use Rattle.peg_ford.specs.Rules.{Rule, counts, names}
 use Rattle.peg_ford.specs.WellFormed.{IsWellFormedGrammar}
+use Rattle.peg_figure.proofs.CountsInRange.{IsReading-in_range}
 use Rattle.peg_ford.proofs.GrammarLemmas.{searches_from_IsGrammar}
 use Rattle.peg_grammar.specs.GrammarRules.{rules_in}
 use Rattle.peg_grammar.specs.Refusal as definitions
@@ -23,17 +27,17 @@ use Rattle.peg_notation.specs.declared.fault.NotationFault.TheVariants as notati
 use Rattle.peg_notation.proofs.FirstRule.{IsReading-some}
 use Rattle.peg_tree.specs.Names.{name_at}
 use Rattle.peg_parser.specs.Accepts.{Accepts, IsRead, IsTaken, code_size}
-use Rattle.peg_parser.specs.Cause.{Cause, FileTooLong, Syntax, TooNested, TooManyParts}
+use Rattle.peg_parser.specs.Cause.{Cause, FileTooLong, Syntax, TooNested, BadCount, TooManyParts}
 use Rattle.peg_parser.specs.Cause.{CodeTooLarge, EmptyLoop, LeftRecursion, reference}
 use Rattle.peg_parser.specs.Faults.{of_notation, of_grammar, of_check, of_code, TellsWhy, want_of_memory, of_cause, Means, cause_told}
 use Rattle.peg_parser.specs.Parser.{parser_rules}
 use Rattle.peg_parser.specs.Refusals.{IsNoGrammar, IsIllFormed, Refuses, Shows, file_too_long, not_in_the_notation}
-use Rattle.peg_parser.specs.Refusals.{too_nested, a_name_twice, a_name_missing, too_many_parts, empty_loop, left_recursion}
+use Rattle.peg_parser.specs.Refusals.{too_nested, count_out_of_range, a_name_twice, a_name_missing, too_many_parts, empty_loop, left_recursion}
 use Rattle.peg_parser.specs.Refusals.{code_too_large, no_notation, no_grammar, ill_formed}
 use Rattle.peg_parser.specs.declared.parser.Parser.{Parser}
 use Rattle.peg_parser.specs.declared.refusal.Refusal.{Refusal}
 use Rattle.peg_parser.proofs.CheckLemmas.{loop-inside}
-use Rattle.peg_parser.proofs.NameLemmas.{refused-inside}
+use Rattle.peg_parser.proofs.NameLemmas.{twice-inside, missing-inside}
 use Rattle.peg_parser.proofs.RuleNames.{name-numbered, names-of-path}
 
 -- an error that is this refusal tells what it tells
@@ -51,9 +55,20 @@ told-notation file (notation.Syntax at) reads inside =
     of_cause (Syntax at) refl (not_in_the_notation reads.0 reads.1 reads.2) inside tt
 told-notation file (notation.TooNested at) reads inside =
     of_cause (TooNested at) refl (too_nested reads.0 reads.1 reads.2) inside tt
+told-notation file (notation.BadCount at) reads inside =
+    of_cause (BadCount at) refl (count_out_of_range reads.0 reads.1 reads.2) inside tt
 told-notation file notation.Memory reads inside = want_of_memory refl
 
 -- ---- the grammar
+
+-- where all counts are in range, none is found that isn't
+no_bad_count : (written : List Count) → All (λ count. is_in_range count ≡ true) written
+    → find (λ (count : Count). not (is_in_range count)) written ≡ None
+no_bad_count [] all = refl
+no_bad_count (count ∷ written) all =
+    ap (λ b. if not b then Some count else find (λ (other : Count). not (is_in_range other)) written)
+    (All-head (λ count. is_in_range count ≡ true) count written all)
+    ∙ no_bad_count written (All-tail (λ count. is_in_range count ≡ true) count written all)
 
 pub told-grammar : (file : List ℕ) (rules : List Rule) (why : GrammarFault) → IsRead file rules
     → All (RuleLiesIn (length file)) rules → definitions.Refuses rules why
@@ -62,10 +77,13 @@ told-grammar file rules grammar.NoRule read inside refuses =
     absurd (IsReading-some file rules read.reading.0 refuses)
 told-grammar file rules (grammar.Duplicate name span) read inside refuses =
     of_cause _ refl (a_name_twice read refuses)
-    (refused-inside (length file) rules (grammar.Duplicate name span) inside refuses) tt
+    (twice-inside (length file) rules _ inside refuses) tt
 told-grammar file rules (grammar.Undefined name span) read inside refuses =
     of_cause _ refl (a_name_missing read refuses.0 refuses.1)
-    (refused-inside (length file) rules (grammar.Undefined name span) inside refuses) tt
+    (missing-inside (length file) rules _ inside refuses.1) tt
+told-grammar file rules (grammar.BadCount span) read inside refuses =
+    let none = no_bad_count (counts rules) (IsReading-in_range file rules read.reading.0) in
+    let both : None ≡ Some _ = ap (option_map (λ (count : Count). count.span)) (sym none) ∙ refuses.2 in cc
 told-grammar file rules grammar.TooManyParts read inside refuses =
     of_cause TooManyParts refl (too_many_parts read refuses.0 refuses.1) tt tt
 told-grammar file rules grammar.Memory read inside refuses = want_of_memory refl
@@ -116,8 +134,9 @@ told-early file size why (of_cause cause tells holds starts named) = of_cause ca
 
 shows : (file : List ℕ) (cause : Cause) → Refuses file cause → Shows file cause
 shows file cause (inl (file_too_long over)) = tt
-shows file cause (inl (not_in_the_notation within none at)) = no_notation none
+shows file cause (inl (not_in_the_notation within none at)) = no_notation (λ reads. none (reads.0, reads.1, reads.2))
 shows file cause (inl (too_nested within deep at)) = tt
+shows file cause (inl (count_out_of_range within bad at)) = no_notation (λ reads. bad reads.0 reads.1 reads.2 reads.3)
 shows file cause (inl (a_name_twice {rules} read twice)) =
     no_grammar rules read.reading.0 (λ whole. let both : None ≡ Some _ = sym (searches_from_IsGrammar rules whole).1
     ∙ twice in cc)

@@ -2,7 +2,7 @@
 use Rattle.std.proofs.Common.{◌≡◌, inl, inr, ℕ, zero, suc, List, [], ◌∷◌, ◌++◌, All, Contains, Some, slice_get, subst}
 use Rattle.std.proofs.lemmas.List.Elements.{All-nil, All-cons, All-head, All-tail, All-append}
 use Rattle.peg_bytes.specs.Extent.{Extent}
-use Rattle.peg_ford.specs.Form.{Form, Forms, Literal, Class, Any, Name, Seq, Choice, Optional, Star, Plus, And, Not, End, Then}
+use Rattle.peg_ford.specs.Form.{Form, Forms, Literal, Class, Any, Name, Seq, Choice, Optional, Star, Plus, Counted, And, Not, End, Then}
 use Rattle.peg_ford.specs.Loops.{IsEmptyLoop, WritesLoop}
 use Rattle.peg_ford.specs.Rules.{Rule}
 use Rattle.peg_ford.specs.WellFormed.{subexpressions, below, below_all}
@@ -25,6 +25,8 @@ mutual
   below-inside size (Star part span) inside =
       All-cons (FormLiesIn size) part (below part) inside.1 (below-inside size part inside.1)
   below-inside size (Plus part span) inside =
+      All-cons (FormLiesIn size) part (below part) inside.1 (below-inside size part inside.1)
+  below-inside size (Counted part min max span) inside =
       All-cons (FormLiesIn size) part (below part) inside.1 (below-inside size part inside.1)
   below-inside size (And part span) inside =
       All-cons (FormLiesIn size) part (below part) inside.1 (below-inside size part inside.1)

@@ -1,13 +1,14 @@
 -- The figure's definitions are a grammar that is taken, and nothing but memory can be wanting.
-use Rattle.std.proofs.Common.{◌≡◌, [], None, Some, Result, Ok, Err, refl, sym, ◌∙◌, arith}
+use Rattle.std.proofs.Common.{◌≡◌, [], None, Some, Result, Ok, Err, option_map, refl, sym, ap, ◌∙◌, arith}
 use Rattle.std.specs.Prelude.{IfErr, IsErrAnd}
 use Rattle.peg_check.specs.Verdicts.{IsIllFormedBy}
 use Rattle.peg_check.specs.declared.fault.CheckFault.{CheckFault}
 use Rattle.peg_check.specs.declared.fault.CheckFault.TheVariants as check
 use Rattle.peg_code.specs.declared.fault.CodeFault.{CodeFault}
 use Rattle.peg_code.specs.declared.fault.CodeFault.TheVariants as code
-use Rattle.peg_figure.specs.Figure.{figure, grammar_body, definition_body, expression_body, sequence_body, prefix_body, suffix_body, primary_body, identifier_body, ident_start_body, ident_cont_body, literal_body, class_body, range_body, char_body, spacing_body, comment_body, space_body, end_of_line_body, end_of_file_body}
-use Rattle.peg_ford.specs.Grammar.{first_duplicate, first_undefined}
+use Rattle.peg_figure.specs.Figure.{figure, grammar_body, definition_body, expression_body, sequence_body, prefix_body, suffix_body, primary_body, identifier_body, ident_start_body, ident_cont_body, literal_body, class_body, range_body, char_body, count_body, number_body, spacing_body, comment_body, space_body, end_of_line_body, end_of_file_body}
+use Rattle.peg_ford.specs.Grammar.{first_bad_count, first_duplicate, first_undefined}
+use Rattle.peg_ford.specs.Form.{Count}
 use Rattle.peg_ford.specs.Rules.{weight_of}
 use Rattle.peg_ford.specs.WellFormed.{IsWellFormedGrammar}
 use Rattle.peg_grammar.specs.GrammarRules.{rules_in}
@@ -24,11 +25,15 @@ unfolding figure
 no_duplicate = refl
 
 none_undefined : first_undefined figure ≡ None
-unfolding figure grammar_body definition_body expression_body sequence_body prefix_body suffix_body primary_body identifier_body ident_start_body ident_cont_body literal_body class_body range_body char_body spacing_body comment_body space_body end_of_line_body end_of_file_body
+unfolding figure grammar_body definition_body expression_body sequence_body prefix_body suffix_body primary_body identifier_body ident_start_body ident_cont_body literal_body class_body range_body char_body count_body number_body spacing_body comment_body space_body end_of_line_body end_of_file_body
 none_undefined = refl
 
-figure-weight : weight_of figure ≡ 216
-unfolding figure grammar_body definition_body expression_body sequence_body prefix_body suffix_body primary_body identifier_body ident_start_body ident_cont_body literal_body class_body range_body char_body spacing_body comment_body space_body end_of_line_body end_of_file_body
+no_bad_count : first_bad_count figure ≡ None
+unfolding figure grammar_body definition_body expression_body sequence_body prefix_body suffix_body primary_body identifier_body ident_start_body ident_cont_body literal_body class_body range_body char_body count_body number_body spacing_body comment_body space_body end_of_line_body end_of_file_body
+no_bad_count = refl
+
+figure-weight : weight_of figure ≡ 233
+unfolding figure grammar_body definition_body expression_body sequence_body prefix_body suffix_body primary_body identifier_body ident_start_body ident_cont_body literal_body class_body range_body char_body count_body number_body spacing_body comment_body space_body end_of_line_body end_of_file_body
 figure-weight = refl
 
 not_empty : figure ≡ [] → ⊥
@@ -40,6 +45,8 @@ pub grammar_memory : (fault : GrammarFault) → Refuses figure fault → fault �
 grammar_memory grammar.NoRule is = absurd (not_empty is)
 grammar_memory (grammar.Duplicate name span) is = absurd (let bad : Some _ ≡ None = sym is ∙ no_duplicate in cc)
 grammar_memory (grammar.Undefined name span) is = absurd (let bad : Some _ ≡ None = sym is.1 ∙ none_undefined in cc)
+grammar_memory (grammar.BadCount span) is =
+    absurd (let bad : Some _ ≡ None = sym is.2 ∙ ap (option_map (λ (count : Count). count.span)) no_bad_count in cc)
 grammar_memory grammar.TooManyParts is = absurd (let bad : ⊥ = omega (arith, is.1, figure-weight) in bad)
 grammar_memory grammar.Memory is = refl
 

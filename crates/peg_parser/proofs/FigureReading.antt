@@ -1,5 +1,5 @@
 -- What the figure's own parse of a file tells, and that both readers tell the same.
-use Rattle.std.proofs.Common.{◌≡◌, ℕ, ◌<◌, ◌≤◌, List, length, codes, Option, Some, None, Result, Ok, Err, refl, sym, ap, ◌∙◌, subst, arith}
+use Rattle.std.proofs.Common.{◌≡◌, ℕ, ◌<◌, ◌≤◌, List, [], ◌∷◌, length, codes, Option, Some, None, Result, Ok, Err, refl, sym, ap, ◌∙◌, subst, arith}
 use Rattle.std.specs.Prelude.{IfSome, IsErrAnd, IsErrOf}
 use Rattle.std.specs.declared.alloc.Global.{Global}
 use Rattle.std.specs.declared.vec.Vec.{Vec}
@@ -12,19 +12,19 @@ use Rattle.peg_ford.specs.Starts.{start_of}
 use Rattle.peg_ford.proofs.Derivations.{one_result}
 use Rattle.peg_figure.specs.Figure.{figure}
 use Rattle.peg_figure.specs.Nesting.{nesting, most_open}
-use Rattle.peg_figure.specs.Notation.{IsInNotation, IsReading, most_file_bytes}
-use Rattle.peg_figure.specs.Spelled.{rules_spelled}
+use Rattle.peg_figure.specs.Notation.{FigureMatches, IsReading, most_file_bytes}
+use Rattle.peg_figure.specs.Spelled.{bad_counts, rules_spelled}
 use Rattle.peg_grammar.specs.Outcomes.{IsOutcome, parsed_of}
 use Rattle.peg_grammar.specs.Written.{rules_of}
 use Rattle.peg_grammar.specs.declared.expr.Definition.{Definition}
-use Rattle.peg_notation.specs.Reads.{IsReadingWithin, NestsDeeper}
-use Rattle.peg_spelling.specs.FigureTrees.{IsTreeOf}
+use Rattle.peg_notation.specs.Reads.{IsReadingWithin, NestsDeeper, NestsWithin}
+use Rattle.peg_spelling.specs.FigureTrees.{IsTreeOf, TellsBadCount}
 use Rattle.peg_spelling.proofs.Inversions.{derives}
 use Rattle.peg_spelling.specs.declared.fault.DefinitionsFault.{DefinitionsFault}
 use Rattle.peg_spelling.specs.declared.fault.DefinitionsFault.TheVariants as definitions
 use Rattle.peg_parser.specs.ReadsByFigure.{ReadsByFigure, AgreesWithRead, of_definitions}
 use Rattle.peg_parser.specs.declared.figure_reader.FigureFault.{FigureFault}
-use Rattle.peg_parser.specs.declared.figure_reader.FigureFault.TheVariants.{FileTooLong, NotInFigure, TooNested, Memory}
+use Rattle.peg_parser.specs.declared.figure_reader.FigureFault.TheVariants.{FileTooLong, NotInFigure, TooNested, BadCount, Memory}
 
 -- ---- a file has one tree
 
@@ -32,13 +32,14 @@ one_tree : (file : List ℕ) (a b : Trees) → IsTreeOf file a → IsTreeOf file
 one_tree file a b m n =
     let same : Matched m.0 a ≡ Matched n.0 b = one_result (derives m.1) (derives n.1) in cc
 
--- the rules that its tree spells are its reading
-pub tree_reads : (file : List ℕ) (tree : Trees) (rules : List Rule) → IsTreeOf file tree → rules ≡ rules_spelled file tree
-    → nesting tree ≤ most_open → IsReadingWithin most_open file rules
-tree_reads file tree rules m is within = (
-  (m.0, tree, m.1, is),
-  λ end trees other. subst (λ t. nesting t ≤ most_open) (one_tree file tree trees m (end, other)) within,
-)
+tree_within : (file : List ℕ) (tree : Trees) → IsTreeOf file tree → nesting tree ≤ most_open → NestsWithin most_open file
+tree_within file tree m within end trees other =
+    subst (λ t. nesting t ≤ most_open) (one_tree file tree trees m (end, other)) within
+
+-- the rules that its tree spells, where no count is out of range, are its reading
+pub tree_reads : (file : List ℕ) (tree : Trees) (rules : List Rule) → IsTreeOf file tree → bad_counts file tree ≡ []
+    → rules ≡ rules_spelled file tree → nesting tree ≤ most_open → IsReadingWithin most_open file rules
+tree_reads file tree rules m none is within = ((m.0, tree, m.1, none, is), tree_within file tree m within)
 
 pub tree_deep : (file : List ℕ) (tree : Trees) → IsTreeOf file tree → most_open < nesting tree → NestsDeeper most_open file
 tree_deep file tree m deep end trees other = subst (λ t. most_open < nesting t) (one_tree file tree trees m (end, other)) deep
@@ -46,7 +47,7 @@ tree_deep file tree m deep end trees other = subst (λ t. most_open < nesting t)
 -- a file has one reading
 one_reading : (file : List ℕ) (a b : List Rule) → IsReading file a → IsReading file b → a ≡ b
 one_reading file a b m n =
-    m.3 ∙ (ap (rules_spelled file) (one_tree file m.1 n.1 (m.0, m.2) (n.0, n.2)) ∙ sym n.3)
+    m.4 ∙ (ap (rules_spelled file) (one_tree file m.1 n.1 (m.0, m.2) (n.0, n.2)) ∙ sym n.4)
 
 -- ---- the outcome
 
@@ -73,7 +74,7 @@ matched_tree file outcome is end tree told = by is.1.0.result refl (sym told ∙
         subst (IsTreeOf file) trees (e, (is.1.0, (is.0, is.1.1), at))
 
 pub failed_none : (file : List ℕ) (outcome : Outcome) → IsOutcome figure file (codes "Grammar") outcome
-    → outcome.result ≡ parsed.Failed → ¬ IsInNotation file
+    → outcome.result ≡ parsed.Failed → ¬ FigureMatches file
 failed_none file outcome is told m = by is.1.0.result refl (sym told ∙ is.1.2)
   where
     by : (x : Recognition) → is.1.0.result ≡ x → parsed.Failed ≡ parsed_of is.1.0.result → ⊥
@@ -93,6 +94,11 @@ agree file read (Err TooNested) by_hand by_figure some =
     let deep = by_figure.2 m.0 m.1 m.2 in
     let within = by_hand.1.1 m.0 m.1 m.2 in
     absurd (let bad : ⊥ = omega (arith, deep, within) in bad)
+agree file read (Err (BadCount at)) by_hand by_figure some =
+    let m = by_hand.1.0 in
+    let bad = by_figure.2 in
+    let same = one_tree file bad.1 m.1 (bad.0, bad.2) (m.0, m.2) in
+    let none : [] ≡ at ∷ bad.3.0 = sym m.3 ∙ (ap (bad_counts file) (sym same) ∙ bad.3.1) in cc
 agree file read (Err Memory) by_hand by_figure some = absurd (some refl)
 
 -- ---- faults
@@ -100,11 +106,15 @@ agree file read (Err Memory) by_hand by_figure some = absurd (some refl)
 -- what a tree's fault tells of the file
 pub told_definitions : (file : List ℕ) (tree : Trees) (why : DefinitionsFault) → length file ≤ most_file_bytes → IsTreeOf file tree
     → (IsErrOf {T = Vec Definition Global} (Err why) definitions.TooNested → most_open < nesting tree)
+    → TellsBadCount file tree why
     → (result : Result (Vec Definition Global) FigureFault) → IsErrAnd result (λ told. told ≡ of_definitions why)
     → ReadsByFigure file result
-told_definitions file tree definitions.TooNested short m deep (Err told) is =
+told_definitions file tree definitions.TooNested short m deep bad (Err told) is =
     subst (λ (t : FigureFault). ReadsByFigure file (Err t)) (sym is)
     (short, (m.0, tree, m.1), tree_deep file tree m (deep refl))
-told_definitions file tree definitions.Memory short m deep (Err told) is =
+told_definitions file tree (definitions.BadCount at) short m deep bad (Err told) is =
+    subst (λ (t : FigureFault). ReadsByFigure file (Err t)) (sym is)
+    (short, tree_within file tree m bad.0, (m.0, tree, m.1, bad.1))
+told_definitions file tree definitions.Memory short m deep bad (Err told) is =
     subst (λ (t : FigureFault). ReadsByFigure file (Err t)) (sym is) tt
-told_definitions file tree why short m deep (Ok read) is = absurd is
+told_definitions file tree why short m deep bad (Ok read) is = absurd is

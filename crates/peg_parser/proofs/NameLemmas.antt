@@ -1,18 +1,13 @@
 -- The names that a grammar is refused for stand where the file's rules do.
-use Rattle.std.proofs.Common.{◌≡◌, ℕ, List, [], ◌∷◌, ◌++◌, All, Bool, true, false, not, bytes_eq, find, IfSome, Some}
+use Rattle.std.proofs.Common.{◌≡◌, ℕ, ◌≤◌, List, [], ◌∷◌, ◌++◌, All, Bool, true, false, not, bytes_eq, find, Some}
 use Rattle.std.proofs.Common.{if◌then◌else◌, subst, arith}
 use Rattle.std.specs.List.{list_any}
 use Rattle.std.proofs.lemmas.List.Elements.{All-nil, All-cons, All-head, All-tail, All-append}
 use Rattle.peg_ford.specs.Form.{Form, Forms, Reference, Literal, Class, Any, Name, Seq, Choice, Optional, Star}
-use Rattle.peg_ford.specs.Form.{Plus, And, Not, End, Then, names_used, names_used_by_all}
-use Rattle.peg_ford.specs.Grammar.{duplicate_after}
-use Rattle.peg_grammar.specs.Refusal.{Refuses}
+use Rattle.peg_ford.specs.Form.{Plus, Counted, And, Not, End, Then, names_used, names_used_by_all}
+use Rattle.peg_ford.specs.Grammar.{duplicate_after, first_duplicate, first_undefined}
 use Rattle.peg_ford.specs.Rules.{Rule, uses, defined_at, is_defined}
-use Rattle.peg_grammar.specs.declared.fault.GrammarFault.{GrammarFault}
-use Rattle.peg_grammar.specs.declared.fault.GrammarFault.TheVariants.{NoRule, Duplicate, Undefined, TooManyParts}
-use Rattle.peg_grammar.specs.declared.fault.GrammarFault.TheVariants.{Memory}
 use Rattle.peg_notation.specs.Spans.{LiesIn, FormLiesIn, FormsLieIn, RuleLiesIn}
-use Rattle.peg_parser.specs.Faults.{StartsIn, grammar_cause}
 
 -- a name that stands in a file of this length
 abbrev StandsIn : (size : ℕ) → Reference → Type 0
@@ -48,6 +43,7 @@ mutual
   names-inside size (Optional part span) inside = names-inside size part inside.1
   names-inside size (Star part span) inside = names-inside size part inside.1
   names-inside size (Plus part span) inside = names-inside size part inside.1
+  names-inside size (Counted part min max span) inside = names-inside size part inside.1
   names-inside size (And part span) inside = names-inside size part inside.1
   names-inside size (Not part span) inside = names-inside size part inside.1
 
@@ -78,16 +74,15 @@ found-inside size test (first ∷ rest) name inside is =
         subst (StandsIn size) same (All-head (StandsIn size) first rest inside)
     by false there later = later there
 
--- the name that a grammar is refused for
-pub refused-inside : (size : ℕ) (rules : List Rule) (fault : GrammarFault) → All (RuleLiesIn size) rules
-    → Refuses rules fault → IfSome (grammar_cause fault) (StartsIn size)
-refused-inside size rules NoRule inside is = tt
-refused-inside size rules (Duplicate name span) inside is =
-    let lies = duplicate-inside size [] rules _ inside is in
+-- a name that rules have twice, and one that is missing among them
+pub twice-inside : (size : ℕ) (rules : List Rule) (name : Reference) → All (RuleLiesIn size) rules
+    → first_duplicate rules ≡ Some name → name.span.start ≤ size
+twice-inside size rules name inside is =
+    let lies = duplicate-inside size [] rules name inside is in omega (arith, lies.0, lies.1)
+
+pub missing-inside : (size : ℕ) (rules : List Rule) (name : Reference) → All (RuleLiesIn size) rules
+    → first_undefined rules ≡ Some name → name.span.start ≤ size
+missing-inside size rules name inside is =
+    let lies = found-inside size (λ (reference : Reference). not (is_defined rules reference.name)) (uses rules) name
+    (uses-inside size rules inside) is in
     omega (arith, lies.0, lies.1)
-refused-inside size rules (Undefined name span) inside is =
-    let lies = found-inside size (λ (reference : Reference). not (is_defined rules reference.name)) (uses rules) _
-    (uses-inside size rules inside) is.1 in
-    omega (arith, lies.0, lies.1)
-refused-inside size rules TooManyParts inside is = tt
-refused-inside size rules Memory inside is = tt

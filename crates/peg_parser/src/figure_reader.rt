@@ -1,7 +1,7 @@
 //! Grammar files read by Ford's figure 1 itself: its own code parses the file, and the tree spells the definitions.
 ghost use Rattle.std.specs.Prelude.{◌≡◌, ◌≤◌, ℕ, length, IfOk, IfErr, IsErrOf, MatchOption};
 ghost use Rattle.peg_figure.specs.Figure.{figure};
-ghost use Rattle.peg_figure.specs.Notation.{most_file_bytes, IsInNotation};
+ghost use Rattle.peg_figure.specs.Notation.{most_file_bytes, FigureMatches};
 ghost use Rattle.peg_parser.specs.Parser.{parser_rules};
 ghost use Rattle.peg_parser.specs.ReadsByFigure.{ReadsByFigure};
 ghost use Rattle.peg_spelling.specs.FigureTrees.{IsTreeOf};
@@ -27,6 +27,9 @@ pub enum FigureFault {
     /// More than `MOST_OPEN` of its parentheses are open at once.
     #[error("the grammar file's parentheses nest too deep")]
     TooNested,
+    /// The first count that is out of range, and where its brace stands.
+    #[error("a count of the grammar file is out of range")]
+    BadCount { at: u32 },
     /// Memory ran out.
     #[error("out of memory")]
     Memory,
@@ -40,6 +43,7 @@ impl From<DefinitionsFault> for FigureFault {
     fn from(fault: DefinitionsFault) -> FigureFault {
         match fault {
             DefinitionsFault::TooNested => FigureFault::TooNested,
+            DefinitionsFault::BadCount { at } => FigureFault::BadCount { at },
             DefinitionsFault::Memory => FigureFault::Memory,
         }
     }
@@ -47,7 +51,7 @@ impl From<DefinitionsFault> for FigureFault {
 
 /// The definitions of a grammar file, in order, as the figure's own parse of it tells them (Ford 2004, section 2.1):
 /// `FileTooLong` for over `MOST_FILE_BYTES` bytes; `NotInFigure` where the figure doesn't match it; `TooNested` where
-/// more than `MOST_OPEN` parentheses are open at once; `Memory`.
+/// more than `MOST_OPEN` parentheses are open at once; else `BadCount` at the first count that is out of range; `Memory`.
 pub fn read_by_figure(alloc: Global, file: &[u8]) -> Result<Vec<Definition>, FigureFault>
     ensures { ReadsByFigure file.now result }
 {
@@ -62,8 +66,9 @@ pub fn read_by_figure(alloc: Global, file: &[u8]) -> Result<Vec<Definition>, Fig
 fn figure_tree(alloc: Global, file: &[u8]) -> Result<Tree, FigureFault>
     requires { length file.now ≤ most_file_bytes }
     ensures tree { IfOk result (IsTreeOf file.now) }
-    ensures none { IsErrOf result FigureFault.NotInFigure → ¬ IsInNotation file.now }
+    ensures none { IsErrOf result FigureFault.NotInFigure → ¬ FigureMatches file.now }
     ensures other { IsErrOf result FigureFault.TooNested → ⊥ }
+    ensures counts { (at : ℕ) → IsErrOf result (FigureFault.BadCount at) → ⊥ }
     ensures short { IsErrOf result FigureFault.FileTooLong → ⊥ }
 {
     match figure_parser(alloc) {
@@ -77,8 +82,9 @@ fn tree_by(alloc: Global, parser: &Parser, file: &[u8]) -> Result<Tree, FigureFa
     requires rules { parser_rules parser.now ≡ figure }
     requires short { length file.now ≤ most_file_bytes }
     ensures tree { IfOk result (IsTreeOf file.now) }
-    ensures none { IsErrOf result FigureFault.NotInFigure → ¬ IsInNotation file.now }
+    ensures none { IsErrOf result FigureFault.NotInFigure → ¬ FigureMatches file.now }
     ensures other { IsErrOf result FigureFault.TooNested → ⊥ }
+    ensures counts { (at : ℕ) → IsErrOf result (FigureFault.BadCount at) → ⊥ }
     ensures short { IsErrOf result FigureFault.FileTooLong → ⊥ }
 {
     let options = ParseOptions {

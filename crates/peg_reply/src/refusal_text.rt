@@ -90,6 +90,7 @@ fn notation_text(alloc: Global, fault: &NotationFault, file: &[u8]) -> Result<St
         NotationFault::FileTooLong => bare_text(alloc, "FileTooLong"),
         NotationFault::Syntax { at } => place_text(alloc, "Syntax", file, *at),
         NotationFault::TooNested { at } => place_text(alloc, "TooNested", file, *at),
+        NotationFault::BadCount { at } => place_text(alloc, "BadCount", file, *at),
         NotationFault::Memory => unreachable!(),
     }
 }
@@ -110,6 +111,7 @@ fn grammar_text(alloc: Global, fault: &GrammarFault, file: &[u8]) -> Result<Stri
         GrammarFault::Undefined { name, span } => {
             name_text(alloc, "Undefined", file, name.as_str(), *span)
         }
+        GrammarFault::BadCount { span } => place_text(alloc, "BadCount", file, span.start),
         GrammarFault::TooManyParts => bare_text(alloc, "TooManyParts"),
         GrammarFault::Memory => unreachable!(),
     }

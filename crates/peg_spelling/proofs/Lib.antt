@@ -1,4 +1,5 @@
 pub mod Inversions
+mod CountNodes
 mod Facts
 mod ListFacts
 mod Loops

@@ -8,15 +8,16 @@ use Rattle.peg_ford.specs.Form.{Form}
 use Rattle.peg_figure.specs.Figure.{sequence_body, expression_body}
 use Rattle.peg_figure.specs.FigureRules as rule
 use Rattle.peg_figure.specs.Nesting.{nesting}
-use Rattle.peg_figure.specs.Spelled.{sequence_spelled, choice_spelled}
+use Rattle.peg_figure.specs.Spelled.{sequence_spelled, choice_spelled, bad_counts}
+use Rattle.peg_spelling.specs.declared.fault.DefinitionsFault.{DefinitionsFault}
 use Rattle.peg_figure.proofs.FigureNames.{expression-meant, sequence-meant}
 use Rattle.peg_lexer.proofs.PieceSizes.{blank-these}
 use Rattle.peg_lexer.specs.declared.token.TokenKind.TheVariants as kind
-use Rattle.peg_spelling.specs.FigureNodes.{IsNode, last_start}
+use Rattle.peg_spelling.specs.FigureNodes.{IsNode, last_start, HasBadCount}
 use Rattle.peg_spelling.specs.SpellerSeen.{Says}
 use Rattle.peg_spelling.proofs.Facts.{then_some}
-use Rattle.peg_spelling.proofs.Loops.{SoFar, so_far-none, so_far-one, so_far-pass, so_far-all, so_far-deep}
-use Rattle.peg_spelling.proofs.NodeSpells.{Opened, opened, node-nesting, sequence-says, expression-says}
+use Rattle.peg_spelling.proofs.Loops.{SoFar, so_far-none, so_far-one, so_far-pass, so_far-all, so_far-deep, so_far-bad, bad-same}
+use Rattle.peg_spelling.proofs.NodeSpells.{Opened, opened, node-nesting, node-counts, sequence-says, expression-says}
 use Rattle.peg_spelling.proofs.Shapes.{Then_is, Prefixes, sequence_children, Alternatives, expression_children}
 use Rattle.peg_spelling.proofs.TokenNodes.{Token, token}
 use Rattle.peg_spelling.proofs.Walks as walks
@@ -66,13 +67,13 @@ module _ (file : List ℕ) (node : Branch) (before left : ℕ) (behind : before 
       item_prefix = item_here.2
 
       pub items_one : (f : Form) (next count' : ℕ) → Says file last (tree_of_branch item) f next → nesting (tree_of_branch item) ≤ left
-          → item.span.start ≤ next → Items (list ++ f ∷ []) count' next (trees_in item.rest)
-      items_one f next count' says within order = record {
+          → bad_counts file (tree_of_branch item) ≡ [] → item.span.start ≤ next → Items (list ++ f ∷ []) count' next (trees_in item.rest)
+      items_one f next count' says within fine order = record {
         place = item.span.end;
         shape = item_here.3;
         behind = omega (arith, item_here.1, walk.behind, item.span.ordered);
         so_far = so_far-one item.rule item.span.start item.span.end (trees_in item.children) (trees_in item.rest) f next item_walk
-            says.pieces says.ends within;
+            says.pieces says.ends within fine;
         order = omega (arith, order, item_here.1, walk.behind);
         some = λ some. omega (arith, order, item_here.1, walk.behind);
       }
@@ -81,6 +82,11 @@ module _ (file : List ℕ) (node : Branch) (before left : ℕ) (behind : before 
       item_deep deep =
           subst (λ n. left < n) (sym (node-nesting rule.sequence node.rule node.span.start node.span.end (trees_in node.children) sequence_opened.is refl))
           (so_far-deep item.rule item.span.start item.span.end (trees_in item.children) (trees_in item.rest) item_walk deep)
+
+      pub item_bad : (fault : DefinitionsFault) → HasBadCount file (tree_of_branch item) fault → HasBadCount file (tree_of_branch node) fault
+      item_bad fault bad =
+          bad-same file (trees_in node.children) (tree_of_branch node) (node-counts file rule.sequence node.rule node.span.start node.span.end (trees_in node.children) sequence_opened.is refl) fault
+          (so_far-bad item.rule item.span.start item.span.end (trees_in item.children) (trees_in item.rest) item_walk fault bad)
 
     module _ {list : List Form} {count last : ℕ} {rest : Trees} (walk : Items list count last rest) (none : rest ≡ NoTrees) where
       items_walk : SoFar file before left (trees_in node.children) list last NoTrees
@@ -95,6 +101,11 @@ module _ (file : List ℕ) (node : Branch) (before left : ℕ) (behind : before 
       items_nest =
           subst (λ n. n ≤ left) (sym (node-nesting rule.sequence node.rule node.span.start node.span.end (trees_in node.children) sequence_opened.is refl))
           (omega (arith, items_walk.most))
+
+      pub items_fine : bad_counts file (tree_of_branch node) ≡ []
+      items_fine =
+          node-counts file rule.sequence node.rule node.span.start node.span.end (trees_in node.children) sequence_opened.is refl
+          ∙ items_walk.counts
 
   -- ---- Expression
 
@@ -122,17 +133,23 @@ module _ (file : List ℕ) (node : Branch) (before left : ℕ) (behind : before 
       first_behind = omega (arith, first_here.1, behind)
 
       pub choices_one : (f : Form) (last : ℕ) → Says file before (tree_of_branch first) f last → nesting (tree_of_branch first) ≤ left
-          → before ≤ last → Choices (f ∷ []) 0 last (trees_in first.rest)
-      choices_one f last says within order = record {
+          → bad_counts file (tree_of_branch first) ≡ [] → before ≤ last → Choices (f ∷ []) 0 last (trees_in first.rest)
+      choices_one f last says within fine order = record {
         place = first.span.end;
         shape = first_here.3;
         behind = omega (arith, first_here.1, first.span.ordered);
         so_far = so_far-one first.rule first.span.start first.span.end (trees_in first.children) (trees_in first.rest) f last
             (subst (SoFar file before left (trees_in node.children) [] before) is (so_far-none file before left (trees_in node.children)))
-            says.pieces says.ends within;
+            says.pieces says.ends within fine;
         order = order;
         some = λ none. absurd (let bad : ⊥ = omega (arith, none) in bad);
       }
+
+      pub first_bad : (fault : DefinitionsFault) → HasBadCount file (tree_of_branch first) fault → HasBadCount file (tree_of_branch node) fault
+      first_bad fault bad =
+          bad-same file (trees_in node.children) (tree_of_branch node) (node-counts file rule.expression node.rule node.span.start node.span.end (trees_in node.children) expression_opened.is refl) fault
+          (so_far-bad first.rule first.span.start first.span.end (trees_in first.children) (trees_in first.rest)
+          (subst (SoFar file before left (trees_in node.children) [] before) is (so_far-none file before left (trees_in node.children))) fault bad)
 
     module _ {list : List Form} {count last : ℕ} {rest : Trees} (walk : Choices list count last rest) (slash : Branch)
         (is : rest ≡ trees_from_branch slash) where
@@ -167,17 +184,17 @@ module _ (file : List ℕ) (node : Branch) (before left : ℕ) (behind : before 
             (subst (λ t. SoFar file before left (trees_in node.children) list last (Tree slash.rule slash.span.start slash.span.end (trees_in slash.children) t))
             next_is (subst (SoFar file before left (trees_in node.children) list last) is walk.so_far))
             (slash_token.spells last ∙ (blank-these (codes "/")).blank (drop slash.span.start file) slash_token.piece slash_token.found)
-            (slash_token.ends last ∙ sym slash_token.last) slash_token.flat
+            (slash_token.ends last ∙ sym slash_token.last) slash_token.flat slash_token.counts
 
         pub choices_more : (f : Form) (stop count' : ℕ) → Says file (last_start slash.span.start (trees_in slash.children)) (tree_of_branch next) f stop
-            → nesting (tree_of_branch next) ≤ left → last_start slash.span.start (trees_in slash.children) ≤ stop
+            → nesting (tree_of_branch next) ≤ left → bad_counts file (tree_of_branch next) ≡ [] → last_start slash.span.start (trees_in slash.children) ≤ stop
             → Choices (list ++ f ∷ []) count' stop (trees_in next.rest)
-        choices_more f stop count' says within order = record {
+        choices_more f stop count' says within fine order = record {
           place = next.span.end;
           shape = pair_here.6;
           behind = omega (arith, pair_here.1, pair_here.4, walk.behind, slash.span.ordered, next.span.ordered);
           so_far = so_far-one next.rule next.span.start next.span.end (trees_in next.children) (trees_in next.rest) f stop slash_walk
-              says.pieces says.ends within;
+              says.pieces says.ends within fine;
           order = omega (arith, order, slash_token.last, pair_here.1, walk.behind);
           some = λ some. omega (arith, order, slash_token.last, pair_here.1, walk.behind);
         }
@@ -186,6 +203,11 @@ module _ (file : List ℕ) (node : Branch) (before left : ℕ) (behind : before 
         next_deep deep =
             subst (λ n. left < n) (sym (node-nesting rule.expression node.rule node.span.start node.span.end (trees_in node.children) expression_opened.is refl))
             (so_far-deep next.rule next.span.start next.span.end (trees_in next.children) (trees_in next.rest) slash_walk deep)
+
+        pub next_bad : (fault : DefinitionsFault) → HasBadCount file (tree_of_branch next) fault → HasBadCount file (tree_of_branch node) fault
+        next_bad fault bad =
+            bad-same file (trees_in node.children) (tree_of_branch node) (node-counts file rule.expression node.rule node.span.start node.span.end (trees_in node.children) expression_opened.is refl) fault
+            (so_far-bad next.rule next.span.start next.span.end (trees_in next.children) (trees_in next.rest) slash_walk fault bad)
 
     module _ {list : List Form} {count last : ℕ} {rest : Trees} (walk : Choices list count last rest) (none : rest ≡ NoTrees) where
       choices_walk : SoFar file before left (trees_in node.children) list last NoTrees
@@ -200,3 +222,8 @@ module _ (file : List ℕ) (node : Branch) (before left : ℕ) (behind : before 
       choices_nest =
           subst (λ n. n ≤ left) (sym (node-nesting rule.expression node.rule node.span.start node.span.end (trees_in node.children) expression_opened.is refl))
           (omega (arith, choices_walk.most))
+
+      pub choices_fine : bad_counts file (tree_of_branch node) ≡ []
+      choices_fine =
+          node-counts file rule.expression node.rule node.span.start node.span.end (trees_in node.children) expression_opened.is refl
+          ∙ choices_walk.counts

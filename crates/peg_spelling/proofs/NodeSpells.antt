@@ -1,5 +1,5 @@
 -- What nodes from Primary to Grammar spell, by what their children do.
-use Rattle.std.proofs.Common.{◌≡◌, ℕ, max, ◌+◌, Bool, false, List, [], ◌∷◌, ◌++◌, Some, refl, ap, ◌∙◌, subst, arith, append-nil, if◌then◌else◌, ◌==◌, ◌&&◌}
+use Rattle.std.proofs.Common.{◌≡◌, ℕ, max, ◌+◌, Bool, false, List, [], ◌∷◌, ◌++◌, Some, refl, ap, ◌∙◌, subst, arith, append-nil, if◌then◌else◌, ◌==◌, ◌&&◌, not}
 use Rattle.peg_bytes.specs.Extent.{Extent, between}
 use Rattle.peg_tree.specs.Trees.{Trees, NoTrees, Tree}
 use Rattle.peg_ford.specs.Form.{Form, Name}
@@ -10,7 +10,7 @@ use Rattle.peg_figure.specs.Figure.{figure}
 use Rattle.peg_figure.specs.FigureRules as rule
 use Rattle.peg_figure.specs.Nesting.{nesting, has_open}
 use Rattle.peg_figure.specs.Notation.{Matches}
-use Rattle.peg_figure.specs.Spelled.{Word, Sign, Expression, Definition, expressions_in, sequence_spelled, choice_spelled, text_end, node_spelled, spelled}
+use Rattle.peg_figure.specs.Spelled.{Word, Sign, Expression, Definition, expressions_in, sequence_spelled, choice_spelled, text_end, node_spelled, spelled, numerals_in, bounds_spelled, bounds_in_range, bad_counts}
 use Rattle.peg_spelling.specs.SpellerSeen.{Says}
 use Rattle.peg_spelling.proofs.Inversions.{node_matched}
 use Rattle.peg_spelling.proofs.Loops.{spelled-first}
@@ -61,6 +61,14 @@ pub node-nesting : (number r place end : ℕ) (children : Trees) → r ≡ numbe
 node-nesting number r place end children is apart =
     ap (λ n. nesting (Tree n place end children NoTrees)) is
     ∙ (ap (λ (t : Bool). max ((if t && has_open children then 1 else 0) + nesting children) 0) apart ∙ omega arith)
+
+-- a node of another rule than COUNT has the counts of its children
+pub node-counts : (file : List ℕ) (number r place end : ℕ) (children : Trees) → r ≡ number → (number == rule.count) ≡ false
+    → bad_counts file (Tree r place end children NoTrees) ≡ bad_counts file children
+node-counts file number r place end children is apart =
+    ap (λ n. bad_counts file (Tree n place end children NoTrees)) is
+    ∙ (ap (λ (t : Bool). (if t && not (bounds_in_range (bounds_spelled (numerals_in (spelled file place children))))
+    then place ∷ [] else []) ++ (bad_counts file children ++ [])) apart ∙ append-nil (bad_counts file children))
 
 -- a Primary
 pub primary-nesting : (r place end : ℕ) (children : Trees) (opens : Bool) → r ≡ rule.primary → has_open children ≡ opens

@@ -1,5 +1,5 @@
 -- What `primary` and `parenthesized` know of their node and of the nodes below it.
-use Rattle.std.proofs.Common.{◌≡◌, ◌≢◌, ℕ, ◌+◌, ◌≤◌, true, false, ◌||◌, List, [], ◌∷◌, drop, codes, IsTrue, refl, sym, ap, ◌∙◌, subst, arith, ◌==◌}
+use Rattle.std.proofs.Common.{◌≡◌, ◌≢◌, ℕ, ◌+◌, ◌≤◌, true, false, ◌||◌, List, [], ◌∷◌, ◌++◌, append-nil, drop, codes, IsTrue, refl, sym, ap, ◌∙◌, subst, arith, ◌==◌}
 use Rattle.peg_bytes.specs.Extent.{Extent}
 use Rattle.peg_tree.specs.Branches.{trees_in, trees_from_branch, tree_of_branch}
 use Rattle.peg_tree.specs.Trees.{Trees, NoTrees, Tree}
@@ -8,7 +8,7 @@ use Rattle.peg_ford.specs.Form.{Form, Name}
 use Rattle.peg_figure.specs.Figure.{primary_body}
 use Rattle.peg_figure.specs.FigureRules as rule
 use Rattle.peg_figure.specs.Nesting.{nesting, has_open}
-use Rattle.peg_figure.specs.Spelled.{Spelling, Word, text_end, spelled}
+use Rattle.peg_figure.specs.Spelled.{Spelling, Word, text_end, spelled, bad_count, bad_counts}
 use Rattle.peg_figure.proofs.FigureNames.{primary-meant}
 use Rattle.peg_lexer.proofs.PieceSizes.{blank-these}
 use Rattle.peg_lexer.specs.declared.token.TokenKind.{TokenKind}
@@ -17,8 +17,8 @@ use Rattle.peg_lexer.specs.Tokens.{rule_of_kind}
 use Rattle.peg_spelling.specs.FigureNodes.{IsNode, last_start}
 use Rattle.peg_spelling.specs.SpellerSeen.{Says}
 use Rattle.peg_spelling.proofs.Facts.{then_some, one_child}
-use Rattle.peg_spelling.proofs.Loops.{nesting-first}
-use Rattle.peg_spelling.proofs.NodeSpells.{Opened, opened, node-passes, primary-nesting, primary-name, primary-parentheses}
+use Rattle.peg_spelling.proofs.Loops.{nesting-first, counts-first, counts-behind}
+use Rattle.peg_spelling.proofs.NodeSpells.{Opened, opened, node-passes, node-counts, primary-nesting, primary-name, primary-parentheses}
 use Rattle.peg_spelling.proofs.Shapes.{Ends, Then_is, PrimaryChildren, primary_children}
 use Rattle.peg_spelling.proofs.TokenNodes.{Token, token, number_of}
 
@@ -62,30 +62,30 @@ module _ (file : List ℕ) (node : Branch) (m : IsNode file (codes "Primary") no
       where
         by : PrimaryChildren file node.span.end node.span.start (trees_in node.children) → OneToken kind.Ident
         by (PrimaryChildren.name shape) = token_from kind.Ident shape
-        by (PrimaryChildren.parentheses shape) = absurd (let bad : 21 ≡ 7 = sym (rule_from _ _ _ shape) ∙ known in cc)
+        by (PrimaryChildren.parentheses shape) = absurd (let bad : 23 ≡ 7 = sym (rule_from _ _ _ shape) ∙ known in cc)
         by (PrimaryChildren.literal shape) = absurd (let bad : 10 ≡ 7 = sym (rule_from _ _ _ shape) ∙ known in cc)
         by (PrimaryChildren.class shape) = absurd (let bad : 11 ≡ 7 = sym (rule_from _ _ _ shape) ∙ known in cc)
-        by (PrimaryChildren.dot shape) = absurd (let bad : 23 ≡ 7 = sym (rule_from _ _ _ shape) ∙ known in cc)
+        by (PrimaryChildren.dot shape) = absurd (let bad : 25 ≡ 7 = sym (rule_from _ _ _ shape) ∙ known in cc)
 
     pub primary_literal : first.rule ≡ rule.literal → OneToken kind.Literal
     primary_literal known = by primary_shape
       where
         by : PrimaryChildren file node.span.end node.span.start (trees_in node.children) → OneToken kind.Literal
         by (PrimaryChildren.literal shape) = token_from kind.Literal shape
-        by (PrimaryChildren.parentheses shape) = absurd (let bad : 21 ≡ 10 = sym (rule_from _ _ _ shape) ∙ known in cc)
+        by (PrimaryChildren.parentheses shape) = absurd (let bad : 23 ≡ 10 = sym (rule_from _ _ _ shape) ∙ known in cc)
         by (PrimaryChildren.name shape) = absurd (let bad : 7 ≡ 10 = sym (rule_from _ _ _ shape) ∙ known in cc)
         by (PrimaryChildren.class shape) = absurd (let bad : 11 ≡ 10 = sym (rule_from _ _ _ shape) ∙ known in cc)
-        by (PrimaryChildren.dot shape) = absurd (let bad : 23 ≡ 10 = sym (rule_from _ _ _ shape) ∙ known in cc)
+        by (PrimaryChildren.dot shape) = absurd (let bad : 25 ≡ 10 = sym (rule_from _ _ _ shape) ∙ known in cc)
 
     pub primary_class : first.rule ≡ rule.class → OneToken kind.Class
     primary_class known = by primary_shape
       where
         by : PrimaryChildren file node.span.end node.span.start (trees_in node.children) → OneToken kind.Class
         by (PrimaryChildren.class shape) = token_from kind.Class shape
-        by (PrimaryChildren.parentheses shape) = absurd (let bad : 21 ≡ 11 = sym (rule_from _ _ _ shape) ∙ known in cc)
+        by (PrimaryChildren.parentheses shape) = absurd (let bad : 23 ≡ 11 = sym (rule_from _ _ _ shape) ∙ known in cc)
         by (PrimaryChildren.name shape) = absurd (let bad : 7 ≡ 11 = sym (rule_from _ _ _ shape) ∙ known in cc)
         by (PrimaryChildren.literal shape) = absurd (let bad : 10 ≡ 11 = sym (rule_from _ _ _ shape) ∙ known in cc)
-        by (PrimaryChildren.dot shape) = absurd (let bad : 23 ≡ 11 = sym (rule_from _ _ _ shape) ∙ known in cc)
+        by (PrimaryChildren.dot shape) = absurd (let bad : 25 ≡ 11 = sym (rule_from _ _ _ shape) ∙ known in cc)
 
     pub primary_dot : first.rule ≢ rule.identifier → first.rule ≢ rule.open_sign → first.rule ≢ rule.literal
         → first.rule ≢ rule.class → OneToken kind.Dot
@@ -121,13 +121,20 @@ module _ (file : List ℕ) (node : Branch) (m : IsNode file (codes "Primary") no
           primary-nesting node.rule node.span.start node.span.end (trees_in node.children) false primary_opened.is
           (ap has_open child ∙ (t.opens ∙ apart)) ∙ ap (λ n. 0 + n) (ap nesting child ∙ t.flat)
 
+      pub primary_fine : ((place : ℕ) (pieces : List Spelling) → bad_count (number_of k) place pieces ≡ [])
+          → bad_counts file (tree_of_branch node) ≡ []
+      primary_fine fine =
+          let t = token file k first.rule first.span.start first.span.end (trees_in first.children) one.match in
+          node-counts file rule.primary node.rule node.span.start node.span.end (trees_in node.children) primary_opened.is refl
+          ∙ (ap (bad_counts file) (one_child node first is one.none) ∙ (t.counts ∙ fine first.span.start t.piece.spells))
+
   -- ---- parentheses
 
   pub opens_from : (first : Branch) → trees_in node.children ≡ trees_from_branch first → first.rule ≡ rule.open_sign
       → IsTrue (has_open (trees_in node.children))
   opens_from first is known =
       subst (λ t. IsTrue (has_open t)) (sym is)
-      (subst (λ n. IsTrue (n == 21 || has_open (trees_in first.rest))) (sym known) refl)
+      (subst (λ n. IsTrue (n == 23 || has_open (trees_in first.rest))) (sym known) refl)
 
   module _ (opens : IsTrue (has_open (trees_in node.children))) where
     abbrev Inside : ℕ → Trees → Type 0
@@ -221,6 +228,16 @@ module _ (file : List ℕ) (node : Branch) (m : IsNode file (codes "Primary") no
               (Tree inside.rule inside.span.start inside.span.end (trees_in inside.children) (tree_of_branch closing))) ≡ nesting (tree_of_branch inside) =
               omega (arith, below, next, open_token.flat, closing_token.flat) in sum) in
               parenthesized_nests ∙ ap (λ n. 1 + n) count
+
+          pub inside_counts : bad_counts file (tree_of_branch node) ≡ bad_counts file (tree_of_branch inside)
+          inside_counts =
+              node-counts file rule.primary node.rule node.span.start node.span.end (trees_in node.children) primary_opened.is refl
+              ∙ (ap (bad_counts file) all_is
+              ∙ (counts-behind file opening.rule opening.span.start opening.span.end (trees_in opening.children)
+              (Tree inside.rule inside.span.start inside.span.end (trees_in inside.children) (tree_of_branch closing)) open_token.counts
+              ∙ (counts-first file inside.rule inside.span.start inside.span.end (trees_in inside.children) (tree_of_branch closing)
+              ∙ (ap (λ (l : List ℕ). bad_counts file (tree_of_branch inside) ++ l) closing_token.counts
+              ∙ append-nil (bad_counts file (tree_of_branch inside))))))
 
           pub parenthesized_order : node.span.start ≤ last_start closing.span.start (trees_in closing.children)
           parenthesized_order =

@@ -9,19 +9,20 @@ use Rattle.peg_ford.specs.Rules.{Rule}
 use Rattle.peg_figure.specs.Figure.{definition_body, grammar_body, end_of_file_body}
 use Rattle.peg_figure.specs.FigureRules as rule
 use Rattle.peg_figure.specs.Nesting.{nesting, most_open}
-use Rattle.peg_figure.specs.Spelled.{Word, Definition, rules_in, text_end, spelled, rules_spelled}
+use Rattle.peg_figure.specs.Spelled.{Word, Definition, rules_in, text_end, spelled, rules_spelled, bad_counts}
+use Rattle.peg_spelling.specs.declared.fault.DefinitionsFault.{DefinitionsFault}
 use Rattle.peg_figure.proofs.FigureNames.{definition-meant, grammar-meant, end_of_file-meant}
 use Rattle.peg_lexer.proofs.PieceSizes.{blank-these}
 use Rattle.peg_lexer.proofs.SpacingRules.{finds-spacing}
 use Rattle.peg_lexer.specs.declared.token.TokenKind.TheVariants as kind
 use Rattle.peg_ford.proofs.Derivations.{one_result}
-use Rattle.peg_spelling.specs.FigureNodes.{IsNode, last_start}
+use Rattle.peg_spelling.specs.FigureNodes.{IsNode, last_start, HasBadCount}
 use Rattle.peg_spelling.specs.FigureTrees.{IsTreeOf}
 use Rattle.peg_spelling.specs.SpellerSeen.{Says}
 use Rattle.peg_spelling.proofs.Facts.{then_some}
 use Rattle.peg_spelling.proofs.Inversions.{Node, node_matched, derives, not_of}
-use Rattle.peg_spelling.proofs.Loops.{RulesSoFar, rules_so_far-one, spelled-first, nesting-first}
-use Rattle.peg_spelling.proofs.NodeSpells.{Opened, opened, node-nesting, definition-says}
+use Rattle.peg_spelling.proofs.Loops.{RulesSoFar, rules_so_far-one, spelled-first, nesting-first, counts-first, counts-behind, bad-more}
+use Rattle.peg_spelling.proofs.NodeSpells.{Opened, opened, node-nesting, node-counts, definition-says}
 use Rattle.peg_spelling.proofs.Shapes.{Ends, Then_is, definition_children, Definitions, grammar_children}
 use Rattle.peg_spelling.proofs.TokenNodes.{Token, token}
 use Rattle.peg_spelling.proofs.Walks.{Defining}
@@ -107,6 +108,14 @@ module _ (file : List ℕ) (node : Branch) (m : IsNode file (codes "Definition")
             (Tree arrow.rule arrow.span.start arrow.span.end (trees_in arrow.children) (tree_of_branch body))) ≡ nesting (tree_of_branch body) =
             omega (arith, below, next, name_token.flat, arrow_token.flat) in sum))
 
+        pub rule_counts : bad_counts file (tree_of_branch node) ≡ bad_counts file (tree_of_branch body)
+        rule_counts =
+            node-counts file rule.definition node.rule node.span.start node.span.end (trees_in node.children) definition_opened.is refl
+            ∙ (ap (bad_counts file) all_is
+            ∙ (counts-behind file name.rule name.span.start name.span.end (trees_in name.children)
+            (Tree arrow.rule arrow.span.start arrow.span.end (trees_in arrow.children) (tree_of_branch body)) name_token.counts
+            ∙ counts-behind file arrow.rule arrow.span.start arrow.span.end (trees_in arrow.children) (tree_of_branch body) arrow_token.counts))
+
 -- ---- Grammar
 
 -- a file's tree is a tree
@@ -176,6 +185,9 @@ module _ (file : List ℕ) (tree : Trees) (m : IsTreeOf file tree) (root : Branc
               spells = ap (λ t. rules_in (spelled file 0 t)) whole_is ∙ (ap rules_in (append-nil (spelled file 0 children))
                   ∙ ap rules_in (spelled-first file 0 gap.rule gap.span.start gap.span.end (trees_in gap.children) (trees_from_branch node)
                   ∙ ap (λ l. l ++ spelled file (text_end 0 (tree_of_branch gap)) (trees_from_branch node)) (ap (spelled file 0) gap_same ∙ it.spells 0)));
+              counts = ap (bad_counts file) whole_is ∙ (append-nil (bad_counts file children)
+                  ∙ counts-behind file gap.rule gap.span.start gap.span.end (trees_in gap.children) (trees_from_branch node)
+                  (ap (bad_counts file) gap_same ∙ it.fine));
               less = omega (arith, count);
               most = omega (arith, count);
             };
@@ -187,8 +199,8 @@ module _ (file : List ℕ) (tree : Trees) (list : List Rule) (node : Branch) (wa
   -- one more, and the node behind it
   pub rules_one : node.rule ≡ rule.definition → (next : Branch) → trees_in node.rest ≡ trees_from_branch next → (more : Rule)
       → ((before : ℕ) → spelled file before (tree_of_branch node) ≡ Definition more ∷ []) → nesting (tree_of_branch node) ≤ most_open
-      → Defining file tree (list ++ more ∷ []) (trees_from_branch next)
-  rules_one known next next_is more says within = by walk.shape
+      → bad_counts file (tree_of_branch node) ≡ [] → Defining file tree (list ++ more ∷ []) (trees_from_branch next)
+  rules_one known next next_is more says within fine = by walk.shape
     where
       by : Definitions file walk.end walk.place (trees_from_branch node) → Defining file tree (list ++ more ∷ []) (trees_from_branch next)
       by (inl here) = record {
@@ -196,9 +208,9 @@ module _ (file : List ℕ) (tree : Trees) (list : List Rule) (node : Branch) (wa
         place = node.span.end;
         shape = subst (Definitions file walk.end node.span.end) next_is here.3;
         so_far = subst (RulesSoFar file most_open tree (list ++ more ∷ [])) next_is
-            (rules_so_far-one node.rule node.span.start node.span.end (trees_in node.children) (trees_in node.rest) more walk.so_far says within);
+            (rules_so_far-one node.rule node.span.start node.span.end (trees_in node.children) (trees_in node.rest) more walk.so_far says within fine);
       }
-      by (inr here) = absurd (let bad : 28 ≡ 1 = sym here.0 ∙ known in cc)
+      by (inr here) = absurd (let bad : 30 ≡ 1 = sym here.0 ∙ known in cc)
 
   -- behind the last one the file ends
   record FileEnds : Type 0 where
@@ -233,3 +245,12 @@ module _ (file : List ℕ) (tree : Trees) (list : List Rule) (node : Branch) (wa
   rules_nest apart =
       let flat : nesting (trees_from_branch node) ≡ 0 = ap nesting (last_is apart) in
       omega (arith, walk.so_far.most, flat)
+
+  -- the first count that is out of range in this one is the first in the tree
+  pub rule_bad : (fault : DefinitionsFault) → HasBadCount file (tree_of_branch node) fault → HasBadCount file tree fault
+  rule_bad =
+      bad-more file (tree_of_branch node) tree (bad_counts file (trees_in node.rest))
+      (walk.so_far.counts ∙ counts-first file node.rule node.span.start node.span.end (trees_in node.children) (trees_in node.rest))
+
+  pub rules_fine : node.rule ≢ rule.definition → bad_counts file tree ≡ []
+  rules_fine apart = walk.so_far.counts ∙ ap (bad_counts file) (last_is apart)

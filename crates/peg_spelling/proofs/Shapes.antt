@@ -9,7 +9,7 @@ use Rattle.peg_ford.proofs.Derivations.{Derives, DerivesItems}
 use Rattle.peg_figure.specs.Figure.{figure, grammar_body, definition_body, expression_body, sequence_body, prefix_body, suffix_body, primary_body}
 use Rattle.peg_figure.specs.FigureRules as rule
 use Rattle.peg_figure.specs.Notation.{Matches}
-use Rattle.peg_figure.proofs.FigureNames.{definition-meant, expression-meant, sequence-meant, prefix-meant, suffix-meant, primary-meant, identifier-meant, literal-meant, class-meant, leftarrow-meant, slash-meant, and_sign-meant, not_sign-meant, question-meant, star-meant, plus-meant, open_sign-meant, close-meant, dot-meant, spacing-meant, end_of_file-meant}
+use Rattle.peg_figure.proofs.FigureNames.{definition-meant, expression-meant, sequence-meant, prefix-meant, suffix-meant, primary-meant, identifier-meant, literal-meant, class-meant, leftarrow-meant, slash-meant, and_sign-meant, not_sign-meant, question-meant, star-meant, plus-meant, count-meant, open_sign-meant, close-meant, dot-meant, spacing-meant, end_of_file-meant}
 use Rattle.peg_spelling.proofs.Inversions.{Node, node_of, first_of, items_of, none_of, first_matched, either_of, only_of, optional_of, plus_of, not_of}
 
 -- ---- trees side by side
@@ -181,6 +181,7 @@ pub data SuffixRest (file : List ℕ) (end place : ℕ) (trees : Trees) : Type 0
   question : Then_is file (codes "QUESTION") rule.question (Ends end) place trees → SuffixRest file end place trees
   star : Then_is file (codes "STAR") rule.star (Ends end) place trees → SuffixRest file end place trees
   plus : Then_is file (codes "PLUS") rule.plus (Ends end) place trees → SuffixRest file end place trees
+  count : Then_is file (codes "COUNT") rule.count (Ends end) place trees → SuffixRest file end place trees
 
 pub suffix_children : {file : List ℕ} {place end : ℕ} {trees : Trees} → Derives figure file suffix_body place (Matched end trees)
     → Then_is file (codes "Primary") rule.primary (SuffixRest file end) place trees
@@ -193,8 +194,9 @@ suffix_children {file} {end = end} {trees} d =
     subst (SuffixRest file end middle) (sym whole) (subst (λ n. SuffixRest file n middle sign.one) none.0
     (sign_of middle sign.middle sign.one (optional_of sign.item sign.middle sign.one refl))))
   where
-    sign_of : {q s l whole : Extent} (p e : ℕ) (t : Trees) → Derives figure file
-        (Choice (Name (codes "QUESTION") q) (Then (Name (codes "STAR") s) (Then (Name (codes "PLUS") l) End)) whole) p (Matched e t)
+    sign_of : {q s l n whole : Extent} (p e : ℕ) (t : Trees) → Derives figure file
+        (Choice (Name (codes "QUESTION") q) (Then (Name (codes "STAR") s) (Then (Name (codes "PLUS") l)
+        (Then (Name (codes "COUNT") n) End))) whole) p (Matched e t)
         ⊎ ((p ≡ e) × (t ≡ NoTrees)) → SuffixRest file e p t
     sign_of p e t (inr none) = SuffixRest.nothing none
     sign_of p e t (inl some) =
@@ -202,7 +204,10 @@ suffix_children {file} {end = end} {trees} d =
           | inl one ↦ SuffixRest.question (name_alone question-meant.1 one e t refl)
           | inr others ↦ elim (either_of others e t refl) [
             | inl one ↦ SuffixRest.star (name_alone star-meant.1 one e t refl)
-            | inr last ↦ SuffixRest.plus (name_alone plus-meant.1 (only_of last) e t refl)
+            | inr more ↦ elim (either_of more e t refl) [
+              | inl one ↦ SuffixRest.plus (name_alone plus-meant.1 one e t refl)
+              | inr last ↦ SuffixRest.count (name_alone count-meant.1 (only_of last) e t refl)
+            ]
           ]
         ]
 

@@ -8,17 +8,17 @@ use Rattle.peg_tree.specs.Trees.{Trees, NoTrees, Tree, followed_by}
 use Rattle.peg_ford.specs.Form.{Form, Forms, Name, Seq, End, Then}
 use Rattle.peg_ford.specs.Record.{Failed, Matched}
 use Rattle.peg_ford.proofs.Derivations.{Derives, DerivesItems, one_result}
-use Rattle.peg_figure.specs.Figure.{figure, identifier_body, literal_body, class_body}
+use Rattle.peg_figure.specs.Figure.{figure, identifier_body, literal_body, class_body, count_body}
 use Rattle.peg_figure.specs.FigureRules as rule
 use Rattle.peg_figure.specs.Nesting.{nesting, has_open}
 use Rattle.peg_figure.specs.Notation.{Matches}
-use Rattle.peg_figure.specs.Spelled.{text_end, node_spelled, spelled}
-use Rattle.peg_figure.proofs.FigureNames.{identifier-meant, literal-meant, class-meant, leftarrow-meant, slash-meant, and_sign-meant, not_sign-meant, question-meant, star-meant, plus-meant, open_sign-meant, close-meant, dot-meant, spacing-meant}
-use Rattle.peg_lexer.specs.Lexical.{text_of, identifier, literal, quoted, class}
+use Rattle.peg_figure.specs.Spelled.{text_end, node_spelled, spelled, bad_count, bad_counts}
+use Rattle.peg_figure.proofs.FigureNames.{identifier-meant, literal-meant, class-meant, leftarrow-meant, slash-meant, and_sign-meant, not_sign-meant, question-meant, star-meant, plus-meant, count-meant, open_sign-meant, close-meant, dot-meant, spacing-meant}
+use Rattle.peg_lexer.specs.Lexical.{text_of, identifier, literal, quoted, class, count}
 use Rattle.peg_lexer.specs.Pieces.{Piece}
 use Rattle.peg_lexer.specs.Tokens.{rule_of_kind}
 use Rattle.peg_lexer.specs.declared.token.TokenKind.{TokenKind}
-use Rattle.peg_lexer.specs.declared.token.TokenKind.TheVariants.{Ident, Literal, Class, Arrow, Slash, And, Not, Question, Star, Plus, Open, Close, Dot}
+use Rattle.peg_lexer.specs.declared.token.TokenKind.TheVariants.{Ident, Literal, Class, Arrow, Slash, And, Not, Question, Star, Plus, Count, Open, Close, Dot}
 use Rattle.peg_lexer.proofs.Takes.{text_end-followed}
 use Rattle.peg_lexer.proofs.Texts.{TakesToken, FindsToken, behind_text}
 use Rattle.peg_lexer.proofs.TokenRules as rules
@@ -40,6 +40,7 @@ number_of Not = rule.not_sign
 number_of Question = rule.question
 number_of Star = rule.star
 number_of Plus = rule.plus
+number_of Count = rule.count
 number_of Open = rule.open_sign
 number_of Close = rule.close
 number_of Dot = rule.dot
@@ -57,13 +58,14 @@ takes-kind file Not = rules.takes-not_sign file
 takes-kind file Question = rules.takes-question file
 takes-kind file Star = rules.takes-star_sign file
 takes-kind file Plus = rules.takes-plus file
+takes-kind file Count = rules.takes-count file
 takes-kind file Open = rules.takes-open_sign file
 takes-kind file Close = rules.takes-close file
 takes-kind file Dot = rules.takes-dot file
 
 -- no kind of token is at the end
 pub nothing_left : (kind : TokenKind) → text_of kind [] ≡ None
-unfolding identifier literal quoted class
+unfolding identifier literal quoted class count
 nothing_left Ident = refl
 nothing_left Literal = refl
 nothing_left Class = refl
@@ -74,6 +76,7 @@ nothing_left Not = refl
 nothing_left Question = refl
 nothing_left Star = refl
 nothing_left Plus = refl
+nothing_left Count = refl
 nothing_left Open = refl
 nothing_left Close = refl
 nothing_left Dot = refl
@@ -144,7 +147,7 @@ spaced_node {end = end} apart last node = spaced_from apart node (spaced_seq las
 pub spaced : (file : List ℕ) (kind : TokenKind) (number place end : ℕ) (children : Trees)
     → Matches file (rule_of_kind kind) place end (Tree number place end children NoTrees)
     → SpacedNode (number_of kind) number place end children
-unfolding identifier_body literal_body class_body
+unfolding identifier_body literal_body class_body count_body
 spaced file Ident number place end children m = spaced_node refl (_, refl) (node_matched identifier-meant.1 m)
 spaced file Literal number place end children m =
     let node = node_matched literal-meant.1 m in
@@ -160,6 +163,7 @@ spaced file Not number place end children m = spaced_node refl (_, refl) (node_m
 spaced file Question number place end children m = spaced_node refl (_, refl) (node_matched question-meant.1 m)
 spaced file Star number place end children m = spaced_node refl (_, refl) (node_matched star-meant.1 m)
 spaced file Plus number place end children m = spaced_node refl (_, refl) (node_matched plus-meant.1 m)
+spaced file Count number place end children m = spaced_node refl (_, refl) (node_matched count-meant.1 m)
 spaced file Open number place end children m = spaced_node refl (_, refl) (node_matched open_sign-meant.1 m)
 spaced file Close number place end children m = spaced_node refl (_, refl) (node_matched close-meant.1 m)
 spaced file Dot number place end children m = spaced_node refl (_, refl) (node_matched dot-meant.1 m)
@@ -176,7 +180,8 @@ pub record Token (file : List ℕ) (kind : TokenKind) (rule place end : ℕ) (ch
   pub spells : (before : ℕ) → spelled file before (Tree rule place end children NoTrees)
       ≡ node_spelled file (number_of kind) before place end (place + piece.length) piece.spells
   pub flat : nesting (Tree rule place end children NoTrees) ≡ 0
-  pub opens : has_open (Tree rule place end children NoTrees) ≡ (number_of kind == 21)
+  pub opens : has_open (Tree rule place end children NoTrees) ≡ (number_of kind == 23)
+  pub counts : bad_counts file (Tree rule place end children NoTrees) ≡ bad_count (number_of kind) place piece.spells
   pub order : place + piece.length ≤ end
   pub inside : place ≤ length file
 
@@ -218,6 +223,7 @@ token file kind number place end children m = by (text_of kind (drop place file)
               ∙ ap (λ n. node_spelled file (number_of kind) before place n (place + piece.length) piece.spells) ends);
           flat = ap nesting trees ∙ it.flat;
           opens = ap has_open trees ∙ it.opens;
+          counts = ap (bad_counts file) trees ∙ it.counts;
           order = omega (arith, ends);
           inside = here piece found;
         }

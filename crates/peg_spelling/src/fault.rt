@@ -8,6 +8,10 @@ pub enum DefinitionsFault {
     /// More than `MOST_OPEN` of its parentheses are open at once.
     #[error("the grammar's parentheses nest too deep")]
     TooNested,
+    /// The first count that is out of range starts at this place, in bytes from 0: it is no more than 0 times at most, or
+    /// more than 255 times, or more times at least than at most.
+    #[error("the count at byte {at} of the grammar file is out of range")]
+    BadCount { at: u32 },
     /// Memory ran out.
     #[error("out of memory")]
     Memory,

@@ -5,6 +5,7 @@ mod definitions;
 mod expressions;
 mod fault;
 pub mod laws;
+mod nesting;
 mod rules;
 mod speller;
 

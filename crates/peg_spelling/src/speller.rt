@@ -1,14 +1,19 @@
 //! Expressions of nodes: one function for each rule of the figure from Expression to Primary.
-ghost use Rattle.std.specs.Prelude.{◌≡◌, ◌<◌, ◌≤◌, codes, IsTrue, IfOk, OnOk, IsErrOf};
+ghost use Rattle.std.specs.Prelude.{◌≡◌, ◌<◌, ◌≤◌, [], drop, codes, IsTrue, IfOk, IfErr, OnOk, IsErrOf};
+ghost use Rattle.peg_bytes.specs.Extent.{extent};
 ghost use Rattle.peg_figure.specs.Nesting.{nesting, has_open};
-ghost use Rattle.peg_spelling.specs.FigureNodes.{IsNode, last_start};
+ghost use Rattle.peg_figure.specs.Spelled.{bad_counts, counted};
+ghost use Rattle.peg_grammar.specs.Written.{form_of};
+ghost use Rattle.peg_lexer.specs.LexicalCode.{count_spelled};
+ghost use Rattle.peg_spelling.specs.FigureNodes.{IsNode, last_start, HasBadCount};
 ghost use Rattle.peg_tree.specs.Branches.{trees_in, tree_of_branch};
 
 use crate::expressions::{Expressions, Spelled, Word, any_of, class_of, literal_of, signed};
 use crate::fault::DefinitionsFault;
-use crate::rules::{CLASS, IDENTIFIER, LITERAL, OPEN, SUFFIX};
+use crate::rules::{CLASS, COUNT, IDENTIFIER, LITERAL, OPEN, SUFFIX};
 use peg_bytes::Span;
-use peg_lexer::{class_bytes, literal_bytes, name_text};
+use peg_grammar::Expr;
+use peg_lexer::{class_bytes, count_bounds, literal_bytes, name_text};
 use peg_tree::Branch;
 use std::alloc::{AllocError, Global};
 
@@ -51,7 +56,9 @@ impl<'a> Speller<'a> {
         ensures spells { IfOk result (SpellsAt (file_in self.now) before (tree_of_branch node.now)) }
         ensures order { IfOk result (λ part. before ≤ part.last) }
         ensures within { OnOk result (nesting (tree_of_branch node.now) ≤ left) }
+        ensures fine { OnOk result (bad_counts (file_in self.now) (tree_of_branch node.now) ≡ []) }
         ensures deep { IsErrOf result DefinitionsFault.TooNested → left < nesting (tree_of_branch node.now) }
+        ensures bad { IfErr result (HasBadCount (file_in self.now) (tree_of_branch node.now)) }
     {
         let sequence = node.children.first();
         let first = self.sequence(before, &sequence, left)?;
@@ -80,7 +87,9 @@ impl<'a> Speller<'a> {
         ensures spells { IfOk result (SpellsAt (file_in self.now) before (tree_of_branch node.now)) }
         ensures order { IfOk result (λ part. before ≤ part.last) }
         ensures within { OnOk result (nesting (tree_of_branch node.now) ≤ left) }
+        ensures fine { OnOk result (bad_counts (file_in self.now) (tree_of_branch node.now) ≡ []) }
         ensures deep { IsErrOf result DefinitionsFault.TooNested → left < nesting (tree_of_branch node.now) }
+        ensures bad { IfErr result (HasBadCount (file_in self.now) (tree_of_branch node.now)) }
     {
         let mut items = Expressions::none(self.alloc, before);
         let mut rest = node.children;
@@ -100,7 +109,9 @@ impl<'a> Speller<'a> {
         ensures spells { IfOk result (SpellsAny (file_in self.now) (tree_of_branch node.now)) }
         ensures order { IfOk result (λ part. node.now.span.start ≤ part.last) }
         ensures within { OnOk result (nesting (tree_of_branch node.now) ≤ left) }
+        ensures fine { OnOk result (bad_counts (file_in self.now) (tree_of_branch node.now) ≡ []) }
         ensures deep { IsErrOf result DefinitionsFault.TooNested → left < nesting (tree_of_branch node.now) }
+        ensures bad { IfErr result (HasBadCount (file_in self.now) (tree_of_branch node.now)) }
     {
         let first = node.children.first();
         if first.rule == SUFFIX {
@@ -114,14 +125,16 @@ impl<'a> Speller<'a> {
         })
     }
 
-    // An expression, with the sign behind it if there is one.
+    // An expression, with the sign or the count behind it if there is one.
     #[cycle(speller)]
     fn suffix(&self, node: &Branch<'_>, left: usize) -> Result<Spelled, DefinitionsFault>
         requires node { IsNode (file_in self.now) (codes "Suffix") node.now }
         ensures spells { IfOk result (SpellsAny (file_in self.now) (tree_of_branch node.now)) }
         ensures order { IfOk result (λ part. node.now.span.start ≤ part.last) }
         ensures within { OnOk result (nesting (tree_of_branch node.now) ≤ left) }
+        ensures fine { OnOk result (bad_counts (file_in self.now) (tree_of_branch node.now) ≡ []) }
         ensures deep { IsErrOf result DefinitionsFault.TooNested → left < nesting (tree_of_branch node.now) }
+        ensures bad { IfErr result (HasBadCount (file_in self.now) (tree_of_branch node.now)) }
     {
         let primary = node.children.first();
         let part = self.primary(&primary, left)?;
@@ -131,10 +144,12 @@ impl<'a> Speller<'a> {
         let sign = primary.rest.first();
         let last = token_end(&sign);
         let span = Span::new(node.span.start, last);
-        Ok(Spelled {
-            expression: signed(self.alloc, sign.rule, part.expression, span)?,
-            last,
-        })
+        let expression = if sign.rule == COUNT {
+            self.counted(&sign, part.expression, span)?
+        } else {
+            signed(self.alloc, sign.rule, part.expression, span)?
+        };
+        Ok(Spelled { expression, last })
     }
 
     // A name, an expression in parentheses, a literal, a class or a dot.
@@ -144,7 +159,9 @@ impl<'a> Speller<'a> {
         ensures spells { IfOk result (SpellsAny (file_in self.now) (tree_of_branch node.now)) }
         ensures order { IfOk result (λ part. node.now.span.start ≤ part.last) }
         ensures within { OnOk result (nesting (tree_of_branch node.now) ≤ left) }
+        ensures fine { OnOk result (bad_counts (file_in self.now) (tree_of_branch node.now) ≡ []) }
         ensures deep { IsErrOf result DefinitionsFault.TooNested → left < nesting (tree_of_branch node.now) }
+        ensures bad { IfErr result (HasBadCount (file_in self.now) (tree_of_branch node.now)) }
     {
         let first = node.children.first();
         match first.rule {
@@ -164,7 +181,9 @@ impl<'a> Speller<'a> {
         ensures spells { IfOk result (SpellsAny (file_in self.now) (tree_of_branch node.now)) }
         ensures order { IfOk result (λ part. node.now.span.start ≤ part.last) }
         ensures within { OnOk result (nesting (tree_of_branch node.now) ≤ left) }
+        ensures fine { OnOk result (bad_counts (file_in self.now) (tree_of_branch node.now) ≡ []) }
         ensures deep { IsErrOf result DefinitionsFault.TooNested → left < nesting (tree_of_branch node.now) }
+        ensures bad { IfErr result (HasBadCount (file_in self.now) (tree_of_branch node.now)) }
     {
         if left == 0 {
             return Err(DefinitionsFault::TooNested);
@@ -213,6 +232,27 @@ impl<'a> Speller<'a> {
         let span = Span::new(token.span.start, token_end(token));
         let set = class_bytes(self.alloc, &self.file[span.start as usize..])?;
         Ok(class_of(set, span))
+    }
+
+    // An expression with a count, which has to be in range.
+    fn counted(&self, token: &Branch<'_>, part: Expr, span: Span) -> Result<Expr, DefinitionsFault>
+        requires { IsNode (file_in self.now) (codes "COUNT") token.now }
+        ensures form { IfOk result (λ whole. form_of whole
+            ≡ counted (count_spelled (drop token.now.span.start (file_in self.now))) (form_of part) (extent span)) }
+        ensures fine { OnOk result (bad_counts (file_in self.now) (tree_of_branch token.now) ≡ []) }
+        ensures bad { IfErr result (HasBadCount (file_in self.now) (tree_of_branch token.now)) }
+        ensures deep { IsErrOf result DefinitionsFault.TooNested → ⊥ }
+    {
+        let at = token.span.start;
+        let Some(bounds) = count_bounds(&self.file[at as usize..]) else {
+            return Err(DefinitionsFault::BadCount { at });
+        };
+        Ok(Expr::Counted {
+            part: Box::new(self.alloc, part)?,
+            min: bounds.min,
+            max: bounds.max,
+            span,
+        })
     }
 
     // A dot.

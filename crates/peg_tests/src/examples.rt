@@ -53,13 +53,13 @@ const JSON: &[u8] = b"\
 
 const NOTATION: &[u8] = b"\
     # The notation of grammar files, in itself: figure 1 of Bryan Ford, \"Parsing Expression Grammars\" (POPL 2004),\n\
-    # with bytes by two hexadecimal digits.\n\
+    # with bytes by two hexadecimal digits and counted repetition.\n\
     Grammar <- Spacing Definition+ EndOfFile\n\
     Definition <- Identifier LEFTARROW Expression\n\
     Expression <- Sequence (SLASH Sequence)*\n\
     Sequence <- Prefix*\n\
     Prefix <- (AND / NOT)? Suffix\n\
-    Suffix <- Primary (QUESTION / STAR / PLUS)?\n\
+    Suffix <- Primary (QUESTION / STAR / PLUS / COUNT)?\n\
     Primary <- Identifier !LEFTARROW / OPEN Expression CLOSE / Literal / Class / DOT\n\
     Identifier <- IdentStart IdentCont* Spacing\n\
     IdentStart <- [a-zA-Z_]\n\
@@ -76,6 +76,8 @@ const NOTATION: &[u8] = b"\
     QUESTION <- '?' Spacing\n\
     STAR <- '*' Spacing\n\
     PLUS <- '+' Spacing\n\
+    COUNT <- '{' Number (',' Number)? '}' Spacing\n\
+    Number <- [0-9]+\n\
     OPEN <- '(' Spacing\n\
     CLOSE <- ')' Spacing\n\
     DOT <- '.' Spacing\n\
@@ -158,7 +160,7 @@ fn every_grammar_has_a_table_and_is_accepted(rt: HostRuntime) -> Result<(), Fail
         (CSV, 6),
         (INI, 10),
         (JSON, 10),
-        (NOTATION, 29),
+        (NOTATION, 31),
         (URI, 15),
     ];
     for (file, rules) in grammars {

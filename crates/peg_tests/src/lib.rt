@@ -6,6 +6,8 @@ mod check;
 #[cfg(test)]
 mod code;
 #[cfg(test)]
+mod counts;
+#[cfg(test)]
 mod examples;
 #[cfg(test)]
 mod formats;

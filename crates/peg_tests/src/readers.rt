@@ -1,13 +1,13 @@
 //! Grammar files read twice: by hand, and by the figure itself. Both give the same definitions, or both refuse.
 use crate::examples::GRAMMARS;
-use peg_notation::{figure, figure_text, read};
+use peg_notation::{NotationFault, figure, figure_text, read};
 use peg_tool::{Command, Device, FigureFault, ParseOptions, read_by_figure, run_tool};
 use std::alloc::{AllocError, Global};
 use std::process::Abort;
 use std::test::Fail;
 
-// How many bytes the figure's text has, in 29 lines.
-const FIGURE_BYTES: usize = 1015;
+// How many bytes the figure's text has, in 31 lines.
+const FIGURE_BYTES: usize = 1086;
 
 // What the two readers say of a file; None, where it is refused.
 fn both(alloc: Global, file: &[u8]) -> Result<(Option<String>, Option<String>), AllocError> {
@@ -59,7 +59,7 @@ fn nested(alloc: Global, depth: usize) -> Result<Vec<u8>, AllocError> {
 fn the_figure_reads_itself(rt: HostRuntime) -> Result<(), Fail> {
     let alloc = rt.alloc();
     let rules = figure(alloc)?;
-    assert_eq!(rt; rules.len(), 29);
+    assert_eq!(rt; rules.len(), 31);
     let wanted = format!(in alloc; "{rules:?}")?;
     let (by_hand, by_figure) = both(alloc, figure_text())?;
     assert_eq!(rt; by_hand.as_deref(), Some(wanted.as_str()));
@@ -74,7 +74,7 @@ fn the_figure_is_accepted_and_parses_itself(rt: HostRuntime) -> Result<(), Fail>
     let checked = told(&rt, rt.alloc(), &Command::Check)?;
     assert_eq!(rt;
         checked.as_str(),
-        "{\"result\":\"accepted\",\"rules\":29}\n"
+        "{\"result\":\"accepted\",\"rules\":31}\n"
     );
     let options = ParseOptions {
         start: None,
@@ -87,8 +87,8 @@ fn the_figure_is_accepted_and_parses_itself(rt: HostRuntime) -> Result<(), Fail>
         rows: true,
     };
     let line = told(&rt, rt.alloc(), &parse)?;
-    assert!(rt; line.starts_with("{\"consumed\":1015,\"expected\":[["));
-    let behind = "]],\"far\":1015,\"result\":\"matched\",\"rows\":[[1,\"Grammar\",0,1015],";
+    assert!(rt; line.starts_with("{\"consumed\":1086,\"expected\":[["));
+    let behind = "]],\"far\":1086,\"result\":\"matched\",\"rows\":[[1,\"Grammar\",0,1086],";
     assert!(rt; line.contains(behind));
     Ok(())
 }
@@ -109,7 +109,7 @@ fn told(rt: &impl Abort, alloc: Global, command: &Command<'_>) -> Result<String,
 
 #[test]
 fn files_are_read_alike(rt: HostRuntime) -> Result<(), Fail> {
-    let files: [&[u8]; 9] = [
+    let files: [&[u8]; 13] = [
         b"S <- 'a' S / 'b'\n",
         b"D <- &(A !'b') 'a'* B !.\nA <- 'a' A 'b' / ''\nB <- 'b' B 'c' / ''\n",
         b"A <- '\\377'",
@@ -119,6 +119,10 @@ fn files_are_read_alike(rt: HostRuntime) -> Result<(), Fail> {
         b"A <- '\\xFF'",
         b"A <- [\\x80-\\xbf]",
         b"A <- '\\x414'",
+        b"A <- 'a'{2,4}",
+        b"A <- 'x' {007} # times\r\nB <- !A{0,255}\t.{1}",
+        b"A <- (''){3} / [ab]{1,1} 'c'\n",
+        b"A <- A{0,2} (('x'{0,2})*) {12}",
     ];
     assert_read(&rt, rt.alloc(), &files)
 }
@@ -150,5 +154,55 @@ fn files_that_the_figure_refuses(rt: HostRuntime) -> Result<(), Fail> {
     assert_eq!(rt; fault(&spaces), Some(FigureFault::FileTooLong));
     spaces.truncate(1_048_576);
     assert_eq!(rt; fault(&spaces), Some(FigureFault::NotInFigure));
+    Ok(())
+}
+
+// Where both readers find a count out of range.
+fn bad_counts(alloc: Global, file: &[u8]) -> (Option<u32>, Option<u32>) {
+    let by_hand = match read(alloc, file) {
+        Err(NotationFault::BadCount { at }) => Some(at),
+        _ => None,
+    };
+    let by_figure = match read_by_figure(alloc, file) {
+        Err(FigureFault::BadCount { at }) => Some(at),
+        _ => None,
+    };
+    (by_hand, by_figure)
+}
+
+#[test]
+fn both_readers_refuse_a_count_at_its_brace(rt: HostRuntime) -> Result<(), Fail> {
+    let files: [(&[u8], u32); 10] = [
+        (b"A <- 'x'{0}", 8),
+        (b"A <- 'x'{3,2}", 8),
+        (b"A <- 'x'{256}", 8),
+        (b"A <- 'x'{0,0}", 8),
+        (b"A <- 'x'{1,256}", 8),
+        (b"A <- 'x'\n{0000} 'y'{0}", 9),
+        (b"A <- ('x'{2}'y'{300}){0}", 15),
+        (b"A <- 'x'{1,00000255} B <- 'y'{18446744073709551616}", 29),
+        (b"A <- (('x'{5,4})+){2}", 10),
+        (b"# {0}\nA <- '{0}' [{0}]{4,3}", 22),
+    ];
+    for (file, at) in files {
+        let found = bad_counts(rt.alloc(), file);
+        assert_eq!(rt; found, (Some(at), Some(at)), "{file:?}");
+    }
+    Ok(())
+}
+
+#[test]
+fn the_figure_tells_what_it_does_not_match_before_a_count(rt: HostRuntime) -> Result<(), Fail> {
+    let alloc = rt.alloc();
+    let faults = |file: &[u8]| (read(alloc, file).err(), read_by_figure(alloc, file).err());
+    let unmatched = Some(FigureFault::NotInFigure);
+    let bad = Some(NotationFault::BadCount { at: 8 });
+    assert_eq!(rt; faults(b"A <- 'x'{0} )"), (bad, unmatched));
+    let syntax = Some(NotationFault::Syntax { at: 5 });
+    assert_eq!(rt; faults(b"A <- ) 'x'{0}"), (syntax, unmatched));
+    let mut file = nested(alloc, 201)?;
+    file.extend_from_slice(b"{0}")?;
+    let deep = Some(NotationFault::TooNested { at: 205 });
+    assert_eq!(rt; faults(&file), (deep, Some(FigureFault::TooNested)));
     Ok(())
 }

@@ -2,8 +2,8 @@
 use Rattle.std.proofs.Common.{◌≡◌, ℕ, ◌==◌, Bool, true, false, inl, inr, List, Option, None, Some, Result, Ok, Err, IfOk, IfSome}
 use Rattle.std.proofs.Common.{refl, sym, ap, ◌∙◌, subst, if◌then◌else◌}
 use Rattle.std.specs.Io.KnownBytes.{Keeps}
-use Rattle.peg_parser.specs.Cause.{Cause, FileTooLong, Syntax, TooNested, NoRule, Duplicate, Undefined, TooManyParts}
-use Rattle.peg_parser.specs.Cause.{EmptyLoop, LeftRecursion, CodeTooLarge, NoSuchStart, StepLimit, TooDeep, TextTooLong}
+use Rattle.peg_parser.specs.Cause.{Cause, FileTooLong, Syntax, TooNested, BadCount, NoRule, Duplicate, Undefined}
+use Rattle.peg_parser.specs.Cause.{TooManyParts, EmptyLoop, LeftRecursion, CodeTooLarge, NoSuchStart, StepLimit, TooDeep, TextTooLong}
 use Rattle.peg_reply.specs.CauseText.{cause_status}
 use Rattle.peg_reply.specs.Reply.{Reply, Refused, Tabled, Accepted, Coded, Failed, Matched, status_of}
 use Rattle.peg_tool.specs.Leads.{Outcome, answer_of}
@@ -20,6 +20,7 @@ cause-told : (cause : Cause) → (cause_status cause == 5) ≡ false
 cause-told FileTooLong = refl
 cause-told (Syntax at) = refl
 cause-told (TooNested at) = refl
+cause-told (BadCount at) = refl
 cause-told NoRule = refl
 cause-told (Duplicate name) = refl
 cause-told (Undefined name) = refl

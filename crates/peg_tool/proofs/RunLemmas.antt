@@ -10,7 +10,7 @@ use Rattle.peg_io.specs.Split.{IsSplit, at_separator, without_separator}
 use Rattle.peg_io.proofs.SplitLaws.{TellsSplit, separator_in_front, separator_further, front_split}
 use Rattle.peg_parser.specs.Accepts.{Accepts}
 use Rattle.peg_parser.specs.Cause.{Cause, FileTooLong}
-use Rattle.peg_parser.specs.Refusals.{IsNoGrammar, IsIllFormed, code_too_large, file_too_long, not_in_the_notation, too_nested, a_name_twice}
+use Rattle.peg_parser.specs.Refusals.{IsNoGrammar, IsIllFormed, code_too_large, file_too_long, not_in_the_notation, count_out_of_range, too_nested, a_name_twice}
 use Rattle.peg_parser.specs.Refusals.{a_name_missing, too_many_parts, empty_loop, left_recursion}
 use Rattle.peg_grammar.specs.Limits.{most_text_bytes}
 use Rattle.peg_reply.specs.Lines.{IsLineOf, line_bytes}
@@ -67,6 +67,7 @@ over-reply file text task reply long (no_grammar is) = by is
     by (file_too_long over) = refl
     by (not_in_the_notation within none at) = absurd (omega (arith, long, within))
     by (too_nested within deep at) = absurd (omega (arith, long, within))
+    by (count_out_of_range within bad at) = absurd (omega (arith, long, within))
     by (a_name_twice read twice) = absurd (omega (arith, long, read.within))
     by (a_name_missing read once missing) = absurd (omega (arith, long, read.within))
     by (too_many_parts read whole over) = absurd (omega (arith, long, read.within))

@@ -145,7 +145,8 @@ Example: pegtool parse grammar.peg text
 In a class, `-]` makes the bracket the end of a range: `[a-]` isn't closed, and
 goes on to the next bracket, over the rules between. Write `[-a]` for a dash or
 an a. Any byte may be written as `\\xHH`, by two hexadecimal digits, in quotes
-and in classes; of octal digits `\\277` is the last, and `\\377` is `\\37` and `7`.";
+and in classes; of octal digits `\\277` is the last, and `\\377` is `\\37` and `7`.
+`e{2}` is `e` twice, `e{2,4}` two to four times: both numbers stand, 255 at most.";
 
 // What stands below the help of `check`.
 const CHECK_NOTES: &str = "\

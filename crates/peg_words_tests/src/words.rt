@@ -159,6 +159,7 @@ fn help_is_told(rt: HostRuntime) -> Result<(), Fail> {
         ("-h", "Usage: pegtool <COMMAND>"),
         ("--help", "Example: pegtool parse grammar.peg text"),
         ("--help", "may be written as `\\xHH`"),
+        ("--help", "`e{2,4}` two to four times"),
         ("check --help", "Usage: pegtool check <G>"),
         ("check --help", "Example: pegtool check grammar.peg"),
         ("table --help", "Usage: pegtool table <G>"),

@@ -6,4 +6,12 @@ use Rattle.peg_core.proofs.laws.the_core_forms_agree_with_hand_worked_grammars.G
 
 pub returns : goal.returns
 unfolding only all_bytes core_can_in core_record_in
-returns c = record { nested = refl; signs = refl; recognized = (16, refl); outcomes = refl }
+returns c = record {
+  nested = refl;
+  signs = refl;
+  recognized = (16, refl);
+  outcomes = refl;
+  two_to_four = refl;
+  two_to_four_parts = refl;
+  three = (16, refl);
+}

@@ -4,21 +4,21 @@ use Rattle.std.proofs.lemmas.List.{drop_all, length-map}
 use Rattle.std.proofs.Math.Logic.{∥∥₁_elim}
 use mathlib.Core.Bool.{Bool-set}
 use Rattle.std.proofs.lemmas.List.Sums.{sum_by-cons}
-use Rattle.peg_ford.specs.Form.{form_weight, names_used}
+use Rattle.peg_ford.specs.Form.{counts_written, form_weight, names_used}
 use Rattle.peg_grammar.specs.GrammarRules.{rules_in}
 use Rattle.peg_ford.specs.Loops.{MeetsFirst, IsEmptyLoop, IsLeftCycle}
-use Rattle.peg_ford.specs.Rules.{Rule, uses}
+use Rattle.peg_ford.specs.Rules.{Rule, counts, uses}
 use Rattle.peg_grammar.specs.Written.{form_of}
 use Rattle.peg_core.specs.CoreForm.{core_form, core_bodies, core_bodies_from}
 use Rattle.peg_core.specs.CoreLoops.{StandsInBody, CoreMeetsFirst, IsCoreEmptyLoop, IsCoreLeftCycle}
 use Rattle.peg_core.specs.CoreOutcomes.{IsCoreWellFormed}
-use Rattle.peg_core.specs.CoreParts.{are_defined, all_core_parts, core_parts_from}
+use Rattle.peg_core.specs.CoreParts.{are_defined, are_in_range, all_core_parts, core_parts_from}
 use Rattle.peg_core.specs.Subexpressions.{Numbered, numbered_subexpressions, is_star}
 use Rattle.peg_ford.specs.WellFormed.{IsWellFormedGrammar}
 use Rattle.peg_core.specs.Laid.{LaysForm}
 use Rattle.peg_core.specs.Layout.{Layout, Desugared, form_at}
-use Rattle.peg_core.proofs.AddLemmas.{LaysForm-room, LaysForm-few, are_defined-left, are_defined-right}
-use Rattle.peg_core.proofs.RuleLemmas.{body_weights, rules-drop, grammar-defined, length-all_core_parts, RulesSoFar}
+use Rattle.peg_core.proofs.AddLemmas.{LaysForm-room, LaysForm-few, are_defined-left, are_defined-right, are_in_range-left, are_in_range-right}
+use Rattle.peg_core.proofs.RuleLemmas.{body_weights, rules-drop, grammar-defined, grammar-ranged, length-all_core_parts, RulesSoFar}
 use Rattle.peg_core.proofs.RuleLemmas.{RulesSoFar-start, RulesSoFar-more}
 use Rattle.peg_core.proofs.PartsLemmas.{subexpressions-stand, stars-stand, grammar-right, grammar-fine}
 use Rattle.peg_core.proofs.Meanings.{length-core_bodies}
@@ -43,6 +43,7 @@ loop-rule-init c =
       rules = count;
       counted = ap length c.new-bodies.ensures.items;
       defined = ∥∥₁_elim c.args.grammar.now.grammar (Bool-set _ _) (grammar-defined rules);
+      ranged = ∥∥₁_elim c.args.grammar.now.grammar (Bool-set _ _) (grammar-ranged rules);
       so_far = subst (λ bodies. RulesSoFar rules rules bodies flat) (sym c.new-bodies.ensures.items) (RulesSoFar-start rules flat (c.new-flat.ensures ∙ ap (λ n. record { rules = n; forms = []; spans = [] }) c.rules.ensures.count));
     }
 
@@ -68,6 +69,14 @@ add-requires-clause-defined c =
     let here = are_defined-left rules (names_used step.0.body) (uses rest) (subst (λ some. are_defined rules (uses some) ≡ true) step.1 c.loop-rule.invariant.defined) in
     subst (λ e. are_defined rules (names_used e) ≡ true) step.2 here
 
+pub add-requires-clause-ranged : goal.add-requires-clause-ranged
+add-requires-clause-ranged c =
+    let rules = rules_in c.args.grammar.now in
+    let step = rules-drop rules c.loop-rule.rule (form_of c.body.result.now) c.body.ensures in
+    let rest = drop (c.loop-rule.rule + 1) rules in
+    let here = are_in_range-left (counts_written step.0.body) (counts rest) (subst (λ some. are_in_range (counts some) ≡ true) step.1 c.loop-rule.invariant.ranged) in
+    subst (λ e. are_in_range (counts_written e) ≡ true) step.2 here
+
 pub loop-rule-preserved : goal.loop-rule-preserved
 loop-rule-preserved c =
     let rules = rules_in c.args.grammar.now in
@@ -81,12 +90,14 @@ loop-rule-preserved c =
     let bodies = c.loop-rule.bodies.items in
     let lays = subst (λ f. LaysForm rules f now body new) (sym step.2) c.in_ok-body.ensures in
     let so_far = subst (λ some. RulesSoFar rules some bodies now) step.1 c.loop-rule.invariant.so_far in
+    let ranged = subst (λ some. are_in_range (counts some) ≡ true) step.1 c.loop-rule.invariant.ranged in
     record {
-      room = omega (arith, c.loop-rule.invariant.room, weight, LaysForm-room rules step.0.body now new body lays);
+      room = omega (arith, c.loop-rule.invariant.room, weight, LaysForm-room rules step.0.body now new body lays (are_in_range-left (counts_written step.0.body) (counts rest) ranged));
       few = omega (arith, c.loop-rule.invariant.few, weight, LaysForm-few rules step.0.body now new body lays);
       rules = lays.rules ∙ c.loop-rule.invariant.rules;
       counted = omega (arith, c.loop-rule.invariant.counted, ap length c.in_ok-push.ensures.items, length-append bodies (body ∷ []));
       defined = are_defined-right rules (names_used step.0.body) (uses rest) (subst (λ some. are_defined rules (uses some) ≡ true) step.1 c.loop-rule.invariant.defined);
+      ranged = are_in_range-right (counts_written step.0.body) (counts rest) ranged;
       so_far = subst (λ l. RulesSoFar rules rest l new) (sym c.in_ok-push.ensures.items) (RulesSoFar-more rules step.0 rest bodies now new body so_far lays);
     }
 
@@ -108,7 +119,8 @@ returns-clause-few c =
     let rules = rules_in c.args.grammar.now in
     let flat = c.loop-rule.flat in
     let rest = core_parts_from rules (length flat.spans) (drop c.loop-rule.rule rules) in
-    omega (arith, ap (λ (d : Desugared). length d.forms) c.new.ensures, ap length c.loop-rule.invariant.so_far.forms, length-append flat.forms rest, length-all_core_parts rules)
+    let ranged = ∥∥₁_elim c.args.grammar.now.grammar (Bool-set _ _) (grammar-ranged rules) in
+    omega (arith, ap (λ (d : Desugared). length d.forms) c.new.ensures, ap length c.loop-rule.invariant.so_far.forms, length-append flat.forms rest, length-all_core_parts rules ranged)
 
 -- ---- what stands among the core forms
 

@@ -1,19 +1,20 @@
 use Rattle.std.proofs.Common.{◌≡◌, ◌+◌, ◌*◌, ◌≤◌, true, length, drop}
 use Rattle.peg_ford.specs.Grammar.{most_parts}
 use Rattle.peg_grammar.specs.GrammarRules.{rules_in}
-use Rattle.peg_ford.specs.Rules.{uses}
-use Rattle.peg_core.specs.CoreParts.{are_defined}
-use Rattle.peg_core.specs.Layout.{most_forms}
+use Rattle.peg_ford.specs.Rules.{counts, uses}
+use Rattle.peg_core.specs.CoreParts.{are_defined, are_in_range}
+use Rattle.peg_core.specs.Layout.{most_forms, most_forms_each}
 use Rattle.peg_core.proofs.RuleLemmas.{body_weights, RulesSoFar}
 use Rattle.peg_core.proofs.sugar.desugar.Given as goal
 
 -- the forms of the rules so far were put there, and those that are left have room
 abbrev pub invariant-loop-rule : goal.invariant-loop-rule
 invariant-loop-rule l = record {
-  room : length l.flat.forms + 2 * body_weights (drop l.rule (rules_in l.grammar)) ≤ most_forms;
+  room : length l.flat.forms + most_forms_each * body_weights (drop l.rule (rules_in l.grammar)) ≤ most_forms;
   few : length l.flat.spans + body_weights (drop l.rule (rules_in l.grammar)) ≤ most_parts;
   rules : l.flat.rules ≡ length (rules_in l.grammar);
   counted : length l.bodies.items ≡ l.rule;
   defined : are_defined (rules_in l.grammar) (uses (drop l.rule (rules_in l.grammar))) ≡ true;
+  ranged : are_in_range (counts (drop l.rule (rules_in l.grammar))) ≡ true;
   so_far : RulesSoFar (rules_in l.grammar) (drop l.rule (rules_in l.grammar)) l.bodies.items l.flat;
 }

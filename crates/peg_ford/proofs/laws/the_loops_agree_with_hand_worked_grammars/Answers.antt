@@ -4,7 +4,7 @@ use Rattle.std.proofs.lemmas.List.Elements.{Contains-append_left, Contains-appen
 use Rattle.peg_bytes.specs.Extent.{Extent, between}
 use Rattle.peg_ford.specs.AbstractOutcomes.{can_in, GivesNothing}
 use Rattle.peg_ford.specs.Examples.{star_of_star, plus_of_empty, star_of_optional}
-use Rattle.peg_ford.specs.Form.{Form, Literal, Class, Name, Seq, Optional, Star, Plus, End, Then}
+use Rattle.peg_ford.specs.Form.{Form, Literal, Class, Name, Seq, Optional, Star, Plus, Counted, End, Then}
 use Rattle.peg_ford.specs.LoopExamples.{star_of_stuck_star, behind_empty_class}
 use Rattle.peg_ford.specs.Loops.{Reaches, MeetsFirst, IsEmptyLoop}
 use Rattle.peg_ford.specs.Rules.{Rule}
@@ -87,6 +87,10 @@ not_met meets =
       | inr there ↦ class-fails behind_empty_class (between 5 7) there.0.0 there.0.1
     ]
 
+-- ('x'{0,2})*
+abbrev counted_star : Form
+counted_star = Star (Counted (Literal (codes "x") (between 6 9)) 0 2 (between 6 14)) (between 5 16)
+
 pub returns : goal.returns
 unfolding can_in
 returns c = record {
@@ -128,4 +132,12 @@ returns c = record {
   );
   behind_empty_class = not_met;
   itself = (record { rule = _; name = codes "T"; numbered = refl; reached = refl; means = refl }, tt);
+  counted_itself = (record { rule = _; name = codes "A"; numbered = refl; reached = refl; means = refl }, tt);
+  star_of_count = record {
+    rule = _;
+    part = Counted (Literal (codes "x") (between 6 9)) 0 2 (between 6 14);
+    numbered = refl;
+    written = inl (first_of counted_star (below counted_star));
+    idle = (2, refl);
+  };
 }

@@ -30,7 +30,7 @@ abbrev nested-told : List Told
 nested-told = record { can = record { nothing = false; something = true; fails = true }; rank = 0 } ∷ []
 
 nested-grammar : IsGrammar nested
-nested-grammar = IsGrammar-from_searches nested (λ none. cc) refl refl
+nested-grammar = IsGrammar-from_searches nested (λ none. cc) refl refl refl
 
 pub returns : goal.returns
 unfolding can_in
@@ -38,6 +38,7 @@ returns c = record {
   nested = refl;
   counted = refl;
   signs = refl;
+  two_to_four = refl;
   itself = itself-none;
   star_of_star = λ is. star-refused (Star (Literal (codes "a") (between 6 9)) (between 6 10)) (between 5 12) (2, refl) is.0 is.1;
   plus_of_empty = λ is. plus-refused (Literal [] (between 6 8)) (between 5 10) (1, refl) is.0 is.1;

@@ -21,3 +21,4 @@ returns-clause-grammar c =
     (some_rule definitions c.is_empty.result c.is_empty.ensures c.if-is_empty.false)
     c.in_ok-names.ensures.distinct
     (sym (c.in_default.ensures ∙ unknown))
+    (sym c.in_default-first_bad_count.ensures)

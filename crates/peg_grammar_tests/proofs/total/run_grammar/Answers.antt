@@ -28,7 +28,7 @@ pub returns-clause-well_formed : goal.returns-clause-well_formed
 returns-clause-well_formed c =
     let body = ap one_rule c.in_ok-body.ensures in
     let well_formed : IsWellFormedGrammar run =
-    IsWellFormedGrammar-shown run told refl (IsGrammar-from_searches run (λ none. cc) refl refl) in
+    IsWellFormedGrammar-shown run told refl (IsGrammar-from_searches run (λ none. cc) refl refl refl) in
     IfOk-weaker c.one_rule.result (λ (grammar : Grammar). rules_in grammar ≡ one_rule (form_of c.in_ok-body.body))
     (λ (grammar : Grammar). ∥ IsWellFormedGrammar (rules_in grammar) ∥₁)
     (λ grammar same. subst (λ (rules : List Rule). ∥ IsWellFormedGrammar rules ∥₁) (sym (same ∙ body)) ∣ well_formed ∣₁)

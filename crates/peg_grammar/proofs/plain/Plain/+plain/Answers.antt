@@ -1,4 +1,4 @@
-use Rattle.std.proofs.Common.{rules, ◌+◌, ◌-◌, map, length, drop, append_assoc, refl, sym, ap, ◌∙◌, subst, Ok, arith, option_map, option_and_then, slice_get, ◌++◌, get_or}
+use Rattle.std.proofs.Common.{rules, ℕ, suc, ◌+◌, ◌-◌, map, length, drop, append_assoc, refl, sym, ap, ◌∙◌, subst, Ok, arith, option_map, option_and_then, slice_get, ◌++◌, get_or}
 use Rattle.std.specs.Vec.{with_item}
 use Rattle.peg_bytes.specs.Extent.{extent}
 use Rattle.peg_tree.specs.Rows.{row_of, rows_of}
@@ -17,7 +17,8 @@ use Rattle.peg_grammar.proofs.LoopLemmas.{ItemsSoFar, FailedSoFar, forms-drop, f
 use Rattle.peg_ford.proofs.RulesLemmas.{meant-position, meant-no_position, named-used, length-first_from, first_from-within, terminals_of-weight}
 use Rattle.peg_grammar.proofs.SeenLemmas.{and-matched, not-matched, not-failed, optional-failed, record_in-none, record_in-positive}
 use Rattle.peg_grammar.proofs.StepLemmas.{cut_back, rounds-failed, rounds-evaluates, then-evaluates, star-matches, used-is, rule-failed, rule-matched}
-use Rattle.peg_grammar.proofs.WrittenForms.{form_of-Name, form_of-Seq, form_of-Choice, form_of-Optional, form_of-Plus, form_of-And, form_of-Not}
+use Rattle.peg_grammar.proofs.TimesLemmas.{TimesSoFar, times-start, times-matched, times-enough, times-failed, times-stopped, times-end, one_less-left, some-left, none-left}
+use Rattle.peg_grammar.proofs.WrittenForms.{form_of-Name, form_of-Seq, form_of-Choice, form_of-Optional, form_of-Plus, form_of-Counted, form_of-And, form_of-Not}
 use Rattle.peg_grammar.proofs.plain.Plain.+plain.Goals as goal
 
 -- ---- one level down
@@ -64,6 +65,11 @@ pub case-returns-in-Plus-clause-evaluates : goal.case-returns-in-Plus-clause-eva
 case-returns-in-Plus-clause-evaluates t c =
     let same = ap form_of c.in-Plus.is ∙ (form_of-Plus c.in-Plus.part c.in-Plus.span ∙ ap (λ e. form.Plus (form_of e) (extent c.in-Plus.span)) (sym c.deref-in-Plus.ensures)) in
     subst (λ e. Evaluates (table_in c.args.self.now c.args.depth e c.args.terminal c.args.place) (seen_in c.args.found.now) c.plus.result (seen_in c.plus.new.found)) (sym same) (c.plus.ensures.evaluates (extent c.in-Plus.span))
+
+pub case-returns-in-Counted-clause-evaluates : goal.case-returns-in-Counted-clause-evaluates
+case-returns-in-Counted-clause-evaluates t c =
+    let same = ap form_of c.in-Counted.is ∙ (form_of-Counted c.in-Counted.part c.in-Counted.min c.in-Counted.max c.in-Counted.span ∙ ap (λ e. form.Counted (form_of e) c.in-Counted.min c.in-Counted.max (extent c.in-Counted.span)) (sym c.deref-in-Counted.ensures)) in
+    subst (λ e. Evaluates (table_in c.args.self.now c.args.depth e c.args.terminal c.args.place) (seen_in c.args.found.now) c.counted.result (seen_in c.counted.new.found)) (sym same) (c.counted.ensures.evaluates (extent c.in-Counted.span))
 
 pub case-returns-in-And-clause-evaluates : goal.case-returns-in-And-clause-evaluates
 case-returns-in-And-clause-evaluates t c =
@@ -255,6 +261,67 @@ items-returns-clause-evaluates t c span =
     let all = forms (map form_of c.args.items.now) in
     let so_far = subst (λ l. ItemsSoFar taken all c.args.terminal c.args.place (seen_in c.args.found.now) l c.loop-item.terminal c.loop-item.at (seen_in c.loop-item.found)) (forms-drop_all form_of c.args.items.now c.loop-item.item-index c.loop-item-test.false) c.loop-item.invariant.so_far in
     items-end taken all c.args.terminal c.args.place (seen_in c.args.found.now) c.loop-item.terminal c.loop-item.at (seen_in c.loop-item.found) so_far
+
+-- ---- a count
+
+pub counted-loop-round-init : goal.counted-loop-round-init
+counted-loop-round-init t c = record {
+  after = search rules;
+  within = c.requires.place;
+  from = c.len-held.ensures ∙ c.args.found.now.rows.ok.0;
+  so_far = times-start (λ at. taken_in c.args.self.now c.args.depth (form_of c.args.part.now) c.args.terminal at) c.args.min c.args.max c.args.place (seen_in c.args.found.now) (c.args.min - 0) (c.args.max - 0) (omega arith) (omega arith);
+}
+
+pub counted-returns-in-Err-clause-evaluates : goal.counted-returns-in-Err-clause-evaluates
+counted-returns-in-Err-clause-evaluates t c span =
+    let take = λ (at : ℕ). taken_in c.args.self.now c.args.depth (form_of c.args.part.now) c.args.terminal at in
+    let start = seen_in c.args.found.now in
+    let so_far = subst (λ n. TimesSoFar take c.args.min c.args.max c.args.place start (c.args.min - c.loop-round.round) n c.loop-round.at (seen_in c.loop-round.found)) (some-left c.args.max c.loop-round.round (omega (arith, c.loop-round-test.true))) c.loop-round.invariant.so_far in
+    times-stopped take c.args.min c.args.max c.args.place start c.loop-round.at (seen_in c.loop-round.found) (seen_in c.expression.new.found) (c.args.min - c.loop-round.round) (c.args.max - (c.loop-round.round + 1)) c.in-Err.stop so_far c.in-Err.ensures.evaluates
+
+pub counted-returns-then-round-min-clause-evaluates : goal.counted-returns-then-round-min-clause-evaluates
+counted-returns-then-round-min-clause-evaluates t c span =
+    let take = λ (at : ℕ). taken_in c.args.self.now c.args.depth (form_of c.args.part.now) c.args.terminal at in
+    let start = seen_in c.args.found.now in
+    let enough = none-left c.args.min c.loop-round.round (omega (arith, c.if-round-min.true)) in
+    let more = some-left c.args.max c.loop-round.round (omega (arith, c.loop-round-test.true)) in
+    let so_far = subst (λ n. TimesSoFar take c.args.min c.args.max c.args.place start n (suc (c.args.max - (c.loop-round.round + 1))) c.loop-round.at (seen_in c.loop-round.found)) enough (subst (λ n. TimesSoFar take c.args.min c.args.max c.args.place start (c.args.min - c.loop-round.round) n c.loop-round.at (seen_in c.loop-round.found)) more c.loop-round.invariant.so_far) in
+    let h = subst (λ v. Evaluates (take c.loop-round.at) (seen_in c.loop-round.found) (Ok v) (seen_in c.expression.new.found)) c.in-Ok-Fails.field-0-is c.in-Ok-Fails.ensures.evaluates in
+    times-enough take c.args.min c.args.max c.args.place start c.loop-round.at (seen_in c.loop-round.found) (seen_in c.expression.new.found) (c.args.max - (c.loop-round.round + 1)) so_far h
+
+pub counted-returns-in-Ok-Fails-clause-evaluates : goal.counted-returns-in-Ok-Fails-clause-evaluates
+counted-returns-in-Ok-Fails-clause-evaluates t c span =
+    let take = λ (at : ℕ). taken_in c.args.self.now c.args.depth (form_of c.args.part.now) c.args.terminal at in
+    let start = seen_in c.args.found.now in
+    let wanted = some-left c.args.min c.loop-round.round (omega (arith, c.if-round-min.false)) in
+    let more = some-left c.args.max c.loop-round.round (omega (arith, c.loop-round-test.true)) in
+    let so_far = subst (λ n. TimesSoFar take c.args.min c.args.max c.args.place start n (suc (c.args.max - (c.loop-round.round + 1))) c.loop-round.at (seen_in c.loop-round.found)) wanted (subst (λ n. TimesSoFar take c.args.min c.args.max c.args.place start (c.args.min - c.loop-round.round) n c.loop-round.at (seen_in c.loop-round.found)) more c.loop-round.invariant.so_far) in
+    let h = subst (λ v. Evaluates (take c.loop-round.at) (seen_in c.loop-round.found) (Ok v) (seen_in c.expression.new.found)) c.in-Ok-Fails.field-0-is c.in-Ok-Fails.ensures.evaluates in
+    let cut = cut_back c.args.found.now c.expression.new.found c.truncate.new.self c.len-held.result (rows_of so_far.trees ++ rows_of (trees_left h.0.result)) c.loop-round.invariant.from c.truncate.ensures.items ((λ i. (h.3 i).rows) ∙ ((λ i. (so_far.noted_now i).rows ++ rows_of (trees_left h.0.result)) ∙ append_assoc (map row_of c.args.found.now.rows.items) (rows_of so_far.trees) (rows_of (trees_left h.0.result)))) in
+    times-failed take c.args.min c.args.max c.args.place start c.loop-round.at (seen_in c.loop-round.found) (seen_in c.expression.new.found) (c.args.min - (c.loop-round.round + 1)) (c.args.max - (c.loop-round.round + 1)) (seen_in (record { furthest = c.expression.new.found.furthest; rows = c.truncate.new.self })) so_far cut h
+
+pub counted-loop-round-preserved : goal.counted-loop-round-preserved
+counted-loop-round-preserved t c =
+    let take = λ (at : ℕ). taken_in c.args.self.now c.args.depth (form_of c.args.part.now) c.args.terminal at in
+    let start = seen_in c.args.found.now in
+    let more = some-left c.args.max c.loop-round.round (omega (arith, c.loop-round-test.true)) in
+    let so_far = subst (λ n. TimesSoFar take c.args.min c.args.max c.args.place start (c.args.min - c.loop-round.round) n c.loop-round.at (seen_in c.loop-round.found)) more c.loop-round.invariant.so_far in
+    let h = subst (λ v. Evaluates (take c.loop-round.at) (seen_in c.loop-round.found) (Ok v) (seen_in c.expression.new.found)) c.in-Ok-EndsAt.field-0-is c.in-Ok-EndsAt.ensures.evaluates in
+    let ends = subst (EndsWithin c.loop-round.at (length (text_of c.args.self.now))) c.in-Ok-EndsAt.field-0-is c.in-Ok-EndsAt.ensures.within in
+    record {
+      after = omega (arith, c.loop-round.invariant.after, ends.0);
+      within = ends.1;
+      from = c.loop-round.invariant.from;
+      so_far = subst (λ n. TimesSoFar take c.args.min c.args.max c.args.place start n (c.args.max - (c.loop-round.round + 1)) c.in-Ok-EndsAt.end (seen_in c.expression.new.found)) (one_less-left c.args.min c.loop-round.round)
+          (times-matched take c.args.min c.args.max c.args.place start c.loop-round.at (seen_in c.loop-round.found) (seen_in c.expression.new.found) (c.args.min - c.loop-round.round) (c.args.max - (c.loop-round.round + 1)) c.in-Ok-EndsAt.end so_far h);
+    }
+
+pub counted-returns-clause-evaluates : goal.counted-returns-clause-evaluates
+counted-returns-clause-evaluates t c span =
+    let take = λ (at : ℕ). taken_in c.args.self.now c.args.depth (form_of c.args.part.now) c.args.terminal at in
+    let start = seen_in c.args.found.now in
+    let so_far = subst (λ n. TimesSoFar take c.args.min c.args.max c.args.place start (c.args.min - c.loop-round.round) n c.loop-round.at (seen_in c.loop-round.found)) (none-left c.args.max c.loop-round.round (omega (arith, c.loop-round-test.false))) c.loop-round.invariant.so_far in
+    times-end take c.args.min c.args.max c.args.place start (c.args.min - c.loop-round.round) c.loop-round.at (seen_in c.loop-round.found) so_far
 
 -- ---- a rule
 

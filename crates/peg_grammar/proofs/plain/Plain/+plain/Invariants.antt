@@ -1,4 +1,4 @@
-use Rattle.std.proofs.Common.{◌≡◌, ◌+◌, ◌*◌, ◌≤◌, map, length, drop}
+use Rattle.std.proofs.Common.{◌≡◌, ◌+◌, ◌-◌, ◌*◌, ◌≤◌, map, length, drop}
 use Rattle.peg_ford.specs.Form.{forms, terminals_of_all}
 use Rattle.peg_grammar.specs.Found.{seen_in}
 use Rattle.peg_ford.specs.Grammar.{most_parts}
@@ -6,6 +6,7 @@ use Rattle.peg_grammar.specs.Plain.{text_of, taken_in}
 use Rattle.peg_ford.specs.Record.{take_first}
 use Rattle.peg_grammar.specs.Written.{form_of}
 use Rattle.peg_grammar.proofs.LoopLemmas.{ItemsSoFar, FailedSoFar}
+use Rattle.peg_grammar.proofs.TimesLemmas.{TimesSoFar}
 use Rattle.peg_grammar.proofs.plain.Plain.+plain.Given as goal
 
 abbrev pub decreases-expression : goal.decreases-expression
@@ -32,6 +33,9 @@ decreases-star l = 6 * l.depth + 1
 abbrev pub decreases-plus : goal.decreases-plus
 decreases-plus l = 6 * l.depth + 4
 
+abbrev pub decreases-counted : goal.decreases-counted
+decreases-counted l = 6 * l.depth + 4
+
 abbrev pub decreases-and : goal.decreases-and
 decreases-and l = 6 * l.depth + 4
 
@@ -57,4 +61,13 @@ abbrev pub invariant-choice-loop-next : goal.invariant-choice-loop-next
 invariant-choice-loop-next l = record {
   few : l.terminal + terminals_of_all (forms (drop l.next-index (map form_of l.rest))) ≤ most_parts;
   so_far : FailedSoFar (take_first (taken_in l.self l.depth) (form_of l.first) (forms (map form_of l.rest)) l.fn.terminal l.place) (taken_in l.self l.depth) l.place (seen_in l.fn.found) (forms (drop l.next-index (map form_of l.rest))) l.terminal (seen_in l.found);
+}
+
+-- the rounds so far matched
+abbrev pub invariant-counted-loop-round : goal.invariant-counted-loop-round
+invariant-counted-loop-round l = record {
+  after : l.place ≤ l.at;
+  within : l.at ≤ length (text_of l.self);
+  from : l.held ≡ length (l.fn.found.rows.items);
+  so_far : TimesSoFar (λ at. taken_in l.self l.depth (form_of l.part) l.terminal at) l.min l.max l.place (seen_in l.fn.found) (l.min - l.round) (l.max - l.round) l.at (seen_in l.found);
 }

@@ -20,3 +20,6 @@ decreases-end_of_use l = l.depth
 
 abbrev pub decreases-place_if : goal.decreases-place_if
 decreases-place_if l = l.depth
+
+abbrev pub decreases-end_of_count : goal.decreases-end_of_count
+decreases-end_of_count l = l.depth

@@ -13,15 +13,15 @@ use Rattle.peg_notation.proofs.reader.Reader.+reader.Goals as goal
 
 pub primary-name-requires-clause-inside : goal.primary-name-requires-clause-inside
 primary-name-requires-clause-inside t c =
-    front_lies (file_of c.args.self.now) c.args.tokens.now c.token-item.result c.in-len1-up.len_at_least c.token-item.is c.requires.texts
+    front_lies (file_of c.args.self.now) 0 c.args.tokens.now c.token-item.result c.in-len1-up.len_at_least c.token-item.is c.requires.texts
 
 pub primary-literal-requires-clause-inside : goal.primary-literal-requires-clause-inside
 primary-literal-requires-clause-inside t c =
-    front_lies (file_of c.args.self.now) c.args.tokens.now c.token-item.result c.in-len1-up.len_at_least c.token-item.is c.requires.texts
+    front_lies (file_of c.args.self.now) 0 c.args.tokens.now c.token-item.result c.in-len1-up.len_at_least c.token-item.is c.requires.texts
 
 pub primary-class-requires-clause-inside : goal.primary-class-requires-clause-inside
 primary-class-requires-clause-inside t c =
-    front_lies (file_of c.args.self.now) c.args.tokens.now c.token-item.result c.in-len1-up.len_at_least c.token-item.is c.requires.texts
+    front_lies (file_of c.args.self.now) 0 c.args.tokens.now c.token-item.result c.in-len1-up.len_at_least c.token-item.is c.requires.texts
 
 pub parenthesized-returns-in_err-inside-clause-read : goal.parenthesized-returns-in_err-inside-clause-read
 parenthesized-returns-in_err-inside-clause-read t c =

@@ -4,4 +4,4 @@ use Rattle.peg_notation.proofs.reader.Reader.definition.Goals as goal
 
 pub definition_behind-requires-clause-inside : goal.definition_behind-requires-clause-inside
 definition_behind-requires-clause-inside c =
-    front_lies (file_of c.args.self.now) c.args.tokens.now c.name-item.result c.in-len1-up.len_at_least c.name-item.is c.requires
+    front_lies (file_of c.args.self.now) 0 c.args.tokens.now c.name-item.result c.in-len1-up.len_at_least c.name-item.is c.requires

@@ -1,9 +1,13 @@
-use Rattle.std.proofs.Common.{rules, ◌<◌, ◌≤◌, ◌-◌, length, map, ◌∷◌}
+use Rattle.std.proofs.Common.{rules, ◌<◌, ◌≤◌, ◌-◌, ℕ, List, ◌++◌, drop, length, map, ◌∷◌}
+use Rattle.peg_figure.specs.Spelled.{bad_counts}
+use Rattle.peg_lexer.specs.LexicalCode.{count_spelled}
+use Rattle.peg_spelling.proofs.Loops.{bad-same}
+use Rattle.peg_spelling.proofs.speller.Speller.+speller.Goals.{suffix-then-sign-eq-COUNT+in_ok-expression, suffix-else-sign-eq-COUNT+in_ok-expression-2}
 use Rattle.peg_figure.specs.Nesting.{nesting}
-use Rattle.peg_tree.specs.Branches.{tree_of_branch}
+use Rattle.peg_tree.specs.Branches.{trees_in, tree_of_branch}
 use Rattle.peg_spelling.specs.SpellerSeen.{file_in, SpellsAt}
 use Rattle.std.proofs.Common.{refl, sym, ap, ◌∙◌, subst, arith}
-use Rattle.peg_spelling.specs.FigureNodes.{sign_form}
+use Rattle.peg_spelling.specs.FigureNodes.{sign_form, last_start, HasBadCount}
 use Rattle.peg_bytes.specs.Extent.{between}
 use Rattle.peg_spelling.proofs.Facts as facts
 use Rattle.peg_spelling.proofs.ListFacts as lists
@@ -26,7 +30,7 @@ expression-sequence-requires t c =
 pub expression-alternatives-init : goal.expression-alternatives-init
 expression-alternatives-init t c =
     lists.same_walk (ap (λ l. form_of c.in_ok-first.first.expression ∷ map form_of l) c.none-more.ensures.list) c.none-more.ensures.last
-    (lists.choices_one (file_in c.args.self.now) c.args.node.now c.args.before c.args.left c.requires.behind c.requires.node c.first-sequence.result c.first-sequence.ensures _ _ c.in_ok-first.ensures.spells c.in_ok-first.ensures.within c.in_ok-first.ensures.order)
+    (lists.choices_one (file_in c.args.self.now) c.args.node.now c.args.before c.args.left c.requires.behind c.requires.node c.first-sequence.result c.first-sequence.ensures _ _ c.in_ok-first.ensures.spells c.in_ok-first.ensures.within c.in_ok-first.ensures.fine c.in_ok-first.ensures.order)
     (λ none. absurd (let bad : ⊥ = omega (arith, none, ap length c.none-more.ensures.list) in bad))
 
 -- src/speller.rt:63:24
@@ -39,7 +43,7 @@ expression-sequence-requires-in-alternatives t c =
 pub expression-alternatives-preserved : goal.expression-alternatives-preserved
 expression-alternatives-preserved t c =
     let walk = lists.choices_more (file_in c.args.self.now) c.args.node.now c.args.before c.args.left c.requires.behind c.requires.node c.alternatives.invariant c.first-slash.result c.first-slash.ensures c.first-next.result c.first-next.ensures _ _ 1 (subst (λ n. SpellsAt (file_in c.args.self.now) n (tree_of_branch c.first-next.result) c.in_ok-part.part) c.token_end.ensures c.in_ok-part.ensures.spells)
-    c.in_ok-part.ensures.within (subst (λ n. n ≤ c.in_ok-part.part.last) c.token_end.ensures c.in_ok-part.ensures.order) in
+    c.in_ok-part.ensures.within c.in_ok-part.ensures.fine (subst (λ n. n ≤ c.in_ok-part.part.last) c.token_end.ensures c.in_ok-part.ensures.order) in
     lists.same_walk (ap (λ l. form_of c.in_ok-first.first.expression ∷ l) c.in_ok-add.ensures.list) c.in_ok-add.ensures.last walk
     (λ some. let h = walk.some (omega arith) in omega (arith, h, c.in_ok-add.ensures.last))
 
@@ -253,7 +257,7 @@ sequence-items-init t c =
 -- src/speller.rt:87:9
 pub sequence-items-preserved : goal.sequence-items-preserved
 sequence-items-preserved t c =
-    let walk = lists.items_one (file_in c.args.self.now) c.args.node.now c.args.before c.args.left c.requires.behind c.requires.node c.items.invariant c.first-item.result c.first-item.ensures _ _ 1 (c.in_ok-part.ensures.spells c.items.items.last) c.in_ok-part.ensures.within c.in_ok-part.ensures.order in
+    let walk = lists.items_one (file_in c.args.self.now) c.args.node.now c.args.before c.args.left c.requires.behind c.requires.node c.items.invariant c.first-item.result c.first-item.ensures _ _ 1 (c.in_ok-part.ensures.spells c.items.items.last) c.in_ok-part.ensures.within c.in_ok-part.ensures.fine c.in_ok-part.ensures.order in
     lists.same_walk c.in_ok-add.ensures.list c.in_ok-add.ensures.last walk (λ some. let h = walk.some (omega arith) in omega (arith, h, c.in_ok-add.ensures.last))
 
 -- src/speller.rt:71:5
@@ -299,12 +303,103 @@ suffix-new-span-requires t c =
 -- src/speller.rt:118:5
 pub suffix-returns-clause-spells : goal.suffix-returns-clause-spells
 suffix-returns-clause-spells t c before =
-    says-same (c.in_ok-signed.ensures ∙ ap (λ s. sign_form c.first-sign.result.rule (form_of c.in_ok-part.part.expression) s)
-    (ap (λ n. between n c.new-span.result.end) c.new-span.ensures.start
-    ∙ ap (between c.args.node.now.span.start) (c.new-span.ensures.end ∙ c.token_end-last.ensures))) c.token_end-last.ensures
-    (facts.suffix_says (file_in c.args.self.now) c.args.node.now c.requires.node c.first-primary.result c.first-primary.ensures (λ none. let bad = c.is_empty.ensures.1 none in cc) c.first-sign.result c.first-sign.ensures (form_of c.in_ok-part.part.expression) c.in_ok-part.part.last c.in_ok-part.ensures.spells before)
+    elim c.if-sign-eq-COUNT.branch [
+      | suffix-then-sign-eq-COUNT+in_ok-expression w ↦
+          says-same (ap form_of w.expression-is ∙ (w.in_ok-expression.ensures.form
+          ∙ (ap (λ s. Rattle.peg_figure.specs.Spelled.counted (count_spelled (drop c.first-sign.result.span.start (file_in c.args.self.now))) (form_of c.in_ok-part.part.expression) s) (ap (λ n. between n c.new-span.result.end) c.new-span.ensures.start ∙ ap (between c.args.node.now.span.start) (c.new-span.ensures.end ∙ c.token_end-last.ensures))
+          ∙ ap (λ g. g (form_of c.in_ok-part.part.expression) (between c.args.node.now.span.start (last_start c.first-sign.result.span.start (trees_in c.first-sign.result.children)))) ((facts.suffix_sign (file_in c.args.self.now) c.args.node.now c.requires.node c.first-primary.result c.first-primary.ensures (λ none. let bad = c.is_empty.ensures.1 none in cc) c.first-sign.result c.first-sign.ensures).counted w.if-sign-eq-COUNT.true).1))) c.token_end-last.ensures
+          (facts.suffix_says (file_in c.args.self.now) c.args.node.now c.requires.node c.first-primary.result c.first-primary.ensures (λ none. let bad = c.is_empty.ensures.1 none in cc) c.first-sign.result c.first-sign.ensures (form_of c.in_ok-part.part.expression) c.in_ok-part.part.last c.in_ok-part.ensures.spells before)
+      | suffix-else-sign-eq-COUNT+in_ok-expression-2 w ↦
+          says-same (ap form_of w.expression-is ∙ (w.in_ok-expression-2.ensures
+          ∙ (ap (λ s. sign_form c.first-sign.result.rule (form_of c.in_ok-part.part.expression) s) (ap (λ n. between n c.new-span.result.end) c.new-span.ensures.start ∙ ap (between c.args.node.now.span.start) (c.new-span.ensures.end ∙ c.token_end-last.ensures))
+          ∙ ap (λ g. g (form_of c.in_ok-part.part.expression) (between c.args.node.now.span.start (last_start c.first-sign.result.span.start (trees_in c.first-sign.result.children)))) ((facts.suffix_sign (file_in c.args.self.now) c.args.node.now c.requires.node c.first-primary.result c.first-primary.ensures (λ none. let bad = c.is_empty.ensures.1 none in cc) c.first-sign.result c.first-sign.ensures).plain w.if-sign-eq-COUNT.false).0))) c.token_end-last.ensures
+          (facts.suffix_says (file_in c.args.self.now) c.args.node.now c.requires.node c.first-primary.result c.first-primary.ensures (λ none. let bad = c.is_empty.ensures.1 none in cc) c.first-sign.result c.first-sign.ensures (form_of c.in_ok-part.part.expression) c.in_ok-part.part.last c.in_ok-part.ensures.spells before)
+    ]
 
 -- src/speller.rt:118:5
 pub suffix-returns-clause-within : goal.suffix-returns-clause-within
 suffix-returns-clause-within t c =
     subst (λ n. n ≤ c.args.left) (sym (facts.suffix_nests (file_in c.args.self.now) c.args.node.now c.requires.node c.first-primary.result c.first-primary.ensures (λ none. let bad = c.is_empty.ensures.1 none in cc) c.first-sign.result c.first-sign.ensures)) c.in_ok-part.ensures.within
+
+pub expression-returns-in_err-first-clause-bad : goal.expression-returns-in_err-first-clause-bad
+expression-returns-in_err-first-clause-bad t c =
+    facts.err_told (HasBadCount (file_in c.args.self.now) (tree_of_branch c.args.node.now)) _ _ c.from_residual.ensures.1 (lists.first_bad (file_in c.args.self.now) c.args.node.now c.args.before c.args.left c.requires.behind c.requires.node c.first-sequence.result c.first-sequence.ensures _ c.in_err-first.ensures.bad)
+
+pub expression-returns-in_err-part-clause-bad : goal.expression-returns-in_err-part-clause-bad
+expression-returns-in_err-part-clause-bad t c =
+    facts.err_told (HasBadCount (file_in c.args.self.now) (tree_of_branch c.args.node.now)) _ _ c.from_residual-in_err-part.ensures.1 (lists.next_bad (file_in c.args.self.now) c.args.node.now c.args.before c.args.left c.requires.behind c.requires.node c.alternatives.invariant c.first-slash.result c.first-slash.ensures c.first-next.result c.first-next.ensures _ c.in_err-part.ensures.bad)
+
+pub expression-returns-clause-fine : goal.expression-returns-clause-fine
+expression-returns-clause-fine t c =
+    lists.choices_fine (file_in c.args.self.now) c.args.node.now c.args.before c.args.left c.requires.behind c.requires.node c.alternatives.invariant (search rules)
+
+pub sequence-returns-in_err-part-clause-bad : goal.sequence-returns-in_err-part-clause-bad
+sequence-returns-in_err-part-clause-bad t c =
+    facts.err_told (HasBadCount (file_in c.args.self.now) (tree_of_branch c.args.node.now)) _ _ c.from_residual.ensures.1 (lists.item_bad (file_in c.args.self.now) c.args.node.now c.args.before c.args.left c.requires.behind c.requires.node c.items.invariant c.first-item.result c.first-item.ensures _ c.in_err-part.ensures.bad)
+
+pub sequence-returns-clause-fine : goal.sequence-returns-clause-fine
+sequence-returns-clause-fine t c =
+    lists.items_fine (file_in c.args.self.now) c.args.node.now c.args.before c.args.left c.requires.behind c.requires.node c.items.invariant (search rules)
+
+pub parenthesized-returns-in_err-part-clause-bad : goal.parenthesized-returns-in_err-part-clause-bad
+parenthesized-returns-in_err-part-clause-bad t c =
+    facts.err_told (HasBadCount (file_in c.args.self.now) (tree_of_branch c.args.node.now)) _ _ c.from_residual.ensures.1 (bad-same (file_in c.args.self.now) (tree_of_branch c.first-inside.result) (tree_of_branch c.args.node.now) (primary.inside_counts (file_in c.args.self.now) c.args.node.now c.requires.node c.requires.opens c.first-opening.result c.first-opening.ensures c.first-inside.result c.first-inside.ensures c.first-closing.result c.first-closing.ensures) _ c.in_err-part.ensures.bad)
+
+pub parenthesized-returns-clause-fine : goal.parenthesized-returns-clause-fine
+parenthesized-returns-clause-fine t c =
+    primary.inside_counts (file_in c.args.self.now) c.args.node.now c.requires.node c.requires.opens c.first-opening.result c.first-opening.ensures c.first-inside.result c.first-inside.ensures c.first-closing.result c.first-closing.ensures ∙ c.in_ok-part.ensures.fine
+
+pub prefix-returns-then-first-eq-SUFFIX-clause-fine : goal.prefix-returns-then-first-eq-SUFFIX-clause-fine
+prefix-returns-then-first-eq-SUFFIX-clause-fine t c =
+    facts.on_ok c.suffix.result (λ fine. (facts.prefix_plain (file_in c.args.self.now) c.args.node.now c.requires.node c.first-first.result c.first-first.ensures c.if-first-eq-SUFFIX.true).counts ∙ fine) c.suffix.ensures.fine
+
+pub prefix-returns-then-first-eq-SUFFIX-clause-bad : goal.prefix-returns-then-first-eq-SUFFIX-clause-bad
+prefix-returns-then-first-eq-SUFFIX-clause-bad t c =
+    facts.if_err c.suffix.result (bad-same (file_in c.args.self.now) (tree_of_branch c.first-first.result) (tree_of_branch c.args.node.now) (facts.prefix_plain (file_in c.args.self.now) c.args.node.now c.requires.node c.first-first.result c.first-first.ensures c.if-first-eq-SUFFIX.true).counts) c.suffix.ensures.bad
+
+pub prefix-returns-in_err-part-clause-bad : goal.prefix-returns-in_err-part-clause-bad
+prefix-returns-in_err-part-clause-bad t c =
+    facts.err_told (HasBadCount (file_in c.args.self.now) (tree_of_branch c.args.node.now)) _ _ c.from_residual.ensures.1 (bad-same (file_in c.args.self.now) (tree_of_branch c.first.result) (tree_of_branch c.args.node.now) (facts.prefix_counts (file_in c.args.self.now) c.args.node.now c.requires.node c.first-first.result c.first-first.ensures (facts.prefix_sign (file_in c.args.self.now) c.args.node.now c.requires.node c.first-first.result c.first-first.ensures c.if-first-eq-SUFFIX.false) c.first.result c.first.ensures) _ c.in_err-part.ensures.bad)
+
+pub prefix-returns-clause-fine : goal.prefix-returns-clause-fine
+prefix-returns-clause-fine t c =
+    facts.prefix_counts (file_in c.args.self.now) c.args.node.now c.requires.node c.first-first.result c.first-first.ensures (facts.prefix_sign (file_in c.args.self.now) c.args.node.now c.requires.node c.first-first.result c.first-first.ensures c.if-first-eq-SUFFIX.false) c.first.result c.first.ensures ∙ c.in_ok-part.ensures.fine
+
+pub primary-returns-in_ok-word-in-7-clause-fine : goal.primary-returns-in_ok-word-in-7-clause-fine
+primary-returns-in_ok-word-in-7-clause-fine t c =
+    primary.primary_fine (file_in c.args.self.now) c.args.node.now c.requires.node c.first-first.result c.first-first.ensures (primary.primary_word (file_in c.args.self.now) c.args.node.now c.requires.node c.first-first.result c.first-first.ensures c.in-7.is) (λ place pieces. refl)
+
+pub primary-returns-in_ok-literal-in-10-clause-fine : goal.primary-returns-in_ok-literal-in-10-clause-fine
+primary-returns-in_ok-literal-in-10-clause-fine t c =
+    primary.primary_fine (file_in c.args.self.now) c.args.node.now c.requires.node c.first-first.result c.first-first.ensures (primary.primary_literal (file_in c.args.self.now) c.args.node.now c.requires.node c.first-first.result c.first-first.ensures c.in-10.is) (λ place pieces. refl)
+
+pub primary-returns-in_ok-class-in-11-clause-fine : goal.primary-returns-in_ok-class-in-11-clause-fine
+primary-returns-in_ok-class-in-11-clause-fine t c =
+    primary.primary_fine (file_in c.args.self.now) c.args.node.now c.requires.node c.first-first.result c.first-first.ensures (primary.primary_class (file_in c.args.self.now) c.args.node.now c.requires.node c.first-first.result c.first-first.ensures c.in-11.is) (λ place pieces. refl)
+
+pub primary-returns-in_default-clause-fine : goal.primary-returns-in_default-clause-fine
+primary-returns-in_default-clause-fine t c =
+    primary.primary_fine (file_in c.args.self.now) c.args.node.now c.requires.node c.first-first.result c.first-first.ensures (primary.primary_dot (file_in c.args.self.now) c.args.node.now c.requires.node c.first-first.result c.first-first.ensures (search rules) (search rules) (search rules) (search rules)) (λ place pieces. refl)
+
+pub suffix-returns-in_err-part-clause-bad : goal.suffix-returns-in_err-part-clause-bad
+suffix-returns-in_err-part-clause-bad t c =
+    facts.err_told (HasBadCount (file_in c.args.self.now) (tree_of_branch c.args.node.now)) _ _ c.from_residual.ensures.1 (facts.suffix_first_bad (file_in c.args.self.now) c.args.node.now c.requires.node c.first-primary.result c.first-primary.ensures _ c.in_err-part.ensures.bad)
+
+pub suffix-returns-then-is_empty-clause-fine : goal.suffix-returns-then-is_empty-clause-fine
+suffix-returns-then-is_empty-clause-fine t c =
+    facts.suffix_plain_counts (file_in c.args.self.now) c.args.node.now c.requires.node c.first-primary.result c.first-primary.ensures (c.is_empty.ensures.0 c.if-is_empty.true) ∙ c.in_ok-part.ensures.fine
+
+pub suffix-counted-requires : goal.suffix-counted-requires
+suffix-counted-requires t c =
+    ((facts.suffix_sign (file_in c.args.self.now) c.args.node.now c.requires.node c.first-primary.result c.first-primary.ensures (λ none. let bad = c.is_empty.ensures.1 none in cc) c.first-sign.result c.first-sign.ensures).counted c.if-sign-eq-COUNT.true).0
+
+pub suffix-returns-in_err-expression-clause-bad : goal.suffix-returns-in_err-expression-clause-bad
+suffix-returns-in_err-expression-clause-bad t c =
+    facts.err_told (HasBadCount (file_in c.args.self.now) (tree_of_branch c.args.node.now)) _ _ c.from_residual-in_err-expression.ensures.1 (bad-same (file_in c.args.self.now) (tree_of_branch c.first-sign.result) (tree_of_branch c.args.node.now) (facts.suffix_counts (file_in c.args.self.now) c.args.node.now c.requires.node c.first-primary.result c.first-primary.ensures (λ none. let bad = c.is_empty.ensures.1 none in cc) c.first-sign.result c.first-sign.ensures ∙ ap (λ (l : List ℕ). l ++ bad_counts (file_in c.args.self.now) (tree_of_branch c.first-sign.result)) c.in_ok-part.ensures.fine) _ c.in_err-expression.ensures.bad)
+
+pub suffix-returns-clause-fine : goal.suffix-returns-clause-fine
+suffix-returns-clause-fine t c =
+    elim c.if-sign-eq-COUNT.branch [
+      | suffix-then-sign-eq-COUNT+in_ok-expression w ↦ facts.suffix_counts (file_in c.args.self.now) c.args.node.now c.requires.node c.first-primary.result c.first-primary.ensures (λ none. let bad = c.is_empty.ensures.1 none in cc) c.first-sign.result c.first-sign.ensures ∙ (ap (λ (l : List ℕ). l ++ bad_counts (file_in c.args.self.now) (tree_of_branch c.first-sign.result)) c.in_ok-part.ensures.fine ∙ w.in_ok-expression.ensures.fine)
+      | suffix-else-sign-eq-COUNT+in_ok-expression-2 w ↦ facts.suffix_counts (file_in c.args.self.now) c.args.node.now c.requires.node c.first-primary.result c.first-primary.ensures (λ none. let bad = c.is_empty.ensures.1 none in cc) c.first-sign.result c.first-sign.ensures ∙ (ap (λ (l : List ℕ). l ++ bad_counts (file_in c.args.self.now) (tree_of_branch c.first-sign.result)) c.in_ok-part.ensures.fine ∙ ((facts.suffix_sign (file_in c.args.self.now) c.args.node.now c.requires.node c.first-primary.result c.first-primary.ensures (λ none. let bad = c.is_empty.ensures.1 none in cc) c.first-sign.result c.first-sign.ensures).plain w.if-sign-eq-COUNT.false).1)
+    ]

@@ -1,7 +1,10 @@
-use Rattle.std.proofs.Common.{◌≤◌, sym, subst, arith}
+use Rattle.std.proofs.Common.{◌≤◌, ◌∙◌, sym, subst, arith}
 use Rattle.peg_figure.specs.Nesting.{most_open}
 use Rattle.peg_tree.specs.Branches.{tree_of_branch}
 use Rattle.peg_spelling.specs.SpellerSeen.{file_in, SpellsAt}
+use Rattle.peg_spelling.specs.FigureNodes.{HasBadCount}
+use Rattle.peg_spelling.proofs.Facts.{err_told}
+use Rattle.peg_spelling.proofs.Loops.{bad-same}
 use Rattle.peg_spelling.proofs.RuleFacts as facts
 use Rattle.peg_spelling.proofs.speller.Speller.definition.Goals as goal
 
@@ -36,3 +39,11 @@ pub returns-clause-within : goal.returns-clause-within
 returns-clause-within c =
     subst (λ n. n ≤ most_open) (sym (facts.rule_nests (file_in c.args.self.now) c.args.node.now c.requires c.first-name.result c.first-name.ensures c.first-arrow.result c.first-arrow.ensures c.first.result c.first.ensures))
     c.in_ok-body.ensures.within
+
+pub returns-clause-fine : goal.returns-clause-fine
+returns-clause-fine c = facts.rule_counts (file_in c.args.self.now) c.args.node.now c.requires c.first-name.result c.first-name.ensures c.first-arrow.result c.first-arrow.ensures c.first.result c.first.ensures ∙ c.in_ok-body.ensures.fine
+
+pub returns-in_err-body-clause-bad : goal.returns-in_err-body-clause-bad
+returns-in_err-body-clause-bad c =
+    err_told (HasBadCount (file_in c.args.self.now) (tree_of_branch c.args.node.now)) _ _ c.from_residual-in_err-body.ensures.1
+    (bad-same (file_in c.args.self.now) (tree_of_branch c.first.result) (tree_of_branch c.args.node.now) (facts.rule_counts (file_in c.args.self.now) c.args.node.now c.requires c.first-name.result c.first-name.ensures c.first-arrow.result c.first-arrow.ensures c.first.result c.first.ensures) _ c.in_err-body.ensures.bad)

@@ -1,16 +1,15 @@
--- With which byte a match of the printed figure's forms may begin.
+-- With which byte a match of a figure's forms may begin.
 use Rattle.std.proofs.Common.{◌≡◌, ℕ, zero, suc, Bool, true, false, ◌||◌, ◌==◌, nat_eq, List, [], ◌∷◌, drop}
 use Rattle.std.proofs.Common.{Option, None, Some, refl, sym, ap, ◌∙◌}
 use Rattle.std.specs.List.{starts_with}
 use Rattle.std.proofs.lemmas.Bool.{and_parts}
 use Rattle.peg_bytes.specs.ByteSet.{has}
 use Rattle.peg_tree.specs.Trees.{Trees}
-use Rattle.peg_ford.specs.Form.{Form, Forms, Literal, Class, Any, Name, Seq, Choice, Optional, Star, Plus, And, Not, End, Then}
+use Rattle.peg_ford.specs.Form.{Form, Forms, Literal, Class, Any, Name, Seq, Choice, Optional, Star, Plus, Counted, And, Not, End, Then}
 use Rattle.peg_ford.specs.Record.{Recognition, Failed, Matched}
-use Rattle.peg_ford.specs.Rules.{Meaning, meant}
+use Rattle.peg_ford.specs.Rules.{Rule, Meaning, meant}
 use Rattle.peg_ford.proofs.Derivations.{Derives, DerivesItems, DerivesFirst}
 use Rattle.peg_ford.proofs.ResultSteps.{begins_with, passes_any}
-use Rattle.peg_notation.specs.PrintedFigure.{printed_figure}
 
 -- the byte at the front, if there is one
 abbrev pub front : List ℕ → Option ℕ
@@ -42,6 +41,7 @@ abbrev mutual
   may_match known at (Optional part span) = true
   may_match known at (Star part span) = true
   may_match known at (Plus part span) = may_match known at part
+  may_match known at (Counted part min max span) = true
   may_match known at (And part span) = true
   may_match known at (Not (Any inside) span) = is_none at
   may_match known at (Not (Literal bytes inside) span) = true
@@ -52,6 +52,7 @@ abbrev mutual
   may_match known at (Not (Optional part inside) span) = true
   may_match known at (Not (Star part inside) span) = true
   may_match known at (Not (Plus part inside) span) = true
+  may_match known at (Not (Counted part min max inside) span) = true
   may_match known at (Not (And part inside) span) = true
   may_match known at (Not (Not part inside) span) = true
 
@@ -68,9 +69,9 @@ meant_may_match known at None = true
 meant_may_match known at (Some m) = may_match known at m.body
 
 -- the same of a name, in so many steps from name to name
-abbrev pub name_may_match : ℕ → Option ℕ → List ℕ → Bool
-name_may_match zero at used = true
-name_may_match (suc n) at used = meant_may_match (name_may_match n at) at (meant printed_figure used)
+abbrev pub name_may_match : List Rule → ℕ → Option ℕ → List ℕ → Bool
+name_may_match rules zero at used = true
+name_may_match rules (suc n) at used = meant_may_match (name_may_match rules n at) at (meant rules used)
 
 or_first : (a b : Bool) → a ≡ true → (a || b) ≡ true
 or_first a b is = ap (λ t. t || b) is
@@ -93,9 +94,9 @@ none_front : (l : List ℕ) → begins_with passes_any l ≡ false → is_none (
 none_front [] is = refl
 none_front (byte ∷ l) is = cc
 
-module _ {file : List ℕ} where
-  not_front : (n : ℕ) (part : Form) (span : _) {p : ℕ} → Derives printed_figure file part p Failed
-      → may_match (name_may_match n (front (drop p file))) (front (drop p file)) (Not part span) ≡ true
+module _ {rules : List Rule} {file : List ℕ} where
+  not_front : (n : ℕ) (part : Form) (span : _) {p : ℕ} → Derives rules file part p Failed
+      → may_match (name_may_match rules n (front (drop p file))) (front (drop p file)) (Not part span) ≡ true
   not_front n (Any inside) span {p} (Derives.any_failed is) = none_front (drop p file) is
   not_front n (Literal bytes inside) span d = refl
   not_front n (Class set inside) span d = refl
@@ -105,21 +106,22 @@ module _ {file : List ℕ} where
   not_front n (Optional part inside) span d = refl
   not_front n (Star part inside) span d = refl
   not_front n (Plus part inside) span d = refl
+  not_front n (Counted part min max inside) span d = refl
   not_front n (And part inside) span d = refl
   not_front n (Not part inside) span d = refl
 
   mutual
     -- what matches may match
     pub matches_front : (n : ℕ) {e : Form} {p end : ℕ} {trees : Trees}
-        → Derives printed_figure file e p (Matched end trees)
-        → may_match (name_may_match n (front (drop p file))) (front (drop p file)) e ≡ true
+        → Derives rules file e p (Matched end trees)
+        → may_match (name_may_match rules n (front (drop p file))) (front (drop p file)) e ≡ true
     matches_front n (Derives.literal_matched {bytes = bytes} {span = span} {place = p} is end) =
-        literal_front bytes (drop p file) is (name_may_match n (front (drop p file))) span
+        literal_front bytes (drop p file) is (name_may_match rules n (front (drop p file))) span
     matches_front n (Derives.class_matched {set = set} {place = p} is end) = class_front (has set) (drop p file) is
     matches_front n (Derives.any_matched {place = p} is end) = class_front passes_any (drop p file) is
     matches_front zero (Derives.name_matched found d t) = refl
     matches_front (suc n) (Derives.name_matched {place = p} found d t) =
-        ap (meant_may_match (name_may_match n (front (drop p file))) (front (drop p file))) found ∙ matches_front n d
+        ap (meant_may_match (name_may_match rules n (front (drop p file))) (front (drop p file))) found ∙ matches_front n d
     matches_front n (Derives.sequence ds) = items_front n ds
     matches_front n (Derives.choice ds) = first_front n ds
     matches_front n (Derives.optional_some d) = refl
@@ -127,62 +129,63 @@ module _ {file : List ℕ} where
     matches_front n (Derives.star_none d) = refl
     matches_front n (Derives.star_more d ds t) = refl
     matches_front n (Derives.plus_matched d ds t) = matches_front n d
+    matches_front n (Derives.counted d) = refl
     matches_front n (Derives.and_matched d) = refl
     matches_front n (Derives.not_matched {part = part} {span = span} d) = not_front n part span d
 
     pub items_front : (n : ℕ) {items : Forms} {p end : ℕ} {trees : Trees}
-        → DerivesItems printed_figure file items p (Matched end trees)
-        → items_may_match (name_may_match n (front (drop p file))) (front (drop p file)) items ≡ true
+        → DerivesItems rules file items p (Matched end trees)
+        → items_may_match (name_may_match rules n (front (drop p file))) (front (drop p file)) items ≡ true
     items_front n DerivesItems.items_none = refl
     items_front n (DerivesItems.items_then d ds t) = matches_front n d
 
     pub first_front : (n : ℕ) {first : Form} {rest : Forms} {p end : ℕ} {trees : Trees}
-        → DerivesFirst printed_figure file first rest p (Matched end trees)
-        → (may_match (name_may_match n (front (drop p file))) (front (drop p file)) first
-        || some_may_match (name_may_match n (front (drop p file))) (front (drop p file)) rest) ≡ true
+        → DerivesFirst rules file first rest p (Matched end trees)
+        → (may_match (name_may_match rules n (front (drop p file))) (front (drop p file)) first
+        || some_may_match (name_may_match rules n (front (drop p file))) (front (drop p file)) rest) ≡ true
     first_front n (DerivesFirst.alternative_last {only = only} {place = p} d) =
-        or_first (may_match (name_may_match n (front (drop p file))) (front (drop p file)) only) false (matches_front n d)
+        or_first (may_match (name_may_match rules n (front (drop p file))) (front (drop p file)) only) false (matches_front n d)
     first_front n (DerivesFirst.alternative_matched {first = first} {next = next} {rest = rest} {place = p} d) =
-        or_first (may_match (name_may_match n (front (drop p file))) (front (drop p file)) first)
-        (some_may_match (name_may_match n (front (drop p file))) (front (drop p file)) (Then next rest)) (matches_front n d)
+        or_first (may_match (name_may_match rules n (front (drop p file))) (front (drop p file)) first)
+        (some_may_match (name_may_match rules n (front (drop p file))) (front (drop p file)) (Then next rest)) (matches_front n d)
     first_front n (DerivesFirst.alternative_failed {first = first} {next = next} {rest = rest} {place = p} d ds) =
-        or_other (may_match (name_may_match n (front (drop p file))) (front (drop p file)) first)
-        (some_may_match (name_may_match n (front (drop p file))) (front (drop p file)) (Then next rest)) (first_front n ds)
+        or_other (may_match (name_may_match rules n (front (drop p file))) (front (drop p file)) first)
+        (some_may_match (name_may_match rules n (front (drop p file))) (front (drop p file)) (Then next rest)) (first_front n ds)
 
 -- ---- what fails where another byte is at the front
 
 true≢false : true ≡ false → ⊥
 true≢false e = cc
 
-module _ {file : List ℕ} where
+module _ {rules : List Rule} {file : List ℕ} where
   pub never_here : (n : ℕ) {e : Form} {p end : ℕ} {trees : Trees}
-      → may_match (name_may_match n (front (drop p file))) (front (drop p file)) e ≡ false
-      → Derives printed_figure file e p (Matched end trees) → ⊥
+      → may_match (name_may_match rules n (front (drop p file))) (front (drop p file)) e ≡ false
+      → Derives rules file e p (Matched end trees) → ⊥
   never_here n differs d = true≢false (sym (matches_front n d) ∙ differs)
 
   pub items_blocked : (n : ℕ) {e : Form} {rest : Forms} {p : ℕ} {x : Recognition}
-      → may_match (name_may_match n (front (drop p file))) (front (drop p file)) e ≡ false
-      → DerivesItems printed_figure file (Then e rest) p x → x ≡ Failed
+      → may_match (name_may_match rules n (front (drop p file))) (front (drop p file)) e ≡ false
+      → DerivesItems rules file (Then e rest) p x → x ≡ Failed
   items_blocked n differs (DerivesItems.items_failed d) = refl
   items_blocked n differs (DerivesItems.items_then d ds t) = absurd (never_here n differs d)
 
   pub first_blocked : (n : ℕ) {e : Form} {rest : Forms} {p : ℕ} {x : Recognition}
-      → may_match (name_may_match n (front (drop p file))) (front (drop p file)) e ≡ false
-      → some_may_match (name_may_match n (front (drop p file))) (front (drop p file)) rest ≡ false
-      → DerivesFirst printed_figure file e rest p x → x ≡ Failed
+      → may_match (name_may_match rules n (front (drop p file))) (front (drop p file)) e ≡ false
+      → some_may_match (name_may_match rules n (front (drop p file))) (front (drop p file)) rest ≡ false
+      → DerivesFirst rules file e rest p x → x ≡ Failed
   first_blocked n {e} {rest} {p} {x} differs others ds = by x ds
     where
       either : (a b : Bool) → a ≡ false → b ≡ false → (a || b) ≡ true → ⊥
       either a b differs others is = true≢false (sym is ∙ (ap (λ t. t || b) differs ∙ others))
 
-      by : (x : Recognition) → DerivesFirst printed_figure file e rest p x → x ≡ Failed
+      by : (x : Recognition) → DerivesFirst rules file e rest p x → x ≡ Failed
       by Failed ds = refl
       by (Matched end trees) ds =
-          absurd (either (may_match (name_may_match n (front (drop p file))) (front (drop p file)) e)
-          (some_may_match (name_may_match n (front (drop p file))) (front (drop p file)) rest) differs others (first_front n ds))
+          absurd (either (may_match (name_may_match rules n (front (drop p file))) (front (drop p file)) e)
+          (some_may_match (name_may_match rules n (front (drop p file))) (front (drop p file)) rest) differs others (first_front n ds))
 
   pub star_blocked : (n : ℕ) {e : Form} {span : _} {p end : ℕ} {trees : Trees}
-      → may_match (name_may_match n (front (drop p file))) (front (drop p file)) e ≡ false
-      → Derives printed_figure file (Star e span) p (Matched end trees) → end ≡ p
+      → may_match (name_may_match rules n (front (drop p file))) (front (drop p file)) e ≡ false
+      → Derives rules file (Star e span) p (Matched end trees) → end ≡ p
   star_blocked n differs (Derives.star_none d) = refl
   star_blocked n differs (Derives.star_more d ds t) = absurd (never_here n differs d)

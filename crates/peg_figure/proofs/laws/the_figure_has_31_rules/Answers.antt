@@ -1,6 +1,6 @@
 use Rattle.std.proofs.Common.{refl}
 use Rattle.peg_figure.specs.Figure.{figure}
-use Rattle.peg_figure.proofs.laws.the_figure_has_29_rules.Goals as goal
+use Rattle.peg_figure.proofs.laws.the_figure_has_31_rules.Goals as goal
 
 pub returns : goal.returns
 unfolding figure

@@ -2,7 +2,7 @@ use Rattle.peg_grammar.specs.Written.{rules_of}
 use Rattle.peg_tree.specs.Branches.{trees_in, trees_from_branch}
 use Rattle.peg_tree.specs.Nodes.{count_of}
 use Rattle.peg_spelling.proofs.Walks.{Defining}
-use Rattle.peg_spelling.proofs.definitions.definitions_of.Given as goal
+use Rattle.peg_spelling.proofs.definitions.definitions_before_count.Given as goal
 
 abbrev pub invariant-definitions : goal.invariant-definitions
 invariant-definitions l = Defining l.file l.tree (rules_of l.definitions.items) (trees_from_branch l.node)

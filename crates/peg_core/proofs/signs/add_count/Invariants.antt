@@ -1,0 +1,11 @@
+use Rattle.std.proofs.Common.{◌+◌, ◌-◌, ◌*◌, ◌≤◌, length}
+use Rattle.peg_core.specs.Layout.{most_forms}
+use Rattle.peg_core.proofs.CountLemmas.{LaysRounds, needed}
+use Rattle.peg_core.proofs.signs.add_count.Given as goal
+
+-- the innermost rounds so far were put there, and the others have room
+abbrev pub invariant-loop-done : goal.invariant-loop-done
+invariant-loop-done l = record {
+  room : length l.flat.forms + 2 * (l.max - l.done) ≤ most_forms;
+  so_far : LaysRounds l.fn.flat l.part (needed l.min l.max l.done) l.done l.rest l.flat;
+}

@@ -1,0 +1,149 @@
+//! The texts of counts: one or two numbers in braces.
+ghost use Rattle.std.specs.Prelude.{◌≡◌, ◌<◌, ◌≤◌, length, option_map, IfSome};
+ghost use Rattle.peg_figure.specs.Spelled.{decimal};
+ghost use Rattle.peg_lexer.specs.Lexical.{digit, number, second_number, count};
+ghost use Rattle.peg_lexer.specs.LexicalCode.{told, number_seen, numbers_found, count_seen, count_found};
+ghost use Rattle.peg_lexer.specs.LexicalCode.{bounds_of, count_in_range};
+ghost use Rattle.peg_lexer.specs.Pieces.{length_of, many};
+
+use crate::text::is_digit;
+
+/// The bounds of a count that is in range: at least and at most how often its expression is matched.
+#[derive(Clone, Copy, Debug, PartialEq, Eq)]
+pub struct Bounds {
+    pub min: u8,
+    pub max: u8,
+}
+
+// A number at the front: its value, and how many bytes its text has.
+#[derive(Clone, Copy, Debug)]
+struct NumberText {
+    value: u16,
+    length: usize,
+}
+
+// A count at the front: its numbers, and how many bytes its text has.
+#[derive(Clone, Copy, Debug)]
+struct CountText {
+    min: u16,
+    max: u16,
+    length: usize,
+}
+
+// What stands for every number that is greater: no such number is in range.
+const MUCH: u16 = 256;
+
+/// The bounds that the count at the front spells, if they are in range: no more at least than at most, and from 1 to 255
+/// at most. Linear in its text, however long its numbers are.
+pub fn count_bounds(rest: &[u8]) -> Option<Bounds>
+    ensures { option_map bounds_of result ≡ count_in_range rest.now }
+{
+    let count = count_at(rest)?;
+    if count.min <= count.max && 1 <= count.max && count.max < MUCH {
+        Some(Bounds {
+            min: count.min as u8,
+            max: count.max as u8,
+        })
+    } else {
+        None
+    }
+}
+
+/// How many bytes the count at the front has. Linear in them.
+pub(crate) fn count(rest: &[u8]) -> Option<usize>
+    ensures value { result ≡ length_of (count rest.now) }
+    ensures some { IfSome result (λ n. 0 < n) }
+    ensures fits { IfSome result (λ n. n ≤ length rest.now) }
+{
+    let count = count_at(rest)?;
+    Some(count.length)
+}
+
+// The count at the front.
+fn count_at(rest: &[u8]) -> Option<CountText>
+    ensures value { option_map count_seen result ≡ option_map count_found (count rest.now) }
+    ensures some { IfSome result (λ count. 0 < count.length) }
+    ensures fits { IfSome result (λ count. count.length ≤ length rest.now) }
+{
+    if !rest.starts_with(b"{") {
+        return None;
+    }
+    let first = number(&rest[1..])?;
+    let behind = 1 + first.length;
+    let (max, end) = match second_number(&rest[behind..]) {
+        Some(second) => (second.value, behind + second.length),
+        None => (first.value, behind),
+    };
+    if !rest[end..].starts_with(b"}") {
+        return None;
+    }
+    Some(CountText {
+        min: first.value,
+        max,
+        length: end + 1,
+    })
+}
+
+// The comma at the front, and the number behind it.
+fn second_number(rest: &[u8]) -> Option<NumberText>
+    ensures value { option_map number_seen result ≡ option_map numbers_found (second_number rest.now) }
+    ensures fits { IfSome result (λ number. number.length ≤ length rest.now) }
+{
+    if !rest.starts_with(b",") {
+        return None;
+    }
+    let number = number(&rest[1..])?;
+    Some(NumberText {
+        value: number.value,
+        length: 1 + number.length,
+    })
+}
+
+// The number at the front.
+fn number(rest: &[u8]) -> Option<NumberText>
+    ensures value { option_map number_seen result ≡ option_map numbers_found (number rest.now) }
+    ensures fits { IfSome result (λ number. number.length ≤ length rest.now) }
+{
+    let length = digits(rest);
+    if length == 0 {
+        return None;
+    }
+    let value = value_of(&rest[..length]);
+    Some(NumberText { value, length })
+}
+
+// How many digits stand at the front.
+fn digits(rest: &[u8]) -> usize
+    ensures value { result ≡ (many digit rest.now).length }
+    ensures fits { result ≤ length rest.now }
+{
+    let mut at = 0;
+    'digits: while let Some(length) = digit_at(&rest[at..]) {
+        at += length;
+    }
+    at
+}
+
+// The digit at the front: how many bytes it has.
+fn digit_at(rest: &[u8]) -> Option<usize>
+    ensures value { result ≡ length_of (digit rest.now) }
+    ensures some { IfSome result (λ n. 0 < n) }
+    ensures fits { IfSome result (λ n. n ≤ length rest.now) }
+{
+    match rest {
+        [first, ..] if is_digit(*first) => Some(1),
+        _ => None,
+    }
+}
+
+// The number that digits spell; `MUCH` stands for every greater one.
+fn value_of(digits: &[u8]) -> u16
+    ensures value { result ≡ told (decimal digits.now) }
+    ensures small { result ≤ 256 }
+{
+    let mut value = 0;
+    for digit in digits {
+        value = (10 * value + (digit.saturating_sub(b'0') as u16)).min(MUCH);
+    }
+    value
+}
