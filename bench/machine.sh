@@ -53,8 +53,21 @@ Space <- [ \\t\\r\\n]*
 """
 
 
+CSV = b"""File <- Record (End Record)* !.
+Record <- Field (',' Field)*
+Field <- '"' ('""' / !'"' .)* '"' / (![,"\\n] .)*
+End <- '\\n'
+"""
+
+
+def fields(count):
+    """Lines of CSV, of about so many bytes."""
+    line = b'%d,a plain field,"a ""quoted"" one, with a comma",,%d'
+    return b"\n".join(line % (n, n * 7919 % 1000003) for n in range(count // 56))
+
+
 def alternatives(count):
-    return b"S <- 'a'" + b"/'a'" * (count - 1) + b"\n"
+    return b"S <- ." + b"/." * (count - 1) + b"\n"
 
 
 def falling(count):
@@ -63,14 +76,23 @@ def falling(count):
     return b"S <- (" + uses + b" / .)*\n" + b"".join(b"R%d <- 'a'\n" % n for n in range(count))
 
 
+def falling_at_one_place(count):
+    """A rule that fails, over rules whose terminals fail from the last to the first: all of it 100 times at one place."""
+    uses = b" / ".join(b"R%d" % n for n in reversed(range(count)))
+    rules = b"".join(b"R%d <- 'a'\n" % n for n in range(count))
+    return b"S <-" + b" !X" * 100 + b"\nX <- " + uses + b"\n" + rules
+
+
 CASES = [
     ("one star over any byte", lambda n: (b"S <- .* !.\n", b"z" * n), (10**5, 10**6, 10**7, 67_108_864)),
-    ("numbers in JSON", lambda n: (JSON, numbers(n)), (10**5, 10**6, 10**7, 6 * 10**7)),
+    ("numbers in JSON", lambda n: (JSON, numbers(n)), (10**5, 10**6, 10**7, 64 * 10**6)),
+    ("fields in CSV", lambda n: (CSV, fields(n)), (10**5, 10**6, 10**7, 64 * 10**6)),
     ("right recursion, so many levels", lambda n: (RIGHT, b"a" * n + b"b"), (10**4, 10**5, 10**6, 10**7)),
     ("parentheses, so many levels", lambda n: (NESTED, b"(" * n + b"x" + b")" * n), (10**4, 10**5, 10**6, 10**7)),
     ("failing through so many frames", lambda n: (RIGHT, b"a" * n), (10**4, 10**5, 10**6, 10**7)),
-    ("so many alternatives that fail", lambda n: (alternatives(n), b"z"), (300, 3_000, 30_000, 250_000)),
+    ("so many alternatives that fail", lambda n: (alternatives(n), b""), (300, 3_000, 30_000, 300_000)),
     ("falling terminals, so many a place, 1,000 places", lambda n: (falling(n), b"z" * 1000), (10, 100, 1000, 10_000)),
+    ("falling terminals, so many 100 times at one place", lambda n: (falling_at_one_place(n), b"z"), (10, 100, 1000, 10_000)),
 ]
 
 print("| What is run | Size | Steps | Rows | Milliseconds | Nanoseconds a step | MiB |")

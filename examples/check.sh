@@ -129,6 +129,26 @@ done
 run 0 /dev/null --help
 run 0 /dev/null parse --help
 
+# The command that each help gives as an example.
+mkdir "$folder/own"
+printf "List <- Value (',' Value)*\nValue <- [a-z]+\n" > "$folder/own/grammar.peg"
+printf 'ab,c' > "$folder/own/text"
+for words in "--help" "check --help" "table --help" "code --help" "parse --help"; do
+  # shellcheck disable=SC2086
+  run 0 /dev/null $words
+  example=$(sed -n 's/^Example: pegtool //p' "$folder/line")
+  [ -n "$example" ] || fault "no example: $words"
+  status=0
+  # shellcheck disable=SC2086
+  (cd "$folder/own" && "$program" $example > ../line 2> ../told < /dev/null) || status=$?
+  case "$example" in
+    *--start*) wanted=1 ;;
+    *) wanted=0 ;;
+  esac
+  [ "$status" = $wanted ] || fault "status $status and not $wanted: $example"
+  is_json "$example"
+done
+
 # Files that can't be opened or read.
 file_fault check "$folder/missing"
 file_fault table "$folder"
@@ -201,7 +221,12 @@ done << 'END'
 "name":"i"	S <- [a-z]i\n
 "rules":2	S <- "ab"i\ni <- 'b'\n
 "at":5,	S <- ^"ab"\n
-"at":8,	S <- 'a'{2}\n
+"rules":1	S <- 'a'{2}\n
+"rules":1	S <- 'a'{2,3}\n
+"at":8,	S <- 'a'{2,}\n
+"at":8,	S <- 'a'{,3}\n
+"BadCount"	S <- 'a'{0}\n
+"BadCount"	S <- 'a'{300}\n
 "at":8,	S <- 'a'^2\n
 "rules":1	S <- [^a]\n
 "rules":1	S <- 'a'..'z'\n

@@ -14,7 +14,7 @@ from pathlib import Path
 
 HERE = Path(__file__).resolve().parent
 CRATES = HERE.parent / "crates"
-HERE_ALONE = {f"{name}.peg" for name in "c date http layout log png semver toml utf8".split()}
+HERE_ALONE = {f"{name}.peg" for name in "c color date http ipv4 layout log png semver toml utf8 uuid".split()}
 TESTS = [CRATES / name / "src" / "examples.rt" for name in ("peg_tests", "peg_machine_tests")]
 
 STRING = r'"((?:[^"\\]|\\.)*)"'
