@@ -1,0 +1,15 @@
+//! Tests of whole runs of the commands, of one input, and of the words of a command line.
+#![tactic(auto)]
+
+#[cfg(test)]
+mod check;
+#[cfg(test)]
+mod code;
+#[cfg(test)]
+mod joined;
+#[cfg(test)]
+mod outcomes;
+#[cfg(test)]
+mod tool;
+#[cfg(test)]
+mod words;

@@ -1,0 +1,7 @@
+//! Tests of the example grammars over their texts, and of both readers of grammar files.
+#![tactic(auto)]
+
+#[cfg(test)]
+mod examples;
+#[cfg(test)]
+mod readers;
