@@ -1,0 +1,5 @@
+//! Tests of shortcuts, by the public calls.
+#![tactic(auto)]
+
+#[cfg(test)]
+mod found;
