@@ -7,6 +7,7 @@ mod FurthestBySet
 mod GoingEvents
 mod InputLemmas
 mod InstructionEvents
+mod LeapLemmas
 mod LocalRounds
 mod MachineLemmas
 mod MomentEnds

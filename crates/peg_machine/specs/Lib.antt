@@ -3,12 +3,13 @@ pub mod Begins
 pub mod CoreOutcome
 pub mod Entries
 pub mod Going
+pub mod Leaps
 pub mod Local
 pub mod Machine
 pub mod Moments
 pub mod Noted
-pub mod OneByte
 pub mod OneByteGoing
+pub mod OneByteRuns
 pub mod OpenRows
 pub mod Packrat
 pub mod Remembered

@@ -18,6 +18,7 @@ mod fault;
 pub mod going_laws;
 mod input;
 pub mod laws;
+mod leaps;
 mod machine;
 pub mod one_byte_laws;
 pub mod packrat_laws;
@@ -30,5 +31,5 @@ mod watch;
 
 pub use answer::Answer;
 pub use fault::RunFault;
-pub use running::run;
+pub use running::{run, run_by};
 pub use watch::{ListWatch, NoWatch, Watch};

@@ -4,6 +4,7 @@ ghost use Rattle.std.specs.Prelude.{slice_index};
 ghost use Rattle.std.specs.List.Sorted.{IsStrictlyIncreasing};
 ghost use Rattle.peg_ford.specs.Furthest.{IsFurthest};
 ghost use Rattle.peg_ford.specs.Record.{test_of, Test};
+ghost use Rattle.peg_machine.specs.OneByteGoing.{noted_at};
 ghost use Rattle.peg_machine.specs.Stamps.{AreStampsOf};
 
 use std::alloc::{AllocError, Global};
@@ -45,6 +46,19 @@ impl Stamps {
     {
         let stamp = &mut self.stamps[terminal as usize];
         *stamp = (*stamp).max(place + 1);
+    }
+
+    /// Notes that tests of these terminals failed at a place, one after the other.
+    pub(crate) fn note_all(&mut self, terminals: &[u32], place: u32)
+        requires within { All (λ terminal. terminal < length self.old.stamps.items) terminals.now }
+        requires room { place < 2 ^ 32 - 1 }
+        ensures noted { (tests : List Test) → AreStampsOf tests self.old.stamps.items
+            → AreStampsOf (noted_at place terminals.now tests) self.new.stamps.items }
+        ensures count { length self.new.stamps.items ≡ length self.old.stamps.items }
+    {
+        for terminal in terminals {
+            self.note(*terminal, place);
+        }
     }
 
     /// The furthest failure of the tests noted. Linear in the number of terminals.

@@ -13,6 +13,8 @@ mod examples;
 #[cfg(test)]
 mod forgetful;
 #[cfg(test)]
+mod limits;
+#[cfg(test)]
 mod memos;
 #[cfg(test)]
 mod outcomes;

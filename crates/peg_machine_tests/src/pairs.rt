@@ -4,7 +4,7 @@ ghost use Rattle.peg_ford.specs.WellFormed.{IsWellFormedGrammar};
 ghost use Rattle.peg_grammar.specs.GrammarRules.{rules_in};
 
 use crate::outcomes::assert_alike;
-use crate::runs::{run_forgetting, run_from, run_selecting, run_with};
+use crate::runs::{run_forgetting, run_from, run_selecting, run_step_by_step, run_with};
 use peg_check::{CheckFault, Checked, check};
 use peg_code::{CodeFault, Program, compile};
 use peg_core::desugar;
@@ -93,7 +93,8 @@ fn assert_told_alike(
     Ok(())
 }
 
-/// Both outcomes of a text from a start, the machine's and the evaluator's, are the same; it is handed back.
+/// All outcomes of a text from a start, the machine's by shortcuts and step by step and the evaluator's, are the same; it is
+/// handed back. By shortcuts the machine takes as many steps.
 pub(crate) fn same_outcome(
     rt: &impl Abort,
     alloc: Global,
@@ -105,6 +106,9 @@ pub(crate) fn same_outcome(
     let wanted = plain_total(alloc, &pair.grammar, text, start)?;
     let answer = run_from(alloc, &pair.program, text, start, &mut NoWatch, None)?;
     assert_told_alike(rt, alloc, pair, text, start, &answer.outcome, &wanted)?;
+    let plain = run_step_by_step(alloc, &pair.program, text, start, None)?;
+    assert_told_alike(rt, alloc, pair, text, start, &plain.outcome, &wanted)?;
+    assert_eq!(rt; answer.steps, plain.steps);
     Ok(wanted)
 }
 

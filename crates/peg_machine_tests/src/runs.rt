@@ -3,12 +3,13 @@ ghost use Rattle.std.specs.Prelude.{◌<◌, ◌≤◌, length};
 
 use crate::forgetful::Forgetful;
 use peg_code::Program;
-use peg_machine::{Answer, NoWatch, RunFault, Watch, run};
+use peg_machine::{Answer, NoWatch, RunFault, Watch, run, run_by};
 use peg_memo::{LruMemo, NoMemo};
 use peg_policy::{Costs, Selective};
+use peg_shortcut::Shortcuts;
 use std::alloc::Global;
 
-/// A run without a memo, from a rule.
+/// A run without a memo, from a rule, by shortcuts wherever there are some.
 pub(crate) fn run_from<W: Watch>(
     alloc: Global,
     program: &Program,
@@ -19,7 +20,40 @@ pub(crate) fn run_from<W: Watch>(
 ) -> Result<Answer, RunFault>
     requires { start < length program.now.core.bodies }
 {
-    run(alloc, program, text, start, &mut NoMemo, watch, most)
+    let mut shortcuts = Shortcuts::new(alloc, program, usize::MAX);
+    run_by(
+        alloc,
+        &mut shortcuts,
+        program,
+        text,
+        start,
+        &mut NoMemo,
+        watch,
+        most,
+    )
+}
+
+/// A run without a memo or a watch, from a rule, step by step.
+pub(crate) fn run_step_by_step(
+    alloc: Global,
+    program: &Program,
+    text: &[u8],
+    start: u32,
+    most: Option<u64>,
+) -> Result<Answer, RunFault>
+    requires { start < length program.now.core.bodies }
+{
+    let mut none = Shortcuts::new(alloc, program, 0);
+    run_by(
+        alloc,
+        &mut none,
+        program,
+        text,
+        start,
+        &mut NoMemo,
+        &mut NoWatch,
+        most,
+    )
 }
 
 /// A run without a memo or a watch, from the first rule.
@@ -48,7 +82,17 @@ pub(crate) fn run_with<W: Watch>(
     requires some { 1 ≤ capacity }
 {
     let mut memo = LruMemo::new(alloc, capacity)?;
-    run(alloc, program, text, start, &mut memo, watch, most)
+    let mut shortcuts = Shortcuts::new(alloc, program, usize::MAX);
+    run_by(
+        alloc,
+        &mut shortcuts,
+        program,
+        text,
+        start,
+        &mut memo,
+        watch,
+        most,
+    )
 }
 
 /// A run with a memo of so many results that keeps what pays, from a rule.

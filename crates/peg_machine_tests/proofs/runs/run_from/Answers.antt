@@ -3,5 +3,5 @@ use Rattle.peg_memo.specs.Kept.{Kept}
 use Rattle.peg_memo.specs.Use.{use_cmp}
 use Rattle.peg_machine_tests.proofs.runs.run_from.Goals as goal
 
-pub run-requires-clause-empty : goal.run-requires-clause-empty
-run-requires-clause-empty g c = len-empty use_cmp Kept
+pub run_by-requires-clause-empty : goal.run_by-requires-clause-empty
+run_by-requires-clause-empty g c = len-empty use_cmp Kept

@@ -6,6 +6,6 @@ use Rattle.peg_memo.specs.Memo.{Memo}
 use Rattle.peg_memo.specs.Use.{use_cmp}
 use Rattle.peg_machine_tests.proofs.runs.run_with.Goals as goal
 
-pub run-requires-clause-empty : goal.run-requires-clause-empty
-run-requires-clause-empty g c =
+pub run_by-requires-clause-empty : goal.run_by-requires-clause-empty
+run_by-requires-clause-empty g c =
     ap (λ (memo : Memo). len (held_in memo.pairs)) c.in_ok-memo.ensures ∙ len-empty use_cmp Kept

@@ -1,0 +1,62 @@
+//! Each limit of steps, by shortcuts and step by step.
+use crate::pairs::program_of;
+use crate::runs::{run_from, run_step_by_step};
+use peg_code::Program;
+use peg_machine::{Answer, NoWatch, RunFault};
+use std::alloc::Global;
+use std::process::Abort;
+use std::test::Fail;
+
+// The steps of an answer; none where the limit was met.
+fn steps_of(told: Result<Answer, RunFault>) -> Result<Option<u64>, Fail> {
+    match told {
+        Ok(answer) => Ok(Some(answer.steps)),
+        Err(RunFault::StepLimit) => Ok(None),
+        Err(fault) => Err(Fail::from(fault)),
+    }
+}
+
+// The steps with a limit are the same by shortcuts and step by step.
+fn assert_limited(
+    rt: &impl Abort,
+    alloc: Global,
+    program: &Program,
+    text: &[u8],
+    limit: u64,
+) -> Result<Option<u64>, Fail> {
+    assert!(rt; program.rules() > 0);
+    let by_shortcuts = steps_of(run_from(alloc, program, text, 0, &mut NoWatch, Some(limit)))?;
+    let plain = steps_of(run_step_by_step(alloc, program, text, 0, Some(limit)))?;
+    assert_eq!(rt; by_shortcuts, plain, "of {limit} steps");
+    Ok(plain)
+}
+
+// Each limit from 1 on is met step by step and by shortcuts alike, up to the one that is enough.
+fn assert_limits(
+    rt: &impl Abort,
+    alloc: Global,
+    file: &[u8],
+    text: &[u8],
+    wanted: u64,
+) -> Result<(), Fail> {
+    let program = program_of(alloc, file)?;
+    for limit in 1..=wanted {
+        let steps = assert_limited(rt, alloc, &program, text, limit)?;
+        assert_eq!(rt; steps.is_some(), limit == wanted);
+    }
+    Ok(())
+}
+
+// Worked by hand: of `'a'*` each a takes 3 steps and what ends it 2, and then there are a return and the end; of
+// `(!'b' .)*` each byte takes 5, and a b or the text's end 4.
+#[test]
+fn each_limit_is_met_at_its_step(rt: HostRuntime) -> Result<(), Fail> {
+    let alloc = rt.alloc();
+    assert_limits(&rt, alloc, b"S <- 'a'*", b"", 4)?;
+    assert_limits(&rt, alloc, b"S <- 'a'*", b"aaaa", 16)?;
+    assert_limits(&rt, alloc, b"S <- 'a'*", b"aaab", 13)?;
+    assert_limits(&rt, alloc, b"S <- [a-c]* 'x'", b"abcabcx", 23)?;
+    assert_limits(&rt, alloc, b"S <- (!'b' .)*", b"aaac", 26)?;
+    assert_limits(&rt, alloc, b"S <- (!'b' .)*", b"aab", 16)?;
+    assert_limits(&rt, alloc, b"S <- 'a' S / 'b'", b"aab", 15)
+}
