@@ -26,6 +26,7 @@ HANDED_ON = {
     "peg_core": "a grammar -> core forms",
     "peg_check": "core forms -> table, checked grammar",
     "peg_code": "a checked grammar -> a program",
+    "peg_shortcut": "a program, a byte -> what the machine does on it",
     "peg_memo": "results of rules at places, and back",
     "peg_policy": "a program -> a memo that keeps what pays",
     "peg_io": "files and streams -> bytes, and back",
