@@ -86,7 +86,7 @@ def falling_at_one_place(count):
 CASES = [
     ("one star over any byte", lambda n: (b"S <- .* !.\n", b"z" * n), (10**5, 10**6, 10**7, 67_108_864)),
     ("numbers in JSON", lambda n: (JSON, numbers(n)), (10**5, 10**6, 10**7, 64 * 10**6)),
-    ("fields in CSV", lambda n: (CSV, fields(n)), (10**5, 10**6, 10**7, 64 * 10**6)),
+    ("fields in CSV", lambda n: (CSV, fields(n)), (10**5, 10**6, 10**7, 60 * 10**6)),
     ("right recursion, so many levels", lambda n: (RIGHT, b"a" * n + b"b"), (10**4, 10**5, 10**6, 10**7)),
     ("parentheses, so many levels", lambda n: (NESTED, b"(" * n + b"x" + b")" * n), (10**4, 10**5, 10**6, 10**7)),
     ("failing through so many frames", lambda n: (RIGHT, b"a" * n), (10**4, 10**5, 10**6, 10**7)),
