@@ -9,7 +9,6 @@ pub mod Machine
 pub mod Moments
 pub mod Noted
 pub mod OneByteGoing
-pub mod OneByteRuns
 pub mod OpenRows
 pub mod Packrat
 pub mod Remembered
