@@ -13,9 +13,8 @@ mod MachineLemmas
 mod MomentEnds
 mod MomentLemmas
 mod NotedLemmas
-mod OneByteGoing
+mod OneByteFacts
 mod OneByteMoments
-mod OneByteRuns
 mod OutcomeLemmas
 mod PackratLemmas
 mod Promises
@@ -28,6 +27,7 @@ mod RunRules
 mod ShownLemmas
 mod Stacks
 mod StampLemmas
+mod StampNotes
 mod StartLemmas
 mod StepRounds
 mod StepsOfRecords

@@ -4,8 +4,7 @@ ghost use Rattle.std.specs.Prelude.{slice_index};
 ghost use Rattle.std.specs.List.Sorted.{IsStrictlyIncreasing};
 ghost use Rattle.peg_ford.specs.Furthest.{IsFurthest};
 ghost use Rattle.peg_ford.specs.Record.{test_of, Test};
-ghost use Rattle.peg_machine.specs.OneByteGoing.{noted_at};
-ghost use Rattle.peg_machine.specs.Stamps.{AreStampsOf};
+ghost use Rattle.peg_machine.specs.Stamps.{stamp_at, stamps_at, AreStampsOf};
 
 use std::alloc::{AllocError, Global};
 
@@ -43,6 +42,7 @@ impl Stamps {
         ensures noted { (tests : List Test) → AreStampsOf tests self.old.stamps.items
             → AreStampsOf (test_of terminal place ∷ tests) self.new.stamps.items }
         ensures count { length self.new.stamps.items ≡ length self.old.stamps.items }
+        ensures exact { self.new.stamps.items ≡ stamp_at place terminal self.old.stamps.items }
     {
         let stamp = &mut self.stamps[terminal as usize];
         *stamp = (*stamp).max(place + 1);
@@ -52,9 +52,7 @@ impl Stamps {
     pub(crate) fn note_all(&mut self, terminals: &[u32], place: u32)
         requires within { All (λ terminal. terminal < length self.old.stamps.items) terminals.now }
         requires room { place < 2 ^ 32 - 1 }
-        ensures noted { (tests : List Test) → AreStampsOf tests self.old.stamps.items
-            → AreStampsOf (noted_at place terminals.now tests) self.new.stamps.items }
-        ensures count { length self.new.stamps.items ≡ length self.old.stamps.items }
+        ensures { self.new.stamps.items ≡ stamps_at place terminals.now self.old.stamps.items }
     {
         for terminal in terminals {
             self.note(*terminal, place);

@@ -14,6 +14,13 @@ pub trait Watch {
     // the uses that it was shown
     ghost shown: { Self → List Use };
 
+    /// Whether it looks: one that looks away isn't shown every body.
+    fn looks(&self) -> bool
+        ensures { ¬ IsTrue result → records ≡ false }
+    {
+        true
+    }
+
     /// Shows it that the body of a rule begins at a place. An `Err` leaves what it was shown.
     fn begin(&mut self, rule: u32, place: u32) -> Result<(), AllocError>
         ensures ok { OnOk result (IsTrue records → shown self.new ≡ shown self.old ++ use_at rule place ∷ []) }
@@ -28,6 +35,10 @@ impl Watch for NoWatch {
     ghost records = { false };
 
     ghost shown = { λ _. [] };
+
+    fn looks(&self) -> bool {
+        false
+    }
 
     fn begin(&mut self, _rule: u32, _place: u32) -> Result<(), AllocError> {
         Ok(())

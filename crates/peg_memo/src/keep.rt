@@ -22,6 +22,13 @@ pub trait Keep {
     fn is_empty(&self) -> bool
         ensures { IsTrue result ↔ (map.len (held self.now) ≡ 0) };
 
+    /// Whether it may ever keep a result: one that doesn't is neither asked nor told of every use.
+    fn keeps(&self) -> bool
+        ensures { ¬ IsTrue result → room self.now ≡ 0 }
+    {
+        true
+    }
+
     /// Marks the result of a rule at a place as used, if it is held.
     fn touch(&mut self, rule: u32, place: u32)
         ensures part { IsPartOf (held self.new) (held self.old) }

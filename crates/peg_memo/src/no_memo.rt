@@ -19,6 +19,10 @@ impl Keep for NoMemo {
         true
     }
 
+    fn keeps(&self) -> bool {
+        false
+    }
+
     fn touch(&mut self, _rule: u32, _place: u32) {}
 
     fn find(&self, _rule: u32, _place: u32) -> Option<Found<'_>> {
