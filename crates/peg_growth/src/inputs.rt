@@ -23,6 +23,15 @@ pub(crate) const COUNTS: &[u8] = b"\
 /// It matches `(a)y`, and what stands in parentheses twice without a memo.
 pub(crate) const PREFIX: &[u8] = b"A <- '(' A ')' 'x' / '(' A ')' 'y' / 'a'\n";
 
+/// Sums, products, powers and what they are of: where one begins, several rules do on one byte.
+pub(crate) const SUMS: &[u8] = b"\
+    S <- P ('+' P)*\n\
+    P <- F ('*' F)*\n\
+    F <- A '^' F / A\n\
+    A <- '(' S ')' / '-' A / N / W\n\
+    N <- [0-9]+\n\
+    W <- [a-z]+\n";
+
 /// Two rules that use one another before anything is consumed.
 pub(crate) const CYCLE: &[u8] = b"A <- B 'x'\nB <- 'y'? A\n";
 

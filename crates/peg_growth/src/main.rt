@@ -15,6 +15,7 @@ mod memos;
 mod parsers;
 mod replies;
 mod runs;
+mod shortcuts;
 mod told;
 mod tools;
 mod trees;
@@ -52,6 +53,7 @@ fn run(rt: &(impl Print + env::Env + AllocGlobal), alloc: std::alloc::Global) ->
         || grammars::call(rt, alloc, word)?
         || memos::call(rt, alloc, word)?
         || runs::call(rt, alloc, word)?
+        || shortcuts::call(rt, alloc, word)?
         || parsers::call(rt, alloc, word)?
         || replies::call(rt, alloc, word)?
         || tools::call(rt, alloc, word)?
@@ -63,6 +65,7 @@ fn run(rt: &(impl Print + env::Env + AllocGlobal), alloc: std::alloc::Global) ->
     print_all(rt, &grammars::WORDS)?;
     print_all(rt, &memos::WORDS)?;
     print_all(rt, &runs::WORDS)?;
+    print_all(rt, &shortcuts::WORDS)?;
     print_all(rt, &parsers::WORDS)?;
     print_all(rt, &replies::WORDS)?;
     print_all(rt, &tools::WORDS)

@@ -28,6 +28,11 @@ pub(crate) const WORDS: [&str; 11] = [
 // How many pairs a watch is shown one by one.
 const PAIRS: u32 = 20;
 
+// At most so many rules has each grammar here, and so many places each text; a memo has room for all their results.
+const RULES: u32 = 6;
+
+const PLACES: u32 = 512;
+
 /// Makes the call that a word names. Whether it is one of these.
 pub(crate) fn call(rt: &impl Print, alloc: Global, word: &str) -> io::Result<bool> {
     match word {
@@ -57,17 +62,17 @@ fn alone(rt: &impl Print, alloc: Global, file: &[u8], text: &[u8]) -> io::Result
 
 // A memo in which a run from the first rule kept all its results, as far as memory was given.
 fn filled(alloc: Global, pair: &Pair, text: &[u8]) -> Result<LruMemo, AllocError> {
-    let mut memo = LruMemo::new(alloc, 64)?;
+    let mut memo = LruMemo::new(alloc, RULES * PLACES)?;
     match run(alloc, &pair.program, text, 0, &mut memo, &mut NoWatch, None) {
         Ok(_) => Ok(memo),
         Err(_) => Err(AllocError),
     }
 }
 
-// Whether each result that a memo holds, of three rules at sixteen places, is one that another memo holds.
-fn is_part<K: Keep>(memo: &mut K, whole: &LruMemo) -> bool {
-    for number in 0..48 {
-        let (rule, place) = (number / 16, number % 16);
+/// Whether each result that a memo holds of the rules at the places is one that another memo holds.
+pub(crate) fn is_part<K: Keep>(memo: &mut K, whole: &LruMemo) -> bool {
+    for number in 0..RULES * PLACES {
+        let (rule, place) = (number / PLACES, number % PLACES);
         memo.touch(rule, place);
         if let Some(found) = memo.find(rule, place) {
             match whole.find(rule, place) {
@@ -79,8 +84,8 @@ fn is_part<K: Keep>(memo: &mut K, whole: &LruMemo) -> bool {
     true
 }
 
-// A memo with all results; two are made, since one may be refused memory.
-fn whole(alloc: Global, pair: &Pair, text: &[u8]) -> Result<LruMemo, AllocError> {
+/// A memo with all results; two are made, since one may be refused memory.
+pub(crate) fn whole(alloc: Global, pair: &Pair, text: &[u8]) -> Result<LruMemo, AllocError> {
     let mut first = filled(alloc, pair, text)?;
     let mut second = filled(alloc, pair, text)?;
     if is_part(&mut first, &second) && is_part(&mut second, &first) {

@@ -31,4 +31,6 @@ mod runs;
 #[cfg(test)]
 mod small;
 #[cfg(test)]
+mod tables;
+#[cfg(test)]
 mod uses;

@@ -60,3 +60,16 @@ fn each_limit_is_met_at_its_step(rt: HostRuntime) -> Result<(), Fail> {
     assert_limits(&rt, alloc, b"S <- (!'b' .)*", b"aab", 16)?;
     assert_limits(&rt, alloc, b"S <- 'a' S / 'b'", b"aab", 15)
 }
+
+// Worked by hand: a call and a return are a step each. Of `(A / B)*` an a takes 7 steps, bc takes 9 and the end 6; of
+// `!A . S / ''` a byte that is taken takes 8, and the x 6.
+#[test]
+fn each_limit_is_met_at_its_step_through_calls(rt: HostRuntime) -> Result<(), Fail> {
+    let alloc = rt.alloc();
+    assert_limits(&rt, alloc, b"S <- A 'b' A <- 'a'", b"ab", 6)?;
+    assert_limits(&rt, alloc, b"S <- A 'b' A <- 'a'", b"ac", 4)?;
+    assert_limits(&rt, alloc, b"S <- (A / B)* A <- 'a' B <- 'b' 'c'", b"abca", 31)?;
+    assert_limits(&rt, alloc, b"S <- !A . S / '' A <- 'x'", b"abx", 24)?;
+    let prefix = b"A <- '(' A ')' 'x' / '(' A ')' 'y' / 'a'";
+    assert_limits(&rt, alloc, prefix, b"(a)y", 25)
+}

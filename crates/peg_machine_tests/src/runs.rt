@@ -1,5 +1,5 @@
 //! Runs without a memo, and with several.
-ghost use Rattle.std.specs.Prelude.{◌<◌, ◌≤◌, length};
+ghost use Rattle.std.specs.Prelude.{◌≡◌, ◌<◌, ◌≤◌, length};
 
 use crate::forgetful::Forgetful;
 use peg_code::Program;
@@ -9,7 +9,7 @@ use peg_policy::{Costs, Selective};
 use peg_shortcut::Shortcuts;
 use std::alloc::Global;
 
-/// A run without a memo, from a rule, by shortcuts wherever there are some.
+/// A run without a memo, from a rule, by shortcuts wherever there are some, through calls where the watch looks away.
 pub(crate) fn run_from<W: Watch>(
     alloc: Global,
     program: &Program,
@@ -20,7 +20,7 @@ pub(crate) fn run_from<W: Watch>(
 ) -> Result<Answer, RunFault>
     requires { start < length program.now.core.bodies }
 {
-    let mut shortcuts = Shortcuts::new(alloc, program, usize::MAX);
+    let mut shortcuts = Shortcuts::new(alloc, program, usize::MAX, !watch.looks());
     run_by(
         alloc,
         &mut shortcuts,
@@ -33,6 +33,44 @@ pub(crate) fn run_from<W: Watch>(
     )
 }
 
+/// A run without a memo, from the first rule, by a table of shortcuts, that a watch looks at.
+pub(crate) fn run_looked_at<W: Watch>(
+    alloc: Global,
+    shortcuts: &mut Shortcuts<'_>,
+    program: &Program,
+    text: &[u8],
+    watch: &mut W,
+) -> Result<Answer, RunFault>
+    requires program { shortcuts.old.program.now ≡ program.now }
+    requires rule { 0 < length program.now.core.bodies }
+    ensures { shortcuts.new.program.now ≡ shortcuts.old.program.now }
+{
+    run_by(
+        alloc,
+        shortcuts,
+        program,
+        text,
+        0,
+        &mut NoMemo,
+        watch,
+        None,
+    )
+}
+
+/// A run without a memo or a watch, from the first rule, by a table of shortcuts.
+pub(crate) fn run_without_memo(
+    alloc: Global,
+    shortcuts: &mut Shortcuts<'_>,
+    program: &Program,
+    text: &[u8],
+) -> Result<Answer, RunFault>
+    requires program { shortcuts.old.program.now ≡ program.now }
+    requires rule { 0 < length program.now.core.bodies }
+    ensures { shortcuts.new.program.now ≡ shortcuts.old.program.now }
+{
+    run_looked_at(alloc, shortcuts, program, text, &mut NoWatch)
+}
+
 /// A run without a memo or a watch, from a rule, step by step.
 pub(crate) fn run_step_by_step(
     alloc: Global,
@@ -43,7 +81,7 @@ pub(crate) fn run_step_by_step(
 ) -> Result<Answer, RunFault>
     requires { start < length program.now.core.bodies }
 {
-    let mut none = Shortcuts::new(alloc, program, 0);
+    let mut none = Shortcuts::new(alloc, program, 0, true);
     run_by(
         alloc,
         &mut none,
@@ -82,7 +120,7 @@ pub(crate) fn run_with<W: Watch>(
     requires some { 1 ≤ capacity }
 {
     let mut memo = LruMemo::new(alloc, capacity)?;
-    let mut shortcuts = Shortcuts::new(alloc, program, usize::MAX);
+    let mut shortcuts = Shortcuts::new(alloc, program, usize::MAX, false);
     run_by(
         alloc,
         &mut shortcuts,

@@ -4,7 +4,7 @@ use peg_code::{Program, compile};
 use peg_core::desugar;
 use peg_grammar::Grammar;
 use peg_notation::read;
-use peg_shortcut::{Reach, Shortcut, Shortcuts, UNKNOWN};
+use peg_shortcut::{Added, Put, Reach, Shortcut, Shortcuts, UNKNOWN};
 use std::alloc::Global;
 use std::process::Abort;
 use std::test::Fail;
@@ -24,25 +24,53 @@ fn program_of(alloc: Global, file: &[u8]) -> Result<Program, Fail> {
     Ok(compile(alloc, checked)?)
 }
 
-// The shortcut from the first rule's first instruction on at a byte has so many rounds, fails these terminals' tests, leaves
-// ways back to these instructions and leads there.
+// A rule that calls another: 1 call 4, 2 test [b], 3 ret; 4 test [a], 5 ret.
+const CALL: &[u8] = b"S <- A 'b' A <- 'a'";
+
+// The same, and the rule that is called goes on behind the byte: 4 test [a], 5 test [c], 6 ret.
+const LONGER: &[u8] = b"S <- A 'b' A <- 'a' 'c'";
+
+// A star over a set of two bytes.
+const PAIR: &[u8] = b"S <- [ab]*";
+
+// What a shortcut is to be.
+#[derive(Clone, Copy)]
+struct Wanted<'a> {
+    rounds: u32,
+    failed: &'a [u32],
+    put: &'a [Put],
+    added: &'a [Added],
+    reach: Reach,
+}
+
+// That of so many rounds, which puts and adds nothing.
+fn bare(rounds: u32, failed: &[u32], reach: Reach) -> Wanted<'_> {
+    Wanted {
+        rounds,
+        failed,
+        put: &[],
+        added: &[],
+        reach,
+    }
+}
+
+// The shortcut from the first rule's first instruction on at a byte is as it is to be, and takes no older way away.
 fn assert_shortcut(
     rt: &impl Abort,
     alloc: Global,
     file: &[u8],
+    through: bool,
     byte: u8,
-    rounds: u32,
-    failed: &[u32],
-    left: &[u32],
-    reach: Reach,
+    wanted: Wanted<'_>,
 ) -> Result<(), Fail> {
     let program = program_of(alloc, file)?;
-    let shortcut = Shortcut::of(alloc, &program, 1, byte)?;
-    assert_eq!(rt; (shortcut.pc, shortcut.byte), (1, byte));
-    assert_eq!(rt; (shortcut.rounds, shortcut.dropped), (rounds, 0));
-    assert_eq!(rt; shortcut.failed.as_slice(), failed);
-    assert_eq!(rt; shortcut.left.as_slice(), left);
-    assert_eq!(rt; shortcut.reach, reach);
+    let shortcut = Shortcut::of(alloc, &program, through, 1, byte)?;
+    assert_eq!(rt; (shortcut.pc, shortcut.dropped), (1, 0));
+    assert_eq!(rt; shortcut.rounds, wanted.rounds);
+    assert_eq!(rt; shortcut.failed.as_slice(), wanted.failed);
+    assert_eq!(rt; shortcut.put.as_slice(), wanted.put);
+    assert_eq!(rt; shortcut.added.as_slice(), wanted.added);
+    assert_eq!(rt; shortcut.reach, wanted.reach);
     Ok(())
 }
 
@@ -53,23 +81,73 @@ fn at(pc: u32, taken: bool) -> Reach {
 #[test]
 fn a_star_goes_round_or_on(rt: HostRuntime) -> Result<(), Fail> {
     let alloc = rt.alloc();
-    assert_shortcut(&rt, alloc, STAR, b'a', 3, &[], &[], at(1, true))?;
-    assert_shortcut(&rt, alloc, STAR, b'c', 2, &[0], &[], at(4, false))
+    assert_shortcut(&rt, alloc, STAR, false, b'a', bare(3, &[], at(1, true)))?;
+    assert_shortcut(&rt, alloc, STAR, true, b'c', bare(2, &[0], at(4, false)))
 }
 
 #[test]
 fn a_choice_leaves_its_way_or_takes_it(rt: HostRuntime) -> Result<(), Fail> {
     let alloc = rt.alloc();
-    assert_shortcut(&rt, alloc, RIGHT, b'a', 2, &[], &[5], at(3, true))?;
-    assert_shortcut(&rt, alloc, RIGHT, b'b', 3, &[0], &[], at(6, true))?;
-    assert_shortcut(&rt, alloc, RIGHT, b'c', 3, &[0, 1], &[], Reach::Falls)
+    let way = [Put::Way { pc: 5, rows: 0 }];
+    let left = Wanted {
+        rounds: 2,
+        failed: &[],
+        put: &way,
+        added: &[],
+        reach: at(3, true),
+    };
+    assert_shortcut(&rt, alloc, RIGHT, false, b'a', left)?;
+    assert_shortcut(&rt, alloc, RIGHT, false, b'b', bare(3, &[0], at(6, true)))?;
+    assert_shortcut(&rt, alloc, RIGHT, true, b'c', bare(3, &[0, 1], Reach::Falls))
 }
 
 #[test]
 fn a_predicate_fails_or_lets_the_byte_be_taken(rt: HostRuntime) -> Result<(), Fail> {
     let alloc = rt.alloc();
-    assert_shortcut(&rt, alloc, BUT, b'b', 3, &[], &[], Reach::Falls)?;
-    assert_shortcut(&rt, alloc, BUT, b'a', 3, &[0], &[], at(5, true))
+    assert_shortcut(&rt, alloc, BUT, false, b'b', bare(3, &[], Reach::Falls))?;
+    assert_shortcut(&rt, alloc, BUT, true, b'a', bare(3, &[0], at(5, true)))
+}
+
+#[test]
+fn a_call_is_gone_through_or_stops_it(rt: HostRuntime) -> Result<(), Fail> {
+    let alloc = rt.alloc();
+    let row = [Added {
+        rule: 1,
+        taken: true,
+        size: 1,
+    }];
+    let ended = Wanted {
+        rounds: 3,
+        failed: &[],
+        put: &[],
+        added: &row,
+        reach: at(2, true),
+    };
+    assert_shortcut(&rt, alloc, CALL, true, b'a', ended)?;
+    assert_shortcut(&rt, alloc, CALL, true, b'c', bare(2, &[1], Reach::Falls))?;
+    assert_shortcut(&rt, alloc, CALL, false, b'a', bare(0, &[], at(1, false)))
+}
+
+#[test]
+fn a_use_that_has_not_ended_stays_on_the_stack(rt: HostRuntime) -> Result<(), Fail> {
+    let begun = [Put::Use {
+        rule: 1,
+        back: 2,
+        rows: 0,
+    }];
+    let row = [Added {
+        rule: 1,
+        taken: false,
+        size: 0,
+    }];
+    let open = Wanted {
+        rounds: 2,
+        failed: &[],
+        put: &begun,
+        added: &row,
+        reach: at(5, true),
+    };
+    assert_shortcut(&rt, rt.alloc(), LONGER, true, b'a', open)
 }
 
 // What is known of the first instruction at a byte.
@@ -83,7 +161,7 @@ fn is_found(shortcuts: &Shortcuts<'_>, pc: u32, byte: u8) -> bool {
 fn a_table_knows_what_it_has_found(rt: HostRuntime) -> Result<(), Fail> {
     let alloc = rt.alloc();
     let program = program_of(alloc, STAR)?;
-    let mut shortcuts = Shortcuts::new(alloc, &program, 2);
+    let mut shortcuts = Shortcuts::new(alloc, &program, 2, false);
     assert_eq!(rt; shortcuts.known(1, b'a'), UNKNOWN);
     assert!(rt; !is_found(&shortcuts, 1, b'a'));
     shortcuts.find(1, b'a');
@@ -99,9 +177,25 @@ fn a_table_knows_what_it_has_found(rt: HostRuntime) -> Result<(), Fail> {
 fn a_table_for_no_instruction_finds_none(rt: HostRuntime) -> Result<(), Fail> {
     let alloc = rt.alloc();
     let program = program_of(alloc, STAR)?;
-    let mut shortcuts = Shortcuts::new(alloc, &program, 0);
+    let mut shortcuts = Shortcuts::new(alloc, &program, 0, true);
     assert!(rt; shortcuts.known(1, b'a') != UNKNOWN);
     shortcuts.find(1, b'a');
     assert!(rt; !is_found(&shortcuts, 1, b'a'));
+    Ok(())
+}
+
+#[test]
+fn bytes_on_which_the_same_is_done_share_a_shortcut(rt: HostRuntime) -> Result<(), Fail> {
+    let alloc = rt.alloc();
+    let program = program_of(alloc, PAIR)?;
+    let mut shortcuts = Shortcuts::new(alloc, &program, usize::MAX, false);
+    for byte in [b'a', b'b', b'c', b'd'] {
+        shortcuts.find(1, byte);
+        assert!(rt; is_found(&shortcuts, 1, byte));
+    }
+    assert_eq!(rt; shortcuts.known(1, b'a'), shortcuts.known(1, b'b'));
+    assert_eq!(rt; shortcuts.known(1, b'c'), shortcuts.known(1, b'd'));
+    assert!(rt; shortcuts.known(1, b'a') != shortcuts.known(1, b'c'));
+    assert!(rt; shortcuts.numbered(shortcuts.known(1, b'a'), 1, b'c').is_none());
     Ok(())
 }
