@@ -45,6 +45,9 @@ file '(a)y' prefix.txt
 times() { printf "%0.s$2" $(seq "$1"); } # a count, and what is written so often
 # Without a memo each level doubles the steps: a refused growth costs a result, and never the rest of the memo.
 file "$(times 30 '(')a$(times 30 ')y')" deep.txt
+# 64 bytes of text for each instruction: the table of shortcuts has all of them. Long words are few results to keep.
+file "S <- I (',' I)*\nI <- '(' S? ')' / N / W\nN <- [0-9]+\nW <- [a-z]+\n" list.peg
+file "$(times 8 "$(times 20 'first'),(22,(),$(times 20 'third')),$(times 9 '4444'),")last" list.txt
 file "A <- $(times 201 '(')'a'$(times 201 ')')\n" nested.peg
 file "A <- $(times 24 '(')'a'+$(times 24 ')+')\n" large.peg
 head -c 1048577 /dev/zero | tr '\0' ' ' > "$work/long.peg"
@@ -55,6 +58,8 @@ refuse 'parse, counts' /dev/null parse "$work/counts.peg" "$work/counts.txt"
 refuse 'parse, prefix' /dev/null parse "$work/prefix.peg" "$work/prefix.txt" --all
 refuse 'parse, deep, memo of 1' /dev/null parse "$work/prefix.peg" "$work/deep.txt" --rows --memo 1
 refuse 'parse, deep, memo of 4096' /dev/null parse "$work/prefix.peg" "$work/deep.txt" --rows --memo 4096
+refuse 'parse, shortcuts through calls' /dev/null parse "$work/list.peg" "$work/list.txt" --rows --all --memo 0
+refuse 'parse, shortcuts and a memo' /dev/null parse "$work/list.peg" "$work/list.txt" --rows --all
 refuse 'parse, no start' /dev/null parse "$work/chain.peg" "$work/chain.txt" --start T
 refuse 'parse, left cycle' /dev/null parse "$work/cycle.peg" "$work/chain.txt"
 for grammar in chain counts cycle loop plus star twice missing open nested large long; do
