@@ -68,7 +68,13 @@ fn each_limit_is_met_at_its_step_through_calls(rt: HostRuntime) -> Result<(), Fa
     let alloc = rt.alloc();
     assert_limits(&rt, alloc, b"S <- A 'b' A <- 'a'", b"ab", 6)?;
     assert_limits(&rt, alloc, b"S <- A 'b' A <- 'a'", b"ac", 4)?;
-    assert_limits(&rt, alloc, b"S <- (A / B)* A <- 'a' B <- 'b' 'c'", b"abca", 31)?;
+    assert_limits(
+        &rt,
+        alloc,
+        b"S <- (A / B)* A <- 'a' B <- 'b' 'c'",
+        b"abca",
+        31,
+    )?;
     assert_limits(&rt, alloc, b"S <- !A . S / '' A <- 'x'", b"abx", 24)?;
     let prefix = b"A <- '(' A ')' 'x' / '(' A ')' 'y' / 'a'";
     assert_limits(&rt, alloc, prefix, b"(a)y", 25)

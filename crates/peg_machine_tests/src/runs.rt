@@ -45,16 +45,7 @@ pub(crate) fn run_looked_at<W: Watch>(
     requires rule { 0 < length program.now.core.bodies }
     ensures { shortcuts.new.program.now ≡ shortcuts.old.program.now }
 {
-    run_by(
-        alloc,
-        shortcuts,
-        program,
-        text,
-        0,
-        &mut NoMemo,
-        watch,
-        None,
-    )
+    run_by(alloc, shortcuts, program, text, 0, &mut NoMemo, watch, None)
 }
 
 /// A run without a memo or a watch, from the first rule, by a table of shortcuts.

@@ -98,7 +98,14 @@ fn a_choice_leaves_its_way_or_takes_it(rt: HostRuntime) -> Result<(), Fail> {
     };
     assert_shortcut(&rt, alloc, RIGHT, false, b'a', left)?;
     assert_shortcut(&rt, alloc, RIGHT, false, b'b', bare(3, &[0], at(6, true)))?;
-    assert_shortcut(&rt, alloc, RIGHT, true, b'c', bare(3, &[0, 1], Reach::Falls))
+    assert_shortcut(
+        &rt,
+        alloc,
+        RIGHT,
+        true,
+        b'c',
+        bare(3, &[0, 1], Reach::Falls),
+    )
 }
 
 #[test]
@@ -196,6 +203,10 @@ fn bytes_on_which_the_same_is_done_share_a_shortcut(rt: HostRuntime) -> Result<(
     assert_eq!(rt; shortcuts.known(1, b'a'), shortcuts.known(1, b'b'));
     assert_eq!(rt; shortcuts.known(1, b'c'), shortcuts.known(1, b'd'));
     assert!(rt; shortcuts.known(1, b'a') != shortcuts.known(1, b'c'));
-    assert!(rt; shortcuts.numbered(shortcuts.known(1, b'a'), 1, b'c').is_none());
+    assert!(rt;
+        shortcuts
+            .numbered(shortcuts.known(1, b'a'), 1, b'c')
+            .is_none()
+    );
     Ok(())
 }
