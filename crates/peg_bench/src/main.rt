@@ -36,8 +36,12 @@ fn main(rt: HostRuntime) -> io::Result<()> {
             let text = env::args(&rt)?.nth(3);
             runs::run(rt, alloc, word, text.as_ref().map_or("", |w| w.as_str()))
         }
+        "again" => {
+            let text = env::args(&rt)?.nth(3);
+            runs::run_again(rt, alloc, word, text.as_ref().map_or("", |w| w.as_str()))
+        }
         _ => println!(rt;
-            "words: grammar, tree, values, rows, nested, notation, figure, check, table or run, and on what"
+            "words: grammar, tree, values, rows, nested, notation, figure, check, table, run or again, and on what"
         ),
     }
 }

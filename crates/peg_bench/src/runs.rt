@@ -1,12 +1,16 @@
 //! Runs the program of a grammar file on a text file, from its first rule, and prints how many steps that took, how many
-//! rows the tree has, 0 where the text isn't matched, and the microseconds of the run alone.
+//! rows the tree has, 0 where the text isn't matched, and the microseconds of the run alone; or the microseconds of two runs
+//! by one table of shortcuts, the first with the table's making.
+ghost use Rattle.std.specs.Prelude.{◌≡◌, ◌<◌, length};
+
 use peg_check::check;
 use peg_code::{Program, compile};
 use peg_core::desugar;
 use peg_grammar::Grammar;
-use peg_machine::{NoWatch, run as run_program};
+use peg_machine::{Answer, NoWatch, RunFault, run as run_program, run_by};
 use peg_memo::NoMemo;
 use peg_notation::read;
+use peg_shortcut::Shortcuts;
 use peg_tree::Parsed;
 use std::alloc::Global;
 use std::time::Instant;
@@ -48,5 +52,55 @@ pub(crate) fn run(rt: HostRuntime, alloc: Global, grammar: &str, text: &str) -> 
             };
             println!(rt; "{} steps, {rows} rows, {time} us", answer.steps)
         }
+    }
+}
+
+// A run without a memo by a table of shortcuts.
+fn run_by_table(
+    alloc: Global,
+    shortcuts: &mut Shortcuts<'_>,
+    program: &Program,
+    text: &[u8],
+) -> Result<Answer, RunFault>
+    requires program { shortcuts.old.program.now ≡ program.now }
+    requires rule { 0 < length program.now.core.bodies }
+    ensures { shortcuts.new.program.now ≡ shortcuts.old.program.now }
+{
+    run_by(
+        alloc,
+        shortcuts,
+        program,
+        text,
+        0,
+        &mut NoMemo,
+        &mut NoWatch,
+        None,
+    )
+}
+
+pub(crate) fn run_again(
+    rt: HostRuntime,
+    alloc: Global,
+    grammar: &str,
+    text: &str,
+) -> io::Result<()> {
+    let grammar = fs::read(&rt, grammar)?;
+    let text = fs::read(&rt, text)?;
+    let Some(program) = program_of(alloc, grammar.as_slice()) else {
+        return println!(rt; "refused");
+    };
+    if program.rules() == 0 {
+        return println!(rt; "no rule");
+    }
+    let start = Instant::now(&rt)?;
+    let mut shortcuts = Shortcuts::new(alloc, &program, text.len() / 16, true);
+    let first = run_by_table(alloc, &mut shortcuts, &program, text.as_slice());
+    let new = start.elapsed(&rt)?.as_micros();
+    let start = Instant::now(&rt)?;
+    let second = run_by_table(alloc, &mut shortcuts, &program, text.as_slice());
+    let kept = start.elapsed(&rt)?.as_micros();
+    match (first, second) {
+        (Ok(_), Ok(_)) => println!(rt; "{new} us, and {kept} us by what was found"),
+        _ => println!(rt; "no answer"),
     }
 }
