@@ -1,4 +1,4 @@
-use Rattle.std.proofs.Common.{◌≡◌, ◌+◌, ◌∷◌, [], List, ℕ, ap, get_or, length, sym, take, ◌∙◌}
+use Rattle.std.proofs.Common.{◌∷◌, [], List, ℕ, ap, get_or, sym, take, ◌∙◌}
 use Rattle.std.proofs.lemmas.List.{take_more}
 use Rattle.peg_machine.specs.Stamps.{stamp_at, stamps_at}
 use Rattle.peg_machine.proofs.StampNotes.{stamps-more}
