@@ -109,6 +109,19 @@ fn a_table_of_few_instructions_changes_no_answer(rt: HostRuntime) -> Result<(), 
     Ok(())
 }
 
+#[test]
+fn a_table_that_finds_late_changes_no_answer(rt: HostRuntime) -> Result<(), Fail> {
+    let alloc = rt.alloc();
+    let program = program_of(alloc, b"S <- (A / '(' S ')')* A <- [a-c]+ ';' / !'x' [u-z]")?;
+    assert!(rt; program.rules() > 0);
+    for meetings in 0..12 {
+        let mut shortcuts = Shortcuts::new(alloc, &program, usize::MAX, true).after(meetings);
+        assert_same_by(&rt, alloc, &mut shortcuts, &program, b"abc;(u(cc;)yb;)(x)")?;
+        assert_same_by(&rt, alloc, &mut shortcuts, &program, b"a;((ww)bc;")?;
+    }
+    Ok(())
+}
+
 // A run by a table that a watch looks at shows it each use, in as many steps.
 fn assert_shown(
     rt: &impl Abort,

@@ -4,7 +4,7 @@ use peg_code::{Program, compile};
 use peg_core::desugar;
 use peg_grammar::Grammar;
 use peg_notation::read;
-use peg_shortcut::{Added, Put, Reach, Shortcut, Shortcuts, UNKNOWN};
+use peg_shortcut::{Added, NONE, Put, Reach, Shortcut, Shortcuts, UNKNOWN};
 use std::alloc::Global;
 use std::process::Abort;
 use std::test::Fail;
@@ -177,6 +177,29 @@ fn a_table_knows_what_it_has_found(rt: HostRuntime) -> Result<(), Fail> {
     assert_eq!(rt; shortcuts.known(1, b'b'), UNKNOWN);
     shortcuts.find(2, b'a');
     assert!(rt; !is_found(&shortcuts, 2, b'a'));
+    Ok(())
+}
+
+// Meets the first instruction at a byte so often.
+fn meet_often(shortcuts: &mut Shortcuts<'_>, byte: u8, times: u32) {
+    for _ in 0..times {
+        shortcuts.meet(1, byte);
+    }
+}
+
+#[test]
+fn a_table_finds_after_so_many_meetings(rt: HostRuntime) -> Result<(), Fail> {
+    let alloc = rt.alloc();
+    let program = program_of(alloc, STAR)?;
+    for (after, met) in [(0, 0), (2, 2), (126, 126), (u16::MAX, 126)] {
+        let mut shortcuts = Shortcuts::new(alloc, &program, usize::MAX, false).after(after);
+        meet_often(&mut shortcuts, b'a', met);
+        assert!(rt; !is_found(&shortcuts, 1, b'a'));
+        assert!(rt; shortcuts.known(1, b'a') < NONE);
+        meet_often(&mut shortcuts, b'a', 1);
+        assert!(rt; is_found(&shortcuts, 1, b'a'));
+        assert_eq!(rt; shortcuts.known(1, b'b'), UNKNOWN);
+    }
     Ok(())
 }
 
