@@ -208,9 +208,13 @@ fn a_table_for_no_instruction_finds_none(rt: HostRuntime) -> Result<(), Fail> {
     let alloc = rt.alloc();
     let program = program_of(alloc, STAR)?;
     let mut shortcuts = Shortcuts::new(alloc, &program, 0, true);
+    assert!(rt; !shortcuts.covers(1));
     assert!(rt; shortcuts.known(1, b'a') != UNKNOWN);
     shortcuts.find(1, b'a');
     assert!(rt; !is_found(&shortcuts, 1, b'a'));
+    let shortcuts = Shortcuts::new(alloc, &program, 2, true);
+    assert!(rt; shortcuts.covers(1));
+    assert!(rt; !shortcuts.covers(2));
     Ok(())
 }
 
