@@ -45,8 +45,8 @@ file '(a)y' prefix.txt
 times() { printf "%0.s$2" $(seq "$1"); } # a count, and what is written so often
 # Without a memo each level doubles the steps: a refused growth costs a result, and never the rest of the memo.
 file "$(times 30 '(')a$(times 30 ')y')" deep.txt
-# 17,820 bytes of text: there is a table of shortcuts, of all instructions, and each is met often enough to be
-# found. Long words are few results to keep.
+# 17,788 bytes of text: there is a table of shortcuts, of all instructions, and each is met often enough to be found.
+# Long words are few results to keep.
 file "S <- I (',' I)*\nI <- '(' S? ')' / N / W\nN <- [0-9]+\nW <- [a-z]+\n" list.peg
 file "$(times 72 "$(times 20 'first'),(22,(),$(times 20 'third')),$(times 9 '4444'),")last" list.txt
 file "A <- $(times 201 '(')'a'$(times 201 ')')\n" nested.peg
