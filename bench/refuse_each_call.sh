@@ -1,13 +1,13 @@
 #!/usr/bin/env bash
-# Refuses each request for memory of public calls in turn, one call after the other: `crates/peg_growth` makes the call
+# Refuses each request for memory of public calls in turn, one call after the other: `crates/peg_oom` makes the call
 # that a word names, and prints one line. Of the Nth request, for N from 1 until a run makes fewer, each run has to
 # print `not yet`, where that came before the call; `memory`, where the call answered want of memory and left what it
 # borrowed as it was; or the very line that it prints where memory is there. Takes the program's path, by default the
-# built one (`cd crates/peg_growth && rt run` builds it), and words, by default all; wants a C compiler for the library
+# built one (`cd crates/peg_oom && rt run` builds it), and words, by default all; wants a C compiler for the library
 # that refuses.
 set -u
 cd "$(dirname "$0")/.." || exit 1
-program=$(realpath "${1:-crates/peg_growth/out/peg_growth}")
+program=$(realpath "${1:-crates/peg_oom/out/peg_oom}")
 [ "$#" = 0 ] || shift
 work=$(mktemp -d)
 trap 'rm -rf "$work"' EXIT

@@ -17,23 +17,23 @@ PLACE = re.compile(r"^```rooms\n(.*?)^```$", re.M | re.S)
 HANDED_ON = {
     "peg_bytes": "places, spans, sets of bytes",
     "peg_tree": "trees as rows, outcomes",
-    "peg_ford": "Ford's definitions; nothing runs",
+    "peg_semantics": "Ford's definitions; nothing runs",
     "peg_grammar": "definitions -> a grammar",
-    "peg_figure": "the notation as a grammar",
+    "peg_metagrammar": "the notation as a grammar",
     "peg_lexer": "a grammar file -> tokens",
-    "peg_spelling": "a tree of the notation -> definitions",
+    "peg_bootstrap": "a tree of the notation -> definitions",
     "peg_notation": "tokens -> definitions",
     "peg_core": "a grammar -> core forms",
     "peg_check": "core forms -> table, checked grammar",
     "peg_code": "a checked grammar -> a program",
     "peg_shortcut": "a program, a byte -> what the machine does on it",
     "peg_memo": "results of rules at places, and back",
-    "peg_policy": "a program -> a memo that keeps what pays",
+    "peg_memo_policy": "a program -> a memo that keeps what pays",
     "peg_io": "files and streams -> bytes, and back",
     "peg_machine": "a program, a text -> outcome, tree, furthest failure",
     "peg_parser": "a grammar file -> a parser or a refusal; a text -> an answer",
-    "peg_reply": "an answer or a refusal -> a line of JSON, a status",
-    "peg_words": "words -> a command",
+    "peg_json": "an answer or a refusal -> a line of JSON, a status",
+    "peg_cli": "words -> a command",
     "peg_tool": "a command, bytes -> the line that is written, the status",
     "pegtool": "the program",
 }
@@ -42,7 +42,7 @@ HANDED_ON = {
 def rooms():
     """Each crate that the program uses, in the order of crates.txt, with the crates that it uses."""
     with open(f"{TOP}/crates.txt", encoding="utf-8") as file:
-        pairs = (line.split(":") for line in file if not line.startswith("#"))
+        pairs = (line.split(":") for line in file if ":" in line and not line.startswith("#"))
         used = {name: libraries.split() for name, libraries in pairs}
     found, coming = set(), ["pegtool"]
     while coming:

@@ -1,6 +1,6 @@
-//! Checks ill-formed grammars of many rules: with the word `ring` one left cycle through 100,000 rules, with `joined`
-//! two cycles joined by a chain of as many, with `neighbours` 50,000 rules each of which meets first the two beside it,
-//! and with no word all three.
+//! Checks ill-formed grammars of many rules. With the argument `ring`: one left cycle through 100,000 rules. With
+//! `joined`: two cycles joined by a chain of as many. With `neighbours`: 50,000 rules, each of which left-calls the
+//! two beside it. Without an argument: all three.
 use crate::rules::{rule, use_of};
 use peg_bytes::Span;
 use peg_check::{CheckFault, check};
@@ -20,7 +20,7 @@ fn either(alloc: Global, one: u32, other: u32) -> Result<Expr, AllocError> {
     Ok(Expr::Choice { first, rest, span })
 }
 
-// Each rule is the next one, and the last the first.
+// Each rule calls the next one, and the last calls the first.
 fn ring(alloc: Global) -> Result<Vec<Definition>, AllocError> {
     let mut rules = Vec::new(alloc);
     for number in 0..RULES {
@@ -30,7 +30,8 @@ fn ring(alloc: Global) -> Result<Vec<Definition>, AllocError> {
     Ok(rules)
 }
 
-// A chain of rules; the last two are a cycle that it leads to, and the two before them one that leads to its start.
+// A chain of rules that leads to the cycle of the last two. The two rules before these are a cycle too, which leads to
+// the start of the chain.
 fn joined(alloc: Global) -> Result<Vec<Definition>, AllocError> {
     let mut rules = Vec::new(alloc);
     for number in 0..RULES {
@@ -50,7 +51,7 @@ fn joined(alloc: Global) -> Result<Vec<Definition>, AllocError> {
     Ok(rules)
 }
 
-// Each rule is one of the two beside it, in a ring.
+// Each rule is a choice of calls of the two beside it, in a ring.
 fn neighbours(alloc: Global) -> Result<Vec<Definition>, AllocError> {
     let mut rules = Vec::new(alloc);
     for number in 0..NEIGHBOURS {
@@ -61,7 +62,7 @@ fn neighbours(alloc: Global) -> Result<Vec<Definition>, AllocError> {
     Ok(rules)
 }
 
-// How many rules the cycle has that is named, and its first; 0 where none is.
+// The length of the cycle that is reported, and its first rule; 0 if none is.
 fn named(alloc: Global, definitions: Vec<Definition>) -> Result<(usize, u32), AllocError> {
     match &Grammar::new(alloc, definitions) {
         Err(_) => Ok((0, 0)),

@@ -1,11 +1,12 @@
-//! Reads a file of up to 1 MiB that it makes in memory, of the kind that the word names: by hand, when it prints the
-//! number of tokens and of rules, where there are any; or by the figure. With no word, each kind in turn.
-use peg_notation::{MOST_FILE_BYTES, lex, read};
+//! Generates a file of up to 1 MiB in memory, of the kind that the argument names, and reads it. The hand-written
+//! reader prints the number of tokens and rules, if any; otherwise the metagrammar reads it. Without an argument: each
+//! kind.
+use peg_notation::{MAX_FILE_BYTES, lex, read};
 use peg_parser::read_by_figure;
 use std::alloc::{AllocError, Global};
 use std::io;
 
-/// How much of a file is made.
+/// The share of a file that is generated.
 #[derive(Clone, Copy)]
 enum Share {
     Whole,
@@ -32,7 +33,7 @@ const KINDS: [&str; 8] = [
     "names",
 ];
 
-// Some lines of a usual grammar, with each kind of token.
+// Some lines of a typical grammar, with each kind of token.
 const ORDINARY: &[u8] = b"\
     # a line of arithmetic\n\
     Sum     <- Spacing Product (('+' / '-') Spacing Product)* !.\n\
@@ -42,7 +43,7 @@ const ORDINARY: &[u8] = b"\
     Text    <- ['] (!['] Char)* ['] / \"\\\"\\t\\\\\\101\"\n\
     \n";
 
-// So many bytes: the first, then the middle ones, and at the end the last.
+// A run of bytes: the first, then the middle ones, and the last at the end.
 fn run_of(
     alloc: Global,
     first: u8,
@@ -59,7 +60,7 @@ fn run_of(
     Ok(file)
 }
 
-// A first piece, and then another one again and again, so often.
+// A first piece, followed by `count` copies of another one.
 fn repeated(
     alloc: Global,
     first: &[u8],
@@ -73,9 +74,9 @@ fn repeated(
     Ok(file)
 }
 
-// A file of this kind, of the greatest size or of a share of it.
+// A file of this kind, of the greatest size or a share of it.
 fn file_of(alloc: Global, kind: &str, share: Share) -> Result<Vec<u8>, AllocError> {
-    let length = share.of(MOST_FILE_BYTES);
+    let length = share.of(MAX_FILE_BYTES);
     match kind {
         "spaces" => run_of(alloc, b' ', b' ', b' ', length),
         "comment" => run_of(alloc, b'#', b'c', b'\n', length),
@@ -88,7 +89,7 @@ fn file_of(alloc: Global, kind: &str, share: Share) -> Result<Vec<u8>, AllocErro
     }
 }
 
-// How many tokens and how many rules the file of this kind has, if it has any.
+// The number of tokens and of rules of a file of this kind, if any.
 fn count(alloc: Global, kind: &str) -> Result<(Option<usize>, Option<usize>), AllocError> {
     let file = file_of(alloc, kind, Share::Whole)?;
     let tokens = lex(alloc, &file).ok().map(|tokens| tokens.len());
@@ -106,7 +107,7 @@ pub(crate) fn run(rt: &impl Print, alloc: Global, word: &str) -> io::Result<()> 
     Ok(())
 }
 
-// Reads a file of this kind by the figure, and prints how many rules it has, or why it has none.
+// Reads a file of this kind by the metagrammar, and prints the number of its rules or the fault.
 fn tell_by_figure(rt: &impl Print, alloc: Global, kind: &str, share: Share) -> io::Result<()> {
     let file = file_of(alloc, kind, share)?;
     match read_by_figure(alloc, &file) {

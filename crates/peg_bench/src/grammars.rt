@@ -1,5 +1,5 @@
-//! Makes large grammars by `Grammar::new`: with the word `rules` 100,000 rules that each use one name, with `names` one
-//! rule that uses a million, and with no word both.
+//! Builds large grammars by `Grammar::new`. With the argument `rules`: 100,000 rules that each call one. With `names`:
+//! one rule with a million calls. Without an argument: both.
 use crate::rules::{rule, use_of};
 use peg_bytes::Span;
 use peg_grammar::{Definition, Expr, Grammar};
@@ -10,7 +10,7 @@ const RULES: u32 = 100_000;
 
 const NAMES: u32 = 1_000_000;
 
-// Rules that each use the next one, and the last the first.
+// Rules that each call the next one, and the last calls the first.
 fn many_rules(alloc: Global) -> Result<Vec<Definition>, AllocError> {
     let mut rules = Vec::new(alloc);
     for number in 0..RULES {
@@ -20,7 +20,7 @@ fn many_rules(alloc: Global) -> Result<Vec<Definition>, AllocError> {
     Ok(rules)
 }
 
-// One rule that uses itself again and again.
+// One rule that calls itself many times.
 fn many_names(alloc: Global) -> Result<Vec<Definition>, AllocError> {
     let mut items = Vec::new(alloc);
     for _ in 0..NAMES {
@@ -32,7 +32,7 @@ fn many_names(alloc: Global) -> Result<Vec<Definition>, AllocError> {
     Ok(rules)
 }
 
-// How many rules the grammar of the definitions has.
+// The number of rules of the definitions' grammar.
 fn count(alloc: Global, definitions: Vec<Definition>) -> Option<u32> {
     match &Grammar::new(alloc, definitions) {
         Ok(grammar) => Some(grammar.rules()),

@@ -1,5 +1,5 @@
-//! Runs what the scripts in bench/ time: the first word names it, and the second says on what. With no first word that
-//! it knows, it prints which there are.
+//! Runs the workloads that the scripts in bench/ time. The first argument names the workload, and the second its
+//! input. Without a known first argument the workloads are listed.
 #![tactic(auto)]
 
 mod cycles;

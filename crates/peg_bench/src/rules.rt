@@ -7,7 +7,7 @@ fn name_of(alloc: Global, number: u32) -> Result<String, AllocError> {
     format!(in alloc; "R{number}")
 }
 
-// A use of the rule with this number.
+// A call of the rule with this number.
 pub(crate) fn use_of(alloc: Global, number: u32) -> Result<Expr, AllocError> {
     let name = name_of(alloc, number)?;
     let span = Span::new(0, 0);

@@ -1,6 +1,6 @@
-//! Runs the program of a grammar file on a text file, from its first rule, and prints how many steps that took, how many
-//! rows the tree has, 0 where the text isn't matched, and the microseconds of the run alone; or the microseconds of two runs
-//! by one table of shortcuts, the first with the table's making.
+//! Runs the program of a grammar file on a text file, from its first rule. Prints the steps, the nodes of the tree (0
+//! without a match) and the microseconds of the run alone. Or prints the microseconds of two runs with one table of
+//! shortcuts; the first includes building the table.
 ghost use Rattle.std.specs.Prelude.{◌≡◌, ◌<◌, length};
 
 use peg_check::check;
@@ -16,7 +16,7 @@ use std::alloc::Global;
 use std::time::Instant;
 use std::{fs, io};
 
-// The program of a grammar file; none where it is refused.
+// The program of a grammar file; `None` if the file is rejected.
 fn program_of(alloc: Global, file: &[u8]) -> Option<Program> {
     let grammar = Grammar::new(alloc, read(alloc, file).ok()?).ok()?;
     let checked = check(alloc, desugar(alloc, &grammar).ok()?).ok()?;
@@ -55,7 +55,7 @@ pub(crate) fn run(rt: HostRuntime, alloc: Global, grammar: &str, text: &str) -> 
     }
 }
 
-// A run without a memo by a table of shortcuts.
+// A run without a memo, with a table of shortcuts.
 fn run_by_table(
     alloc: Global,
     shortcuts: &mut Shortcuts<'_>,

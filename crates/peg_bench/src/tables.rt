@@ -1,5 +1,5 @@
-//! Makes the tables of chains of 100,000 rules: with the word `forwards` each rule uses the next one, with `backwards`
-//! the one before, with `shuffled` one that stands elsewhere, and with no word all three.
+//! Computes the tables of chains of 100,000 rules. With the argument `forwards` each rule calls the next one, with
+//! `backwards` the one before, with `shuffled` a distant one. Without an argument: all three.
 ghost use Rattle.std.specs.Prelude.{◌<◌};
 
 use crate::rules::{rule, use_of};
@@ -12,7 +12,7 @@ use std::io;
 
 const RULES: u32 = 100_000;
 
-// Rules that each use the one so many after it, in a ring; but the last one of the chain, the first rule, is a byte.
+// Rules that each call the one `step` after it, in a ring. The last one of the chain, the first rule, is a byte.
 fn chain(alloc: Global, step: u32) -> Result<Vec<Definition>, AllocError>
     requires { step < 100000 }
 {
@@ -30,7 +30,7 @@ fn chain(alloc: Global, step: u32) -> Result<Vec<Definition>, AllocError>
     Ok(rules)
 }
 
-// How many of the forms can fail.
+// The number of forms that can fail.
 fn failing(alloc: Global, definitions: Vec<Definition>) -> Result<u32, AllocError> {
     match &Grammar::new(alloc, definitions) {
         Err(_) => Ok(0),

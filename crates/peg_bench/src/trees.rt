@@ -1,5 +1,5 @@
-//! Makes a large tree, writes it as JSON and tells how many bytes that takes. The word is the number of rows, with no
-//! word 1,000: a root, and below it chains of 58 nodes side by side.
+//! Builds a large tree, writes it as JSON and prints the number of bytes. The argument is the number of nodes, default
+//! 1,000: a root, and below it chains of 58 nodes side by side.
 ghost use Rattle.std.specs.Prelude.{◌∷◌, [], codes};
 ghost use Rattle.peg_tree.specs.Nodes.{RulesBelow};
 
@@ -9,23 +9,23 @@ use serde::Serialize;
 use std::alloc::{AllocError, Global};
 use std::io;
 
-// How many nodes a chain has.
+// The number of nodes of a chain.
 const CHAIN: u64 = 58;
 
-/// What is made of the tree.
+/// The printed form of the tree.
 #[derive(Clone, Copy)]
 pub(crate) enum Form {
     /// Nothing.
     Tree,
-    /// The text of its rows, through values.
+    /// The list of nodes, through JSON values.
     Values,
-    /// The text of its rows.
+    /// The list of nodes.
     Rows,
-    /// The text of nested objects.
+    /// Nested objects.
     Nested,
 }
 
-// Rule 0 is `list`, and rule 1 `word`.
+// Rule 0 is `list`, and rule 1 is `word`.
 struct Rules;
 
 impl Names for Rules {
@@ -48,7 +48,7 @@ fn row(rule: u32, at: u32, size: u64) -> TreeNode {
     }
 }
 
-// A root and chains, in all so many rows.
+// A root and chains, with this many nodes in all.
 fn rows_of(alloc: Global, count: u32) -> Result<Vec<TreeNode>, AllocError> {
     let mut rows = Vec::new(alloc);
     rows.push(row(0, 0, u64::from(count)))?;
@@ -60,7 +60,7 @@ fn rows_of(alloc: Global, count: u32) -> Result<Vec<TreeNode>, AllocError> {
     Ok(rows)
 }
 
-// How many bytes that of a tree of so many nodes takes; no tree has no node.
+// The length in bytes of the printed tree with this many nodes; `None` if there is no such tree.
 fn printed_bytes(alloc: Global, form: Form, count: u32) -> Result<Option<usize>, AllocError> {
     let rows = rows_of(alloc, count)?;
     if !one_tree(&rows) {

@@ -1,4 +1,4 @@
--- Line ends byte by byte: what is seen of the line ends behind a place.
+-- Line ends byte by byte, as the code finds them.
 use Rattle.std.proofs.Common.{◌≡◌, ℕ, ◌+◌, ◌<◌, ◌≤◌, ◌==◌, ◌&&◌, ◌||◌, not, if◌then◌else◌, nat_le, Bool, true, false}
 use Rattle.std.proofs.Common.{List, [], ◌∷◌, length, get_or, drop, filter, arith, refl, sym, ◌∙◌, ap, add-one, eqb-true}
 use Rattle.std.proofs.Math.Seq.{drop-cons}
@@ -6,14 +6,14 @@ use Rattle.std.proofs.lemmas.Bool.{le-leb, lt-leb}
 use Rattle.peg_bytes.specs.EndsLine.{ends_line}
 use Rattle.peg_bytes.specs.Place.{carriage_return, line_feed, line_ends}
 
--- bytes that begin with LF begin with a line end of that byte
+-- bytes that begin with LF begin with a complete line end
 line_ends-line_feed : (place : ℕ) (rest : List ℕ)
     → line_ends place (line_feed ∷ rest) ≡ (place + 1) ∷ line_ends (place + 1) rest
 unfolding line_ends
 line_ends-line_feed place [] = refl
 line_ends-line_feed place (second ∷ rest) = refl
 
--- CR LF read at once, or its bytes one by one
+-- CR LF as one line end gives the same line ends as LF alone after the CR
 at_once : (place first second : ℕ) (rest : List ℕ) → first ≡ carriage_return → second ≡ line_feed
     → (place + 2) ∷ line_ends (place + 2) rest ≡ line_ends (place + 1) (second ∷ rest)
 at_once place first second rest cr lf =
@@ -21,7 +21,7 @@ at_once place first second rest cr lf =
     ap (λ p. p ∷ line_ends p rest) behind ∙ sym (line_ends-line_feed (place + 1) rest)
     ∙ ap (λ b. line_ends (place + 1) (b ∷ rest)) (sym lf)
 
--- the tests of two bytes, in the order of the definition and in that of the code
+-- the tests of two bytes in the order of the definition agree with those in the order of the code
 by_tests : (cr lf next : Bool) (both one none : List ℕ)
     → (cr ≡ true → next ≡ true → (lf ≡ false) × (both ≡ none))
     → (if cr && next then both else if lf || cr then one else none)
@@ -33,7 +33,7 @@ by_tests true false false both one none pair = refl
 by_tests false true next both one none pair = refl
 by_tests false false next both one none pair = refl
 
--- the line ends of bytes: perhaps one that ends with the first, and those of the others
+-- the line ends of some bytes: one that the first byte completes, if it does, and those of the other bytes
 pub line_ends-first : (place first : ℕ) (rest : List ℕ) → line_ends place (first ∷ rest)
     ≡ (if ends_line (first ∷ rest) then (place + 1) ∷ line_ends (place + 1) rest else line_ends (place + 1) rest)
 unfolding line_ends
@@ -51,11 +51,11 @@ line_ends-first place first (second ∷ rest) =
       at_once place first second rest (eqb-true first carriage_return cr) (eqb-true second line_feed lf),
     )
 
--- the line ends of these bytes that end at or before a place
+-- the line ends of these bytes that are complete at or before offset `at`
 abbrev pub ends_within : ℕ → ℕ → List ℕ → List ℕ
 ends_within at place bytes = filter (λ end. nat_le end at) (line_ends place bytes)
 
--- no line end ends before it begins
+-- no line end is complete before its first byte
 pub ends_within-behind : (at place : ℕ) (bytes : List ℕ) → at ≤ place → ends_within at place bytes ≡ []
 unfolding line_ends
 ends_within-behind at place [] h = refl
@@ -72,11 +72,11 @@ ends_within-behind at place (first ∷ rest) h =
 
 -- One byte further in a file.
 module _ (file : List ℕ) (at next : ℕ) (within : next < length file) (before : next < at) where
-  -- the line ends from here on
+  -- the bytes from offset `next` on, split into the first and the rest
   from_here : drop next file ≡ get_or file next 0 ∷ drop (next + 1) file
   from_here = drop-cons file next 0 within ∙ ap (λ n. get_or file next 0 ∷ drop n file) (sym (add-one next))
 
-  -- by whether one ends with the byte
+  -- the line ends from offset `next` on, by whether the byte there completes one
   opened : ends_within at next (drop next file) ≡ filter (λ end. nat_le end at)
       (if ends_line (drop next file) then (next + 1) ∷ line_ends (next + 1) (drop (next + 1) file)
       else line_ends (next + 1) (drop (next + 1) file))
@@ -86,7 +86,7 @@ module _ (file : List ℕ) (at next : ℕ) (within : next < length file) (before
       ∙ ap (λ b. filter (λ end. nat_le end at) (if b then (next + 1) ∷ line_ends (next + 1) (drop (next + 1) file)
       else line_ends (next + 1) (drop (next + 1) file))) (ap ends_line (sym from_here))
 
-  -- one does
+  -- the byte completes a line end
   pub ends_within-one : ends_line (drop next file) ≡ true
       → ends_within at next (drop next file) ≡ (next + 1) ∷ ends_within at (next + 1) (drop (next + 1) file)
   ends_within-one is =
@@ -96,7 +96,7 @@ module _ (file : List ℕ) (at next : ℕ) (within : next < length file) (before
       ∙ ap (λ b. if b then (next + 1) ∷ ends_within at (next + 1) (drop (next + 1) file)
       else ends_within at (next + 1) (drop (next + 1) file)) (le-leb (next + 1) at (omega arith))
 
-  -- none does
+  -- the byte completes no line end
   pub ends_within-none : ends_line (drop next file) ≡ false
       → ends_within at next (drop next file) ≡ ends_within at (next + 1) (drop (next + 1) file)
   ends_within-none is =

@@ -1,7 +1,7 @@
--- Describes code: the words of a set together.
+-- Describes code: the four words of a byte set combined.
 use Rattle.std.specs.Prelude.{ℕ, List, bit_or, slice_index}
 
--- the flags of the four words in one word
+-- the bitwise or of the four words
 abbrev pub all_flags : List ℕ → ℕ
 all_flags words =
     bit_or (bit_or (bit_or (slice_index words 0) (slice_index words 1)) (slice_index words 2)) (slice_index words 3)

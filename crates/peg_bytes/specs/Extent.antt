@@ -1,16 +1,16 @@
--- Where a thing stands in a file, as definitions see it: two places, apart from the code's `Span`.
+-- Extents of a file: pairs of offsets, as definitions use them in place of the code's `Span`.
 use Rattle.std.specs.Prelude.{ℕ}
 use Rattle.peg_bytes.specs.declared.span.Span.{Span}
 
--- from the place start up to the place end, in bytes from 0
+-- the bytes from offset `start` up to, but not including, offset `end`; offsets count from 0
 pub record Extent : Type 0 where
   pub start : ℕ
   pub end : ℕ
 
--- the extent from one place to another
+-- the extent from one offset to another
 abbrev pub between : ℕ → ℕ → Extent
 between start end = record { start = start; end = end }
 
--- what a `Span` holds
+-- the extent of a `Span`
 abbrev pub extent : Span → Extent
 extent span = between span.start span.end

@@ -1,7 +1,7 @@
 //! Sets of bytes.
 ghost use Rattle.std.specs.Prelude.{◌≡◌, ℕ, ◌==◌, ◌||◌, ◌&&◌, ◌↔◌, IsTrue, false, nat_le, nat_lt};
 
-/// A set of bytes: four words of 64 flags, the lowest bytes first.
+/// A set of bytes, stored as a bitmap of four 64-bit words, lowest bytes first.
 #[derive(Clone, Copy, Debug, PartialEq, Eq)]
 pub struct ByteSet {
     words: [u64; 4],
@@ -11,14 +11,14 @@ impl ByteSet {
     ghost use Rattle.peg_bytes.specs.AllFlags.{all_flags};
     ghost use Rattle.peg_bytes.specs.ByteSet.{bytes_of, has};
 
-    /// The set with no byte.
+    /// Returns the empty set.
     pub fn empty() -> ByteSet
         ensures { (other : ℕ) → has (bytes_of result) other ≡ false }
     {
         ByteSet { words: [0; 4] }
     }
 
-    /// The set of all 256 bytes.
+    /// Returns the set of all 256 bytes.
     pub fn full() -> ByteSet
         ensures { (other : ℕ) → has (bytes_of result) other ≡ nat_lt other 256 }
     {
@@ -27,7 +27,7 @@ impl ByteSet {
         }
     }
 
-    /// The set of one byte.
+    /// Returns the set that contains only `byte`.
     pub fn single(byte: u8) -> ByteSet
         ensures { (other : ℕ) → has (bytes_of result) other ≡ (other == byte) }
     {
@@ -36,7 +36,8 @@ impl ByteSet {
         only
     }
 
-    /// The bytes from `low` to `high`, both in; the empty set where `low` is greater. Linear in how many they are.
+    /// Returns the set of the bytes from `low` to `high`, both included. The set is empty if `low` is greater than
+    /// `high`. Linear in the number of bytes in the range.
     pub fn range(low: u8, high: u8) -> ByteSet
         ensures { (other : ℕ) → has (bytes_of result) other ≡ (nat_le low other && nat_le other high) }
     {
@@ -47,7 +48,7 @@ impl ByteSet {
         set
     }
 
-    /// Puts a byte in; the others stay as they are. Takes constant time.
+    /// Adds `byte` to the set. Constant time.
     pub fn insert(&mut self, byte: u8)
         ensures { (other : ℕ) → has (bytes_of self.new) other
             ≡ ((other == byte) || has (bytes_of self.old) other) }
@@ -55,7 +56,7 @@ impl ByteSet {
         self.words[usize::from(byte / 64)] |= 1 << (byte % 64);
     }
 
-    /// The bytes that are in either set.
+    /// Returns the union of the two sets.
     pub fn union(&self, other: &ByteSet) -> ByteSet
         ensures { (byte : ℕ) → has (bytes_of result) byte
             ≡ (has (bytes_of self.now) byte || has (bytes_of other.now) byte) }
@@ -70,21 +71,21 @@ impl ByteSet {
         }
     }
 
-    /// Whether a byte is in. Takes constant time.
+    /// Returns whether `byte` is in the set. Constant time.
     pub fn contains(&self, byte: u8) -> bool
         ensures { result ≡ has (bytes_of self.now) byte }
     {
         (self.words[usize::from(byte / 64)] >> (byte % 64)) & 1 == 1
     }
 
-    /// Whether no byte is in.
+    /// Returns whether the set is empty.
     pub fn is_empty(&self) -> bool
         ensures { IsTrue result ↔ ((byte : ℕ) → has (bytes_of self.now) byte ≡ false) }
     {
         self.all_flags() == 0
     }
 
-    // The flags of the four words in one word.
+    // The four words combined by bitwise or: zero exactly if the set is empty.
     fn all_flags(&self) -> u64
         ensures { result ≡ all_flags self.now.words }
     {

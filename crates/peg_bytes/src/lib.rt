@@ -1,4 +1,4 @@
-//! Bytes of a grammar file or a text: spans, places by line and column, and sets.
+//! Byte spans, line and column positions, and byte sets, for grammar files and texts.
 #![tactic(auto)]
 
 mod byte_set;

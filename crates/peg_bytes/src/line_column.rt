@@ -1,20 +1,20 @@
-//! Places of a file by line and column, as people read them.
+//! Line and column of an offset in a file.
 ghost use Rattle.std.specs.Prelude.{◌≡◌, ◌≤◌, length};
 ghost use Rattle.peg_bytes.specs.EndsLine.{ends_line};
-ghost use Rattle.peg_bytes.specs.Place.{most_place, line_at, column_at};
+ghost use Rattle.peg_bytes.specs.Place.{max_offset, line_at, column_at};
 
-/// A place of a file by its line and its column in bytes, both from 1.
+/// A position in a file: line and column, both from 1. Columns count bytes.
 #[derive(Clone, Copy, Debug, PartialEq, Eq)]
 pub struct LineColumn {
     pub line: u32,
     pub column: u32,
 }
 
-/// The line and column of the place `at` of a file. Lines end with CR LF, LF or CR; a line end counts from its end on,
-/// so CR LF with `at` between its bytes does not count yet. Linear in `at`.
+/// Returns the line and column of byte offset `at` in `file`. A line ends with CR LF, LF or CR. An offset between CR
+/// and LF is still on the line that they end. Linear in `at`.
 pub fn place(file: &[u8], at: u32) -> LineColumn
     requires in_file { at ≤ length file.now }
-    requires small { at ≤ most_place }
+    requires small { at ≤ max_offset }
     ensures line { result.line ≡ line_at file.now at }
     ensures column { result.column ≡ column_at file.now at }
 {
@@ -32,7 +32,7 @@ pub fn place(file: &[u8], at: u32) -> LineColumn
     }
 }
 
-// Whether a line end ends with the first byte: LF, or CR that no LF follows.
+// Whether the first byte completes a line end: LF, or CR not followed by LF.
 fn ends_line(bytes: &[u8]) -> bool
     ensures { result ≡ ends_line bytes.now }
 {

@@ -1,7 +1,7 @@
 //! Spans of a file.
 ghost use Rattle.std.specs.Prelude.{◌≡◌, ◌-◌, ◌≤◌, ◌⊎◌, ◌↔◌, min, max, IsSome, IfSome};
 
-/// The bytes of a file from `start` up to `end`, without that one. Places are in bytes, from 0.
+/// A span of a file: the bytes from `start` up to, but not including, `end`. Both are byte offsets from 0.
 #[derive(Clone, Copy, Debug, PartialEq, Eq)]
 pub struct Span {
     pub start: u32,
@@ -10,7 +10,7 @@ pub struct Span {
 }
 
 impl Span {
-    /// The span from one place to another.
+    /// Returns the span from `start` to `end`.
     pub fn new(start: u32, end: u32) -> Span
         requires { start ≤ end }
         ensures start { result.start ≡ start }
@@ -19,14 +19,15 @@ impl Span {
         Span { start, end }
     }
 
-    /// How many bytes it holds.
+    /// Returns the length of the span in bytes.
     pub fn len(&self) -> u32
         ensures { result ≡ self.now.end - self.now.start }
     {
         self.end - self.start
     }
 
-    /// The span of both, where one ends at the other's start, whichever comes first; else `None`.
+    /// Returns the union of two adjacent spans, in either order. Returns `None` if neither span ends where the other
+    /// starts.
     pub fn joins(&self, other: &Span) -> Option<Span>
         ensures touching { IsSome result
             ↔ ((self.now.end ≡ other.now.start) ⊎ (other.now.end ≡ self.now.start)) }

@@ -1,4 +1,4 @@
-//! Tests of spans, of places by line and column, and of sets of bytes.
+//! Tests of spans, of offsets by line and column, and of sets of bytes.
 #![tactic(auto)]
 
 #[cfg(test)]

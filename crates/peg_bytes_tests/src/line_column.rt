@@ -1,4 +1,4 @@
-//! Tests of places by line and column.
+//! Tests of offsets by line and column.
 use peg_bytes::{LineColumn, place};
 
 #[test]

@@ -1,5 +1,5 @@
--- What follows of what forms ask for: where all that is asked for is settled, forms are well-formed; and what is asked for
--- meets no rules that the form doesn't meet.
+-- Consequences of dependencies. If all dependencies of the forms are settled, the forms are well-formed. A dependency
+-- left-calls only rules that the form left-calls.
 use Rattle.std.proofs.Common.{◌≡◌, ℕ, zero, suc, ◌<◌, ◌⊎◌, inl, inr, List, Some, length, slice_get, option_map, refl, sym, ap, ◌∙◌, subst, arith}
 use Rattle.std.proofs.lemmas.Option.{slice_get-map}
 use Rattle.peg_core.specs.CoreForm.{CoreForm, Rule, Seq, Choice, Star, Not}
@@ -18,7 +18,7 @@ pub body-form : (core : Desugared) (rule body : ℕ) → slice_get core.bodies r
 body-form core rule body there =
     slice_get-map (form_at core.forms) core.bodies rule ∙ ap (option_map (form_at core.forms)) there
 
--- what is asked for is one of the forms
+-- the dependencies are among the forms
 pub AsksBy-fits : (core : Desugared) (number : ℕ) (l : Link) → number < length core.forms → AsksBy core number l
     → LinkFits (length core.forms) l
 AsksBy-fits core number _ within (asks_empty can is) = tt
@@ -31,11 +31,11 @@ AsksBy-fits core number _ within (asks_again part origin is below) = omega arith
 AsksBy-fits core number _ within (asks_not part is below) = omega arith
 
 module _ (core : Desugared) (number : ℕ) where
-  -- a use of a rule asks for its body
+  -- a call of a rule depends on its body
   abbrev pub AsksForBody : ℕ → Type 0
   AsksForBody part = (rule : ℕ) × (form_at core.forms number ≡ Rule rule) × (slice_get core.bodies rule ≡ Some part)
 
-  -- another form for a part before it, whose rules it meets
+  -- another form depends on smaller parts, and left-calls the rules that they left-call
   abbrev pub AsksForPart : ℕ → Type 0
   AsksForPart part =
       (part < number)
@@ -65,7 +65,7 @@ module _ (core : Desugared) (number : ℕ) where
   AsksBy-part _ part (asks_again one origin is below) goes = part-from one part goes (below, λ rule h. meets _ is rule h)
   AsksBy-part _ part (asks_not one is below) goes = part-from one part goes (below, λ rule h. meets _ is rule h)
 
-  -- a use of a rule asks for nothing else
+  -- a call of a rule depends on nothing else
   pub AsksBy-rule : (l : Link) (rule part : ℕ) → form_at core.forms number ≡ Rule rule → AsksBy core number l
       → GoesBy l part → slice_get core.bodies rule ≡ Some part
   AsksBy-rule _ rule part use_of (asks_empty can is) goes = absurd goes
@@ -89,7 +89,7 @@ module _ (core : Desugared) (number : ℕ) where
 
 module _ (core : Desugared) (asks : List Link) (asked : AreAsked core asks)
     (none : (number : ℕ) → number < length core.forms → ¬ LoopsAt core number) where
-  -- what the rules for well-formed expressions say, where all that is asked for is
+  -- the rules for well-formed expressions hold if they hold of all dependencies
   by-rules : (Is : CoreAsking) (number : ℕ) (l : Link) → number < length core.forms → AsksBy core number l
       → ((part : ℕ) → part < length core.forms → GoesBy l part → Is (form_at core.forms part))
       → CoreWellFormedTable (bodies_of core) Is (form_at core.forms number)

@@ -6,7 +6,7 @@ use Rattle.std.proofs.lemmas.Option.{slice_get_within, get_or_from_slice_get, sl
 use Rattle.peg_check.specs.Chains.{Leads, here, there}
 use Rattle.peg_check.specs.declared.uses.ChainEntry.{ChainEntry}
 
--- an entry is the same among more
+-- an entry stays the same when one is appended
 still-there : (entries : List ChainEntry) (e : ChainEntry) (at : ℕ) (entry : ChainEntry) → slice_get entries at ≡ Some entry
     → slice_get (entries ++ e ∷ []) at ≡ Some entry
 still-there entries e at entry is =
@@ -15,7 +15,7 @@ still-there entries e at entry is =
     slice_get-get_or (entries ++ e ∷ []) at entry longer
     ∙ ap (λ (x : ChainEntry). Some x) (get_or_append_left entries (e ∷ []) entry at within ∙ get_or_from_slice_get entries at entry entry is)
 
--- and the last is the new one
+-- and the last one is the new one
 last-there : (entries : List ChainEntry) (e : ChainEntry) → slice_get (entries ++ e ∷ []) (length entries) ≡ Some e
 last-there entries e =
     let longer : length entries < length (entries ++ e ∷ []) = omega (arith, length-append entries (e ∷ [])) in
@@ -28,7 +28,7 @@ Leads-push entries e _ _ (here at user entry is same) = here at user entry (stil
 Leads-push entries e _ _ (there at user entry is leads) =
     there at user entry (still-there entries e at entry is) (Leads-push entries e entry.older user leads)
 
--- a chain leads to its newest entry's user, or on to the older ones
+-- a chain leads to its newest entry's user, or to the older entries
 pub Leads-next : (entries : List ChainEntry) (at user : ℕ) (entry : ChainEntry) → slice_get entries at ≡ Some entry
     → Leads entries (suc at) user → (entry.user ≡ user) ⊎ Leads entries entry.older user
 Leads-next entries _ _ entry is (here at user other found same) =
@@ -38,7 +38,7 @@ Leads-next entries _ _ entry is (there at user other found leads) =
     let e : other ≡ entry = let s : Some other ≡ Some entry = sym found ∙ is in cc in
     inr (subst (λ (x : ChainEntry). Leads entries x.older user) e leads)
 
--- no entry leads nowhere
+-- a chain from 0 is empty
 pub Leads-none : (entries : List ChainEntry) (user : ℕ) → Leads entries zero user → ⊥
 Leads-none entries user leads = elim leads [ ]
 
@@ -50,11 +50,11 @@ module _ (newest : List ℕ) (entries grown : List ChainEntry) (part user last :
       let from : suc (length entries) ≡ get_or (set newest part last) part 0 = sym (get_or-set_same newest part last 0 within ∙ (is_last ∙ add-one (length entries))) in
       subst (λ n. Leads grown n u) from (subst (λ some. Leads some (suc (length entries)) u) (sym more) leads)
 
-  -- the user is met
+  -- the new user is in the chain
   pub user-added : Leads grown (get_or (set newest part last) part 0) user
   user-added = from_last user (here (length entries) user entry (last-there entries entry) by)
 
-  -- and all that were
+  -- and so are all earlier users
   pub users-kept : (p u : ℕ) → Leads entries (get_or newest p 0) u → Leads grown (get_or (set newest part last) p 0) u
   users-kept p u leads = cases (cases_eq p part)
     where

@@ -1,4 +1,4 @@
--- Empty loops by numbers are empty loops of rules.
+-- Empty loops by number are empty loops of rules.
 use Rattle.std.proofs.Common.{◌≡◌, ℕ, suc, ◌<◌, All, List, Option, None, Some, length, slice_get, option_map, refl, sym, ap, ◌∙◌, subst, arith}
 use Rattle.std.proofs.lemmas.Option.{slice_get-map, slice_get_within}
 use Rattle.peg_bytes.specs.Extent.{Extent}
@@ -12,14 +12,14 @@ use Rattle.peg_check.specs.Verdicts.{HasNoEmptyLoop}
 use Rattle.peg_check.specs.Owners.{IsUnder, AreOwners}
 use Rattle.peg_check.proofs.OwnerLemmas.{found}
 
--- a star whose part gives nothing, in a body
+-- a star in a body whose part can succeed without consuming a byte
 pub in-body : (bodies : List CoreForm) (part : CoreForm) (origin : Extent) (body : Option CoreForm)
     → CoreGivesNothing bodies part → BodyIs (StandsIn (Star part origin)) body
     → BodyIs (λ form. (p : CoreForm) × (StandsIn (Star p origin) form × CoreGivesNothing bodies p)) body
 in-body bodies part origin None gives stands = stands
 in-body bodies part origin (Some body) gives stands = (part, (stands, gives))
 
--- a form with an owner that loops is an empty loop of the owner
+-- a form that has an owner and is an empty loop is an empty loop of the owner
 pub loop-named : (core : Desugared) (number rule : ℕ) (part : CoreForm) (origin : Extent)
     → form_at core.forms number ≡ Star part origin → CoreGivesNothing (bodies_of core) part → IsUnder core number rule
     → IsCoreEmptyLoop (bodies_of core) rule origin
@@ -27,7 +27,7 @@ loop-named core number rule part origin is gives under =
     in-body (bodies_of core) part origin (slice_get (bodies_of core) rule) gives
     (under (Star part origin) (subst (StandsIn (Star part origin)) (sym is) (stands-itself (Star part origin))))
 
--- where no form with an owner loops, no rule has an empty loop
+-- if no form with an owner is an empty loop, no rule has one
 pub none-named : (core : Desugared) (owners : List ℕ) → AreOwners core owners
     → NoneLoopsBelow (length core.forms) core owners → HasNoEmptyLoop core
 none-named core owners all none rule origin loops = by (slice_get core.bodies rule) refl
@@ -45,7 +45,7 @@ none-named core owners all none rule origin loops = by (slice_get core.bodies ru
         let at = found core owners all (Star here.0 origin) (suc body) body (omega arith) owned.0 owned.1 here.1.0 in
         none at.0 at.1 at.2 (here.0, origin, at.3, here.1.1)
 
--- and since each form stands in a body, no form loops
+-- and since each form is part of a body, no form is an empty loop
 pub none-loops : (core : Desugared) → All (StandsInBody (bodies_of core)) core.forms → HasNoEmptyLoop core → NoneLoops core
 none-loops core owned none number within loops =
     let stands = owned number Empty within in

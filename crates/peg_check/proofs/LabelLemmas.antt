@@ -1,4 +1,4 @@
--- How many forms have no label yet.
+-- The number of forms that have no label yet.
 use Rattle.std.proofs.Common.{◌≡◌, ℕ, ◌+◌, ◌<◌, ◌≤◌, List, length, get_or, set, ltb, ap, arith}
 use Rattle.std.specs.List.{sum_by}
 use Rattle.std.proofs.lemmas.Bool.{lt-ltb, le-ltb}
@@ -9,7 +9,7 @@ use Rattle.peg_check.specs.Steps.{one_unless}
 abbrev pub unlabelled : (count : ℕ) → List ℕ → ℕ
 unlabelled count labels = sum_by (λ label. one_unless (ltb label count)) labels
 
--- one label more, one less to come
+-- with one more label, one form less is left
 pub fewer-unlabelled : (labels : List ℕ) (count number root : ℕ) → number < length labels → root < count
     → count ≤ get_or labels number 0 → unlabelled count (set labels number root) + 1 ≡ unlabelled count labels
 fewer-unlabelled labels count number root within below none =

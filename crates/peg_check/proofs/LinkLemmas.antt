@@ -1,4 +1,4 @@
--- The link of each kind of core form tells what Ford's rules tell of it.
+-- The link of each kind of core form gives the same outcomes as Ford's rules.
 use Rattle.std.proofs.Common.{◌≡◌, ℕ, zero, suc, ◌<◌, ◌≤◌, ◌↔◌, ◌⊎◌, inl, inr, Bool, true, false, not, List, [], ◌∷◌, ◌++◌, length, get_or, slice_get, option_map, Some, IsTrue, refl, sym, ap, ◌∙◌, subst, arith, length-append}
 use Rattle.std.proofs.lemmas.Bool.{cases_lt}
 use Rattle.std.proofs.lemmas.List.{get_or_append_left, get_or_at}
@@ -10,7 +10,7 @@ use Rattle.peg_core.specs.Layout.{bodies_of, Desugared, form_at}
 use Rattle.peg_check.specs.Links.{IsLinkOf, AreLinked}
 use Rattle.peg_check.specs.declared.link.Link.{Link}
 
--- a set that has no byte has none
+-- an empty set contains no byte
 none_has : (set : Bytes) → ((byte : ℕ) → has set byte ≡ false) → has_some set ≡ false
 none_has [] none = refl
 none_has (true ∷ set) none = none 0
@@ -22,7 +22,7 @@ has_none (true ∷ set) none byte = cc
 has_none (false ∷ set) none zero = refl
 has_none (false ∷ set) none (suc byte) = has_none set none byte
 
--- a test of no byte only fails
+-- a test of the empty set can only fail
 pub not-empty : (set : Bytes) (empty : Bool) → (IsTrue empty ↔ ((byte : ℕ) → has set byte ≡ false))
     → not empty ≡ has_some set
 not-empty set true is = sym (none_has set (is.0 refl))
@@ -32,7 +32,7 @@ not-empty set false is = by (has_some set) refl
     by true e = sym e
     by false e = let bad : false ≡ true = is.1 (has_none set e) in cc
 
--- a use of a rule is its body
+-- a call of a rule has the outcomes of the rule's body
 pub rule-is : (core : Desugared) (judge : CoreJudging) (rule body : ℕ) → slice_get core.bodies rule ≡ Some body
     → core_can_table (bodies_of core) judge (Rule rule) ≡ judge (form_at core.forms body)
 rule-is core judge rule body there =

@@ -1,4 +1,4 @@
--- What is asked for below a rule's body is met first by the rule.
+-- A rule left-calls what the dependencies below its body left-call.
 use Rattle.std.proofs.Common.{◌≡◌, ℕ, ◌<◌, ◌≤◌, inl, inr, All, List, [], ◌∷◌, ◌++◌, Some, length, slice_get, refl, sym, subst, arith}
 use Rattle.std.proofs.lemmas.List.Elements.{All-nil, All-cons, All-append}
 use Rattle.peg_core.specs.CoreForm.{Rule}
@@ -11,7 +11,7 @@ use Rattle.peg_check.specs.declared.link.Link.{Link}
 use Rattle.peg_check.specs.declared.link.Link.TheVariants as link
 use Rattle.peg_check.proofs.AskLemmas.{body-form, AsksBy-part}
 
--- all rules that a form meets first, this rule does
+-- the rule left-calls all rules that the form left-calls
 abbrev pub IsMetBy : Desugared → (rule number : ℕ) → Type 0
 IsMetBy core rule number =
     (number < length core.forms)
@@ -42,7 +42,7 @@ all-parts P (link.Either first rest) h =
 all-parts P (link.Again part) h = All-cons P part [] (h part refl) (All-nil P)
 all-parts P (link.NotAhead part) h = All-cons P part [] (h part refl) (All-nil P)
 
--- the parts of a form that is no use of a rule
+-- the parts of a form that isn't a call of a rule
 pub parts-met : (core : Desugared) (rule number : ℕ) (l : Link) (rest : List ℕ) → IsMetBy core rule number
     → AsksBy core number l → ((other : ℕ) → ¬ (form_at core.forms number ≡ Rule other)) → All (IsMetBy core rule) rest
     → All (IsMetBy core rule) (rest ++ link_parts l)

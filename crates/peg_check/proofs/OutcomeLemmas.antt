@@ -1,4 +1,4 @@
--- What an exact table of a grammar's core forms tells of its rules' expressions.
+-- The outcomes of a grammar's expressions, from an exact table of its core forms.
 use Rattle.std.proofs.Common.{◌≡◌, ℕ, ◌+◌, ◌<◌, List, [], ◌∷◌, All, length, map, slice_get, slice_index_or, Some}
 use Rattle.std.proofs.Common.{subst, arith}
 use Rattle.std.specs.List.{AllZip}
@@ -10,12 +10,12 @@ use Rattle.peg_core.specs.CoreParts.{AreCoreFormsOf}
 use Rattle.peg_core.specs.Layout.{bodies_of, Desugared, form_at}
 use Rattle.peg_core.proofs.SugarOutcomes.{GivesNothing-to_core, GivesNothing-from_core, GivesSomething-to_core}
 use Rattle.peg_core.proofs.SugarOutcomes.{GivesSomething-from_core, CanFail-to_core, CanFail-from_core}
-use Rattle.peg_ford.specs.AbstractOutcomes.{Can, cannot}
-use Rattle.peg_ford.specs.Form.{Form, terminals}
-use Rattle.peg_ford.specs.Rules.{Rule}
-use Rattle.peg_ford.specs.RuleOutcomes.{IsOutcome, AreOutcomes}
+use Rattle.peg_semantics.specs.AbstractOutcomes.{Can, cannot}
+use Rattle.peg_semantics.specs.Form.{Form, terminals}
+use Rattle.peg_semantics.specs.Rules.{Rule}
+use Rattle.peg_semantics.specs.RuleOutcomes.{IsOutcome, AreOutcomes}
 
--- what is exact for an expression's core form is exact for the expression
+-- outcomes that are exact for the core form of an expression are exact for the expression
 exact-outcome : (rules : List Rule) (terminal : ℕ) (e : Form) (can : Can)
     → IsExact (core_bodies rules) (core_form rules terminal e) can → IsOutcome rules e can
 exact-outcome rules terminal e can exact = record {
@@ -36,7 +36,7 @@ exact-outcome rules terminal e can exact = record {
   );
 }
 
--- rules whose bodies have these numbers, where the first one's first terminal has this number
+-- rules whose bodies have these numbers; `terminal` is the number of their first terminal
 outcomes-from : (rules : List Rule) (core : Desugared) (table : List Can) → IsExactTable core table
     → bodies_of core ≡ core_bodies rules → (terminal : ℕ) (more : List Rule) (bodies : List ℕ)
     → All (λ body. body < length core.forms) bodies → map (form_at core.forms) bodies ≡ core_bodies_from rules

@@ -1,12 +1,12 @@
--- What is known of the forms holds in some round; and where nothing more follows from it, it is all that holds.
+-- Known outcomes hold in some round. If nothing more follows from them, they are all that hold.
 use Rattle.std.proofs.Common.{◌≡◌, ℕ, zero, suc, ◌<◌, ◌≤◌, ◌⊎◌, inl, inr, Bool, true, false, ◌&&◌, ◌||◌, List, length, map, get_or, set, slice_get, Option, None, Some, option_map, refl, sym, ap, ◌∙◌, subst, arith}
 use mathlib.Core.Bool.{beq}
 use Rattle.std.proofs.lemmas.Bool.{cases_eq, false≢true}
 use Rattle.std.proofs.lemmas.List.{get_or_default, get_or-set_other, get_or-set_same}
 use Rattle.std.proofs.lemmas.List.Sums.{sum_by-set}
 use Rattle.std.proofs.lemmas.Option.{slice_get-map, slice_get_within, get_or_from_slice_get}
-use Rattle.peg_ford.specs.AbstractOutcomes.{Can, CanAll, cannot}
-use Rattle.peg_ford.proofs.RoundsLemmas.{or_right, CanAll-refl, CanAll-trans, CanAll-cannot, CanAll-both, CanAll-either, CanAll-again, CanAll-not_ahead}
+use Rattle.peg_semantics.specs.AbstractOutcomes.{Can, CanAll, cannot}
+use Rattle.peg_semantics.proofs.RoundsLemmas.{or_right, CanAll-refl, CanAll-trans, CanAll-cannot, CanAll-both, CanAll-either, CanAll-again, CanAll-not_ahead}
 use Rattle.peg_core.specs.CoreForm.{CoreForm}
 use Rattle.peg_core.specs.CoreOutcomes.{core_can_in, core_can_table}
 use Rattle.peg_core.specs.Layout.{bodies_of, Desugared, form_at}
@@ -21,7 +21,7 @@ use Rattle.peg_check.specs.declared.link.Link.TheVariants as link
 
 -- ---- links
 
--- where each form can do all that it could, so can what goes by them
+-- if each form keeps its outcomes, so does a form that depends on them
 module _ (f g : ℕ → Can) (count : ℕ) (h : (k : ℕ) → k < count → CanAll (f k) (g k)) where
   pub CanAll-link : (l : Link) → LinkFits count l → CanAll (link_can f l) (link_can g l)
   CanAll-link (link.Known known) fits = CanAll-refl (can_of known)
@@ -33,7 +33,7 @@ module _ (f g : ℕ → Can) (count : ℕ) (h : (k : ℕ) → k < count → CanA
   CanAll-link (link.Again part) fits = CanAll-again (f part) (g part) (h part fits)
   CanAll-link (link.NotAhead part) fits = CanAll-not_ahead (f part) (g part) (h part fits)
 
--- ---- what is added
+-- ---- added outcomes
 
 -- a disjunction and its sides
 or_left : (a b : Bool) → a ≡ true → (a || b) ≡ true
@@ -44,7 +44,7 @@ or_both : (a b c : Bool) → (a ≡ true → c ≡ true) → (b ≡ true → c �
 or_both true b c h k e = h refl
 or_both false b c h k e = k e
 
--- what was known is known
+-- known outcomes stay known
 pub added-known : (known : code.Can) (can : Can) → CanAll (can_of known) (can_of (added_to known can))
 added-known known can = record {
   nothing = or_left known.nothing can.nothing;
@@ -67,7 +67,7 @@ added-all known can all h k = record {
   fails = or_both known.fails can.fails all.fails h.fails k.fails;
 }
 
--- each of the three stays, or is found
+-- each of the three outcomes stays as it was, or is new
 stays : (a b : Bool) → ((a || b) ≡ a) ⊎ (one_unless (a || b) < one_unless a)
 stays true b = inl refl
 stays false true = inr (omega arith)
@@ -78,7 +78,7 @@ falls true b = omega arith
 falls false true = omega arith
 falls false false = omega arith
 
--- what a test tells apart differs
+-- values that a test distinguishes differ
 beq_itself : (b : Bool) → beq b b ≡ true
 beq_itself true = refl
 beq_itself false = refl
@@ -89,7 +89,7 @@ told_apart a b apart same =
     let all : (beq b.nothing b.nothing && (beq b.something b.something && beq b.fails b.fails)) ≡ true = ap (λ x. x && (beq b.something b.something && beq b.fails b.fails)) (beq_itself b.nothing) ∙ (ap (λ x. x && beq b.fails b.fails) (beq_itself b.something) ∙ beq_itself b.fails) in
     false≢true (apart ∙ (ap (λ (x : code.Can). beq x.nothing b.nothing && (beq x.something b.something && beq x.fails b.fails)) same ∙ all))
 
--- where more is known, less is unknown
+-- if more outcomes are known, fewer are unknown
 pub unknown-added : (known : code.Can) (can : Can) → (added_to known can ≡ known → ⊥)
     → unknown_of (added_to known can) < unknown_of known
 unknown-added known can more =
@@ -104,7 +104,7 @@ unknown-added known can more =
     by _ (inr b) _ = omega (arith, falls known.nothing can.nothing, falls known.fails can.fails)
     by _ _ (inr c) = omega (arith, falls known.nothing can.nothing, falls known.something can.something)
 
--- and so less is unknown of all forms
+-- and so fewer are unknown for all forms
 pub unknown-looked : (cans : List code.Can) (number : ℕ) (can : Can) → number < length cans
     → (added_to (get_or cans number nothing_known) can ≡ get_or cans number nothing_known → ⊥)
     → unknown_in (set cans number (added_to (get_or cans number nothing_known) can)) < unknown_in cans
@@ -112,7 +112,7 @@ unknown-looked cans number can within more =
     let known = get_or cans number nothing_known in
     omega (arith, unknown-added known can more, sum_by-set unknown_of cans number (added_to known can) nothing_known within)
 
--- a link that was read is the form's
+-- a link that was read is the link of its form
 pub linked_at : (core : Desugared) (links : List Link) (number : ℕ) (read : Link) → AreLinked core links
     → length links ≡ length core.forms → number < length core.forms → read ≡ get_or links number read
     → IsLinkOf core (form_at core.forms number) read
@@ -124,14 +124,14 @@ pub link_at_read : (links : List Link) (number : ℕ) (read : Link) → number <
 link_at_read links number read within there =
     there ∙ get_or_default links number read (link.Known nothing_known) within
 
--- all that follows by a link is known
+-- all outcomes that follow by the link are known
 abbrev pub IsClosed : List code.Can → Link → ℕ → Type 0
 IsClosed cans l k = CanAll (link_can (can_at cans) l) (can_at cans k)
 
--- ---- what is known holds
+-- ---- known outcomes hold
 
 module _ (core : Desugared) where
-  -- all that is known holds in so many rounds
+  -- all known outcomes hold in n rounds
   abbrev pub HoldsIn : ℕ → List code.Can → Type 0
   HoldsIn n cans =
       (k : ℕ) → k < length core.forms
@@ -140,7 +140,7 @@ module _ (core : Desugared) where
   abbrev pub Holds : List code.Can → Type 0
   Holds cans = (n : ℕ) × HoldsIn n cans
 
-  -- nothing is known
+  -- no outcomes are known
   pub Holds-start : (cans : List code.Can)
       → ((k : ℕ) → k < length core.forms → get_or cans k nothing_known ≡ nothing_known) → Holds cans
   Holds-start cans none = (
@@ -149,7 +149,7 @@ module _ (core : Desugared) where
         (CanAll-cannot (core_can_in (bodies_of core) 0 (form_at core.forms k))),
   )
 
-  -- one round is the rules over the round before
+  -- a round applies the rules to the round before
   round-is : (n : ℕ) (form : CoreForm)
       → core_can_in (bodies_of core) (suc n) form ≡ core_can_table (bodies_of core) (core_can_in (bodies_of core) n) form
   unfolding core_can_in
@@ -159,13 +159,13 @@ module _ (core : Desugared) where
   unfolding core_can_in
   no-round form = refl
 
-  -- what a link tells of a round is the next round
+  -- the outcomes of a link in a round are those of its form in the next
   link-round : (n : ℕ) (form : CoreForm) (l : Link) → IsLinkOf core form l
       → link_can (λ part. core_can_in (bodies_of core) n (form_at core.forms part)) l
       ≡ core_can_in (bodies_of core) (suc n) form
   link-round n form l linked = sym (round-is n form ∙ linked.tells (core_can_in (bodies_of core) n))
 
-  -- what a link tells of what is known holds one round later
+  -- the outcomes of a link on known outcomes hold one round later
   link-holds : (n : ℕ) (cans : List code.Can) (form : CoreForm) (l : Link) → HoldsIn n cans → IsLinkOf core form l
       → CanAll (link_can (can_at cans) l) (core_can_in (bodies_of core) (suc n) form)
   link-holds n cans form l holds linked =

@@ -1,4 +1,4 @@
--- Owners are handed down from the bodies to all that stands in them.
+-- Owners are passed from the bodies down to all their parts.
 use Rattle.std.proofs.Common.{◌≡◌, ℕ, zero, suc, ◌+◌, ◌<◌, ◌≤◌, ◌⊎◌, inl, inr, List, Some, length, set, slice_get, refl, sym, ap, ◌∙◌, subst, arith}
 use Rattle.std.proofs.lemmas.Bool.{cases_eq}
 use Rattle.std.proofs.lemmas.List.{get_or-set_other, get_or-set_same, length-set}
@@ -13,7 +13,7 @@ use Rattle.peg_core.specs.declared.node.Node.TheVariants as node
 use Rattle.peg_check.specs.Owners.{owner_of, IsOwned, NamesPart, NamesFit, handed_down, IsUnder, HasOwnedParts, AreOwnersUpTo, AreHandedDownFrom, AreOwners}
 use Rattle.peg_check.proofs.AskLemmas.{body-form}
 
--- ---- what a node names
+-- ---- the parts of a node
 
 pub NamesFit-node : (number rules terminals count : ℕ) (n : Node) → number < count → NodeFits number rules terminals n
     → NamesFit count n
@@ -27,7 +27,7 @@ NamesFit-node number rules terminals count (node.Choice first rest) less fits =
 NamesFit-node number rules terminals count (node.Star part) less fits = let a : part < number = fits in omega arith
 NamesFit-node number rules terminals count (node.Not part) less fits = let a : part < number = fits in omega arith
 
--- what stands in a part stands in the form
+-- a part of a part is a part of the form
 stands-part : (forms : List CoreForm) (origin : Extent) (n : Node) (part : ℕ) (form : CoreForm) → NamesPart n part
     → StandsIn form (form_at forms part) → StandsIn form (shape forms origin n)
 stands-part forms origin node.Empty part form names stands = absurd names
@@ -46,9 +46,9 @@ stands-part forms origin (node.Star only) part form is stands =
 stands-part forms origin (node.Not only) part form is stands =
     inr (subst (λ p. StandsIn form (form_at forms p)) (sym is) stands)
 
--- ---- what is handed down
+-- ---- passing an owner down
 
--- after two writes of one number, both places hold it, and each other what it did
+-- two writes of one value change these two entries and no other
 two-writes : (owners : List ℕ) (first rest owner k : ℕ) → first < length owners → rest < length owners
     → ((first ≡ k) ⊎ (rest ≡ k)) ⊎ (owner_of (set (set owners first owner) rest owner) k ≡ owner_of owners k)
 two-writes owners first rest owner k a b = by (cases_eq k rest) (cases_eq k first)
@@ -122,7 +122,7 @@ length-handed owners (node.Choice first rest) owner =
 length-handed owners (node.Star only) owner = length-set owners only owner
 length-handed owners (node.Not only) owner = length-set owners only owner
 
--- ---- a step down
+-- ---- one step down
 
 module _ (core : Desugared) (owners : List ℕ) (number : ℕ) (n : Node) (within : number < length core.forms)
     (spells : Spells core.forms number n) (fits : NodeFits number (length core.bodies) (length core.spans) n)
@@ -190,7 +190,7 @@ module _ (core : Desugared) (owners : List ℕ) (number : ℕ) (n : Node) (withi
         by (inl is) = subst (HasOwnedParts core (handed_down owners n (owner_of owners number))) (sym is) here-handed
         by (inr other) = parts-kept k (later k (omega arith) inside (not-before other))
 
-  -- without an owner there is nothing to hand down
+  -- a form without an owner passes nothing down
   pub AreHandedDownFrom-none : (length core.bodies ≤ owner_of owners number) → AreHandedDownFrom (number + 1) core owners
       → AreHandedDownFrom number core owners
   AreHandedDownFrom-none past later k from inside had = by (cases_eq k number)
@@ -236,13 +236,13 @@ module _ (core : Desugared) (owners : List ℕ) (rule body : ℕ) (there : slice
           let equal : body ≡ b = cc in
           (subst (λ j. j < length core.forms) equal inside, subst (IsOwned core (set owners body rule)) equal owned-body)
 
--- ---- what stands in a form with an owner is one of the forms with an owner
+-- ---- each part of a form with an owner is one of the forms with an owner
 
 module _ (core : Desugared) (owners : List ℕ) (all : AreOwners core owners) where
   abbrev pub IsFound : CoreForm → Type 0
   IsFound form = (k : ℕ) × (k < length core.forms) × IsOwned core owners k × (form_at core.forms k ≡ form)
 
-  -- at this form, or at a part of it
+  -- the form itself, or a part of it
   found-by : (form : CoreForm) (number : ℕ) → number < length core.forms → IsOwned core owners number
       → (origin : Extent) (n : Node) → form_at core.forms number ≡ shape core.forms origin n
       → NodeFits number (length core.bodies) (length core.spans) n

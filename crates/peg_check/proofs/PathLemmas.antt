@@ -1,4 +1,4 @@
--- Paths grow at their ends; where a path comes back to one of its rules, it is a left cycle from there.
+-- Paths grow at their ends. A path that comes back to one of its rules is a left cycle from that rule on.
 use Rattle.std.proofs.Common.{◌≡◌, ◌≢◌, ℕ, zero, suc, ◌+◌, ◌-◌, ◌<◌, All, List, [], ◌∷◌, ◌++◌, Option, None, Some, drop, length, get_or, slice_get, refl, sym, ◌∙◌, subst, arith}
 use Rattle.std.proofs.lemmas.List.{get_or-drop, length-drop}
 use Rattle.std.proofs.lemmas.List.Elements.{All-cons, All-nil}

@@ -1,4 +1,4 @@
--- Core forms with an empty loop or with a left cycle aren't all well-formed.
+-- Core forms with an empty loop or a left cycle aren't all well-formed.
 use Rattle.std.proofs.Common.{◌≡◌, ℕ, ◌<◌, ◌≤◌, ◌⊎◌, inl, inr, List, [], ◌∷◌, Option, None, Some, length, slice_get, option_map, refl, sym, ap, ◌∙◌, subst, arith}
 use Rattle.std.proofs.lemmas.Bool.{cases_lt}
 use Rattle.std.proofs.lemmas.List.{get_or_past}
@@ -21,7 +21,7 @@ loop-refuted core number within loops all =
 
 -- ---- left cycles
 
--- what meets a rule is one of the forms
+-- a form that left-calls a rule is one of the forms
 meets-within : (core : Desugared) (number rule : ℕ) → CoreMeets (bodies_of core) (form_at core.forms number) rule
     → number < length core.forms
 meets-within core number rule meets = by (cases_lt number (length core.forms))
@@ -31,7 +31,7 @@ meets-within core number rule meets = by (cases_lt number (length core.forms))
     by (inr past) =
         absurd (subst (λ f. CoreMeets (bodies_of core) f rule) (get_or_past core.forms number Empty past) meets)
 
--- a body that meets a rule is well-formed, where all forms are
+-- a body that left-calls a rule is well-formed, if all forms are
 body-fine : (core : Desugared) (rule next : ℕ) → AreWellFormed core → CoreMeetsFirst (bodies_of core) rule next
     → (n : ℕ) × BodyIs (IsCoreWellFormedIn (bodies_of core) n) (slice_get (bodies_of core) rule)
 body-fine core rule next all meets = by (slice_get core.bodies rule) refl

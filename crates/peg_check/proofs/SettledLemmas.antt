@@ -1,4 +1,4 @@
--- Marks of settled forms: what is marked is settled, and what isn't waits in a list or asks for a form that isn't marked.
+-- Marks of settled forms. A marked form is settled; another one is pending or depends on a form that isn't marked.
 use Rattle.std.proofs.Common.{◌≡◌, ℕ, zero, suc, ◌+◌, ◌-◌, ◌*◌, ◌<◌, ◌≤◌, ◌⊎◌, inl, inr, Bool, true, false, Contains, List, [], ◌∷◌, ◌++◌, length, replicate, set, sym, ap, ◌∙◌, subst, arith, zero-add, suc-add}
 use Rattle.std.specs.List.{sum_by}
 use Rattle.std.proofs.Math.Nat.{suc-mul}
@@ -11,7 +11,7 @@ use Rattle.peg_check.specs.Settled.{is_marked, IsSettledIn, AllMarked, SomeLeft}
 use Rattle.peg_check.specs.Steps.{one_unless}
 use Rattle.peg_check.specs.declared.link.Link.{Link}
 
--- one mark more, one less to come
+-- with one more mark, one form less is left
 pub fewer-unmarked : (marks : List Bool) (number : ℕ) → number < length marks → is_marked marks number ≡ false
     → sum_by one_unless (set marks number true) + 1 ≡ sum_by one_unless marks
 fewer-unmarked marks number within was =
@@ -23,7 +23,7 @@ work-falls s t entries rest after one few =
     let e : suc s ≡ t = omega arith in
     omega (arith, suc-mul s (entries + 1), ap (λ n. n * (entries + 1)) e)
 
--- what is marked now is marked, and so is what was before
+-- the newly marked form is marked, and earlier marks stay
 pub marked-now : (marks : List Bool) (number : ℕ) → number < length marks → is_marked (set marks number true) number ≡ true
 marked-now marks number within = get_or-set_same marks number true false within
 
@@ -35,7 +35,7 @@ marked-still marks number other within was = by (cases_eq other number)
     by (inl same) = subst (λ k. is_marked (set marks number true) k ≡ true) (sym same) (marked-now marks number within)
     by (inr apart) = get_or-set_other marks number other true false apart ∙ was
 
--- at first nothing is marked
+-- at first no form is marked
 pub none-marked : (n number : ℕ) → is_marked (replicate n false) number ≡ false
 none-marked n number = by (cases_lt number n)
   where
@@ -43,7 +43,7 @@ none-marked n number = by (cases_lt number n)
     by (inl below) = get_or-replicate n number false false below
     by (inr past) = get_or_past (replicate n false) number false (omega (arith, length-replicate n false))
 
--- at most all
+-- at most all forms are unmarked
 pub most-unmarked : (marks : List Bool) → sum_by one_unless marks ≤ length marks
 most-unmarked [] = omega arith
 most-unmarked (true ∷ marks) = omega (arith, most-unmarked marks, sum_by-cons one_unless true marks)
@@ -65,7 +65,7 @@ module _ (asks : List Link) where
   settled-later (suc more) n number settled =
       rw suc-add (settled-more (more + n) number (settled-later more n number settled))
 
-  -- all that is marked is settled, in no more rounds than there are marks
+  -- all marked forms are settled, in at most as many rounds as there are marks
   abbrev pub Rounds : List Bool → Type 0
   Rounds marks =
       (n : ℕ) × (n + sum_by one_unless marks ≤ length marks)
@@ -78,7 +78,7 @@ module _ (asks : List Link) where
       let all : length asks - rounds.0 + rounds.0 ≡ length asks = omega arith in
       subst (λ n. IsSettledIn asks n number) all (settled-later (length asks - rounds.0) rounds.0 number (rounds.2 number marked))
 
-  -- each form that isn't marked waits, or asks for one that isn't
+  -- each form that isn't marked is pending, or depends on one that isn't
   abbrev pub AreWaiting : List Bool → List ℕ → Type 0
   AreWaiting marks pending =
       (number : ℕ) → number < length asks → is_marked marks number ≡ false
@@ -106,7 +106,7 @@ module _ (asks : List Link) where
         by k marked (inr other) = settled-more rounds.0 k (rounds.2 k (sym (other-mark k other) ∙ marked))
 
     module _ (pending rest : List ℕ) (taken : pending ≡ rest ++ number ∷ []) (waiting : AreWaiting marks pending) where
-      -- the form that was taken was marked, or asks for one that isn't
+      -- the form that was taken is marked already, or depends on one that isn't
       pub AreWaiting-same : (is_marked marks number ≡ false → SomeLeft marks (link_at asks number)) → AreWaiting marks rest
       AreWaiting-same left k below unmarked = by (waiting k below unmarked)
         where
@@ -115,7 +115,7 @@ module _ (asks : List Link) where
           by (inl had) =
               elim (Contains-push_cases rest number k (subst (λ (l : List ℕ). Contains l k) taken had)) [ inl still ↦ inl still | inr is ↦ inr (subst (λ j. SomeLeft marks (link_at asks j)) is (left (ap (is_marked marks) is ∙ unmarked))) ]
 
-      -- it is marked now, and those that ask for it are in the list again
+      -- the form is newly marked, and the forms that depend on it are pending again
       pub AreWaiting-marked : number < length marks → (after : List ℕ)
           → ((k : ℕ) → Contains rest k → Contains after k)
           → ((k : ℕ) → k < length asks → GoesBy (link_at asks k) number → Contains after k)

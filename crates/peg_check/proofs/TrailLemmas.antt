@@ -1,4 +1,4 @@
--- The steps of a search grow at their end; back from a step there is a path to the start.
+-- The steps of a search grow at their end. From each step a path leads back to the start.
 use Rattle.std.proofs.Common.{◌≡◌, ◌≢◌, ℕ, ◌+◌, ◌<◌, ◌≤◌, ◌⊎◌, inl, inr, All, Bool, true, List, [], ◌∷◌, ◌++◌, length, get_or, reverse, set, refl, sym, ap, ◌∙◌, subst, arith, length-append}
 use Rattle.std.proofs.lemmas.Bool.{cases_lt}
 use Rattle.std.proofs.lemmas.List.{get_or_append_left, get_or_at, reverse-append}
@@ -14,7 +14,7 @@ use Rattle.peg_check.proofs.PathLemmas.{AllDiffer-cons}
 use Rattle.peg_check.proofs.SettledLemmas.{marked-now, marked-still}
 
 module _ (steps : List Step) (step : Step) where
-  -- what was there stays
+  -- earlier steps stay
   pub step-kept : (at : ℕ) → at < length steps → get_or (steps ++ step ∷ []) at no_step ≡ get_or steps at no_step
   step-kept at within = get_or_append_left steps (step ∷ []) no_step at within
 
@@ -77,7 +77,7 @@ module _ (steps : List Step) (step : Step) where
           subst (λ (s : Step). CoreMeetsFirst (bodies_of core) (rule_at (steps ++ step ∷ []) s.before) s.rule) (sym (step-last at (end at past below)))
           (subst (λ (s : Step). CoreMeetsFirst (bodies_of core) s.rule step.rule) (sym (step-kept step.before before)) meets)
 
--- a step whose rule is marked now
+-- a step whose rule is newly marked
 pub AreSeen-push : (rules : List Bool) (steps : List Step) (step : Step) → step.rule < length rules → AreSeen rules steps
     → AreSeen (set rules step.rule true) (steps ++ step ∷ [])
 AreSeen-push rules steps step within seen at below = by (cases_lt at (length steps))
@@ -122,12 +122,12 @@ module _ (steps : List Step) (at before : ℕ) (rest : List ℕ) (less : before 
   differ-cons core start are differ = AllDiffer-cons (rule_at steps before) (rule_at steps at ∷ rest)
       (λ k d small same. let h = later-cons k d small in are.differ before h.0 h.1 h.2 (same ∙ sym h.3)) differ
 
--- the path from a step's rule goes on from the rule of the step before it
+-- the path from a step's rule continues the path from the rule of the step before it
 pub path-cons : (steps : List Step) (at : ℕ) (core : Desugared) (start : ℕ) (rest : List ℕ) → 0 < at → at < length steps
     → AreSteps core start steps → IsPath (bodies_of core) (rule_at steps at ∷ (rest ++ start ∷ []))
     → IsPath (bodies_of core) (rule_at steps (before_at steps at) ∷ ((rule_at steps at ∷ rest) ++ start ∷ []))
 path-cons steps at core start rest some within are is = (are.meets at some within, is)
 
--- what was put at the end stands first in the reverse
+-- the last element is the first of the reverse
 pub reverse-pushed : (path new : List ℕ) (rule : ℕ) → new ≡ path ++ rule ∷ [] → reverse new ≡ rule ∷ reverse path
 reverse-pushed path new rule is = ap reverse is ∙ reverse-append path (rule ∷ [])

@@ -1,4 +1,4 @@
--- What a fault that is true of core forms tells of them, and of the grammar that they come of.
+-- What a fault of core forms says of them, and of the grammar that they come from.
 use Rattle.std.proofs.Common.{◌↔◌, ℕ, List, All, Result, Ok, Err, IfErr, IsErrAnd, IsErrOf, IsOk, OnOk, refl, sym, subst}
 use Rattle.peg_bytes.specs.Extent.{Extent, extent}
 use Rattle.peg_core.specs.CoreForm.{CoreForm, core_bodies}
@@ -9,15 +9,15 @@ use Rattle.peg_core.specs.Layout.{Desugared, bodies_of}
 use Rattle.peg_core.proofs.PartsLemmas.{grammar-right, grammar-fine}
 use Rattle.peg_core.proofs.SugarLoops.{IsEmptyLoop-to_core, IsEmptyLoop-from_core}
 use Rattle.peg_core.proofs.SugarMeets.{IsLeftCycle-from_core}
-use Rattle.peg_ford.specs.Loops.{IsEmptyLoop}
-use Rattle.peg_ford.specs.Rules.{Rule}
-use Rattle.peg_ford.specs.WellFormed.{IsWellFormedGrammar}
+use Rattle.peg_semantics.specs.Loops.{IsEmptyLoop}
+use Rattle.peg_semantics.specs.Rules.{Rule}
+use Rattle.peg_semantics.specs.WellFormed.{IsWellFormedGrammar}
 use Rattle.peg_check.specs.Verdicts.{AreWellFormed, HasEmptyLoop, HasNoEmptyLoop, IsFaultOf, IsIllFormedBy}
 use Rattle.peg_check.specs.Verdicts.{TellsEmptyLoop, TellsLeftCycle}
 use Rattle.peg_check.specs.declared.fault.CheckFault.{CheckFault}
 use Rattle.peg_check.specs.declared.fault.CheckFault.TheVariants.{EmptyLoop, LeftRecursion, Memory}
 
--- ---- each answer but want of memory comes where it is the right one
+-- ---- unless an allocation fails, each result is returned if it is true
 
 module _ {A : Type 0} (core : Desugared) where
   pub empty_loop-where : (answer : Result A CheckFault) → OnOk answer (HasNoEmptyLoop core)

@@ -1,4 +1,4 @@
--- A list's items after a call that wrote them through a slice of all of them.
+-- The items of a list after a call that wrote them through a slice of the whole list.
 use Rattle.std.proofs.Common.{◌≡◌, ℕ, List, ◌++◌, length, take, drop, sym, ap, ◌∙◌}
 use Rattle.std.proofs.Math.Seq.{take-append_seam}
 

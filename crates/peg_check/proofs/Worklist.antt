@@ -1,10 +1,10 @@
--- A form that has all that follows by its link stays so, but where one that it goes by can do more.
+-- A form whose link adds no outcomes stays so until one of its dependencies gets more.
 use Rattle.std.proofs.Common.{◌≡◌, ℕ, ◌<◌, ◌⊎◌, inl, inr, All, Contains, List, [], ◌∷◌, ◌++◌, length, take, drop, get_or, refl, sym, ap, ◌∙◌, subst, arith, length-append}
 use Rattle.std.proofs.lemmas.Bool.{cases_eq}
 use Rattle.std.proofs.Math.Seq.{take-append_seam}
 use Rattle.std.proofs.lemmas.List.{get_or_append_left, get_or-set_other, get_or-set_same, length-set}
 use Rattle.std.proofs.lemmas.List.Elements.{All-contains, Contains-push, Contains-push_cases}
-use Rattle.peg_ford.specs.AbstractOutcomes.{Can, CanAll, both, either, again, not_ahead}
+use Rattle.peg_semantics.specs.AbstractOutcomes.{Can, CanAll, both, either, again, not_ahead}
 use Rattle.peg_check.specs.Cans.{can_of, can_at, nothing_known}
 use Rattle.peg_check.specs.Links.{link_at, link_can, GoesBy}
 use Rattle.peg_check.specs.Steps.{added_to, looked_at}
@@ -13,7 +13,7 @@ use Rattle.peg_check.specs.declared.link.Link.{Link}
 use Rattle.peg_check.specs.declared.link.Link.TheVariants as link
 use Rattle.peg_check.proofs.OutcomeTables.{IsClosed, added-more}
 
--- a link goes by this form, or tells the same whatever that form can do
+-- a link depends on this form, or gives the same outcomes whatever this form's are
 module _ (f g : ℕ → Can) (number : ℕ) (same : (k : ℕ) → (k ≡ number → ⊥) → f k ≡ g k) where
   one : (part : ℕ) → (part ≡ number) ⊎ (f part ≡ g part)
   one part = elim (cases_eq part number) [ inl is ↦ inl is | inr other ↦ inr (same part other) ]
@@ -29,13 +29,13 @@ module _ (f g : ℕ → Can) (number : ℕ) (same : (k : ℕ) → (k ≡ number 
   goes_by-or-same (link.NotAhead part) = elim (one part) [ inl is ↦ inl is | inr a ↦ inr (λ i. not_ahead (a i)) ]
 
 module _ (count : ℕ) (links : List Link) where
-  -- each form is in the list, or has all that follows by its link
+  -- each form is pending, or has all outcomes that follow by its link
   abbrev pub AreAwaited : List code.Can → List ℕ → Type 0
   AreAwaited cans pending = (k : ℕ) → k < count → Contains pending k ⊎ IsClosed cans (link_at links k) k
 
   module _ (cans : List code.Can) (number : ℕ) (within : number < length cans) (pending rest : List ℕ)
       (taken : pending ≡ rest ++ number ∷ []) (awaited : AreAwaited cans pending) where
-    -- a look at a form leaves it with what followed by its link
+    -- an update gives a form the outcomes that follow by its link
     has-looked : CanAll (link_can (can_at cans) (link_at links number)) (can_at (looked_at cans (link_at links number) number) number)
     has-looked =
         let known = get_or cans number nothing_known in
@@ -43,7 +43,7 @@ module _ (count : ℕ) (links : List Link) where
         subst (λ (v : code.Can). CanAll can (can_of v)) (sym (get_or-set_same cans number (added_to known can) nothing_known within))
         (added-more known can)
 
-    -- nothing more was found: the form has all
+    -- nothing new: the form has all outcomes that follow
     pub awaited-same : looked_at cans (link_at links number) number ≡ cans → AreAwaited cans rest
     awaited-same same k below = by (awaited k below)
       where
@@ -51,7 +51,7 @@ module _ (count : ℕ) (links : List Link) where
         by (inr closed) = inr closed
         by (inl had) = elim (Contains-push_cases rest number k (subst (λ (l : List ℕ). Contains l k) taken had)) [ inl still ↦ inl still | inr is ↦ inr (subst (λ j. IsClosed cans (link_at links j) j) is (subst (λ (after : List code.Can). CanAll (link_can (can_at cans) (link_at links number)) (can_at after number)) same has-looked)) ]
 
-    -- something was found: the form's users are in the list again
+    -- something new: the forms that depend on it are pending again
     pub awaited-more : (after : List ℕ) → ((k : ℕ) → Contains rest k → Contains after k)
         → ((k : ℕ) → k < count → GoesBy (link_at links k) number → Contains after k)
         → AreAwaited (looked_at cans (link_at links number) number) after
@@ -87,7 +87,7 @@ pub last_taken : (P : ℕ → Type 0) (pending rest : List ℕ) (number : ℕ) �
 last_taken P pending rest number taken all =
     All-contains P pending number all (subst (λ (l : List ℕ). Contains l number) (sym taken) (Contains-push rest number))
 
--- the entries after a look, as a slice of all of them
+-- the entries after an update, as a slice of all of them
 pub whole-looked : (n number : ℕ) (items now new : List code.Can) (l m : Link) → n ≡ length items → now ≡ items → l ≡ m
     → new ≡ looked_at now l number → take n (new ++ drop (length new) items) ≡ looked_at items m number
 whole-looked n number items now new l m counted same is looked =

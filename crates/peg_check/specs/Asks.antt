@@ -1,5 +1,5 @@
--- Describes code: what a core form asks for (Ford 2004, section 3.6), by numbers: the parts that his rules for
--- well-formed expressions ask for, and of a rule's use the rule's body.
+-- Describes code: the forms that the well-formedness of a core form depends on (Ford 2004, section 3.6), by number.
+-- These are the parts that Ford's rules for well-formed expressions check, and for a call of a rule the rule's body.
 use Rattle.std.specs.Prelude.{◌≡◌, ℕ, ◌<◌, List, Some, length, slice_get}
 use Rattle.peg_bytes.specs.ByteSet.{Bytes}
 use Rattle.peg_bytes.specs.Extent.{Extent}
@@ -11,8 +11,8 @@ use Rattle.peg_check.specs.declared.can.Can as code
 use Rattle.peg_check.specs.declared.link.Link.{Link}
 use Rattle.peg_check.specs.declared.link.Link.TheVariants as link
 
--- the form with a number asks for the forms that its link goes by: of a sequence for the rest only where the first can
--- give nothing
+-- The link has the dependencies of the form with a number. A sequence depends on its rest only if its first part can
+-- succeed without consuming a byte.
 pub data AsksBy (core : Desugared) (number : ℕ) : Link → Type 0 where
   asks_empty : (can : code.Can) → form_at core.forms number ≡ Empty → AsksBy core number (link.Known can)
   asks_test : (can : code.Can) (set : Bytes) (terminal : ℕ) → form_at core.forms number ≡ Test set terminal
@@ -33,6 +33,6 @@ pub data AsksBy (core : Desugared) (number : ℕ) : Link → Type 0 where
   asks_not : (part : ℕ) → form_at core.forms number ≡ Not (form_at core.forms part) → part < number
       → AsksBy core number (link.NotAhead part)
 
--- each form asks by its link
+-- each form has the dependencies of its link
 abbrev pub AreAsked : Desugared → List Link → Type 0
 AreAsked core asks = (number : ℕ) → number < length core.forms → AsksBy core number (link_at asks number)

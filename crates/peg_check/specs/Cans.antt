@@ -2,22 +2,22 @@
 use Rattle.std.specs.Prelude.{ℕ, Bool, false, List, slice_index_or}
 use Rattle.std.proofs.Common.{refl}
 use Rattle.std.specs.Coded.{Coded, code_by, coded×, coded_bool, coded_list}
-use Rattle.peg_ford.specs.AbstractOutcomes.{Can}
+use Rattle.peg_semantics.specs.AbstractOutcomes.{Can}
 use Rattle.peg_check.specs.declared.can.Can as code
 
--- the three outcomes that a value in code tells
+-- the outcomes that a value in code denotes
 abbrev pub can_of : code.Can → Can
 can_of can = record { nothing = can.nothing; something = can.something; fails = can.fails }
 
--- before anything is known
+-- no outcomes
 abbrev pub nothing_known : code.Can
 nothing_known = record { nothing = false; something = false; fails = false }
 
--- what the form with a number is known to be able to do
+-- the known outcomes of the form with a number
 abbrev pub can_at : List code.Can → ℕ → Can
 can_at cans number = can_of (slice_index_or cans number nothing_known)
 
--- one entry a form
+-- the outcomes of each form, in order
 abbrev pub Cans : Type 0
 Cans = List Can
 

@@ -1,4 +1,4 @@
--- Describes code: empty loops by the forms' numbers.
+-- Describes code: empty loops by the numbers of forms.
 use Rattle.std.specs.Prelude.{◌≡◌, ℕ, ◌<◌, List, length}
 use Rattle.peg_bytes.specs.Extent.{Extent, extent}
 use Rattle.peg_core.specs.CoreForm.{CoreForm, Star}
@@ -9,22 +9,22 @@ use Rattle.peg_check.specs.Owners.{IsOwned}
 use Rattle.peg_check.specs.Verdicts.{HasNoEmptyLoop}
 use Rattle.peg_check.specs.declared.loops.Loop.{Loop}
 
--- the form with a number is a star whose part gives nothing
+-- the form with a number is a star whose part can succeed without consuming a byte
 abbrev pub LoopsAt : Desugared → ℕ → Type 0
 LoopsAt core number =
     (part : CoreForm) × (origin : Extent) × (form_at core.forms number ≡ Star part origin)
     × CoreGivesNothing (bodies_of core) part
 
--- what names an empty loop names one of its rule, which is one of the forms
+-- a reported loop is an empty loop of its rule, and is one of the forms
 pub record IsLoop (core : Desugared) (found : Loop) : Type 0 where
   pub named : IsCoreEmptyLoop (bodies_of core) found.rule (extent found.span)
   pub stands : (number : ℕ) × (number < length core.forms) × LoopsAt core number
 
--- no form below a number that has an owner is a star whose part gives nothing
+-- no form that is below a number and has an owner is an empty loop
 abbrev pub NoneLoopsBelow : ℕ → Desugared → List ℕ → Type 0
 NoneLoopsBelow below core owners = (number : ℕ) → number < below → IsOwned core owners number → ¬ LoopsAt core number
 
--- no form is a star whose part gives nothing
+-- no form is an empty loop
 abbrev pub NoneLoops : Desugared → Type 0
 NoneLoops core = (number : ℕ) → number < length core.forms → ¬ LoopsAt core number
 

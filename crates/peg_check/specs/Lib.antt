@@ -6,11 +6,11 @@ pub use Rattle.peg_core.specs.CoreOutcomes
 pub use Rattle.peg_core.specs.CoreNodes
 pub use Rattle.peg_core.specs.CoreParts
 pub use Rattle.peg_core.specs.Layout
-pub use Rattle.peg_ford.specs.AbstractOutcomes
-pub use Rattle.peg_ford.specs.Loops
-pub use Rattle.peg_ford.specs.RuleOutcomes
-pub use Rattle.peg_ford.specs.Rules
-pub use Rattle.peg_ford.specs.WellFormed
+pub use Rattle.peg_semantics.specs.AbstractOutcomes
+pub use Rattle.peg_semantics.specs.Loops
+pub use Rattle.peg_semantics.specs.RuleOutcomes
+pub use Rattle.peg_semantics.specs.Rules
+pub use Rattle.peg_semantics.specs.WellFormed
 pub mod Asks
 pub mod Cans
 pub mod Chains

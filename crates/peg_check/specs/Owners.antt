@@ -1,4 +1,4 @@
--- Describes code: which rule a core form belongs to, by the forms' numbers; a number that is no rule's tells none.
+-- Describes code: the rule that a core form belongs to, by number. A number that is no rule's means no owner.
 use Rattle.std.specs.Prelude.{◌≡◌, ℕ, ◌<◌, ◌≤◌, ◌⊎◌, List, Some, length, slice_get, slice_index_or, slice_set}
 use Rattle.peg_core.specs.CoreForm.{CoreForm}
 use Rattle.peg_core.specs.CoreLoops.{StandsIn}
@@ -8,7 +8,7 @@ use Rattle.peg_core.specs.CoreNodes.{NodeFits, Spells}
 use Rattle.peg_core.specs.declared.node.Node.{Node}
 use Rattle.peg_core.specs.declared.node.Node.TheVariants as node
 
--- the number that is kept for a form
+-- the number that is stored for a form
 abbrev pub owner_of : List ℕ → ℕ → ℕ
 owner_of owners number = slice_index_or owners number 0
 
@@ -16,7 +16,7 @@ owner_of owners number = slice_index_or owners number 0
 abbrev pub IsOwned : Desugared → List ℕ → ℕ → Type 0
 IsOwned core owners number = owner_of owners number < length core.bodies
 
--- a node names this number
+-- a node has the part with this number
 abbrev pub NamesPart : Node → ℕ → Type 0
 NamesPart node.Empty part = ⊥
 NamesPart (node.Test set terminal) part = ⊥
@@ -26,7 +26,7 @@ NamesPart (node.Choice first rest) part = (first ≡ part) ⊎ (rest ≡ part)
 NamesPart (node.Star only) part = only ≡ part
 NamesPart (node.Not only) part = only ≡ part
 
--- the numbers that a node names are below this one
+-- the parts of a node are below `count`
 abbrev pub NamesFit : (count : ℕ) → Node → Type 0
 NamesFit count node.Empty = Unit {0}
 NamesFit count (node.Test set terminal) = Unit {0}
@@ -36,7 +36,7 @@ NamesFit count (node.Choice first rest) = (first < count) × (rest < count)
 NamesFit count (node.Star part) = part < count
 NamesFit count (node.Not part) = part < count
 
--- the parts of a node get an owner
+-- the owners after the parts of a node got an owner
 abbrev pub handed_down : List ℕ → Node → (owner : ℕ) → List ℕ
 handed_down owners node.Empty owner = owners
 handed_down owners (node.Test set terminal) owner = owners
@@ -46,20 +46,20 @@ handed_down owners (node.Choice first rest) owner = slice_set (slice_set owners 
 handed_down owners (node.Star part) owner = slice_set owners part owner
 handed_down owners (node.Not part) owner = slice_set owners part owner
 
--- all that stands in a form stands in a rule's body
+-- all parts of a form are parts of the rule's body
 abbrev pub IsUnder : Desugared → (number rule : ℕ) → Type 0
 IsUnder core number rule =
     (form : CoreForm) → StandsIn form (form_at core.forms number)
     → BodyIs (StandsIn form) (slice_get (bodies_of core) rule)
 
--- a form is its node's, and the parts have owners
+-- the form is the form of some node, and the parts of the node have owners
 pub record HasOwnedParts (core : Desugared) (owners : List ℕ) (number : ℕ) : Type 0 where
   pub node : Node
   pub spells : Spells core.forms number node
   pub fits : NodeFits number (length core.bodies) (length core.spans) node
   pub owned : (part : ℕ) → NamesPart node part → IsOwned core owners part
 
--- what has an owner stands in its body, and that of the rules up to one have owners
+-- each form that has an owner is part of that rule's body, and the bodies of the first rules have owners
 pub record AreOwnersUpTo (rules : ℕ) (core : Desugared) (owners : List ℕ) : Type 0 where
   pub count : length owners ≡ length core.forms
   pub under : (number : ℕ) → number < length core.forms → IsOwned core owners number
@@ -67,13 +67,13 @@ pub record AreOwnersUpTo (rules : ℕ) (core : Desugared) (owners : List ℕ) : 
   pub bodies : (rule body : ℕ) → rule < rules → slice_get core.bodies rule ≡ Some body
       → (body < length core.forms) × IsOwned core owners body
 
--- the parts of forms that have owners have owners, from a number on
+-- the parts of owned forms have owners too, from a number on
 abbrev pub AreHandedDownFrom : (from : ℕ) → Desugared → List ℕ → Type 0
 AreHandedDownFrom from core owners =
     (number : ℕ) → from ≤ number → number < length core.forms → IsOwned core owners number
     → HasOwnedParts core owners number
 
--- all forms of the bodies have owners, and stand in the bodies of these
+-- all parts of the bodies have owners, and are part of the bodies of these rules
 pub record AreOwners (core : Desugared) (owners : List ℕ) : Type 0 where
   pub up_to : AreOwnersUpTo (length core.bodies) core owners
   pub handed_down : AreHandedDownFrom 0 core owners

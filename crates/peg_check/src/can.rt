@@ -1,10 +1,11 @@
 //! Ford's abstract outcomes, and how those of a form follow from those of its parts.
 ghost use Rattle.std.specs.Prelude.{◌≡◌};
-ghost use Rattle.peg_ford.specs.AbstractOutcomes.{again, both, either, not_ahead, succeeds};
+ghost use Rattle.peg_semantics.specs.AbstractOutcomes.{again, both, either, not_ahead, succeeds};
 ghost use Rattle.peg_check.specs.Cans.{can_of};
 ghost use Rattle.peg_check.specs.Steps.{added_to};
 
-/// What an expression can do on some text (Ford 2004, section 3.5): succeed on nothing, succeed on something, fail.
+/// The abstract outcomes of an expression (Ford 2004, section 3.5). It may succeed without consuming a byte (0),
+/// succeed and consume some (1), or fail (f).
 #[derive(Clone, Copy, Debug, PartialEq, Eq)]
 pub struct Can {
     pub nothing: bool,
@@ -13,14 +14,14 @@ pub struct Can {
 }
 
 impl Can {
-    /// Whether it can succeed, on nothing or on something.
+    /// Returns whether 0 or 1 is an outcome.
     fn succeeds(self) -> bool
         ensures { result ≡ succeeds (can_of self) }
     {
         self.nothing || self.something
     }
 
-    /// One after the other.
+    /// Returns the outcomes of a sequence.
     pub(crate) fn then(self, rest: Can) -> Can
         ensures { can_of result ≡ both (can_of self) (can_of rest) }
     {
@@ -32,7 +33,7 @@ impl Can {
         }
     }
 
-    /// One, or where it fails the other.
+    /// Returns the outcomes of a choice.
     pub(crate) fn or_else(self, rest: Can) -> Can
         ensures { can_of result ≡ either (can_of self) (can_of rest) }
     {
@@ -43,7 +44,7 @@ impl Can {
         }
     }
 
-    /// Again and again, until it fails.
+    /// Returns the outcomes of a star.
     pub(crate) fn again(self) -> Can
         ensures { can_of result ≡ again (can_of self) }
     {
@@ -54,7 +55,7 @@ impl Can {
         }
     }
 
-    /// Nothing, where it fails.
+    /// Returns the outcomes of a not-predicate.
     pub(crate) fn not_ahead(self) -> Can
         ensures { can_of result ≡ not_ahead (can_of self) }
     {
@@ -65,7 +66,7 @@ impl Can {
         }
     }
 
-    /// What either can do.
+    /// Returns the union of both.
     pub(crate) fn joined(self, more: Can) -> Can
         ensures { result ≡ added_to self (can_of more) }
     {

@@ -1,6 +1,6 @@
-//! Components: forms that ask for one another, on and on, have the same label.
+//! The strongly connected components of the well-formedness dependencies (Kosaraju's algorithm).
 ghost use Rattle.std.specs.Prelude.{◌≡◌, ℕ, ◌<◌, ◌≤◌, ◌⊎◌, length, slice_index_or, IfOk, IfSome, OnOk, Some};
-ghost use Rattle.peg_core.specs.Layout.{most_forms};
+ghost use Rattle.peg_core.specs.Layout.{max_forms};
 ghost use Rattle.peg_check.specs.Chains.{AreChains};
 ghost use Rattle.peg_check.specs.Links.{LinkFits};
 ghost use Rattle.peg_check.specs.declared.link.Link.{Link};
@@ -12,10 +12,11 @@ use crate::uses::{Uses, uses_of};
 use peg_core::Core;
 use std::alloc::{AllocError, Global};
 
-/// The label of each form's component: from the form that is left last on, all forms that ask for it and have no label
-/// yet are of its component. Takes time and memory linear in the number of forms.
+/// Returns the label of each form's component. The forms are visited in reverse postorder. All forms that depend on the
+/// visited one, directly or indirectly, and have no label yet are of its component. Takes time and memory linear in the
+/// number of forms.
 pub(crate) fn components_of(alloc: Global, asks: &[Link]) -> Result<Vec<u32>, AllocError>
-    requires few { length asks.now ≤ most_forms }
+    requires few { length asks.now ≤ max_forms }
     requires fit { (user : ℕ) (d : Link) → user < length asks.now
         → LinkFits (length asks.now) (slice_index_or asks.now user d) }
     ensures { IfOk result (λ labels. length labels.items ≡ length asks.now) }
@@ -29,10 +30,10 @@ pub(crate) fn components_of(alloc: Global, asks: &[Link]) -> Result<Vec<u32>, Al
     Ok(labels)
 }
 
-// A form without a label gets its own, and so do the forms without one that ask for it, on and on.
+// Labels a form, and the forms that depend on it directly or indirectly, unless they have a label.
 fn label_users(alloc: Global, uses: &Uses, labels: &mut [u32], root: u32) -> Result<(), AllocError>
     requires chains { AreChains (length labels.old) uses.now }
-    requires few { length labels.old ≤ most_forms }
+    requires few { length labels.old ≤ max_forms }
     requires within { root < length labels.old }
     ensures { OnOk result (length labels.new ≡ length labels.old) }
 {
@@ -47,7 +48,8 @@ fn label_users(alloc: Global, uses: &Uses, labels: &mut [u32], root: u32) -> Res
     Ok(())
 }
 
-/// The least rule with a use in the component of its body, if there is one: the least that lies on a left cycle.
+/// Returns the smallest rule that has a call in the component of its own body, if there is one. It is the smallest rule
+/// on a left cycle.
 pub(crate) fn least_in_a_cycle(core: &Core, labels: &[u32]) -> Option<u32>
     requires { length labels.now ≡ length core.now.forms }
     ensures { IfSome result (λ rule. rule < length core.now.bodies) }
@@ -63,7 +65,6 @@ pub(crate) fn least_in_a_cycle(core: &Core, labels: &[u32]) -> Option<u32>
     least
 }
 
-// The lesser of two rules, if there are two.
 fn lesser(least: Option<u32>, rule: u32) -> u32
     ensures { (result ≡ rule) ⊎ (least ≡ Some result) }
 {

@@ -1,4 +1,4 @@
-//! Left cycles: rules each of which meets the next one first, and the last the first (Ford 2004, section 3.6).
+//! Left cycles: rules that left-call each other in a circle (Ford 2004, section 3.6).
 ghost use Rattle.std.specs.Prelude.{◌≡◌, ℕ, ◌<◌, ⊤, Contains, false, length, slice_get, Some, IfOk, MatchOption};
 ghost use Rattle.peg_core.specs.CoreForm.{Rule};
 ghost use Rattle.peg_core.specs.CoreLoops.{CoreMeets};
@@ -13,8 +13,8 @@ use crate::settled::left_part;
 use peg_core::{Core, Node};
 use std::alloc::{AllocError, Global};
 
-/// A left cycle, found from a form that isn't settled by always asking for such a form, until a rule is met again.
-/// Takes time and memory linear in the number of forms.
+/// Returns a left cycle. It follows dependencies from a form that isn't settled to forms that aren't settled either,
+/// until a rule repeats. Takes time and memory linear in the number of forms.
 pub(crate) fn cycle_from(
     alloc: Global,
     core: &Core,
@@ -40,7 +40,7 @@ pub(crate) fn cycle_from(
     from_rule(alloc, &path, rule)
 }
 
-// A rule that a form that isn't settled meets first, and whose body isn't settled either.
+// A rule that an unsettled form left-calls, and whose body isn't settled either.
 fn met_first(core: &Core, asks: &[Link], marks: &[bool], form: u32) -> u32
     requires asked { AreAsked core.now asks.now }
     requires settled { AreSettled asks.now marks.now }
@@ -63,7 +63,7 @@ fn met_first(core: &Core, asks: &[Link], marks: &[bool], form: u32) -> u32
     }
 }
 
-/// The rule that a form is a use of, if it is one.
+/// Returns the rule that a form calls, if the form is a call.
 pub(crate) fn used_rule(core: &Core, number: u32) -> Option<u32>
     requires { number < length core.now.forms }
     ensures within { MatchOption result ⊤ (λ rule. rule < length core.now.bodies) }
@@ -76,7 +76,7 @@ pub(crate) fn used_rule(core: &Core, number: u32) -> Option<u32>
     }
 }
 
-// A path from where a rule stands in it.
+// The part of a path from a rule on.
 fn from_rule(alloc: Global, path: &[u32], rule: u32) -> Result<Vec<u32>, AllocError>
     requires { Contains path.now rule }
     ensures { IfOk result (λ rest. IsFrom path.now rule rest.items) }

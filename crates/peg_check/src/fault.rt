@@ -1,4 +1,4 @@
-//! Why a grammar is no well-formed one.
+//! Why a grammar isn't well-formed.
 use peg_bytes::Span;
 use std::alloc::{AllocError, AllocFailed};
 use thiserror::Error;
@@ -6,14 +6,15 @@ use thiserror::Error;
 /// Why the core forms of a grammar aren't all well-formed (Ford 2004, section 3.6).
 #[derive(Debug, Drop, Error)]
 pub enum CheckFault {
-    /// A star or plus of this rule, which stands there, and whose part may succeed on nothing: it would go on forever.
+    /// A star or plus of this rule, at this span of the grammar file, has a part that may succeed without consuming a
+    /// byte. It could loop forever.
     #[error("a star or plus may go round on nothing")]
     EmptyLoop { rule: u32, span: Span },
-    /// There is no such loop, but rules that use one another, or one that uses itself, before anything is consumed:
-    /// each is met first by the one before it, and the first by the last. No rule stands there twice.
+    /// There is no such loop, but rules call each other, or one calls itself, before a byte is consumed. Each rule of
+    /// `path` is left-called by the one before it, and the first by the last. No rule occurs twice.
     #[error("rules use one another before anything is consumed")]
     LeftRecursion { path: Vec<u32> },
-    /// Memory ran out.
+    /// An allocation failed.
     #[error("out of memory")]
     Memory,
 }

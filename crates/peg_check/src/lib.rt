@@ -1,4 +1,4 @@
-//! The check of grammars: what each core form can do, whatever the text; and whether all are well-formed, or why not.
+//! Checks grammars: computes the abstract outcomes of each core form, and whether all are well-formed, or why not.
 #![tactic(auto)]
 
 mod asks;

@@ -1,4 +1,4 @@
-//! What each core form's outcomes depend on, by numbers alone.
+//! The forms that each core form's outcomes depend on, by number.
 ghost use Rattle.std.specs.Prelude.{◌≡◌, ◌<◌, length, IfOk};
 ghost use Rattle.peg_core.specs.Layout.{form_at};
 ghost use Rattle.peg_check.specs.Cans.{can_at, can_of};
@@ -8,24 +8,25 @@ use crate::Can;
 use peg_core::{Core, Node};
 use std::alloc::{AllocError, Global};
 
-/// A core form with a rule's use taken for the rule's body, and a test for what it can do.
+/// A core form that is reduced to its dependencies. A call of a rule is reduced to the rule's body, and a test to its
+/// outcomes.
 #[derive(Clone, Copy)]
 pub(crate) enum Link {
-    /// It goes by no other form.
+    /// Outcomes that depend on no other form.
     Known(Can),
-    /// What the form with this number can do.
+    /// The outcomes of the form with this number.
     Same(u32),
-    /// One after the other.
+    /// The outcomes of a sequence.
     Both(u32, u32),
-    /// One, or where it fails the other.
+    /// The outcomes of a choice.
     Either(u32, u32),
-    /// Again and again, until it fails.
+    /// The outcomes of a star.
     Again(u32),
-    /// Nothing, where it fails.
+    /// The outcomes of a not-predicate.
     NotAhead(u32),
 }
 
-/// The links of all core forms, in order.
+/// Returns the links of all core forms, in order.
 pub(crate) fn links_of(alloc: Global, core: &Core) -> Result<Vec<Link>, AllocError>
     ensures count { IfOk result (λ links. length links.items ≡ length core.now.forms) }
     ensures linked { IfOk result (λ links. AreLinked core.now links.items) }
@@ -37,7 +38,6 @@ pub(crate) fn links_of(alloc: Global, core: &Core) -> Result<Vec<Link>, AllocErr
     Ok(links)
 }
 
-// The link of the form with a number.
 fn link_of(core: &Core, number: u32) -> Link
     requires { number < length core.now.forms }
     ensures { IsLinkOf core.now (form_at core.now.forms number) result }
@@ -61,7 +61,7 @@ fn link_of(core: &Core, number: u32) -> Link
     }
 }
 
-/// What a form can do, by what the forms that it goes by are known to be able to do.
+/// Returns the outcomes of a form that follow from the known outcomes of its dependencies.
 pub(crate) fn judged(link: Link, cans: &[Can]) -> Can
     requires { LinkFits (length cans.now) link }
     ensures { can_of result ≡ link_can (can_at cans.now) link }

@@ -1,4 +1,4 @@
-//! Empty loops: stars and pluses whose part may succeed on nothing (Ford 2004, section 3.6).
+//! Empty loops: stars and pluses whose part may succeed without consuming a byte (Ford 2004, section 3.6).
 ghost use Rattle.std.specs.Prelude.{◌≡◌, ◌<◌, ◌⊎◌, length, IfOk, MatchOption, Some};
 ghost use Rattle.peg_check.specs.Exact.{IsExactTable};
 ghost use Rattle.peg_check.specs.EmptyLoops.{HasNone, IsLoop, LoopsAt};
@@ -10,15 +10,15 @@ use peg_bytes::Span;
 use peg_core::{Core, Node};
 use std::alloc::{AllocError, Global};
 
-/// A star or plus of a rule, and where it stands.
+/// A star or plus of a rule, and its span in the grammar file.
 #[derive(Clone, Copy)]
 pub(crate) struct Loop {
     pub(crate) rule: u32,
     pub(crate) span: Span,
 }
 
-/// The first empty loop in written order, an expression before its parts, if there is one. Takes time and memory linear
-/// in the number of forms.
+/// Returns the first empty loop in written order, if there is one. An expression comes before its parts. Takes time and
+/// memory linear in the number of forms.
 pub(crate) fn empty_loop(
     alloc: Global,
     core: &Core,
@@ -37,7 +37,7 @@ pub(crate) fn empty_loop(
     Ok(found)
 }
 
-// The empty loop that a form with an owner is, if it is one.
+// The empty loop of a form, if the form has an owner and is an empty loop.
 fn loop_at(core: &Core, table: &Table, owners: &[u32], number: u32) -> Option<Loop>
     requires table { IsExactTable core.now table.now }
     requires owners { AreOwners core.now owners.now }
@@ -60,7 +60,8 @@ fn loop_at(core: &Core, table: &Table, owners: &[u32], number: u32) -> Option<Lo
     }
 }
 
-// The one that stands first; where both begin at one place, the later one, since parts come before their whole.
+// The loop that is written first. If both start at the same offset, the later one is the outer one, since parts have
+// smaller numbers than their whole.
 fn first_of(found: Option<Loop>, next: Loop) -> Loop
     ensures { (result ≡ next) ⊎ (found ≡ Some result) }
 {

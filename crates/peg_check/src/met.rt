@@ -1,4 +1,4 @@
-//! The rules that a rule meets first (Ford 2004, section 3.6).
+//! The rules that a rule left-calls (Ford 2004, section 3.6).
 ghost use Rattle.std.specs.Prelude.{◌≡◌, ℕ, ◌<◌, ◌++◌, All, length, IfOk, OnOk};
 ghost use Rattle.peg_core.specs.CoreLoops.{CoreMeetsFirst};
 ghost use Rattle.peg_check.specs.Asks.{AreAsked};
@@ -10,8 +10,8 @@ use crate::link::Link;
 use peg_core::Core;
 use std::alloc::{AllocError, Global};
 
-/// The rules that a rule meets first, in order, found by forms that no earlier call looked at. It takes time linear in
-/// those, but for the sorting.
+/// Returns the rules that a rule left-calls, in order. Forms that are marked as seen, by this call or earlier ones,
+/// aren't visited again. Takes time linear in the number of visited forms, apart from sorting the result.
 pub(crate) fn met_by(
     alloc: Global,
     core: &Core,
@@ -44,7 +44,7 @@ pub(crate) fn met_by(
     Ok(met)
 }
 
-// The forms that a link goes by are put behind others.
+// Pushes the dependencies of a link.
 fn push_parts(link: Link, pending: &mut Vec<u32>) -> Result<(), AllocError>
     ensures { OnOk result (pending.new.items ≡ pending.old.items ++ link_parts link) }
 {

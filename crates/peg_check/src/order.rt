@@ -1,6 +1,6 @@
-//! The order in which a search down what forms ask for leaves them.
+//! A postorder of the well-formedness dependencies.
 ghost use Rattle.std.specs.Prelude.{◌≡◌, ℕ, ◌+◌, ◌<◌, ◌≤◌, All, length, slice_index_or, IfOk, OnOk};
-ghost use Rattle.peg_core.specs.Layout.{most_forms};
+ghost use Rattle.peg_core.specs.Layout.{max_forms};
 ghost use Rattle.peg_check.specs.Links.{LinkFits};
 ghost use Rattle.peg_check.specs.Visits.{AreVisits};
 ghost use Rattle.peg_check.specs.declared.link.Link.{Link};
@@ -8,17 +8,17 @@ ghost use Rattle.peg_check.specs.declared.link.Link.{Link};
 use crate::link::Link;
 use std::alloc::{AllocError, Global};
 
-/// A form that is entered or, once all that it asks for was, left.
+/// A visit of a form: entering it, or leaving it after all its dependencies were entered.
 #[derive(Clone, Copy)]
 pub(crate) struct Visit {
     number: u32,
     leaves: bool,
 }
 
-/// The forms in the order in which they are left, each entered once: what a form asks for is left before it, but for
-/// forms that ask for it in turn. Takes time and memory linear in the number of forms.
+/// Returns the forms in postorder. The dependencies of a form come before it, except for those on a cycle with it.
+/// Takes time and memory linear in the number of forms.
 pub(crate) fn left_in_order(alloc: Global, asks: &[Link]) -> Result<Vec<u32>, AllocError>
-    requires few { length asks.now ≤ most_forms }
+    requires few { length asks.now ≤ max_forms }
     requires fit { (user : ℕ) (d : Link) → user < length asks.now
         → LinkFits (length asks.now) (slice_index_or asks.now user d) }
     ensures { IfOk result (λ order. All (λ number. number < length asks.now) order.items) }
@@ -40,9 +40,9 @@ pub(crate) fn left_in_order(alloc: Global, asks: &[Link]) -> Result<Vec<u32>, Al
     Ok(order)
 }
 
-// Each form is to be entered.
+// One visit for each form.
 fn entered_all(alloc: Global, count: usize) -> Result<Vec<Visit>, AllocError>
-    requires { count ≤ most_forms }
+    requires { count ≤ max_forms }
     ensures { IfOk result (λ visits. AreVisits count visits.items) }
 {
     let mut visits = Vec::new(alloc);
@@ -61,7 +61,7 @@ fn enter(number: u32) -> Visit
     }
 }
 
-// A form is to be left, but before that what it asks for is to be entered.
+// Pushes the visit that leaves a form, then those that enter its dependencies.
 fn visit_parts(link: Link, number: u32, visits: &mut Vec<Visit>) -> Result<(), AllocError>
     ensures fit { OnOk result ((count : ℕ) → number < count → LinkFits count link → AreVisits count visits.old.items
         → AreVisits count visits.new.items) }

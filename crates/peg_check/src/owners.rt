@@ -1,12 +1,12 @@
-//! Which rule each core form belongs to.
+//! The rule that each core form belongs to.
 ghost use Rattle.std.specs.Prelude.{◌≡◌, length, IfOk};
 ghost use Rattle.peg_check.specs.Owners.{AreOwners, AreOwnersUpTo, NamesFit, handed_down};
 
 use peg_core::{Core, Node};
 use std::alloc::{AllocError, Global};
 
-/// The rule that each form belongs to: each form in a rule's body gets that rule, from the body down to its parts. The
-/// number of rules stands for none. Takes time and memory linear in the number of forms.
+/// Returns the owner of each form: a rule whose body contains it. Owners are passed from each body down to its parts. A
+/// form without an owner has the number of rules instead. Takes time and memory linear in the number of forms.
 pub(crate) fn owners_of(alloc: Global, core: &Core) -> Result<Vec<u32>, AllocError>
     ensures { IfOk result (λ owners. AreOwners core.now owners.items) }
 {
@@ -22,7 +22,7 @@ pub(crate) fn owners_of(alloc: Global, core: &Core) -> Result<Vec<u32>, AllocErr
     Ok(owners)
 }
 
-// The bodies alone have owners.
+// The owners of the rules' bodies; other forms have none yet.
 fn owners_of_bodies(alloc: Global, core: &Core) -> Result<Vec<u32>, AllocError>
     ensures { IfOk result (λ owners. AreOwnersUpTo (length core.now.bodies) core.now owners.items) }
 {
@@ -33,7 +33,7 @@ fn owners_of_bodies(alloc: Global, core: &Core) -> Result<Vec<u32>, AllocError>
     Ok(owners)
 }
 
-// The parts of a node get its owner.
+// Gives the owner of a node to its parts.
 fn hand_down(node: Node, owners: &mut [u32], owner: u32)
     requires { NamesFit (length owners.old) node }
     ensures { owners.new ≡ handed_down owners.old node owner }

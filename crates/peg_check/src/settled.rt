@@ -1,7 +1,7 @@
-//! The forms that are settled: all that they ask for is settled too, in some number of rounds.
+//! Settled forms. A form is settled if all forms that it depends on are settled, in some number of rounds.
 ghost use Rattle.std.specs.Prelude.{◌≡◌, ℕ, ◌<◌, ◌≤◌, true, false, length, slice_index_or};
 ghost use Rattle.std.specs.Prelude.{IfOk, MatchBool, MatchOption};
-ghost use Rattle.peg_core.specs.Layout.{most_forms};
+ghost use Rattle.peg_core.specs.Layout.{max_forms};
 ghost use Rattle.peg_check.specs.Links.{LinkFits};
 ghost use Rattle.peg_check.specs.Settled.{is_marked, AllMarked, IsLeft, AreSettled, IsNewlyMarked, SomeLeft};
 ghost use Rattle.peg_check.specs.declared.link.Link.{Link};
@@ -11,10 +11,10 @@ use crate::table::all_numbers;
 use crate::uses::uses_of;
 use std::alloc::{AllocError, Global};
 
-/// Marks the forms that are settled. Each is marked once at most, and then the forms that ask for it are looked at
-/// again, so this takes time and memory linear in the number of forms.
+/// Marks the settled forms. Each form is marked at most once, and then the forms that depend on it are visited again.
+/// Takes time and memory linear in the number of forms.
 pub(crate) fn settled_of(alloc: Global, asks: &[Link]) -> Result<Vec<bool>, AllocError>
-    requires few { length asks.now ≤ most_forms }
+    requires few { length asks.now ≤ max_forms }
     requires fit { (user : ℕ) (d : Link) → user < length asks.now
         → LinkFits (length asks.now) (slice_index_or asks.now user d) }
     ensures { IfOk result (λ marks. AreSettled asks.now marks.items) }
@@ -32,7 +32,7 @@ pub(crate) fn settled_of(alloc: Global, asks: &[Link]) -> Result<Vec<bool>, Allo
     Ok(marks)
 }
 
-// Marks a form if all that it asks for is marked: whether it wasn't before.
+// Marks a form if all its dependencies are marked. Returns whether the form is newly marked.
 fn settle(link: Link, marks: &mut [bool], number: u32) -> bool
     requires fits { LinkFits (length marks.old) link }
     requires within { number < length marks.old }
@@ -49,7 +49,7 @@ fn settle(link: Link, marks: &mut [bool], number: u32) -> bool
     true
 }
 
-/// A form that a link goes by and that isn't marked, if there is one.
+/// Returns a dependency of a link that isn't marked, if there is one.
 pub(crate) fn left_part(link: Link, marks: &[bool]) -> Option<u32>
     requires { LinkFits (length marks.now) link }
     ensures { MatchOption result (AllMarked marks.now link) (IsLeft marks.now link) }
@@ -75,9 +75,9 @@ pub(crate) fn left_part(link: Link, marks: &[bool]) -> Option<u32>
     }
 }
 
-/// The first form that isn't marked, if there is one.
+/// Returns the first form that isn't marked, if there is one.
 pub(crate) fn unmarked(marks: &[bool]) -> Option<u32>
-    requires { length marks.now ≤ most_forms }
+    requires { length marks.now ≤ max_forms }
     ensures { MatchOption result ((number : ℕ) → number < length marks.now → is_marked marks.now number ≡ true)
         (λ number. (number < length marks.now) × (is_marked marks.now number ≡ false)) }
 {

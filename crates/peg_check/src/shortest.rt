@@ -1,4 +1,4 @@
-//! The shortest left cycle from a rule, and of these the one whose rule numbers are least in order.
+//! The shortest left cycle from a rule. Of several, it is the one with the smallest rule numbers in order.
 ghost use Rattle.std.specs.Prelude.{◌≡◌, ℕ, ◌+◌, ◌<◌, ◌≤◌, ⊤, All, length, IfOk, OnOk, MatchOption};
 ghost use Rattle.peg_core.specs.CoreLoops.{CoreMeetsFirst};
 ghost use Rattle.peg_core.specs.Layout.{bodies_of, Desugared};
@@ -12,16 +12,18 @@ use crate::met::met_by;
 use peg_core::Core;
 use std::alloc::{AllocError, Global};
 
-/// A rule that a search came to, and the step at whose rule it was met first.
+/// A step of a breadth-first search: the rule that was reached, and the step from which it was reached first.
 #[derive(Clone, Copy)]
 pub(crate) struct Step {
     rule: u32,
     before: u32,
 }
 
-/// The shortest left cycle from a rule on, if the search comes back to it. Rules are searched in breadth, and those
-/// that one rule meets first by their numbers: so of two paths of one length the one with lesser numbers comes first.
-/// Takes time and memory linear in the number of forms, but for the sorting of the rules that one rule meets first.
+/// Returns the shortest left cycle through a rule, if the search comes back to it. The search is breadth-first, and the
+/// rules that one rule left-calls are visited by number. So of two paths of the same length, the one with smaller
+/// numbers comes first. The contract promises a left cycle without repeated rules, not that it is the shortest.
+///
+/// Takes time and memory linear in the number of forms, apart from sorting the rules that one rule left-calls.
 pub(crate) fn shortest_cycle(
     alloc: Global,
     core: &Core,
@@ -53,7 +55,7 @@ pub(crate) fn shortest_cycle(
     Ok(None)
 }
 
-// The rules that were met first and weren't come to before are steps after this one.
+// Appends a step for each left-called rule that hasn't been reached before.
 fn add_steps(
     met: &[u32],
     rules: &mut [bool],
@@ -84,7 +86,7 @@ fn add_steps(
     Ok(())
 }
 
-// The rules from the first step to this one.
+// The rules from the first step to the step `end`.
 fn path_to(alloc: Global, steps: &[Step], end: usize) -> Result<Vec<u32>, AllocError>
     requires within { end < length steps.now }
     requires after { ComeAfter steps.now }

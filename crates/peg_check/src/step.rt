@@ -1,4 +1,4 @@
-//! One look at a form: what it can do by what is known of the forms that it goes by.
+//! One update of the known outcomes of a form, from those of its dependencies.
 ghost use Rattle.std.specs.Prelude.{◌≡◌, ◌<◌, ◌+◌, length};
 ghost use Rattle.std.specs.Bool.{OnFalse, OnTrue};
 ghost use Rattle.peg_check.specs.Links.{LinkFits};
@@ -7,7 +7,7 @@ ghost use Rattle.peg_check.specs.Steps.{looked_at, unknown_in};
 use crate::Can;
 use crate::link::{Link, judged};
 
-/// Adds what a form can do to what is known of it: whether that is more than was known.
+/// Adds the outcomes of a form that follow from its dependencies. Returns whether any of them is new.
 pub(crate) fn look_again(link: Link, cans: &mut [Can], number: u32) -> bool
     requires fits { LinkFits (length cans.old) link }
     requires within { number < length cans.old }

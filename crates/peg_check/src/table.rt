@@ -1,11 +1,11 @@
-//! The table of outcomes: what each core form can do.
+//! The table of the abstract outcomes of core forms.
 ghost use Rattle.std.specs.Prelude.{◌≡◌, ℕ, ◌<◌, ◌≤◌, List, All, Contains, length, slice_get, IfOk, Some};
 ghost use Rattle.peg_core.specs.CoreParts.{AreCoreFormsOf};
-ghost use Rattle.peg_core.specs.Layout.{most_forms};
+ghost use Rattle.peg_core.specs.Layout.{max_forms};
 ghost use Rattle.peg_check.specs.Cans.{can_of};
 ghost use Rattle.peg_check.specs.Exact.{IsExactTable, cans_of};
-ghost use Rattle.peg_ford.specs.RuleOutcomes.{AreOutcomes};
-ghost use Rattle.peg_ford.specs.Rules.{Rule};
+ghost use Rattle.peg_semantics.specs.RuleOutcomes.{AreOutcomes};
+ghost use Rattle.peg_semantics.specs.Rules.{Rule};
 
 use crate::Can;
 use crate::link::links_of;
@@ -15,14 +15,14 @@ use peg_core::Core;
 use std::alloc::{AllocError, Global};
 use std::marker::Model;
 
-// Before anything is known.
+// No outcomes.
 const UNKNOWN: Can = Can {
     nothing: false,
     something: false,
     fails: false,
 };
 
-/// What each core form of a grammar can do, by the forms' numbers.
+/// The abstract outcomes of each core form of a grammar, by number.
 #[derive(Debug, Drop)]
 pub struct Table {
     entries: Vec<Can>,
@@ -30,7 +30,7 @@ pub struct Table {
 
 impl Model for Table {
     ghost use Rattle.std.specs.Prelude.{length, map, ◌≤◌};
-    ghost use Rattle.peg_core.specs.Layout.{most_forms};
+    ghost use Rattle.peg_core.specs.Layout.{max_forms};
     ghost use Rattle.peg_check.specs.Cans.{Cans, can_of, cans_code};
 
     ghost Value = { Cans };
@@ -39,19 +39,19 @@ impl Model for Table {
 
     ghost view = { λ table. map can_of table.entries.items };
 
-    ghost invariant = { λ table. length table.entries.items ≤ most_forms };
+    ghost invariant = { λ table. length table.entries.items ≤ max_forms };
 }
 
 impl Table {
-    /// How many core forms it tells of. Takes constant time.
+    /// Returns the number of core forms. Takes constant time.
     pub fn len(&self) -> u32
         ensures count { result ≡ length self.now }
-        ensures most { result ≤ most_forms }
+        ensures most { result ≤ max_forms }
     {
         self.entries.len() as u32
     }
 
-    /// What the core form with a number can do. Takes constant time.
+    /// Returns the outcomes of the core form with a number. Takes constant time.
     pub fn of(&self, number: u32) -> Can
         requires { number < length self.now }
         ensures { slice_get self.now number ≡ Some (can_of result) }
@@ -60,13 +60,13 @@ impl Table {
     }
 }
 
-/// The table of a grammar's core forms: of each, what it can do by Ford's rules. Each of the three is found once for a
-/// form at most, and then the forms that go by that form are looked at again, so this takes time and memory linear in
-/// the number of forms.
+/// Computes the outcomes of a grammar's core forms by Ford's rules. Each of the three outcomes is added to a form at
+/// most once, and then the forms that depend on it are visited again. So this takes time and memory linear in the
+/// number of forms. The only error is a failed allocation.
 pub fn table_of(alloc: Global, core: &Core) -> Result<Table, AllocError>
     ensures exact { IfOk result (λ table. IsExactTable core.now table) }
 
-    // Of a grammar's core forms: the entries of the rules' bodies are the outcomes of the rules' expressions.
+    // For the core forms of a grammar, the entries of the rules' bodies are the outcomes of the rules' expressions.
     ensures rules { IfOk result (λ table. (rules : List Rule) → AreCoreFormsOf rules core.now
         → AreOutcomes rules (cans_of core.now.bodies table)) }
 {
@@ -85,7 +85,7 @@ pub fn table_of(alloc: Global, core: &Core) -> Result<Table, AllocError>
     Ok(Table { entries })
 }
 
-// All numbers below one, the smallest last.
+// All numbers below `count`, the smallest last.
 pub(crate) fn all_numbers(alloc: Global, count: u32) -> Result<Vec<u32>, AllocError>
     ensures all { IfOk result (λ numbers. (number : ℕ) → number < count → Contains numbers.items number) }
     ensures within { IfOk result (λ numbers. All (λ number. number < count) numbers.items) }

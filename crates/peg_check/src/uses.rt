@@ -1,6 +1,6 @@
-//! Which forms go by a form, so that they can be looked at again.
+//! Reverse dependencies: the forms that depend on a form, and are to be visited again when it changes.
 ghost use Rattle.std.specs.Prelude.{◌≡◌, ◌<◌, ◌≤◌, ◌+◌, ◌*◌, ℕ, All, Contains, length, slice_index_or, IfOk, OnOk};
-ghost use Rattle.peg_core.specs.Layout.{most_forms};
+ghost use Rattle.peg_core.specs.Layout.{max_forms};
 ghost use Rattle.peg_check.specs.Chains.{AreChains, IsUsedBy, KeepsUsers, ShowsUsers};
 ghost use Rattle.peg_check.specs.Links.{GoesBy, LinkFits};
 ghost use Rattle.peg_check.specs.declared.link.Link.{Link};
@@ -8,23 +8,23 @@ ghost use Rattle.peg_check.specs.declared.link.Link.{Link};
 use crate::link::Link;
 use std::alloc::{AllocError, Global};
 
-/// A form that goes by another one, and the entry before it of that one: entry n stands at n - 1, and 0 is none.
+/// A form that depends on another one, and the next older entry for that one. Entry n is at index n - 1, and 0 is none.
 #[derive(Clone, Copy)]
 pub(crate) struct ChainEntry {
     user: u32,
     older: u32,
 }
 
-/// For each form, the newest entry of those that go by it; and the entries of all forms.
+/// The newest entry for each form, and the entries of all forms.
 #[derive(Drop)]
 pub(crate) struct Uses {
     newest: Vec<u32>,
     entries: Vec<ChainEntry>,
 }
 
-/// Which forms go by each form, two entries a form at most.
+/// Returns the reverse dependencies of links. A link adds at most two entries.
 pub(crate) fn uses_of(alloc: Global, links: &[Link]) -> Result<Uses, AllocError>
-    requires few { length links.now ≤ most_forms }
+    requires few { length links.now ≤ max_forms }
     requires fit { (user : ℕ) (d : Link) → user < length links.now
         → LinkFits (length links.now) (slice_index_or links.now user d) }
     ensures chains { IfOk result (λ uses. AreChains (length links.now) uses) }
@@ -41,12 +41,12 @@ pub(crate) fn uses_of(alloc: Global, links: &[Link]) -> Result<Uses, AllocError>
 }
 
 impl Uses {
-    // The user goes by the forms of its link.
+    // Adds an entry for each dependency of a link.
     fn add_link(&mut self, link: Link, user: u32) -> Result<(), AllocError>
         requires chains { AreChains (length self.old.newest.items) self.old }
         requires fits { LinkFits (length self.old.newest.items) link }
         requires within { user < length self.old.newest.items }
-        requires room { length self.old.entries.items + 2 ≤ 2 * most_forms }
+        requires room { length self.old.entries.items + 2 ≤ 2 * max_forms }
         ensures chains { OnOk result (AreChains (length self.old.newest.items) self.new) }
         ensures kept { OnOk result (KeepsUsers self.old self.new) }
         ensures added { OnOk result ((part : ℕ) → GoesBy link part → IsUsedBy self.new part user) }
@@ -62,12 +62,11 @@ impl Uses {
         }
     }
 
-    // The user goes by a form.
     fn add(&mut self, part: u32, user: u32) -> Result<(), AllocError>
         requires chains { AreChains (length self.old.newest.items) self.old }
         requires fits { part < length self.old.newest.items }
         requires within { user < length self.old.newest.items }
-        requires room { length self.old.entries.items < 2 * most_forms }
+        requires room { length self.old.entries.items < 2 * max_forms }
         ensures chains { OnOk result (AreChains (length self.old.newest.items) self.new) }
         ensures kept { OnOk result (KeepsUsers self.old self.new) }
         ensures added { OnOk result (IsUsedBy self.new part user) }
@@ -79,7 +78,7 @@ impl Uses {
         Ok(())
     }
 
-    /// Puts the forms that go by a form behind others.
+    /// Pushes the forms that depend on a form.
     pub(crate) fn add_users(&self, part: u32, pending: &mut Vec<u32>) -> Result<(), AllocError>
         requires chains { AreChains (length self.now.newest.items) self.now }
         requires within { part < length self.now.newest.items }

@@ -2,7 +2,7 @@
 ghost use Rattle.std.specs.Prelude.{◌≡◌, ◌↔◌, ℕ, ◌<◌, ◌≤◌, ⊤, List, length, slice_index_or, MatchOption};
 ghost use Rattle.std.specs.Prelude.{IfOk, IfErr, IsErrAnd, IsErrOf, IsOk, OnOk};
 ghost use Rattle.peg_core.specs.CoreParts.{AreCoreFormsOf};
-ghost use Rattle.peg_core.specs.Layout.{bodies_of, most_forms};
+ghost use Rattle.peg_core.specs.Layout.{bodies_of, max_forms};
 ghost use Rattle.peg_check.specs.Asks.{AreAsked};
 ghost use Rattle.peg_check.specs.Exact.{IsExactTable};
 ghost use Rattle.peg_check.specs.Links.{LinkFits};
@@ -11,8 +11,8 @@ ghost use Rattle.peg_check.specs.Verdicts.{AreWellFormed, AreWellFormedIn, HasEm
 ghost use Rattle.peg_check.specs.Verdicts.{HasNoLeftCycle, IsFaultOf, IsIllFormedBy, IsSimpleLeftCycle, NamesRules};
 ghost use Rattle.peg_check.specs.Verdicts.{TellsEmptyLoop, TellsLeftCycle};
 ghost use Rattle.peg_check.specs.declared.link.Link.{Link};
-ghost use Rattle.peg_ford.specs.Rules.{Rule};
-ghost use Rattle.peg_ford.specs.WellFormed.{IsWellFormedGrammar};
+ghost use Rattle.peg_semantics.specs.Rules.{Rule};
+ghost use Rattle.peg_semantics.specs.WellFormed.{IsWellFormedGrammar};
 
 use crate::asks::asks_of;
 use crate::components::{components_of, least_in_a_cycle};
@@ -25,8 +25,8 @@ use crate::{CheckFault, Table, table_of};
 use peg_core::Core;
 use std::alloc::{AllocError, Global};
 
-/// The core forms of a well-formed grammar (Ford 2004, section 3.6): each of them is well-formed, in as many rounds as
-/// there are forms at most.
+/// The core forms of a well-formed grammar (Ford 2004, section 3.6). Each of them is well-formed in at most as many
+/// rounds as there are forms.
 #[derive(Debug, Drop)]
 pub struct Checked {
     core: Core,
@@ -34,7 +34,7 @@ pub struct Checked {
 }
 
 impl Checked {
-    /// The core forms. Takes constant time.
+    /// Returns the core forms. Takes constant time.
     pub fn core(&self) -> &Core
         ensures { result.now ≡ self.now.core }
     {
@@ -42,10 +42,13 @@ impl Checked {
     }
 }
 
-/// Checks that each core form is well-formed (Ford 2004, section 3.6), or says why not: the first empty loop in written
-/// order, an expression before its parts; else the shortest left cycle from the least rule that lies on one, and of
-/// these the one whose rule numbers are least in order. Takes time and memory linear in the number of forms, but for
-/// the sorting of the rules that one rule meets first.
+/// Checks that each core form is well-formed (Ford 2004, section 3.6). The error names the first empty loop in written
+/// order, where an expression comes before its parts. If there is none, it names the shortest left cycle from the
+/// smallest rule on a left cycle. Of several, it names the one with the smallest rule numbers in order. The contract
+/// promises an empty loop or a left cycle without repeated rules, not this choice. The error is `Memory` if an
+/// allocation fails.
+///
+/// Takes time and memory linear in the number of forms, apart from sorting the rules that one rule left-calls.
 pub fn check(alloc: Global, core: Core) -> Result<Checked, CheckFault>
     ensures accepted { IfOk result (λ checked. checked.core ≡ core) }
     ensures well_formed { OnOk result (AreWellFormed core) }
@@ -53,8 +56,8 @@ pub fn check(alloc: Global, core: Core) -> Result<Checked, CheckFault>
     ensures refused { IfErr result (IsFaultOf core) }
     ensures named { IfErr result (NamesRules (length core.bodies)) }
 
-    // What is accepted has no empty loop and no left cycle; and each answer but want of memory comes exactly where it
-    // is the right one.
+    // An accepted grammar has no empty loop and no left cycle. Unless an allocation fails, each result is returned
+    // exactly if it is true.
     ensures no_empty_loop { OnOk result (HasNoEmptyLoop core) }
     ensures no_left_cycle { OnOk result (HasNoLeftCycle core) }
     ensures accepted_where { ¬ IsErrOf result CheckFault.Memory → (IsOk result ↔ AreWellFormed core) }
@@ -63,7 +66,7 @@ pub fn check(alloc: Global, core: Core) -> Result<Checked, CheckFault>
     ensures left_cycle_where { ¬ IsErrOf result CheckFault.Memory
         → (IsErrAnd result TellsLeftCycle ↔ (HasNoEmptyLoop core × ¬ AreWellFormed core)) }
 
-    // Of a grammar's core forms, what is said is true of the grammar as written.
+    // For the core forms of a grammar, the result is true of the grammar as written.
     ensures grammar { (rules : List Rule) → AreCoreFormsOf rules core → OnOk result (IsWellFormedGrammar rules) }
     ensures grammar_refused { (rules : List Rule) → AreCoreFormsOf rules core → IfErr result (IsIllFormedBy rules) }
 {
@@ -71,7 +74,7 @@ pub fn check(alloc: Global, core: Core) -> Result<Checked, CheckFault>
     Ok(Checked { core })
 }
 
-// Nothing, if each core form is well-formed, and else why not.
+// Succeeds if each core form is well-formed, and returns the reason otherwise.
 fn judge(alloc: Global, core: &Core) -> Result<(), CheckFault>
     ensures well_formed { OnOk result (AreWellFormedIn (length core.now.forms) core.now) }
     ensures refused { IfErr result (IsFaultOf core.now) }
@@ -88,7 +91,7 @@ fn judge(alloc: Global, core: &Core) -> Result<(), CheckFault>
     }
 }
 
-// A left cycle, if not all forms are well-formed.
+// A left cycle, unless all forms are well-formed.
 fn left_cycle(alloc: Global, core: &Core, table: &Table) -> Result<Option<Vec<u32>>, AllocError>
     requires table { IsExactTable core.now table.now }
     requires loops { NoneLoops core.now }
@@ -110,11 +113,11 @@ fn left_cycle(alloc: Global, core: &Core, table: &Table) -> Result<Option<Vec<u3
     }
 }
 
-// The shortest left cycle from the least rule that lies on one, if the search for it finds one.
+// The shortest left cycle from the smallest rule on one, if the search finds one.
 fn least_cycle(alloc: Global, core: &Core, asks: &[Link]) -> Result<Option<Vec<u32>>, AllocError>
     requires asked { AreAsked core.now asks.now }
     requires count { length asks.now ≡ length core.now.forms }
-    requires few { length asks.now ≤ most_forms }
+    requires few { length asks.now ≤ max_forms }
     requires fit { (user : ℕ) (d : Link) → user < length asks.now
         → LinkFits (length asks.now) (slice_index_or asks.now user d) }
     ensures { IfOk result (λ found.

@@ -1,4 +1,4 @@
-// Tables of grammars that are read from their texts, with the values that follow from Ford's rules.
+// Tables of outcomes of grammar files, with the values that follow from Ford's rules.
 use peg_check::{Can, table_of};
 use peg_core::{Core, desugar};
 use peg_grammar::Grammar;
@@ -21,7 +21,7 @@ fn can(nothing: bool, something: bool, fails: bool) -> Can {
     }
 }
 
-// The rules can do this, in order.
+// Checks the outcomes of the rules, in order.
 fn assert_rules(rt: &impl Abort, alloc: Global, file: &[u8], wanted: &[Can]) -> Result<(), Fail> {
     let core = core_of(alloc, file)?;
     let table = table_of(alloc, &core)?;
@@ -33,7 +33,7 @@ fn assert_rules(rt: &impl Abort, alloc: Global, file: &[u8], wanted: &[Can]) -> 
     Ok(())
 }
 
-// It does nothing of the three.
+// None of the three outcomes is possible.
 #[test]
 fn a_rule_that_is_itself(rt: HostRuntime) -> Result<(), Fail> {
     let alloc = rt.alloc();

@@ -13,8 +13,8 @@ fn core_of(alloc: Global, file: &[u8]) -> Result<Core, Fail> {
     Ok(desugar(alloc, &grammar)?)
 }
 
-// What is said of a grammar, in short: `fine`, `loop RULE START END`, `cycle RULE ..`.
-fn said(alloc: Global, file: &[u8]) -> Result<String, Fail> {
+// The verdict on a grammar in short form: `fine`, `loop RULE START END`, `cycle RULE ..`.
+fn verdict(alloc: Global, file: &[u8]) -> Result<String, Fail> {
     match check(alloc, core_of(alloc, file)?) {
         Ok(_) => Ok(String::from_str(alloc, "fine")?),
         Err(fault) => Ok(told(alloc, &fault)?),
@@ -40,11 +40,11 @@ fn cycle(alloc: Global, path: &[u32]) -> Result<String, AllocError> {
     Ok(text)
 }
 
-// This is said of each file beside it.
-fn assert_said(rt: &impl Abort, alloc: Global, files: &[(&[u8], &str)]) -> Result<(), Fail> {
+// Checks the verdict on each file.
+fn assert_verdict(rt: &impl Abort, alloc: Global, files: &[(&[u8], &str)]) -> Result<(), Fail> {
     for (file, wanted) in files {
-        let said = said(alloc, file)?;
-        assert_eq!(rt; said.as_str(), *wanted, "of {file:?}");
+        let verdict = verdict(alloc, file)?;
+        assert_eq!(rt; verdict.as_str(), *wanted, "of {file:?}");
     }
     Ok(())
 }
@@ -59,12 +59,12 @@ fn a_rule_used_behind_what_may_give_nothing(rt: HostRuntime) -> Result<(), Fail>
         (b"A <- '' A", "cycle 0"),
         (b"A <- '' / A", "cycle 0"),
     ];
-    assert_said(&rt, rt.alloc(), files)
+    assert_verdict(&rt, rt.alloc(), files)
 }
 
 #[test]
 fn a_rule_used_behind_what_never_succeeds(rt: HostRuntime) -> Result<(), Fail> {
-    assert_said(
+    assert_verdict(
         &rt,
         rt.alloc(),
         &[(b"A <- !'' A", "fine"), (b"A <- [] A", "fine")],
@@ -73,12 +73,12 @@ fn a_rule_used_behind_what_never_succeeds(rt: HostRuntime) -> Result<(), Fail> {
 
 #[test]
 fn a_rule_used_inside_a_predicate(rt: HostRuntime) -> Result<(), Fail> {
-    assert_said(&rt, rt.alloc(), &[(b"A <- 'x' / &A", "cycle 0")])
+    assert_verdict(&rt, rt.alloc(), &[(b"A <- 'x' / &A", "cycle 0")])
 }
 
 #[test]
 fn recursion_of_an_unused_rule(rt: HostRuntime) -> Result<(), Fail> {
-    assert_said(&rt, rt.alloc(), &[(b"A <- 'a'    B <- B", "cycle 1")])
+    assert_verdict(&rt, rt.alloc(), &[(b"A <- 'a'    B <- B", "cycle 1")])
 }
 
 #[test]
@@ -90,7 +90,7 @@ fn rules_on_no_cycle_are_not_named(rt: HostRuntime) -> Result<(), Fail> {
             "cycle 2 3",
         ),
     ];
-    assert_said(&rt, rt.alloc(), files)
+    assert_verdict(&rt, rt.alloc(), files)
 }
 
 #[test]
@@ -103,7 +103,7 @@ fn the_shortest_and_least_of_several_cycles(rt: HostRuntime) -> Result<(), Fail>
             "cycle 0 1 4",
         ),
     ];
-    assert_said(&rt, rt.alloc(), files)
+    assert_verdict(&rt, rt.alloc(), files)
 }
 
 #[test]
@@ -113,10 +113,10 @@ fn stars_and_pluses_that_go_round_on_nothing(rt: HostRuntime) -> Result<(), Fail
         (b"A <- ('')+", "loop 0 5 10"),
         (b"A <- (('')?)*", "loop 0 5 13"),
     ];
-    assert_said(&rt, rt.alloc(), files)
+    assert_verdict(&rt, rt.alloc(), files)
 }
 
-// The inner star of the first gives nothing at all, so the outer one is no loop.
+// The inner star of the first file has no outcome, so the outer one is no loop.
 #[test]
 fn the_first_of_several_loops(rt: HostRuntime) -> Result<(), Fail> {
     let files: &[(&[u8], &str)] = &[
@@ -126,7 +126,7 @@ fn the_first_of_several_loops(rt: HostRuntime) -> Result<(), Fail> {
         (b"A <- (('a'?)*)+", "loop 0 6 13"),
         (b"A <- ''*\nB <- ''*", "loop 0 5 8"),
     ];
-    assert_said(&rt, rt.alloc(), files)
+    assert_verdict(&rt, rt.alloc(), files)
 }
 
 #[test]
@@ -135,15 +135,15 @@ fn loops_where_nothing_leads(rt: HostRuntime) -> Result<(), Fail> {
         (b"A <- !(''*)", "loop 0 7 10"),
         (b"A <- [] ''*", "loop 0 8 11"),
     ];
-    assert_said(&rt, rt.alloc(), files)
+    assert_verdict(&rt, rt.alloc(), files)
 }
 
 #[test]
 fn a_loop_of_an_unused_rule_before_left_recursion(rt: HostRuntime) -> Result<(), Fail> {
-    assert_said(&rt, rt.alloc(), &[(b"A <- A\nB <- ''*", "loop 1 12 15")])
+    assert_verdict(&rt, rt.alloc(), &[(b"A <- A\nB <- ''*", "loop 1 12 15")])
 }
 
-// The core forms stay as they were.
+// The check leaves the core forms unchanged.
 #[test]
 fn what_is_checked_is_kept(rt: HostRuntime) -> Result<(), Fail> {
     let alloc = rt.alloc();

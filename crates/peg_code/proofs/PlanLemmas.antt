@@ -5,12 +5,12 @@ use Rattle.std.proofs.lemmas.List.{get_or_append_left, get_or_at}
 use Rattle.peg_core.specs.CoreForm.{CoreForm, Seq}
 use Rattle.peg_core.specs.Layout.{form_at}
 use Rattle.peg_code.specs.Code.{size}
-use Rattle.peg_code.specs.Compiled.{most_instructions}
+use Rattle.peg_code.specs.Compiled.{max_instructions}
 use Rattle.peg_code.specs.Plans.{ArePlansSoFar, counted, HaveSameCode, IsPlan, IsTight}
 use Rattle.peg_code.specs.declared.plans.Plan.{Plan}
 use Rattle.peg_code.proofs.CodeLemmas.{same-first, same-rest, same-itself, same-through}
 
--- a form that is laid itself
+-- a form that is emitted itself
 pub IsPlan-own : (forms : List CoreForm) (number count : ℕ) (plan : Plan) → plan.size ≡ counted count → plan.form ≡ number
     → counted count ≡ counted (size (form_at forms number)) → IsTight (form_at forms number) → IsPlan forms number plan
 IsPlan-own forms number count plan counts itself right tight =
@@ -21,7 +21,7 @@ IsPlan-own forms number count plan counts itself right tight =
       tight = subst (λ k. IsTight (form_at forms k)) (sym itself) tight;
     }
 
--- a form in whose place a form with its code is laid, which is that of a part
+-- a form with the same code as one of its parts, which is emitted instead
 part-plan : (forms : List CoreForm) (number part : ℕ) (of_part plan : Plan)
     → plan.size ≡ counted (size (form_at forms number)) → IsPlan forms part of_part → part < number
     → HaveSameCode (form_at forms part) (form_at forms number) → plan.form ≡ of_part.form → IsPlan forms number plan
@@ -88,6 +88,6 @@ ArePlansSoFar-push forms plans plan are here k d within =
         let last : length plans ≡ k = omega (arith, length-append plans (plan ∷ [])) in
         subst (IsPlan forms k) (sym (get_or_at plans plan [] d k last)) (subst (λ n. IsPlan forms n plan) last here)
 
--- a size within the limit is exact
-pub counted-few : (a x : ℕ) → a ≡ counted x → x ≤ most_instructions → a ≡ x
+-- a capped size within the limit is exact
+pub counted-few : (a x : ℕ) → a ≡ counted x → x ≤ max_instructions → a ≡ x
 counted-few a x p few = omega arith

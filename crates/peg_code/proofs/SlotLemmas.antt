@@ -1,4 +1,4 @@
--- Instructions whose sets stand aside.
+-- Instructions with their sets in a separate list.
 use Rattle.std.proofs.Common.{◌≡◌, ℕ, zero, suc, ◌+◌, ◌≤◌, All, List, [], ◌∷◌, ◌++◌, length, refl, ap, ◌∙◌, subst, sym, arith, length-append}
 use Rattle.std.proofs.lemmas.List.{get_or_append_left, map-append}
 use Rattle.std.proofs.lemmas.List.Elements.{All-push, All-weaker}
@@ -10,7 +10,7 @@ use Rattle.peg_code.specs.declared.packed.Slot.{Slot}
 use Rattle.peg_code.specs.declared.packed.Slot.TheVariants as slot
 use Rattle.peg_code.specs.declared.packed.Packed.TheInside.{Inside}
 
--- ---- more sets behind others
+-- ---- more sets are appended
 
 slot-more : (sets more : List ByteSet) (s : Slot) → SlotFits (length sets) s
     → unpacked_slot (sets ++ more) s ≡ unpacked_slot sets s

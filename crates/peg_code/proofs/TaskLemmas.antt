@@ -1,4 +1,4 @@
--- What tasks lead to.
+-- The code that tasks lead to.
 use Rattle.std.proofs.Common.{◌≡◌, ℕ, zero, suc, ◌+◌, ◌*◌, ◌-◌, ◌<◌, ◌≤◌, All, List, [], ◌∷◌, ◌++◌, length, get_or, refl, sym, ap, ◌∙◌, subst, arith, append_assoc, append-nil, length-append}
 use Rattle.std.proofs.lemmas.List.{get_or_append_left, get_or_at}
 use Rattle.std.proofs.lemmas.List.Elements.{All-append, All-cons}
@@ -9,7 +9,7 @@ use Rattle.peg_code.specs.Code.{code_of, size}
 use Rattle.peg_code.specs.Instructions.{Instruction, Commit, FailTwice}
 use Rattle.peg_code.specs.Instructions as machine
 use Rattle.peg_code.specs.Instrs.{instruction_of}
-use Rattle.peg_code.specs.Compiled.{most_instructions}
+use Rattle.peg_code.specs.Compiled.{max_instructions}
 use Rattle.peg_code.specs.Plans.{counted, HaveSameCode}
 use Rattle.peg_code.specs.Tasks.{Adds, after, after_all, DoesTask, TaskFits, weight, weight_of_all}
 use Rattle.peg_code.specs.declared.instr.Instr.{Instr}
@@ -31,7 +31,7 @@ pub weight_of_all-append : (forms : List CoreForm) (below more : List Task)
 weight_of_all-append forms [] more = omega arith
 weight_of_all-append forms (task ∷ below) more = omega (arith, weight_of_all-append forms below more)
 
--- no task takes code away
+-- no task removes code
 longer : (forms : List CoreForm) (code : List Instruction) (task : Task) → length code ≤ length (after forms code task)
 longer forms code (Form number) = omega (arith, length-append code (code_of (form_at forms number) (length code)))
 longer forms code (Put i) = omega (arith, length-append code (instruction_of i ∷ []))
@@ -47,7 +47,7 @@ pub length-after : (forms : List CoreForm) (code : List Instruction) (number : �
 length-after forms code number =
     omega (arith, length-append code (code_of (form_at forms number) (length code)), length-code_of (form_at forms number) (length code))
 
--- a form with the same code is laid in the place of another
+-- a form with the same code may be emitted instead
 pub after-same : (forms : List CoreForm) (code : List Instruction) (number other : ℕ)
     → HaveSameCode (form_at forms other) (form_at forms number)
     → after forms code (Form other) ≡ after forms code (Form number)
@@ -96,12 +96,12 @@ laid-choice forms code first rest second end =
     ∙ (append_assoc code (machine.Choice second ∷ (A ++ Commit end ∷ [])) (code_of R (length code + size F + 2))
     ∙ ap (λ (x : List Instruction). code ++ (machine.Choice second ∷ x)) (append_assoc A (Commit end ∷ []) (code_of R (length code + size F + 2)))))
 
--- the code of a form that is another one
+-- the code of a form that equals another one
 as-form : (forms : List CoreForm) (code : List Instruction) (number : ℕ) (form : CoreForm) → form_at forms number ≡ form
     → code ++ code_of form (length code) ≡ after forms code (Form number)
 as-form forms code number form is = ap (λ (f : CoreForm). code ++ code_of f (length code)) (sym is)
 
--- a choice, a star and a not-predicate with the targets that they have where their code begins behind other code
+-- a choice, a star and a not-predicate, with their targets where their code starts after other code
 choice-at : (code : List Instruction) (F R : CoreForm) (second end : ℕ) → second ≡ length code + size F + 2
     → end ≡ length code + size F + size R + 2
     → code ++ (machine.Choice second ∷ (code_of F (length code + 1) ++ Commit end ∷ code_of R (length code + size F + 2)))
@@ -144,7 +144,7 @@ Adds-put forms pc number i old new is only =
       lighter = omega (arith, length-code_of (form_at forms number) 0, ap length (only 0));
     }
 
--- what holds of each of some tasks
+-- a property of each of some tasks
 all-none : (P : Task → Type 0) → All P []
 all-none P k d none = absurd (omega arith)
 
@@ -167,7 +167,7 @@ pub Adds-choice : (forms : List CoreForm) (pc number first rest a b : ℕ) (old 
     → new ≡ old ++ (Form rest ∷ Put (instr.Commit (pc + a + 2 + b)) ∷ Form first ∷ Put (instr.Choice (pc + a + 2)) ∷ [])
     → form_at forms number ≡ Choice (form_at forms first) (form_at forms rest)
     → a ≡ counted (size (form_at forms first)) → b ≡ counted (size (form_at forms rest))
-    → pc + size (form_at forms number) ≤ most_instructions
+    → pc + size (form_at forms number) ≤ max_instructions
     → first < length forms → rest < length forms → Adds forms pc (Form number) old new
 Adds-choice forms pc number first rest a b old new is form counts_first counts_rest room below_first below_rest =
     let P : Task → Type 0 = TaskFits (length forms) in
@@ -195,7 +195,7 @@ round-fits forms part end last below =
 pub Adds-star : (forms : List CoreForm) (pc number part a : ℕ) (origin : Extent) (old new : List Task)
     → new ≡ old ++ (Put (instr.Commit pc) ∷ Form part ∷ Put (instr.Choice (pc + a + 2)) ∷ [])
     → form_at forms number ≡ Star (form_at forms part) origin
-    → a ≡ counted (size (form_at forms part)) → pc + size (form_at forms number) ≤ most_instructions
+    → a ≡ counted (size (form_at forms part)) → pc + size (form_at forms number) ≤ max_instructions
     → part < length forms → Adds forms pc (Form number) old new
 Adds-star forms pc number part a origin old new is form counts room below =
     let P = form_at forms part in
@@ -211,7 +211,7 @@ Adds-star forms pc number part a origin old new is form counts room below =
 pub Adds-not : (forms : List CoreForm) (pc number part a : ℕ) (old new : List Task)
     → new ≡ old ++ (Put instr.FailTwice ∷ Form part ∷ Put (instr.Choice (pc + a + 2)) ∷ [])
     → form_at forms number ≡ Not (form_at forms part)
-    → a ≡ counted (size (form_at forms part)) → pc + size (form_at forms number) ≤ most_instructions
+    → a ≡ counted (size (form_at forms part)) → pc + size (form_at forms number) ≤ max_instructions
     → part < length forms → Adds forms pc (Form number) old new
 Adds-not forms pc number part a old new is form counts room below =
     let P = form_at forms part in
@@ -235,7 +235,7 @@ DoesTask-put forms old new tasks i put =
       lighter = omega arith;
     }
 
--- a form is laid by the tasks of a form with the same code
+-- a form is emitted by the tasks of a form with the same code
 pub DoesTask-form : (forms : List CoreForm) (code : List Instruction) (old new : List Task) (number form : ℕ)
     → HaveSameCode (form_at forms form) (form_at forms number) → Adds forms (length code) (Form form) old new
     → DoesTask forms (Form number) code old code new
@@ -258,7 +258,7 @@ module _ (forms : List CoreForm) (tasks rest : List Task) (task : Task) (taken :
   pub last-laid : (code : List Instruction) → after_all forms (after forms code task) rest ≡ after_all forms code tasks
   last-laid code = sym (after_all-append forms code rest (task ∷ [])) ∙ ap (after_all forms code) (sym taken)
 
-  -- there is room for the task where there is for all
+  -- if the code of all tasks is within the limit, so is the code of the last one
   pub last-room : (code : List Instruction) → length (after forms code task) ≤ length (after_all forms code tasks)
   last-room code = omega (arith, longer-all forms (after forms code task) rest, ap length (last-laid code))
 

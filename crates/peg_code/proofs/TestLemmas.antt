@@ -11,13 +11,13 @@ use Rattle.peg_code.specs.Code.{code_of, program_code, rules_code, size}
 use Rattle.peg_code.specs.Instructions.{Instruction, Test, Call, Ret, Choice, Commit, FailTwice, End, TestFits}
 use Rattle.peg_code.specs.Plans.{TestsFit, TestsFitSoFar}
 
--- an instruction that the code holds
+-- an instruction of the code
 pub at-fits : (P : Instruction → Type 0) (code : List Instruction) (pc : ℕ) (i : Instruction) → All P code
     → slice_get code pc ≡ Some i → P i
 at-fits P code pc i fit there =
     subst P (get_or_from_slice_get code pc i i there) (fit pc i (slice_get_within code pc i there))
 
--- the code of a part between the instruction that leaves a way back and another one
+-- the code of a part between the instruction that pushes a choice point and another one
 fit-round : (P : Instruction → Type 0) (before last : Instruction) (code : List Instruction) → P before → P last → All P code
     → All P (before ∷ (code ++ last ∷ []))
 fit-round P before last code first second fit =
@@ -51,7 +51,7 @@ fit-rules_code terminals (body ∷ more) pc fit =
     let later = rules_code more (pc + size body + 1) in
     All-append P (code_of body pc) (Ret ∷ later) (fit-code_of terminals body pc (All-head (TestsFit terminals) body more fit)) (All-cons P Ret later tt (fit-rules_code terminals more (pc + size body + 1) (All-tail (TestsFit terminals) body more fit)))
 
--- there is no form past the last one
+-- there is no form after the last one
 fit-form_at : (terminals : ℕ) (forms : List CoreForm) → TestsFitSoFar terminals forms (length forms) → (number : ℕ)
     → TestsFit terminals (form_at forms number)
 fit-form_at terminals forms fit number =

@@ -1,4 +1,4 @@
--- Code of grammars worked by hand, to compare the definitions with.
+-- Grammars compiled by hand, to compare the definitions with.
 use Rattle.std.specs.Prelude.{ℕ, List, [], ◌∷◌}
 use Rattle.peg_bytes.specs.ByteSet.{only, all_bytes}
 use Rattle.peg_code.specs.Instructions.{Instruction, Test, Call, Ret, Choice, Commit, FailTwice, End}

@@ -1,4 +1,4 @@
--- Describes code: instructions and programs as data, as the views of types in code ask for it.
+-- Describes code: instructions and programs encoded as data, which the views of types in code need.
 use Rattle.std.specs.Prelude.{◌≡◌, ℕ, zero, suc, List, [], refl}
 use Rattle.std.specs.Coded.{Coded, code_by, coded×, coded_ℕ, coded_bool, coded_list}
 use Rattle.peg_bytes.specs.ByteSet.{Bytes}
@@ -7,7 +7,7 @@ use Rattle.peg_core.specs.Layout.{Desugared}
 use Rattle.peg_code.specs.Compiled.{Compiled}
 use Rattle.peg_code.specs.Instructions.{Instruction, Test, Call, Ret, Choice, Commit, FailTwice, End}
 
--- which instruction it is, by a number, with its set and its number, where it has them
+-- the number of the kind of an instruction, its set, and its number; the set or the number is empty where it has none
 abbrev pub InstructionItem : Type 0
 InstructionItem = ℕ × (Bytes × ℕ)
 

@@ -4,7 +4,7 @@ pub use Rattle.peg_check.specs.Verdicts
 pub use Rattle.peg_core.specs.CoreExamples
 pub use Rattle.peg_core.specs.CoreForm
 pub use Rattle.peg_core.specs.Layout
-pub use Rattle.peg_ford.specs.Grammar
+pub use Rattle.peg_semantics.specs.Grammar
 pub mod Code
 pub mod CodeExamples
 pub mod Compiled

@@ -1,4 +1,4 @@
--- Describes code: which instruction an `Op` is.
+-- Describes code: the instruction that an `Op` denotes.
 use Rattle.peg_bytes.specs.ByteSet.{bytes_of}
 use Rattle.peg_code.specs.Instructions.{Instruction, Test, Call, Ret, Choice, Commit, FailTwice, End}
 use Rattle.peg_code.specs.declared.op.Op.{Op}

@@ -1,4 +1,4 @@
--- Describes code: what is still to be laid.
+-- Describes code: the tasks of the emitter.
 use Rattle.std.specs.Prelude.{◌≡◌, ℕ, ◌+◌, ◌*◌, ◌-◌, ◌<◌, All, List, [], ◌∷◌, ◌++◌, length}
 use Rattle.peg_core.specs.CoreForm.{CoreForm}
 use Rattle.peg_core.specs.Layout.{form_at}
@@ -8,22 +8,22 @@ use Rattle.peg_code.specs.Instrs.{instruction_of}
 use Rattle.peg_code.specs.declared.tasks.Task.{Task}
 use Rattle.peg_code.specs.declared.tasks.Task.TheVariants.{Form, Put}
 
--- the code after a task
+-- the code after a task is done
 abbrev pub after : List CoreForm → (code : List Instruction) → Task → List Instruction
 after forms code (Form number) = code ++ code_of (form_at forms number) (length code)
 after forms code (Put instr) = code ++ instruction_of instr ∷ []
 
--- the code after these tasks, the last of them first
+-- the code after all these tasks are done, the last one first
 abbrev pub after_all : List CoreForm → (code : List Instruction) → List Task → List Instruction
 after_all forms code [] = code
 after_all forms code (task ∷ later) = after forms (after_all forms code later) task
 
--- a task names one of so many forms
+-- the form of a task is one of the first `count`
 abbrev pub TaskFits : (count : ℕ) → Task → Type 0
 TaskFits count (Form number) = number < count
 TaskFits count (Put instr) = Unit {0}
 
--- more than the tasks that a task leads to
+-- a bound on the number of tasks that a task leads to, itself included
 abbrev pub weight : List CoreForm → Task → ℕ
 weight forms (Form number) = 1 + (3 * size (form_at forms number) - 2)
 weight forms (Put instr) = 1
@@ -32,7 +32,7 @@ abbrev pub weight_of_all : List CoreForm → List Task → ℕ
 weight_of_all forms [] = 0
 weight_of_all forms (task ∷ later) = weight forms task + weight_of_all forms later
 
--- the tasks of another one, which begins at this instruction, were put behind the others
+-- the tasks of a form whose code starts at `pc` were pushed
 pub record Adds (forms : List CoreForm) (pc : ℕ) (task : Task) (old new : List Task) : Type 0 where
   pub more : List Task
   pub added : new ≡ old ++ more
@@ -40,7 +40,8 @@ pub record Adds (forms : List CoreForm) (pc : ℕ) (task : Task) (old new : List
   pub fit : All (TaskFits (length forms)) more
   pub lighter : weight_of_all forms more < weight forms task
 
--- a task was begun or done: what is laid after it is what the code and the tasks lead to now, with less to be done
+-- One step of the emitter on a task. The code and the tasks after the step lead to the same code as those before it,
+-- and less work is left.
 pub record DoesTask (forms : List CoreForm) (task : Task) (old_code : List Instruction) (old : List Task)
     (new_code : List Instruction) (new : List Task) : Type 0 where
   pub laid : after_all forms new_code new ≡ after_all forms (after forms old_code task) old

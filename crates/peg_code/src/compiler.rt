@@ -1,8 +1,8 @@
-//! The compiler of core forms.
+//! The compiler from core forms to instructions.
 ghost use Rattle.std.specs.Prelude.{◌≡◌, ◌↔◌, ◌+◌, ◌<◌, ◌≤◌, length, IfOk, IsErrOf, OnOk};
 ghost use Rattle.peg_core.specs.Layout.{bodies_of};
 ghost use Rattle.peg_code.specs.Code.{entries_of, program_code};
-ghost use Rattle.peg_code.specs.Compiled.{compiled_of, IsTooLarge, most_instructions};
+ghost use Rattle.peg_code.specs.Compiled.{compiled_of, IsTooLarge, max_instructions};
 ghost use Rattle.peg_code.specs.Plans.{ArePlans, counted};
 
 use crate::packed::Packed;
@@ -13,31 +13,34 @@ use peg_check::Checked;
 use peg_core::Core;
 use std::alloc::{AllocError, Global};
 
-/// The most instructions of a program.
-pub const MOST_INSTRUCTIONS: u32 = 1_000_000;
+/// The maximum number of instructions of a program.
+pub const MAX_INSTRUCTIONS: u32 = 1_000_000;
 
-/// Compiles the core forms of a well-formed grammar. The instructions are counted before any of them is laid. Takes
-/// time and memory linear in the number of forms and instructions, and in the number of forms where the code is too
-/// large.
+/// Compiles the core forms of a well-formed grammar into a program. The instructions are counted before any is emitted.
+/// Takes time and memory linear in the number of core forms and instructions. If the code is too large, both are linear
+/// in the number of core forms.
+///
+/// The error is `CodeTooLarge` if the code has more than `MAX_INSTRUCTIONS` instructions, and `Memory` if an
+/// allocation fails.
 pub fn compile(alloc: Global, checked: Checked) -> Result<Program, CodeFault>
     ensures program { IfOk result (λ program. program ≡ compiled_of checked.core) }
-    ensures within { OnOk result (length (program_code (bodies_of checked.core)) ≤ most_instructions) }
+    ensures within { OnOk result (length (program_code (bodies_of checked.core)) ≤ max_instructions) }
 
-    // Want of memory aside, the code is too large exactly where it has more instructions.
+    // Unless an allocation fails, `CodeTooLarge` is returned exactly if there are more instructions than the limit.
     ensures too_large { IsErrOf result CodeFault.CodeTooLarge → IsTooLarge checked.core }
     ensures too_large_where { ¬ IsErrOf result CodeFault.Memory
         → (IsErrOf result CodeFault.CodeTooLarge ↔ IsTooLarge checked.core) }
 {
     let plans = plans_of(alloc, checked.core())?;
     let count = count_of(checked.core(), &plans);
-    if count > MOST_INSTRUCTIONS {
+    if count > MAX_INSTRUCTIONS {
         return Err(CodeFault::CodeTooLarge);
     }
     let Code { instrs, entries } = lay_rules(alloc, checked.core(), &plans, count)?;
     Ok(Program::new(checked, instrs, entries))
 }
 
-// How many instructions the rules take, or one more than the limit.
+// The number of instructions of all rules, capped at one more than the limit.
 fn count_of(core: &Core, plans: &[Plan]) -> u32
     requires plans { ArePlans core.now.forms plans.now }
     ensures { result ≡ counted (length (program_code (bodies_of core.now))) }
@@ -45,22 +48,22 @@ fn count_of(core: &Core, plans: &[Plan]) -> u32
     let mut total = 1;
     for rule in 0..core.rules() {
         let size = plans[core.body(rule) as usize].size;
-        total = (total + size + 1).min(MOST_INSTRUCTIONS + 1);
+        total = (total + size + 1).min(MAX_INSTRUCTIONS + 1);
     }
     total
 }
 
-// Instructions, and the first one of each rule.
+// The instructions, and the first instruction of each rule.
 #[derive(Drop)]
 struct Code {
     instrs: Packed,
     entries: Vec<u32>,
 }
 
-// The code of the rules, one after the other, with memory for so many instructions.
+// Emits the code of the rules one after the other. Memory for `count` instructions is reserved first.
 fn lay_rules(alloc: Global, core: &Core, plans: &[Plan], count: u32) -> Result<Code, AllocError>
     requires plans { ArePlans core.now.forms plans.now }
-    requires few { length (program_code (bodies_of core.now)) ≤ most_instructions }
+    requires few { length (program_code (bodies_of core.now)) ≤ max_instructions }
     ensures code { IfOk result (λ code. code.instrs ≡ program_code (bodies_of core.now)) }
     ensures entries { IfOk result (λ code. code.entries.items ≡ entries_of (bodies_of core.now)) }
 {

@@ -2,13 +2,13 @@
 use std::alloc::AllocError;
 use thiserror::Error;
 
-/// Why the core forms of a well-formed grammar aren't compiled.
+/// Why the core forms of a well-formed grammar can't be compiled.
 #[derive(Debug, Drop, Error)]
 pub enum CodeFault {
-    /// The code has over `MOST_INSTRUCTIONS` instructions.
+    /// The code has more than `MAX_INSTRUCTIONS` instructions.
     #[error("the code is too large")]
     CodeTooLarge,
-    /// Memory ran out.
+    /// An allocation failed.
     #[error("out of memory")]
     Memory,
 }

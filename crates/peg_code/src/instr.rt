@@ -1,21 +1,21 @@
 //! Instructions of the parsing machine.
 use peg_bytes::ByteSet;
 
-/// An instruction. A way back is a place to go on at, by another instruction, where what comes next fails.
+/// An instruction. A choice point is the instruction and the position to which the machine backtracks on a failure.
 #[derive(Clone, Copy, Debug, PartialEq, Eq)]
 pub enum Instr {
-    /// One byte of the set. A failed test is of this terminal.
+    /// Matches one byte of the set, or fails. A failed test is recorded for this terminal.
     Test { set: ByteSet, terminal: u32 },
-    /// The use of a rule, by its number.
+    /// Calls the rule with this number.
     Call(u32),
-    /// The end of a rule's code.
+    /// Returns from the called rule.
     Ret,
-    /// A way back to this instruction is left.
+    /// Pushes a choice point with this instruction.
     Choice(u32),
-    /// The last way back is taken away, and the run goes on at this instruction.
+    /// Removes the newest choice point and jumps to this instruction.
     Commit(u32),
-    /// The last way back is taken away, and the run fails.
+    /// Removes the newest choice point, and fails.
     FailTwice,
-    /// The end of a run.
+    /// Ends the run.
     End,
 }

@@ -1,4 +1,4 @@
-//! The code of a checked grammar: what the parsing machine runs.
+//! The compiler and the code of a checked grammar, which the parsing machine runs.
 #![tactic(auto)]
 
 mod compiler;
@@ -11,7 +11,7 @@ mod plans;
 mod program;
 mod tasks;
 
-pub use compiler::{MOST_INSTRUCTIONS, compile};
+pub use compiler::{MAX_INSTRUCTIONS, compile};
 pub use fault::CodeFault;
 pub use instr::Instr;
 pub use op::Op;

@@ -1,4 +1,4 @@
-//! Instructions as a program hands them out.
+//! Instructions as a program lends them.
 ghost use Rattle.std.specs.Prelude.{◌≡◌};
 ghost use Rattle.peg_code.specs.Instrs.{instruction_of};
 ghost use Rattle.peg_code.specs.Ops.{instruction_of_op};
@@ -6,28 +6,28 @@ ghost use Rattle.peg_code.specs.Ops.{instruction_of_op};
 use crate::Instr;
 use peg_bytes::ByteSet;
 
-/// An instruction of a program, whose set stays where the program holds it. A way back is a place to go on at, by
-/// another instruction, where what comes next fails.
+/// An instruction of a program, with the set borrowed from the program. A choice point is the instruction and the
+/// position to which the machine backtracks on a failure.
 #[derive(Clone, Copy, Debug, PartialEq, Eq)]
 pub enum Op<'a> {
-    /// One byte of the set. A failed test is of this terminal.
+    /// Matches one byte of the set, or fails. A failed test is recorded for this terminal.
     Test { set: &'a ByteSet, terminal: u32 },
-    /// The use of a rule, by its number.
+    /// Calls the rule with this number.
     Call(u32),
-    /// The end of a rule's code.
+    /// Returns from the called rule.
     Ret,
-    /// A way back to this instruction is left.
+    /// Pushes a choice point with this instruction.
     Choice(u32),
-    /// The last way back is taken away, and the run goes on at this instruction.
+    /// Removes the newest choice point and jumps to this instruction.
     Commit(u32),
-    /// The last way back is taken away, and the run fails.
+    /// Removes the newest choice point, and fails.
     FailTwice,
-    /// The end of a run.
+    /// Ends the run.
     End,
 }
 
 impl Op<'_> {
-    // The instruction with a set of its own.
+    // Copies the set.
     pub(crate) fn instr(self) -> Instr
         ensures { instruction_of result ≡ instruction_of_op self.entry }
     {

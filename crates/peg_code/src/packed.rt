@@ -1,6 +1,6 @@
-//! Instructions in little room.
+//! Instructions in compact form.
 ghost use Rattle.std.specs.Prelude.{◌≡◌, ◌<◌, ◌≤◌, [], ◌∷◌, ◌++◌, length, slice_get, IfOk, OnErr, OnOk, Some};
-ghost use Rattle.peg_code.specs.Compiled.{most_instructions};
+ghost use Rattle.peg_code.specs.Compiled.{max_instructions};
 ghost use Rattle.peg_code.specs.Instrs.{instruction_of};
 ghost use Rattle.peg_code.specs.Ops.{instruction_of_op};
 ghost use Rattle.peg_code.specs.Slots.{AddsSets, SlotFits, unpacked_slot};
@@ -10,7 +10,7 @@ use peg_bytes::ByteSet;
 use std::alloc::{AllocError, Global};
 use std::marker::Model;
 
-/// An instruction in 12 bytes, its set by its number among sets.
+/// An instruction in 12 bytes. A set is stored by its index in a list of sets.
 #[derive(Clone, Copy, Debug)]
 pub(crate) enum Slot {
     Test { set: u32, terminal: u32 },
@@ -24,7 +24,7 @@ pub(crate) enum Slot {
 
 const _: () = prove!(size_of::<Slot>() == 12);
 
-/// Instructions whose sets stand aside; a set that comes behind an equal one isn't put again.
+/// Instructions, with their sets in a separate list. A set that equals the last one of the list isn't stored again.
 #[derive(Debug, Drop)]
 pub(crate) struct Packed {
     slots: Vec<Slot>,
@@ -49,7 +49,7 @@ impl Model for Packed {
 }
 
 impl Packed {
-    /// No instructions, with memory for so many.
+    /// Returns an empty list with memory for `capacity` instructions.
     pub(crate) fn with_capacity(alloc: Global, capacity: usize) -> Result<Packed, AllocError>
         ensures { IfOk result (λ code. code ≡ []) }
     {
@@ -59,26 +59,26 @@ impl Packed {
         })
     }
 
-    /// How many instructions there are. Takes constant time.
+    /// Returns the number of instructions. Takes constant time.
     pub(crate) fn len(&self) -> usize
         ensures { result ≡ length self.now }
     {
         self.slots.len()
     }
 
-    /// One more instruction.
+    /// Appends an instruction. The only error is a failed allocation.
     pub(crate) fn push(&mut self, instr: Instr) -> Result<(), AllocError>
-        requires { length self.old < most_instructions }
+        requires { length self.old < max_instructions }
         ensures { OnOk result (self.new ≡ self.old ++ instruction_of instr ∷ []) }
     {
-        // There is room for it first, so that no set is put without its instruction.
+        // Reserves the slot first, so that a failed allocation leaves no set without its instruction.
         self.slots.reserve(1)?;
         let slot = slot_of(&mut self.sets, instr)?;
         self.slots.push(slot)?;
         Ok(())
     }
 
-    /// The instruction with a number. Takes constant time.
+    /// Returns the instruction with a number. Takes constant time.
     pub(crate) fn op(&self, pc: u32) -> Op<'_>
         requires { pc < length self.now }
         ensures { slice_get self.now pc ≡ Some (instruction_of_op result) }
@@ -98,9 +98,9 @@ impl Packed {
     }
 }
 
-// An instruction whose set is among sets, where it is put if it has to be.
+// The slot of an instruction. Its set is appended to `sets` unless the last set is equal.
 fn slot_of(sets: &mut Vec<ByteSet>, instr: Instr) -> Result<Slot, AllocError>
-    requires { length sets.old.items ≤ most_instructions }
+    requires { length sets.old.items ≤ max_instructions }
     ensures added { OnOk result (AddsSets sets.old.items sets.new.items) }
     ensures unchanged { OnErr result (sets.new.items ≡ sets.old.items) }
     ensures fits { IfOk result (λ slot. SlotFits (length sets.new.items) slot) }
@@ -120,9 +120,9 @@ fn slot_of(sets: &mut Vec<ByteSet>, instr: Instr) -> Result<Slot, AllocError>
     })
 }
 
-// The number of a set among others, where it is put unless it is the last of them.
+// The index of a set, which is appended unless the last set is equal.
 fn number_of(sets: &mut Vec<ByteSet>, set: ByteSet) -> Result<u32, AllocError>
-    requires { length sets.old.items ≤ most_instructions }
+    requires { length sets.old.items ≤ max_instructions }
     ensures added { OnOk result (AddsSets sets.old.items sets.new.items) }
     ensures unchanged { OnErr result (sets.new.items ≡ sets.old.items) }
     ensures number { IfOk result (λ number. slice_get sets.new.items number ≡ Some set) }

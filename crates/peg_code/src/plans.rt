@@ -1,22 +1,23 @@
-//! What is known of the code of core forms before any of it is laid.
+//! The sizes of the code of core forms, computed before any code is emitted.
 ghost use Rattle.std.specs.Prelude.{◌≡◌, ◌+◌, ◌<◌, ◌≤◌, length, IfOk, OnOk};
 ghost use Rattle.peg_core.specs.Layout.{form_at};
-ghost use Rattle.peg_code.specs.Compiled.{most_instructions};
+ghost use Rattle.peg_code.specs.Compiled.{max_instructions};
 ghost use Rattle.peg_code.specs.Plans.{ArePlans, ArePlansSoFar, counted, IsPlan, TestsFit, TestsFitSoFar};
 
-use crate::MOST_INSTRUCTIONS;
+use crate::MAX_INSTRUCTIONS;
 use peg_core::{Core, Node};
 use std::alloc::{AllocError, Global};
 
-/// How many instructions a core form takes, or one more than the limit; and the form to lay in its place, which has the
-/// same code. That is no sequence with an empty part, so that laying takes as many steps as there are instructions.
+/// The size of a core form's code, and the form to emit in its place. The size is in instructions, capped at one more
+/// than the limit. The form to emit has the same code, and is no sequence with an empty part. So emitting code takes a
+/// number of steps linear in the number of instructions.
 #[derive(Clone, Copy)]
 pub(crate) struct Plan {
     pub(crate) size: u32,
     pub(crate) form: u32,
 }
 
-/// The plan of each form. Takes time and memory linear in the number of forms.
+/// Returns the plan of each form. Takes time and memory linear in the number of forms.
 pub(crate) fn plans_of(alloc: Global, core: &Core) -> Result<Vec<Plan>, AllocError>
     ensures plans { IfOk result (λ plans. ArePlans core.now.forms plans.items) }
     ensures tests { OnOk result (TestsFitSoFar (length core.now.spans) core.now.forms (length core.now.forms)) }
@@ -29,7 +30,7 @@ pub(crate) fn plans_of(alloc: Global, core: &Core) -> Result<Vec<Plan>, AllocErr
     Ok(plans)
 }
 
-// The plan of the next form.
+// The plan of a form, from the plans of the forms before it.
 fn plan_of(core: &Core, number: u32, plans: &[Plan]) -> Plan
     requires within { number < length core.now.forms }
     requires next { number ≡ length plans.now }
@@ -52,21 +53,21 @@ fn plan_of(core: &Core, number: u32, plans: &[Plan]) -> Plan
     }
 }
 
-// A form that is laid itself, of this size.
+// The plan of a form that is emitted itself.
 fn own_plan(number: u32, size: u32) -> Plan
     ensures size { result.size ≡ counted size }
     ensures form { result.form ≡ number }
 {
     Plan {
-        size: size.min(MOST_INSTRUCTIONS + 1),
+        size: size.min(MAX_INSTRUCTIONS + 1),
         form: number,
     }
 }
 
-// A sequence: where a part is empty, the other one is laid.
+// The plan of a sequence. If a part has no code, the other part is emitted instead.
 fn sequence_plan(number: u32, first: Plan, rest: Plan) -> Plan
-    requires first { first.size ≤ most_instructions + 1 }
-    requires rest { rest.size ≤ most_instructions + 1 }
+    requires first { first.size ≤ max_instructions + 1 }
+    requires rest { rest.size ≤ max_instructions + 1 }
     ensures size { result.size ≡ counted (first.size + rest.size) }
     ensures empty_first { first.size ≡ 0 → result.form ≡ rest.form }
     ensures empty_rest { 0 < first.size → rest.size ≡ 0 → result.form ≡ first.form }

@@ -1,11 +1,11 @@
 //! The program of a checked grammar.
 ghost use Rattle.std.specs.Prelude.{◌≡◌, ◌<◌, ◌≤◌, All, length, slice_get, Some};
 ghost use Rattle.peg_bytes.specs.Extent.{extent};
-ghost use Rattle.peg_ford.specs.Grammar.{most_parts};
+ghost use Rattle.peg_semantics.specs.Grammar.{max_parts};
 ghost use Rattle.peg_core.specs.Layout.{bodies_of};
 ghost use Rattle.peg_check.specs.Verdicts.{AreWellFormedIn};
 ghost use Rattle.peg_code.specs.Code.{entries_of, program_code};
-ghost use Rattle.peg_code.specs.Compiled.{compiled_of, most_instructions};
+ghost use Rattle.peg_code.specs.Compiled.{compiled_of, max_instructions};
 ghost use Rattle.peg_code.specs.Instrs.{instruction_of};
 ghost use Rattle.peg_code.specs.Instructions.{TestFits};
 ghost use Rattle.peg_code.specs.Ops.{instruction_of_op};
@@ -41,11 +41,11 @@ impl Model for Program {
 }
 
 impl Program {
-    // The program of these core forms, laid already.
+    // Joins core forms and their code.
     pub(crate) fn new(checked: Checked, code: Packed, entries: Vec<u32>) -> Program
         requires code { code ≡ program_code (bodies_of checked.core) }
         requires entries { entries.items ≡ entries_of (bodies_of checked.core) }
-        requires few { length code ≤ most_instructions }
+        requires few { length code ≤ max_instructions }
         requires tests { All (TestFits (length checked.core.spans)) code }
         ensures { result ≡ compiled_of checked.core }
     {
@@ -56,8 +56,8 @@ impl Program {
         }
     }
 
-    /// The core forms that it was compiled from, which are well-formed; the program is their layout. Takes constant
-    /// time.
+    /// Returns the core forms that the program was compiled from. They are well-formed, and the program is the code
+    /// that the definition `compiled_of` gives them. Takes constant time.
     pub fn core(&self) -> &Core
         ensures core { result.now ≡ self.now.core }
         ensures layout { self.now ≡ compiled_of self.now.core }
@@ -66,15 +66,15 @@ impl Program {
         self.checked.core()
     }
 
-    /// How many instructions there are. Takes constant time.
+    /// Returns the number of instructions. Takes constant time.
     pub fn len(&self) -> u32
         ensures count { result ≡ length self.now.code }
-        ensures most { result ≤ most_instructions }
+        ensures most { result ≤ max_instructions }
     {
         self.code.len() as u32
     }
 
-    /// The instruction with a number. Takes constant time.
+    /// Returns the instruction with a number. Takes constant time.
     pub fn instr(&self, pc: u32) -> Instr
         requires { pc < length self.now.code }
         ensures { slice_get self.now.code pc ≡ Some (instruction_of result) }
@@ -82,7 +82,7 @@ impl Program {
         self.op(pc).instr()
     }
 
-    /// The instruction with a number, whose set stays in the program. Takes constant time.
+    /// Returns the instruction with a number, with its set borrowed from the program. Takes constant time.
     pub fn op(&self, pc: u32) -> Op<'_>
         requires { pc < length self.now.code }
         ensures instruction { slice_get self.now.code pc ≡ Some (instruction_of_op result) }
@@ -91,7 +91,7 @@ impl Program {
         self.code.op(pc)
     }
 
-    /// The first instruction of a rule. Takes constant time.
+    /// Returns the first instruction of a rule. Takes constant time.
     pub fn entry(&self, rule: u32) -> u32
         requires { rule < length self.now.core.bodies }
         ensures number { slice_get self.now.entries rule ≡ Some result }
@@ -100,24 +100,24 @@ impl Program {
         self.entries[rule as usize]
     }
 
-    /// How many rules there are. Takes constant time.
+    /// Returns the number of rules. Takes constant time.
     pub fn rules(&self) -> u32
         ensures count { result ≡ length self.now.core.bodies }
         ensures entries { result ≡ length self.now.entries }
-        ensures most { result ≤ most_parts }
+        ensures most { result ≤ max_parts }
     {
         self.checked.core().rules()
     }
 
-    /// How many terminals the rules write. Takes constant time.
+    /// Returns the number of terminals in the rules. Takes constant time.
     pub fn terminals(&self) -> u32
         ensures count { result ≡ length self.now.core.spans }
-        ensures most { result ≤ most_parts }
+        ensures most { result ≤ max_parts }
     {
         self.core().terminals()
     }
 
-    /// Where a terminal stands in the grammar file. Takes constant time.
+    /// Returns the span of a terminal in the grammar file, in byte offsets. Takes constant time.
     pub fn terminal_span(&self, terminal: u32) -> Span
         requires { terminal < length self.now.core.spans }
         ensures { slice_get self.now.core.spans terminal ≡ Some (extent result) }

@@ -1,8 +1,8 @@
-//! How the code of a core form is laid, by tasks that are still to be done.
+//! Emits the code of a core form, with a stack of pending tasks in place of recursion.
 ghost use Rattle.std.specs.Prelude.{◌≡◌, ◌+◌, ◌<◌, ◌≤◌, [], ◌∷◌, ◌++◌, length, OnOk};
 ghost use Rattle.peg_core.specs.Layout.{form_at};
 ghost use Rattle.peg_code.specs.Code.{size};
-ghost use Rattle.peg_code.specs.Compiled.{most_instructions};
+ghost use Rattle.peg_code.specs.Compiled.{max_instructions};
 ghost use Rattle.peg_code.specs.Plans.{ArePlans, IsTight};
 ghost use Rattle.peg_code.specs.Tasks.{Adds, after, DoesTask, TaskFits};
 ghost use Rattle.peg_code.specs.declared.instr.Instr.TheVariants.{Choice, Commit};
@@ -14,14 +14,15 @@ use crate::plans::Plan;
 use peg_core::{Core, Node};
 use std::alloc::{AllocError, Global};
 
-/// A form whose code is to be laid, by its number, or an instruction.
+/// A pending task: to emit the code of the form with a number, or to emit an instruction.
 #[derive(Clone, Copy)]
 pub(crate) enum Task {
     Form(u32),
     Put(Instr),
 }
 
-/// Puts the code of a form behind other code. Takes time linear in the code of the form.
+/// Appends the code of a form to other code. Takes time linear in the length of the form's code. The only error is a
+/// failed allocation.
 pub(crate) fn lay(
     alloc: Global,
     core: &Core,
@@ -31,7 +32,7 @@ pub(crate) fn lay(
 ) -> Result<(), AllocError>
     requires plans { ArePlans core.now.forms plans.now }
     requires within { number < length core.now.forms }
-    requires room { length code.old + size (form_at core.now.forms number) ≤ most_instructions }
+    requires room { length code.old + size (form_at core.now.forms number) ≤ max_instructions }
     ensures { OnOk result (code.new ≡ after core.now.forms code.old (Form number)) }
 {
     let mut tasks = Vec::new(alloc);
@@ -42,7 +43,7 @@ pub(crate) fn lay(
     Ok(())
 }
 
-// Does a task, where others are to be done after it.
+// Does one task. A form pushes the tasks for its parts.
 fn do_task(
     core: &Core,
     plans: &[Plan],
@@ -52,7 +53,7 @@ fn do_task(
 ) -> Result<(), AllocError>
     requires plans { ArePlans core.now.forms plans.now }
     requires fits { TaskFits (length core.now.forms) task }
-    requires room { length (after core.now.forms code.old task) ≤ most_instructions }
+    requires room { length (after core.now.forms code.old task) ≤ max_instructions }
     ensures { OnOk result (DoesTask core.now.forms task code.old tasks.old.items code.new tasks.new.items) }
 {
     match task {
@@ -64,7 +65,7 @@ fn do_task(
     }
 }
 
-// Puts the tasks of a form, whose code begins at an instruction, behind others: what is done first comes last.
+// Pushes the tasks of a form whose code starts at `pc`. The task to be done first is pushed last.
 fn add_tasks(
     core: &Core,
     plans: &[Plan],
@@ -75,7 +76,7 @@ fn add_tasks(
     requires plans { ArePlans core.now.forms plans.now }
     requires within { number < length core.now.forms }
     requires tight { IsTight (form_at core.now.forms number) }
-    requires room { pc + size (form_at core.now.forms number) ≤ most_instructions }
+    requires room { pc + size (form_at core.now.forms number) ≤ max_instructions }
     ensures { OnOk result (Adds core.now.forms pc (Form number) tasks.old.items tasks.new.items) }
 {
     match core.node(number) {
@@ -99,7 +100,7 @@ fn add_tasks(
     }
 }
 
-// The tasks of a choice whose second part begins at an instruction, and which ends at another.
+// The tasks of a choice. The code of the second alternative starts at `second`, and the choice ends at `end`.
 fn add_choice(
     tasks: &mut Vec<Task>,
     first: u32,
@@ -121,7 +122,7 @@ fn add_choice(
     )
 }
 
-// The tasks of a part between the instruction that leaves a way back and this last one.
+// The tasks of a star or a predicate: its part between the `Choice` and the instruction `last`.
 fn add_round(tasks: &mut Vec<Task>, part: u32, end: u32, last: Instr) -> Result<(), AllocError>
     ensures { OnOk result (tasks.new.items ≡ tasks.old.items ++ (Put last ∷ Form part ∷ Put (Choice end) ∷ [])) }
 {
@@ -135,7 +136,6 @@ fn add_round(tasks: &mut Vec<Task>, part: u32, end: u32, last: Instr) -> Result<
     )
 }
 
-// More tasks behind others.
 fn add(tasks: &mut Vec<Task>, more: &[Task]) -> Result<(), AllocError>
     ensures { OnOk result (tasks.new.items ≡ tasks.old.items ++ more.now) }
 {

@@ -1,6 +1,6 @@
-// How many instructions grammars have that are as large as they may be, and larger.
+// The number of instructions of grammars at the limit, and over it.
 use peg_check::{Checked, check};
-use peg_code::{CodeFault, MOST_INSTRUCTIONS, compile};
+use peg_code::{CodeFault, MAX_INSTRUCTIONS, compile};
 use peg_core::desugar;
 use peg_grammar::Grammar;
 use peg_notation::read;
@@ -14,7 +14,7 @@ fn checked_of(alloc: Global, file: &[u8]) -> Result<Checked, Fail> {
     Ok(check(alloc, desugar(alloc, &grammar)?)?)
 }
 
-// The number of instructions, or none where the code is too large.
+// The number of instructions, or `None` if the code is too large.
 fn count_of(alloc: Global, file: &[u8]) -> Result<Option<u32>, Fail> {
     match compile(alloc, checked_of(alloc, file)?) {
         Ok(program) => Ok(Some(program.len())),
@@ -23,7 +23,7 @@ fn count_of(alloc: Global, file: &[u8]) -> Result<Option<u32>, Fail> {
     }
 }
 
-// Puts many copies of a text behind others.
+// Appends many copies of a text.
 fn add_many(file: &mut Vec<u8>, text: &[u8], count: usize) -> Result<(), AllocError> {
     for _ in 0..count {
         file.extend_from_slice(text)?;
@@ -31,7 +31,7 @@ fn add_many(file: &mut Vec<u8>, text: &[u8], count: usize) -> Result<(), AllocEr
     Ok(())
 }
 
-// A rule of nested pluses: so many pairs of parentheses round some text, and a plus behind each.
+// A rule of nested pluses: `count` pairs of parentheses around a text, each followed by a plus.
 fn nested_pluses(alloc: Global, count: usize, inner: &[u8]) -> Result<Vec<u8>, AllocError> {
     let mut file = Vec::from_slice(alloc, b"A <- ")?;
     add_many(&mut file, b"(", count)?;
@@ -67,7 +67,7 @@ fn nested_pluses_have_twice_the_code(rt: HostRuntime) -> Result<(), Fail> {
     Ok(())
 }
 
-// 786,430 instructions of pluses, and a literal.
+// A literal after 786,430 instructions of pluses.
 fn pluses_and_a_literal(alloc: Global, bytes: usize) -> Result<Vec<u8>, AllocError> {
     let mut file = nested_pluses(alloc, 17, b"'a'+")?;
     file.extend_from_slice(b" '")?;
@@ -80,13 +80,13 @@ fn pluses_and_a_literal(alloc: Global, bytes: usize) -> Result<Vec<u8>, AllocErr
 fn the_limit_is_exact(rt: HostRuntime) -> Result<(), Fail> {
     let alloc = rt.alloc();
     let file = pluses_and_a_literal(alloc, 213_568)?;
-    assert_eq!(rt; count_of(alloc, file.as_slice())?, Some(MOST_INSTRUCTIONS));
+    assert_eq!(rt; count_of(alloc, file.as_slice())?, Some(MAX_INSTRUCTIONS));
     let longer = pluses_and_a_literal(alloc, 213_569)?;
     assert_eq!(rt; count_of(alloc, longer.as_slice())?, None);
     Ok(())
 }
 
-// Where each copy took a step for each empty expression, this would be some billions of steps.
+// If each copy took a step for each empty expression, this would take some billions of steps.
 #[test]
 fn empty_expressions_cost_nothing(rt: HostRuntime) -> Result<(), Fail> {
     let alloc = rt.alloc();

@@ -1,4 +1,4 @@
-// The code of grammars that are read from their texts. Every value that is wanted was worked out by hand.
+// The code of grammar files. The expected values were worked by hand.
 use peg_bytes::{ByteSet, Span};
 use peg_check::check;
 use peg_code::{Instr, Op, Program, compile};
@@ -32,7 +32,7 @@ fn entries_of(alloc: Global, program: &Program) -> Result<Vec<u32>, AllocError> 
     Ok(entries)
 }
 
-// The code of the rules of a file is this, and the rules begin there.
+// Checks the code of a file's rules, and their entries.
 fn assert_listing(
     rt: &impl Abort,
     alloc: Global,

@@ -1,10 +1,10 @@
-//! Runs of the command `check`: what was worked out by hand from Ford's rules for well-formed expressions.
+//! Runs of the command `check`, against results worked by hand from Ford's rules for well-formed expressions.
 use peg_tool::{Command, Device, run_tool};
 use std::alloc::{AllocError, Global};
 use std::process::Abort;
 use std::test::Fail;
 
-// Checks a file, and compares the line, without its line end, and the status.
+// Checks a file, and compares the line, without its line end, and the exit status.
 fn tells(rt: &impl Abort, alloc: Global, file: &[u8], line: &str, status: u8) -> Result<(), Fail> {
     let mut written = Vec::new(alloc);
     let ended = run_tool(
@@ -20,7 +20,7 @@ fn tells(rt: &impl Abort, alloc: Global, file: &[u8], line: &str, status: u8) ->
     Ok(())
 }
 
-// Each file is accepted, with so many rules.
+// Checks that each file is accepted, with this many rules.
 fn accepts(rt: &impl Abort, alloc: Global, files: &[(&[u8], usize)]) -> Result<(), Fail> {
     for (file, rules) in files {
         let line = format!(in alloc; "{{\"result\":\"accepted\",\"rules\":{rules}}}")?;
@@ -29,7 +29,7 @@ fn accepts(rt: &impl Abort, alloc: Global, files: &[(&[u8], usize)]) -> Result<(
     Ok(())
 }
 
-// Each file is refused, with its line.
+// Checks that each file is rejected with this line.
 fn refuses(rt: &impl Abort, alloc: Global, files: &[(&[u8], &str)]) -> Result<(), Fail> {
     for (file, line) in files {
         tells(rt, alloc, file, line, 2)?;
@@ -37,7 +37,7 @@ fn refuses(rt: &impl Abort, alloc: Global, files: &[(&[u8], &str)]) -> Result<()
     Ok(())
 }
 
-// Each file is refused for left recursion along these names.
+// Checks that each file is rejected for left recursion through these names.
 fn recurs(rt: &impl Abort, alloc: Global, files: &[(&[u8], &str)]) -> Result<(), Fail> {
     for (file, path) in files {
         let line = format!(in alloc; "{{\"path\":[{path}],\"refusal\":\"LeftRecursion\"}}")?;
@@ -46,7 +46,7 @@ fn recurs(rt: &impl Abort, alloc: Global, files: &[(&[u8], &str)]) -> Result<(),
     Ok(())
 }
 
-// Each file is refused for an empty loop of a rule, in a line and a column, from one place to another.
+// Checks that each file is rejected for an empty loop of a rule, at this line, column and span.
 fn loops(
     rt: &impl Abort,
     alloc: Global,
@@ -175,7 +175,7 @@ fn files_and_grammars_are_refused_before(rt: HostRuntime) -> Result<(), Fail> {
     )
 }
 
-// A rule A of `'a'` in so many parentheses.
+// A rule A of `'a'` in `depth` parentheses.
 fn nested(alloc: Global, depth: usize) -> Result<Vec<u8>, AllocError> {
     let mut file = Vec::from_slice(alloc, b"A <- ")?;
     for _ in 0..depth {

@@ -1,11 +1,10 @@
-//! Runs of the command `code`: listings that were worked out by hand from the layout, and grammars whose code is too
-//! large.
+//! Runs of the command `code`: listings worked by hand from the layout, and grammars whose code is too large.
 use peg_tool::{Command, Device, ParseOptions, run_tool};
 use std::alloc::{AllocError, Global};
 use std::process::Abort;
 use std::test::Fail;
 
-// Runs a command on a file, and compares the line, without its line end, and the status.
+// Runs a command on a file, and compares the line, without its line end, and the exit status.
 fn tells(
     rt: &impl Abort,
     alloc: Global,
@@ -80,7 +79,7 @@ fn refused_files_have_no_code(rt: HostRuntime) -> Result<(), Fail> {
     Ok(())
 }
 
-// A rule of so many nested pluses round a byte.
+// A rule of `count` nested pluses around a byte.
 fn pluses(alloc: Global, count: u32) -> Result<String, AllocError> {
     let mut file = String::from_str(alloc, "A <- ")?;
     for _open in 1..count {

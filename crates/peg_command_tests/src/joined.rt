@@ -4,7 +4,7 @@ use std::alloc::Global;
 use std::process::Abort;
 use std::test::Fail;
 
-// Runs the tool on an input, and compares the line and the status.
+// Runs the tool on an input, and compares the line and the exit status.
 fn prints(
     rt: &impl Abort,
     alloc: Global,

@@ -1,4 +1,4 @@
-//! Tests of whole runs of the commands, of one input, and of the words of a command line.
+//! Tests of whole runs of the commands, of joined inputs, and of arguments.
 #![tactic(auto)]
 
 #[cfg(test)]

@@ -1,11 +1,11 @@
-//! What each form of expression can do over each kind of part, by Ford's rules (Ford 2004, section 3.5): 0 where it can
-//! succeed on nothing, 1 where on something, f where it can fail.
+//! The outcomes of each kind of expression over each kind of part, by Ford's rules (Ford 2004, section 3.5). 0 is
+//! success on nothing, 1 success on something, and f failure.
 use peg_tool::{Command, Device, run_tool};
 use std::alloc::{AllocError, Global};
 use std::process::Abort;
 use std::test::Fail;
 
-// Rules of which each can do something else, with what they can do.
+// One rule for each of the 8 combinations of outcomes, with its outcomes.
 const KINDS: [(&str, &str, &str); 8] = [
     ("None", "None", ""),
     ("Nothing", "''", "0"),
@@ -17,7 +17,7 @@ const KINDS: [(&str, &str, &str); 8] = [
     ("All", "'x' / !.", "01f"),
 ];
 
-// Each sign over each kind.
+// Each operator on each kind.
 const SIGNS: [(&str, &str); 40] = [
     ("None?", ""),
     ("Nothing?", "0"),
@@ -61,7 +61,7 @@ const SIGNS: [(&str, &str); 40] = [
     ("!All", "0f"),
 ];
 
-// Each kind and behind it each kind.
+// Each kind followed by each kind.
 const SEQUENCES: [(&str, &str); 64] = [
     ("None None", ""),
     ("None Nothing", ""),
@@ -129,7 +129,7 @@ const SEQUENCES: [(&str, &str); 64] = [
     ("All All", "01f"),
 ];
 
-// Each kind or else each kind.
+// Each kind or otherwise each kind.
 const CHOICES: [(&str, &str); 64] = [
     ("None / None", ""),
     ("None / Nothing", ""),
@@ -231,7 +231,7 @@ fn entry(alloc: Global, name: &str, outcomes: &str) -> Result<String, AllocError
     Ok(entry)
 }
 
-// The table of a file has these entries.
+// Checks the entries of a file's table.
 fn tells(rt: &impl Abort, alloc: Global, file: &[u8], entries: &[String]) -> Result<(), Fail> {
     let mut written = Vec::new(alloc);
     run_tool(
@@ -256,7 +256,7 @@ fn tells(rt: &impl Abort, alloc: Global, file: &[u8], entries: &[String]) -> Res
     Ok(())
 }
 
-// What these expressions can do, each as a rule R behind the rules that they use.
+// Checks the outcomes of these expressions, each as a rule R after the rules that it calls.
 fn can(rt: &impl Abort, alloc: Global, rows: &[(&str, &str)]) -> Result<(), Fail> {
     for (expression, outcomes) in rows {
         let mut file = Vec::new(alloc);

@@ -1,4 +1,4 @@
-//! What the words of a command line lead to, over files in memory.
+//! Runs of the program for its arguments, over files in memory.
 ghost use Rattle.std.specs.Prelude.{None};
 
 use peg_tool::{Device, OpenFault, Opener, ProgramFault, Status, Words, read_words, run_words};
@@ -6,7 +6,7 @@ use std::alloc::Global;
 use std::process::Abort;
 use std::test::Fail;
 
-// A few files by their names, of which one takes more memory than there is.
+// A few files by name; opening one of them runs out of memory.
 #[derive(Drop)]
 struct Shelf;
 
@@ -30,7 +30,7 @@ impl Opener for Shelf {
     }
 }
 
-// What the words of one text ask for, apart by spaces.
+// The parsed arguments of a text, separated by spaces.
 fn words_of(alloc: Global, text: &str) -> Result<Words, Fail> {
     let mut words = Vec::new(alloc);
     for word in text.split(' ') {
@@ -40,7 +40,7 @@ fn words_of(alloc: Global, text: &str) -> Result<Words, Fail> {
     Ok(asked)
 }
 
-// Does what is asked, with an input, and compares what is written and how it ends.
+// Runs the program with an input, and compares the output and the result.
 fn leads(
     rt: &impl Abort,
     alloc: Global,

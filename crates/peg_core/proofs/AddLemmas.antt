@@ -1,4 +1,4 @@
--- What the forms of parts make of the forms of the whole, form by form.
+-- The forms of a whole expression, from the forms of its parts.
 use Rattle.std.proofs.Common.{◌≡◌, ℕ, zero, suc, ◌+◌, ◌*◌, ◌<◌, ◌≤◌, Bool, true, false, ◌&&◌, List, [], ◌∷◌, ◌++◌, All, length, map, get_or, nat_lt, slice_get, position, bytes_eq, cond, not, ◌||◌, None, Some, option_map, refl, sym, ap, ◌∙◌, subst, arith, length-append, append_assoc, append-nil}
 use Rattle.std.proofs.lemmas.Bool.{lt-ltb}
 use Rattle.std.proofs.lemmas.Bool.Decides.{nat_tests}
@@ -9,24 +9,24 @@ use Rattle.std.proofs.lemmas.List.Folds.{list_all-append}
 use Rattle.peg_bytes.specs.ByteSet.{all_bytes, bytes_of, has, only}
 use Rattle.peg_bytes.specs.Extent.{Extent}
 use Rattle.peg_bytes.specs.declared.byte_set.ByteSet.{ByteSet}
-use Rattle.peg_ford.specs.Form.{Form, Forms, Literal, Class, Any, Name, Optional, Plus, Counted, And, End, Then, Reference, Count, terminals, counts_written, counts_written_by_all, form_weight, forms_weight, names_used, names_used_by_all}
-use Rattle.peg_ford.specs.Form as written
-use Rattle.peg_ford.specs.Grammar.{greatest_count, is_in_range}
-use Rattle.peg_ford.specs.Rules.{is_defined, names, meant}
-use Rattle.peg_ford.specs.Rules as grammar
-use Rattle.peg_ford.specs.Terminals.{terminal_extents, terminal_extents_of_all}
-use Rattle.peg_ford.specs.Numbers.{first_from}
-use Rattle.peg_ford.proofs.RulesLemmas.{terminals-weight, position-within, meant-position, meaning}
-use Rattle.peg_ford.proofs.TerminalLemmas.{length-terminal_extents}
+use Rattle.peg_semantics.specs.Form.{Form, Forms, Literal, Class, Any, Name, Optional, Plus, Counted, And, End, Then, Reference, Count, terminals, counts_written, counts_written_by_all, form_weight, forms_weight, names_used, names_used_by_all}
+use Rattle.peg_semantics.specs.Form as written
+use Rattle.peg_semantics.specs.Grammar.{greatest_count, is_in_range}
+use Rattle.peg_semantics.specs.Rules.{is_defined, names, meant}
+use Rattle.peg_semantics.specs.Rules as grammar
+use Rattle.peg_semantics.specs.Terminals.{terminal_extents, terminal_extents_of_all}
+use Rattle.peg_semantics.specs.Numbers.{first_from}
+use Rattle.peg_semantics.proofs.RulesLemmas.{terminals-weight, position-within, meant-position, meaning}
+use Rattle.peg_semantics.proofs.TerminalLemmas.{length-terminal_extents}
 use Rattle.peg_core.specs.CoreForm.{CoreForm, Test, Seq, Choice, Star, Not, all_in_order, one_of, tests_of, unfolded, core_form, core_forms, number_of}
 use Rattle.peg_core.specs.CoreParts.{sequences_of, choices_of, optional_forms, plus_forms, rounds_of, count_forms, and_forms, core_parts, core_parts_of_all, are_defined, are_in_range}
 use Rattle.peg_core.specs.Laid.{Lays, LaysAll, LaysForm, LaysForms}
-use Rattle.peg_core.specs.Layout.{Layout, form_at, most_forms_each}
+use Rattle.peg_core.specs.Layout.{Layout, form_at, max_forms_each}
 use Rattle.peg_core.proofs.LaidLemmas.{Lays-then, form_at-kept, forms-kept, all_within-grown, length-sequences_of}
 use Rattle.peg_core.proofs.Meanings.{number_of-meant}
 use Rattle.peg_core.proofs.Sets.{bytes_of-all}
 
--- ---- how many core forms there are: fewer than most_forms_each for each part of the weight
+-- ---- the number of core forms: at most `max_forms_each` for each part of the weight
 
 length-tests_of : (terminal : ℕ) (bytes : List ℕ) → length (tests_of terminal bytes) ≡ length bytes
 length-tests_of terminal bytes = length-map bytes (λ byte. Test (only byte) terminal)
@@ -44,7 +44,7 @@ length-rounds_of part (suc min) (suc max) =
     omega (arith, length-append (rounds_of part min max) (unfolded part (suc min) (suc max) ∷ []), length-rounds_of part min max)
 
 length-count_forms : (part : CoreForm) (min max : ℕ) → max ≤ greatest_count
-    → length (count_forms part min max) ≤ most_forms_each
+    → length (count_forms part min max) ≤ max_forms_each
 length-count_forms part min zero few = omega arith
 length-count_forms part min (suc max) few = omega (arith, few, length-rounds_of part min (suc max))
 
@@ -56,7 +56,7 @@ and_right : (a b : Bool) → (a && b) ≡ true → b ≡ true
 and_right true b e = e
 and_right false b e = cc
 
--- counts that are in range
+-- counts in range
 pub are_in_range-left : (some more : List Count) → are_in_range (some ++ more) ≡ true → are_in_range some ≡ true
 are_in_range-left some more e =
     and_left (are_in_range some) (are_in_range more) (sym (list_all-append is_in_range some more) ∙ e)
@@ -71,7 +71,7 @@ in_range-max count e = grind (arith, nat_tests)
 module _ (rules : List grammar.Rule) where
   mutual
     pub length-core_parts : (e : Form) (terminal : ℕ) → are_in_range (counts_written e) ≡ true
-        → length (core_parts rules terminal e) + 1 ≤ most_forms_each * form_weight e
+        → length (core_parts rules terminal e) + 1 ≤ max_forms_each * form_weight e
     length-core_parts (Literal bytes span) terminal ranged =
         omega (arith, length-append (tests_of terminal bytes) (sequences_of (tests_of terminal bytes)), length-sequences_of (tests_of terminal bytes), length-tests_of terminal bytes)
     length-core_parts (Class set span) terminal ranged = omega arith
@@ -103,17 +103,17 @@ module _ (rules : List grammar.Rule) where
         omega (arith, length-core_parts part terminal ranged, length-append (core_parts rules terminal part) (Not (core_form rules terminal part) ∷ []))
 
     pub length-core_parts_of_all : (items : Forms) (terminal : ℕ) → are_in_range (counts_written_by_all items) ≡ true
-        → length (core_parts_of_all rules terminal items) + length (core_forms rules terminal items) ≤ most_forms_each * forms_weight items
+        → length (core_parts_of_all rules terminal items) + length (core_forms rules terminal items) ≤ max_forms_each * forms_weight items
     length-core_parts_of_all End terminal ranged = omega arith
     length-core_parts_of_all (Then e rest) terminal ranged =
         let later = terminal + terminals e in
         omega (arith, length-core_parts e terminal (are_in_range-left (counts_written e) (counts_written_by_all rest) ranged), length-core_parts_of_all rest later (are_in_range-right (counts_written e) (counts_written_by_all rest) ranged), length-append (core_parts rules terminal e) (core_parts_of_all rules later rest))
 
-  -- ---- room for more
+  -- ---- the limit leaves enough for more forms
 
   pub LaysForm-room : (e : Form) (old new : Layout) (number : ℕ) → LaysForm rules e old number new
       → are_in_range (counts_written e) ≡ true
-      → length new.forms + 1 ≤ length old.forms + most_forms_each * form_weight e
+      → length new.forms + 1 ≤ length old.forms + max_forms_each * form_weight e
   LaysForm-room e old new number lays ranged =
       omega (arith, ap length lays.forms, length-append old.forms (core_parts rules (length old.spans) e), length-core_parts e (length old.spans) ranged)
 
@@ -129,7 +129,7 @@ module _ (rules : List grammar.Rule) where
 
   pub LaysForms-room : (items : Forms) (old new : Layout) (numbers : List ℕ) → LaysForms rules items old numbers new
       → are_in_range (counts_written_by_all items) ≡ true
-      → length new.forms + length numbers ≤ length old.forms + most_forms_each * forms_weight items
+      → length new.forms + length numbers ≤ length old.forms + max_forms_each * forms_weight items
   LaysForms-room items old new numbers lays ranged =
       let t = length old.spans in
       let many : length numbers ≡ length (core_forms rules t items) = sym (length-map numbers (form_at new.forms)) ∙ ap length lays.each in
@@ -137,7 +137,7 @@ module _ (rules : List grammar.Rule) where
 
   -- ---- the whole from its parts
 
-  -- a sign on a part
+  -- an operator on a part
   pub Lays-sign : (part : Form) (old mid new : Layout) (number last : ℕ) (more : CoreForm → List CoreForm)
       (whole : CoreForm → CoreForm) → LaysForm rules part old number mid
       → Lays mid (more (form_at mid.forms number)) [] (whole (form_at mid.forms number)) last new
@@ -165,7 +165,7 @@ module _ (rules : List grammar.Rule) where
         last = seq.last;
       }
 
-  -- a choice of a first and others
+  -- a choice of a first expression and others
   pub Lays-choice : (first : Form) (rest : Forms) (span : Extent) (old mid later new : Layout) (number last : ℕ)
       (numbers : List ℕ) → LaysForm rules first old number mid → LaysForms rules rest mid numbers later
       → Lays later (choices_of (form_at later.forms number) (map (form_at later.forms) numbers)) []
@@ -199,7 +199,7 @@ module _ (rules : List grammar.Rule) where
 
   -- ---- items one after the other
 
-  -- what the items so far put there, before the rest
+  -- the forms of the items so far, before the rest
   pub record SoFar (all : Forms) (old : Layout) (rest : Forms) (numbers : List ℕ) (now : Layout) : Type 0 where
     pub forms : now.forms ++ core_parts_of_all rules (length now.spans) rest ≡ old.forms ++ core_parts_of_all rules (length old.spans) all
     pub spans : now.spans ++ terminal_extents_of_all rest ≡ old.spans ++ terminal_extents_of_all all
@@ -268,7 +268,7 @@ module _ (rules : List grammar.Rule) where
   are_defined-right some more e =
       and_right (are_defined rules some) (are_defined rules more) (sym (list_all-append here some more) ∙ e)
 
--- where an element passes, one is found
+-- if some element passes, one is found
 any-position : {X : Type 0} (p : X → Bool) (xs : List X) → list_any p xs ≡ true → position_or_len p xs < length xs
 any-position p [] e = cc
 any-position p (x ∷ xs) e = by (p x) e (any-position p xs)
@@ -295,7 +295,7 @@ some-at [] i within = absurd (omega arith)
 some-at (r ∷ rs) zero within = (r, refl)
 some-at (r ∷ rs) (suc i) within = some-at rs i (omega arith)
 
--- its position is the number of the rule that it means
+-- the position is the number of the rule that the name denotes
 pub number_of-position : (rules : List grammar.Rule) (name : List ℕ) (rule : ℕ)
     → position (bytes_eq name) (names rules) ≡ Some rule → number_of rules name ≡ rule
 number_of-position rules name rule found =

@@ -1,18 +1,19 @@
--- Well-formed core forms are complete (Ford 2004, section 3.6): each has a record at each place of each text. By
--- induction on the bytes left, and at one place on the rounds in which the form is well-formed: a part that is taken
--- after some byte is at a later place, one that is taken after none is well-formed in fewer rounds.
+-- Well-formed core forms are complete (Ford 2004, section 3.6): each has a record at each position of each text. The
+-- proof is by induction on the bytes that are left, and at one position on the rounds in which the form is well-formed.
+-- A part that is tried after some byte is at a later position. A part that is tried after none is well-formed in fewer
+-- rounds.
 use Rattle.std.proofs.Common.{◌≡◌, ◌≢◌, ℕ, zero, suc, ◌+◌, ◌-◌, ◌*◌, ◌<◌, ◌≤◌, inl, inr, List, All, length, get_or}
 use Rattle.std.proofs.Common.{slice_get, Option, None, Some, option_map, option_and_then}
 use Rattle.std.proofs.Common.{refl, sym, ap, ◌∙◌, subst, arith, suc-add, one-add}
 use Rattle.std.proofs.Math.Nat.{suc-mul}
 use Rattle.peg_tree.specs.Trees.{Trees}
-use Rattle.peg_ford.specs.Record.{Recognition, Failed, Matched, Record, after_both, behind, followed, then_at}
-use Rattle.peg_ford.specs.Record.{replaced, or_else, repeated, as_use, if_failed, with_result}
+use Rattle.peg_semantics.specs.Record.{Recognition, Failed, Matched, Record, after_both, behind, followed, then_at}
+use Rattle.peg_semantics.specs.Record.{replaced, or_else, repeated, as_use, if_failed, with_result}
 use Rattle.peg_core.specs.CoreForm.{CoreForm, Empty, Test, Rule, Seq, Choice, Star, Not}
 use Rattle.peg_core.specs.CoreOutcomes.{CoreGivesNothing, CoreAsking, BodyIs, CoreWellFormedTable, IsCoreWellFormedIn}
 use Rattle.peg_core.specs.CoreRecord.{CoreTaking, core_table, core_record_in}
 use Rattle.peg_core.specs.Layout.{Desugared, bodies_of, form_at}
-use Rattle.peg_core.specs.RecordDepth.{most_rounds, FormsHaveRecords, UsesHaveRecords}
+use Rattle.peg_core.specs.RecordDepth.{max_rounds, FormsHaveRecords, UsesHaveRecords}
 use Rattle.peg_core.specs.Spelled.{AreSpelled}
 use Rattle.peg_core.proofs.CoreRounds.{core_record_in-later}
 use Rattle.peg_core.proofs.CoreShown.{none_or_some, core_result-shows}
@@ -23,11 +24,11 @@ use Rattle.peg_core.proofs.FormsAmong.{IsAmong, PartsAre, parts-among, held-amon
 abbrev Has : Option Record → Type 0
 Has tried = (r : Record) × (tried ≡ Some r)
 
--- what is next has one where a match ends
+-- the next expression has a record at the end of a match
 abbrev HasNext : Recognition → (ℕ → Option Record) → Type 0
 HasNext result next = (end : ℕ) (trees : Trees) → result ≡ Matched end trees → Has (next end)
 
--- ---- each combinator of the recognition table has a record where what it takes has
+-- ---- each combinator of the recognition table has a record if its parts have
 
 has-map : (change : Record → Record) (tried : Option Record) → Has tried → Has (option_map change tried)
 has-map change tried has = (change has.0, ap (option_map change) has.1)
@@ -71,9 +72,9 @@ has-use take rule place body known is has =
     subst (λ known. Has (option_and_then (λ (body : CoreForm). option_map (as_use rule place) (take body place)) known))
     (sym is) (has-map (as_use rule place) (take body place) has)
 
--- ---- what is well-formed
+-- ---- well-formed forms
 
--- a match within the text ends there, at its place or later; where it ends at its place, the form gives 0
+-- A match within the text ends within it, at its start or later. If it ends at its start, 0 is an outcome of the form.
 record Reached (bodies : List CoreForm) (text : List ℕ) (form : CoreForm) (place end : ℕ) : Type 0 where
   onward : place ≤ end
   within : end ≤ length text
@@ -90,7 +91,7 @@ reached bodies text n form place end trees r here is matched =
       idle = λ same. (n, shown.nothing same);
     }
 
--- a record in fewer is one in more
+-- a record in a smaller number is one in a greater number
 has-more : (bodies : List CoreForm) (text : List ℕ) (few many : ℕ) (form : CoreForm) (place : ℕ) → few ≤ many
     → Has (core_record_in bodies text few form place) → Has (core_record_in bodies text many form place)
 has-more bodies text few many form place most has =
@@ -100,14 +101,15 @@ has-more bodies text few many form place most has =
 
 module _ (core : Desugared) (text : List ℕ) (spelled : AreSpelled core)
     (within : All (λ body. body < length core.forms) core.bodies) where
-  -- Where forms that are well-formed in fewer rounds have records here, and all forms have them at later places, so
-  -- have those that the rules for well-formed forms make of them.
+  -- Forms that are well-formed in fewer rounds have records here, and all forms have records at later positions. Then
+  -- the forms that the rules for well-formed forms build from them have records here.
   module _ (n place : ℕ) (here : place ≤ length text) (Is : CoreAsking)
       (now : (form : CoreForm) → Is form → IsAmong core.forms form
       → Has (core_record_in (bodies_of core) text n form place))
       (later : (end : ℕ) → place < end → end ≤ length text → (form : CoreForm) → IsAmong core.forms form
       → Has (core_record_in (bodies_of core) text n form end)) where
-    -- what follows a part that matched has a record: here where the part took nothing, and else later
+    -- The next expression after a matched part has a record. It is here if the part consumed nothing, and later
+    -- otherwise.
     has-next : (part next : CoreForm) (has : Has (core_record_in (bodies_of core) text n part place))
         → IsAmong core.forms next
         → (CoreGivesNothing (bodies_of core) part → Has (core_record_in (bodies_of core) text n next place))
@@ -150,8 +152,8 @@ module _ (core : Desugared) (text : List ℕ) (spelled : AreSpelled core)
         has-map (λ (r : Record). with_result r (if_failed r.result place))
         (core_record_in (bodies_of core) text n part place) (now part is parts)
 
-  -- Where all forms have records at later places in n, one that is well-formed in some rounds has one here in as many
-  -- more.
+  -- Let all forms have records at later positions in n. A form that is well-formed in some rounds has a record here in
+  -- n and that many more.
   has-here : (n place : ℕ) → place ≤ length text
       → ((end : ℕ) → place < end → end ≤ length text → (form : CoreForm) → IsAmong core.forms form
       → Has (core_record_in (bodies_of core) text n form end))
@@ -169,7 +171,7 @@ module _ (core : Desugared) (text : List ℕ) (spelled : AreSpelled core)
       (parts-among core.forms (length core.bodies) (length core.spans) spelled form among))
 
   module _ (rounds : ℕ) (fine : All (IsCoreWellFormedIn (bodies_of core) rounds) core.forms) where
-    -- a form has a record where so many bytes are left
+    -- a form has a record at a position with this number of bytes left
     bytes_left : (left place : ℕ) → place ≤ length text → length text ≤ left + place → (form : CoreForm)
         → IsAmong core.forms form
         → Has (core_record_in (bodies_of core) text (rounds + left * (1 + rounds)) form place)
@@ -186,29 +188,29 @@ module _ (core : Desugared) (text : List ℕ) (spelled : AreSpelled core)
         has-here (suc left * (1 + rounds)) place here later rounds form
         (held-among (IsCoreWellFormedIn (bodies_of core) rounds) core.forms fine form among) among
 
-    -- so at each place of the text
+    -- so it has one at each position of the text
     has-record : (place : ℕ) → place ≤ length text → (form : CoreForm) → IsAmong core.forms form
-        → Has (core_record_in (bodies_of core) text (most_rounds rounds text) form place)
+        → Has (core_record_in (bodies_of core) text (max_rounds rounds text) form place)
     has-record place here form among =
         let one : 1 + length text ≡ suc (length text) = omega arith in
         let deeper : rounds + length text * (1 + rounds) ≤ (1 + length text) * (1 + rounds) =
         omega (arith, ap (λ k. k * (1 + rounds)) one, suc-mul (length text) (1 + rounds)) in
-        has-more (bodies_of core) text (rounds + length text * (1 + rounds)) (most_rounds rounds text) form place deeper
+        has-more (bodies_of core) text (rounds + length text * (1 + rounds)) (max_rounds rounds text) form place deeper
         (bytes_left (length text) place here (omega arith) form among)
 
-    -- and so has the use of a rule
+    -- and so has a call of a rule
     has-use_record : (rule place : ℕ) → rule < length core.bodies → place ≤ length text
-        → Has (core_record_in (bodies_of core) text (1 + most_rounds rounds text) (Rule rule) place)
+        → Has (core_record_in (bodies_of core) text (1 + max_rounds rounds text) (Rule rule) place)
     unfolding core_record_in
     has-use_record rule place less here =
         let body = form_at core.forms (get_or core.bodies rule 0) in
         let known = body-known core rule less in
-        rw (one-add (most_rounds rounds text))
-        (has-use (core_record_in (bodies_of core) text (most_rounds rounds text)) rule place body
+        rw (one-add (max_rounds rounds text))
+        (has-use (core_record_in (bodies_of core) text (max_rounds rounds text)) rule place body
         (slice_get (bodies_of core) rule) known
         (has-record place here body (body-among core within rule body known)))
 
--- what there is isn't missing
+-- a record that exists isn't None
 has-some : (tried : Option Record) → Has tried → tried ≢ None
 has-some tried has none = let bad : Some has.0 ≡ None = sym has.1 ∙ none in cc
 
@@ -216,14 +218,14 @@ has-some tried has none = let bad : Some has.0 ≡ None = sym has.1 ∙ none in 
 
 pub forms-have_records : (core : Desugared) (rounds : ℕ) → AreSpelled core
     → All (λ body. body < length core.forms) core.bodies → All (IsCoreWellFormedIn (bodies_of core) rounds) core.forms
-    → (text : List ℕ) → FormsHaveRecords core text (most_rounds rounds text)
+    → (text : List ℕ) → FormsHaveRecords core text (max_rounds rounds text)
 forms-have_records core rounds spelled within fine text number place less here =
-    has-some (core_record_in (bodies_of core) text (most_rounds rounds text) (form_at core.forms number) place)
+    has-some (core_record_in (bodies_of core) text (max_rounds rounds text) (form_at core.forms number) place)
     (has-record core text spelled within rounds fine place here (form_at core.forms number) (number, less, refl))
 
 pub uses-have_records : (core : Desugared) (rounds : ℕ) → AreSpelled core
     → All (λ body. body < length core.forms) core.bodies → All (IsCoreWellFormedIn (bodies_of core) rounds) core.forms
-    → (text : List ℕ) → UsesHaveRecords core text (1 + most_rounds rounds text)
+    → (text : List ℕ) → UsesHaveRecords core text (1 + max_rounds rounds text)
 uses-have_records core rounds spelled within fine text rule place less here =
-    has-some (core_record_in (bodies_of core) text (1 + most_rounds rounds text) (Rule rule) place)
+    has-some (core_record_in (bodies_of core) text (1 + max_rounds rounds text) (Rule rule) place)
     (has-use_record core text spelled within rounds fine rule place less here)

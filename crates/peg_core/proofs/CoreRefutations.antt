@@ -1,5 +1,5 @@
--- Where the forms that stand in the rules' bodies are well-formed, there is no empty loop and no left cycle: rounds fall
--- along what is met first.
+-- If the forms in the rules' bodies are well-formed, there is no empty loop and no left cycle, since rounds decrease
+-- along left calls.
 use Rattle.std.proofs.Common.{◌≡◌, ℕ, zero, suc, ◌<◌, ◌≤◌, inl, inr, List, [], ◌∷◌, ◌++◌, Option, None, Some, slice_get, refl, sym, subst, arith}
 use Rattle.peg_bytes.specs.Extent.{Extent}
 use Rattle.peg_core.specs.CoreForm.{CoreForm, Empty, Test, Rule, Seq, Choice, Star, Not}
@@ -25,7 +25,7 @@ module _ (bodies : List CoreForm) where
   more-rounds : (n rule : ℕ) → InFewer n rule → InFewer (suc n) rule
   more-rounds n rule h = let less : h.0 < n = h.1 in (h.0, omega arith, h.2)
 
-  -- what a well-formed form meets first is well-formed in fewer rounds
+  -- a rule that a well-formed form left-calls is well-formed in fewer rounds
   pub met-in-fewer : (n : ℕ) (form : CoreForm) (rule : ℕ) → IsCoreWellFormedIn bodies n form → CoreMeets bodies form rule
       → InFewer n rule
   unfolding IsCoreWellFormedIn
@@ -53,7 +53,7 @@ module _ (bodies : List CoreForm) where
   fewer-still : (n k rule : ℕ) → k < n → InFewer k rule → InFewer n rule
   fewer-still n k rule less h = let below : h.0 < k = h.1 in (h.0, omega arith, h.2)
 
-  -- and so the rule that a path of such rules ends with
+  -- and so is the last rule of a path of left calls
   path-falls : (rules : List ℕ) (n before last : ℕ) → BodyIs (IsCoreWellFormedIn bodies n) (slice_get bodies before)
       → CoreMeetInTurn bodies before (rules ++ last ∷ []) → InFewer n last
   path-falls [] n before last is turn = body-met n last (slice_get bodies before) is turn.0
@@ -61,7 +61,7 @@ module _ (bodies : List CoreForm) where
       let here = body-met n rule (slice_get bodies before) is turn.0 in
       fewer-still n here.0 last here.1 (path-falls more here.0 rule last here.2 turn.1)
 
-  -- so rounds would fall round and round a cycle
+  -- so rounds would decrease forever along a cycle
   pub no-cycle : (bound n rule : ℕ) (more : List ℕ) → n ≤ bound → BodyIs (IsCoreWellFormedIn bodies n) (slice_get bodies rule)
       → CoreMeetInTurn bodies rule (more ++ rule ∷ []) → ⊥
   no-cycle zero n rule more few is turn =
@@ -73,7 +73,7 @@ module _ (bodies : List CoreForm) where
       let less : here.0 < n = here.1 in
       no-cycle bound here.0 rule more (omega arith) here.2 turn
 
--- the first rule of a cycle meets some rule first
+-- the first rule of a cycle left-calls some rule
 pub some-turn : (bodies : List CoreForm) (rule : ℕ) (more : List ℕ) → CoreMeetInTurn bodies rule (more ++ rule ∷ [])
     → (next : ℕ) × CoreMeetsFirst bodies rule next
 some-turn bodies rule [] turn = (rule, turn.0)

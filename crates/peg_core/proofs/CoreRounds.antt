@@ -1,17 +1,17 @@
--- What has a core record in n has the same in n + 1, and so two records of one form at one place are the same; what a
--- form can do in n rounds it can do in n + 1, and what is well-formed in n is in n + 1.
+-- Core records in n are also records in n + 1, so a form has at most one record at a position. The same holds for
+-- outcomes and well-formed forms in n rounds.
 use Rattle.std.proofs.Common.{◌≡◌, ℕ, zero, suc, ◌+◌, List, Option, None, Some, ap, slice_get, option_map, zero-add, suc-add, add_comm}
-use Rattle.peg_ford.specs.AbstractOutcomes.{CanAll, cannot}
-use Rattle.peg_ford.specs.Record.{Record, repeated, if_failed, with_result, as_use}
-use Rattle.peg_ford.proofs.RecordLemmas.{Extends, Extends-refl, Extends-none, Extends-map, Extends-and_then, Extends-then_at, Extends-or_else, Extends-repeated}
-use Rattle.peg_ford.proofs.RoundsLemmas.{CanAll-refl, CanAll-cannot, CanAll-both, CanAll-either, CanAll-again, CanAll-not_ahead}
+use Rattle.peg_semantics.specs.AbstractOutcomes.{CanAll, cannot}
+use Rattle.peg_semantics.specs.Record.{Record, repeated, if_failed, with_result, as_use}
+use Rattle.peg_semantics.proofs.RecordLemmas.{Extends, Extends-refl, Extends-none, Extends-map, Extends-and_then, Extends-then_at, Extends-or_else, Extends-repeated}
+use Rattle.peg_semantics.proofs.RoundsLemmas.{CanAll-refl, CanAll-cannot, CanAll-both, CanAll-either, CanAll-again, CanAll-not_ahead}
 use Rattle.peg_core.specs.CoreForm.{CoreForm, Empty, Test, Rule, Seq, Choice, Star, Not}
 use Rattle.peg_core.specs.CoreRecord.{CoreTaking, core_table, core_record_in, IsCoreRecord}
 use Rattle.peg_core.specs.CoreOutcomes.{CoreJudging, judge_body, core_can_table, core_can_in, CoreAsking, BodyIs, CoreWellFormedTable, IsCoreWellFormedIn}
 
 -- ---- records
 
--- where one way to take parts answers all that another does, so does the table over it
+-- if one function extends another, so does the table over it
 module _ (take more : CoreTaking) (h : (form : CoreForm) (place : ℕ) → Extends (take form place) (more form place)) where
   Extends-core_table : (bodies : List CoreForm) (text : List ℕ) (form : CoreForm) (place : ℕ)
       → Extends (core_table bodies text take form place) (core_table bodies text more form place)
@@ -41,7 +41,7 @@ module _ (take more : CoreTaking) (h : (form : CoreForm) (place : ℕ) → Exten
   Extends-core_table bodies text (Not part) place =
       Extends-map (λ (r : Record). with_result r (if_failed r.result place)) (take part place) (more part place) (h part place)
 
--- what has a record in n has the same in n + 1
+-- a record in n is also the record in n + 1
 pub core_record_in-more : (bodies : List CoreForm) (text : List ℕ) (n : ℕ) (form : CoreForm) (place : ℕ)
     → Extends (core_record_in bodies text n form place) (core_record_in bodies text (suc n) form place)
 unfolding core_record_in
@@ -58,7 +58,7 @@ core_record_in-later bodies text (suc more) n form place r h =
     rw suc-add
     (core_record_in-more bodies text (more + n) form place r (core_record_in-later bodies text more n form place r h))
 
--- two records of one form at one place are the same
+-- a form has at most one record at a position
 pub one_core_record : (bodies : List CoreForm) (text : List ℕ) (form : CoreForm) (place : ℕ) (r s : Record)
     → IsCoreRecord bodies text form place r → IsCoreRecord bodies text form place s → r ≡ s
 one_core_record bodies text form place r s a b =
@@ -87,7 +87,7 @@ module _ (judge more : CoreJudging) (h : (form : CoreForm) → CanAll (judge for
   CanAll-core_can_table bodies (Star part origin) = CanAll-again (judge part) (more part) (h part)
   CanAll-core_can_table bodies (Not part) = CanAll-not_ahead (judge part) (more part) (h part)
 
--- what a form can do in n rounds it can do in n + 1
+-- the outcomes of a form in n rounds are also outcomes in n + 1
 pub core_can_in-more : (bodies : List CoreForm) (n : ℕ) (form : CoreForm)
     → CanAll (core_can_in bodies n form) (core_can_in bodies (suc n) form)
 unfolding core_can_in
@@ -112,7 +112,7 @@ module _ (Is More : CoreAsking) (h : (form : CoreForm) → Is form → More form
   CoreWellFormedTable-more bodies (Star part origin) is = (h part is.0, is.1)
   CoreWellFormedTable-more bodies (Not part) is = h part is
 
--- what is well-formed in n rounds is in n + 1
+-- a form that is well-formed in n rounds is so in n + 1
 pub IsCoreWellFormedIn-more : (bodies : List CoreForm) (n : ℕ) (form : CoreForm) → IsCoreWellFormedIn bodies n form
     → IsCoreWellFormedIn bodies (suc n) form
 unfolding IsCoreWellFormedIn

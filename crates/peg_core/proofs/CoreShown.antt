@@ -1,5 +1,5 @@
--- What comes of a core form shows what it can do (Ford 2004, section 3.5): a match of no byte that it gives 0, one of
--- some that it gives 1, a failure that it gives f. A record in n shows what n rounds tell.
+-- The result of a core form shows one of its abstract outcomes (Ford 2004, section 3.5). A match of no byte shows 0, a
+-- match of some byte shows 1, and a failure shows f. A record in n shows an outcome in n rounds.
 use Rattle.std.proofs.Common.{◌≡◌, ℕ, zero, suc, ◌+◌, ◌<◌, ◌≤◌, ◌⊎◌, inl, inr, Bool, true, false, ◌&&◌, ◌||◌}
 use Rattle.std.proofs.Common.{List, [], ◌∷◌, drop, Option, None, Some, option_map, option_and_then, slice_get}
 use Rattle.std.proofs.Common.{refl, sym, ap, ◌∙◌, subst, arith}
@@ -7,30 +7,30 @@ use Rattle.std.proofs.lemmas.Bool.{cases_lt}
 use Rattle.peg_bytes.specs.ByteSet.{Bytes, has, has_some}
 use Rattle.peg_bytes.specs.Extent.{Extent}
 use Rattle.peg_tree.specs.Trees.{Trees}
-use Rattle.peg_ford.specs.AbstractOutcomes.{Can, CanAll, only_nothing, can_of_set, succeeds}
-use Rattle.peg_ford.specs.AbstractOutcomes.{both, either, again, not_ahead}
-use Rattle.peg_ford.specs.Record.{Recognition, Failed, Matched, Record, matched_at, behind, if_failed, with_result}
-use Rattle.peg_ford.specs.Record.{byte_at, as_tree, as_use}
-use Rattle.peg_ford.proofs.ResultSteps.{begins_with, byte_at-matched, byte_at-failed, some_case, map_cases}
-use Rattle.peg_ford.proofs.ResultSteps.{then_cases, or_cases, rounds_cases}
-use Rattle.peg_ford.proofs.RoundsLemmas.{or_right}
+use Rattle.peg_semantics.specs.AbstractOutcomes.{Can, CanAll, only_nothing, can_of_set, succeeds}
+use Rattle.peg_semantics.specs.AbstractOutcomes.{both, either, again, not_ahead}
+use Rattle.peg_semantics.specs.Record.{Recognition, Failed, Matched, Record, matched_at, behind, if_failed, with_result}
+use Rattle.peg_semantics.specs.Record.{byte_at, as_tree, as_use}
+use Rattle.peg_semantics.proofs.ResultSteps.{begins_with, byte_at-matched, byte_at-failed, some_case, map_cases}
+use Rattle.peg_semantics.proofs.ResultSteps.{then_cases, or_cases, rounds_cases}
+use Rattle.peg_semantics.proofs.RoundsLemmas.{or_right}
 use Rattle.peg_core.specs.CoreForm.{CoreForm, Empty, Test, Rule, Seq, Choice, Star, Not}
 use Rattle.peg_core.specs.CoreOutcomes.{CoreJudging, judge_body, core_can_table, core_can_in}
 use Rattle.peg_core.specs.CoreRecord.{CoreTaking, core_table, core_record_in}
 use Rattle.peg_core.proofs.CoreRounds.{core_can_in-more}
 
--- a match from a place ends there or later; at the place the form can give 0, and behind it 1
+-- a match ends at its start or later; if at its start, 0 is an outcome, and if later, 1 is
 pub record Ends (can : Can) (place end : ℕ) : Type 0 where
   pub onward : place ≤ end
   pub nothing : end ≡ place → can.nothing ≡ true
   pub something : place < end → can.something ≡ true
 
--- what a result at a place shows that a form can do
+-- the outcome that a result at a position shows
 abbrev pub Shows : Can → (place : ℕ) → Recognition → Type 0
 Shows can place Failed = can.fails ≡ true
 Shows can place (Matched end trees) = Ends can place end
 
--- ---- tests of both and of either
+-- ---- disjunctions and conjunctions
 
 or_left : (a b : Bool) → a ≡ true → (a || b) ≡ true
 or_left a b is = ap (λ x. x || b) is
@@ -46,7 +46,7 @@ none_or_some place end onward =
       | inr none ↦ inl (omega (arith, onward, none))
     ]
 
--- what matched succeeds
+-- a form that matched can succeed
 succeeds-match : (can : Can) (place end : ℕ) → Ends can place end → succeeds can ≡ true
 succeeds-match can place end is =
     elim (none_or_some place end is.onward) [
@@ -54,7 +54,7 @@ succeeds-match can place end is =
       | inr some ↦ or_right can.nothing can.something (is.something some)
     ]
 
--- ---- each of Ford's rules shows what its parts show
+-- ---- each of Ford's rules shows an outcome if its parts do
 
 Ends-here : (can : Can) (place : ℕ) → can.nothing ≡ true → Ends can place place
 Ends-here can place is =
@@ -100,7 +100,7 @@ Shows-either a b place (Matched end trees) fails other = record {
       or_right a.something (a.fails && b.something) (and_both a.fails b.something fails (other.something less));
 }
 
--- a round of a star, and the rounds behind it
+-- an iteration of a star, and the iterations after it
 rounds-something : (part star : Can) (place middle end : ℕ) → CanAll star (again part) → Ends part place middle
     → Ends star middle end → place < end → part.something ≡ true
 rounds-something part star place middle end within round rest less =
@@ -130,7 +130,7 @@ Shows-as_tree can rule place (Matched end trees) is = is
 
 -- ---- terminals
 
--- a set that has a byte has some
+-- a set that contains a byte isn't empty
 has_some-of : (set : Bytes) (byte : ℕ) → has set byte ≡ true → has_some set ≡ true
 has_some-of [] byte is = cc
 has_some-of (true ∷ set) byte is = refl
@@ -141,7 +141,7 @@ begins-some : (set : Bytes) (bytes : List ℕ) → begins_with (has set) bytes �
 begins-some set [] is = cc
 begins-some set (byte ∷ rest) is = has_some-of set byte is
 
--- a byte that passes a test, or not
+-- a byte that passes a test, or doesn't
 Shows-byte : (can : Can) (test : ℕ → Bool) (terminal place : ℕ) (rest : List ℕ)
     → (begins_with test rest ≡ true → can.something ≡ true) → can.fails ≡ true
     → Shows can place (byte_at test terminal place rest).result
@@ -155,13 +155,13 @@ Shows-byte can test terminal place rest some fails = by (begins_with test rest) 
 
 -- ---- records
 
--- Where parts that are taken show what a way to judge them tells, and what it tells of a star is told by its part, the
--- table shows what the rules tell.
+-- Let the records of parts show their outcomes, and let the outcomes of a star follow from those of its part. Then the
+-- records by the table show the outcomes by the rules.
 module _ (bodies : List CoreForm) (text : List ℕ) (take : CoreTaking) (judge : CoreJudging)
     (shown : (form : CoreForm) (place : ℕ) (r : Record) → take form place ≡ Some r
     → Shows (judge form) place r.result)
     (star : (part : CoreForm) (origin : Extent) → CanAll (judge (Star part origin)) (again (judge part))) where
-  -- a part that is taken, with a result that is known
+  -- a part with a known result
   part_shown : (form : CoreForm) (place : ℕ) (r : Record) {x : Recognition} → take form place ≡ Some r
       → r.result ≡ x → Shows (judge form) place x
   part_shown form place r is known = subst (Shows (judge form) place) known (shown form place r is)
@@ -208,7 +208,7 @@ module _ (bodies : List CoreForm) (text : List ℕ) (take : CoreTaking) (judge :
       (λ (r : Record). with_result r (if_failed r.result place)) r
       (λ p e. Shows-not_ahead (judge part) place p.result (shown part place p e)) is
 
--- a record in n shows what the form can do in n rounds
+-- a record in n shows an outcome of the form in n rounds
 pub core_record_in-shows : (bodies : List CoreForm) (text : List ℕ) (n : ℕ) (form : CoreForm) (place : ℕ) (r : Record)
     → core_record_in bodies text n form place ≡ Some r → Shows (core_can_in bodies n form) place r.result
 unfolding core_record_in core_can_in
@@ -217,7 +217,7 @@ core_record_in-shows bodies text (suc n) form place r is =
     table_shown bodies text (core_record_in bodies text n) (core_can_in bodies n) (core_record_in-shows bodies text n)
     (λ part origin. core_can_in-more bodies n (Star part origin)) form place r is
 
--- so does its result, where it is known
+-- and so does its result, if it is known
 pub core_result-shows : (bodies : List CoreForm) (text : List ℕ) (n : ℕ) (form : CoreForm) (place : ℕ) (r : Record)
     (x : Recognition) → core_record_in bodies text n form place ≡ Some r → r.result ≡ x
     → Shows (core_can_in bodies n form) place x

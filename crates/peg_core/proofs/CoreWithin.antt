@@ -1,5 +1,5 @@
--- From a place of the text, the failed tests and the uses of a core form's record are at places of the text, and a
--- match ends within it.
+-- The record of a core form at a position of the text has its failed tests and calls at positions of the text. A match
+-- ends within the text.
 use Rattle.std.proofs.Common.{◌≡◌, ℕ, zero, suc, ◌+◌, ◌≤◌, Bool, true, false, List, [], ◌∷◌, length, drop, All}
 use Rattle.std.proofs.Common.{if◌then◌else◌, Option, None, Some, IfSome, option_map, option_and_then, slice_get}
 use Rattle.std.proofs.Common.{subst, le_refl, arith}
@@ -7,9 +7,9 @@ use Rattle.std.proofs.lemmas.List.{length-drop}
 use Rattle.std.proofs.lemmas.List.Elements.{All-nil, All-cons, All-append}
 use Rattle.peg_bytes.specs.ByteSet.{has}
 use Rattle.peg_tree.specs.Trees.{Trees}
-use Rattle.peg_ford.specs.Record.{Recognition, Failed, Matched, Test as FailedTest, Use, Record}
-use Rattle.peg_ford.specs.Record.{matched_at, test_of, failed_at, after_both, behind, followed, then_at, replaced}
-use Rattle.peg_ford.specs.Record.{or_else, repeated, if_failed, with_result, byte_at, as_tree, as_use}
+use Rattle.peg_semantics.specs.Record.{Recognition, Failed, Matched, Test as FailedTest, Use, Record}
+use Rattle.peg_semantics.specs.Record.{matched_at, test_of, failed_at, after_both, behind, followed, then_at, replaced}
+use Rattle.peg_semantics.specs.Record.{or_else, repeated, if_failed, with_result, byte_at, as_tree, as_use}
 use Rattle.peg_core.specs.CoreForm.{CoreForm, Empty, Test, Rule, Seq, Choice, Star, Not}
 use Rattle.peg_core.specs.CoreRecord.{CoreTaking, core_table, core_record_in}
 
@@ -18,13 +18,14 @@ abbrev EndsBy : ℕ → Recognition → Type 0
 EndsBy long Failed = Unit {0}
 EndsBy long (Matched end trees) = end ≤ long
 
--- a record whose failed tests and uses are at places of a text of this length, and whose match ends within it
+-- A record within a text of this length: its failed tests and calls are at positions of the text, and its match ends
+-- within it.
 record IsWithin (long : ℕ) (r : Record) : Type 0 where
   tests : All (λ (test : FailedTest). test.place ≤ long) r.tests
   uses : All (λ (used : Use). used.place ≤ long) r.uses
   ends : EndsBy long r.result
 
--- What each combinator of the recognition table makes of such records is such a record.
+-- Each combinator of the recognition table makes records within the text from records within the text.
 module _ (long : ℕ) where
   abbrev InText : FailedTest → Type 0
   InText test = test.place ≤ long
@@ -32,15 +33,15 @@ module _ (long : ℕ) where
   abbrev IsUsedInText : Use → Type 0
   IsUsedInText used = used.place ≤ long
 
-  -- the record is such a one, if there is one
+  -- the record is within the text, if there is one
   abbrev Keeps : Option Record → Type 0
   Keeps tried = IfSome tried (IsWithin long)
 
-  -- what is next at each place of the text
+  -- the next expression at each position of the text
   abbrev KeepsNext : (ℕ → Option Record) → Type 0
   KeepsNext next = (end : ℕ) → end ≤ long → Keeps (next end)
 
-  -- every form at each place of the text
+  -- every form at each position of the text
   abbrev KeepsAll : CoreTaking → Type 0
   KeepsAll take = (form : CoreForm) (place : ℕ) → place ≤ long → Keeps (take form place)
 
@@ -128,7 +129,7 @@ module _ (long : ℕ) where
     ends = EndsBy-as_tree rule place r.result h.ends;
   }
 
-  -- bytes from a place on, no more of them than the text has there
+  -- bytes from a position on, at most as many as the text has there
   IsWithin-byte_at : (test : ℕ → Bool) (terminal place : ℕ) (rest : List ℕ) → place + length rest ≤ long
       → IsWithin long (byte_at test terminal place rest)
   IsWithin-byte_at test terminal place [] fits = IsWithin-failed_at terminal place (omega arith)
@@ -138,7 +139,7 @@ module _ (long : ℕ) where
       by true = IsWithin-matched_at (place + 1) (omega arith)
       by false = IsWithin-failed_at terminal place (omega arith)
 
-  -- where a way to take parts gives such records, so does the table over it
+  -- if all records of a function are within the text, so are those of the table over it
   module _ (take : CoreTaking) (h : KeepsAll take) where
     Keeps-body : (rule place : ℕ) (body : Option CoreForm) → place ≤ long
         → Keeps (option_and_then (λ (body : CoreForm). option_map (as_use rule place) (take body place)) body)
@@ -160,7 +161,7 @@ module _ (long : ℕ) where
         (λ end within. h (Star part origin) end within)
     Keeps-table bodies text short (Not part) place here = Keeps-not place (take part place) here (h part place here)
 
--- the records in n at a place of the text
+-- the records in n at a position of the text
 Keeps-core_record_in : (bodies : List CoreForm) (text : List ℕ) (n : ℕ)
     → KeepsAll (length text) (core_record_in bodies text n)
 unfolding core_record_in
@@ -175,21 +176,21 @@ IsWithin-core_record_in bodies text n form place r here is =
     subst (λ (tried : Option Record). IfSome tried (IsWithin (length text))) is
     (Keeps-core_record_in bodies text n form place here)
 
--- from a place of the text, the failed tests are at places of the text
+-- at a position of the text, the failed tests are at positions of the text
 pub core_record_in-in_text : (bodies : List CoreForm) (text : List ℕ) (n : ℕ) (form : CoreForm) (place : ℕ)
     (r : Record) → place ≤ length text → core_record_in bodies text n form place ≡ Some r
     → All (λ (test : FailedTest). test.place ≤ length text) r.tests
 core_record_in-in_text bodies text n form place r here is =
     (IsWithin-core_record_in bodies text n form place r here is).tests
 
--- and so are the uses
+-- and so are the calls
 pub core_record_in-uses_in_text : (bodies : List CoreForm) (text : List ℕ) (n : ℕ) (form : CoreForm) (place : ℕ)
     (r : Record) → place ≤ length text → core_record_in bodies text n form place ≡ Some r
     → All (λ (used : Use). used.place ≤ length text) r.uses
 core_record_in-uses_in_text bodies text n form place r here is =
     (IsWithin-core_record_in bodies text n form place r here is).uses
 
--- and a match ends within it
+-- and a match ends within the text
 pub core_record_in-ends : (bodies : List CoreForm) (text : List ℕ) (n : ℕ) (form : CoreForm) (place end : ℕ)
     (trees : Trees) (r : Record) → place ≤ length text → core_record_in bodies text n form place ≡ Some r
     → r.result ≡ Matched end trees → end ≤ length text

@@ -1,4 +1,4 @@
--- How a count's rounds are put behind other forms, the innermost first.
+-- The iterations of a count are appended to other forms, the innermost first.
 use Rattle.std.proofs.Common.{◌≡◌, ℕ, zero, suc, ◌-◌, ◌<◌, [], ◌∷◌, ◌++◌, length}
 use Rattle.std.proofs.Common.{sym, ap, ◌∙◌, subst, arith, append_assoc}
 use Rattle.std.proofs.lemmas.List.{get_or_at}
@@ -8,11 +8,11 @@ use Rattle.peg_core.specs.Laid.{Lays}
 use Rattle.peg_core.specs.Layout.{Layout, form_at}
 use Rattle.peg_core.proofs.LaidLemmas.{Lays-one, Lays-then, form_at-kept, pushed}
 
--- of the rounds from the innermost on, so many have to match
+-- how many of the iterations from the innermost on must match
 abbrev pub needed : (min max done : ℕ) → ℕ
 needed min max done = min - (max - done)
 
--- the empty form and so many rounds were put there, and this is the number of the last
+-- the empty form and these iterations were appended, and this is the number of the last
 abbrev pub LaysRounds : Layout → (part least most number : ℕ) → Layout → Type 0
 LaysRounds old part least most number new =
     let form = form_at old.forms part in
@@ -28,7 +28,7 @@ module _ (old mid new : Layout) (part least most rest number : ℕ) (within : pa
   abbrev round : CoreForm
   round = Seq form (unfolded form least most)
 
-  -- the part, and then the rounds so far
+  -- the part, and then the iterations so far
   one-more : Lays old (Empty ∷ (rounds_of form least most ++ round ∷ [])) [] round number new
   one-more =
       let before = Empty ∷ rounds_of form least most in
@@ -37,11 +37,11 @@ module _ (old mid new : Layout) (part least most rest number : ℕ) (within : pa
       Lays-then old mid new before (round ∷ []) [] (unfolded form least most) round rest number so_far
       (Lays-one mid new round number (put ∙ ap (pushed mid) is) last)
 
-  -- that is a round that has to match
+  -- one more iteration that must match
   pub needed-more : LaysRounds old part (suc least) (suc most) number new
   needed-more = one-more
 
--- or else nothing: a round that need not match
+-- or else nothing: one more iteration that need not match
 pub optional-more : (old mid later new : Layout) (part most rest round nothing number : ℕ) → part < length old.forms
     → nothing ≡ length old.forms → LaysRounds old part zero most rest mid
     → later ≡ pushed mid (Seq (form_at mid.forms part) (form_at mid.forms rest)) → round ≡ length mid.forms
@@ -62,7 +62,7 @@ optional-more old mid later new part most rest round nothing number within first
     (Lays-one later new whole number (more ∙ ap (pushed later) is) end) in
     subst (λ forms. Lays old (Empty ∷ forms) [] whole number new) (append_assoc before (some ∷ []) (whole ∷ [])) both
 
--- the rounds are a count's, where there is one
+-- the iterations are those of a count, if there is one
 pub rounds-count : (form : CoreForm) (old new : Layout) (min max number : ℕ) → 0 < max
     → Lays old (Empty ∷ rounds_of form min max) [] (unfolded form min max) number new
     → Lays old (count_forms form min max) [] (count_form form min max) number new

@@ -1,4 +1,4 @@
--- The forms that nodes stand for, number by number.
+-- The forms that nodes denote, number by number.
 use Rattle.std.proofs.Common.{◌≡◌, ℕ, zero, suc, ◌+◌, ◌<◌, ◌≤◌, List, [], ◌∷◌, ◌++◌, ◌⊎◌, inl, inr, length, get_or, slice_get, option_map, Some, fold, refl, sym, ap, ◌∙◌, subst, arith, length-append}
 use Rattle.std.proofs.lemmas.Bool.{cases_lt}
 use Rattle.std.proofs.lemmas.List.{get_or_append_left, get_or_at}
@@ -13,7 +13,7 @@ use Rattle.peg_core.specs.declared.node.Node.{Node}
 use Rattle.peg_core.specs.declared.node.Node.TheVariants as node
 use Rattle.peg_core.specs.declared.node.NodeAndOrigin.{NodeAndOrigin}
 
--- the form of a part among others
+-- the form of a node among others
 abbrev formed : List CoreForm → NodeAndOrigin → CoreForm
 formed forms part = shape forms (extent part.origin) part.node
 
@@ -41,7 +41,7 @@ kept start (p ∷ ps) k within =
     kept (added start p) ps k (omega (arith, length-added start p))
     ∙ get_or_append_left start (formed start p ∷ []) Empty k within
 
--- a node's form depends on the forms with smaller numbers alone
+-- the form of a node depends only on forms with smaller numbers
 pub shape-same : (a b : List CoreForm) (origin : Extent) (number rules terminals : ℕ) (n : Node)
     → NodeFits number rules terminals n → ((k : ℕ) → k < number → form_at a k ≡ form_at b k)
     → shape a origin n ≡ shape b origin n
@@ -55,7 +55,7 @@ shape-same a b origin number rules terminals (node.Choice first rest) fits same 
 shape-same a b origin number rules terminals (node.Star part) fits same = λ i. Star (same part fits i) origin
 shape-same a b origin number rules terminals (node.Not part) fits same = λ i. Not (same part fits i)
 
--- each node fits at its number, where the first has this one
+-- each node fits at its number, where `first` is the number of the first one
 abbrev FitFrom : (first rules terminals : ℕ) → List NodeAndOrigin → Type 0
 FitFrom first rules terminals parts =
     (k : ℕ) (d : NodeAndOrigin) → k < length parts → NodeFits (first + k) rules terminals (get_or parts k d).node
@@ -79,7 +79,7 @@ formed_at start (p ∷ ps) rules terminals (suc k) d fit within =
     ap (form_at (fold added start (p ∷ ps))) number
     ∙ formed_at (added start p) ps rules terminals k d later (omega arith)
 
--- the form with a number is that of its node
+-- the form with a number is the form of its node
 pub form_at-node : (parts : List NodeAndOrigin) (rules terminals number : ℕ) (part : NodeAndOrigin) → AllFit rules terminals parts
     → number < length parts → part ≡ get_or parts number part
     → form_at (forms_of parts) number ≡ shape (forms_of parts) (extent part.origin) part.node
@@ -89,20 +89,20 @@ form_at-node parts rules terminals number part fit within there =
     ap (form_at (forms_of parts)) first
     ∙ (formed_at [] parts rules terminals number part from_zero within ∙ ap (formed (forms_of parts)) (sym there))
 
--- a node fits where it is one of many that do
+-- a node fits if it is one of several that do
 pub fits-at : (parts : List NodeAndOrigin) (rules terminals number : ℕ) (part : NodeAndOrigin) → AllFit rules terminals parts
     → number < length parts → part ≡ get_or parts number part → NodeFits number rules terminals part.node
 fits-at parts rules terminals number part fit within there =
     subst (λ (p : NodeAndOrigin). NodeFits number rules terminals p.node) (sym there) (fit number part within)
 
--- each number below how many nodes there are is that of a node
+-- each number below the number of nodes has a node
 node-there : (parts : List NodeAndOrigin) (number : ℕ) → number < length parts
     → (part : NodeAndOrigin) × (part ≡ get_or parts number part)
 node-there [] number within = absurd (omega (arith, within))
 node-there (p ∷ ps) zero within = (p, refl)
 node-there (p ∷ ps) (suc k) within = node-there ps k (omega (arith, within))
 
--- a node by its number, of which so much is told
+-- a node with a number, by a property of it
 pub part-at : {A : Type 0} (told : NodeAndOrigin → A) (parts : List NodeAndOrigin) (number : ℕ) (a : A)
     → number < length parts → option_map told (slice_get parts number) ≡ Some a
     → (part : NodeAndOrigin) × ((part ≡ get_or parts number part) × (told part ≡ a))
@@ -110,7 +110,7 @@ part-at told [] number a within is = absurd (omega (arith, within))
 part-at told (p ∷ ps) zero a within is = let same : told p ≡ a = cc in (p, (refl, same))
 part-at told (p ∷ ps) (suc k) a within is = part-at told ps k a (omega (arith, within)) is
 
--- so each form by its number is what a node stands for that fits there
+-- so each form is the form of a node that fits at its number
 pub forms_of-nodes : (parts : List NodeAndOrigin) (rules terminals : ℕ) → AllFit rules terminals parts
     → AreOfNodes (forms_of parts) rules terminals
 forms_of-nodes parts rules terminals fit number within =
@@ -121,7 +121,7 @@ forms_of-nodes parts rules terminals fit number within =
       fits-at parts rules terminals number part.0 fit few part.1,
     )
 
--- with more terminals a node still fits
+-- a node still fits with more terminals
 fits-more : (number rules terminals more : ℕ) (n : Node) → terminals ≤ more → NodeFits number rules terminals n
     → NodeFits number rules more n
 fits-more number rules terminals more node.Empty h fits = fits
@@ -150,7 +150,7 @@ AllFit-push rules terminals parts part fit here k d within =
         subst (λ (p : NodeAndOrigin). NodeFits k rules terminals p.node) (sym (get_or_at parts part [] d k last))
         (subst (λ n. NodeFits n rules terminals part.node) last here)
 
--- a star's form is that of its node
+-- the form of a star is the form of its node
 pub star-node : (forms : List CoreForm) (n : Node) (number : ℕ) (origin found : Extent)
     → IsStarFrom forms number origin → form_at forms number ≡ shape forms found n → IsStarFrom forms number found
 star-node forms node.Empty number origin found star is = let bad : Star star.0 origin ≡ Empty = sym star.1 ∙ is in cc

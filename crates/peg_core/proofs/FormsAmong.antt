@@ -1,5 +1,5 @@
--- Core forms that stand among those that have numbers: where each is what a node stands for, their parts do so too, and
--- so do the rules' bodies.
+-- Core forms among numbered ones. If each is the form of a node, their parts are among them too, and so are the rules'
+-- bodies.
 use Rattle.std.proofs.Common.{◌≡◌, ℕ, ◌<◌, List, All, length, get_or, slice_get, Some, option_map}
 use Rattle.std.proofs.Common.{refl, sym, ap, ◌∙◌, subst, arith}
 use Rattle.std.proofs.lemmas.List.{length-map}
@@ -16,7 +16,7 @@ use Rattle.peg_core.specs.declared.node.Node.TheVariants as node
 abbrev pub IsAmong : List CoreForm → CoreForm → Type 0
 IsAmong forms form = (number : ℕ) × (number < length forms) × (form_at forms number ≡ form)
 
--- the parts of a form are so
+-- the parts of a form have the property
 abbrev pub PartsAre : (CoreForm → Type 0) → CoreForm → Type 0
 PartsAre Is Empty = Unit {0}
 PartsAre Is (Test set terminal) = Unit {0}
@@ -26,12 +26,12 @@ PartsAre Is (Choice first rest) = Is first × Is rest
 PartsAre Is (Star part origin) = Is part
 PartsAre Is (Not part) = Is part
 
--- a form with a number below one that there is
+-- a form with a smaller number than an existing one
 below-among : (forms : List CoreForm) (number part : ℕ) → number < length forms → part < number
     → IsAmong forms (form_at forms part)
 below-among forms number part within less = (part, omega (arith, within, less), refl)
 
--- the parts of what a node stands for that fits
+-- the parts of the form of a node that fits
 shape-among : (forms : List CoreForm) (origin : Extent) (number rules terminals : ℕ) (n : Node) → number < length forms
     → NodeFits number rules terminals n → PartsAre (IsAmong forms) (shape forms origin n)
 shape-among forms origin number rules terminals node.Empty within fits = tt
@@ -46,7 +46,7 @@ shape-among forms origin number rules terminals (node.Star part) within fits =
 shape-among forms origin number rules terminals (node.Not part) within fits =
     below-among forms number part within fits
 
--- so the parts of a form among these stand among them
+-- so the parts of a form among these are among them
 pub parts-among : (forms : List CoreForm) (rules terminals : ℕ) → AreOfNodes forms rules terminals → (form : CoreForm)
     → IsAmong forms form → PartsAre (IsAmong forms) form
 parts-among forms rules terminals spelled form among =
@@ -54,7 +54,7 @@ parts-among forms rules terminals spelled form among =
     subst (PartsAre (IsAmong forms)) (sym spells.1.1 ∙ among.2)
     (shape-among forms spells.1.0 among.0 rules terminals spells.0 among.1 spells.2)
 
--- what holds of all these forms holds of one among them
+-- a property of all these forms is a property of one among them
 pub held-among : (P : CoreForm → Type 0) (forms : List CoreForm) → All P forms → (form : CoreForm)
     → IsAmong forms form → P form
 held-among P forms all form among = subst P among.2 (all among.0 Empty among.1)
@@ -66,7 +66,7 @@ body-known core rule less =
     slice_get-map (form_at core.forms) core.bodies rule
     ∙ ap (option_map (form_at core.forms)) (slice_get-get_or core.bodies rule 0 less)
 
--- it stands among the forms
+-- it is among the forms
 pub body-among : (core : Desugared) → All (λ body. body < length core.forms) core.bodies
     → (rule : ℕ) (body : CoreForm) → slice_get (bodies_of core) rule ≡ Some body → IsAmong core.forms body
 body-among core within rule body is =

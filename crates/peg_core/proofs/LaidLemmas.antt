@@ -9,7 +9,7 @@ use Rattle.peg_core.specs.CoreParts.{sequences_of, choices_of}
 use Rattle.peg_core.specs.Laid.{Lays, LaysAll}
 use Rattle.peg_core.specs.Layout.{Layout, form_at}
 
--- forms keep their numbers when others come
+-- forms keep their numbers when others are appended
 pub form_at-kept : (old new : Layout) (parts : List CoreForm) (number : ℕ) → new.forms ≡ old.forms ++ parts
     → number < length old.forms → form_at new.forms number ≡ form_at old.forms number
 form_at-kept old new parts number grown within =
@@ -24,7 +24,7 @@ within-grown old new parts number grown within =
 abbrev pub pushed : Layout → CoreForm → Layout
 pushed old form = record old { forms = old.forms ++ form ∷ [] }
 
--- one form was put there
+-- one form was appended
 pub Lays-one : (old new : Layout) (form : CoreForm) (number : ℕ) → new ≡ pushed old form → number ≡ length old.forms
     → Lays old (form ∷ []) [] form number new
 Lays-one old new form number put last =
@@ -50,7 +50,7 @@ Lays-then old mid new parts more extents part form number last first then =
       last = then.last;
     }
 
--- two forms were put there, the second by the first
+-- two forms were appended, the second after the first
 pub Lays-two : (old mid new : Layout) (first second : CoreForm) (number last : ℕ) → Lays old (first ∷ []) [] first number mid
     → new ≡ pushed mid second → last ≡ length mid.forms → Lays old (first ∷ second ∷ []) [] second last new
 Lays-two old mid new first second number last one put at =
@@ -60,7 +60,7 @@ pub if_ok : {A E : Type 0} (P Q : A → Type 0) (r : Result A E) → ((x : A) �
 if_ok P Q (Ok x) to h = to x h
 if_ok P Q (Err e) to h = h
 
--- no form was put there
+-- no form was appended
 pub Lays-none : (old : Layout) (form : CoreForm) (number : ℕ) → number < length old.forms
     → form_at old.forms number ≡ form → Lays old [] [] form number old
 Lays-none old form number within last =
@@ -72,7 +72,7 @@ Lays-none old form number within last =
       last = last;
     }
 
--- nothing was put there
+-- nothing was appended
 pub LaysAll-none : (old : Layout) → LaysAll old [] [] [] [] old
 LaysAll-none old =
     record {
@@ -83,7 +83,7 @@ LaysAll-none old =
       each = refl;
     }
 
--- the forms of numbers stay when others come
+-- the forms with these numbers stay when others are appended
 pub forms-kept : (old new : Layout) (parts : List CoreForm) → new.forms ≡ old.forms ++ parts → (numbers : List ℕ)
     → All (λ number. number < length old.forms) numbers
     → map (form_at new.forms) numbers ≡ map (form_at old.forms) numbers
@@ -99,7 +99,7 @@ all_within-grown old new parts grown numbers within =
     All-weaker (λ number. number < length old.forms) (λ number. number < length new.forms)
     (λ number h. within-grown old new parts number grown h) numbers within
 
--- one more form behind some, with its number
+-- one more form, with its number
 pub LaysAll-push : (old mid new : Layout) (parts some : List CoreForm) (extents : List Extent) (numbers : List ℕ)
     (form : CoreForm) (number : ℕ) → LaysAll old parts extents some numbers mid → new ≡ pushed mid form
     → number ≡ length mid.forms
@@ -150,7 +150,7 @@ any_of-more : (form : CoreForm) (forms : List CoreForm) → 0 < length forms
 any_of-more form [] some = absurd (omega arith)
 any_of-more form (next ∷ rest) some = refl
 
--- the forms of numbers from one on
+-- the forms with these numbers, from one on
 abbrev pub forms_from : Layout → ℕ → List ℕ → List CoreForm
 forms_from old at numbers = map (form_at old.forms) (drop at numbers)
 
@@ -161,7 +161,7 @@ forms_from-more old at numbers within = ap (map (form_at old.forms)) (drop_more 
 pub length-forms_from : (old : Layout) (at : ℕ) (numbers : List ℕ) → length (forms_from old at numbers) ≡ length numbers - at
 length-forms_from old at numbers = length-map (drop at numbers) (form_at old.forms) ∙ length-drop at numbers
 
--- what is put there for the forms from one on, by one more step
+-- what is appended for the forms from one on, by one more step
 module _ (old mid new : Layout) (at : ℕ) (numbers : List ℕ) (rest number : ℕ) (some : at + 1 < length numbers) (all : All (λ n. n < length old.forms) numbers) where
   abbrev later : List CoreForm
   later = forms_from old (at + 1) numbers
@@ -231,7 +231,7 @@ choice-last old at numbers last all =
     subst (λ forms. Lays old (choices_in forms) [] (any_of forms) number old) (sym (forms_from-last old at numbers last))
     (Lays-none old (form_at old.forms number) number (all at 0 (omega arith)) refl)
 
--- how much a sequence adds
+-- the number of forms that a sequence adds
 pub length-sequences_of : (forms : List CoreForm) → length (sequences_of forms) ≤ length forms + 1
 length-sequences_of [] = omega arith
 length-sequences_of (first ∷ []) = omega arith
@@ -241,7 +241,7 @@ length-sequences_of (first ∷ next ∷ rest) =
 pub length-pushed : (old new : Layout) (form : CoreForm) → new ≡ pushed old form → length new.forms ≡ length old.forms + 1
 length-pushed old new form put = ap (λ (l : Layout). length l.forms) put ∙ length-append old.forms (form ∷ [])
 
--- a last form that was put there, if memory sufficed
+-- a last form was appended, unless an allocation failed
 pub if_pushed : {E : Type 0} (P : ℕ → Type 0) (r : Result ℕ E) (mid new : Layout) (form : CoreForm)
     → IfOk r (λ number. number ≡ length mid.forms) → OnOk r (new ≡ pushed mid form)
     → ((number : ℕ) → number ≡ length mid.forms → new ≡ pushed mid form → P number) → IfOk r P

@@ -1,11 +1,11 @@
--- A name means a rule whose body's core form stands at the rule's number among the bodies.
+-- A name denotes a rule, whose number is the index of the core form of its body.
 use Rattle.std.proofs.Common.{◌≡◌, ℕ, suc, ◌+◌, Bool, true, false, if◌then◌else◌, List, [], ◌∷◌, length, None, Some, option_map, unwrap_or, slice_get, bytes_eq, refl, sym, ap, ◌∙◌, zero-add, arith}
 use Rattle.std.proofs.lemmas.Option.{slice_get_past}
-use Rattle.peg_ford.specs.Form.{terminals}
-use Rattle.peg_ford.specs.Rules.{Rule, Meaning, meant_from, meant}
+use Rattle.peg_semantics.specs.Form.{terminals}
+use Rattle.peg_semantics.specs.Rules.{Rule, Meaning, meant_from, meant}
 use Rattle.peg_core.specs.CoreForm.{core_form, core_bodies_from, core_bodies, number_of}
 
--- the meaning is of the rule with this number behind the first, whose body's core form stands there
+-- a name denotes the rule with this number after the first, and the core form of its body is at this index
 abbrev StandsAt : List Rule → (rule terminal : ℕ) → List Rule → Meaning → Type 0
 StandsAt rules rule terminal some m =
     (i : ℕ) × (m.rule ≡ i + rule) × (slice_get (core_bodies_from rules terminal some) i ≡ Some (core_form rules m.terminal m.body))
@@ -43,12 +43,12 @@ length-core_bodies_from rules terminal (r ∷ rs) =
 pub length-core_bodies : (rules : List Rule) → length (core_bodies rules) ≡ length rules
 length-core_bodies rules = length-core_bodies_from rules 0 rules
 
--- the number of a name that means something is its rule's
+-- the number of a name that denotes a rule is the rule's
 pub number_of-meant : (rules : List Rule) (name : List ℕ) (m : Meaning) → meant rules name ≡ Some m
     → number_of rules name ≡ m.rule
 number_of-meant rules name m is = ap (λ o. unwrap_or (option_map (λ (m : Meaning). m.rule) o) (length rules)) is
 
--- and there stands the core form of what it means
+-- and the core form of the rule's body is at this index
 pub body-meant : (rules : List Rule) (name : List ℕ) (m : Meaning) → meant rules name ≡ Some m
     → slice_get (core_bodies rules) (number_of rules name) ≡ Some (core_form rules m.terminal m.body)
 body-meant rules name m is =
@@ -56,7 +56,7 @@ body-meant rules name m is =
     let number : number_of rules name ≡ stands.0 = number_of-meant rules name m is ∙ omega (arith, stands.1) in
     ap (slice_get (core_bodies rules)) number ∙ stands.2
 
--- a name that means nothing has the number past all rules
+-- a name that denotes no rule has the number of rules as its number
 pub body-unmeant : (rules : List Rule) (name : List ℕ) → meant rules name ≡ None
     → slice_get (core_bodies rules) (number_of rules name) ≡ None
 body-unmeant rules name is =

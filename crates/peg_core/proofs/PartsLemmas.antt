@@ -1,14 +1,14 @@
--- What stands among the core forms of a grammar: the core form of each written subexpression, exactly the stars of written
--- stars and pluses, and well-formed forms alone where the grammar is well-formed.
+-- The core forms of a grammar. They include the core form of each written subexpression, and their stars are exactly
+-- those of the written stars and pluses. All are well-formed if the grammar is.
 use Rattle.std.proofs.Common.{◌≡◌, ℕ, zero, suc, ◌+◌, List, [], ◌∷◌, ◌++◌, All, Contains, map, filter, flat_map, add_comm, refl, ap, ◌∙◌, subst, append-nil}
 use Rattle.std.proofs.lemmas.List.{map-append}
 use Rattle.std.proofs.lemmas.List.Elements.{All-nil, All-cons, All-head, All-tail, All-append, All-contains, All-weaker, All-push, All-map, Contains-append_left, Contains-append_right, Contains-push, filter-append}
 use Rattle.peg_bytes.specs.ByteSet.{only}
 use Rattle.peg_bytes.specs.Extent.{Extent}
-use Rattle.peg_ford.specs.Form.{Form, Forms, Literal, Class, Any, Name, Optional, Plus, Counted, And, End, Then, terminals}
-use Rattle.peg_ford.specs.Form as written
-use Rattle.peg_ford.specs.Rules as grammar
-use Rattle.peg_ford.specs.WellFormed.{IsWellFormedIn, IsWellFormed, IsWellFormedGrammar, below, below_all, subexpressions}
+use Rattle.peg_semantics.specs.Form.{Form, Forms, Literal, Class, Any, Name, Optional, Plus, Counted, And, End, Then, terminals}
+use Rattle.peg_semantics.specs.Form as written
+use Rattle.peg_semantics.specs.Rules as grammar
+use Rattle.peg_semantics.specs.WellFormed.{IsWellFormedIn, IsWellFormed, IsWellFormedGrammar, below, below_all, subexpressions}
 use Rattle.peg_core.specs.CoreForm.{CoreForm, Empty, Test, Seq, Choice, Star, Not, in_order, all_in_order, one_of, tests_of, unfolded, count_form, core_form, core_forms, core_bodies}
 use Rattle.peg_core.specs.CoreOutcomes.{IsCoreWellFormedIn, IsCoreWellFormed}
 use Rattle.peg_core.specs.CoreParts.{sequences_from, sequences_of, choices_of, optional_forms, plus_forms, rounds_of, count_forms, and_forms, core_parts, core_parts_of_all, core_parts_from, all_core_parts}
@@ -20,9 +20,9 @@ use Rattle.peg_core.proofs.SugarWellFormed.{IsWellFormed-to_core, IsWellFormed-f
 Contains-first : {X : Type 0} (x : X) (xs : List X) → Contains (x ∷ xs) x
 Contains-first x xs = Contains-append_left (x ∷ []) xs x (Contains-push [] x)
 
--- ---- each subexpression's core form is there
+-- ---- the core form of each subexpression is among them
 
--- the sequence of forms that are there
+-- the sequence of forms that are among them
 sequence-there : (parts forms : List CoreForm) → All (Contains parts) forms
     → Contains (parts ++ sequences_of forms) (all_in_order forms)
 sequence-there parts [] all = Contains-push parts Empty
@@ -32,7 +32,7 @@ sequence-there parts (form ∷ next ∷ rest) all =
     Contains-append_right parts (sequences_from form (next ∷ rest)) (in_order form (next ∷ rest))
     (Contains-push (sequences_from next rest) (Seq form (in_order next rest)))
 
--- the choice of a form that is there and others
+-- the choice of a form that is among them, and others
 choice-there : (parts : List CoreForm) (first : CoreForm) (rest : List CoreForm) → Contains parts first
     → Contains (parts ++ choices_of first rest) (one_of first rest)
 choice-there parts first [] there = Contains-append_left parts [] first there
@@ -40,7 +40,7 @@ choice-there parts first (next ∷ rest) there =
     Contains-append_right parts (choices_of first (next ∷ rest)) (one_of first (next ∷ rest))
     (Contains-push (choices_of next rest) (Choice first (one_of next rest)))
 
--- what a count unfolds to is its last round, and a count's form is the last of its own
+-- an unfolded count is its last iteration, and the form of a count is the last of its forms
 round-there : (parts : List CoreForm) (part : CoreForm) (min max : ℕ)
     → Contains (parts ++ rounds_of part min (suc max)) (unfolded part min (suc max))
 round-there parts part zero max =
@@ -173,12 +173,12 @@ module _ (rules : List grammar.Rule) where
       All-append (Stands (parts ++ more)) (numbered_in t r.body) (numbered_from later rs)
       (more-left parts more (numbered_in t r.body) (stand r.body t)) (more-right parts more (numbered_from later rs) (stand_from rs later))
 
--- each written subexpression's core form is among those of all rules
+-- the core form of each written subexpression is among those of all rules
 pub subexpressions-stand : (rules : List grammar.Rule)
     → All (λ (n : Numbered). Contains (all_core_parts rules) (core_form rules n.terminal n.form)) (numbered_subexpressions rules)
 subexpressions-stand rules = stand_from rules rules 0
 
--- ---- the subexpressions are those that are numbered
+-- ---- the subexpressions are the numbered ones
 
 mutual
   pub forms_below : (e : Form) (t : ℕ) → map (λ (n : Numbered). n.form) (numbered_below t e) ≡ below e
@@ -329,7 +329,7 @@ module _ (rules : List grammar.Rule) where
   unfolding IsCoreWellFormedIn
   right-Test t b = (1, tt)
 
-  -- both in some round
+  -- both are well-formed in one number of rounds
   right-both : (a b : CoreForm) → Right a → Right b
       → (n : ℕ) × IsCoreWellFormedIn (core_bodies rules) n a × IsCoreWellFormedIn (core_bodies rules) n b
   right-both a b h k =
@@ -413,7 +413,7 @@ module _ (rules : List grammar.Rule) where
   abbrev Fine : Form → Type 0
   Fine e = IsWellFormed rules e
 
-  -- a plus is well-formed where the star of its part is
+  -- a plus is well-formed if the star of its part is
   plus-star_in : (part : Form) (span : Extent) (n : ℕ) → IsWellFormedIn rules n (Plus part span)
       → IsWellFormedIn rules n (written.Star part span)
   unfolding IsWellFormedIn
@@ -423,7 +423,7 @@ module _ (rules : List grammar.Rule) where
   plus-star : (part : Form) (span : Extent) → Fine (Plus part span) → Fine (written.Star part span)
   plus-star part span is = (is.0, plus-star_in part span is.0 is.1)
 
-  -- the core form of a fine expression
+  -- the core form of a well-formed expression
   fine-right : (e : Form) (t : ℕ) → Fine e → Right (core_form rules t e)
   fine-right e t is = IsWellFormed-to_core rules e t is
 
@@ -536,7 +536,7 @@ module _ (rules : List grammar.Rule) where
       (fine-numbered parts (all-left Right parts more all) (numbered_in t r.body) (stand rules r.body t)))
       (fine_from rs later (all-right Right parts more all))
 
--- a grammar is well-formed exactly where all its core forms are
+-- a grammar is well-formed exactly if all its core forms are
 pub grammar-right : (rules : List grammar.Rule) → IsWellFormedGrammar rules
     → All (IsCoreWellFormed (core_bodies rules)) (all_core_parts rules)
 grammar-right rules all = rights_from rules rules 0 all

@@ -1,21 +1,21 @@
--- How records of parts that are reached in some n make records of the whole that are reached in some n: one rule for each
+-- Records that are reached in some n, from records of parts that are reached in some n. There is one lemma for each
 -- combinator of the recognition table, for written expressions and core forms alike.
 use Rattle.std.proofs.Common.{◌≡◌, ◌≢◌, ℕ, zero, suc, ◌+◌, Option, None, Some, refl, sym, ap, ◌∙◌, subst, option_map, option_and_then, append-nil, zero-add, suc-add, add_comm}
 use Rattle.peg_tree.specs.Trees.{Trees, NoTrees}
 use Rattle.peg_tree.specs.TreesCode.{followed_by-none}
-use Rattle.peg_ford.specs.Record.{Recognition, Failed, Matched, Record, after_both, behind, followed, then_at, replaced, or_else, repeated, matched_at, if_matched, if_failed, with_result, take_times}
-use Rattle.peg_ford.proofs.RecordLemmas.{Extends}
-use Rattle.peg_ford.proofs.ResultSteps.{rounds_cases, some_case}
+use Rattle.peg_semantics.specs.Record.{Recognition, Failed, Matched, Record, after_both, behind, followed, then_at, replaced, or_else, repeated, matched_at, if_matched, if_failed, with_result, take_times}
+use Rattle.peg_semantics.proofs.RecordLemmas.{Extends}
+use Rattle.peg_semantics.proofs.ResultSteps.{rounds_cases, some_case}
 
--- answers, one for each n, that stay
+-- results in each n, which stay in n + 1
 abbrev pub Grows : (ℕ → Option Record) → Type 0
 Grows f = (n : ℕ) → Extends (f n) (f (suc n))
 
--- this answer in some n
+-- this result in some n
 abbrev pub InSome : (ℕ → Option Record) → Record → Type 0
 InSome f r = (n : ℕ) × (f n ≡ Some r)
 
--- what is answered is also answered in some n
+-- a result is also a result in some n
 abbrev pub IsReached : Option Record → (ℕ → Option Record) → Type 0
 IsReached o f = (r : Record) → o ≡ Some r → InSome f r
 
@@ -23,7 +23,7 @@ grown : (f : ℕ → Option Record) → Grows f → (more n : ℕ) → Extends (
 grown f grows zero n r h = rw zero-add h
 grown f grows (suc more) n r h = rw suc-add (grows (more + n) r (grown f grows more n r h))
 
--- two answers in some n each are both answered in one
+-- two results, each in some n, are both results in one n
 both_in_some : (f g : ℕ → Option Record) (p q : Record) → Grows f → Grows g → InSome f p → InSome g q
     → (n : ℕ) × (f n ≡ Some p) × (g n ≡ Some q)
 both_in_some f g p q grows also a b = (
@@ -65,7 +65,7 @@ IsReached-map F (Some p) f h r e = ((h p refl).0, ap (option_map F) (h p refl).1
 -- ---- one after the other
 
 module _ (p : Record) (f : ℕ → Option Record) (g : ℕ → ℕ → Option Record) (grows : Grows f) (from : InSome f p) where
-  -- the part matched, and what is next answers
+  -- the part matched, and what comes next has a result
   after_match : (F : Record → Record) (end : ℕ) (r : Record) (o : Option Record) → Grows (λ n. g n end)
       → IsReached o (λ n. g n end) → option_map F o ≡ Some r
       → (n : ℕ) × (f n ≡ Some p) × (option_map F (g n end) ≡ Some r)
@@ -138,7 +138,7 @@ IsReached-or_else None other f g grows also h k r e = cc
 IsReached-or_else (Some p) other f g grows also h k r e =
     replaced-in_some p p.result refl other f g r grows also (h p refl) k e
 
--- ---- what the combinators make of nothing
+-- ---- combinators with the empty expression
 
 -- a part and then nothing is the part
 behind-matched_at : (p : Record) (x : Recognition) → p.result ≡ x
@@ -155,7 +155,7 @@ pub then_at-nothing : (o : Option Record) → then_at o (λ end. Some (matched_a
 then_at-nothing None = refl
 then_at-nothing (Some p) = behind-matched_at p p.result refl
 
--- nothing, and then a part, is the part
+-- nothing and then a part is the part
 behind-none : (x : Recognition) → behind NoTrees x ≡ x
 behind-none Failed = refl
 behind-none (Matched end trees) = refl
@@ -163,14 +163,14 @@ behind-none (Matched end trees) = refl
 pub after_both-nothing : (end : ℕ) (p : Record) → after_both (matched_at end) p (behind NoTrees p.result) ≡ p
 after_both-nothing end p = λ i. record { result = behind-none p.result i; tests = p.tests; uses = p.uses }
 
--- ---- a part at most so many times is the part and the rest, or else nothing
+-- ---- a part at most n times is the part and the rest, or else nothing
 
--- a match behind another is one
+-- a match after another is a match
 behind-matches : (trees : Trees) (x : Recognition) → x ≢ Failed → behind trees x ≢ Failed
 behind-matches trees Failed matches is = matches refl
 behind-matches trees (Matched end more) matches is = cc
 
--- at most so many times is never too few
+-- a part at most n times never fails
 times-match : (take : ℕ → Option Record) (max place : ℕ) (r : Record) → take_times take zero max place ≡ Some r
     → r.result ≢ Failed
 times-match take zero place r is = some_case (λ x. x ≢ Failed) (matched_at place) r (λ bad. cc) is
@@ -178,7 +178,7 @@ times-match take (suc max) place r is =
     rounds_cases (λ x. x ≢ Failed) (take place) place (λ end. take_times take zero max end) r (λ part e f bad. cc)
     (λ part more end trees e f g. behind-matches trees more.result (times-match take max end more g)) is
 
--- so the round that matched stands as it is
+-- so an iteration that matched is kept
 round-stands : (x : Recognition) → x ≢ Failed → (r : Record) (other : Option Record) → replaced x r other ≡ Some r
 round-stands Failed matches r other = absurd (matches refl)
 round-stands (Matched end trees) matches r other = refl
@@ -207,7 +207,7 @@ rounds-times take max place (Some round) = by round.result refl
     by Failed is = ap (λ x. replaced x round (Some (matched_at place))) (sym is)
     by (Matched end trees) is = matched end trees (next end) refl
 
--- the predicate of the predicate
+-- the predicate of a predicate
 abbrev pub unless : ℕ → Record → Record
 unless place r = with_result r (if_failed r.result place)
 

@@ -4,23 +4,23 @@ use Rattle.std.specs.List.{list_all}
 use Rattle.std.proofs.lemmas.List.{map-append}
 use Rattle.std.proofs.lemmas.List.Elements.{All-nil, All-push}
 use Rattle.std.proofs.lemmas.List.Sums.{sum_by-cons}
-use Rattle.peg_ford.specs.Form.{Form, Reference, counts_written, terminals, form_weight}
-use Rattle.peg_ford.specs.Grammar.{IsGrammar, is_in_range}
-use Rattle.peg_ford.specs.Rules.{Rule, counts, uses, is_defined, weight_of}
-use Rattle.peg_ford.specs.Terminals.{terminal_extents, extents_of_terminals}
-use Rattle.peg_ford.proofs.GrammarLemmas.{searches_from_IsGrammar}
+use Rattle.peg_semantics.specs.Form.{Form, Reference, counts_written, terminals, form_weight}
+use Rattle.peg_semantics.specs.Grammar.{IsGrammar, is_in_range}
+use Rattle.peg_semantics.specs.Rules.{Rule, counts, uses, is_defined, weight_of}
+use Rattle.peg_semantics.specs.Terminals.{terminal_extents, extents_of_terminals}
+use Rattle.peg_semantics.proofs.GrammarLemmas.{searches_from_IsGrammar}
 use Rattle.peg_core.specs.CoreForm.{core_form, core_bodies_from, core_bodies}
 use Rattle.peg_core.specs.CoreParts.{core_parts, core_parts_from, all_core_parts, are_defined, are_in_range}
 use Rattle.peg_core.specs.Laid.{LaysForm}
-use Rattle.peg_core.specs.Layout.{Layout, form_at, most_forms_each}
+use Rattle.peg_core.specs.Layout.{Layout, form_at, max_forms_each}
 use Rattle.peg_core.proofs.AddLemmas.{LaysForm-spans, length-core_parts, are_in_range-left, are_in_range-right}
 use Rattle.peg_core.proofs.LaidLemmas.{forms-kept, all_within-grown}
 
--- how much the expressions of rules weigh
+-- the weight of the rules' expressions
 abbrev pub body_weights : List Rule → ℕ
 body_weights rules = sum_by (λ (rule : Rule). form_weight rule.body) rules
 
--- the rule with a number, whose expression this is, and those after it
+-- the rule with a number, which has this expression, and those after it
 pub rules-drop : (rules : List Rule) (i : ℕ) (e : Form) → option_map (λ (r : Rule). r.body) (slice_get rules i) ≡ Some e
     → (r : Rule) × (drop i rules ≡ r ∷ drop (i + 1) rules) × (r.body ≡ e)
 rules-drop [] i e is = cc
@@ -30,7 +30,7 @@ rules-drop (r ∷ rs) (suc i) e is =
 
 -- ---- names
 
--- where none fails a test, all pass it
+-- if none fails a test, all pass it
 all_pass : {X : Type 0} (p : X → Bool) (some : List X) → find (λ (x : X). not (p x)) some ≡ None
     → list_all p some ≡ true
 all_pass p [] none = refl
@@ -51,10 +51,10 @@ grammar-defined rules grammar =
 pub grammar-ranged : (rules : List Rule) → IsGrammar rules → are_in_range (counts rules) ≡ true
 grammar-ranged rules grammar = all_pass is_in_range (counts rules) (searches_from_IsGrammar rules grammar).3
 
--- ---- how many core forms there are
+-- ---- the number of core forms
 
 length-core_parts_from : (rules : List Rule) (terminal : ℕ) (some : List Rule) → are_in_range (counts some) ≡ true
-    → length (core_parts_from rules terminal some) ≤ most_forms_each * body_weights some
+    → length (core_parts_from rules terminal some) ≤ max_forms_each * body_weights some
 length-core_parts_from rules terminal [] ranged = omega arith
 length-core_parts_from rules terminal (r ∷ rs) ranged =
     let later = terminal + terminals r.body in
@@ -63,13 +63,13 @@ length-core_parts_from rules terminal (r ∷ rs) ranged =
     omega (arith, length-core_parts rules r.body terminal here, length-core_parts_from rules later rs behind, length-append (core_parts rules terminal r.body) (core_parts_from rules later rs), sum_by-cons (λ (rule : Rule). form_weight rule.body) r rs)
 
 pub length-all_core_parts : (rules : List Rule) → are_in_range (counts rules) ≡ true
-    → length (all_core_parts rules) ≤ most_forms_each * weight_of rules
+    → length (all_core_parts rules) ≤ max_forms_each * weight_of rules
 length-all_core_parts rules ranged = omega (arith, length-core_parts_from rules 0 rules ranged)
 
 -- ---- rule by rule
 
 module _ (rules : List Rule) where
-  -- what the rules so far put there, before the rest
+  -- the forms of the rules so far, before the rest
   pub record RulesSoFar (rest : List Rule) (bodies : List ℕ) (now : Layout) : Type 0 where
     pub forms : now.forms ++ core_parts_from rules (length now.spans) rest ≡ all_core_parts rules
     pub spans : now.spans ++ extents_of_terminals rest ≡ extents_of_terminals rules

@@ -1,4 +1,4 @@
--- What the set of one byte and that of all bytes have.
+-- The elements of the set of one byte and of the set of all bytes.
 use Rattle.std.proofs.Common.{◌≡◌, ℕ, ◌+◌, ◌<◌, ◌==◌, max, Bool, true, false, length, inl, inr, refl, sym, ◌∙◌, arith}
 use Rattle.std.proofs.lemmas.Bool.{cases_lt, ne_eqb}
 use Rattle.std.proofs.lemmas.Bool.Decides.{eqb_tells}
@@ -18,18 +18,18 @@ unfolding only
 has-only_within byte other within =
     get_or-map-range_with_len (λ other. other == byte) 0 (max 256 (byte + 1)) other other false within (omega arith)
 
--- the set of one byte has that byte and no other
+-- the set of one byte contains that byte and no other
 pub has-only : (byte other : ℕ) → has (only byte) other ≡ (other == byte)
 has-only byte other =
     elim (cases_lt other (max 256 (byte + 1))) [ inl within ↦ has-only_within byte other within | inr past ↦ get_or_past (only byte) other false (omega (arith, length-only byte)) ∙ sym (ne_eqb other byte (λ same. omega arith)) ]
 
--- and so some byte
+-- so it isn't empty
 pub has_some-only : (byte : ℕ) → has_some (only byte) ≡ true
 has_some-only byte =
     list_any_at (λ (flag : Bool). flag) (only byte) byte false (omega (arith, length-only byte))
     (elim (eqb_tells byte byte) as (λ _. has (only byte) byte ≡ true) [ inl same ↦ has-only byte byte ∙ same.0 | inr differs ↦ absurd (differs.1 refl) ])
 
--- the set of all bytes has each
+-- the set of all bytes contains each byte
 pub has-all_bytes : (byte : ℕ) → byte < 256 → has all_bytes byte ≡ true
 unfolding all_bytes
 has-all_bytes byte within = get_or-replicate 256 byte true false within
@@ -42,14 +42,14 @@ pub has_some-all_bytes : has_some all_bytes ≡ true
 has_some-all_bytes =
     list_any_at (λ (flag : Bool). flag) all_bytes 0 false (omega (arith, length-all_bytes)) (has-all_bytes 0 (omega arith))
 
--- a `ByteSet` that has one byte alone is the set of that byte
+-- a `ByteSet` that contains one byte alone is the set of that byte
 pub bytes_of-only : (set : ByteSet) (byte : ℕ) → byte < 256 → ((other : ℕ) → has (bytes_of set) other ≡ (other == byte))
     → bytes_of set ≡ only byte
 bytes_of-only set byte within alone =
     ext_get_or false (bytes_of set) (only byte) (omega (arith, length-bytes_of set, length-only byte))
     (λ i _. alone i ∙ sym (has-only byte i))
 
--- a `ByteSet` that has each byte is the set of all bytes
+-- a `ByteSet` that contains each byte is the set of all bytes
 pub bytes_of-all : (set : ByteSet) → ((byte : ℕ) → byte < 256 → has (bytes_of set) byte ≡ true)
     → bytes_of set ≡ all_bytes
 bytes_of-all set each =

@@ -1,4 +1,4 @@
--- Nodes whose sets stand aside.
+-- Nodes with their sets in a separate list.
 use Rattle.std.proofs.Common.{◌≡◌, ℕ, zero, suc, ◌+◌, ◌≤◌, All, List, [], ◌∷◌, ◌++◌, length}
 use Rattle.std.proofs.Common.{refl, ap, ◌∙◌, subst, sym, arith, length-append}
 use Rattle.std.proofs.lemmas.List.{get_or_append_left, map-append}
@@ -12,7 +12,7 @@ use Rattle.peg_core.specs.declared.packed.Slot.TheVariants as slot
 use Rattle.peg_core.specs.declared.packed.SlotAndOrigin.{SlotAndOrigin}
 use Rattle.peg_core.specs.declared.packed.Nodes.TheInside.{Inside}
 
--- ---- more sets behind others
+-- ---- more sets are appended
 
 slot-more : (sets more : List ByteSet) (s : Slot) → SlotFits (length sets) s
     → unpacked_slot (sets ++ more) s ≡ unpacked_slot sets s

@@ -1,9 +1,9 @@
--- Each core form of a grammar stands in the body of a rule.
+-- Each core form of a grammar is part of the body of a rule.
 use Rattle.std.proofs.Common.{ℕ, zero, suc, ◌+◌, ◌⊎◌, inl, inr, All, List, [], ◌∷◌, ◌++◌, refl}
 use Rattle.std.proofs.lemmas.List.Elements.{All-nil, All-cons, All-append, All-weaker}
-use Rattle.peg_ford.specs.Form.{Form, Forms, End, Then, terminals}
-use Rattle.peg_ford.specs.Form as written
-use Rattle.peg_ford.specs.Rules.{Rule as WrittenRule}
+use Rattle.peg_semantics.specs.Form.{Form, Forms, End, Then, terminals}
+use Rattle.peg_semantics.specs.Form as written
+use Rattle.peg_semantics.specs.Rules.{Rule as WrittenRule}
 use Rattle.peg_core.specs.CoreForm.{CoreForm, Empty, Test, Rule, Seq, Choice, Star, Not, in_order, all_in_order, one_of, tests_of, unfolded, count_form, core_form, core_forms, core_bodies, core_bodies_from}
 use Rattle.peg_core.specs.CoreLoops.{StandsIn, StandsInBody}
 use Rattle.peg_core.specs.CoreParts.{sequences_from, sequences_of, choices_of, rounds_of, count_forms, core_parts, core_parts_of_all, core_parts_from, all_core_parts}
@@ -17,7 +17,7 @@ stands-itself (Choice first rest) = inl refl
 stands-itself (Star part origin) = inl refl
 stands-itself (Not part) = inl refl
 
--- a form stands in one of these
+-- a form is part of one of these
 abbrev StandsInAny : List CoreForm → CoreForm → Type 0
 StandsInAny [] form = ⊥
 StandsInAny (whole ∷ more) form = StandsIn form whole ⊎ StandsInAny more form
@@ -210,7 +210,7 @@ module _ (rules : List WrittenRule) where
       (All-weaker (λ form. StandsIn form (core_form rules terminal rule.body)) P (λ form h. inl h) (core_parts rules terminal rule.body) (parts-stand terminal rule.body))
       (All-weaker (StandsInAny others) P (λ form h. inr h) (core_parts_from rules next more) (rules-stand next more))
 
--- by the rule's number
+-- by the number of the rule
 numbered : (bodies : List CoreForm) (form : CoreForm) → StandsInAny bodies form → StandsInBody bodies form
 numbered [] form none = absurd none
 numbered (body ∷ more) form (inl here) = (0, here)

@@ -1,14 +1,14 @@
--- The empty loops of a rule are the same on written expressions and on their core forms.
+-- A rule has the same empty loops in its written expression and in its core form.
 use Rattle.std.proofs.Common.{◌≡◌, ◌⊎◌, inl, inr, ℕ, zero, suc, ◌+◌, List, [], ◌∷◌, ◌++◌, All, Contains}
 use Rattle.std.proofs.Common.{Option, None, Some, slice_get, refl, sym, ap, ◌∙◌, subst}
 use Rattle.std.proofs.lemmas.List.Elements.{All-contains, All-weaker, All-map, Contains-append_left}
 use Rattle.std.proofs.lemmas.List.Elements.{Contains-append_right, Contains-push}
 use Rattle.peg_bytes.specs.Extent.{Extent}
-use Rattle.peg_ford.specs.Form.{Form, Forms, Literal, Class, Any, Name, Optional, Plus, Counted, And, End, Then, terminals}
-use Rattle.peg_ford.specs.Form as written_form
-use Rattle.peg_ford.specs.Loops.{WritesLoop, IsEmptyLoop}
-use Rattle.peg_ford.specs.Rules as grammar
-use Rattle.peg_ford.specs.WellFormed.{below, below_all, subexpressions}
+use Rattle.peg_semantics.specs.Form.{Form, Forms, Literal, Class, Any, Name, Optional, Plus, Counted, And, End, Then, terminals}
+use Rattle.peg_semantics.specs.Form as written_form
+use Rattle.peg_semantics.specs.Loops.{WritesLoop, IsEmptyLoop}
+use Rattle.peg_semantics.specs.Rules as grammar
+use Rattle.peg_semantics.specs.WellFormed.{below, below_all, subexpressions}
 use Rattle.peg_core.specs.CoreForm.{CoreForm, Empty, Test, Rule, Seq, Choice, Star, Not, in_order, all_in_order, one_of}
 use Rattle.peg_core.specs.CoreForm.{tests_of, unfolded, count_form}
 use Rattle.peg_core.specs.CoreForm.{core_form, core_forms, core_bodies}
@@ -21,9 +21,9 @@ use Rattle.peg_core.proofs.StandingLemmas.{stands-itself, parts-stand}
 use Rattle.peg_core.proofs.SugarMeets.{BodyAt, body-at}
 use Rattle.peg_core.proofs.SugarOutcomes.{GivesNothing-to_core, GivesNothing-from_core}
 
--- ---- a written loop's star stands in the core form
+-- ---- the star of a written loop is part of the core form
 
--- what a form's last part is, is a part of what the form stands in
+-- the last part of a form is part of each form that contains the form
 stands-last : (first last whole : CoreForm) → StandsIn (Seq first last) whole → StandsIn last whole
 stands-last first last Empty is = cc
 stands-last first last (Test set terminal) is = cc
@@ -41,7 +41,7 @@ stands-last first last (Not part) (inl is) = cc
 stands-last first last (Not part) (inr in_part) = inr (stands-last first last part in_part)
 
 module _ (rules : List grammar.Rule) where
-  -- the core form of an expression stands in this one
+  -- the core form of an expression is part of this one
   abbrev Standing : CoreForm → Form → Type 0
   Standing whole e = (terminal : ℕ) × StandsIn (core_form rules terminal e) whole
 
@@ -70,13 +70,13 @@ module _ (rules : List grammar.Rule) where
       let form = core_form rules there.0 part in
       (there.0, stands-last form (Star form span) whole there.1)
 
--- ---- a star in a core form comes of a written loop
+-- ---- a star in a core form comes from a written loop
 
 module _ (part : CoreForm) (origin : Extent) where
   abbrev star : CoreForm
   star = Star part origin
 
-  -- the star stands in one of these
+  -- the star is part of one of these
   abbrev InSome : List CoreForm → Type 0
   InSome [] = ⊥
   InSome (form ∷ forms) = StandsIn star form ⊎ InSome forms
@@ -103,7 +103,7 @@ module _ (part : CoreForm) (origin : Extent) where
   not-test terminal (b ∷ bs) (inl is) = cc
   not-test terminal (b ∷ bs) (inr there) = not-test terminal bs there
 
-  -- a star in a count stands in its part
+  -- a star in a count is part of the count's part
   unfolded-part : (round : CoreForm) (min max : ℕ) → StandsIn star (unfolded round min max) → StandsIn star round
   unfolded-part round min zero is = cc
   unfolded-part round zero (suc max) (inl is) = cc
@@ -210,10 +210,10 @@ module _ (part : CoreForm) (origin : Extent) where
       items-come (Then e rest) terminal (inr there) =
           comes-right (subexpressions e) (below_all rest) (items-come rest (terminal + terminals e) there)
 
--- ---- so empty loops are the same
+-- ---- so the empty loops are the same
 
 module _ (rules : List grammar.Rule) (span : Extent) where
-  -- a star of this place in a body, whose part gives 0
+  -- a star in a body, written at this span, whose part can succeed without consuming a byte
   abbrev HasLoop : CoreForm → Type 0
   HasLoop body = (part : CoreForm) × (StandsIn (Star part span) body × CoreGivesNothing (core_bodies rules) part)
 

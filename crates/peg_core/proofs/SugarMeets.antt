@@ -1,13 +1,14 @@
--- Rules meet first the same rules on written expressions and on their core forms, and so have the same left cycles.
+-- Rules left-call the same rules in their written expressions and in their core forms, so they have the same left
+-- cycles.
 use Rattle.std.proofs.Common.{◌≡◌, ◌⊎◌, inl, inr, ℕ, zero, suc, ◌+◌, ◌<◌, List, [], ◌∷◌, ◌++◌, length}
 use Rattle.std.proofs.Common.{Option, None, Some, option_map, unwrap_or, slice_get, refl, sym, ap, ◌∙◌, subst, arith}
 use Rattle.std.proofs.lemmas.Option.{slice_get_within}
-use Rattle.peg_ford.specs.AbstractOutcomes.{GivesNothing}
-use Rattle.peg_ford.specs.Form.{Form, Forms, Literal, Class, Any, Name, Optional, Plus, Counted, And, End, Then, terminals}
-use Rattle.peg_ford.specs.Form as written_form
-use Rattle.peg_ford.specs.Loops.{Reaches, ItemsReach, SomeReaches, MeetsFirst, MeetInTurn, IsLeftCycle}
-use Rattle.peg_ford.specs.Rules.{Meaning, meant}
-use Rattle.peg_ford.specs.Rules as grammar
+use Rattle.peg_semantics.specs.AbstractOutcomes.{GivesNothing}
+use Rattle.peg_semantics.specs.Form.{Form, Forms, Literal, Class, Any, Name, Optional, Plus, Counted, And, End, Then, terminals}
+use Rattle.peg_semantics.specs.Form as written_form
+use Rattle.peg_semantics.specs.Loops.{Reaches, ItemsReach, SomeReaches, MeetsFirst, MeetInTurn, IsLeftCycle}
+use Rattle.peg_semantics.specs.Rules.{Meaning, meant}
+use Rattle.peg_semantics.specs.Rules as grammar
 use Rattle.peg_bytes.specs.ByteSet.{only}
 use Rattle.peg_core.specs.CoreForm.{CoreForm, Test, in_order, all_in_order, one_of, tests_of, unfolded, count_form, number_of}
 use Rattle.peg_core.specs.CoreForm.{core_form, core_forms, core_bodies_from, core_bodies}
@@ -15,10 +16,10 @@ use Rattle.peg_core.specs.CoreLoops.{CoreMeets, CoreMeetsFirst, CoreMeetInTurn, 
 use Rattle.peg_core.specs.CoreOutcomes.{CoreGivesNothing, BodyIs}
 use Rattle.peg_core.proofs.SugarOutcomes.{GivesNothing-to_core, GivesNothing-from_core}
 
--- ---- forms in order, and one of some forms
+-- ---- sequences and choices
 
 module _ (bodies : List CoreForm) (rule : ℕ) where
-  -- what is met from forms in order is met from the first, or where that gives 0 from the others
+  -- A sequence left-calls a rule if its first form does, or if that has outcome 0 and the others do.
   order-to : (first : CoreForm) (rest : List CoreForm)
       → CoreMeets bodies first rule ⊎ (CoreGivesNothing bodies first × CoreMeets bodies (all_in_order rest) rule)
       → CoreMeets bodies (in_order first rest) rule
@@ -30,7 +31,7 @@ module _ (bodies : List CoreForm) (rule : ℕ) where
   order-from first [] meets = inl meets
   order-from first (next ∷ rest) meets = meets
 
-  -- it is met from one of these
+  -- one of these left-calls the rule
   abbrev SomeMeet : List CoreForm → Type 0
   SomeMeet [] = ⊥
   SomeMeet (form ∷ forms) = CoreMeets bodies form rule ⊎ SomeMeet forms
@@ -46,7 +47,7 @@ module _ (bodies : List CoreForm) (rule : ℕ) where
   one-from first (next ∷ rest) meets =
       elim meets [ inl here ↦ inl here | inr there ↦ inr (one-from next rest there) ]
 
-  -- a literal meets no rule
+  -- a literal left-calls no rule
   tests-meet : (terminal : ℕ) (bytes : List ℕ) → CoreMeets bodies (all_in_order (tests_of terminal bytes)) rule → ⊥
   tests-meet terminal [] meets = meets
   tests-meet terminal (b ∷ bs) meets =
@@ -55,7 +56,7 @@ module _ (bodies : List CoreForm) (rule : ℕ) where
         | inr there ↦ tests-meet terminal bs there.1
       ]
 
-  -- a count meets what its part does
+  -- a count left-calls the rules that its part does
   count-to : (part : CoreForm) (min max : ℕ) → CoreMeets bodies part rule → CoreMeets bodies (count_form part min max) rule
   count-to part min zero meets = inr meets
   count-to part zero (suc max) meets = inl (inl meets)
@@ -77,7 +78,7 @@ module _ (bodies : List CoreForm) (rule : ℕ) where
   count-from part min zero meets = elim meets [ inl nothing ↦ absurd nothing | inr here ↦ here ]
   count-from part min (suc max) meets = unfolded-from part min (suc max) meets
 
--- ---- from an expression a name is reached where its rule is met from the core form
+-- ---- an expression reaches a name if its core form left-calls the name's rule
 
 module _ (rules : List grammar.Rule) where
   abbrev bodies : List CoreForm
@@ -193,7 +194,7 @@ module _ (rules : List grammar.Rule) where
                 also (SomeReaches Idles rest) (SomeReaches Idles (Then e rest)) (λ name h. inr h) behind
           ]
 
--- ---- a rule and its body have one number
+-- ---- a rule and its body have the same number
 
 -- there is neither, or the body is the core form of the rule's expression
 abbrev pub BodyAt : List grammar.Rule → Option grammar.Rule → Option CoreForm → Type 0
@@ -210,10 +211,10 @@ body_from-at rules terminal (r ∷ rs) (suc i) = body_from-at rules (terminal + 
 pub body-at : (rules : List grammar.Rule) (i : ℕ) → BodyAt rules (slice_get rules i) (slice_get (core_bodies rules) i)
 body-at rules i = body_from-at rules 0 rules i
 
--- ---- so the same rules are met first
+-- ---- so the same rules are left-called
 
 module _ (rules : List grammar.Rule) where
-  -- the number of a name that means a rule is the rule's
+  -- the number of a name that denotes a rule is the rule's
   number-means : (name : List ℕ) (rule : ℕ) → option_map (λ (m : Meaning). m.rule) (meant rules name) ≡ Some rule
       → number_of rules name ≡ rule
   number-means name rule means = ap (λ o. unwrap_or o (length rules)) means
@@ -269,7 +270,7 @@ module _ (rules : List grammar.Rule) where
       meets_first-at first second (slice_get rules first) (slice_get (core_bodies rules) first) (body-at rules first)
       refl within meets
 
-  -- ---- and left cycles are the same
+  -- ---- and the left cycles are the same
 
   in_turn-to_core : (before : ℕ) (path : List ℕ) → MeetInTurn (MeetsFirst rules) before path
       → CoreMeetInTurn (core_bodies rules) before path
@@ -280,7 +281,7 @@ module _ (rules : List grammar.Rule) where
   IsLeftCycle-to_core [] cycle = cycle
   IsLeftCycle-to_core (first ∷ more) cycle = in_turn-to_core first (more ++ first ∷ []) cycle
 
-  -- a rule that meets another first is one of the rules
+  -- a rule that left-calls another is one of the rules
   meeting-at : (first second : ℕ) (rule : Option grammar.Rule) (body : Option CoreForm) → BodyAt rules rule body
       → slice_get rules first ≡ rule → BodyIs (λ form. CoreMeets (core_bodies rules) form second) body
       → first < length rules

@@ -2,21 +2,21 @@
 use Rattle.std.proofs.Common.{◌≡◌, ℕ, zero, suc, ◌+◌, Bool, true, false, List, [], ◌∷◌, Option, None, Some, refl, sym, ap, subst, slice_get, zero-add, suc-add, add_comm}
 use Rattle.peg_bytes.specs.ByteSet.{only, all_bytes}
 use Rattle.peg_bytes.specs.Extent.{Extent}
-use Rattle.peg_ford.specs.AbstractOutcomes.{Can, CanAll, cannot, only_nothing, something_or_fails, can_of_set, both, either, or_nothing, again, once_and_again, times, ahead, not_ahead, judge_items, judge_first, judge_meaning, can_table, can_in, GivesNothing, GivesSomething, CanFail}
-use Rattle.peg_ford.specs.Form.{Form, Forms, Literal, Class, Any, Name, Optional, Plus, Counted, And, End, Then, terminals}
-use Rattle.peg_ford.specs.Form as written_form
-use Rattle.peg_ford.specs.Rules.{Meaning, meant}
-use Rattle.peg_ford.specs.Rules as grammar
-use Rattle.peg_ford.proofs.RoundsLemmas.{CanAll-refl, CanAll-trans, CanAll-cannot, CanAll-both, CanAll-either, CanAll-again, CanAll-times, CanAll-not_ahead, CanAll-items, CanAll-first, can_in-more}
+use Rattle.peg_semantics.specs.AbstractOutcomes.{Can, CanAll, cannot, only_nothing, something_or_fails, can_of_set, both, either, or_nothing, again, once_and_again, times, ahead, not_ahead, judge_items, judge_first, judge_meaning, can_table, can_in, GivesNothing, GivesSomething, CanFail}
+use Rattle.peg_semantics.specs.Form.{Form, Forms, Literal, Class, Any, Name, Optional, Plus, Counted, And, End, Then, terminals}
+use Rattle.peg_semantics.specs.Form as written_form
+use Rattle.peg_semantics.specs.Rules.{Meaning, meant}
+use Rattle.peg_semantics.specs.Rules as grammar
+use Rattle.peg_semantics.proofs.RoundsLemmas.{CanAll-refl, CanAll-trans, CanAll-cannot, CanAll-both, CanAll-either, CanAll-again, CanAll-times, CanAll-not_ahead, CanAll-items, CanAll-first, can_in-more}
 use Rattle.peg_core.specs.CoreForm.{CoreForm, Empty, Test, Rule, Seq, Choice, Star, Not, in_order, all_in_order, one_of, tests_of, unfolded, count_form, number_of, core_form, core_forms, core_bodies}
 use Rattle.peg_core.specs.CoreOutcomes.{judge_body, core_can_table, core_can_in, CoreGivesNothing, CoreGivesSomething, CoreCanFail}
 use Rattle.peg_core.proofs.CoreRounds.{core_can_in-more}
 use Rattle.peg_core.proofs.Meanings.{body-meant, body-unmeant}
 use Rattle.peg_core.proofs.Sets.{has_some-only, has_some-all_bytes}
 
--- ---- the sugar, on outcomes
+-- ---- desugaring and outcomes
 
--- the eight outcomes
+-- the eight sets of outcomes
 abbrev can : (nothing something fails : Bool) → Can
 can nothing something fails = record { nothing = nothing; something = something; fails = fails }
 
@@ -78,13 +78,13 @@ ahead-not a = ahead-not_of a.nothing a.something a.fails
 can_of_some : (some : Bool) → some ≡ true → something_or_fails ≡ can false some true
 can_of_some some is = ap (λ b. can false b true) (sym is)
 
--- ---- what is shown in some round
+-- ---- outcomes in some round
 
--- what can be done, by rounds, and only more later
+-- outcomes by rounds, which stay in later rounds
 abbrev Grows : (ℕ → Can) → Type 0
 Grows f = (n : ℕ) → CanAll (f n) (f (suc n))
 
--- all of this can be done in some round
+-- all these outcomes are reached in some round
 abbrev Shows : Can → (ℕ → Can) → Type 0
 Shows a f = (n : ℕ) × CanAll a (f n)
 
@@ -111,7 +111,7 @@ Shows-constant a = (0, CanAll-refl a)
 Shows-cannot : (f : ℕ → Can) → Shows cannot f
 Shows-cannot f = (0, CanAll-cannot (f 0))
 
--- one rule of two parts
+-- one rule with two parts
 module _ (a b : Can) (f g : ℕ → Can) (grows : Grows f) (also : Grows g) (h : Shows a f) (k : Shows b g) where
   first_later : CanAll a (f (k.0 + h.0))
   first_later = CanAll-trans a (f h.0) (f (k.0 + h.0)) h.1 (grown f grows k.0 h.0)
@@ -131,7 +131,7 @@ module _ (rules : List grammar.Rule) where
   abbrev bodies : List CoreForm
   bodies = core_bodies rules
 
-  -- what a core form can do, and a written expression, by rounds
+  -- the outcomes of a core form, and of a written expression, by rounds
   abbrev core : CoreForm → ℕ → Can
   core form n = core_can_in bodies n form
 
@@ -144,7 +144,7 @@ module _ (rules : List grammar.Rule) where
   written-grows : (e : Form) → Grows (written e)
   written-grows e n = can_in-more rules n e
 
-  -- ---- what outcomes of parts make of core forms
+  -- ---- the outcomes of core forms, from those of their parts
 
   core-Empty : Shows only_nothing (core Empty)
   unfolding core_can_in
@@ -186,7 +186,7 @@ module _ (rules : List grammar.Rule) where
   unfolding core_can_in
   core-Not part a h = Shows-shift (not_ahead a) (core (Not part)) (h.0, CanAll-not_ahead a (core part h.0) h.1)
 
-  -- a count, round in round
+  -- a count, iteration by iteration
   core-unfolded : (part : CoreForm) (a : Can) → Shows a (core part) → (min max : ℕ)
       → Shows (times a min max) (core (unfolded part min max))
   core-unfolded part a h min zero = core-Empty
@@ -294,7 +294,7 @@ module _ (rules : List grammar.Rule) where
   abbrev FromCore : ℕ → Type 0
   FromCore n = (e : Form) (terminal : ℕ) → Shows (core (core_form rules terminal e) n) (written e)
 
-  -- what is shown of a written form by its line of the table
+  -- outcomes of a written form, from its line of the table
   shown : (e : Form) (a : Can) → Shows a (λ n. can_table rules (can_in rules n) e) → Shows a (written e)
   unfolding can_in
   shown e a h = Shows-shift a (written e) h
@@ -334,11 +334,11 @@ module _ (rules : List grammar.Rule) where
       (λ m. CanAll-refl something_or_fails) (λ m. CanAll-refl something_or_fails) (one_test n b terminal)
       (from_tests n c bs terminal)
 
-  -- what is shown in one round of a part is shown of what it can do in fewer
+  -- what one round of a part shows, its outcomes in fewer rounds show too
   sooner : (part : CoreForm) (f : ℕ → Can) (n : ℕ) → Shows (core part (suc n)) f → Shows (core part n) f
   sooner part f n h = (h.0, CanAll-trans (core part n) (core part (suc n)) (f h.0) (core-grows part n) h.1)
 
-  -- a count, round in round, in any number of rounds
+  -- a count, iteration by iteration, in any number of rounds
   from_unfolded : (part : CoreForm) (f : ℕ → Can) → Grows f → (min max n : ℕ) → Shows (core part n) f
       → Shows (core (unfolded part min max) n) (λ m. times (f m) min max)
   unfolding core_can_in

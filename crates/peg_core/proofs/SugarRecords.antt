@@ -6,12 +6,12 @@ use Rattle.std.proofs.lemmas.List.{drop-drop}
 use Rattle.std.proofs.lemmas.List.Elements.{All-drop, All-head}
 use Rattle.peg_bytes.specs.ByteSet.{Bytes, has, only, all_bytes}
 use Rattle.peg_bytes.specs.Extent.{Extent}
-use Rattle.peg_ford.specs.Form.{Form, Forms, Literal, Class, Any, Name, Optional, Plus, Counted, And, End, Then, terminals}
-use Rattle.peg_ford.specs.Form as written_form
-use Rattle.peg_ford.specs.Record.{Record, matched_at, failed_at, then_at, or_else, repeated, as_use, literal_at, byte_at, take_items, take_first, take_times, table, record_in, IsRecord}
-use Rattle.peg_ford.specs.Rules.{Meaning, meant}
-use Rattle.peg_ford.specs.Rules as grammar
-use Rattle.peg_ford.proofs.RecordLemmas.{Extends-take_items, Extends-take_first, Extends-take_times, Extends-then_at, record_in-more}
+use Rattle.peg_semantics.specs.Form.{Form, Forms, Literal, Class, Any, Name, Optional, Plus, Counted, And, End, Then, terminals}
+use Rattle.peg_semantics.specs.Form as written_form
+use Rattle.peg_semantics.specs.Record.{Record, matched_at, failed_at, then_at, or_else, repeated, as_use, literal_at, byte_at, take_items, take_first, take_times, table, record_in, IsRecord}
+use Rattle.peg_semantics.specs.Rules.{Meaning, meant}
+use Rattle.peg_semantics.specs.Rules as grammar
+use Rattle.peg_semantics.proofs.RecordLemmas.{Extends-take_items, Extends-take_first, Extends-take_times, Extends-then_at, record_in-more}
 use Rattle.peg_core.specs.CoreForm.{CoreForm, Empty, Test, Rule, Seq, Choice, Star, Not, in_order, all_in_order, one_of, tests_of, unfolded, count_form, number_of, core_form, core_forms, core_bodies}
 use Rattle.peg_core.specs.CoreRecord.{AreBytes, core_table, core_record_in, IsCoreRecord}
 use Rattle.peg_core.proofs.CoreRounds.{core_record_in-more, one_core_record}
@@ -26,7 +26,7 @@ module _ (rules : List grammar.Rule) (text : List ℕ) where
   abbrev bodies : List CoreForm
   bodies = core_bodies rules
 
-  -- the records of a core form at a place, and of a written expression, by n
+  -- the records of a core form at a position, and of a written expression, by n
   abbrev core : CoreForm → (place n : ℕ) → Option Record
   core form place n = core_record_in bodies text n form place
 
@@ -43,11 +43,11 @@ module _ (rules : List grammar.Rule) (text : List ℕ) where
   abbrev tested : Bytes → (terminal place : ℕ) → Record
   tested set terminal place = byte_at (has set) terminal place (drop place text)
 
-  -- one round of a star, and then the next ones
+  -- one iteration of a star, and then the next ones
   abbrev rounds : Option Record → ℕ → (ℕ → Option Record) → Option Record
   rounds tried place next = option_and_then (λ (round : Record). repeated round.result place round next) tried
 
-  -- ---- what records of parts make of core forms
+  -- ---- the records of core forms, from those of their parts
 
   core-Empty : (place : ℕ) → IsReached (Some (matched_at place)) (core Empty place)
   unfolding core_record_in
@@ -106,7 +106,7 @@ module _ (rules : List grammar.Rule) (text : List ℕ) where
       (core (Not (Not a)) place) (sym (unless-unless place o))
       (core-Not (Not a) (option_map (unless place) o) place (core-Not a o place h))
 
-  -- a count, round in round
+  -- a count, iteration by iteration
   core-unfolded : (part : CoreForm) (take : ℕ → Option Record) → ((at : ℕ) → IsReached (take at) (core part at))
       → (min max place : ℕ) → IsReached (take_times take min max place) (core (unfolded part min max) place)
   core-unfolded part take h min zero place = core-Empty place
@@ -130,7 +130,7 @@ module _ (rules : List grammar.Rule) (text : List ℕ) where
 
   -- ---- literals
 
-  -- a literal is its first byte, and then the others
+  -- a literal is its first byte and then the others
   literal-step : (terminal place b : ℕ) (bs : List ℕ)
       → Some (literal_at terminal place (b ∷ bs) (drop place text))
       ≡ then_at (Some (tested (only b) terminal place)) (λ end. Some (literal_at terminal end bs (drop end text)))
@@ -183,7 +183,7 @@ module _ (rules : List grammar.Rule) (text : List ℕ) where
 
   -- ---- from a written expression to its core form
 
-  -- what is known of the records in n
+  -- the induction hypothesis for the records in n
   abbrev ToCore : ℕ → Type 0
   ToCore n = (e : Form) (terminal place : ℕ)
       → IsReached (record_in rules text n e terminal place) (core (core_form rules terminal e) place)
@@ -227,7 +227,7 @@ module _ (rules : List grammar.Rule) (text : List ℕ) where
         (core-Rule (number_of rules name) (core_form rules m.terminal m.body) tried place (body-meant rules name m is)
         (h m.body m.terminal place))
 
-  -- each byte of the text is in the set of all
+  -- each byte of the text is in the set of all bytes
   any_byte : AreBytes text → (terminal place : ℕ)
       → byte_at (λ byte. true) terminal place (drop place text) ≡ tested all_bytes terminal place
   any_byte bytes terminal place = by (drop place text) refl
@@ -310,7 +310,7 @@ module _ (rules : List grammar.Rule) (text : List ℕ) where
   from_empty zero place = IsReached-none (λ m. Some (matched_at place))
   from_empty (suc n) place = IsReached-some (matched_at place)
 
-  -- a part some times, by n
+  -- a part with a number of repetitions, by n
   abbrev times_in : (f : ℕ → ℕ → Option Record) → (min max place n : ℕ) → Option Record
   times_in f min max place n = take_times (λ at. f at n) min max place
 
@@ -319,14 +319,14 @@ module _ (rules : List grammar.Rule) (text : List ℕ) where
   times-grow f grows min max place n =
       Extends-take_times (λ at. f at n) (λ at. f at (suc n)) (λ at. grows at n) min max place
 
-  -- what is reached from the records of a form in one n is reached from those in fewer
+  -- a result that is reached from the records of a form in one n, reached from those in fewer
   abbrev AllReached : CoreForm → (n : ℕ) → (f : ℕ → ℕ → Option Record) → Type 0
   AllReached part n f = (at : ℕ) → IsReached (core part at n) (f at)
 
   sooner : (part : CoreForm) (n : ℕ) (f : ℕ → ℕ → Option Record) → AllReached part (suc n) f → AllReached part n f
   sooner part n f h = λ at r is. h at r (core-grows part at n r is)
 
-  -- a count, round in round, in any n
+  -- a count, iteration by iteration, in any n
   from_unfolded : (part : CoreForm) (f : ℕ → ℕ → Option Record) → ((at : ℕ) → Grows (f at)) → (min max n : ℕ)
       → AllReached part n f → (place : ℕ) → IsReached (core (unfolded part min max) place n) (times_in f min max place)
   unfolding core_record_in
@@ -416,7 +416,7 @@ module _ (rules : List grammar.Rule) (text : List ℕ) where
         ∙ sym (ap (option_and_then (λ (m : Meaning). option_map (as_use m.rule place) (written m.body m.terminal place k))) is))
         (IsReached-map (as_use rule place) tried (written m.body m.terminal place) (h m.body m.terminal place))))
 
-    -- a literal's record is the only one
+    -- a literal has one record only
     from_literal : (bs : List ℕ) (span : Extent) (terminal place : ℕ)
         → IsReached (tabled n (all_in_order (tests_of terminal bs)) place) (written (Literal bs span) terminal place)
     unfolding record_in core_record_in
@@ -513,13 +513,13 @@ module _ (rules : List grammar.Rule) (text : List ℕ) where
   from_core bytes zero = λ e terminal place. IsReached-none (written e terminal place)
   from_core bytes (suc n) = λ e terminal place. from_core-table n (from_core bytes n) bytes e terminal place
 
--- a written expression's record is its core form's
+-- the record of a written expression is the record of its core form
 pub IsRecord-to_core : (rules : List grammar.Rule) (text : List ℕ) → AreBytes text → (e : Form) (terminal place : ℕ)
     (r : Record) → IsRecord rules text e terminal place r
     → IsCoreRecord (core_bodies rules) text (core_form rules terminal e) place r
 IsRecord-to_core rules text bytes e terminal place r is = to_core rules text bytes is.0 e terminal place r is.1
 
--- and the core form's is the written expression's
+-- and the other way
 pub IsRecord-from_core : (rules : List grammar.Rule) (text : List ℕ) → AreBytes text → (e : Form) (terminal place : ℕ)
     (r : Record) → IsCoreRecord (core_bodies rules) text (core_form rules terminal e) place r
     → IsRecord rules text e terminal place r

@@ -1,25 +1,25 @@
--- A written expression is well-formed exactly where its core form is.
+-- A written expression is well-formed exactly if its core form is.
 use Rattle.std.proofs.Common.{◌≡◌, ℕ, zero, suc, ◌+◌, Bool, List, [], ◌∷◌, Option, None, Some, refl, sym, subst, slice_get, zero-add, suc-add, add_comm}
 use Rattle.peg_bytes.specs.ByteSet.{only, all_bytes}
 use Rattle.peg_bytes.specs.Extent.{Extent}
-use Rattle.peg_ford.specs.AbstractOutcomes.{GivesNothing}
-use Rattle.peg_ford.specs.Form.{Form, Forms, Literal, Class, Any, Name, Optional, Plus, Counted, And, End, Then, terminals}
-use Rattle.peg_ford.specs.Form as written_form
-use Rattle.peg_ford.specs.Rules.{Meaning, meant}
-use Rattle.peg_ford.specs.Rules as grammar
-use Rattle.peg_ford.specs.WellFormed.{ItemsAre, AllAre, MeaningIs, RepeatsWell, WellFormedTable, IsWellFormedIn, IsWellFormed}
-use Rattle.peg_ford.proofs.RoundsLemmas.{ItemsAre-more, AllAre-more, IsWellFormedIn-more}
+use Rattle.peg_semantics.specs.AbstractOutcomes.{GivesNothing}
+use Rattle.peg_semantics.specs.Form.{Form, Forms, Literal, Class, Any, Name, Optional, Plus, Counted, And, End, Then, terminals}
+use Rattle.peg_semantics.specs.Form as written_form
+use Rattle.peg_semantics.specs.Rules.{Meaning, meant}
+use Rattle.peg_semantics.specs.Rules as grammar
+use Rattle.peg_semantics.specs.WellFormed.{ItemsAre, AllAre, MeaningIs, RepeatsWell, WellFormedTable, IsWellFormedIn, IsWellFormed}
+use Rattle.peg_semantics.proofs.RoundsLemmas.{ItemsAre-more, AllAre-more, IsWellFormedIn-more}
 use Rattle.peg_core.specs.CoreForm.{CoreForm, Empty, Test, Rule, Seq, Choice, Star, Not, in_order, all_in_order, one_of, tests_of, unfolded, count_form, number_of, core_form, core_forms, core_bodies}
 use Rattle.peg_core.specs.CoreOutcomes.{CoreGivesNothing, BodyIs, CoreWellFormedTable, IsCoreWellFormedIn, IsCoreWellFormed}
 use Rattle.peg_core.proofs.CoreRounds.{IsCoreWellFormedIn-more}
 use Rattle.peg_core.proofs.Meanings.{body-meant, body-unmeant}
 use Rattle.peg_core.proofs.SugarOutcomes.{GivesNothing-to_core, GivesNothing-from_core}
 
--- what holds by rounds, and stays
+-- a property by rounds, which stays in later rounds
 abbrev Grows : (ℕ → Type 0) → Type 0
 Grows f = (n : ℕ) → f n → f (suc n)
 
--- from a fact it follows in some round, the same one whatever the proof of the fact
+-- a fact implies the property in some round, which doesn't depend on the proof of the fact
 abbrev Follows : Type 0 → (ℕ → Type 0) → Type 0
 Follows P f = (n : ℕ) × (P → f n)
 
@@ -42,7 +42,7 @@ Follows-to P f g to h = (h.0, λ p. to h.0 (h.1 p))
 Follows-absurd : (f : ℕ → Type 0) → Follows ⊥ f
 Follows-absurd f = (0, λ bad. absurd bad)
 
--- two parts, the second where something holds
+-- two parts, where the second has a condition
 module _ (P Q : Type 0) (f g : ℕ → Type 0) (grows : Grows f) (also : Grows g) (h : Follows P f) (k : Follows Q g) where
   second_later : Q → g (k.0 + h.0)
   second_later q = subst g (add_comm h.0 k.0) (grown g also h.0 k.0 (k.1 q))
@@ -70,7 +70,7 @@ module _ (rules : List grammar.Rule) where
   written-grows : (e : Form) → Grows (written e)
   written-grows e n = IsWellFormedIn-more rules n e
 
-  -- ---- what well-formed parts make of core forms
+  -- ---- core forms of well-formed parts
 
   core-Empty : (P : Type 0) → Follows P (core Empty)
   unfolding IsCoreWellFormedIn
@@ -240,13 +240,13 @@ module _ (rules : List grammar.Rule) where
   abbrev tabled : ℕ → CoreForm → Type 0
   tabled n form = CoreWellFormedTable bodies (IsCoreWellFormedIn bodies n) form
 
-  -- a well-formed star's part doesn't give 0
+  -- the part of a well-formed star doesn't have outcome 0
   star_takes : (n : ℕ) (part : CoreForm) (origin : Extent) → core (Star part origin) n → ¬ CoreGivesNothing bodies part
   unfolding IsCoreWellFormedIn
   star_takes zero part origin is = absurd is
   star_takes (suc n) part origin is = is.1
 
-  -- a well-formed count's part is well-formed
+  -- the part of a well-formed count is well-formed
   round_part : (n : ℕ) (part inner : CoreForm) → core (Seq part inner) n → core part n
   unfolding IsCoreWellFormedIn
   round_part zero part inner is = is
@@ -362,7 +362,7 @@ module _ (rules : List grammar.Rule) where
   from_core zero = λ e terminal. Follows-absurd (written e)
   from_core (suc n) = λ e terminal. from_core-table n (from_core n) e terminal
 
--- a written expression is well-formed where its core form is, and the other way
+-- a written expression is well-formed if its core form is, and the other way
 module _ (rules : List grammar.Rule) (e : Form) (terminal : ℕ) where
   pub IsWellFormed-to_core : IsWellFormed rules e → IsCoreWellFormed (core_bodies rules) (core_form rules terminal e)
   IsWellFormed-to_core is = let follows = to_core rules is.0 e terminal in (follows.0, follows.1 is.1)

@@ -1,5 +1,5 @@
--- Describes code: core forms as data, as the views of types in code ask for it; each is told apart by its items in
--- preorder.
+-- Describes code: core forms encoded as data, which the views of types in code need. A form is determined by its items
+-- in preorder.
 use Rattle.std.specs.Prelude.{◌≡◌, ℕ, zero, suc, List, [], ◌∷◌, ◌++◌}
 use Rattle.std.proofs.Common.{refl, ap, ◌∙◌, append_assoc, append-nil, sym}
 use Rattle.std.specs.Coded.{Coded, code_by, coded×, coded_ℕ, coded_bool, coded_list}
@@ -8,14 +8,14 @@ use Rattle.peg_bytes.specs.Extent.{Extent, between}
 use Rattle.peg_core.specs.CoreForm.{CoreForm, Empty, Test, Rule, Seq, Choice, Star, Not}
 use Rattle.peg_core.specs.Layout.{Layout, Desugared}
 
--- which form it is, by a number, with its set and its two numbers, where it has them
+-- the number of the kind of a form, its set, and its two numbers; the set or a number is empty where it has none
 abbrev pub FormItem : Type 0
 FormItem = ℕ × (Bytes × (ℕ × ℕ))
 
 abbrev item_code : Coded FormItem
 item_code = coded× coded_ℕ (coded× (coded_list coded_bool) (coded× coded_ℕ coded_ℕ))
 
--- a form before its parts
+-- the items of a form, in preorder
 abbrev pub items_of : CoreForm → List FormItem
 items_of Empty = (0, ([], (0, 0))) ∷ []
 items_of (Test set terminal) = (1, (set, (terminal, 0))) ∷ []
@@ -25,7 +25,7 @@ items_of (Choice first rest) = (4, ([], (0, 0))) ∷ (items_of first ++ items_of
 items_of (Star part origin) = (5, ([], (origin.start, origin.end))) ∷ items_of part
 items_of (Not part) = (6, ([], (0, 0))) ∷ items_of part
 
--- the forms with one more, which takes its parts from them
+-- the forms with one more in front, which takes its parts from them
 abbrev with_one : (List CoreForm) → (CoreForm → CoreForm) → List CoreForm
 with_one [] make = []
 with_one (part ∷ forms) make = make part ∷ forms
@@ -45,7 +45,7 @@ with_item (suc (suc (suc (suc (suc zero))))) set numbers forms =
     with_one forms (λ part. Star part (between numbers.0 numbers.1))
 with_item (suc (suc (suc (suc (suc (suc kind)))))) set numbers forms = with_one forms Not
 
--- the forms that items spell, found from the last item to the first
+-- the forms that items denote, built from the last item to the first
 abbrev pub forms_from : List FormItem → List CoreForm
 forms_from [] = []
 forms_from (item ∷ items) = with_item item.0 item.1.0 item.1.1 (forms_from items)
@@ -69,7 +69,7 @@ forms_from-items_of (Star part origin) items =
     ap (λ forms. with_one forms (λ part. Star part origin)) (forms_from-items_of part items)
 forms_from-items_of (Not part) items = ap (λ forms. with_one forms Not) (forms_from-items_of part items)
 
--- the first form, if there is one
+-- the first form, or the empty form if there is none
 abbrev first_of : List CoreForm → CoreForm
 first_of [] = Empty
 first_of (form ∷ forms) = form

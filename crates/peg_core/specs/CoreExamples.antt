@@ -2,7 +2,7 @@
 use Rattle.std.specs.Prelude.{ℕ, List, [], ◌∷◌, map}
 use Rattle.peg_bytes.specs.ByteSet.{only, all_bytes}
 use Rattle.peg_bytes.specs.Extent.{between}
-use Rattle.peg_ford.specs.AbstractOutcomes.{Can}
+use Rattle.peg_semantics.specs.AbstractOutcomes.{Can}
 use Rattle.peg_core.specs.CoreForm.{CoreForm, Empty, Test, Rule, Seq, Choice, Star, Not}
 use Rattle.peg_core.specs.CoreOutcomes.{core_can_in}
 
@@ -22,7 +22,7 @@ signs_core =
     ∷ Choice (Not (Test (only 120) 7)) (Seq (Test [] 8) (Test (only 120) 9))
     ∷ []
 
--- A <- 'a'{2,4}: two rounds that have to match, and in them two that need not
+-- A <- 'a'{2,4}: two iterations that must match, and in them two that need not
 abbrev an_a : CoreForm
 an_a = Test (only 97) 0
 
@@ -35,7 +35,7 @@ up_to_two = Choice (Seq an_a up_to_one) Empty
 abbrev pub two_to_four_core : List CoreForm
 two_to_four_core = Seq an_a (Seq an_a up_to_two) ∷ []
 
--- the core forms that it is made of: the 'a' once, and one or two for each round
+-- its core forms: the 'a' once, and one or two for each iteration
 abbrev pub two_to_four_parts : List CoreForm
 two_to_four_parts =
     an_a
@@ -48,6 +48,6 @@ two_to_four_parts =
     ∷ Seq an_a (Seq an_a up_to_two)
     ∷ []
 
--- what each rule's body can do in n rounds
+-- the outcomes of each rule's body in n rounds
 abbrev pub all_core_can_in : List CoreForm → ℕ → List Can
 all_core_can_in bodies n = map (core_can_in bodies n) bodies

@@ -1,14 +1,14 @@
--- Ford's core forms (Ford 2004, section 3.1), and the core form of a written expression by his sugar (section 3.2).
+-- Ford's core forms (Ford 2004, section 3.1), and the core form of a written expression by desugaring (section 3.2).
 use Rattle.std.specs.Prelude.{ℕ, zero, suc, ◌+◌, List, [], ◌∷◌, map, length, option_map, unwrap_or}
 use Rattle.peg_bytes.specs.ByteSet.{Bytes, only, all_bytes}
 use Rattle.peg_bytes.specs.Extent.{Extent}
-use Rattle.peg_ford.specs.Form.{Form, Forms, End, Then, terminals}
-use Rattle.peg_ford.specs.Form as written
-use Rattle.peg_ford.specs.Rules.{Meaning, meant}
-use Rattle.peg_ford.specs.Rules as grammar
+use Rattle.peg_semantics.specs.Form.{Form, Forms, End, Then, terminals}
+use Rattle.peg_semantics.specs.Form as written
+use Rattle.peg_semantics.specs.Rules.{Meaning, meant}
+use Rattle.peg_semantics.specs.Rules as grammar
 
--- the empty expression, a byte of a set, a rule by its number, a sequence, a choice, a star, a not-predicate; a test
--- keeps its terminal's number, and a star where the star or plus that it came from stands
+-- The empty expression, a test of a byte, a rule by its number, a sequence, a choice, a star, and a not-predicate. A
+-- test has the number of its terminal, and a star has the span of the written star or plus.
 pub data CoreForm : Type 0 where
   Empty : CoreForm
   Test : (set : Bytes) → (terminal : ℕ) → CoreForm
@@ -18,17 +18,17 @@ pub data CoreForm : Type 0 where
   Star : (part : CoreForm) → (origin : Extent) → CoreForm
   Not : (part : CoreForm) → CoreForm
 
--- a form and those after it, one after the other, nested to the right
+-- the sequence of a form and those after it, nested to the right
 abbrev pub in_order : CoreForm → List CoreForm → CoreForm
 in_order first [] = first
 in_order first (next ∷ rest) = Seq first (in_order next rest)
 
--- some forms, one after the other; none are the empty expression
+-- the sequence of some forms; the empty expression if there are none
 abbrev pub all_in_order : List CoreForm → CoreForm
 all_in_order [] = Empty
 all_in_order (first ∷ rest) = in_order first rest
 
--- a form or else those after it, nested to the right
+-- the choice of a form and those after it, nested to the right
 abbrev pub one_of : CoreForm → List CoreForm → CoreForm
 one_of first [] = first
 one_of first (next ∷ rest) = Choice first (one_of next rest)
@@ -37,25 +37,24 @@ one_of first (next ∷ rest) = Choice first (one_of next rest)
 abbrev pub tests_of : (terminal : ℕ) → List ℕ → List CoreForm
 tests_of terminal bytes = map (λ byte. Test (only byte) terminal) bytes
 
--- a part at least min times and at most max times, round in round: with max 0 the empty expression; while min is above
--- 0 the part and then the rest, and from then on these or the empty expression
+-- a part at least min and at most max times: first the iterations that must match, and nested in them the optional ones
 abbrev pub unfolded : CoreForm → (min max : ℕ) → CoreForm
 unfolded part min zero = Empty
 unfolded part zero (suc max) = Choice (Seq part (unfolded part zero max)) Empty
 unfolded part (suc min) (suc max) = Seq part (unfolded part min max)
 
--- A count is what it unfolds to. With max 0, which no grammar has, the part stands behind the empty expression all the
--- same, where it is never tried: so each count asks for its part, whatever its numbers are.
+-- A count is unfolded. With max 0, which no grammar has, the part is an alternative after the empty expression and
+-- never tried. So the part of each count is checked, whatever its numbers are.
 abbrev pub count_form : CoreForm → (min max : ℕ) → CoreForm
 count_form part min zero = Choice Empty part
 count_form part min (suc max) = unfolded part min (suc max)
 
--- the number of the rule that a name means; past all rules where it means none
+-- the number of the rule that a name denotes; the number of rules if it denotes none
 abbrev pub number_of : List grammar.Rule → List ℕ → ℕ
 number_of rules name = unwrap_or (option_map (λ (m : Meaning). m.rule) (meant rules name)) (length rules)
 
--- The core form of an expression whose first terminal has this number: `e?` is `e / ''`, `e+` is `e e*`, a count is
--- what it unfolds to, `&e` is `!(!e)`, a literal is the sequence of its bytes, a class and `.` are one test of a byte.
+-- The core form of an expression whose first terminal has this number. `e?` is `e / ''`, `e+` is `e e*`, and `&e` is
+-- `!(!e)`. A count is unfolded, a literal is the sequence of its bytes, and a class or `.` is one test of a byte.
 abbrev mutual
   pub core_form : List grammar.Rule → (terminal : ℕ) → Form → CoreForm
   core_form rules terminal (written.Literal bytes span) = all_in_order (tests_of terminal bytes)
@@ -78,7 +77,7 @@ abbrev mutual
   core_forms rules terminal (Then e rest) =
       core_form rules terminal e ∷ core_forms rules (terminal + terminals e) rest
 
--- the core forms of these rules' expressions, where the first one's first terminal has this number
+-- the core forms of the bodies of these rules; `terminal` is the number of their first terminal
 abbrev pub core_bodies_from : List grammar.Rule → (terminal : ℕ) → List grammar.Rule → List CoreForm
 core_bodies_from rules terminal [] = []
 core_bodies_from rules terminal (rule ∷ more) =

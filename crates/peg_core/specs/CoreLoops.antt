@@ -1,11 +1,11 @@
--- Empty loops and left cycles on core forms (Ford 2004, section 3.6). A form asks for the parts that his rules for
--- well-formed expressions ask for; here the use of a rule asks for nothing, so the questions end at rules' names.
+-- Empty loops and left cycles of core forms (Ford 2004, section 3.6). They follow the parts that Ford's rules for
+-- well-formed expressions check, up to the names of rules.
 use Rattle.std.specs.Prelude.{◌≡◌, ℕ, ◌⊎◌, List, [], ◌∷◌, ◌++◌, slice_get}
 use Rattle.peg_bytes.specs.Extent.{Extent}
 use Rattle.peg_core.specs.CoreForm.{CoreForm, Empty, Test, Rule, Seq, Choice, Star, Not}
 use Rattle.peg_core.specs.CoreOutcomes.{CoreGivesNothing, BodyIs}
 
--- a form stands in another: it is that one, or stands in one of its parts
+-- a form is part of another: it is that form, or part of one of its parts
 abbrev pub StandsIn : (form whole : CoreForm) → Type 0
 StandsIn form Empty = form ≡ Empty
 StandsIn form (Test set terminal) = form ≡ Test set terminal
@@ -15,17 +15,17 @@ StandsIn form (Choice first rest) = (form ≡ Choice first rest) ⊎ (StandsIn f
 StandsIn form (Star part origin) = (form ≡ Star part origin) ⊎ StandsIn form part
 StandsIn form (Not part) = (form ≡ Not part) ⊎ StandsIn form part
 
--- a form stands in some rule's body
+-- a form is part of some rule's body
 abbrev pub StandsInBody : List CoreForm → CoreForm → Type 0
 StandsInBody bodies form = (rule : ℕ) × BodyIs (StandsIn form) (slice_get bodies rule)
 
--- an empty loop of a rule: a star in its body, from this place, whose part gives nothing
+-- an empty loop of a rule: a star in its body, written at this span, whose part may succeed without consuming a byte
 abbrev pub IsCoreEmptyLoop : List CoreForm → (rule : ℕ) → (origin : Extent) → Type 0
 IsCoreEmptyLoop bodies rule origin =
     BodyIs (λ body. (part : CoreForm) × (StandsIn (Star part origin) body × CoreGivesNothing bodies part))
     (slice_get bodies rule)
 
--- a rule's name is reached from a form by what it asks for, and what that asks for
+-- a form left-calls a rule: by the abstract outcomes it may call the rule before it consumes a byte
 abbrev pub CoreMeets : List CoreForm → CoreForm → (rule : ℕ) → Type 0
 CoreMeets bodies Empty rule = ⊥
 CoreMeets bodies (Test set terminal) rule = ⊥
@@ -36,16 +36,16 @@ CoreMeets bodies (Choice first rest) rule = CoreMeets bodies first rule ⊎ Core
 CoreMeets bodies (Star part origin) rule = CoreMeets bodies part rule
 CoreMeets bodies (Not part) rule = CoreMeets bodies part rule
 
--- a rule meets another first: the other's name is reached so from its body
+-- a rule left-calls another: its body does
 abbrev pub CoreMeetsFirst : List CoreForm → (rule other : ℕ) → Type 0
 CoreMeetsFirst bodies rule other = BodyIs (λ body. CoreMeets bodies body other) (slice_get bodies rule)
 
--- each rule is met first by the one before it, the first of them by this one
+-- each rule is left-called by the one before it, the first of them by `before`
 abbrev pub CoreMeetInTurn : List CoreForm → (before : ℕ) → List ℕ → Type 0
 CoreMeetInTurn bodies before [] = Unit {0}
 CoreMeetInTurn bodies before (rule ∷ more) = CoreMeetsFirst bodies before rule × CoreMeetInTurn bodies rule more
 
--- a left cycle: some rules, each met first by the one before it, and the first by the last
+-- a left cycle: some rules, each left-called by the one before it, and the first by the last
 abbrev pub IsCoreLeftCycle : List CoreForm → List ℕ → Type 0
 IsCoreLeftCycle bodies [] = ⊥
 IsCoreLeftCycle bodies (rule ∷ more) = CoreMeetInTurn bodies rule (more ++ rule ∷ [])

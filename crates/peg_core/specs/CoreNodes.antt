@@ -1,4 +1,4 @@
--- What a node stands for among core forms that have numbers.
+-- The form that a node denotes among numbered core forms.
 use Rattle.std.specs.Prelude.{◌≡◌, ℕ, ◌<◌, List}
 use Rattle.peg_bytes.specs.ByteSet.{bytes_of}
 use Rattle.peg_bytes.specs.Extent.{Extent}
@@ -7,7 +7,7 @@ use Rattle.peg_core.specs.Layout.{form_at}
 use Rattle.peg_core.specs.declared.node.Node.{Node}
 use Rattle.peg_core.specs.declared.node.Node.TheVariants as node
 
--- the form of a node whose parts are among these, and which came from there
+-- the form of a node whose parts are among these, written at this span
 abbrev pub shape : List CoreForm → Extent → Node → CoreForm
 shape forms origin node.Empty = Empty
 shape forms origin (node.Test set terminal) = Test (bytes_of set) terminal
@@ -17,7 +17,8 @@ shape forms origin (node.Choice first rest) = Choice (form_at forms first) (form
 shape forms origin (node.Star part) = Star (form_at forms part) origin
 shape forms origin (node.Not part) = Not (form_at forms part)
 
--- a node with this number: its parts have smaller numbers, its rule is one of so many, its terminal one of so many
+-- the parts of a node have smaller numbers than `number`, its rule is one of `rules`, and its terminal one of
+-- `terminals`
 abbrev pub NodeFits : (number rules terminals : ℕ) → Node → Type 0
 NodeFits number rules terminals node.Empty = Unit {0}
 NodeFits number rules terminals (node.Test set terminal) = terminal < terminals
@@ -27,10 +28,10 @@ NodeFits number rules terminals (node.Choice first rest) = (first < number) × (
 NodeFits number rules terminals (node.Star part) = part < number
 NodeFits number rules terminals (node.Not part) = part < number
 
--- the form with a number is the node's
+-- the form with a number is the form of the node
 abbrev pub Spells : List CoreForm → ℕ → Node → Type 0
 Spells forms number node = (origin : Extent) × (form_at forms number ≡ shape forms origin node)
 
--- the form with a number is a star that came from there
+-- the form with a number is a star written at this span
 abbrev pub IsStarFrom : List CoreForm → ℕ → Extent → Type 0
 IsStarFrom forms number origin = (part : CoreForm) × (form_at forms number ≡ Star part origin)

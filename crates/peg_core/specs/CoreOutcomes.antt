@@ -1,19 +1,19 @@
 -- Ford's abstract outcomes (Ford 2004, section 3.5) and well-formed expressions (section 3.6), by his own rules on core
 -- forms.
 use Rattle.std.specs.Prelude.{◌≡◌, ℕ, zero, suc, true, List, slice_get, Option, None, Some}
-use Rattle.peg_ford.specs.AbstractOutcomes.{Can, cannot, only_nothing, can_of_set, both, either, again, not_ahead}
+use Rattle.peg_semantics.specs.AbstractOutcomes.{Can, cannot, only_nothing, can_of_set, both, either, again, not_ahead}
 use Rattle.peg_core.specs.CoreForm.{CoreForm, Empty, Test, Rule, Seq, Choice, Star, Not}
 
--- a way to judge a part: what a form can do
+-- a function from forms to their outcomes
 abbrev pub CoreJudging : Type 0
 CoreJudging = CoreForm → Can
 
--- what a rule's body can do
+-- the outcomes of a rule's body; none if there is no body
 abbrev pub judge_body : CoreJudging → Option CoreForm → Can
 judge_body judge None = cannot
 judge_body judge (Some body) = judge body
 
--- Ford's rules, one line a form, given the rules' bodies and a way to judge parts
+-- Ford's rules, one line for each form, from the rules' bodies and the outcomes of parts
 abbrev pub core_can_table : List CoreForm → CoreJudging → CoreJudging
 core_can_table bodies judge Empty = only_nothing
 core_can_table bodies judge (Test set terminal) = can_of_set set
@@ -23,13 +23,13 @@ core_can_table bodies judge (Choice first rest) = either (judge first) (judge re
 core_can_table bodies judge (Star part origin) = again (judge part)
 core_can_table bodies judge (Not part) = not_ahead (judge part)
 
--- The outcomes of a form in n rounds: in 0 there are none; above 0 they are those of the rules, whose parts are judged
--- in n - 1.
+-- The outcomes of a form in n rounds. In 0 rounds there are none. Above 0 they follow by the rules from the outcomes of
+-- its parts in n - 1 rounds.
 unfoldable pub core_can_in : List CoreForm → ℕ → CoreJudging
 core_can_in bodies zero form = cannot
 core_can_in bodies (suc n) form = core_can_table bodies (core_can_in bodies n) form
 
--- Ford's outcomes are the least relation with his rules: those in some number of rounds.
+-- Ford's outcomes are the least relation closed under his rules: the outcomes in some number of rounds.
 abbrev pub CoreGivesNothing : List CoreForm → CoreForm → Type 0
 CoreGivesNothing bodies form = (n : ℕ) × ((core_can_in bodies n form).nothing ≡ true)
 
@@ -39,16 +39,16 @@ CoreGivesSomething bodies form = (n : ℕ) × ((core_can_in bodies n form).somet
 abbrev pub CoreCanFail : List CoreForm → CoreForm → Type 0
 CoreCanFail bodies form = (n : ℕ) × ((core_can_in bodies n form).fails ≡ true)
 
--- a way to ask of a part
+-- a property of forms
 abbrev pub CoreAsking : Type 1
 CoreAsking = CoreForm → Type 0
 
--- a rule's body, if there is one
+-- a rule's body exists and has the property
 abbrev pub BodyIs : CoreAsking → Option CoreForm → Type 0
 BodyIs Is None = ⊥
 BodyIs Is (Some body) = Is body
 
--- Ford's rules for well-formed expressions, given the rules' bodies and a way to ask of parts
+-- Ford's rules for well-formed expressions, from the rules' bodies and the property of parts
 abbrev pub CoreWellFormedTable : List CoreForm → CoreAsking → CoreAsking
 CoreWellFormedTable bodies Is Empty = Unit {0}
 CoreWellFormedTable bodies Is (Test set terminal) = Unit {0}
@@ -58,11 +58,11 @@ CoreWellFormedTable bodies Is (Choice first rest) = Is first × Is rest
 CoreWellFormedTable bodies Is (Star part origin) = Is part × ¬ CoreGivesNothing bodies part
 CoreWellFormedTable bodies Is (Not part) = Is part
 
--- Well-formed in n rounds: in 0 nothing is; above 0 what the rules say, whose parts are asked of in n - 1.
+-- Well-formed in n rounds. In 0 rounds no form is. Above 0 the rules hold, with parts that are well-formed in n - 1.
 unfoldable pub IsCoreWellFormedIn : List CoreForm → ℕ → CoreAsking
 IsCoreWellFormedIn bodies zero form = ⊥
 IsCoreWellFormedIn bodies (suc n) form = CoreWellFormedTable bodies (IsCoreWellFormedIn bodies n) form
 
--- Ford's well-formed expressions are the least set with his rules: those in some number of rounds.
+-- Ford's well-formed expressions are the least set closed under his rules: those in some number of rounds.
 abbrev pub IsCoreWellFormed : List CoreForm → CoreForm → Type 0
 IsCoreWellFormed bodies form = (n : ℕ) × IsCoreWellFormedIn bodies n form

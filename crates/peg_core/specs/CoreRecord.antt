@@ -2,19 +2,19 @@
 use Rattle.std.specs.Prelude.{◌≡◌, ℕ, zero, suc, ◌<◌, List, All, drop, slice_get}
 use Rattle.std.specs.Prelude.{Option, None, Some, option_map, option_and_then}
 use Rattle.peg_bytes.specs.ByteSet.{has}
-use Rattle.peg_ford.specs.Record.{Record, matched_at, then_at, or_else, repeated, if_failed, with_result}
-use Rattle.peg_ford.specs.Record.{byte_at, as_use}
+use Rattle.peg_semantics.specs.Record.{Record, matched_at, then_at, or_else, repeated, if_failed, with_result}
+use Rattle.peg_semantics.specs.Record.{byte_at, as_use}
 use Rattle.peg_core.specs.CoreForm.{CoreForm, Empty, Test, Rule, Seq, Choice, Star, Not}
 
--- a text as a file has it: each number is a byte
+-- each number of the text is a byte
 abbrev pub AreBytes : List ℕ → Type 0
 AreBytes text = All (λ byte. byte < 256) text
 
--- a way to take a part: what comes of a form at a place, if anything does
+-- a function from forms and positions to records, where there are any
 abbrev pub CoreTaking : Type 0
 CoreTaking = CoreForm → (place : ℕ) → Option Record
 
--- The recognition table: what comes of each form, given the rules' bodies and a way to take parts.
+-- The recognition table: the record of each form, from the rules' bodies and the records of its parts.
 abbrev pub core_table : List CoreForm → List ℕ → CoreTaking → CoreTaking
 core_table bodies text take Empty place = Some (matched_at place)
 core_table bodies text take (Test set terminal) place = Some (byte_at (has set) terminal place (drop place text))
@@ -28,12 +28,12 @@ core_table bodies text take (Star part origin) place =
 core_table bodies text take (Not part) place =
     option_map (λ (r : Record). with_result r (if_failed r.result place)) (take part place)
 
--- The record of a form at a place in n: in 0 there is none; above 0 it is that of the table, whose parts are taken in
--- n - 1.
+-- The record of a form at a position in n. In 0 there is none. Above 0 it follows by the table from the records of the
+-- parts in n - 1.
 unfoldable pub core_record_in : List CoreForm → List ℕ → ℕ → CoreTaking
 core_record_in bodies text zero form place = None
 core_record_in bodies text (suc n) form place = core_table bodies text (core_record_in bodies text n) form place
 
--- Ford's record of a form at a place: its record in some n.
+-- Ford's record of a form at a position: its record in some n.
 abbrev pub IsCoreRecord : List CoreForm → List ℕ → CoreForm → (place : ℕ) → Record → Type 0
 IsCoreRecord bodies text form place r = (n : ℕ) × (core_record_in bodies text n form place ≡ Some r)

@@ -1,4 +1,4 @@
--- Describes code: nodes whose sets stand aside.
+-- Describes code: nodes with their sets in a separate list.
 use Rattle.std.specs.Prelude.{◌≡◌, ℕ, ◌<◌, ◌≤◌, All, List, [], ◌++◌, length, map, slice_index_or}
 use Rattle.peg_bytes.specs.declared.byte_set.ByteSet.{ByteSet}
 use Rattle.peg_core.specs.declared.node.Node.{Node}
@@ -9,11 +9,11 @@ use Rattle.peg_core.specs.declared.packed.Slot.TheVariants as slot
 use Rattle.peg_core.specs.declared.packed.SlotAndOrigin.{SlotAndOrigin}
 use Rattle.peg_core.specs.declared.packed.Nodes.TheInside.{Inside}
 
--- the set with a number, or the empty one
+-- the set with a number, or the empty set if there is none
 abbrev pub set_at : List ByteSet → ℕ → ByteSet
 set_at sets number = slice_index_or sets number (record { words = [] })
 
--- the node that a slot holds, where these are the sets
+-- the node of a slot with these sets
 abbrev pub unpacked_slot : List ByteSet → Slot → Node
 unpacked_slot sets slot.Empty = Empty
 unpacked_slot sets (slot.Test set terminal) = Test (set_at sets set) terminal
@@ -23,14 +23,14 @@ unpacked_slot sets (slot.Choice first rest) = Choice first rest
 unpacked_slot sets (slot.Star part) = Star part
 unpacked_slot sets (slot.Not part) = Not part
 
--- the node that an item holds, with where it came from
+-- the node of an item, with its span
 abbrev pub unpacked_item : List ByteSet → SlotAndOrigin → NodeAndOrigin
 unpacked_item sets item = record { node = unpacked_slot sets item.slot; origin = item.origin }
 
 abbrev pub unpacked : List ByteSet → List SlotAndOrigin → List NodeAndOrigin
 unpacked sets items = map (unpacked_item sets) items
 
--- the set of a slot is one of so many
+-- the set of a slot is one of the first `count`
 abbrev pub SlotFits : (count : ℕ) → Slot → Type 0
 SlotFits count slot.Empty = Unit {0}
 SlotFits count (slot.Test set terminal) = set < count
@@ -43,12 +43,12 @@ SlotFits count (slot.Not part) = Unit {0}
 abbrev pub ItemFits : (count : ℕ) → SlotAndOrigin → Type 0
 ItemFits count item = SlotFits count item.slot
 
--- each slot's set is there, and there are no more sets than slots
+-- the set of each slot exists, and there are no more sets than slots
 pub record IsPacked (packed : Inside) : Type 0 where
   pub fit : All (ItemFits (length packed.sets.items)) packed.slots.items
   pub few : length packed.sets.items ≤ length packed.slots.items
 
--- one more set at most was put behind others
+-- at most one set was appended
 pub record AddsSets (old new : List ByteSet) : Type 0 where
   pub more : List ByteSet
   pub added : new ≡ old ++ more

@@ -1,9 +1,8 @@
--- The written subexpressions of rules, each with the number of its first terminal; and the core stars that come of
--- them.
+-- The written subexpressions of rules, each with the number of its first terminal, and the core stars of expressions.
 use Rattle.std.specs.Prelude.{ℕ, ◌+◌, Bool, true, false, List, [], ◌∷◌, ◌++◌}
-use Rattle.peg_ford.specs.Form.{Form, Forms, End, Then, terminals}
-use Rattle.peg_ford.specs.Form as written
-use Rattle.peg_ford.specs.Rules as grammar
+use Rattle.peg_semantics.specs.Form.{Form, Forms, End, Then, terminals}
+use Rattle.peg_semantics.specs.Form as written
+use Rattle.peg_semantics.specs.Rules as grammar
 use Rattle.peg_core.specs.CoreForm.{CoreForm, Empty, Test, Rule, Seq, Choice, Star, Not, core_form}
 
 -- an expression, and the number of its first terminal
@@ -14,7 +13,7 @@ pub record Numbered : Type 0 where
 abbrev pub numbered_as : (terminal : ℕ) → Form → Numbered
 numbered_as terminal e = record { terminal = terminal; form = e }
 
--- The subexpressions below an expression, in written order.
+-- The proper subexpressions of an expression, in written order.
 abbrev mutual
   pub numbered_below : (terminal : ℕ) → Form → List Numbered
   numbered_below terminal (written.Literal bytes span) = []
@@ -42,7 +41,7 @@ abbrev mutual
 abbrev pub numbered_in : (terminal : ℕ) → Form → List Numbered
 numbered_in terminal e = numbered_as terminal e ∷ numbered_below terminal e
 
--- those of these rules, where the first one's first terminal has this number
+-- the subexpressions of these rules; `terminal` is the number of their first terminal
 abbrev pub numbered_from : (terminal : ℕ) → List grammar.Rule → List Numbered
 numbered_from terminal [] = []
 numbered_from terminal (rule ∷ more) =
@@ -52,8 +51,8 @@ numbered_from terminal (rule ∷ more) =
 abbrev pub numbered_subexpressions : List grammar.Rule → List Numbered
 numbered_subexpressions rules = numbered_from 0 rules
 
--- The stars that come of the written stars and pluses in an expression, those of its parts first: each with the core
--- form of its part, and where the star or plus stands.
+-- The core stars of the written stars and pluses in an expression, those of its parts first. Each has the core form of
+-- its part, and the span of the star or plus.
 abbrev mutual
   pub core_stars : List grammar.Rule → (terminal : ℕ) → Form → List CoreForm
   core_stars rules terminal (written.Literal bytes span) = []
@@ -77,13 +76,13 @@ abbrev mutual
   core_stars_of_all rules terminal (Then e rest) =
       core_stars rules terminal e ++ core_stars_of_all rules (terminal + terminals e) rest
 
--- those of these rules, where the first one's first terminal has this number
+-- the core stars of these rules; `terminal` is the number of their first terminal
 abbrev pub core_stars_from : List grammar.Rule → (terminal : ℕ) → List grammar.Rule → List CoreForm
 core_stars_from rules terminal [] = []
 core_stars_from rules terminal (rule ∷ more) =
     core_stars rules terminal rule.body ++ core_stars_from rules (terminal + terminals rule.body) more
 
--- the stars that come of all rules
+-- the core stars of all rules
 abbrev pub all_core_stars : List grammar.Rule → List CoreForm
 all_core_stars rules = core_stars_from rules 0 rules
 

@@ -1,9 +1,9 @@
-//! The core forms of a grammar, as contracts see them: trees.
+//! The core forms of a grammar. Contracts see them as trees.
 ghost use Rattle.std.specs.Prelude.{◌≡◌, ℕ, ◌<◌, ◌≤◌, All, length, map, slice_get, slice_index_or, Some};
 ghost use Rattle.peg_bytes.specs.Extent.{Extent, extent};
-ghost use Rattle.peg_ford.specs.Grammar.{most_parts};
+ghost use Rattle.peg_semantics.specs.Grammar.{max_parts};
 ghost use Rattle.peg_core.specs.CoreLoops.{StandsInBody};
-ghost use Rattle.peg_core.specs.Layout.{bodies_of, form_at, most_forms};
+ghost use Rattle.peg_core.specs.Layout.{bodies_of, form_at, max_forms};
 ghost use Rattle.peg_core.specs.CoreNodes.{NodeFits, IsStarFrom, Spells};
 ghost use Rattle.peg_core.specs.Spelled.{AreSpelled};
 
@@ -12,8 +12,8 @@ use crate::flat::Flat;
 use peg_bytes::Span;
 use std::marker::Model;
 
-/// The core forms of a grammar (Ford 2004, section 3.1). Each has a number, and its parts have smaller numbers; each
-/// rule has a body among them.
+/// The core forms of a grammar (Ford 2004, section 3.1). Each form has a number, and its parts have smaller numbers.
+/// The body of each rule is one of the forms.
 #[derive(Debug, Drop)]
 pub struct Core {
     flat: Flat,
@@ -36,10 +36,10 @@ impl Model for Core {
 }
 
 impl Core {
-    // The forms, and the number of each rule's body among them.
+    // Joins the forms and the number of each rule's body.
     pub(crate) fn new(flat: Flat, bodies: Vec<u32>) -> Core
         requires rules { length bodies.items ≡ flat.rules }
-        requires few { flat.rules ≤ most_parts }
+        requires few { flat.rules ≤ max_parts }
         requires within { (k d : ℕ) → k < length bodies.items → slice_index_or bodies.items k d < length flat.forms }
         requires owned { All (StandsInBody (map (form_at flat.forms) bodies.items)) flat.forms }
         ensures { result ≡ record { forms = flat.forms; bodies = bodies.items; spans = flat.spans } }
@@ -47,11 +47,11 @@ impl Core {
         Core { flat, bodies }
     }
 
-    /// How many core forms there are; each rule's body is one, each stands in the body of a rule, and each is what a
-    /// node stands for. Takes constant time.
+    /// Returns the number of core forms. The body of each rule is one of them, each is part of the body of a rule, and
+    /// each is the form of a `Node`. Takes constant time.
     pub fn len(&self) -> u32
         ensures count { result ≡ length self.now.forms }
-        ensures most { result ≤ most_forms }
+        ensures most { result ≤ max_forms }
         ensures bodies { All (λ body. body < length self.now.forms) self.now.bodies }
         ensures owned { All (StandsInBody (bodies_of self.now)) self.now.forms }
         ensures spelled { AreSpelled self.now }
@@ -59,7 +59,7 @@ impl Core {
         self.flat.len()
     }
 
-    /// The core form with a number, its parts by their numbers. Takes constant time.
+    /// Returns the core form with a number. It names its parts by their numbers. Takes constant time.
     pub fn node(&self, number: u32) -> Node
         requires { number < length self.now.forms }
         ensures form { Spells self.now.forms number result }
@@ -68,7 +68,7 @@ impl Core {
         self.flat.node(number)
     }
 
-    /// Where the written star or plus stands that a star came from. Takes constant time.
+    /// Returns the span, in the grammar file, of the written star or plus of a star. Takes constant time.
     pub fn origin(&self, number: u32) -> Span
         requires within { number < length self.now.forms }
         requires star { (origin : Extent) × IsStarFrom self.now.forms number origin }
@@ -77,15 +77,15 @@ impl Core {
         self.flat.origin(number)
     }
 
-    /// How many rules there are. Takes constant time.
+    /// Returns the number of rules. Takes constant time.
     pub fn rules(&self) -> u32
         ensures count { result ≡ length self.now.bodies }
-        ensures most { result ≤ most_parts }
+        ensures most { result ≤ max_parts }
     {
         self.bodies.len() as u32
     }
 
-    /// The number of a rule's body. Takes constant time.
+    /// Returns the number of the form that is a rule's body. Takes constant time.
     pub fn body(&self, rule: u32) -> u32
         requires { rule < length self.now.bodies }
         ensures number { slice_get self.now.bodies rule ≡ Some result }
@@ -94,15 +94,15 @@ impl Core {
         self.bodies[rule as usize]
     }
 
-    /// How many terminals the rules write. Takes constant time.
+    /// Returns the number of terminals in the rules. Takes constant time.
     pub fn terminals(&self) -> u32
         ensures count { result ≡ length self.now.spans }
-        ensures most { result ≤ most_parts }
+        ensures most { result ≤ max_parts }
     {
         self.flat.terminals()
     }
 
-    /// Where a terminal stands in the grammar file. Takes constant time.
+    /// Returns the span of a terminal in the grammar file, in byte offsets. Takes constant time.
     pub fn terminal_span(&self, terminal: u32) -> Span
         requires { terminal < length self.now.spans }
         ensures { slice_get self.now.spans terminal ≡ Some (extent result) }

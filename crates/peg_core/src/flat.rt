@@ -1,8 +1,8 @@
-//! A flat list of core forms: a form's parts have smaller numbers.
+//! A flat list of core forms, where the parts of a form have smaller numbers.
 ghost use Rattle.std.specs.Prelude.{◌≡◌, ◌<◌, ◌≤◌, [], ◌∷◌, ◌++◌, length, slice_get, IfOk, OnOk, Some};
 ghost use Rattle.peg_bytes.specs.Extent.{Extent, extent};
-ghost use Rattle.peg_ford.specs.Grammar.{most_parts};
-ghost use Rattle.peg_core.specs.Layout.{most_forms};
+ghost use Rattle.peg_semantics.specs.Grammar.{max_parts};
+ghost use Rattle.peg_core.specs.Layout.{max_forms};
 ghost use Rattle.peg_core.specs.CoreNodes.{NodeFits, IsStarFrom, Spells, shape};
 ghost use Rattle.peg_core.specs.Spelled.{AreOfNodes};
 
@@ -12,7 +12,7 @@ use peg_bytes::Span;
 use std::alloc::{AllocError, Global};
 use std::marker::Model;
 
-/// Core forms by their numbers, and where the terminals stand that they test. It grows while a grammar is desugared.
+/// Core forms by number, and the spans of their terminals. The list grows while a grammar is desugared.
 #[derive(Debug, Drop)]
 pub(crate) struct Flat {
     rules: u32,
@@ -36,7 +36,7 @@ impl Model for Flat {
 }
 
 impl Flat {
-    /// No forms and no terminals, for so many rules.
+    /// Returns a list without forms and terminals, for a grammar with this number of rules.
     pub(crate) fn new(alloc: Global, rules: u32) -> Flat
         ensures { result ≡ record { rules = rules; forms = []; spans = [] } }
     {
@@ -47,9 +47,9 @@ impl Flat {
         }
     }
 
-    /// The next terminal, which stands there: its number.
+    /// Appends a terminal with its span, and returns its number. The only error is a failed allocation.
     pub(crate) fn terminal(&mut self, span: Span) -> Result<u32, AllocError>
-        requires { length self.old.spans < most_parts }
+        requires { length self.old.spans < max_parts }
         ensures number { IfOk result (λ terminal. terminal ≡ length self.old.spans) }
         ensures put { OnOk result (self.new ≡ record self.old { spans = self.old.spans ++ extent span ∷ [] }) }
     {
@@ -58,9 +58,9 @@ impl Flat {
         Ok(terminal)
     }
 
-    /// One more form, whose parts are among the forms: its number.
+    /// Appends a form whose parts are in the list, and returns its number. The only error is a failed allocation.
     pub(crate) fn push(&mut self, node: Node, origin: Span) -> Result<u32, AllocError>
-        requires room { length self.old.forms < most_forms }
+        requires room { length self.old.forms < max_forms }
         requires fits { NodeFits (length self.old.forms) self.old.rules (length self.old.spans) node }
         ensures number { IfOk result (λ number. number ≡ length self.old.forms) }
         ensures put { OnOk result (self.new
@@ -71,24 +71,24 @@ impl Flat {
         Ok(number)
     }
 
-    /// How many forms there are.
+    /// Returns the number of forms.
     pub(crate) fn len(&self) -> u32
         ensures count { result ≡ length self.now.forms }
-        ensures most { result ≤ most_forms }
+        ensures most { result ≤ max_forms }
         ensures spelled { AreOfNodes self.now.forms self.now.rules (length self.now.spans) }
     {
         self.nodes.len() as u32
     }
 
-    /// How many terminals there are.
+    /// Returns the number of terminals.
     pub(crate) fn terminals(&self) -> u32
         ensures count { result ≡ length self.now.spans }
-        ensures most { result ≤ most_parts }
+        ensures most { result ≤ max_parts }
     {
         self.spans.len() as u32
     }
 
-    /// The form with a number, its parts by their numbers.
+    /// Returns the form with a number. It names its parts by their numbers.
     pub(crate) fn node(&self, number: u32) -> Node
         requires { number < length self.now.forms }
         ensures form { Spells self.now.forms number result }
@@ -97,7 +97,7 @@ impl Flat {
         self.nodes.node(number)
     }
 
-    /// Where the star or plus stands that a star came from.
+    /// Returns the span of the written star or plus of a star.
     pub(crate) fn origin(&self, number: u32) -> Span
         requires within { number < length self.now.forms }
         requires star { (origin : Extent) × IsStarFrom self.now.forms number origin }
@@ -106,7 +106,7 @@ impl Flat {
         self.nodes.origin(number)
     }
 
-    /// Where a terminal stands.
+    /// Returns the span of a terminal.
     pub(crate) fn terminal_span(&self, terminal: u32) -> Span
         requires { terminal < length self.now.spans }
         ensures { slice_get self.now.spans terminal ≡ Some (extent result) }

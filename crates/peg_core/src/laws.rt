@@ -1,4 +1,4 @@
-//! Laws of the definitions: what holds for every grammar and text. Each function does nothing; its contract is the law.
+//! Laws of core forms, for every grammar and text. Each function does nothing; its contract is the law.
 ghost use Rattle.std.specs.Prelude.{◌≡◌, ◌↔◌, ◌<◌, codes, All, Contains, filter, flat_map, length, map, ℕ, suc, List};
 ghost use Rattle.std.specs.Prelude.{Some};
 ghost use Rattle.peg_bytes.specs.Extent.{Extent};
@@ -12,40 +12,40 @@ ghost use Rattle.peg_core.specs.CoreOutcomes.{IsCoreWellFormedIn, IsCoreWellForm
 ghost use Rattle.peg_core.specs.CoreParts.{all_core_parts};
 ghost use Rattle.peg_core.specs.Subexpressions.{Numbered, numbered_subexpressions, all_core_stars, is_star};
 ghost use Rattle.peg_core.specs.CoreRecord.{AreBytes, core_record_in, IsCoreRecord};
-ghost use Rattle.peg_ford.specs.AbstractOutcomes.{CanAll, GivesNothing, GivesSomething, CanFail};
-ghost use Rattle.peg_ford.specs.Examples.{nested, nested_record, signs, signs_can, two_to_four, three_record};
-ghost use Rattle.peg_ford.specs.Form.{Form};
-ghost use Rattle.peg_ford.specs.Loops.{MeetsFirst, IsEmptyLoop, IsLeftCycle};
-ghost use Rattle.peg_ford.specs.Record.{Record, IsRecord};
-ghost use Rattle.peg_ford.specs.Rules.{Rule};
-ghost use Rattle.peg_ford.specs.WellFormed.{IsWellFormed, IsWellFormedGrammar, subexpressions};
+ghost use Rattle.peg_semantics.specs.AbstractOutcomes.{CanAll, GivesNothing, GivesSomething, CanFail};
+ghost use Rattle.peg_semantics.specs.Examples.{nested, nested_record, signs, signs_can, two_to_four, three_record};
+ghost use Rattle.peg_semantics.specs.Form.{Form};
+ghost use Rattle.peg_semantics.specs.Loops.{MeetsFirst, IsEmptyLoop, IsLeftCycle};
+ghost use Rattle.peg_semantics.specs.Record.{Record, IsRecord};
+ghost use Rattle.peg_semantics.specs.Rules.{Rule};
+ghost use Rattle.peg_semantics.specs.WellFormed.{IsWellFormed, IsWellFormedGrammar, subexpressions};
 
-/// What has a record in n has the same record in n + 1.
-pub fn a_core_record_stays()
+/// A record in n is also the record in n + 1.
+pub fn core_records_are_monotone_in_depth()
     ensures { (bodies : List CoreForm) (text : List ℕ) (n : ℕ) (form : CoreForm) (place : ℕ) (r : Record)
         → core_record_in bodies text n form place ≡ Some r
         → core_record_in bodies text (suc n) form place ≡ Some r }
 {}
 
-/// Two records of one form at one place are the same.
-pub fn a_core_record_is_the_only_one()
+/// A form has at most one record at a position.
+pub fn core_records_are_unique()
     ensures { (bodies : List CoreForm) (text : List ℕ) (form : CoreForm) (place : ℕ) (r s : Record)
         → IsCoreRecord bodies text form place r → IsCoreRecord bodies text form place s → r ≡ s }
 {}
 
-/// What a form can do in n rounds, by Ford's abstract outcomes, it can do in n + 1.
-pub fn core_outcomes_stay()
+/// Ford's abstract outcomes of a form in n rounds are also its outcomes in n + 1.
+pub fn core_outcomes_are_monotone()
     ensures { (bodies : List CoreForm) (n : ℕ) (form : CoreForm)
         → CanAll (core_can_in bodies n form) (core_can_in bodies (suc n) form) }
 {}
 
-/// What is well-formed in n rounds is well-formed in n + 1.
-pub fn well_formed_core_forms_stay()
+/// A form that is well-formed in n rounds is well-formed in n + 1.
+pub fn well_formed_core_forms_are_monotone()
     ensures { (bodies : List CoreForm) (n : ℕ) (form : CoreForm)
         → IsCoreWellFormedIn bodies n form → IsCoreWellFormedIn bodies (suc n) form }
 {}
 
-/// A written expression and its core form have the same record at each place of a text, or neither has one.
+/// A written expression and its core form have the same record at each position of a text, or neither has one.
 pub fn core_forms_have_the_same_records()
     ensures { (rules : List Rule) (text : List ℕ) (e : Form) (terminal place : ℕ) (r : Record) → AreBytes text
         → (IsRecord rules text e terminal place r
@@ -62,14 +62,14 @@ pub fn core_forms_have_the_same_outcomes()
         → (CanFail rules e ↔ CoreCanFail (core_bodies rules) (core_form rules terminal e)) }
 {}
 
-/// A written expression is well-formed exactly where its core form is.
+/// A written expression is well-formed exactly if its core form is.
 pub fn core_forms_are_well_formed_alike()
     ensures { (rules : List Rule) (e : Form) (terminal : ℕ)
         → (IsWellFormed rules e ↔ IsCoreWellFormed (core_bodies rules) (core_form rules terminal e)) }
 {}
 
-/// Among a grammar's core forms stands that of each written subexpression; the stars are exactly those of its written
-/// stars and pluses; and the grammar is well-formed exactly where all its core forms are.
+/// The core forms of a grammar include those of its written subexpressions. The stars among them are exactly those of
+/// its written stars and pluses. The grammar is well-formed exactly if all its core forms are.
 pub fn a_grammars_core_forms_are_those_of_its_expressions()
     ensures subexpressions { (rules : List Rule)
         → All (λ (e : Numbered). Contains (all_core_parts rules) (core_form rules e.terminal e.form))
@@ -81,8 +81,8 @@ pub fn a_grammars_core_forms_are_those_of_its_expressions()
         ↔ All (IsCoreWellFormed (core_bodies rules)) (all_core_parts rules)) }
 {}
 
-/// Rules meet first the same rules on their written expressions and on the core forms of these, so left cycles are the
-/// same; and so are a rule's empty loops, by the places of their stars and pluses.
+/// A rule left-calls the same rules in its written expression and in its core form, so both have the same left cycles.
+/// They also have the same empty loops, by the spans of their stars and pluses.
 pub fn core_forms_have_the_same_loops()
     ensures meets { (rules : List Rule) (first second : ℕ) → second < length rules
         → (MeetsFirst rules first second ↔ CoreMeetsFirst (core_bodies rules) first second) }
@@ -92,7 +92,7 @@ pub fn core_forms_have_the_same_loops()
         → (IsEmptyLoop rules rule span ↔ IsCoreEmptyLoop (core_bodies rules) rule span) }
 {}
 
-/// Where each form that stands in a rule's body is well-formed, no rule has an empty loop, and there is no left cycle.
+/// If all forms in the rules' bodies are well-formed, no rule has an empty loop and there is no left cycle.
 pub fn well_formed_core_forms_have_no_loops()
     ensures empty_loops { (bodies : List CoreForm)
         → ((form : CoreForm) → StandsInBody bodies form → IsCoreWellFormed bodies form)
@@ -102,7 +102,7 @@ pub fn well_formed_core_forms_have_no_loops()
         → (path : List ℕ) → ¬ IsCoreLeftCycle bodies path }
 {}
 
-/// The definitions on grammars that were worked by hand: core forms, the record of a first rule, and outcomes.
+/// The definitions agree with grammars that were worked by hand: core forms, the record of a first rule, and outcomes.
 pub fn the_core_forms_agree_with_hand_worked_grammars()
     ensures nested { core_bodies nested ≡ nested_core }
     ensures signs { core_bodies signs ≡ signs_core }

@@ -1,4 +1,4 @@
-//! Ford's core forms of written grammars: the sugar taken away, with the same meaning.
+//! Desugars a grammar into Ford's core forms, which have the same meaning.
 #![tactic(auto)]
 
 mod cores;

@@ -1,20 +1,20 @@
-//! Sequences and choices of many core forms, nested to the right: from the last form to the first.
+//! Sequences and choices of several core forms. They nest to the right, so the last pair is added first.
 ghost use Rattle.std.specs.Prelude.{◌≡◌, ℕ, ◌+◌, ◌*◌, ◌<◌, ◌≤◌, All, [], ◌∷◌, ◌++◌, length, map, IfOk};
 ghost use Rattle.peg_bytes.specs.Extent.{extent};
 ghost use Rattle.peg_core.specs.CoreForm.{all_in_order, one_of, tests_of};
 ghost use Rattle.peg_core.specs.CoreParts.{sequences_of, choices_of};
 ghost use Rattle.peg_core.specs.Laid.{Lays, LaysAll};
-ghost use Rattle.peg_core.specs.Layout.{form_at, most_forms};
-ghost use Rattle.peg_ford.specs.Grammar.{most_parts};
+ghost use Rattle.peg_core.specs.Layout.{form_at, max_forms};
+ghost use Rattle.peg_semantics.specs.Grammar.{max_parts};
 
 use crate::Node;
 use crate::flat::Flat;
 use peg_bytes::{ByteSet, Span};
 use std::alloc::{AllocError, Global};
 
-/// The forms in order; none are the empty form.
+/// Adds the sequence of these forms, which is the empty form if there are none, and returns its number.
 pub(crate) fn add_sequence(flat: &mut Flat, numbers: &[u32]) -> Result<u32, AllocError>
-    requires room { length flat.old.forms + length numbers.now + 1 ≤ most_forms }
+    requires room { length flat.old.forms + length numbers.now + 1 ≤ max_forms }
     requires within { All (λ number. number < length flat.old.forms) numbers.now }
     ensures { IfOk result (λ number. Lays flat.old (sequences_of (map (form_at flat.old.forms) numbers.now)) []
         (all_in_order (map (form_at flat.old.forms) numbers.now)) number flat.new) }
@@ -32,9 +32,9 @@ pub(crate) fn add_sequence(flat: &mut Flat, numbers: &[u32]) -> Result<u32, Allo
     Ok(rest)
 }
 
-/// The first of the forms that matches: a first one, and others.
+/// Adds the prioritized choice of a first form and others, and returns its number.
 pub(crate) fn add_choices(flat: &mut Flat, first: u32, others: &[u32]) -> Result<u32, AllocError>
-    requires room { length flat.old.forms + length others.now ≤ most_forms }
+    requires room { length flat.old.forms + length others.now ≤ max_forms }
     requires first { first < length flat.old.forms }
     requires within { All (λ number. number < length flat.old.forms) others.now }
     ensures { IfOk result (λ number. Lays flat.old
@@ -54,15 +54,15 @@ pub(crate) fn add_choices(flat: &mut Flat, first: u32, others: &[u32]) -> Result
     flat.push(Node::Choice(first, rest), Span::new(0, 0))
 }
 
-/// A literal: its bytes in order, all tests of one terminal.
+/// Adds a literal, the sequence of its bytes' tests, and returns its number. All its tests are of one terminal.
 pub(crate) fn add_literal(
     alloc: Global,
     flat: &mut Flat,
     bytes: &[u8],
     span: Span,
 ) -> Result<u32, AllocError>
-    requires room { length flat.old.forms + 2 * length bytes.now + 1 ≤ most_forms }
-    requires few { length flat.old.spans + 1 ≤ most_parts }
+    requires room { length flat.old.forms + 2 * length bytes.now + 1 ≤ max_forms }
+    requires few { length flat.old.spans + 1 ≤ max_parts }
     ensures { IfOk result (λ number. Lays flat.old
         (tests_of (length flat.old.spans) bytes.now ++ sequences_of (tests_of (length flat.old.spans) bytes.now))
         (extent span ∷ []) (all_in_order (tests_of (length flat.old.spans) bytes.now)) number flat.new) }
@@ -72,14 +72,14 @@ pub(crate) fn add_literal(
     add_sequence(flat, &tests)
 }
 
-// The tests of a literal's bytes.
+// Adds the tests of a literal's bytes.
 fn add_tests(
     alloc: Global,
     flat: &mut Flat,
     bytes: &[u8],
     terminal: u32,
 ) -> Result<Vec<u32>, AllocError>
-    requires room { length flat.old.forms + length bytes.now ≤ most_forms }
+    requires room { length flat.old.forms + length bytes.now ≤ max_forms }
     requires terminal { terminal < length flat.old.spans }
     ensures { IfOk result (λ numbers. LaysAll flat.old (tests_of terminal bytes.now) []
         (tests_of terminal bytes.now) numbers.items flat.new) }

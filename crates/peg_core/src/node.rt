@@ -1,26 +1,26 @@
-//! Core forms whose parts are named by numbers.
+//! Core forms that name their parts by number.
 use peg_bytes::{ByteSet, Span};
 
-/// A core form (Ford 2004, section 3.1) among others that have numbers: its parts are named by theirs.
+/// A core form (Ford 2004, section 3.1) that names its parts by their numbers.
 #[derive(Clone, Copy, Debug, PartialEq, Eq)]
 pub enum Node {
-    /// Nothing is matched, and it succeeds.
+    /// The empty form: matches nothing and succeeds.
     Empty,
-    /// One byte of the set. A failed test is of this terminal.
+    /// Matches one byte of the set. A failed test is recorded for this terminal.
     Test { set: ByteSet, terminal: u32 },
-    /// The use of a rule, by its number.
+    /// Calls the rule with this number.
     Rule(u32),
-    /// One after the other.
+    /// Matches both parts, one after the other.
     Seq(u32, u32),
-    /// The first, or where it fails the second at the same place.
+    /// Matches the first part, or the second at the same position if the first fails.
     Choice(u32, u32),
-    /// The part again and again, until it fails.
+    /// Matches the part repeatedly, until it fails.
     Star(u32),
-    /// Nothing, where the part fails.
+    /// Consumes nothing and succeeds if the part fails.
     Not(u32),
 }
 
-/// A node, and where the star or plus that it came from stands; the other nodes came from nowhere in particular.
+/// A node, and the span of the written star or plus of a star. Other nodes have no meaningful span.
 #[derive(Clone, Copy, Debug)]
 pub(crate) struct NodeAndOrigin {
     pub(crate) node: Node,

@@ -1,7 +1,7 @@
-//! Nodes in little room.
+//! Nodes in compact form.
 ghost use Rattle.std.specs.Prelude.{◌≡◌, ◌<◌, ◌≤◌, [], ◌∷◌, ◌++◌, length, option_map, slice_get};
 ghost use Rattle.std.specs.Prelude.{IfOk, OnErr, OnOk, Some};
-ghost use Rattle.peg_core.specs.Layout.{most_forms};
+ghost use Rattle.peg_core.specs.Layout.{max_forms};
 ghost use Rattle.peg_core.specs.Slots.{AddsSets, SlotFits, unpacked_slot};
 
 use crate::node::{Node, NodeAndOrigin};
@@ -9,7 +9,7 @@ use peg_bytes::{ByteSet, Span};
 use std::alloc::{AllocError, Global};
 use std::marker::Model;
 
-/// A node in 12 bytes, its set by its number among sets.
+/// A node in 12 bytes. A set is stored by its index in a list of sets.
 #[derive(Clone, Copy, Debug)]
 pub(crate) enum Slot {
     Empty,
@@ -21,7 +21,7 @@ pub(crate) enum Slot {
     Not(u32),
 }
 
-/// A slot, and where the star or plus that its node came from stands.
+/// A slot, and the span of the written star or plus of a star.
 #[derive(Clone, Copy, Debug)]
 pub(crate) struct SlotAndOrigin {
     slot: Slot,
@@ -30,7 +30,7 @@ pub(crate) struct SlotAndOrigin {
 
 const _: () = prove!(size_of::<SlotAndOrigin>() == 20);
 
-/// Nodes whose sets stand aside; a set that comes behind an equal one isn't put again.
+/// Nodes, with their sets in a separate list. A set that equals the last one of the list isn't stored again.
 #[derive(Debug, Drop)]
 pub(crate) struct Nodes {
     slots: Vec<SlotAndOrigin>,
@@ -51,7 +51,7 @@ impl Model for Nodes {
 }
 
 impl Nodes {
-    /// No nodes.
+    /// Returns an empty list.
     pub(crate) fn new(alloc: Global) -> Nodes
         ensures { result ≡ [] }
     {
@@ -61,20 +61,20 @@ impl Nodes {
         }
     }
 
-    /// How many nodes there are. Takes constant time.
+    /// Returns the number of nodes. Takes constant time.
     pub(crate) fn len(&self) -> usize
         ensures { result ≡ length self.now }
     {
         self.slots.len()
     }
 
-    /// One more node.
+    /// Appends a node. The only error is a failed allocation, which leaves the list as it was.
     pub(crate) fn push(&mut self, next: NodeAndOrigin) -> Result<(), AllocError>
-        requires { length self.old < most_forms }
+        requires { length self.old < max_forms }
         ensures added { OnOk result (self.new ≡ self.old ++ next ∷ []) }
         ensures unchanged { OnErr result (self.new ≡ self.old) }
     {
-        // There is room for it first, so that no set is put without its node.
+        // Reserves the slot first, so that a failed allocation leaves no set without its node.
         self.slots.reserve(1)?;
         let slot = slot_of(&mut self.sets, next.node)?;
         self.slots.push(SlotAndOrigin {
@@ -84,7 +84,7 @@ impl Nodes {
         Ok(())
     }
 
-    /// The node with a number. Takes constant time.
+    /// Returns the node with a number. Takes constant time.
     pub(crate) fn node(&self, number: u32) -> Node
         requires { number < length self.now }
         ensures { option_map (λ found. found.node) (slice_get self.now number) ≡ Some result }
@@ -103,7 +103,7 @@ impl Nodes {
         }
     }
 
-    /// Where the node with a number came from. Takes constant time.
+    /// Returns the span of the node with a number. Takes constant time.
     pub(crate) fn origin(&self, number: u32) -> Span
         requires { number < length self.now }
         ensures { option_map (λ found. found.origin) (slice_get self.now number) ≡ Some result }
@@ -112,9 +112,9 @@ impl Nodes {
     }
 }
 
-// A node whose set is among sets, where it is put if it has to be.
+// The slot of a node. Its set is appended to `sets` unless the last set is equal.
 fn slot_of(sets: &mut Vec<ByteSet>, node: Node) -> Result<Slot, AllocError>
-    requires { length sets.old.items ≤ most_forms }
+    requires { length sets.old.items ≤ max_forms }
     ensures added { OnOk result (AddsSets sets.old.items sets.new.items) }
     ensures unchanged { OnErr result (sets.new.items ≡ sets.old.items) }
     ensures fits { IfOk result (λ slot. SlotFits (length sets.new.items) slot) }
@@ -134,9 +134,9 @@ fn slot_of(sets: &mut Vec<ByteSet>, node: Node) -> Result<Slot, AllocError>
     })
 }
 
-// The number of a set among others, where it is put unless it is the last of them.
+// The index of a set, which is appended unless the last set is equal.
 fn number_of(sets: &mut Vec<ByteSet>, set: ByteSet) -> Result<u32, AllocError>
-    requires { length sets.old.items ≤ most_forms }
+    requires { length sets.old.items ≤ max_forms }
     ensures added { OnOk result (AddsSets sets.old.items sets.new.items) }
     ensures unchanged { OnErr result (sets.new.items ≡ sets.old.items) }
     ensures number { IfOk result (λ number. slice_get sets.new.items number ≡ Some set) }

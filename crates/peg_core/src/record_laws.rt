@@ -1,19 +1,19 @@
-//! Laws of core forms alone: what holds of their records and outcomes for every grammar and text. Each function does
-//! nothing; its contract is the law.
+//! Laws of the records and outcomes of core forms, for every grammar and text. Each function does nothing; its contract
+//! is the law.
 ghost use Rattle.std.specs.Prelude.{◌≡◌, ◌<◌, ◌≤◌, ◌+◌, All, length, ℕ, List, Some};
 ghost use Rattle.peg_core.specs.CoreForm.{CoreForm};
 ghost use Rattle.peg_core.specs.CoreOutcomes.{CoreGivesNothing, CoreGivesSomething, CoreCanFail};
 ghost use Rattle.peg_core.specs.CoreOutcomes.{IsCoreWellFormedIn};
 ghost use Rattle.peg_core.specs.CoreRecord.{core_record_in};
 ghost use Rattle.peg_core.specs.Layout.{Desugared, bodies_of};
-ghost use Rattle.peg_core.specs.RecordDepth.{most_rounds, FormsHaveRecords, UsesHaveRecords};
+ghost use Rattle.peg_core.specs.RecordDepth.{max_rounds, FormsHaveRecords, UsesHaveRecords};
 ghost use Rattle.peg_core.specs.Spelled.{AreSpelled};
-ghost use Rattle.peg_ford.specs.Record.{Failed, Matched, Record, Test};
+ghost use Rattle.peg_semantics.specs.Record.{Failed, Matched, Record, Test};
 ghost use Rattle.peg_tree.specs.Trees.{Trees};
 
-/// A match ends at its place or later; from a place of the text it ends within the text, and every failed test is at a
-/// place of the text.
-pub fn core_records_go_onward()
+/// A match ends at its start position or later. If it starts within the text, it ends within the text, and all its
+/// failed tests are at positions of the text.
+pub fn core_records_never_move_back()
     ensures onward { (bodies : List CoreForm) (text : List ℕ) (n : ℕ) (form : CoreForm) (place end : ℕ)
         (trees : Trees) (r : Record) → core_record_in bodies text n form place ≡ Some r
         → r.result ≡ Matched end trees → place ≤ end }
@@ -25,8 +25,8 @@ pub fn core_records_go_onward()
         → All (λ (test : Test). test.place ≤ length text) r.tests }
 {}
 
-/// What comes of a core form shows what it can do (Ford 2004, section 3.5, his theorem on abstract outcomes): a match
-/// that ends at its place shows 0, one that ends later 1, and a failure f.
+/// The result of a core form shows one of its abstract outcomes (Ford 2004, section 3.5, the theorem on abstract
+/// outcomes). A match that consumes nothing shows 0, a longer match shows 1, and a failure shows f.
 pub fn core_results_show_abstract_outcomes()
     ensures nothing { (bodies : List CoreForm) (text : List ℕ) (n : ℕ) (form : CoreForm) (place : ℕ) (trees : Trees)
         (r : Record) → core_record_in bodies text n form place ≡ Some r → r.result ≡ Matched place trees
@@ -38,24 +38,24 @@ pub fn core_results_show_abstract_outcomes()
         → core_record_in bodies text n form place ≡ Some r → r.result ≡ Failed → CoreCanFail bodies form }
 {}
 
-/// Well-formed core forms are complete (Ford 2004, section 3.6): where all are well-formed in so many rounds, each has
-/// a record at each place of each text, and so has the use of each rule; how deep it is at most, the rounds and the
-/// text's length tell. That they merely are well-formed suffices.
+/// Well-formed core forms are complete (Ford 2004, section 3.6). If all are well-formed in a number of rounds, each
+/// form and each rule has a record at each position of each text. The rounds and the length of the text bound the depth
+/// of the record. It suffices that the forms are merely well-formed.
 pub fn well_formed_core_forms_are_complete()
     ensures uses { (core : Desugared) (rounds : ℕ) → AreSpelled core
         → All (λ body. body < length core.forms) core.bodies
         → All (IsCoreWellFormedIn (bodies_of core) rounds) core.forms
-        → (text : List ℕ) → UsesHaveRecords core text (1 + most_rounds rounds text) }
+        → (text : List ℕ) → UsesHaveRecords core text (1 + max_rounds rounds text) }
     ensures forms { (core : Desugared) (rounds : ℕ) → AreSpelled core
         → All (λ body. body < length core.forms) core.bodies
         → All (IsCoreWellFormedIn (bodies_of core) rounds) core.forms
-        → (text : List ℕ) → FormsHaveRecords core text (most_rounds rounds text) }
+        → (text : List ℕ) → FormsHaveRecords core text (max_rounds rounds text) }
     ensures merely { (core : Desugared) (rounds : ℕ) → AreSpelled core
         → All (λ body. body < length core.forms) core.bodies
         → ∥ All (IsCoreWellFormedIn (bodies_of core) rounds) core.forms ∥₁
-        → (text : List ℕ) → UsesHaveRecords core text (1 + most_rounds rounds text) }
+        → (text : List ℕ) → UsesHaveRecords core text (1 + max_rounds rounds text) }
     ensures merely_forms { (core : Desugared) (rounds : ℕ) → AreSpelled core
         → All (λ body. body < length core.forms) core.bodies
         → ∥ All (IsCoreWellFormedIn (bodies_of core) rounds) core.forms ∥₁
-        → (text : List ℕ) → FormsHaveRecords core text (most_rounds rounds text) }
+        → (text : List ℕ) → FormsHaveRecords core text (max_rounds rounds text) }
 {}

@@ -1,5 +1,5 @@
-//! The sugar taken away (Ford 2004, section 3.2): `e?` is `e / ''`, `e+` is `e e*`, a count is what it unfolds to, `&e`
-//! is `!(!e)`, a literal is the sequence of its bytes, a class and `.` are one test of a byte.
+//! Desugaring (Ford 2004, section 3.2). `e?` is `e / ''`, `e+` is `e e*`, and `&e` is `!(!e)`. A count is unfolded, a
+//! literal is the sequence of its bytes, and a class or `.` is one test of a byte.
 ghost use Rattle.std.specs.Prelude.{◌≡◌, ◌↔◌, ℕ, List, All, Contains, filter, ◌+◌, ◌*◌, ◌≤◌, ◌<◌, true, [], ◌∷◌};
 ghost use Rattle.std.specs.Prelude.{length, map, IfOk};
 ghost use Rattle.peg_bytes.specs.Extent.{Extent};
@@ -8,16 +8,16 @@ ghost use Rattle.peg_core.specs.CoreLoops.{CoreMeetsFirst, IsCoreEmptyLoop, IsCo
 ghost use Rattle.peg_core.specs.CoreOutcomes.{IsCoreWellFormed};
 ghost use Rattle.peg_core.specs.CoreParts.{all_core_parts, are_defined, are_in_range};
 ghost use Rattle.peg_core.specs.Laid.{Lays, LaysForm, LaysForms};
-ghost use Rattle.peg_core.specs.Layout.{bodies_of, most_forms, most_forms_each};
+ghost use Rattle.peg_core.specs.Layout.{bodies_of, max_forms, max_forms_each};
 ghost use Rattle.peg_core.specs.Subexpressions.{numbered_subexpressions, all_core_stars, is_star};
-ghost use Rattle.peg_ford.specs.Form.{counts_written, counts_written_by_all, form_weight, forms, forms_weight};
-ghost use Rattle.peg_ford.specs.Form.{names_used, names_used_by_all};
-ghost use Rattle.peg_ford.specs.Grammar.{most_parts};
+ghost use Rattle.peg_semantics.specs.Form.{counts_written, counts_written_by_all, form_weight, forms, forms_weight};
+ghost use Rattle.peg_semantics.specs.Form.{names_used, names_used_by_all};
+ghost use Rattle.peg_semantics.specs.Grammar.{max_parts};
 ghost use Rattle.peg_grammar.specs.GrammarRules.{rules_in};
-ghost use Rattle.peg_ford.specs.Loops.{MeetsFirst, IsEmptyLoop, IsLeftCycle};
-ghost use Rattle.peg_ford.specs.Rules.{is_defined, weight_of};
-ghost use Rattle.peg_ford.specs.Terminals.{extents_of_terminals};
-ghost use Rattle.peg_ford.specs.WellFormed.{IsWellFormedGrammar};
+ghost use Rattle.peg_semantics.specs.Loops.{MeetsFirst, IsEmptyLoop, IsLeftCycle};
+ghost use Rattle.peg_semantics.specs.Rules.{is_defined, weight_of};
+ghost use Rattle.peg_semantics.specs.Terminals.{extents_of_terminals};
+ghost use Rattle.peg_semantics.specs.WellFormed.{IsWellFormedGrammar};
 ghost use Rattle.peg_grammar.specs.Written.{form_of};
 
 use crate::Core;
@@ -29,18 +29,21 @@ use crate::signs::{
 use peg_grammar::{Expr, Grammar};
 use std::alloc::{AllocError, Global};
 
-/// The core forms of a grammar (Ford 2004, section 3.2): for each written expression, those of its parts and then its
-/// own, rule by rule and in written order; the part of a plus or a count stands once and is named by each round. There
-/// are at most two for each part of the grammar's weight and for each round of its counts, and it takes time and memory
-/// linear in that, but for hashing. It recurses as deep as expressions nest.
+/// Returns the core forms of a grammar (Ford 2004, section 3.2). They are in written order, rule by rule, and the forms
+/// of an expression's parts come before its own. The part of a plus or a count is added once, and each iteration names
+/// it.
+///
+/// There are at most two forms for each part of the grammar's weight and each iteration of its counts. Takes time and
+/// memory linear in this number, apart from hashing. The recursion is as deep as expressions nest. The only error is a
+/// failed allocation.
 pub fn desugar(alloc: Global, grammar: &Grammar) -> Result<Core, AllocError>
     ensures forms { IfOk result (λ core. core.forms ≡ all_core_parts (rules_in grammar.now)) }
     ensures bodies { IfOk result (λ core. bodies_of core ≡ core_bodies (rules_in grammar.now)) }
     ensures count { IfOk result (λ core. length core.bodies ≡ length (rules_in grammar.now)) }
     ensures spans { IfOk result (λ core. core.spans ≡ extents_of_terminals (rules_in grammar.now)) }
-    ensures few { IfOk result (λ core. length core.forms ≤ most_forms_each * weight_of (rules_in grammar.now)) }
+    ensures few { IfOk result (λ core. length core.forms ≤ max_forms_each * weight_of (rules_in grammar.now)) }
 
-    // So what is asked of written expressions can be asked of the core forms.
+    // The core forms have the properties of the written expressions.
     ensures subexpressions { IfOk result (λ core.
         All (λ e. Contains core.forms (core_form (rules_in grammar.now) e.terminal e.form))
         (numbered_subexpressions (rules_in grammar.now))) }
@@ -65,11 +68,11 @@ pub fn desugar(alloc: Global, grammar: &Grammar) -> Result<Core, AllocError>
     Ok(Core::new(flat, bodies))
 }
 
-// The core forms of an expression, and the number of its own. It recurses as deep as expressions nest.
+// Adds the core forms of an expression, and returns the number of its own. Recurses as deep as expressions nest.
 #[cycle(sugar)]
 fn add(alloc: Global, flat: &mut Flat, grammar: &Grammar, expr: &Expr) -> Result<u32, AllocError>
-    requires room { length flat.old.forms + most_forms_each * form_weight (form_of expr.now) ≤ most_forms }
-    requires few { length flat.old.spans + form_weight (form_of expr.now) ≤ most_parts }
+    requires room { length flat.old.forms + max_forms_each * form_weight (form_of expr.now) ≤ max_forms }
+    requires few { length flat.old.spans + form_weight (form_of expr.now) ≤ max_parts }
     requires rules { flat.old.rules ≡ length (rules_in grammar.now) }
     requires defined { are_defined (rules_in grammar.now) (names_used (form_of expr.now)) ≡ true }
     requires ranged { are_in_range (counts_written (form_of expr.now)) ≡ true }
@@ -100,7 +103,7 @@ fn add(alloc: Global, flat: &mut Flat, grammar: &Grammar, expr: &Expr) -> Result
     }
 }
 
-// The core forms of expressions in order, and the numbers of their own.
+// Adds the core forms of expressions in order, and returns the numbers of their own.
 #[cycle(sugar)]
 fn add_all(
     alloc: Global,
@@ -108,9 +111,9 @@ fn add_all(
     grammar: &Grammar,
     items: &[Expr],
 ) -> Result<Vec<u32>, AllocError>
-    requires room { length flat.old.forms + most_forms_each * forms_weight (forms (map form_of items.now))
-        ≤ most_forms }
-    requires few { length flat.old.spans + forms_weight (forms (map form_of items.now)) ≤ most_parts }
+    requires room { length flat.old.forms + max_forms_each * forms_weight (forms (map form_of items.now))
+        ≤ max_forms }
+    requires few { length flat.old.spans + forms_weight (forms (map form_of items.now)) ≤ max_parts }
     requires rules { flat.old.rules ≡ length (rules_in grammar.now) }
     requires defined { are_defined (rules_in grammar.now) (names_used_by_all (forms (map form_of items.now))) ≡ true }
     requires ranged { are_in_range (counts_written_by_all (forms (map form_of items.now))) ≡ true }
@@ -125,9 +128,9 @@ fn add_all(
     Ok(numbers)
 }
 
-// The use of the rule that a name means.
+// Adds the call of the rule that a name denotes.
 fn add_name(flat: &mut Flat, grammar: &Grammar, name: &str) -> Result<u32, AllocError>
-    requires room { length flat.old.forms + 1 ≤ most_forms }
+    requires room { length flat.old.forms + 1 ≤ max_forms }
     requires rules { flat.old.rules ≡ length (rules_in grammar.now) }
     requires defined { is_defined (rules_in grammar.now) name.now ≡ true }
     ensures { IfOk result (λ number. Lays flat.old (Rule (number_of (rules_in grammar.now) name.now) ∷ []) []

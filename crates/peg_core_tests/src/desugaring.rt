@@ -1,4 +1,4 @@
-// The core forms of grammars that are read from their texts. Every value that is wanted was worked out by hand.
+// The core forms of grammar files. The expected values were worked by hand.
 use peg_bytes::{ByteSet, Span};
 use peg_core::{Core, Node, desugar};
 use peg_grammar::Grammar;
@@ -26,7 +26,7 @@ fn nodes_of(alloc: Global, core: &Core) -> Result<Vec<Node>, AllocError> {
     Ok(nodes)
 }
 
-// The core forms are these, and so many terminals are written.
+// Checks the core forms and the number of terminals.
 fn assert_nodes(
     rt: &impl Abort,
     alloc: Global,
@@ -81,7 +81,7 @@ fn all_sugar_is_taken_away(rt: HostRuntime) -> Result<(), Fail> {
     assert_nodes(&rt, rt.alloc(), b"A <- &'x' 'yz'+ .?", &wanted, 3)
 }
 
-// The 'a' once, the empty expression once, and for each round one form that has to match, or two that need not.
+// The 'a' once, the empty expression once, and one form for each required round or two for each optional one.
 #[test]
 fn a_count_unfolds_from_its_last_round(rt: HostRuntime) -> Result<(), Fail> {
     let wanted = [
@@ -97,7 +97,7 @@ fn a_count_unfolds_from_its_last_round(rt: HostRuntime) -> Result<(), Fail> {
     assert_nodes(&rt, rt.alloc(), b"A <- 'a'{2,4}", &wanted, 1)
 }
 
-// 3 levels of 255 rounds, two forms each where they need not match.
+// 3 levels of 255 rounds, with two forms for each optional round.
 #[test]
 fn counts_in_counts_stay_few(rt: HostRuntime) -> Result<(), Fail> {
     let core = core_of(rt.alloc(), b"A <- (('a'{0,255}){255}){255}")?;
@@ -112,14 +112,14 @@ fn an_optional_round_the_empty_literal_stays(rt: HostRuntime) -> Result<(), Fail
     assert_nodes(&rt, rt.alloc(), b"A <- (('')?)*", &wanted, 1)
 }
 
-// The literal is a terminal, and the empty sequence behind the slash isn't.
+// The literal is a terminal, and the empty sequence after the slash isn't.
 #[test]
 fn what_matches_nothing_is_empty(rt: HostRuntime) -> Result<(), Fail> {
     let wanted = [Node::Empty, Node::Empty, Node::Choice(0, 1)];
     assert_nodes(&rt, rt.alloc(), b"A <- '' /", &wanted, 1)
 }
 
-// 25 pluses round 'a' are one test and two forms each.
+// 25 pluses around 'a' are one test and two forms each.
 #[test]
 fn nested_pluses_stay_few(rt: HostRuntime) -> Result<(), Fail> {
     let alloc = rt.alloc();
@@ -130,7 +130,7 @@ fn nested_pluses_stay_few(rt: HostRuntime) -> Result<(), Fail> {
     Ok(())
 }
 
-// Where the stars of a core came from, by number.
+// The spans that the stars of a core come from, by number.
 fn origins(alloc: Global, core: &Core) -> Result<Vec<Span>, AllocError> {
     let mut spans = Vec::new(alloc);
     for number in 0..core.len() {
@@ -183,7 +183,7 @@ fn rules_follow_one_another(rt: HostRuntime) -> Result<(), Fail> {
     Ok(())
 }
 
-// A literal of 100,000 bytes is as many tests, and one sequence less.
+// A literal of 100,000 bytes has as many tests, and one sequence less.
 #[test]
 fn a_long_literal_is_linear(rt: HostRuntime) -> Result<(), Fail> {
     let alloc = rt.alloc();

@@ -1,5 +1,5 @@
-//! The grammars of the folder `examples` at the top, over their texts. Its `same.py` sees to it that they are the same
-//! here and there.
+//! The grammars of the folder `examples` on their texts. The script `same.py` of that folder checks that the copies
+//! are equal.
 use peg_tool::{Command, Device, run_joined, run_tool};
 use std::alloc::{AllocError, Global};
 use std::process::Abort;
@@ -108,7 +108,7 @@ const URI: &[u8] = b"\
     Hex        <- [0-9a-fA-F]\n\
     Delimiter  <- [!$&'()*+,;=]\n";
 
-/// All of them.
+/// All example grammars.
 pub(crate) const GRAMMARS: [&[u8]; 6] = [ARITHMETIC, CSV, INI, JSON, NOTATION, URI];
 
 // The grammar, a line `%%` and the text.
@@ -119,7 +119,7 @@ fn joined(alloc: Global, grammar: &[u8], text: &[u8]) -> Result<Vec<u8>, AllocEr
     Ok(input)
 }
 
-// Each text, which stands behind its file's name, is matched whole, or fails.
+// Checks whether each text, given after its file name, matches as a whole.
 fn ends(
     rt: &impl Abort,
     alloc: Global,
@@ -139,7 +139,7 @@ fn ends(
     Ok(())
 }
 
-// Runs a command on a file, and answers its line and its status.
+// Runs a command on a file, and returns its line and its exit status.
 fn told(alloc: Global, file: &[u8], command: Command) -> Result<(Vec<u8>, u8), Fail> {
     let mut written = Vec::new(alloc);
     let ended = run_tool(
@@ -174,7 +174,7 @@ fn every_grammar_has_a_table_and_is_accepted(rt: HostRuntime) -> Result<(), Fail
     Ok(())
 }
 
-// The table of a grammar: of each rule 0 where it can succeed on nothing, 1 where on something, f where it can fail.
+// Checks the table of a grammar. 0 is success on nothing, 1 success on something, and f failure.
 fn can(rt: &impl Abort, alloc: Global, grammar: &[u8], rules: &[(&str, &str)]) -> Result<(), Fail> {
     let mut wanted = String::from_str(alloc, "{\"table\":[")?;
     for (number, (name, outcomes)) in rules.iter().enumerate() {

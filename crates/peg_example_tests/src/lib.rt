@@ -1,4 +1,4 @@
-//! Tests of the example grammars over their texts, and of both readers of grammar files.
+//! Tests of the example grammars on their texts, and of both readers of grammar files.
 #![tactic(auto)]
 
 #[cfg(test)]

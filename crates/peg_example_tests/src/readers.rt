@@ -1,4 +1,5 @@
-//! Grammar files read twice: by hand, and by the figure itself. Both give the same definitions, or both refuse.
+//! Grammar files read twice: by the hand-written reader, and by the metagrammar. Both return the same definitions, or
+//! both reject the file.
 use crate::examples::GRAMMARS;
 use peg_notation::{NotationFault, figure, figure_text, read};
 use peg_tool::{Command, Device, FigureFault, ParseOptions, read_by_figure, run_tool};
@@ -6,10 +7,10 @@ use std::alloc::{AllocError, Global};
 use std::process::Abort;
 use std::test::Fail;
 
-// How many bytes the figure's text has, in 31 lines.
+// The number of bytes of the metagrammar's text, in 31 lines.
 const FIGURE_BYTES: usize = 1086;
 
-// What the two readers say of a file; None, where it is refused.
+// The results of the two readers; `None` if the file is rejected.
 fn both(alloc: Global, file: &[u8]) -> Result<(Option<String>, Option<String>), AllocError> {
     let by_hand = match read(alloc, file) {
         Ok(definitions) => Some(format!(in alloc; "{definitions:?}")?),
@@ -22,7 +23,7 @@ fn both(alloc: Global, file: &[u8]) -> Result<(Option<String>, Option<String>), 
     Ok((by_hand, by_figure))
 }
 
-// Both readers give the same definitions of each file.
+// Checks that both readers return the same definitions of each file.
 fn assert_read(rt: &impl Abort, alloc: Global, files: &[&[u8]]) -> Result<(), Fail> {
     for file in files {
         let (by_hand, by_figure) = both(alloc, file)?;
@@ -32,7 +33,7 @@ fn assert_read(rt: &impl Abort, alloc: Global, files: &[&[u8]]) -> Result<(), Fa
     Ok(())
 }
 
-// Both readers give the same definitions of each front of a file, or both refuse it.
+// Checks that both readers return the same definitions of each prefix of a file, or both reject it.
 fn assert_fronts(rt: &impl Abort, alloc: Global, file: &[u8]) -> Result<(), Fail> {
     for length in 0..=file.len() {
         let (by_hand, by_figure) = both(alloc, &file[..length])?;
@@ -41,7 +42,7 @@ fn assert_fronts(rt: &impl Abort, alloc: Global, file: &[u8]) -> Result<(), Fail
     Ok(())
 }
 
-// A rule whose body is `'a'` in so many parentheses.
+// A rule whose body is `'a'` in `depth` parentheses.
 fn nested(alloc: Global, depth: usize) -> Result<Vec<u8>, AllocError> {
     let mut file = Vec::new(alloc);
     file.extend_from_slice(b"A <- ")?;
@@ -93,7 +94,7 @@ fn the_figure_is_accepted_and_parses_itself(rt: HostRuntime) -> Result<(), Fail>
     Ok(())
 }
 
-// What a command tells of the figure's text, which is its grammar file and its text.
+// The output of a command on the metagrammar's text, as the grammar file and as the text.
 fn told(rt: &impl Abort, alloc: Global, command: &Command<'_>) -> Result<String, Fail> {
     let mut written = Vec::new(alloc);
     let status = run_tool(
@@ -157,7 +158,7 @@ fn files_that_the_figure_refuses(rt: HostRuntime) -> Result<(), Fail> {
     Ok(())
 }
 
-// Where both readers find a count out of range.
+// The offsets at which both readers find a count out of range.
 fn bad_counts(alloc: Global, file: &[u8]) -> (Option<u32>, Option<u32>) {
     let by_hand = match read(alloc, file) {
         Err(NotationFault::BadCount { at }) => Some(at),

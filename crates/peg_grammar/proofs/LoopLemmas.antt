@@ -1,21 +1,21 @@
--- The evaluator's loops over items and over alternatives.
+-- The evaluator's loops over the items of a sequence and the alternatives of a choice.
 use Rattle.std.proofs.Common.{◌≡◌, ℕ, zero, suc, ◌+◌, ◌<◌, ◌≤◌, List, [], ◌∷◌, ◌++◌, map, length, get_or, drop, fold, Option, None, Some, Ok, Err, option_map, refl, sym, ap, ◌∙◌, append_assoc, append-nil, suc-add, arith}
 use Rattle.std.proofs.Math.ListN.{drop_of_length-le}
 use Rattle.std.proofs.lemmas.List.{length-map}
 use Rattle.std.proofs.lemmas.List.Sums.{fold-append}
 use Rattle.peg_tree.specs.Rows.{rows_of}
 use Rattle.peg_tree.specs.Trees.{Trees, NoTrees, followed_by}
-use Rattle.peg_ford.specs.Form.{Form, Forms, End, Then, forms, terminals}
-use Rattle.peg_ford.specs.FurthestPass.{noted}
-use Rattle.peg_ford.specs.Record.{Recognition, Record, Test, Use, Taking, matched_at, after_both, behind, followed, then_at, replaced, or_else, take_items, take_first}
-use Rattle.peg_ford.specs.Record as recognition
+use Rattle.peg_semantics.specs.Form.{Form, Forms, End, Then, forms, terminals}
+use Rattle.peg_semantics.specs.FurthestPass.{noted}
+use Rattle.peg_semantics.specs.Record.{Recognition, Record, Test, Use, Taking, matched_at, after_both, behind, followed, then_at, replaced, or_else, take_items, take_first}
+use Rattle.peg_semantics.specs.Record as recognition
 use Rattle.peg_grammar.specs.Seen.{Seen, trees_left, Evaluates}
 use Rattle.peg_grammar.specs.declared.found.Stop.{Stop}
 use Rattle.peg_grammar.specs.declared.found.Stop.TheVariants.{AtDepth, OutOfMemory}
 use Rattle.peg_grammar.specs.declared.found.Verdict.TheVariants.{EndsAt, Fails}
 use Rattle.peg_grammar.proofs.SeenLemmas.{prefixed, prefixed-prefixed, prefixed-none, result_of_failed, result_of_matched, rows_of-followed_by, seen}
 
--- the expressions from one on are that one and those after it
+-- the expressions from index i on are that expression and those after it
 pub forms-drop : {X : Type 0} (f : X → Form) (xs : List X) (i : ℕ) (x : X) → i < length xs → x ≡ get_or xs i x → forms (drop i (map f xs)) ≡ Then (f x) (forms (drop (i + 1) (map f xs)))
 forms-drop f [] i x h e = absurd (omega arith)
 forms-drop f (y ∷ ys) zero x h e = ap (λ z. Then (f z) (forms (map f ys))) (sym e)
@@ -24,7 +24,7 @@ forms-drop f (y ∷ ys) (suc i) x h e = rw suc-add (forms-drop f ys i x (omega a
 pub forms-drop_all : {X : Type 0} (f : X → Form) (xs : List X) (i : ℕ) → length xs ≤ i → forms (drop i (map f xs)) ≡ End
 forms-drop_all f xs i h = ap forms (drop_of_length-le (map f xs) (rw length-map h))
 
--- what the items so far came to, before the rest
+-- the progress of a sequence: the result of the items so far, before the remaining ones
 pub record ItemsSoFar (take : Taking) (all : Forms) (terminal place : ℕ) (start : Seen) (rest : Forms) (next at : ℕ) (now : Seen) : Type 0 where
   pub tests : List Test
   pub uses : List Use
@@ -75,7 +75,7 @@ items-end take all terminal place start next at now so_far = (
   so_far.noted_now ∙ (λ i. seen (ap (λ l. fold noted start.furthest l) (sym (append-nil so_far.tests)) i) (ap (λ l. start.rows ++ l) (sym (append-nil (rows_of so_far.trees)) ∙ sym (rows_of-followed_by so_far.trees NoTrees)) i)),
 )
 
--- the alternatives after the first: all failed where there is none
+-- the alternatives after the first; a failure if there is none
 abbrev pub take_any : Taking → Forms → (terminal place : ℕ) → Option Record
 take_any take End terminal place = Some (record { result = recognition.Failed; tests = []; uses = [] })
 take_any take (Then e rest) terminal place = or_else (take e terminal place) (take_any take rest (terminal + terminals e) place)
@@ -93,7 +93,7 @@ take_first-any take e End terminal place = sym (or_else-none (take e terminal pl
 take_first-any take e (Then next rest) terminal place =
     ap (or_else (take e terminal place)) (take_first-any take next rest (terminal + terminals e) place)
 
--- a record behind tests and uses of alternatives that failed
+-- a record after the tests and calls of failed alternatives
 abbrev pub failing : List Test → List Use → Option Record → Option Record
 failing tests uses tried =
     option_map (λ (more : Record). record { result = more.result; tests = tests ++ more.tests; uses = uses ++ more.uses }) tried
@@ -103,7 +103,7 @@ failing-failing tests more_tests uses more_uses None = refl
 failing-failing tests more_tests uses more_uses (Some r) =
     λ i. Some (record { result = r.result; tests = sym (append_assoc tests more_tests r.tests) i; uses = sym (append_assoc uses more_uses r.uses) i })
 
--- the alternatives so far failed: what is left to try
+-- the progress of a choice: the alternatives so far failed, and the remaining ones
 pub record FailedSoFar (whole : Option Record) (take : Taking) (place : ℕ) (start : Seen) (rest : Forms) (next : ℕ) (now : Seen) : Type 0 where
   pub tests : List Test
   pub uses : List Use

@@ -1,4 +1,4 @@
--- What is found on the way to a verdict is the outcome of the record.
+-- The evaluator's final state gives the outcome of the record.
 use Rattle.std.proofs.Common.{◌≡◌, ℕ, zero, suc, List, [], Option, None, Some, Ok, option_map, option_and_then, sym, ap, ◌∙◌, subst}
 use Rattle.peg_tree.specs.Rows.{rows_of, IsOneTree}
 use Rattle.peg_tree.specs.Trees.{Trees, NoTrees, Tree}
@@ -6,19 +6,19 @@ use Rattle.peg_tree.specs.TreesOfRows.{trees_of}
 use Rattle.peg_tree.specs.TreesCode.{trees_of-rows_of}
 use Rattle.peg_tree.specs.declared.outcome.Parsed.{Parsed}
 use Rattle.peg_tree.specs.declared.outcome.Parsed.TheVariants as parsed
-use Rattle.peg_ford.specs.Furthest.{IsFurthest}
-use Rattle.peg_ford.specs.FurthestPass.{furthest_of}
+use Rattle.peg_semantics.specs.Furthest.{IsFurthest}
+use Rattle.peg_semantics.specs.FurthestPass.{furthest_of}
 use Rattle.peg_grammar.specs.Outcomes.{parsed_of}
-use Rattle.peg_ford.specs.Record.{Recognition, Record, as_tree, as_use, record_in, start_record}
-use Rattle.peg_ford.specs.Record as recognition
-use Rattle.peg_ford.specs.Rules.{Rule, Meaning, meant}
+use Rattle.peg_semantics.specs.Record.{Recognition, Record, as_tree, as_use, record_in, start_record}
+use Rattle.peg_semantics.specs.Record as recognition
+use Rattle.peg_semantics.specs.Rules.{Rule, Meaning, meant}
 use Rattle.peg_grammar.specs.Seen.{Seen, trees_left, Evaluates, Leaves, IsParsed}
 use Rattle.peg_grammar.specs.declared.found.Verdict.{Verdict}
 use Rattle.peg_grammar.specs.declared.found.Verdict.TheVariants.{EndsAt, Fails}
-use Rattle.peg_ford.proofs.FurthestLemmas.{furthest_of-is}
+use Rattle.peg_semantics.proofs.FurthestLemmas.{furthest_of-is}
 use Rattle.peg_grammar.proofs.SeenLemmas.{result_of_failed, result_of_matched, seen}
 
--- what a rule leaves is one tree
+-- the trees of a rule are one tree
 as_tree-one : (rule place end : ℕ) (result : Recognition) (trees : Trees) → as_tree rule place result ≡ recognition.Matched end trees → IsOneTree (rows_of trees)
 as_tree-one rule place end recognition.Failed trees e = cc
 as_tree-one rule place end (recognition.Matched there children) trees e =
@@ -41,7 +41,7 @@ start-one rules text zero name r end trees e is = cc
 start-one rules text (suc n) name r end trees e is =
     named-one (λ m. record_in rules text n m.body m.terminal 0) 0 end (meant rules name) r trees e is
 
--- nothing found yet
+-- the initial state
 abbrev pub nothing_seen : Seen
 nothing_seen = seen (record { far = 0; expected = [] }) []
 
@@ -52,14 +52,14 @@ start-leaves rules text n name (EndsAt end) now h =
     let m = result_of_matched h.0.result end h.2 in
     subst IsOneTree (sym ((λ i. (h.3 i).rows) ∙ ap (λ x. rows_of (trees_left x)) m.1)) (start-one rules text n name h.0 end m.0 h.1 m.1)
 
--- the outcome's result is the record's
+-- the result of the outcome is that of the record
 pub start-parsed : (tried : Option Record) (verdict : Verdict) (now : Seen) (result : Parsed) → (h : Evaluates tried nothing_seen (Ok verdict) now) → IsParsed verdict now.rows result → result ≡ parsed_of h.0.result
 start-parsed tried Fails now result h e = e ∙ sym (ap parsed_of (result_of_failed h.0.result h.2))
 start-parsed tried (EndsAt end) now result h e =
     let m = result_of_matched h.0.result end h.2 in
     e ∙ (ap (λ l. parsed.Matched end (trees_of l)) ((λ i. (h.3 i).rows) ∙ ap (λ x. rows_of (trees_left x)) m.1) ∙ (ap (parsed.Matched end) (trees_of-rows_of m.0) ∙ sym (ap parsed_of m.1)))
 
--- the furthest failure that was kept is that of the record's tests
+-- the stored furthest failure is that of the record's tests
 pub start-furthest : (tried : Option Record) (verdict : Verdict) (now : Seen) → (h : Evaluates tried nothing_seen (Ok verdict) now) → IsFurthest h.0.tests now.furthest.far now.furthest.expected
 start-furthest tried verdict now h =
     let same : now.furthest ≡ furthest_of h.0.tests = λ i. (h.3 i).furthest in

@@ -1,20 +1,20 @@
--- How what an evaluation notes goes together along the recognition table.
+-- How the evaluator's state changes along Ford's rules.
 use Rattle.std.proofs.Common.{◌≡◌, ◌≢◌, ℕ, zero, suc, ◌+◌, ◌-◌, List, [], ◌∷◌, ◌++◌, length, fold, Option, None, Some, Ok, Err, option_map, option_and_then, refl, sym, ap, ◌∙◌, append_assoc, append-nil, length-append, arith}
 use Rattle.std.proofs.lemmas.List.Sums.{fold-append}
 use Rattle.peg_tree.specs.Rows.{Row, rows_of}
 use Rattle.peg_tree.specs.Trees.{Trees, NoTrees, Tree, followed_by, nodes}
-use Rattle.peg_ford.specs.Form.{Form}
-use Rattle.peg_ford.specs.FurthestPass.{Furthest, noted}
-use Rattle.peg_ford.specs.Record.{Recognition, Record, Test, Use, Taking, matched_at, after_both, behind, followed, then_at, replaced, or_else, repeated, if_matched, if_failed, with_result, as_tree, as_use, take_items, take_first, table, record_in}
-use Rattle.peg_ford.specs.Record as recognition
-use Rattle.peg_ford.specs.Rules.{Rule}
+use Rattle.peg_semantics.specs.Form.{Form}
+use Rattle.peg_semantics.specs.FurthestPass.{Furthest, noted}
+use Rattle.peg_semantics.specs.Record.{Recognition, Record, Test, Use, Taking, matched_at, after_both, behind, followed, then_at, replaced, or_else, repeated, if_matched, if_failed, with_result, as_tree, as_use, take_items, take_first, table, record_in}
+use Rattle.peg_semantics.specs.Record as recognition
+use Rattle.peg_semantics.specs.Rules.{Rule}
 use Rattle.peg_grammar.specs.Seen.{Seen, trees_left, verdict_of, with_record, Evaluates}
 use Rattle.peg_grammar.specs.declared.found.Stop.{Stop}
 use Rattle.peg_grammar.specs.declared.found.Stop.TheVariants.{AtDepth, OutOfMemory}
 use Rattle.peg_grammar.specs.declared.found.Verdict.{Verdict}
 use Rattle.peg_grammar.specs.declared.found.Verdict.TheVariants.{EndsAt, Fails}
 
--- ---- rows and tests
+-- ---- nodes and tests
 
 pub rows_of-followed_by : (a b : Trees) → rows_of (followed_by a b) ≡ rows_of a ++ rows_of b
 rows_of-followed_by NoTrees b = refl
@@ -26,11 +26,11 @@ length-rows_of NoTrees = refl
 length-rows_of (Tree rule start end children rest) =
     omega (arith, length-append (rows_of children) (rows_of rest), length-rows_of children, length-rows_of rest)
 
--- what was seen, by its two parts
+-- a state, by its two fields
 abbrev pub seen : Furthest → List Row → Seen
 seen furthest rows = record { furthest = furthest; rows = rows }
 
--- after more tests, and after more rows
+-- the furthest failure after more tests
 abbrev after_tests : Seen → List Test → Furthest
 after_tests s tests = fold noted s.furthest tests
 
@@ -45,7 +45,7 @@ result_of_matched recognition.Failed end e = cc
 result_of_matched (recognition.Matched there trees) end e =
     let same : there ≡ end = cc in (trees, ap (λ n. recognition.Matched n trees) same)
 
--- ---- a part that ended early ends the whole
+-- ---- a part that stops early stops the whole
 
 module _ {A : Type 0} (f : Record → Option A) where
   pub and_then-none : (tried : Option Record) → tried ≡ None → option_and_then f tried ≡ None
@@ -62,14 +62,14 @@ stopped-map f (Some r) s t u AtDepth h = cc
 stopped-map f None s t u OutOfMemory h = tt
 stopped-map f (Some r) s t u OutOfMemory h = tt
 
--- ---- optional, predicates
+-- ---- optional expressions and predicates
 
 pub optional-matched : (tried : Option Record) (place end : ℕ) (s t : Seen) → Evaluates tried s (Ok (EndsAt end)) t → Evaluates (or_else tried (Some (matched_at place))) s (Ok (EndsAt end)) t
 optional-matched tried place end s t h =
     let m = result_of_matched h.0.result end h.2 in
     (h.0, ap (λ o. or_else o (Some (matched_at place))) h.1 ∙ ap (λ x. replaced x h.0 (Some (matched_at place))) m.1, h.2, h.3)
 
--- a failed part, and then nothing: the tests stay noted
+-- a failed part followed by nothing: its tests stay noted
 pub after_failed : (r : Record) (s t : Seen) (place : ℕ) → r.result ≡ recognition.Failed → t ≡ with_record s r → t ≡ with_record s (after_both r (matched_at place) (recognition.Matched place NoTrees))
 after_failed r s t place is e =
     e ∙ (λ i. seen (ap (after_tests s) (sym (append-nil r.tests)) i) (ap (λ x. s.rows ++ rows_of (trees_left x)) is i))
@@ -79,7 +79,7 @@ optional-failed tried place s t h =
     let is = result_of_failed h.0.result h.2 in
     (after_both h.0 (matched_at place) (recognition.Matched place NoTrees), ap (λ o. or_else o (Some (matched_at place))) h.1 ∙ ap (λ x. replaced x h.0 (Some (matched_at place))) is, refl, after_failed h.0 s t place is h.3)
 
--- what a part left is dropped: the rows are those from before
+-- the nodes of a part are dropped: the node list is as before
 dropped : (r : Record) (s t : Seen) (result : Recognition) → trees_left result ≡ NoTrees → t ≡ with_record s r → (u : Seen) → u ≡ seen t.furthest s.rows → u ≡ with_record s (with_result r result)
 dropped r s t result none e u cut =
     cut ∙ (λ i. seen ((e i).furthest) (sym (append-nil s.rows) i)) ∙ ap (λ l. seen (fold noted s.furthest r.tests) (s.rows ++ rows_of l)) (sym none)
@@ -106,7 +106,7 @@ not-failed tried place s t h =
 
 -- ---- one part after another
 
--- a record behind tests, uses and trees that came before
+-- a record after earlier tests, calls and trees
 abbrev pub prefixed : List Test → List Use → Trees → Option Record → Option Record
 prefixed tests uses trees tried =
     option_map (λ (more : Record). record { result = behind trees more.result; tests = tests ++ more.tests; uses = uses ++ more.uses }) tried
@@ -133,7 +133,7 @@ pub prefixed-none : (tried : Option Record) → prefixed [] [] NoTrees tried ≡
 prefixed-none None = refl
 prefixed-none (Some r) = λ i. Some (record { result = behind-none r.result i; tests = r.tests; uses = r.uses })
 
--- a part that matched, and then what is next
+-- a part that matched, followed by the next
 pub followed-evaluates : (tried : Option Record) (next : ℕ → Option Record) (end : ℕ) (s t u : Seen) (verdict : Verdict) → Evaluates tried s (Ok (EndsAt end)) t → Evaluates (next end) t (Ok verdict) u → (verdict ≡ Fails → ⊥) → Evaluates (then_at tried next) s (Ok verdict) u
 followed-evaluates tried next end s t u Fails h k other = absurd (other refl)
 followed-evaluates tried next end s t u (EndsAt far) h k other =
@@ -147,7 +147,7 @@ followed-evaluates tried next end s t u (EndsAt far) h k other =
         let n = result_of_matched k.0.result far k.2 in
         append_assoc s.rows (rows_of (trees_left h.0.result)) (rows_of (trees_left k.0.result)) ∙ ap (λ l. s.rows ++ l) (ap (λ x. rows_of (trees_left x) ++ rows_of (trees_left k.0.result)) m.1 ∙ (ap (λ x. rows_of m.0 ++ rows_of (trees_left x)) n.1 ∙ (sym (rows_of-followed_by m.0 n.0) ∙ ap (λ x. rows_of (trees_left (behind m.0 x))) (sym n.1))))
 
--- the failed part of a sequence of two
+-- the first part of a sequence of two fails
 pub followed-failed : (tried : Option Record) (next : ℕ → Option Record) (s t : Seen) → Evaluates tried s (Ok Fails) t → Evaluates (then_at tried next) s (Ok Fails) t
 followed-failed tried next s t h =
     let is = result_of_failed h.0.result h.2 in

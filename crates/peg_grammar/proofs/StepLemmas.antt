@@ -1,4 +1,4 @@
--- Steps of the evaluator that cut rows back, or set one: predicates, rounds of a star, rules.
+-- Steps of the evaluator that truncate the node list or set a node: predicates, iterations of a star, rules.
 use Rattle.std.proofs.Common.{◌≡◌, ◌≢◌, ℕ, zero, suc, ◌+◌, ◌-◌, List, [], ◌∷◌, ◌++◌, map, length, take, Option, None, Some, Result, Ok, Err, option_map, option_and_then, refl, sym, ap, ◌∙◌, subst, append_assoc, append-nil, length-append, arith}
 use Rattle.std.proofs.Math.ListN.{set}
 use Rattle.std.proofs.Math.Seq.{take-append_seam, set-append_seam}
@@ -8,11 +8,11 @@ use Rattle.std.specs.declared.vec.Vec.{Vec}
 use Rattle.peg_tree.specs.Rows.{Row, row_of, rows_of}
 use Rattle.peg_tree.specs.Trees.{Trees, NoTrees, nodes}
 use Rattle.peg_tree.specs.declared.row.TreeNode.{TreeNode}
-use Rattle.peg_ford.specs.Form.{Form, Star}
+use Rattle.peg_semantics.specs.Form.{Form, Star}
 use Rattle.peg_grammar.specs.Found.{furthest_in, seen_in}
-use Rattle.peg_ford.specs.Record.{Recognition, Record, Taking, matched_at, after_both, behind, followed, then_at, replaced, repeated, as_tree, as_use, table, record_in}
-use Rattle.peg_ford.specs.Record as recognition
-use Rattle.peg_ford.specs.Rules.{Rule}
+use Rattle.peg_semantics.specs.Record.{Recognition, Record, Taking, matched_at, after_both, behind, followed, then_at, replaced, repeated, as_tree, as_use, table, record_in}
+use Rattle.peg_semantics.specs.Record as recognition
+use Rattle.peg_semantics.specs.Rules.{Rule}
 use Rattle.peg_grammar.specs.Seen.{Seen, trees_left, verdict_of, Evaluates}
 use Rattle.peg_grammar.specs.declared.found.Found.{Found}
 use Rattle.peg_grammar.specs.declared.found.Stop.{Stop}
@@ -20,14 +20,14 @@ use Rattle.peg_grammar.specs.declared.found.Verdict.{Verdict}
 use Rattle.peg_grammar.specs.declared.found.Verdict.TheVariants.{EndsAt, Fails}
 use Rattle.peg_grammar.proofs.SeenLemmas.{seen, result_of_failed, result_of_matched, after_failed, followed-evaluates, followed-stopped, length-rows_of}
 
--- rows that are cut back to where they were
+-- the node list truncated to an earlier length
 pub cut_back : (s t : Found) (kept : Vec TreeNode Global) (from : ℕ) (more : List Row) → from ≡ length s.rows.items → kept.items ≡ take from t.rows.items → map row_of t.rows.items ≡ map row_of s.rows.items ++ more → seen_in (record { furthest = t.furthest; rows = kept }) ≡ seen (furthest_in t.furthest) (map row_of s.rows.items)
 cut_back s t kept from more is_from is_kept grown =
     ap (seen (furthest_in t.furthest)) (ap (map row_of) is_kept ∙ (sym (take-map row_of from t.rows.items) ∙ (ap (take from) grown ∙ (ap (λ n. take n (map row_of s.rows.items ++ more)) (is_from ∙ sym (length-map s.rows.items row_of)) ∙ take-append_seam (map row_of s.rows.items) more))))
 
 -- ---- a star
 
--- one round of a star, and what is next
+-- one iteration of a star, and what comes next
 abbrev pub round_at : Option Record → ℕ → (ℕ → Option Record) → Option Record
 round_at tried place next = option_and_then (λ round. repeated round.result place round next) tried
 
@@ -36,7 +36,7 @@ rounds-failed tried place next s t h =
     let is = result_of_failed h.0.result h.2 in
     (after_both h.0 (matched_at place) (recognition.Matched place NoTrees), ap (λ o. round_at o place next) h.1 ∙ ap (λ x. repeated x place h.0 next) is, refl, after_failed h.0 s t place is h.3)
 
--- a round never fails, where what is next never does
+-- an iteration never fails if what comes next never fails
 repeated-matches : (tried : Option Record) (place : ℕ) (next : ℕ → Option Record) → ((end : ℕ) (r : Record) → next end ≡ Some r → verdict_of r.result ≢ Fails) → (r : Record) → round_at tried place next ≡ Some r → verdict_of r.result ≢ Fails
 repeated-matches None place next h r e = cc
 repeated-matches (Some round) place next h r e = by round.result e
@@ -61,7 +61,7 @@ star-matches rules text zero part span terminal place r e = cc
 star-matches rules text (suc n) part span terminal place r e =
     repeated-matches (record_in rules text n part terminal place) place (λ end. record_in rules text n (Star part span) terminal end) (λ end. star-matches rules text n part span terminal end) r e
 
--- the part, and then something that never fails
+-- the part, followed by something that never fails
 pub then-evaluates : (tried : Option Record) (next : ℕ → Option Record) (end : ℕ) (s t u : Seen) (result : Result Verdict Stop) → ((r : Record) → next end ≡ Some r → verdict_of r.result ≢ Fails) → Evaluates tried s (Ok (EndsAt end)) t → Evaluates (next end) t result u → Evaluates (then_at tried next) s result u
 then-evaluates tried next end s t u (Ok Fails) never h k = absurd (never k.0 k.1 k.2)
 then-evaluates tried next end s t u (Ok (EndsAt far)) never h k =
@@ -76,13 +76,13 @@ rounds-evaluates tried place next end s t u result never h k =
 
 -- ---- a rule
 
--- a use of the rule with this expression
+-- a call of the rule with this expression
 pub used-is : (take : Taking) (first rule place : ℕ) (found : Option Rule) (e : Form) → option_map (λ (r : Rule). r.body) found ≡ Some e → option_and_then (λ (r : Rule). option_map (as_use rule place) (take r.body first place)) found ≡ option_map (as_use rule place) (take e first place)
 used-is take first rule place None e h = cc
 used-is take first rule place (Some r) e h =
     let same : r.body ≡ e = cc in ap (λ b. option_map (as_use rule place) (take b first place)) same
 
--- the rows after one was pushed
+-- the node list after one node was pushed
 grown : (s t : Found) (pushed : Vec TreeNode Global) (node : TreeNode) (rows : List Row) → pushed.items ≡ s.rows.items ++ (node ∷ []) → map row_of t.rows.items ≡ map row_of pushed.items ++ rows → map row_of t.rows.items ≡ map row_of s.rows.items ++ (row_of node ∷ rows)
 grown s t pushed node rows push e =
     e ∙ (ap (λ l. map row_of l ++ rows) push ∙ (ap (λ l. l ++ rows) (map-append row_of s.rows.items (node ∷ [])) ∙ append_assoc (map row_of s.rows.items) (row_of node ∷ []) rows))

@@ -1,11 +1,11 @@
--- The evaluator's loop over the rounds of a count.
+-- The evaluator's loop over the repetitions of a count.
 use Rattle.std.proofs.Common.{◌≡◌, ℕ, zero, suc, ◌+◌, ◌-◌, ◌<◌, ◌≤◌, List, [], ◌++◌, fold, Option, Some, Ok, Err, refl, sym, ap, ◌∙◌, append_assoc, append-nil, arith}
 use Rattle.std.proofs.lemmas.List.Sums.{fold-append}
 use Rattle.peg_tree.specs.Rows.{rows_of}
 use Rattle.peg_tree.specs.Trees.{Trees, NoTrees, followed_by}
-use Rattle.peg_ford.specs.FurthestPass.{noted}
-use Rattle.peg_ford.specs.Record.{Record, Test, Use, behind, followed, repeated, then_at, take_times}
-use Rattle.peg_ford.specs.Record as recognition
+use Rattle.peg_semantics.specs.FurthestPass.{noted}
+use Rattle.peg_semantics.specs.Record.{Record, Test, Use, behind, followed, repeated, then_at, take_times}
+use Rattle.peg_semantics.specs.Record as recognition
 use Rattle.peg_grammar.specs.Seen.{Seen, trees_left, Evaluates}
 use Rattle.peg_grammar.specs.declared.found.Stop.{Stop}
 use Rattle.peg_grammar.specs.declared.found.Stop.TheVariants.{AtDepth, OutOfMemory}
@@ -13,7 +13,7 @@ use Rattle.peg_grammar.specs.declared.found.Verdict.TheVariants.{EndsAt, Fails}
 use Rattle.peg_grammar.proofs.SeenLemmas.{prefixed, prefixed-prefixed, prefixed-none, result_of_failed, result_of_matched, rows_of-followed_by, seen}
 use Rattle.peg_grammar.proofs.StepLemmas.{round_at}
 
--- what the rounds so far came to, before those that are left
+-- the progress of a count: the result of the repetitions so far, before the remaining ones
 pub record TimesSoFar (take : ℕ → Option Record) (least most place : ℕ) (start : Seen) (min max at : ℕ) (now : Seen) : Type 0 where
   pub tests : List Test
   pub uses : List Use
@@ -31,12 +31,12 @@ times-start take least most place start min max all_min all_max = record {
   noted_now = ap (seen start.furthest) (sym (append-nil start.rows));
 }
 
--- one less, or none
+-- the predecessor of a number; 0 for 0
 abbrev pub one_less : ℕ → ℕ
 one_less zero = zero
 one_less (suc n) = n
 
--- how many are left after so many rounds, and after one more
+-- the remaining repetitions after one more repetition
 pub one_less-left : (most round : ℕ) → one_less (most - round) ≡ most - (round + 1)
 one_less-left most round = by (most - round) refl
   where
@@ -51,7 +51,7 @@ pub none-left : (most round : ℕ) → most ≤ round → most - round ≡ 0
 none-left most round enough = omega (arith, enough)
 
 module _ (take : ℕ → Option Record) (least most place : ℕ) (start : Seen) where
-  -- a round that matched, and those behind it
+  -- a repetition that matched, followed by the remaining ones
   after_match : (min max at end : ℕ) (r : Record) (trees : Trees) → take at ≡ Some r → r.result ≡ recognition.Matched end trees
       → take_times take min (suc max) at ≡ prefixed r.tests r.uses trees (take_times take (one_less min) max end)
   after_match zero max at end r trees is matched =
@@ -75,7 +75,7 @@ module _ (take : ℕ → Option Record) (least most place : ℕ) (start : Seen) 
           noted_now = h.3 ∙ ((λ i. seen (fold noted ((so_far.noted_now i).furthest) h.0.tests) ((so_far.noted_now i).rows ++ rows_of (trees_left (m.1 i)))) ∙ (λ i. seen (sym (fold-append noted start.furthest so_far.tests h.0.tests) i) ((append_assoc start.rows (rows_of so_far.trees) (rows_of m.0) ∙ ap (λ l. start.rows ++ l) (sym (rows_of-followed_by so_far.trees m.0))) i)));
         }
 
-    -- a round that failed where there were enough
+    -- a repetition fails after the minimum is reached
     pub times-enough : (max : ℕ) → TimesSoFar take least most place start 0 (suc max) at now
         → Evaluates (take at) now (Ok Fails) then → Evaluates (take_times take least most place) start (Ok (EndsAt at)) then
     times-enough max so_far h =
@@ -87,7 +87,7 @@ module _ (take : ℕ → Option Record) (least most place : ℕ) (start : Seen) 
           h.3 ∙ ((λ i. seen (fold noted ((so_far.noted_now i).furthest) h.0.tests) ((so_far.noted_now i).rows ++ rows_of (trees_left (f i)))) ∙ (λ i. seen ((sym (fold-append noted start.furthest so_far.tests h.0.tests) ∙ ap (λ l. fold noted start.furthest (so_far.tests ++ l)) (sym (append-nil h.0.tests))) i) ((append-nil (start.rows ++ rows_of so_far.trees) ∙ ap (λ l. start.rows ++ l) (sym (append-nil (rows_of so_far.trees)) ∙ sym (rows_of-followed_by so_far.trees NoTrees))) i))),
         )
 
-    -- a round that failed where more were wanted: what the rounds left is dropped
+    -- a repetition fails before the minimum is reached: the nodes of the repetitions are dropped
     pub times-failed : (min max : ℕ) (cut : Seen) → TimesSoFar take least most place start (suc min) (suc max) at now
         → cut ≡ seen then.furthest start.rows → Evaluates (take at) now (Ok Fails) then
         → Evaluates (take_times take least most place) start (Ok Fails) cut
@@ -108,7 +108,7 @@ module _ (take : ℕ → Option Record) (least most place : ℕ) (start : Seen) 
         so_far.same ∙ ap (λ o. prefixed so_far.tests so_far.uses so_far.trees (then_at o (λ there. take_times take min max there))) h
     times-stopped min max OutOfMemory so_far h = tt
 
-  -- after as many rounds as there may be
+  -- the maximum of repetitions is reached
   pub times-end : (min at : ℕ) (now : Seen) → TimesSoFar take least most place start min 0 at now
       → Evaluates (take_times take least most place) start (Ok (EndsAt at)) now
   times-end min at now so_far = (

@@ -1,8 +1,8 @@
--- Describes code: a count that it found.
+-- Describes code: a count that a check found.
 use Rattle.peg_bytes.specs.Extent.{extent}
-use Rattle.peg_ford.specs.Form as form
+use Rattle.peg_semantics.specs.Form as form
 use Rattle.peg_grammar.specs.declared.counts.Count.{Count}
 
--- the count as it is written
+-- the count as written
 abbrev pub count_of : Count → form.Count
 count_of count = record { min = count.min; max = count.max; span = extent count.span }

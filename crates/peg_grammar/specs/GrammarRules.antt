@@ -1,6 +1,6 @@
--- What a `Grammar` holds.
+-- The rules of a `Grammar`.
 use Rattle.std.specs.Prelude.{List}
-use Rattle.peg_ford.specs.Rules.{Rule}
+use Rattle.peg_semantics.specs.Rules.{Rule}
 use Rattle.peg_grammar.specs.Written.{rules_of}
 use Rattle.peg_grammar.specs.declared.grammar.Grammar.{Grammar}
 

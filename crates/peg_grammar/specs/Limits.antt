@@ -1,6 +1,6 @@
--- The greatest text.
+-- The limit on the length of a text.
 use Rattle.std.specs.Prelude.{ℕ}
 
--- the most bytes of a text
-abbrev pub most_text_bytes : ℕ
-most_text_bytes = 67108864
+-- the maximum length of a text, in bytes
+abbrev pub max_text_bytes : ℕ
+max_text_bytes = 67108864

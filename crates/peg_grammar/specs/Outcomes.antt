@@ -1,24 +1,24 @@
--- What an outcome says of a record.
+-- The outcome that belongs to a record.
 use Rattle.std.specs.Prelude.{◌≡◌, ℕ, List, Option, Some}
 use Rattle.peg_tree.specs.declared.outcome.Outcome.{Outcome}
 use Rattle.peg_tree.specs.declared.outcome.Parsed.{Parsed}
 use Rattle.peg_tree.specs.declared.outcome.Parsed.TheVariants.{Matched, Failed}
-use Rattle.peg_ford.specs.Furthest.{IsFurthest}
-use Rattle.peg_ford.specs.Record.{Recognition, Record, start_record}
-use Rattle.peg_ford.specs.Record as recognition
-use Rattle.peg_ford.specs.Rules.{Rule}
+use Rattle.peg_semantics.specs.Furthest.{IsFurthest}
+use Rattle.peg_semantics.specs.Record.{Recognition, Record, start_record}
+use Rattle.peg_semantics.specs.Record as recognition
+use Rattle.peg_semantics.specs.Rules.{Rule}
 
--- whether it matched, up to where, and the trees that are left
+-- the result as a `Parsed`: failure, or a match with its end and its trees
 abbrev pub parsed_of : Recognition → Parsed
 parsed_of recognition.Failed = Failed
 parsed_of (recognition.Matched end trees) = Matched end trees
 
--- there is a record, and the outcome has its result and the furthest of its failed tests
+-- a record exists, and the outcome has its result and the furthest of its failed tests
 abbrev pub Answers : Option Record → Outcome → Type 0
 Answers tried outcome =
     (r : Record) × (tried ≡ Some r) × (outcome.result ≡ parsed_of r.result)
     × IsFurthest r.tests outcome.far outcome.expected.items
 
--- the outcome of a grammar on a text, from a start: that of Ford's record, the record in some n
+-- the outcome of a grammar on a text from a start rule: that of Ford's record, in some depth
 abbrev pub IsOutcome : List Rule → List ℕ → List ℕ → Outcome → Type 0
 IsOutcome rules text start outcome = (n : ℕ) × Answers (start_record rules text n start) outcome

@@ -1,13 +1,13 @@
--- Why definitions are refused.
+-- Why definitions are rejected.
 use Rattle.std.specs.Prelude.{◌≡◌, ◌<◌, List, [], None, Some, option_map, string_bytes}
 use Rattle.peg_bytes.specs.Extent.{extent}
-use Rattle.peg_ford.specs.Rules.{Rule, weight_of}
-use Rattle.peg_ford.specs.Grammar.{IsGrammar, most_parts, first_bad_count, first_duplicate, first_undefined}
+use Rattle.peg_semantics.specs.Rules.{Rule, weight_of}
+use Rattle.peg_semantics.specs.Grammar.{IsGrammar, max_parts, first_bad_count, first_duplicate, first_undefined}
 use Rattle.peg_grammar.specs.declared.fault.GrammarFault.{GrammarFault}
 use Rattle.peg_grammar.specs.declared.fault.GrammarFault.TheVariants.{NoRule, Duplicate, Undefined, TooManyParts}
 use Rattle.peg_grammar.specs.declared.fault.GrammarFault.TheVariants.{BadCount, Memory}
 
--- Whether a fault is true of rules. Out of memory may come of any.
+-- Whether a fault is true of rules. A failed allocation is possible for any rules.
 abbrev pub Refuses : List Rule → GrammarFault → Type 0
 Refuses rules NoRule = rules ≡ []
 Refuses rules (Duplicate name span) =
@@ -19,5 +19,5 @@ Refuses rules (BadCount span) =
     (first_duplicate rules ≡ None)
     × (first_undefined rules ≡ None)
     × (option_map (λ count. count.span) (first_bad_count rules) ≡ Some (extent span))
-Refuses rules TooManyParts = IsGrammar rules × (most_parts < weight_of rules)
+Refuses rules TooManyParts = IsGrammar rules × (max_parts < weight_of rules)
 Refuses rules Memory = Unit {0}

@@ -1,57 +1,57 @@
--- Describes code: what the plain evaluator notes on its way, and what it answers.
+-- Describes code: the state of the reference evaluator, and its results.
 use Rattle.std.specs.Prelude.{◌≡◌, ℕ, ◌≤◌, List, ◌++◌, fold, Option, None, Some, Result, Ok, Err}
 use Rattle.peg_tree.specs.Rows.{Row, rows_of, IsOneTree}
 use Rattle.peg_tree.specs.Trees.{Trees, NoTrees}
 use Rattle.peg_tree.specs.TreesOfRows.{trees_of}
 use Rattle.peg_tree.specs.declared.outcome.Parsed.{Parsed}
 use Rattle.peg_tree.specs.declared.outcome.Parsed.TheVariants as parsed
-use Rattle.peg_ford.specs.FurthestPass.{Furthest, noted}
-use Rattle.peg_ford.specs.Record.{Recognition, Record}
-use Rattle.peg_ford.specs.Record as recognition
+use Rattle.peg_semantics.specs.FurthestPass.{Furthest, noted}
+use Rattle.peg_semantics.specs.Record.{Recognition, Record}
+use Rattle.peg_semantics.specs.Record as recognition
 use Rattle.peg_grammar.specs.declared.found.Stop.{Stop}
 use Rattle.peg_grammar.specs.declared.found.Stop.TheVariants.{AtDepth, OutOfMemory}
 use Rattle.peg_grammar.specs.declared.found.Verdict.{Verdict}
 use Rattle.peg_grammar.specs.declared.found.Verdict.TheVariants.{EndsAt, Fails}
 
--- the furthest failure so far, and the rows of the trees so far
+-- the furthest failure so far, and the nodes of the trees so far
 pub record Seen : Type 0 where
   pub furthest : Furthest
   pub rows : List Row
 
--- the trees that are left
+-- the trees of a result; none for a failure
 abbrev pub trees_left : Recognition → Trees
 trees_left recognition.Failed = NoTrees
 trees_left (recognition.Matched end trees) = trees
 
--- whether it matched, and up to where
+-- whether the result is a match, and the end of the match
 abbrev pub verdict_of : Recognition → Verdict
 verdict_of recognition.Failed = Fails
 verdict_of (recognition.Matched end trees) = EndsAt end
 
--- after a record: its failed tests are noted, and the rows of its trees stand at the end
+-- the state after a record: its failed tests are noted, and the nodes of its trees are appended
 abbrev pub with_record : Seen → Record → Seen
 with_record seen r =
     record { furthest = fold noted seen.furthest r.tests; rows = seen.rows ++ rows_of (trees_left r.result) }
 
--- what an evaluation answers: the verdict of the record, which has been noted; that the depth is used, where there is
--- no record; or that memory ran out
+-- The result of an evaluation: the verdict of the record, which is added to the state; or that no record exists in the
+-- depth; or that an allocation failed.
 abbrev pub Evaluates : Option Record → Seen → Result Verdict Stop → Seen → Type 0
 Evaluates tried old (Ok verdict) new =
     (r : Record) × (tried ≡ Some r) × (verdict_of r.result ≡ verdict) × (new ≡ with_record old r)
 Evaluates tried old (Err AtDepth) new = tried ≡ None
 Evaluates tried old (Err OutOfMemory) new = Unit {0}
 
--- a match from this place ends there or later, within a text of this length
+-- a match from `place` ends at `place` or later, within a text of length `len`
 abbrev pub EndsWithin : (place len : ℕ) → Verdict → Type 0
 EndsWithin place len (EndsAt end) = (place ≤ end) × (end ≤ len)
 EndsWithin place len Fails = Unit {0}
 
--- a match leaves the rows of one tree
+-- after a match, the nodes are one tree
 abbrev pub Leaves : Verdict → List Row → Type 0
 Leaves Fails rows = Unit {0}
 Leaves (EndsAt end) rows = IsOneTree rows
 
--- the verdict, with the trees that the rows spell
+-- the `Parsed` of a verdict and of the trees that the nodes denote
 abbrev pub IsParsed : Verdict → List Row → Parsed → Type 0
 IsParsed Fails rows result = result ≡ parsed.Failed
 IsParsed (EndsAt end) rows result = result ≡ parsed.Matched end (trees_of rows)

@@ -1,15 +1,15 @@
-//! The counts of repetitions.
+//! The counts of bounded repetitions.
 ghost use Rattle.std.specs.Prelude.{◌≡◌, ℕ, find, map, not, option_map};
 ghost use Rattle.peg_bytes.specs.Extent.{Extent};
-ghost use Rattle.peg_ford.specs.Form.{Count as Written, counts_written, counts_written_by_all, forms};
-ghost use Rattle.peg_ford.specs.Grammar.{first_bad_count as the_first, is_in_range};
+ghost use Rattle.peg_semantics.specs.Form.{Count as Written, counts_written, counts_written_by_all, forms};
+ghost use Rattle.peg_semantics.specs.Grammar.{first_bad_count as the_first, is_in_range};
 ghost use Rattle.peg_grammar.specs.Counts.{count_of};
 ghost use Rattle.peg_grammar.specs.Written.{form_of, rules_of};
 
 use crate::{Definition, Expr};
 use peg_bytes::Span;
 
-// A count, and where the counted expression stands.
+// A count, with the span of the counted expression.
 #[derive(Clone, Copy)]
 pub(crate) struct Count {
     pub(crate) min: u8,
@@ -19,10 +19,10 @@ pub(crate) struct Count {
 
 impl Count {
     ghost use Rattle.std.specs.Prelude.{◌≡◌};
-    ghost use Rattle.peg_ford.specs.Grammar.{is_in_range};
+    ghost use Rattle.peg_semantics.specs.Grammar.{is_in_range};
     ghost use Rattle.peg_grammar.specs.Counts.{count_of};
 
-    // Whether a part may be matched so often: no more at least than at most, and once at most or more.
+    // Whether `min` is at most `max`, and `max` is at least 1.
     fn is_in_range(self) -> bool
         ensures { result ≡ is_in_range (count_of self) }
     {
@@ -30,7 +30,7 @@ impl Count {
     }
 }
 
-// The first count that is out of range, an expression before its parts.
+// Finds the first count that is out of range, an expression before its parts.
 pub(crate) fn first_bad_count(definitions: &[Definition]) -> Option<Count>
     ensures { option_map count_of result ≡ the_first (rules_of definitions.now) }
 {

@@ -1,28 +1,28 @@
-//! Why definitions are refused.
+//! Why definitions are rejected.
 use peg_bytes::Span;
 use std::alloc::{AllocError, AllocFailed};
 use thiserror::Error;
 
-/// Why definitions are no grammar.
+/// Why definitions are not a grammar.
 #[derive(Debug, Drop, Error)]
 pub enum GrammarFault {
     /// There is no definition.
     #[error("there is no rule")]
     NoRule,
-    /// The first definition whose name an earlier one has, and where the later name stands.
+    /// Two definitions have the same name. `span` is the name in the first definition that repeats an earlier name.
     #[error("two rules have one name")]
     Duplicate { name: String, span: Span },
-    /// The first use of a name that no definition has, and where it stands.
+    /// A name is referred to but not defined. `span` is the first such reference.
     #[error("no rule has a name that is used")]
     Undefined { name: String, span: Span },
-    /// The first count that is out of range, an expression before its parts, and where the counted expression stands:
-    /// `min` over `max`, or `max` 0.
+    /// A count is out of range: `min` is over `max`, or `max` is 0. `span` is the first such counted expression, an
+    /// expression before its parts.
     #[error("a count is out of range")]
     BadCount { span: Span },
-    /// A grammar whose weight is over `MOST_PARTS`.
+    /// The weight of the grammar is over `MAX_PARTS`.
     #[error("the grammar has too many parts")]
     TooManyParts,
-    /// Memory ran out.
+    /// An allocation failed.
     #[error("out of memory")]
     Memory,
 }

@@ -1,19 +1,19 @@
-//! What the plain evaluator notes on its way.
+//! The mutable state of the reference evaluator.
 ghost use Rattle.std.specs.Prelude.{◌≡◌, ◌<◌, ◌↔◌, All, IsTrue, OnOk};
 ghost use Rattle.std.specs.List.Sorted.{IsStrictlyIncreasing};
-ghost use Rattle.peg_ford.specs.FurthestPass.{insert_ascending};
+ghost use Rattle.peg_semantics.specs.FurthestPass.{insert_ascending};
 
 use peg_tree::TreeNode;
 use std::alloc::{AllocError, AllocFailed, Global};
 
-/// Whether an expression matched, and up to which place.
+/// Whether an expression matched, and the end of the match.
 #[derive(Clone, Copy, Debug, PartialEq, Eq)]
 pub(crate) enum Verdict {
     EndsAt { end: u32 },
     Fails,
 }
 
-/// Why an evaluation ended early.
+/// Why an evaluation stopped early.
 #[derive(Clone, Copy, Debug, PartialEq, Eq)]
 pub(crate) enum Stop {
     AtDepth,
@@ -42,7 +42,7 @@ impl<T: Drop> From<AllocFailed<T>> for Stop {
     }
 }
 
-/// The furthest failure so far: a place, and the terminals that failed there, ascending.
+/// The furthest failure so far: a position, and the terminals that failed there, ascending.
 #[derive(Debug, Drop)]
 pub(crate) struct Furthest {
     pub(crate) far: u32,
@@ -50,7 +50,7 @@ pub(crate) struct Furthest {
     ghost ascending: { IsStrictlyIncreasing expected.items },
 }
 
-/// The furthest failure so far, and the rows of the trees so far.
+/// The furthest failure so far, and the nodes of the trees so far.
 #[derive(Debug, Drop)]
 pub(crate) struct Found {
     pub(crate) furthest: Furthest,
@@ -60,10 +60,10 @@ pub(crate) struct Found {
 impl Furthest {
     ghost use Rattle.std.specs.Prelude.{◌≡◌, OnOk};
     ghost use Rattle.peg_grammar.specs.Found.{furthest_in};
-    ghost use Rattle.peg_ford.specs.FurthestPass.{noted};
-    ghost use Rattle.peg_ford.specs.Record.{test_of};
+    ghost use Rattle.peg_semantics.specs.FurthestPass.{noted};
+    ghost use Rattle.peg_semantics.specs.Record.{test_of};
 
-    /// Notes that the test of a terminal failed at a place.
+    /// Records that the test of a terminal failed at a position.
     pub(crate) fn note(&mut self, terminal: u32, place: u32) -> Result<(), AllocError>
         ensures { OnOk result (furthest_in self.new ≡ noted (furthest_in self.old) (test_of terminal place)) }
     {
@@ -80,8 +80,8 @@ impl Furthest {
     }
 }
 
-// Puts a number in its place among ascending ones, if it isn't there. Constant time behind the last one; else the place
-// is found in logarithmic time, and the greater ones move.
+// Inserts a number into an ascending list unless the list contains it. Constant time for a number above all others;
+// else binary search, and the greater numbers move.
 fn insert_ascending(numbers: &mut Vec<u32>, number: u32) -> Result<(), AllocError>
     requires { IsStrictlyIncreasing numbers.old.items }
     ensures inserted { OnOk result (numbers.new.items ≡ insert_ascending number numbers.old.items) }
@@ -100,7 +100,7 @@ fn insert_ascending(numbers: &mut Vec<u32>, number: u32) -> Result<(), AllocErro
     }
 }
 
-// Whether a number is greater than each of ascending ones.
+// Whether a number is greater than all numbers of an ascending list.
 fn is_above_all(numbers: &[u32], number: u32) -> bool
     requires { IsStrictlyIncreasing numbers.now }
     ensures { IsTrue result ↔ All (λ n. n < number) numbers.now }

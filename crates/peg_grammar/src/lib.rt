@@ -1,4 +1,4 @@
-//! Grammars as written, in code, and the plain evaluators of Ford's recognition relation.
+//! Grammars as written, and reference evaluators of Ford's recognition relation.
 #![tactic(auto)]
 
 mod counts;
@@ -16,8 +16,8 @@ mod weights;
 
 pub use expr::{Definition, Expr};
 pub use fault::GrammarFault;
-pub use grammar::{Grammar, MOST_PARTS};
-pub use peg_ford::laws;
-pub use plain::{MOST_TEXT_BYTES, PlainFault, plain_match};
+pub use grammar::{Grammar, MAX_PARTS};
+pub use peg_semantics::laws;
+pub use plain::{MAX_TEXT_BYTES, PlainFault, plain_match};
 pub use total::{TotalFault, plain_total};
 pub use weights::weight;

@@ -1,13 +1,13 @@
-//! The names that definitions give and use.
+//! Checks of the names and counts of definitions.
 ghost use Rattle.std.specs.Prelude.{◌≡◌, List, [], ◌∷◌, ◌++◌, None, false, bytes_eq, find, length, map, position};
 ghost use Rattle.std.specs.Prelude.{string_bytes, ◌<◌, IfErr, IfOk, IfSome, OnOk, option_map};
 ghost use Rattle.std.specs.List.{list_any};
-ghost use Rattle.peg_ford.specs.Form.{forms, names_used, names_used_by_all};
-ghost use Rattle.peg_ford.specs.Grammar.{IsGrammar, first_duplicate};
-ghost use Rattle.peg_ford.specs.Grammar.{is_unknown};
+ghost use Rattle.peg_semantics.specs.Form.{forms, names_used, names_used_by_all};
+ghost use Rattle.peg_semantics.specs.Grammar.{IsGrammar, first_duplicate};
+ghost use Rattle.peg_semantics.specs.Grammar.{is_unknown};
 ghost use Rattle.peg_grammar.specs.Names.{names_in, reference_of};
 ghost use Rattle.peg_grammar.specs.Refusal.{Refuses};
-ghost use Rattle.peg_ford.specs.Rules.{names as names_of, uses};
+ghost use Rattle.peg_semantics.specs.Rules.{names as names_of, uses};
 ghost use Rattle.peg_grammar.specs.Written.{form_of, rules_of};
 
 use crate::counts::first_bad_count;
@@ -17,7 +17,7 @@ use indexmap::IndexSet;
 use peg_bytes::Span;
 use std::alloc::{AllocError, Global};
 
-// The names of the definitions, in order, where they are a grammar.
+// Returns the names of the definitions, in order, or the fault that makes the definitions not a grammar.
 pub(crate) fn checked_names(
     alloc: Global,
     definitions: &[Definition],
@@ -40,7 +40,7 @@ pub(crate) fn checked_names(
     Ok(names)
 }
 
-// The names of the definitions, in order, where no two are the same.
+// Returns the names of the definitions, in order, or the first duplicate.
 fn distinct_names(
     alloc: Global,
     definitions: &[Definition],
@@ -61,7 +61,6 @@ fn distinct_names(
     Ok(names)
 }
 
-// Whether the set has a name.
 #[tactic(auto, using(crate::proofs::NameLists::name_steps))]
 fn has_name(names: &IndexSet<String, NameKey>, name: &str) -> bool
     ensures { result ≡ list_any (bytes_eq name.now) (names_in names.now) }
@@ -69,7 +68,7 @@ fn has_name(names: &IndexSet<String, NameKey>, name: &str) -> bool
     names.contains(name)
 }
 
-// The place of a name in the set's order.
+// Returns the index of a name in the set.
 #[tactic(auto, using(crate::proofs::NameLists::name_steps))]
 pub(crate) fn name_number(names: &IndexSet<String, NameKey>, name: &str) -> Option<usize>
     ensures value { result ≡ position (bytes_eq name.now) (names_in names.now) }
@@ -78,7 +77,7 @@ pub(crate) fn name_number(names: &IndexSet<String, NameKey>, name: &str) -> Opti
     names.get_index_of(name)
 }
 
-// Puts a name that is not there behind the others.
+// Appends a name that is not in the set.
 #[tactic(auto, using(crate::proofs::NameLists::name_steps))]
 fn add_name(names: &mut IndexSet<String, NameKey>, name: &String) -> Result<(), AllocError>
     requires { list_any (bytes_eq (string_bytes name.now)) (names_in names.old) ≡ false }
@@ -88,7 +87,7 @@ fn add_name(names: &mut IndexSet<String, NameKey>, name: &String) -> Result<(), 
     Ok(())
 }
 
-// The first use of a name that is not in the set, in written order.
+// Finds the first reference, in written order, to a name that is not in the set.
 fn first_unknown<'a>(
     names: &IndexSet<String, NameKey>,
     definitions: &'a [Definition],

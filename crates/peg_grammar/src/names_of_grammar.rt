@@ -1,6 +1,6 @@
-//! The names of a grammar's rules.
+//! The rule names of a grammar.
 ghost use Rattle.peg_grammar.specs.GrammarRules.{rules_in};
-ghost use Rattle.peg_ford.specs.Rules.{names as names_of};
+ghost use Rattle.peg_semantics.specs.Rules.{names as names_of};
 
 use crate::Grammar;
 use peg_tree::Names;

@@ -1,13 +1,13 @@
-//! The numbers of terminals: literals, classes and dots, from 0 in written order.
+//! The numbers of terminals. Terminals are literals, classes and dots, numbered from 0 in written order.
 ghost use Rattle.std.specs.Prelude.{◌≡◌, ◌<◌, ◌^◌, map, IfOk};
-ghost use Rattle.peg_ford.specs.Form.{forms, terminals, terminals_of_all};
-ghost use Rattle.peg_ford.specs.Numbers.{first_from, terminals_of};
+ghost use Rattle.peg_semantics.specs.Form.{forms, terminals, terminals_of_all};
+ghost use Rattle.peg_semantics.specs.Numbers.{first_from, terminals_of};
 ghost use Rattle.peg_grammar.specs.Written.{form_of, rules_of};
 
 use crate::{Definition, Expr};
 use std::alloc::{AllocError, Global};
 
-/// How many terminals an expression writes.
+/// Counts the terminals in an expression.
 #[cycle(count)]
 pub(crate) fn count_of(expr: &Expr) -> u32
     requires { terminals (form_of expr.now) < 2 ^ 32 }
@@ -39,7 +39,7 @@ fn count_of_all(items: &[Expr]) -> u32
     all
 }
 
-/// The number of the first terminal of each definition, in order.
+/// Returns the number of the first terminal of each definition, in order.
 pub(crate) fn first_terminals(
     alloc: Global,
     definitions: &[Definition],

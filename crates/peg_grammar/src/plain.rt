@@ -1,13 +1,13 @@
-//! The plain evaluator: Ford's recognition relation as a recursion over written expressions, bounded by a depth. It is
-//! the slow definition in code.
+//! The reference evaluator: Ford's recognition relation as a recursion over expressions as written, with a depth limit.
+//! It is simple and slow.
 ghost use Rattle.std.specs.Prelude.{◌≡◌, ◌≤◌, ◌<◌, ◌↔◌, map, length, IfOk, IsErrOf, None};
 ghost use Rattle.peg_tree.specs.Rows.{row_of};
 ghost use Rattle.peg_grammar.specs.GrammarRules.{rules_in};
-ghost use Rattle.peg_ford.specs.Numbers.{first_from};
-ghost use Rattle.peg_grammar.specs.Limits.{most_text_bytes};
+ghost use Rattle.peg_semantics.specs.Numbers.{first_from};
+ghost use Rattle.peg_grammar.specs.Limits.{max_text_bytes};
 ghost use Rattle.peg_grammar.specs.Outcomes.{Answers};
-ghost use Rattle.peg_ford.specs.Record.{start_record};
-ghost use Rattle.peg_ford.specs.Rules.{name_of};
+ghost use Rattle.peg_semantics.specs.Record.{start_record};
+ghost use Rattle.peg_semantics.specs.Rules.{name_of};
 ghost use Rattle.peg_grammar.specs.Seen.{Leaves, IsParsed};
 
 use crate::found::{Found, Furthest, Stop, Verdict};
@@ -18,19 +18,19 @@ use peg_tree::{Outcome, Parsed, Tree, TreeNode};
 use std::alloc::{AllocError, Global};
 use thiserror::Error;
 
-/// The most bytes that a text may have.
-pub const MOST_TEXT_BYTES: usize = 67_108_864;
+/// The maximum length of a text, in bytes.
+pub const MAX_TEXT_BYTES: usize = 67_108_864;
 
-/// Why `plain_match` has no answer.
+/// Why `plain_match` returned no outcome.
 #[derive(Clone, Copy, Debug, PartialEq, Eq, Error)]
 pub enum PlainFault {
-    /// The text has more than `MOST_TEXT_BYTES` bytes.
+    /// The text has more than `MAX_TEXT_BYTES` bytes.
     #[error("the text is too long")]
     TextTooLong,
-    /// The cases of recognition nest deeper than was allowed.
+    /// The cases of recognition nest deeper than the given limit.
     #[error("the cases of recognition nest too deep")]
     DepthUsed,
-    /// Memory ran out.
+    /// An allocation failed.
     #[error("out of memory")]
     Memory,
 }
@@ -46,9 +46,9 @@ impl From<AllocError> for PlainFault {
     }
 }
 
-/// What a grammar's rule makes of the front of a text: whether it matches and up to which byte, the tree of the uses of
-/// rules, and the furthest failure, by the number of terminals (Ford 2004, section 3.3). The cases of recognition nest
-/// at most `depth` deep, else this is `DepthUsed`; it may take time exponential in that.
+/// Evaluates a rule on a text from position 0 (Ford 2004, section 3.3). The outcome has the end of the match, its tree,
+/// and the furthest failure with terminal numbers. Returns `DepthUsed` if the cases of recognition nest deeper than
+/// `depth`. The time can be exponential in `depth`.
 pub fn plain_match(
     alloc: Global,
     grammar: &Grammar,
@@ -57,13 +57,13 @@ pub fn plain_match(
     depth: u64,
 ) -> Result<Outcome, PlainFault>
     requires { start < length (rules_in grammar.now) }
-    ensures long { IsErrOf result PlainFault.TextTooLong ↔ (most_text_bytes < length text.now) }
+    ensures long { IsErrOf result PlainFault.TextTooLong ↔ (max_text_bytes < length text.now) }
     ensures outcome { IfOk result (Answers
         (start_record (rules_in grammar.now) text.now depth (name_of (rules_in grammar.now) start))) }
     ensures deep { IsErrOf result PlainFault.DepthUsed → start_record (rules_in grammar.now) text.now depth
         (name_of (rules_in grammar.now) start) ≡ None }
 {
-    if text.len() > MOST_TEXT_BYTES {
+    if text.len() > MAX_TEXT_BYTES {
         return Err(PlainFault::TextTooLong);
     }
     let first = first_terminals(alloc, grammar.definitions())?;
@@ -86,13 +86,13 @@ pub fn plain_match(
     }
 }
 
-/// What an evaluation looks at, and never changes: a grammar, the number of each rule's first terminal, a text.
+/// The immutable input of an evaluation: a grammar, the number of each rule's first terminal, and a text.
 #[derive(Clone, Copy)]
 struct Plain<'a> {
     grammar: &'a Grammar,
     first: &'a [u32],
     text: &'a [u8],
-    ghost short: { length text.now ≤ most_text_bytes },
+    ghost short: { length text.now ≤ max_text_bytes },
     ghost numbered: { first.now ≡ first_from 0 (rules_in grammar.now) },
 }
 
@@ -100,19 +100,19 @@ impl<'a> Plain<'a> {
     ghost use Rattle.std.specs.Prelude.{◌≡◌, ℕ, ◌+◌, ◌<◌, ◌≤◌, map, length, drop, IfOk, Some, true, string_bytes};
     ghost use Rattle.peg_bytes.specs.ByteSet.{has, bytes_of};
     ghost use Rattle.peg_bytes.specs.Extent.{Extent};
-    ghost use Rattle.peg_ford.specs.Form.{Name, Seq, Choice, Optional, Star, Plus, Counted, And, Not, forms};
-    ghost use Rattle.peg_ford.specs.Form.{terminals};
-    ghost use Rattle.peg_ford.specs.Form.{terminals_of_all};
+    ghost use Rattle.peg_semantics.specs.Form.{Name, Seq, Choice, Optional, Star, Plus, Counted, And, Not, forms};
+    ghost use Rattle.peg_semantics.specs.Form.{terminals};
+    ghost use Rattle.peg_semantics.specs.Form.{terminals_of_all};
     ghost use Rattle.peg_grammar.specs.Found.{seen_in};
-    ghost use Rattle.peg_ford.specs.Grammar.{most_parts};
+    ghost use Rattle.peg_semantics.specs.Grammar.{max_parts};
     ghost use Rattle.peg_grammar.specs.GrammarRules.{rules_in};
     ghost use Rattle.peg_grammar.specs.Plain.{text_of, taken_in, table_in, used_in};
-    ghost use Rattle.peg_ford.specs.Record.{literal_at, byte_at, start_record, take_items, take_first};
-    ghost use Rattle.peg_ford.specs.Rules.{name_of};
+    ghost use Rattle.peg_semantics.specs.Record.{literal_at, byte_at, start_record, take_items, take_first};
+    ghost use Rattle.peg_semantics.specs.Rules.{name_of};
     ghost use Rattle.peg_grammar.specs.Seen.{Evaluates, EndsWithin};
     ghost use Rattle.peg_grammar.specs.Written.{form_of};
 
-    /// What a literal makes of the bytes from a place on.
+    /// Evaluates a literal at a position.
     fn literal(
         &self,
         found: &mut Found,
@@ -136,7 +136,7 @@ impl<'a> Plain<'a> {
         Ok(Verdict::EndsAt { end })
     }
 
-    /// What a class makes of the byte at a place.
+    /// Evaluates a class at a position.
     fn class(
         &self,
         found: &mut Found,
@@ -158,7 +158,7 @@ impl<'a> Plain<'a> {
         Ok(Verdict::Fails)
     }
 
-    /// What a dot makes of the byte at a place.
+    /// Evaluates a dot at a position.
     fn any(&self, found: &mut Found, terminal: u32, place: u32) -> Result<Verdict, Stop>
         requires { place ≤ length (text_of self.now) }
         ensures evaluates { Evaluates (Some (byte_at (λ byte. true) terminal place (drop place (text_of self.now))))
@@ -172,8 +172,8 @@ impl<'a> Plain<'a> {
         Ok(Verdict::Fails)
     }
 
-    /// What an expression makes of the bytes from a place on, its first terminal having this number. A failed
-    /// expression leaves the rows as they were.
+    /// Evaluates an expression at a position. `terminal` is the number of its first terminal. If the expression fails,
+    /// the nodes in `found` are unchanged.
     #[cycle(plain)]
     fn expression(
         &self,
@@ -184,7 +184,7 @@ impl<'a> Plain<'a> {
         depth: u64,
     ) -> Result<Verdict, Stop>
         requires place { place ≤ length (text_of self.now) }
-        requires few { terminal + terminals (form_of expr.now) ≤ most_parts }
+        requires few { terminal + terminals (form_of expr.now) ≤ max_parts }
         ensures evaluates { Evaluates (taken_in self.now depth (form_of expr.now) terminal place)
             (seen_in found.old) result (seen_in found.new) }
         ensures within { IfOk result (EndsWithin place (length (text_of self.now))) }
@@ -195,7 +195,7 @@ impl<'a> Plain<'a> {
         self.case(found, expr, terminal, place, depth - 1)
     }
 
-    /// One case of the recognition table, whose parts are taken in `depth`.
+    /// Evaluates one case of Ford's rules; its parts are evaluated in depth `depth`.
     #[cycle(plain)]
     fn case(
         &self,
@@ -206,7 +206,7 @@ impl<'a> Plain<'a> {
         depth: u64,
     ) -> Result<Verdict, Stop>
         requires place { place ≤ length (text_of self.now) }
-        requires few { terminal + terminals (form_of expr.now) ≤ most_parts }
+        requires few { terminal + terminals (form_of expr.now) ≤ max_parts }
         ensures evaluates { Evaluates (table_in self.now depth (form_of expr.now) terminal place)
             (seen_in found.old) result (seen_in found.new) }
         ensures within { IfOk result (EndsWithin place (length (text_of self.now))) }
@@ -231,7 +231,7 @@ impl<'a> Plain<'a> {
         }
     }
 
-    /// Items in order, each from where the one before ended.
+    /// Evaluates a sequence: each item from the end of the item before.
     #[cycle(plain)]
     fn items(
         &self,
@@ -242,7 +242,7 @@ impl<'a> Plain<'a> {
         depth: u64,
     ) -> Result<Verdict, Stop>
         requires place { place ≤ length (text_of self.now) }
-        requires few { terminal + terminals_of_all (forms (map form_of items.now)) ≤ most_parts }
+        requires few { terminal + terminals_of_all (forms (map form_of items.now)) ≤ max_parts }
         ensures evaluates { (span : Extent) → Evaluates
             (table_in self.now depth (Seq (forms (map form_of items.now)) span) terminal place)
             (seen_in found.old) result (seen_in found.new) }
@@ -267,7 +267,7 @@ impl<'a> Plain<'a> {
         Ok(Verdict::EndsAt { end: at })
     }
 
-    /// The first alternative that matches, each tried at the same place.
+    /// Evaluates an ordered choice: the first alternative that matches, all tried at the same position.
     #[cycle(plain)]
     fn choice(
         &self,
@@ -280,7 +280,7 @@ impl<'a> Plain<'a> {
     ) -> Result<Verdict, Stop>
         requires place { place ≤ length (text_of self.now) }
         requires few { terminal + (terminals (form_of first.now) + terminals_of_all (forms (map form_of rest.now)))
-            ≤ most_parts }
+            ≤ max_parts }
         ensures evaluates { (span : Extent) → Evaluates
             (table_in self.now depth (Choice (form_of first.now) (forms (map form_of rest.now)) span) terminal place)
             (seen_in found.old) result (seen_in found.new) }
@@ -302,7 +302,7 @@ impl<'a> Plain<'a> {
         Ok(Verdict::Fails)
     }
 
-    /// The part, or nothing where it fails.
+    /// Evaluates an optional part.
     #[cycle(plain)]
     fn optional(
         &self,
@@ -313,7 +313,7 @@ impl<'a> Plain<'a> {
         depth: u64,
     ) -> Result<Verdict, Stop>
         requires place { place ≤ length (text_of self.now) }
-        requires few { terminal + terminals (form_of part.now) ≤ most_parts }
+        requires few { terminal + terminals (form_of part.now) ≤ max_parts }
         ensures evaluates { (span : Extent) → Evaluates
             (table_in self.now depth (Optional (form_of part.now) span) terminal place)
             (seen_in found.old) result (seen_in found.new) }
@@ -326,7 +326,7 @@ impl<'a> Plain<'a> {
         }
     }
 
-    /// The rounds of a star: the part, and where it matches the star again.
+    /// Evaluates a star: the part, then the star again if the part matched.
     #[cycle(plain)]
     fn rounds(
         &self,
@@ -337,7 +337,7 @@ impl<'a> Plain<'a> {
         depth: u64,
     ) -> Result<Verdict, Stop>
         requires place { place ≤ length (text_of self.now) }
-        requires few { terminal + terminals (form_of part.now) ≤ most_parts }
+        requires few { terminal + terminals (form_of part.now) ≤ max_parts }
         ensures evaluates { (span : Extent) → Evaluates
             (table_in self.now depth (Star (form_of part.now) span) terminal place)
             (seen_in found.old) result (seen_in found.new) }
@@ -350,7 +350,7 @@ impl<'a> Plain<'a> {
         }
     }
 
-    /// A star as a part: its rounds, one less deep.
+    /// Evaluates a star as a part of another case, which takes one level of depth.
     #[cycle(plain)]
     fn star(
         &self,
@@ -361,7 +361,7 @@ impl<'a> Plain<'a> {
         depth: u64,
     ) -> Result<Verdict, Stop>
         requires place { place ≤ length (text_of self.now) }
-        requires few { terminal + terminals (form_of part.now) ≤ most_parts }
+        requires few { terminal + terminals (form_of part.now) ≤ max_parts }
         ensures evaluates { (span : Extent) → Evaluates
             (taken_in self.now depth (Star (form_of part.now) span) terminal place)
             (seen_in found.old) result (seen_in found.new) }
@@ -373,7 +373,7 @@ impl<'a> Plain<'a> {
         self.rounds(found, part, terminal, place, depth - 1)
     }
 
-    /// The part, and then the star of it.
+    /// Evaluates a plus: the part, then the star of the part.
     #[cycle(plain)]
     fn plus(
         &self,
@@ -384,7 +384,7 @@ impl<'a> Plain<'a> {
         depth: u64,
     ) -> Result<Verdict, Stop>
         requires place { place ≤ length (text_of self.now) }
-        requires few { terminal + terminals (form_of part.now) ≤ most_parts }
+        requires few { terminal + terminals (form_of part.now) ≤ max_parts }
         ensures evaluates { (span : Extent) → Evaluates
             (table_in self.now depth (Plus (form_of part.now) span) terminal place)
             (seen_in found.old) result (seen_in found.new) }
@@ -397,7 +397,7 @@ impl<'a> Plain<'a> {
         }
     }
 
-    /// The part at least `min` times and at most `max` times, each time from where the one before ended.
+    /// Evaluates a count: at least `min` and at most `max` repetitions, each from the end of the one before.
     #[cycle(plain)]
     fn counted(
         &self,
@@ -410,7 +410,7 @@ impl<'a> Plain<'a> {
         depth: u64,
     ) -> Result<Verdict, Stop>
         requires place { place ≤ length (text_of self.now) }
-        requires few { terminal + terminals (form_of part.now) ≤ most_parts }
+        requires few { terminal + terminals (form_of part.now) ≤ max_parts }
         ensures evaluates { (span : Extent) → Evaluates
             (table_in self.now depth (Counted (form_of part.now) min max span) terminal place)
             (seen_in found.old) result (seen_in found.new) }
@@ -434,7 +434,7 @@ impl<'a> Plain<'a> {
         Ok(Verdict::EndsAt { end: at })
     }
 
-    /// Nothing, where the part matches; what it left is dropped.
+    /// Evaluates an and-predicate, and drops the nodes of the part.
     #[cycle(plain)]
     fn and(
         &self,
@@ -445,7 +445,7 @@ impl<'a> Plain<'a> {
         depth: u64,
     ) -> Result<Verdict, Stop>
         requires place { place ≤ length (text_of self.now) }
-        requires few { terminal + terminals (form_of part.now) ≤ most_parts }
+        requires few { terminal + terminals (form_of part.now) ≤ max_parts }
         ensures evaluates { (span : Extent) → Evaluates
             (table_in self.now depth (And (form_of part.now) span) terminal place)
             (seen_in found.old) result (seen_in found.new) }
@@ -462,7 +462,7 @@ impl<'a> Plain<'a> {
         }
     }
 
-    /// Nothing, where the part fails; what it left is dropped.
+    /// Evaluates a not-predicate, and drops the nodes of the part.
     #[cycle(plain)]
     fn not(
         &self,
@@ -473,7 +473,7 @@ impl<'a> Plain<'a> {
         depth: u64,
     ) -> Result<Verdict, Stop>
         requires place { place ≤ length (text_of self.now) }
-        requires few { terminal + terminals (form_of part.now) ≤ most_parts }
+        requires few { terminal + terminals (form_of part.now) ≤ max_parts }
         ensures evaluates { (span : Extent) → Evaluates
             (table_in self.now depth (Not (form_of part.now) span) terminal place)
             (seen_in found.old) result (seen_in found.new) }
@@ -490,7 +490,7 @@ impl<'a> Plain<'a> {
         }
     }
 
-    /// What a name means: its rule's expression at the place, as one tree.
+    /// Evaluates a call by name. `Grammar::new` has checked that the name is defined.
     #[cycle(plain)]
     fn name(&self, found: &mut Found, name: &str, place: u32, depth: u64) -> Result<Verdict, Stop>
         requires { place ≤ length (text_of self.now) }
@@ -505,7 +505,8 @@ impl<'a> Plain<'a> {
         }
     }
 
-    /// A rule's expression at a place; where it matches, its node stands before those of its parts.
+    /// Evaluates a rule at a position. The node of the rule is pushed first, so that it precedes the nodes of its
+    /// parts.
     #[cycle(plain)]
     fn rule(&self, found: &mut Found, rule: u32, place: u32, depth: u64) -> Result<Verdict, Stop>
         requires place { place ≤ length (text_of self.now) }
@@ -534,7 +535,7 @@ impl<'a> Plain<'a> {
         }
     }
 
-    /// What the use of a rule at the text's front makes of it.
+    /// Evaluates a rule at position 0.
     fn start(&self, found: &mut Found, rule: u32, depth: u64) -> Result<Verdict, Stop>
         requires { rule < length (rules_in self.now.grammar.now) }
         ensures { Evaluates (start_record (rules_in self.now.grammar.now) (text_of self.now) depth
@@ -547,7 +548,7 @@ impl<'a> Plain<'a> {
     }
 }
 
-// The outcome of a verdict, and of what was found on the way to it.
+// Turns a verdict and the evaluator's state into an outcome.
 fn outcome_of(verdict: Verdict, found: Found) -> Outcome
     requires { Leaves verdict (map row_of found.rows.items) }
     ensures far { result.far ≡ found.furthest.far }

@@ -1,13 +1,13 @@
-//! How much a grammar holds.
+//! The weight of a grammar.
 ghost use Rattle.std.specs.Prelude.{◌≡◌, ◌-◌, ◌^◌, map, min};
-ghost use Rattle.peg_ford.specs.Form.{form_weight, forms, forms_weight};
-ghost use Rattle.peg_ford.specs.Rules.{weight_of};
+ghost use Rattle.peg_semantics.specs.Form.{form_weight, forms, forms_weight};
+ghost use Rattle.peg_semantics.specs.Rules.{weight_of};
 ghost use Rattle.peg_grammar.specs.Written.{form_of, rules_of};
 
 use crate::{Definition, Expr};
 
-/// How much the definitions hold: rules plus expressions plus bytes of literals, or the greatest `u64` where that is
-/// more. Takes no memory, and time linear in what it answers.
+/// Returns the weight of the definitions: the number of rules, of expressions and of bytes in literals. The sum
+/// saturates at `u64::MAX`. Linear in the weight; allocates nothing.
 pub fn weight(definitions: &[Definition]) -> u64
     ensures { result ≡ min (weight_of (rules_of definitions.now)) (2 ^ 64 - 1) }
 {
@@ -20,7 +20,7 @@ pub fn weight(definitions: &[Definition]) -> u64
     all
 }
 
-// One for the expression and each expression in it, and one for each byte of a literal.
+// The weight of an expression: 1 for itself and for each subexpression, and 1 for each byte of a literal.
 #[cycle(weight)]
 fn expression_weight(expression: &Expr) -> u64
     ensures { result ≡ min (form_weight (form_of expression.now)) (2 ^ 64 - 1) }

@@ -1,5 +1,5 @@
-//! Tests of the evaluator on small grammars. Every value that is wanted was worked out by hand from the recognition
-//! table, the numbers of the terminals and the furthest failure.
+//! Tests of the evaluator on small grammars. The expected values were worked by hand from the recognition table, the
+//! terminal numbers and the furthest failure.
 use crate::outcomes::{assert_cases, failed, matched};
 use std::test::Fail;
 
@@ -61,7 +61,7 @@ fn a_plus_has_its_parts_terminals_once(rt: HostRuntime) -> Result<(), Fail> {
     assert_cases(&rt, rt.alloc(), b"S <- [a-c]+ 'x'?", &cases)
 }
 
-// The round that fails leaves its test; the fifth a is not looked at.
+// The round that fails leaves its failed test; the fifth a is not read.
 #[test]
 fn a_count_goes_round_as_often_as_it_may(rt: HostRuntime) -> Result<(), Fail> {
     let cases = [
@@ -72,7 +72,7 @@ fn a_count_goes_round_as_often_as_it_may(rt: HostRuntime) -> Result<(), Fail> {
     assert_cases(&rt, rt.alloc(), b"A <- 'a'{2,4}", &cases)
 }
 
-// Of the second round of `(B 'x')`, which fails, neither the byte nor the node of B stays.
+// The second round of `(B 'x')` fails: neither its byte nor its node of B remains.
 #[test]
 fn the_round_of_a_count_that_fails_is_dropped(rt: HostRuntime) -> Result<(), Fail> {
     let cases = [
@@ -151,7 +151,7 @@ fn an_empty_alternative_matches_where_it_is_reached(rt: HostRuntime) -> Result<(
     assert_cases(&rt, rt.alloc(), b"S <- / 'a'", &cases)
 }
 
-// The escape is of the byte 31, and the digit behind it the byte 55.
+// The escape denotes byte 31, and the digit after it byte 55.
 #[test]
 fn a_literal_of_two_bytes_takes_both(rt: HostRuntime) -> Result<(), Fail> {
     let cases = [

@@ -1,4 +1,4 @@
-//! Tests of grammars made of definitions, and of what is wrong with others.
+//! Tests of grammars made of definitions, and of the faults of others.
 use crate::outcomes::grammar_of;
 use peg_bytes::Span;
 use peg_grammar::{Definition, Expr, Grammar, GrammarFault, weight};
@@ -92,7 +92,7 @@ fn counted(alloc: Global, part: Expr, min: u8, max: u8, span: Span) -> Result<Ex
     })
 }
 
-// A rule of two counts, one in the other, is refused for the one that is out of range; of two such for the outer one.
+// Of two nested counts the one out of range is reported. If both are out of range, it is the outer one.
 #[test]
 fn the_first_count_out_of_range_is_told(rt: HostRuntime) -> Result<(), Fail> {
     let alloc = rt.alloc();

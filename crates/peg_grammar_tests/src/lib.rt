@@ -1,4 +1,4 @@
-//! Tests of grammars and of the plain evaluators, by their public calls.
+//! Tests of grammars and of the reference evaluators, by their public calls.
 #![tactic(auto)]
 
 #[cfg(test)]

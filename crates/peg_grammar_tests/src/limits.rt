@@ -21,7 +21,7 @@ fn depth_is_used_below_what_the_cases_need(rt: HostRuntime) -> Result<(), Fail> 
     Ok(())
 }
 
-// S <- T / T, T <- [] / [] / .., so many
+// S <- T / T, T <- [] / [] / .., with many alternatives
 #[test]
 fn many_alternatives_that_fail_at_one_place_are_all_told(rt: HostRuntime) -> Result<(), Fail> {
     let alloc = rt.alloc();

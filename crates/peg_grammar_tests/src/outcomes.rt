@@ -1,4 +1,4 @@
-//! What is wanted of a parse, and parses that are compared with it.
+//! Expected outcomes of a parse, and parses that are compared with them.
 use peg_grammar::{Grammar, plain_match};
 use peg_notation::read;
 use peg_tree::{Outcome, Parsed, Tree};
@@ -6,10 +6,11 @@ use std::alloc::{AllocError, Global};
 use std::process::Abort;
 use std::test::Fail;
 
-// A node of a tree: its rule, its first byte, the byte behind it, how many children it has.
+// A node of a tree: its rule, its start, its end, and its number of children.
 pub(crate) type Node = (u32, u32, u32, usize);
 
-// What is wanted on a text: how far it matches, if it does; the furthest failure; the tree's nodes in preorder.
+// The expected outcome on a text: the end of the match, if any, the furthest failure, and the tree's nodes in
+// preorder.
 #[derive(Clone, Copy)]
 pub(crate) struct Case {
     pub(crate) text: &'static [u8],
@@ -64,7 +65,7 @@ fn nodes_of(alloc: Global, tree: &Tree) -> Result<Vec<Node>, AllocError> {
     Ok(nodes)
 }
 
-// Compares an outcome with what is wanted.
+// Compares an outcome with the expected one.
 pub(crate) fn assert_outcome(
     rt: &impl Abort,
     alloc: Global,
@@ -85,7 +86,7 @@ pub(crate) fn assert_outcome(
     Ok(())
 }
 
-// Parses a text from the first rule, in ample depth.
+// Parses a text from the first rule, with ample depth.
 pub(crate) fn assert_case(
     rt: &impl Abort,
     alloc: Global,

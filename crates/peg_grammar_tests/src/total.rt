@@ -1,10 +1,10 @@
-//! Tests of the evaluator without a bound, on grammars whose contracts say that they are well-formed. Every value that
-//! is wanted was worked out by hand, as those of the bounded one.
+//! Tests of the evaluator without a depth limit, on grammars whose contracts say that they are well-formed. The
+//! expected values were worked by hand.
 ghost use Rattle.std.specs.Prelude.{◌≡◌, ◌<◌, ◌∷◌, [], codes, length, map, IfOk};
 ghost use Rattle.peg_bytes.specs.Extent.{between, extent};
-ghost use Rattle.peg_ford.specs.Form.{Literal, Name, Seq, Choice, Plus, Not, Any, Then, End, forms};
+ghost use Rattle.peg_semantics.specs.Form.{Literal, Name, Seq, Choice, Plus, Not, Any, Then, End, forms};
 ghost use Rattle.peg_grammar.specs.GrammarRules.{rules_in};
-ghost use Rattle.peg_ford.specs.WellFormed.{IsWellFormedGrammar};
+ghost use Rattle.peg_semantics.specs.WellFormed.{IsWellFormedGrammar};
 ghost use Rattle.peg_grammar.specs.Written.{form_of};
 
 use crate::outcomes::{Case, assert_case, assert_outcome, failed, matched};
@@ -106,7 +106,7 @@ fn run_grammar(alloc: Global) -> Result<Grammar, Fail>
     one_rule(alloc, body)
 }
 
-// Parses each text from the first rule, with no bound and in ample depth.
+// Parses each text from the first rule, without a depth limit and with ample depth.
 fn assert_totals(
     rt: &impl Abort,
     alloc: Global,

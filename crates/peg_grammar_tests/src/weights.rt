@@ -1,10 +1,10 @@
-//! Tests of the greatest grammars. A grammar file can't hold them.
+//! Tests of the largest grammars. A grammar file can't contain them.
 use peg_bytes::Span;
-use peg_grammar::{Definition, Expr, Grammar, GrammarFault, MOST_PARTS, weight};
+use peg_grammar::{Definition, Expr, Grammar, GrammarFault, MAX_PARTS, weight};
 use std::alloc::Global;
 use std::test::Fail;
 
-// S <- a literal of so many bytes
+// S <- a literal of this many bytes
 fn long(alloc: Global, bytes: usize) -> Result<Vec<Definition>, Fail> {
     let body = Expr::Literal {
         bytes: vec![in alloc; b'a'; bytes]?,
@@ -22,7 +22,7 @@ fn long(alloc: Global, bytes: usize) -> Result<Vec<Definition>, Fail> {
 fn most_parts_are_a_grammar(rt: HostRuntime) -> Result<(), Fail> {
     let alloc = rt.alloc();
     let definitions = long(alloc, 4_194_302)?;
-    assert_eq!(rt; weight(&definitions), MOST_PARTS);
+    assert_eq!(rt; weight(&definitions), MAX_PARTS);
     let grammar = Grammar::new(alloc, definitions)?;
     assert_eq!(rt; grammar.rules(), 1);
     assert_eq!(rt; grammar.rule_name(0), "S");

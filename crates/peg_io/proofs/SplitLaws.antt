@@ -1,15 +1,15 @@
--- Laws of the split: an input has one split, and the split of a front of an input tells that of the whole.
+-- Laws of the split: it is unique, and the split of a prefix determines the split of the whole input.
 use Rattle.std.proofs.Common.{◌≡◌, ℕ, zero, suc, ◌+◌, ◌<◌, ◌≤◌, true, ◌==◌, ◌⊎◌, inl, inr, List, [], ◌++◌, ◌-◌, length, slice_index, take, drop, refl, sym, ap, subst, ◌∙◌, arith, length-append, length-drop}
 use Rattle.std.proofs.lemmas.List.{get_or_past, take-append-drop, get_or_append_left, length-take-le, take-append-le, drop-append-le}
 use Rattle.std.proofs.lemmas.Bool.{and_parts, eqb-true, cases_lt, cases_order, cases_Bool, both_ways}
 use Rattle.peg_io.specs.Split.{line_starts_at, is_separator_at, NoneBefore, IsFirstSeparator, HasNoSeparator, IsSplit, at_separator, without_separator}
 
--- a separator ends by byte 10
+-- a separator ends in byte 10
 separator_end : (input : List ℕ) (place : ℕ) → is_separator_at input place ≡ true
     → slice_index input (place + 2) ≡ 10
 separator_end input place here = eqb-true (slice_index input (place + 2)) 10 (and_parts _ _ here).1
 
--- a separator's three bytes lie within the input
+-- the three bytes of a separator are within the input
 pub separator_within : (input : List ℕ) (place : ℕ) → is_separator_at input place ≡ true
     → place + 2 < length input
 separator_within input place here =
@@ -19,7 +19,7 @@ separator_within input place here =
       | inr past ↦ absurd (omega (arith, get_or_past input (place + 2) 0 past))
     ]
 
--- an input has one first separator
+-- an input has at most one first separator
 first_separator_same : (input : List ℕ) (one other : ℕ) → IsFirstSeparator input one
     → IsFirstSeparator input other → one ≡ other
 first_separator_same input one other first second =
@@ -29,7 +29,7 @@ first_separator_same input one other first second =
       | inr (inr more) ↦ absurd (both_ways _ (first.first other more) second.here)
     ]
 
--- two splits of one input are the same parts
+-- two splits of one input are equal
 pub IsSplit-same : (input before after before' after' : List ℕ) → IsSplit input before after
     → IsSplit input before' after' → (before ≡ before') × (after ≡ after')
 IsSplit-same input before after before' after' (at_separator one first b a) (at_separator other second b' a') =
@@ -42,7 +42,7 @@ IsSplit-same input before after before' after' (without_separator none b a) (at_
 IsSplit-same input before after before' after' (without_separator none b a) (without_separator none' b' a') =
     (b ∙ sym b', a ∙ sym a')
 
--- below a bound stands a first separator, or none
+-- either there is a first separator, or there is none before the bound
 first_below : (input : List ℕ) (bound : ℕ) → ((place : ℕ) × IsFirstSeparator input place) ⊎ NoneBefore input bound
 first_below input zero = inr (λ place below. absurd (omega arith))
 first_below input (suc bound) =
@@ -57,7 +57,7 @@ first_below input (suc bound) =
       ]
     ]
 
--- an input has a first separator, or none at all
+-- an input has a first separator or no separator
 first_or_none : (input : List ℕ) → ((place : ℕ) × IsFirstSeparator input place) ⊎ HasNoSeparator input
 first_or_none input =
     elim (first_below input (length input)) [
@@ -68,14 +68,14 @@ first_or_none input =
       ])
     ]
 
--- whether a line starts at a place within the front of an input is seen in that front
+-- within a prefix, whether a line starts at an offset depends on the prefix alone
 line_starts_at-front : (front rest : List ℕ) (place : ℕ) → place ≤ length front
     → line_starts_at (front ++ rest) place ≡ line_starts_at front place
 line_starts_at-front front rest zero within = refl
 line_starts_at-front front rest (suc before) within =
     ap (λ byte. byte == 10) (get_or_append_left front rest 0 before (omega arith))
 
--- whether a separator stands at a place is seen in a front of the input that holds its three bytes
+-- whether a separator starts at an offset depends only on a prefix that contains its three bytes
 pub is_separator_at-front : (front rest : List ℕ) (place : ℕ) → place + 2 < length front
     → is_separator_at (front ++ rest) place ≡ is_separator_at front place
 is_separator_at-front front rest place within =
@@ -85,16 +85,16 @@ is_separator_at-front front rest place within =
     let three = get_or_append_left front rest 0 (place + 2) within in
     rw (start, one, two, three)
 
--- what the split of a front of an input, into before and after, tells of the split of the whole: a
--- separator in the front is that of the whole, and what stands behind it goes on with the rest; without
--- one the whole's part before its separator has all of the front but for at most two bytes
+-- What the split of a prefix says about the split of the whole input. A separator in the prefix is also that of the
+-- whole, and the bytes after it continue with the rest. Without one, the part before the whole's separator has all of
+-- the prefix except for at most two bytes.
 pub data TellsSplit (front rest before after before' after' : List ℕ) : Type 0 where
   separator_in_front : before' ≡ before → after' ≡ after ++ rest → length before + 3 + length after ≡ length front
       → TellsSplit front rest before after before' after'
   separator_further : before ≡ front → after ≡ [] → length front ≤ length before' + 2
       → TellsSplit front rest before after before' after'
 
--- the split of a front, and the split of the whole that it tells of
+-- the split of a prefix, and the split of the whole that it determines
 pub front_split : (front rest before after : List ℕ) → IsSplit front before after
     → (before' : List ℕ) × (after' : List ℕ) × IsSplit (front ++ rest) before' after'
     × TellsSplit front rest before after before' after'
@@ -141,7 +141,7 @@ front_split front rest before after (without_separator none b a) =
           separator_further b a (omega arith),
         )
 
--- the same for the first bytes of an input, as a read with a limit holds them
+-- the same for the first `most` bytes of an input, as a bounded read returns them
 pub first_bytes_split : (input : List ℕ) (most : ℕ) (before after : List ℕ) → IsSplit (take most input) before after
     → (before' : List ℕ) × (after' : List ℕ) × IsSplit input before' after'
     × TellsSplit (take most input) (drop most input) before after before' after'

@@ -1,4 +1,4 @@
--- One step of a transfer after those before it, and what a read of up to so many bytes holds.
+-- One more step of a transfer, and the result of a bounded read.
 use Rattle.std.proofs.Common.{◌≡◌, ℕ, ◌+◌, ◌<◌, ◌≤◌, List, ◌++◌, Option, None, Some, inl, inr, ap, ◌∙◌, append-nil, length, take, drop, sym, subst, arith, length-append}
 use Rattle.std.proofs.Math.Seq.{take-add}
 use Rattle.std.proofs.lemmas.List.{take_all, take_at}
@@ -7,19 +7,19 @@ use Rattle.std.proofs.KnownBytes.{Appends-trans, Consumes-trans}
 use Rattle.std.specs.Io.KnownBytes.{Appends, Consumes, IsAtEnd}
 use Rattle.peg_io.specs.Transfer.{ConsumesAtMost}
 
--- the bytes before a place, and then some of those from there on
+-- the bytes before `at` followed by the next n bytes are the first `at` + n bytes
 pub Appends-take_more : (a b c : Option (List ℕ)) (bytes : List ℕ) (at n : ℕ) → Appends a b (take at bytes)
     → Appends b c (take n (drop at bytes)) → Appends a c (take (at + n) bytes)
 Appends-take_more a b c bytes at n first more =
     subst (Appends a c) (sym (take-add at n bytes)) (Appends-trans a b c _ _ first more)
 
--- what is held and the bytes that came are no more than is allowed
+-- if the bytes read so far and a new piece are within the limit, at most `most` bytes are consumed
 pub ConsumesAtMost-more : (a b c : Option (List ℕ)) (held piece : List ℕ) (most : ℕ) → Consumes a b held
     → Consumes b c piece → length held + length piece ≤ most → ConsumesAtMost a c most
 ConsumesAtMost-more a b c held piece most first more few =
     (held ++ piece, omega (arith, length-append held piece), Consumes-trans a b c held piece first more)
 
--- a read of up to so many bytes, which stopped below that only at the end, holds the first so many
+-- a read of up to `most` bytes that stops earlier only at the end returns the first `most` bytes
 pub held_is_take : (left : List ℕ) (new : Option (List ℕ)) (held : List ℕ) (most : ℕ) → Consumes (Some left) new held
     → length held ≤ most → (length held < most → IsAtEnd new) → held ≡ take most left
 held_is_take left None held most consumed within end = absurd consumed

@@ -1,8 +1,8 @@
--- What callers see of a `Device`: what it stands on, and whether a call of it has failed.
+-- What the contracts of a `Device` refer to: its inner reader or writer, and whether a call has failed.
 use Rattle.std.specs.Prelude.{Bool, is_some}
 use Rattle.peg_io.specs.declared.device.Device.{Device}
 
--- the reader or the writer that a device stands on
+-- the reader or writer below the device
 abbrev pub inner_of : {D : Type 0} → Device D → D
 inner_of device = device.inner
 

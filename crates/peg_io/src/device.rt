@@ -1,4 +1,4 @@
-//! Where bytes come from and where they go, with a failure that is kept.
+//! Byte sources, byte sinks, and `Device`, which remembers a failed call.
 ghost use Rattle.std.specs.Prelude.{◌≡◌, ℕ, ◌<◌, ◌≤◌, Bool, true};
 ghost use Rattle.std.specs.Prelude.{false, List, Option, length, is_ok, IfOk, if◌then◌else◌};
 ghost use Rattle.std.specs.Io.KnownBytes.{ReadConsumes, WriteAppends};
@@ -6,42 +6,41 @@ ghost use Rattle.std.specs.Io.KnownBytes.{ReadConsumes, WriteAppends};
 use std::io::{Read, Write};
 use thiserror::Error;
 
-/// A read or a write that failed.
+/// A read or a write failed.
 #[derive(Clone, Copy, Debug, PartialEq, Eq, Error)]
 #[error("a read or a write failed")]
 pub struct DeviceFault;
 
-/// Where bytes come from. Once a read has failed, `failed` answers true for good.
+/// A source of bytes. Once a read has failed, `failed` returns true from then on.
 pub trait Source {
-    // the bytes that reads will still give, where the source tells them
+    // the bytes that later reads will return, if the source specifies them
     ghost left: { Self → Option (List ℕ) };
 
     // whether a read has failed
     ghost failed: { Self → Bool };
 
-    /// Puts bytes at the front of `piece` and answers how many: 0 only where no byte is left. An `Err`
-    /// comes where the read fails, and takes no byte from the source.
+    /// Reads bytes into the start of `piece` and returns their number. Returns 0 only at the end of the source. On an
+    /// error no byte is taken from the source.
     fn read(&mut self, piece: &mut [u8]) -> Result<usize, DeviceFault>
         requires { 0 < length piece.old }
         ensures bound { IfOk result (λ count. count ≤ length piece.new) }
         ensures bytes { ReadConsumes (left self.old) (left self.new) result piece.new }
         ensures failed { failed self.new ≡ (if is_ok result then failed self.old else true) };
 
-    /// Whether a read has failed.
+    /// Returns whether a read has failed.
     fn failed(&self) -> bool
         ensures { result ≡ failed self.now };
 }
 
-/// Where bytes go. Once a write has failed, `failed` answers true for good.
+/// A sink for bytes. Once a write has failed, `failed` returns true from then on.
 pub trait Sink {
-    // the bytes that the sink holds, where it tells them
+    // the bytes that have been written, if the sink specifies them
     ghost written: { Self → Option (List ℕ) };
 
     // whether a write has failed
     ghost failed: { Self → Bool };
 
-    /// Takes bytes from the front of `piece`, at least one, and answers how many. An `Err` comes where
-    /// the write fails, and takes none.
+    /// Writes a nonempty prefix of `piece` and returns its length. On an error no byte is written.
     fn write(&mut self, piece: &[u8]) -> Result<usize, DeviceFault>
         requires { 0 < length piece.now }
         ensures bound { IfOk result (λ count. count ≤ length piece.now) }
@@ -49,13 +48,13 @@ pub trait Sink {
         ensures bytes { WriteAppends (written self.old) (written self.new) result piece.now }
         ensures failed { failed self.new ≡ (if is_ok result then failed self.old else true) };
 
-    /// Whether a write has failed.
+    /// Returns whether a write has failed.
     fn failed(&self) -> bool
         ensures { result ≡ failed self.now };
 }
 
-/// A reader or a writer of std that keeps whether it has failed. Each call makes one call of std, so an
-/// interrupted call is a failure too, and so is a write that takes no byte.
+/// A standard reader or writer that remembers whether a call has failed. Each call makes one call of `inner` and never
+/// retries. An interrupted call counts as a failure, and so does a write of 0 bytes.
 #[derive(Drop)]
 pub struct Device<D> {
     inner: D,
@@ -66,7 +65,7 @@ impl<D> Device<D> {
     ghost use Rattle.std.specs.Prelude.{◌≡◌, true, false};
     ghost use Rattle.peg_io.specs.Device.{inner_of, has_failed};
 
-    /// A device over `inner` that hasn't failed.
+    /// Returns a device over `inner` that has not failed.
     pub fn new(inner: D) -> Device<D>
         ensures inner { inner_of result ≡ inner }
         ensures failed { has_failed result ≡ false }
@@ -74,14 +73,13 @@ impl<D> Device<D> {
         Device { inner, fault: None }
     }
 
-    // Whether a read or a write has failed.
     fn has_failed(&self) -> bool
         ensures { result ≡ has_failed self.now }
     {
         self.fault.is_some()
     }
 
-    // Keeps that a call has failed, and answers the fault.
+    // Records the failure and returns the error.
     fn fail(&mut self) -> DeviceFault
         ensures inner { inner_of self.new ≡ inner_of self.old }
         ensures failed { has_failed self.new ≡ true }

@@ -1,5 +1,5 @@
-//! Where bytes come from and where they go: sources, sinks, devices, and files by name; reading up to a limit, writing
-//! all of some bytes, and the line that parts a grammar from a text.
+//! Byte input and output: sources, sinks, devices, and files opened by name. Also bounded reads, complete writes, and
+//! the line that separates a grammar from a text.
 #![tactic(auto)]
 
 mod device;

@@ -1,4 +1,4 @@
-//! Files that are opened by name.
+//! Opening files by name.
 ghost use Rattle.std.specs.Prelude.{◌≡◌, ℕ, List, Option, Some, false, IfOk, IfSome};
 
 use crate::device::Source;
@@ -6,13 +6,13 @@ use std::io;
 use std::io::ErrorKind;
 use thiserror::Error;
 
-/// Why a file isn't opened.
+/// Why a file could not be opened.
 #[derive(Clone, Copy, Debug, PartialEq, Eq, Error)]
 pub enum OpenFault {
-    /// It can't be opened.
+    /// The file could not be opened.
     #[error("the file can't be opened")]
     File,
-    /// Memory ran out.
+    /// An allocation failed.
     #[error("out of memory")]
     Memory,
 }
@@ -34,15 +34,15 @@ impl From<io::Error> for OpenFault {
     }
 }
 
-/// What opens files by their names.
+/// Opens files by name.
 pub trait Opener {
-    /// A file that is open, to be read from its front.
+    /// An open file, read from its start.
     type File: Source + Drop;
 
-    // the bytes of the file with a name, where the opener tells them
+    // the bytes of the file with the given name, if the opener specifies them
     ghost holds: { Self → List ℕ → Option (List ℕ) };
 
-    /// Opens the file with a name.
+    /// Opens the file with the given name, to be read from its start. A returned file has no failed read yet.
     fn open(&self, name: &str) -> Result<Self::File, OpenFault>
         ensures bytes { IfOk result (λ file. IfSome (holds self.now name.now)
             (λ bytes. Self.File.left file ≡ Some bytes)) }

@@ -1,9 +1,9 @@
-//! Parting a grammar from the text that stands behind it in one input.
+//! Separating a grammar from the text that follows it in the same input.
 ghost use Rattle.std.specs.Prelude.{◌≡◌, ◌<◌, length, MatchOption};
 ghost use Rattle.peg_io.specs.Split.{is_separator_at, IsFirstSeparator, HasNoSeparator, IsSplit};
 
-/// The bytes before the first line that is exactly `%%` ended by byte 10, and those after that line.
-/// Without such a line the whole input and nothing. Linear in the input, and takes no memory.
+/// Splits `input` at its first line that is exactly `%%` and ends in LF. Returns the bytes before and after that line,
+/// or the whole input and nothing if there is no such line. Linear in the length of the input; allocates nothing.
 pub fn split(input: &[u8]) -> (&[u8], &[u8])
     ensures { IsSplit input.now result.0.now result.1.now }
 {
@@ -13,7 +13,7 @@ pub fn split(input: &[u8]) -> (&[u8], &[u8])
     }
 }
 
-// Where the first separator starts.
+// Finds the offset of the first separator.
 fn find_separator(input: &[u8]) -> Option<usize>
     ensures { MatchOption result (HasNoSeparator input.now) (IsFirstSeparator input.now) }
 {
@@ -25,7 +25,7 @@ fn find_separator(input: &[u8]) -> Option<usize>
     None
 }
 
-// Whether a line starts at the place and is the separator.
+// Whether a separator line starts at offset `place`.
 fn is_separator_at(input: &[u8], place: usize) -> bool
     requires { place < length input.now }
     ensures { result ≡ is_separator_at input.now place }

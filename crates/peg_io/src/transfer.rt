@@ -1,4 +1,4 @@
-//! Reading a source up to a number of bytes, and writing all of some bytes to a sink.
+//! Bounded reads from a source and complete writes to a sink.
 ghost use Rattle.std.specs.Prelude.{◌≡◌, ◌<◌, ◌≤◌, ◌↔◌, true, false, IfOk, OnOk, OnErr, IsErrOf, is_err, vec_len};
 ghost use Rattle.std.specs.Io.KnownBytes.{Appends, Consumes, IsAtEnd};
 ghost use Rattle.peg_io.specs.Transfer.{ConsumesAtMost, AppendsProperPrefix};
@@ -7,13 +7,13 @@ use crate::device::{DeviceFault, Sink, Source};
 use std::alloc::{AllocError, Global};
 use thiserror::Error;
 
-// How many bytes are asked of a source at once.
+// The size of the read buffer, in bytes.
 const PIECE: usize = 65536;
 
-/// Why a read of a whole source ended early.
+/// Why a bounded read failed.
 #[derive(Clone, Copy, Debug, PartialEq, Eq, Error)]
 pub enum ReadFault {
-    /// There was no memory for the bytes.
+    /// An allocation failed.
     #[error("out of memory")]
     Memory,
     /// A read failed.
@@ -32,9 +32,9 @@ impl From<AllocError> for ReadFault {
     }
 }
 
-/// Reads until the end or until `most` bytes are held, and never asks for more: fewer than `most` bytes
-/// are all that was left. `Device` where a read fails, and only there; `Memory` where there is no memory.
-/// Linear in the bytes read, beside a buffer of 64 KiB.
+/// Reads until the end of the source or until `most` bytes are read, and never requests more. A result shorter than
+/// `most` means that the source is at its end. Returns `Device` exactly if a read fails, and `Memory` if an allocation
+/// fails. Linear in the bytes read, plus a buffer of 64 KiB.
 pub fn read_up_to<G: Source>(
     alloc: Global,
     input: &mut G,
@@ -46,7 +46,7 @@ pub fn read_up_to<G: Source>(
     ensures end { IfOk result (λ held. vec_len held < most → IsAtEnd (G.left input.new)) }
     ensures not_failed { OnOk result (G.failed input.new ≡ false) }
 
-    // An error takes at most as many bytes too.
+    // On an error, too, at most `most` bytes have been taken from the source.
     ensures consumed { ConsumesAtMost (G.left input.old) (G.left input.new) most }
     ensures device { IsErrOf result ReadFault.Device ↔ (G.failed input.new ≡ true) }
 {
@@ -65,15 +65,14 @@ pub fn read_up_to<G: Source>(
     Ok(held)
 }
 
-// That many bytes, each of them 0.
+// Allocates `count` zero bytes.
 fn zeros(alloc: Global, count: usize) -> Result<Vec<u8>, AllocError>
     ensures { IfOk result (λ bytes. vec_len bytes ≡ count) }
 {
     vec![in alloc; 0u8; count]
 }
 
-/// Writes all the bytes, in order. An `Err` comes where a write fails: then some of them, from the
-/// front, are written, and not all.
+/// Writes all of `bytes`, in order. On an error only a proper prefix of `bytes` has been written.
 pub fn write_all_bytes<W: Sink>(output: &mut W, bytes: &[u8]) -> Result<(), DeviceFault>
     requires { W.failed output.old ≡ false }
     ensures ok { OnOk result (Appends (W.written output.old) (W.written output.new) bytes.now) }

@@ -4,7 +4,7 @@ use std::io;
 use std::io::{Cursor, Read, Write};
 use std::test::Fail;
 
-// Fails at its first use, and takes no byte later.
+// A device that fails at its first call, and accepts no byte later.
 #[derive(Drop)]
 struct Broken {
     used: bool,

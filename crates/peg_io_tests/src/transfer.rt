@@ -1,10 +1,10 @@
-//! Reading up to a limit and writing all, with devices that break in mid-stream.
+//! Reading up to a limit and writing all bytes, with devices that fail in mid-stream.
 use peg_io::{Device, DeviceFault, ReadFault, Sink, Source, read_up_to, write_all_bytes};
 use std::io;
 use std::io::{Read, Write};
 use std::test::Fail;
 
-// Gives or takes a byte at each call, so many times, and fails then.
+// A device that transfers one byte per call, and fails after a number of calls.
 #[derive(Drop)]
 struct Breaking {
     left: usize,

@@ -1,4 +1,4 @@
--- The figure's classes, as tests of a byte.
+-- The classes of the metagrammar, as tests of a byte.
 use Rattle.std.proofs.Common.{◌≡◌, ℕ, ◌<◌, ◌≤◌, Bool, true, false, ◌&&◌, ◌||◌, ◌==◌, nat_le, List, [], ◌∷◌, arith, refl, sym, ap, ◌∙◌, inl, inr, lit<}
 use Rattle.std.proofs.lemmas.Bool.{cases_lt}
 use Rattle.std.proofs.lemmas.Bool.Decides.{nat_tests}
@@ -6,9 +6,9 @@ use Rattle.std.proofs.lemmas.List.{get_or_past}
 use Rattle.std.proofs.lemmas.List.FromFn.{length-map-range_with_len, get_or-map-range_with_len}
 use Rattle.peg_bytes.specs.ByteSet.{has}
 use Rattle.peg_lexer.specs.Lexical.{begins_name, is_sign, is_hexadecimal, is_quote}
-use Rattle.peg_figure.specs.Ranges.{Range, range, holds, in_ranges, class_of}
+use Rattle.peg_metagrammar.specs.Ranges.{Range, range, holds, in_ranges, class_of}
 
--- ranges of bytes
+-- all ranges are ranges of bytes
 abbrev pub AreSmall : List Range → Type 0
 AreSmall [] = Unit {0}
 AreSmall (r ∷ ranges) = (r.high < 256) × AreSmall ranges
@@ -20,7 +20,7 @@ past_all : (ranges : List Range) (byte : ℕ) → AreSmall ranges → 256 ≤ by
 past_all [] byte small past = refl
 past_all (r ∷ ranges) byte small past = rw (past_one r byte small.0 past, past_all ranges byte small.1 past) refl
 
--- a class of ranges has the bytes that they hold
+-- the set of a class contains the bytes in its ranges
 pub has-class_of : (ranges : List Range) → AreSmall ranges → (byte : ℕ) → has (class_of ranges) byte
     ≡ in_ranges ranges byte
 unfolding class_of

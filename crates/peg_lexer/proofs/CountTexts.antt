@@ -1,4 +1,4 @@
--- What the texts of counts spell, as code goes over them.
+-- What the texts of counts denote, as the code reads them.
 use Rattle.std.proofs.Common.{◌≡◌, ℕ, ◌+◌, ◌<◌, Bool, true, false, List, [], ◌∷◌, ◌++◌, length, map, take, drop, codes}
 use Rattle.std.proofs.Common.{Option, None, Some, option_map, option_and_then, nat_eq, append-nil, refl, sym, ap, ◌∙◌, arith}
 use Rattle.std.proofs.lemmas.List.{drop-drop}
@@ -6,7 +6,7 @@ use Rattle.std.specs.List.{starts_with}
 use Rattle.peg_lexer.specs.Lexical.{is_digit, digit, digits, number, second_number, behind_number, count}
 use Rattle.peg_lexer.specs.LexicalCode.{told, bounds_told, NumbersSeen, numbers_found, CountSeen, count_found}
 use Rattle.peg_lexer.specs.Pieces.{Piece, plain, both, these, or_piece, many, many_behind}
-use Rattle.peg_figure.specs.Spelled.{Spelling, Byte, Bytes, Numeral, Word, Sign, Expression, Definition, decimal, numerals_in, Bounds, bounds, bounds_spelled}
+use Rattle.peg_metagrammar.specs.Spelled.{Spelling, Byte, Bytes, Numeral, Word, Sign, Expression, Definition, decimal, numerals_in, Bounds, bounds, bounds_spelled}
 use Rattle.peg_lexer.proofs.PieceLemmas.{from, from-drop}
 
 -- ---- numbers
@@ -14,7 +14,7 @@ use Rattle.peg_lexer.proofs.PieceLemmas.{from, from-drop}
 abbrev pub numbers_seen : List ℕ → ℕ → NumbersSeen
 numbers_seen numbers length = record { numbers = numbers; length = length }
 
--- where no digit stands at the front, there is no number
+-- if no digit comes next, there is no number
 digits-none : (rest : List ℕ) → (many digit rest).length ≡ 0 → digits rest ≡ None
 unfolding many_behind
 digits-none [] none = refl
@@ -26,7 +26,7 @@ digits-none (byte ∷ rest) none = by (is_digit byte) refl
         absurd (omega arith)
     by false is = rw is refl
 
--- digits at the front are all that stand there
+-- the digits of a number are all digits that come next
 digits-some : (rest : List ℕ) → 0 < (many digit rest).length → digits rest ≡ Some (many digit rest)
 unfolding many_behind
 digits-some [] some = absurd (omega arith)
@@ -49,9 +49,9 @@ number-some rest n value size some is =
     let found : digits rest ≡ Some (many digit rest) = digits-some rest (omega (arith, size)) in
     rw (found, is, size) refl
 
--- ---- what stands behind the first number
+-- ---- the rest of a count after its first number
 
--- a piece and the brace behind it
+-- a match followed by the closing brace
 closed : (y : Piece) (m : ℕ) (numbers : List ℕ) → numbers_seen numbers m ≡ numbers_found y
     → Some (numbers_found (both y (plain 1))) ≡ Some (numbers_seen numbers (m + 1))
 closed y m numbers same =
@@ -108,7 +108,7 @@ module _ (r : List ℕ) where
       by None found = rw brace refl
       by (Some y) found = cc
 
--- ---- what code sees from a place on
+-- ---- what the code reads from an index on
 
 pub number-from : (rest : List ℕ) (at : ℕ) (x : Option NumbersSeen) → x ≡ option_map numbers_found (number (from at rest))
     → x ≡ option_map numbers_found (number (drop at rest))
@@ -137,7 +137,7 @@ numerals_in-append (Sign form ∷ a) b = numerals_in-append a b
 numerals_in-append (Expression form ∷ a) b = numerals_in-append a b
 numerals_in-append (Definition rule ∷ a) b = numerals_in-append a b
 
--- the bounds that are told of one or two numbers
+-- the bounds given by one or two numbers
 abbrev pub bounds_from : ℕ → List ℕ → Bounds
 bounds_from first [] = bounds first first
 bounds_from first (second ∷ more) = bounds first second

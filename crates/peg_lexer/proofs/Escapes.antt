@@ -1,14 +1,14 @@
--- A character whose backslash stands before what an escape finds.
+-- A backslash and the escape after it are a character.
 use Rattle.std.proofs.Common.{◌≡◌, ℕ, suc, ◌+◌, ◌≤◌, Bool, true, false, if◌then◌else◌, nat_eq, List, [], ◌∷◌, length, take, drop, get_or, codes}
 use Rattle.std.proofs.Common.{Option, None, Some, option_map, option_and_then, refl, sym, ap, ◌∙◌, arith}
 use Rattle.std.specs.List.{starts_with}
 use Rattle.peg_lexer.specs.Lexical.{is_sign, hexadecimal_digits, three_digits, two_digits, char}
 use Rattle.peg_lexer.specs.LexicalCode.{escaped_char}
 use Rattle.peg_lexer.specs.Pieces.{Piece, plain, both, one_that, or_piece}
-use Rattle.peg_figure.specs.Spelled.{Byte, byte_spelled}
+use Rattle.peg_metagrammar.specs.Spelled.{Byte, byte_spelled}
 use Rattle.peg_lexer.proofs.PieceLemmas.{from, from-drop}
 
--- the character that a piece behind a backslash is; the character that a piece is
+-- the character that consists of a backslash and a match after it; and the character of a match
 abbrev behind_backslash : List ℕ → Piece → Piece
 behind_backslash rest piece =
     record { spells = Byte (byte_spelled (92 ∷ take piece.length rest)) ∷ []; length = 1 + piece.length }
@@ -23,12 +23,12 @@ one_more rest piece more is =
     ap (λ n. record { spells = Byte (byte_spelled (92 ∷ take piece.length rest)) ∷ []; length = n }) (sym is)
     ∙ ap (λ n. record { spells = Byte (byte_spelled (take n (92 ∷ rest))) ∷ []; length = more.length }) (sym size)
 
--- the alternatives behind a backslash that are no hexadecimal digits
+-- the escapes without hexadecimal digits
 abbrev others : (sign three two : Option Piece) → Option Piece
 others sign three two = or_piece (option_map (both (plain 1)) sign)
     (or_piece (option_map (both (plain 1)) three) (or_piece (option_map (both (plain 1)) two) None))
 
--- an escape is what follows a backslash in a character
+-- an escape is the rest of a character after its backslash
 escape-behind : (rest : List ℕ) → escaped_char rest ≡ char (92 ∷ rest)
 unfolding char
 escape-behind [] = refl
@@ -62,7 +62,7 @@ escape-behind (byte ∷ rest) =
     by true sign three two = digits (hexadecimal_digits rest) sign three two
     by false sign three two = old sign three two
 
--- the same over bytes that code looks at
+-- the same for the bytes that the code reads
 pub escape-text : (rest : List ℕ) → 1 ≤ length rest → get_or rest 0 0 ≡ 92 → escaped_char (from 1 rest) ≡ char rest
 escape-text [] long first = absurd (omega arith)
 escape-text (byte ∷ rest) long first =

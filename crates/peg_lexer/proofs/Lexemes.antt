@@ -1,15 +1,15 @@
--- Tokens at the front of what is left of a file, as the figure has them.
+-- The token at the start of the remaining bytes is a token by the metagrammar.
 use Rattle.std.proofs.Common.{◌≡◌, ℕ, suc, ◌+◌, ◌<◌, Bool, true, false, List, [], ◌∷◌, ◌++◌, length, drop}
 use Rattle.std.proofs.Common.{Option, None, Some, option_map, option_and_then, ◌==◌, ◌⊎◌, inl, inr, refl, sym, ap, ◌∙◌, subst, arith, eqb-true, get_or, drop-cons}
 use Rattle.peg_bytes.specs.Extent.{between}
 use Rattle.peg_tree.specs.Trees.{Trees}
-use Rattle.peg_ford.specs.Form.{Name}
-use Rattle.peg_ford.specs.Record.{Failed, Matched}
-use Rattle.peg_ford.proofs.Derivations.{Derives, recorded}
-use Rattle.peg_figure.specs.Figure.{figure}
+use Rattle.peg_semantics.specs.Form.{Name}
+use Rattle.peg_semantics.specs.Record.{Failed, Matched}
+use Rattle.peg_semantics.proofs.Derivations.{Derives, recorded}
+use Rattle.peg_metagrammar.specs.Figure.{figure}
 use Rattle.peg_lexer.specs.Lexical.{begins_name, identifier, literal, quoted, class, count, text_of, kind_of, Found, token_of, spacing}
 use Rattle.peg_lexer.specs.LexicalCode.{Seen, seen_found, token_seen}
-use Rattle.peg_figure.specs.Notation.{Matches, Fails}
+use Rattle.peg_metagrammar.specs.Notation.{Matches, Fails}
 use Rattle.peg_lexer.specs.Pieces.{Piece, these}
 use Rattle.peg_lexer.specs.Tokens.{rule_of_kind, Lexeme, IsLexeme, Lexemes, Begins, IsLexingFault}
 use Rattle.peg_lexer.specs.declared.token.TokenKind.{TokenKind}
@@ -19,7 +19,7 @@ use Rattle.peg_lexer.proofs.SpacingRules.{finds-spacing}
 use Rattle.peg_lexer.proofs.Texts.{FindsToken, behind_text}
 use Rattle.peg_lexer.proofs.TokenRules as rules
 
--- ---- records of what is derived
+-- ---- records from derivations
 
 pub matches : {file name : List ℕ} {p end : ℕ} {trees : Trees}
     → Derives figure file (Name name (between 0 0)) p (Matched end trees) → Matches file name p end trees
@@ -30,7 +30,7 @@ fails d = let known = recorded d 0 in (known.found, (known.depth, known.is), kno
 
 -- ---- each kind
 
--- a lexeme of a kind from a place, of so many bytes
+-- a token of a kind at offset `p`, with a text of `size` bytes
 abbrev pub lexeme_at : TokenKind → (p size : ℕ) → Lexeme
 lexeme_at kind p size = record { kind = kind; text = between p (p + size) }
 
@@ -79,9 +79,9 @@ kind_fails file Open p none = fails ((rules.takes-open_sign file).none (between 
 kind_fails file Close p none = fails ((rules.takes-close file).none (between 0 0) p none)
 kind_fails file Dot p none = fails ((rules.takes-dot file).none (between 0 0) p none)
 
--- ---- a byte tells the kind
+-- ---- the first byte determines the kind
 
--- a sign's first byte stands at the front, or the sign doesn't
+-- either the next byte is the operator's first byte, or the operator does not match
 sign_apart : (sign : ℕ) (more : List ℕ) (byte : ℕ) (rest : List ℕ)
     → (sign ≡ byte) ⊎ (these (sign ∷ more) (byte ∷ rest) ≡ None)
 sign_apart sign more byte rest = by (sign == byte) refl
@@ -90,7 +90,7 @@ sign_apart sign more byte rest = by (sign == byte) refl
     by true is = inl (eqb-true sign byte is)
     by false is = inr (rw is refl)
 
--- the kind of a sign, where the sign's first byte stands at the front
+-- the kind of an operator, if the next byte is its first byte
 of_sign : (kind : TokenKind) (sign : ℕ) (more : List ℕ) (byte : ℕ) (rest : List ℕ) → kind_of sign ≡ Some kind
     → (kind_of byte ≡ Some kind) ⊎ (these (sign ∷ more) (byte ∷ rest) ≡ None)
 of_sign kind sign more byte rest is =
@@ -129,7 +129,7 @@ kinds_apart Open byte rest = of_sign Open 40 [] byte rest refl
 kinds_apart Close byte rest = of_sign Close 41 [] byte rest refl
 kinds_apart Dot byte rest = of_sign Dot 46 [] byte rest refl
 
--- ---- the token at the front
+-- ---- the token at the start of the remaining bytes
 
 abbrev pub seen_at : TokenKind → ℕ → Seen
 seen_at kind size = record { kind = kind; length = size }
@@ -137,7 +137,7 @@ seen_at kind size = record { kind = kind; length = size }
 abbrev found_of : TokenKind → Piece → Found
 found_of kind text = record { kind = kind; text = text }
 
--- what is seen of a token, and what it is
+-- the code's result for a token, and the token of the definitions
 token_found : (rest : List ℕ) (kind : TokenKind) (size : ℕ) → token_seen rest ≡ Some (seen_at kind size)
     → (piece : Piece) × (text_of kind rest ≡ Some piece) × (piece.length ≡ size)
 token_found [] kind size seen = cc
@@ -160,7 +160,7 @@ token_found (byte ∷ rest) kind size seen = by (kind_of byte) seen
                   (λ (s : Seen). s.length) same,
             )
 
--- where no token is seen, no kind has a text
+-- if the code finds no token, no kind of token matches
 token_missing : (byte : ℕ) (rest : List ℕ) → token_seen (byte ∷ rest) ≡ None → (kind : TokenKind)
     → text_of kind (byte ∷ rest) ≡ None
 token_missing byte rest seen kind =
@@ -176,7 +176,7 @@ token_missing byte rest seen kind =
         (option_and_then (λ kind. token_of kind (byte ∷
         rest)) k)) (sym is) ∙ seen)
 
--- ---- tokens, one after the other
+-- ---- consecutive tokens
 
 one_more : {file : List ℕ} {start mid end : ℕ} {lexemes : List Lexeme} (lexeme : Lexeme)
     → Lexemes file start lexemes mid → IsLexeme file mid end lexeme → Lexemes file start (lexemes ++ lexeme ∷ []) end
@@ -191,7 +191,7 @@ lex-start file =
     subst (λ end. Begins file [] end) here
     (0 + (spacing (drop 0 file)).length, gap.trees, matches gap.derives, Lexemes.none)
 
--- one token more, and the spacing behind it
+-- one more token, and the spacing after it
 pub lex-more : (file : List ℕ) (lexemes : List Lexeme) (at : ℕ) (kind : TokenKind) (size : ℕ) → Begins file lexemes at
     → token_seen (from at file) ≡ Some (seen_at kind size)
     → Begins file (lexemes ++ lexeme_at kind at size ∷ []) (at + size + (spacing (from (at + size) file)).length)
@@ -206,7 +206,7 @@ lex-more file lexemes at kind size begun seen =
     (sym (from-drop (at + size) file)) sized in
     (begun.0, begun.1, begun.2, one_more (lexeme_at kind at size) begun.3 coded)
 
--- where no token is seen before the end, the file has a lexing fault
+-- if no token is found before the end, the file has a lexing fault
 pub lex-fault : (file : List ℕ) (lexemes : List Lexeme) (at : ℕ) → Begins file lexemes at → at < length file
     → token_seen (from at file) ≡ None → IsLexingFault file at
 lex-fault file lexemes at begun before seen =

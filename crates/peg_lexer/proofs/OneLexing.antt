@@ -3,21 +3,21 @@ use Rattle.std.proofs.Common.{◌≡◌, ℕ, ◌<◌, List, [], ◌∷◌, leng
 use Rattle.std.proofs.Math.Seq.{drop-length}
 use Rattle.peg_bytes.specs.Extent.{between}
 use Rattle.peg_tree.specs.Trees.{Trees}
-use Rattle.peg_ford.specs.Form.{Name}
-use Rattle.peg_ford.specs.Record.{Record, Failed, Matched}
-use Rattle.peg_ford.proofs.RecordLemmas.{one_record}
-use Rattle.peg_figure.specs.Figure.{figure}
+use Rattle.peg_semantics.specs.Form.{Name}
+use Rattle.peg_semantics.specs.Record.{Record, Failed, Matched}
+use Rattle.peg_semantics.proofs.RecordLemmas.{one_record}
+use Rattle.peg_metagrammar.specs.Figure.{figure}
 use Rattle.peg_lexer.specs.Lexical.{identifier, literal, quoted, class, text_of, kind_of, count}
-use Rattle.peg_figure.specs.Notation.{Matches, Fails}
-use Rattle.peg_figure.specs.Spelled.{text_end}
+use Rattle.peg_metagrammar.specs.Notation.{Matches, Fails}
+use Rattle.peg_metagrammar.specs.Spelled.{text_end}
 use Rattle.peg_lexer.specs.Tokens.{rule_of_kind, Lexeme, IsLexeme, Lexemes, Begins, IsTokens, IsLexingFault}
 use Rattle.peg_lexer.specs.declared.token.TokenKind.{TokenKind}
 use Rattle.peg_lexer.specs.declared.token.TokenKind.TheVariants.{Ident, Literal, Class, Arrow, Slash, And, Not, Question, Star, Plus, Count, Open, Close, Dot}
 use Rattle.peg_lexer.proofs.Lexemes.{kind_fails, kinds_apart}
 
--- ---- what a rule of the figure matches at a place is one
+-- ---- a metagrammar rule has one match at an offset
 
--- two matches of a rule at one place have one end and the same trees
+-- two matches of a rule at one offset have the same end and the same trees
 one_end : (file name : List ℕ) (place : ℕ) {end other : ℕ} {trees more : Trees} → Matches file name place end trees
     → Matches file name place other more → (end ≡ other) × (trees ≡ more)
 one_end file name place {end} {other} {trees} {more} a b =
@@ -25,7 +25,7 @@ one_end file name place {end} {other} {trees} {more} a b =
     let results : Matched end trees ≡ Matched other more = sym a.2 ∙ (ap (λ (r : Record). r.result) same ∙ b.2) in
     (cc, cc)
 
--- a rule that matches at a place doesn't fail there
+-- a rule that matches at an offset does not fail there
 not_both : (file name : List ℕ) (place : ℕ) {end : ℕ} {trees : Trees} → Matches file name place end trees
     → Fails file name place → ⊥
 not_both file name place {end} {trees} a b =
@@ -33,9 +33,9 @@ not_both file name place {end} {trees} a b =
     let results : Matched end trees ≡ Failed = sym a.2 ∙ (ap (λ (r : Record). r.result) same ∙ b.2) in
     cc
 
--- ---- one token at a place
+-- ---- one token at an offset
 
--- where no bytes are left no kind has a text
+-- at the end of the file no kind of token matches
 no_text : (kind : TokenKind) → text_of kind [] ≡ None
 unfolding identifier literal quoted class count
 no_text Ident = refl
@@ -59,12 +59,12 @@ has_text : (file : List ℕ) (place : ℕ) {end : ℕ} (lexeme : Lexeme) → IsL
 has_text file place lexeme it none =
     not_both file (rule_of_kind lexeme.kind) place it.1 (kind_fails file lexeme.kind place none)
 
--- the kind that the first byte tells
+-- the kind given by the first byte
 kind_at_front : List ℕ → Option TokenKind
 kind_at_front [] = None
 kind_at_front (byte ∷ rest) = kind_of byte
 
--- the byte at a token's place tells the token's kind
+-- the first byte of a token determines its kind
 kind_told : (file : List ℕ) (place : ℕ) {end : ℕ} (lexeme : Lexeme) → IsLexeme file place end lexeme
     → kind_at_front (drop place file) ≡ Some lexeme.kind
 unfolding kind_at_front
@@ -78,7 +78,7 @@ kind_told file place lexeme it = by (drop place file) refl
           | inr none ↦ absurd (has_text file place lexeme it (ap (text_of lexeme.kind) is ∙ none))
         ]
 
--- two tokens at one place are the same, and so are the ends of their spacing
+-- two tokens at one offset are equal, and so are the ends of their spacing
 one_lexeme : (file : List ℕ) (place : ℕ) {end other : ℕ} (first second : Lexeme) → IsLexeme file place end first
     → IsLexeme file place other second → (end ≡ other) × (first ≡ second)
 one_lexeme file place {end} {other} first second a b =
@@ -97,20 +97,20 @@ one_lexeme file place {end} {other} first second a b =
 
 -- ---- one list of tokens up to where they stop
 
--- no token stands at a place
+-- no token starts at offset `at`
 abbrev pub IsStop : List ℕ → ℕ → Type 0
 IsStop file at = (kind : TokenKind) → Fails file (rule_of_kind kind) at
 
--- where no token stands there is none
+-- if no token starts at an offset, there is none there
 stopped : (file : List ℕ) (place : ℕ) {end : ℕ} (lexeme : Lexeme) → IsStop file place → IsLexeme file place end lexeme
     → ⊥
 stopped file place lexeme stop it = not_both file (rule_of_kind lexeme.kind) place it.1 (stop lexeme.kind)
 
--- no token stands at the file's end
+-- no token starts at the end of the file
 end_stops : (file : List ℕ) → IsStop file (length file)
 end_stops file kind = kind_fails file kind (length file) (ap (text_of kind) (drop-length file) ∙ no_text kind)
 
--- tokens from one place, up to where none stands, are the same
+-- two lists of tokens from one offset, up to where no token starts, are equal
 one_way : (file : List ℕ) {place end other : ℕ} {first second : List Lexeme} → Lexemes file place first end
     → Lexemes file place second other → IsStop file end → IsStop file other → (first ≡ second) × (end ≡ other)
 one_way file Lexemes.none Lexemes.none stop halt = (refl, refl)
@@ -123,7 +123,7 @@ one_way file {place} {end} {other} (Lexemes.one {lexeme = a} {more = front} it m
     let later = one_way file more (subst (λ at. Lexemes file at back other) (sym same.0) rest) stop halt in
     (ap (λ lexeme. lexeme ∷ front) same.1 ∙ ap (λ lexemes. b ∷ lexemes) later.0, later.1)
 
--- tokens from the file's front, up to where none stands, are the same
+-- two lists of tokens from the start of the file, up to where no token starts, are equal
 one_lexing : (file : List ℕ) {first second : List Lexeme} {end other : ℕ} → Begins file first end
     → Begins file second other → IsStop file end → IsStop file other → (first ≡ second) × (end ≡ other)
 one_lexing file {first} {second} {end} {other} a b stop halt =
@@ -132,11 +132,11 @@ one_lexing file {first} {second} {end} {other} a b stop halt =
 
 -- ---- the law
 
--- two lists of tokens of a file are the same
+-- two lists of tokens of a file are equal
 pub one_list : (file : List ℕ) (first second : List Lexeme) → IsTokens file first → IsTokens file second → first ≡ second
 one_list file first second a b = (one_lexing file a b (end_stops file) (end_stops file)).0
 
--- two lexing faults of a file are the same
+-- two lexing faults of a file are equal
 pub one_fault : (file : List ℕ) (at other : ℕ) → IsLexingFault file at → IsLexingFault file other → at ≡ other
 one_fault file at other a b = (one_lexing file a.1 b.1 a.3 b.3).1
 

@@ -1,4 +1,4 @@
--- Pieces, one behind the other.
+-- Repeated matches.
 use Rattle.std.proofs.Common.{◌≡◌, ℕ, zero, suc, ◌+◌, ◌-◌, ◌<◌, ◌≤◌, List, [], ◌∷◌, length, take, drop, Option, None, Some}
 use Rattle.std.proofs.Common.{refl, sym, ap, ◌∙◌, arith, length-drop}
 use Rattle.std.proofs.lemmas.List.{drop-drop, take_all}
@@ -13,13 +13,13 @@ many_behind-drop find [] (suc skipped) = refl
 many_behind-drop find (byte ∷ bytes) zero = refl
 many_behind-drop find (byte ∷ bytes) (suc skipped) = many_behind-drop find bytes skipped
 
--- where there is no piece, there are none
+-- without a first match there are no matches
 pub many-none : (find : Finding) (bytes : List ℕ) → find bytes ≡ None → many find bytes ≡ plain 0
 unfolding many_behind
 many-none find [] none = refl
 many-none find (byte ∷ bytes) none = rw none refl
 
--- where there is a piece of some bytes, there are it and those behind it
+-- the repeated matches are the first match and the repeated matches after it
 pub many-some : (find : Finding) (bytes : List ℕ) (piece : Piece) → find bytes ≡ Some piece → 0 < piece.length
     → piece.length ≤ length bytes → many find bytes ≡ both piece (many find (drop piece.length bytes))
 unfolding many_behind
@@ -29,7 +29,7 @@ many-some find (byte ∷ bytes) piece found long fits =
     rw found (ap (both piece) (many_behind-drop find bytes (piece.length - 1)
     ∙ ap (λ n. many find (drop n (byte ∷ bytes))) (sym e)))
 
--- a piece of so many bytes
+-- a match of the given length
 has_length : (found : Option Piece) (n : ℕ) → length_of found ≡ Some n → (piece : Piece) × (found ≡ Some piece)
     × (piece.length ≡ n)
 has_length None n e = cc
@@ -39,7 +39,7 @@ no_length : (found : Option Piece) → length_of found ≡ None → found ≡ No
 no_length None e = refl
 no_length (Some piece) e = cc
 
--- how far a loop has come: so many bytes are passed, and the rest has the rest of the pieces
+-- the progress of a loop: it has passed `at` bytes, and the remaining matches come from the remaining bytes
 pub record Passed (find : Finding) (rest : List ℕ) (at : ℕ) : Type 0 where
   pub within : at ≤ length rest
   pub same : (many find rest).length ≡ at + (many find (drop at rest)).length
@@ -47,7 +47,7 @@ pub record Passed (find : Finding) (rest : List ℕ) (at : ℕ) : Type 0 where
 pub Passed-none : (find : Finding) (rest : List ℕ) → Passed find rest 0
 Passed-none find rest = record { within = omega arith; same = omega arith }
 
--- the bytes from a place on, as code takes them
+-- the bytes from an index on, as the code slices them
 abbrev pub from : ℕ → List ℕ → List ℕ
 from at rest = take (length rest - at) (drop at rest)
 
@@ -85,7 +85,7 @@ Passed-all find rest at passed none =
     ap (λ (p : Piece). p.length) (many-none find (drop at rest) (no_length (find (drop at rest)) gone)) in
     omega (arith, left, passed.same)
 
--- a piece and none behind it; a piece and another behind it
+-- a match that no second match follows; and a match that a second match follows
 pub followed-stops : (first next : Finding) (rest : List ℕ) (n : ℕ) → Some n ≡ length_of (first rest) → None
     ≡ length_of (next (from n rest)) → None ≡ length_of (followed first next rest)
 followed-stops first next rest n found none =

@@ -1,10 +1,10 @@
--- How many bytes pieces have: some, and no more than there are.
+-- The lengths of matches: positive, and within the bytes.
 use Rattle.std.proofs.Common.{◌≡◌, ℕ, zero, suc, ◌+◌, ◌<◌, ◌≤◌, Bool, true, false, List, [], ◌∷◌, ◌++◌, length, drop, Option, None, Some}
 use Rattle.std.proofs.Common.{option_map, option_and_then, if◌then◌else◌, nat_eq, ◌==◌, refl, sym, ap, ◌∙◌, arith, length-drop}
 use Rattle.std.specs.List.{starts_with}
 use Rattle.std.proofs.lemmas.Bool.{and_parts}
 use Rattle.peg_lexer.specs.Pieces.{Piece, Finding, plain, both, these, one_that, followed, or_piece, either, none_of, unless, maybe, many, star}
-use Rattle.peg_figure.specs.Spelled.{Spelling}
+use Rattle.peg_metagrammar.specs.Spelled.{Spelling}
 use Rattle.peg_lexer.proofs.PieceLemmas.{many-none, many-some}
 use Rattle.peg_lexer.proofs.Takes.{IsLong, node_of, noded}
 
@@ -19,7 +19,7 @@ is_long a b = record { some = a.some; fits = b.fits }
 
 -- ---- bytes
 
--- bytes that begin with others are as many at least
+-- some bytes are at least as long as their prefix
 starts_with-fits : (bytes rest : List ℕ) → starts_with nat_eq rest bytes ≡ true → length bytes ≤ length rest
 starts_with-fits [] rest is = omega arith
 starts_with-fits (b ∷ bs) [] is = cc
@@ -65,9 +65,9 @@ fits-one test = record {
 pub has-one : (test : ℕ → Bool) → HasBytes (one_that test)
 has-one test = record { some = λ rest piece found. let by = one_size test rest piece found in omega (arith, by.0) }
 
--- ---- one behind another
+-- ---- one match after another
 
--- two pieces in a row
+-- the two matches of a sequence
 pub followed_parts : (first next : Finding) (rest : List ℕ) (piece : Piece) → followed first next rest ≡ Some piece
     → (x : Piece) × (y : Piece) × (first rest ≡ Some x) × (next (drop x.length rest) ≡ Some y)
     × (piece.length ≡ x.length + y.length) × (piece.spells ≡ x.spells ++ y.spells)
@@ -116,7 +116,7 @@ has-next first {next} b = record {
       omega (arith, b.some (drop by.0.length rest) by.1 by.3, by.4);
 }
 
--- ---- one or another
+-- ---- alternatives
 
 pub fits-either : {first other : Finding} → Fits first → Fits other → Fits (either first other)
 fits-either {first} {other} a b = record { fits = λ rest piece found. by rest piece (first rest) refl found }
@@ -134,7 +134,7 @@ has-either {first} {other} a b = record { some = λ rest piece found. by rest pi
     by rest piece None is found = b.some rest piece found
     by rest piece (Some x) is found = a.some rest piece (is ∙ found)
 
--- ---- signs
+-- ---- operators
 
 nothing_fits : (rest : List ℕ) (piece : Piece) → Some (plain 0) ≡ Some piece → piece.length ≤ length rest
 nothing_fits rest piece found =
@@ -155,7 +155,7 @@ fits-maybe {find} a = record { fits = λ rest piece found. by rest piece (find r
     by rest piece None is found = nothing_fits rest piece found
     by rest piece (Some x) is found = a.fits rest piece (is ∙ found)
 
--- ---- stars
+-- ---- repetition
 
 rounds_fit : {find : Finding} → IsLong find → (n : ℕ) (rest : List ℕ) → length rest ≤ n → (x : Option Piece) → find rest
     ≡ x → (many find rest).length ≤ length rest
@@ -207,7 +207,7 @@ has-noded {find} spell a = record {
       let by = noded_length spell find rest piece found in omega (arith, a.some rest by.0 by.1, by.2);
 }
 
--- ---- pieces that spell nothing
+-- ---- matches that denote nothing
 
 pub record IsBlank (find : Finding) : Type 0 where
   pub blank : (rest : List ℕ) (piece : Piece) → find rest ≡ Some piece → piece.spells ≡ []

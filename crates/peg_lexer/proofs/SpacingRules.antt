@@ -1,17 +1,17 @@
--- The figure's rules from Spacing to EndOfLine, as functions on the bytes at the front.
+-- The metagrammar's rules from Spacing to EndOfLine agree with their prefix matchers.
 use Rattle.std.proofs.Common.{max, ◌≡◌, ℕ, ◌+◌, true, List, [], ◌++◌, length, drop, refl, ap, ◌∙◌, codes, lit<, append-nil, arith}
 use Rattle.peg_bytes.specs.Extent.{Extent, between}
 use Rattle.peg_tree.specs.Trees.{Trees, NoTrees, Tree}
-use Rattle.peg_ford.specs.Record.{Matched}
-use Rattle.peg_ford.proofs.Derivations.{Derives}
-use Rattle.peg_ford.specs.Form.{Name}
-use Rattle.peg_figure.specs.Figure.{figure, end_of_line_body, space_body, comment_body, spacing_body}
-use Rattle.peg_figure.specs.FigureRules as rule
+use Rattle.peg_semantics.specs.Record.{Matched}
+use Rattle.peg_semantics.proofs.Derivations.{Derives}
+use Rattle.peg_semantics.specs.Form.{Name}
+use Rattle.peg_metagrammar.specs.Figure.{figure, end_of_line_body, space_body, comment_body, spacing_body}
+use Rattle.peg_metagrammar.specs.FigureRules as rule
 use Rattle.peg_lexer.specs.Lexical.{end_of_line, space, comment, in_comment, space_or_comment, spacing}
 use Rattle.peg_lexer.specs.Pieces.{Piece, followed, star, unless, many}
-use Rattle.peg_figure.specs.Spelled.{spelled, text_end, bad_counts}
-use Rattle.peg_figure.specs.Nesting.{nesting}
-use Rattle.peg_figure.proofs.FigureNames.{end_of_line-meant, space-meant, comment-meant, spacing-meant}
+use Rattle.peg_metagrammar.specs.Spelled.{spelled, text_end, bad_counts}
+use Rattle.peg_metagrammar.specs.Nesting.{nesting}
+use Rattle.peg_metagrammar.proofs.FigureNames.{end_of_line-meant, space-meant, comment-meant, spacing-meant}
 use Rattle.peg_lexer.proofs.PieceSizes.{Fits, HasBytes, is_long, fits-these, has-these, fits-one, has-one, fits-followed, has-first, has-next, fits-either, has-either, fits-unless, fits-star, IsBlank, blank-these, blank-one, blank-followed, blank-either, blank-unless, blank-many, blank-star}
 use Rattle.peg_lexer.proofs.Takes.{Takes, IsLong, Nodes, takes-these, takes-any, takes-then, takes-last, takes-seq, takes-only, takes-or, takes-choice, takes-not, takes-star, takes-name}
 
@@ -116,7 +116,7 @@ space_or_comment-blank = blank-either space-blank comment-blank
 
 -- ---- Spacing
 
--- the figure's Spacing at a place: how far it goes, what it spells, and where the text before it ends
+-- rule Spacing at an offset: its end, what it denotes, and the end of the text before it
 pub record FindsSpacing (file : List ℕ) (span : Extent) (p : ℕ) : Type 0 where
   pub trees : Trees
   pub derives : Derives figure file (Name (codes "Spacing") span) p (Matched (p + (spacing (drop p file)).length) trees)

@@ -1,5 +1,5 @@
--- What the figure's rules say, by functions on the bytes at the front: a way to find pieces and an expression take the
--- same at each place of a file.
+-- The metagrammar's rules as prefix matchers: an expression and a matcher agree if they match the same at each offset
+-- of a file.
 use Rattle.std.proofs.Common.{max, ◌≡◌, ℕ, zero, suc, ◌+◌, ◌<◌, ◌≤◌, Bool, true, false, List, [], ◌∷◌, ◌++◌, ◌&&◌, length, take, drop, add_assoc}
 use Rattle.std.proofs.Common.{Option, None, Some, option_map, option_and_then, if◌then◌else◌, ◌==◌, nat_eq, refl, sym, ap, ◌∙◌, subst, arith, append_assoc, append-nil, not, length-drop}
 use Rattle.std.proofs.lemmas.List.{drop-drop}
@@ -7,20 +7,20 @@ use Rattle.std.specs.List.{starts_with}
 use Rattle.peg_bytes.specs.ByteSet.{has}
 use Rattle.peg_bytes.specs.Extent.{Extent}
 use Rattle.peg_tree.specs.Trees.{Trees, NoTrees, Tree, followed_by}
-use Rattle.peg_ford.specs.Form.{Form, Forms, Literal, Class, Any, Name, Seq, Choice, Optional, Star, Plus, Not, End, Then}
-use Rattle.peg_ford.specs.Record.{Failed, Matched}
-use Rattle.peg_ford.specs.Rules.{Meaning, meant}
-use Rattle.peg_ford.proofs.Derivations.{Derives, DerivesItems, DerivesFirst}
-use Rattle.peg_ford.proofs.ResultSteps.{begins_with, passes_any}
-use Rattle.peg_figure.specs.Figure.{figure}
-use Rattle.peg_figure.specs.FigureRules as rule
+use Rattle.peg_semantics.specs.Form.{Form, Forms, Literal, Class, Any, Name, Seq, Choice, Optional, Star, Plus, Not, End, Then}
+use Rattle.peg_semantics.specs.Record.{Failed, Matched}
+use Rattle.peg_semantics.specs.Rules.{Meaning, meant}
+use Rattle.peg_semantics.proofs.Derivations.{Derives, DerivesItems, DerivesFirst}
+use Rattle.peg_semantics.proofs.ResultSteps.{begins_with, passes_any}
+use Rattle.peg_metagrammar.specs.Figure.{figure}
+use Rattle.peg_metagrammar.specs.FigureRules as rule
 use Rattle.peg_lexer.specs.Pieces.{Piece, Finding, plain, both, these, one_that, followed, or_piece, either, none_of, unless, maybe, many, star}
-use Rattle.peg_figure.specs.Ranges.{Range, class_of}
-use Rattle.peg_figure.specs.Spelled.{Spelling, text_end, part, node_spelled, spelled, numerals_in, bounds_spelled, bounds_in_range, bad_count, bad_counts}
-use Rattle.peg_figure.specs.Nesting.{nesting, has_open}
+use Rattle.peg_metagrammar.specs.Ranges.{Range, class_of}
+use Rattle.peg_metagrammar.specs.Spelled.{Spelling, text_end, part, node_spelled, spelled, numerals_in, bounds_spelled, bounds_in_range, bad_count, bad_counts}
+use Rattle.peg_metagrammar.specs.Nesting.{nesting, has_open}
 use Rattle.peg_lexer.proofs.PieceLemmas.{many-none, many-some}
 
--- ---- what trees spell
+-- ---- what trees denote
 
 pub text_end-followed : (before : ℕ) (a b : Trees) → text_end before (followed_by a b) ≡ text_end (text_end before a) b
 text_end-followed before NoTrees b = refl
@@ -53,7 +53,7 @@ bad_counts-followed file (Tree r start end children rest) b =
     ∙ (ap (λ (l : List ℕ). own ++ l) (sym (append_assoc inside (bad_counts file rest) (bad_counts file b)))
     ∙ sym (append_assoc own (inside ++ bad_counts file rest) (bad_counts file b)))
 
--- trees without a token's end among them spell these pieces
+-- trees without the end of a token, which denote these parts
 pub record SpellsAs (file : List ℕ) (trees : Trees) (pieces : List Spelling) : Type 0 where
   pub spells : (before : ℕ) → spelled file before trees ≡ pieces
   pub no_token : (before : ℕ) → text_end before trees ≡ before
@@ -74,9 +74,9 @@ SpellsAs-both {file} {a} {b} {xs} {ys} first next = record {
   fine = bad_counts-followed file a b ∙ (ap (λ (l : List ℕ). l ++ bad_counts file b) first.fine ∙ next.fine);
 }
 
--- ---- an expression and a way to find pieces
+-- ---- an expression and a matcher
 
--- at a place an expression matches a piece
+-- an expression has the given match at an offset
 pub record Finds (file : List ℕ) (e : Form) (p : ℕ) (piece : Piece) : Type 0 where
   pub trees : Trees
   pub derives : Derives figure file e p (Matched (p + piece.length) trees)
@@ -86,7 +86,7 @@ pub record Takes (file : List ℕ) (e : Form) (find : Finding) : Type 0 where
   pub none : (p : ℕ) → find (drop p file) ≡ None → Derives figure file e p Failed
   pub some : (p : ℕ) (piece : Piece) → find (drop p file) ≡ Some piece → Finds file e p piece
 
--- the same of items in order
+-- the same for the items of a sequence
 pub record FindsAll (file : List ℕ) (items : Forms) (p : ℕ) (piece : Piece) : Type 0 where
   pub trees : Trees
   pub derives : DerivesItems figure file items p (Matched (p + piece.length) trees)
@@ -96,7 +96,7 @@ pub record TakesAll (file : List ℕ) (items : Forms) (find : Finding) : Type 0 
   pub none : (p : ℕ) → find (drop p file) ≡ None → DerivesItems figure file items p Failed
   pub some : (p : ℕ) (piece : Piece) → find (drop p file) ≡ Some piece → FindsAll file items p piece
 
--- and of alternatives in order
+-- the same for the alternatives of a choice
 pub record FindsFirst (file : List ℕ) (first : Form) (rest : Forms) (p : ℕ) (piece : Piece) : Type 0 where
   pub trees : Trees
   pub derives : DerivesFirst figure file first rest p (Matched (p + piece.length) trees)
@@ -108,14 +108,14 @@ pub record TakesFirst (file : List ℕ) (first : Form) (rest : Forms) (find : Fi
 
 -- ---- bytes
 
--- a piece that spells nothing
+-- a match that denotes nothing
 finds-plain : {file : List ℕ} {e : Form} {p : ℕ} (n : ℕ) (piece : Piece) → plain n ≡ piece
     → Derives figure file e p (Matched (p + n) NoTrees) → Finds file e p piece
 finds-plain {file} {e} {p} n piece same derived =
     subst (λ (found : Piece). Finds file e p found) same
     (record { trees = NoTrees; derives = derived; spelled = SpellsAs-none file })
 
--- whether a test holds, by what is found
+-- whether a test holds, by its match
 test_false : (test : Bool) (n : ℕ) → (if test then Some (plain n) else None) ≡ None → test ≡ false
 test_false true n e = cc
 test_false false n e = refl
@@ -133,7 +133,7 @@ takes-these file bytes span = record {
       finds-plain (length bytes) piece by.0 (Derives.literal_matched by.1 refl);
 }
 
--- one byte that passes a test, where another test agrees
+-- one byte that passes a test, if another test agrees
 byte_none : (test same : ℕ → Bool) → ((byte : ℕ) → test byte ≡ same byte) → (rest : List ℕ) → one_that same rest ≡ None
     → begins_with test rest ≡ false
 byte_none test same agree [] e = refl
@@ -162,7 +162,7 @@ takes-any file span = record {
       finds-plain 1 piece by.0 (Derives.any_matched by.1 refl);
 }
 
--- ---- items in order
+-- ---- items of a sequence
 
 -- the last item
 pub takes-last : {file : List ℕ} {e : Form} {find : Finding} → Takes file e find → TakesAll file (Then e End) find
@@ -178,7 +178,7 @@ takes-last {file} {e} {find} a = record {
       };
 }
 
--- one piece behind another
+-- one match after another
 finds-both : {file : List ℕ} {e : Form} {rest : Forms} {p : ℕ} (first next : Piece) → Finds file e p first
     → FindsAll file rest (p + first.length) next → FindsAll file (Then e rest) p (both first next)
 finds-both {file} {e} {rest} {p} first next a b = record {
@@ -195,7 +195,7 @@ takes-then {file} {e} {rest} {first} {next} a b = record {
   some = λ p piece found. matches p (first (drop p file)) refl piece found;
 }
   where
-    -- what is next stands behind what was found
+    -- what comes next is after the first match
     behind_it : (p : ℕ) (x : Piece) → next (drop x.length (drop p file)) ≡ next (drop (p + x.length) file)
     behind_it p x = ap next (drop-drop x.length p file)
 
@@ -234,7 +234,7 @@ takes-seq span a = record {
       record { trees = it.trees; derives = Derives.sequence it.derives; spelled = it.spelled };
 }
 
--- ---- alternatives in order
+-- ---- alternatives of a choice
 
 pub takes-only : {file : List ℕ} {e : Form} {find : Finding} → Takes file e find → TakesFirst file e End find
 takes-only a = record {
@@ -279,9 +279,9 @@ takes-choice span a = record {
       record { trees = it.trees; derives = Derives.choice it.derives; spelled = it.spelled };
 }
 
--- ---- signs
+-- ---- operators
 
--- nothing at a place
+-- an empty match
 finds-nothing : {file : List ℕ} {e : Form} {p : ℕ} (piece : Piece) → plain 0 ≡ piece
     → Derives figure file e p (Matched p NoTrees) → Finds file e p piece
 finds-nothing {file} {e} {p} piece same derived =
@@ -328,12 +328,12 @@ takes-optional {file} {part} {find} span a = record {
 
 -- ---- stars
 
--- a piece has some bytes, and the bytes have it
+-- the matches of a matcher are nonempty and within the bytes
 pub record IsLong (find : Finding) : Type 0 where
   pub some : (rest : List ℕ) (piece : Piece) → find rest ≡ Some piece → 0 < piece.length
   pub fits : (rest : List ℕ) (piece : Piece) → find rest ≡ Some piece → piece.length ≤ length rest
 
--- rounds of a star, as many bytes as there may be left
+-- the iterations of a star, by induction on the number of remaining bytes
 rounds : {file : List ℕ} {part : Form} {find : Finding} (span : Extent) → Takes file part find → IsLong find → (n p : ℕ)
     → length (drop p file) ≤ n → (x : Option Piece) → find (drop p file) ≡ x
     → Finds file (Star part span) p (many find (drop p file))
@@ -371,7 +371,7 @@ takes-star {file} {part} {find} span a long = record {
       (rounds span a long (length (drop p file)) p (omega arith) (find (drop p file)) refl);
 }
 
--- ---- one and more
+-- ---- plus
 
 pub takes-plus : {file : List ℕ} {part : Form} {find : Finding} (span : Extent) → Takes file part find → IsLong find
     → Takes file (Plus part span) (followed find (star find))
@@ -406,14 +406,14 @@ takes-plus {file} {part} {find} span a long = record {
 
 -- ---- names
 
--- a piece of a rule's body, as the rule's node spells it
+-- the match of a rule's body, with what the rule's node denotes
 abbrev pub node_of : (List ℕ → List Spelling → List Spelling) → List ℕ → Piece → Piece
 node_of spell rest piece = record { spells = spell (take piece.length rest) piece.spells; length = piece.length }
 
 abbrev pub noded : (List ℕ → List Spelling → List Spelling) → Finding → Finding
 noded spell find rest = option_map (node_of spell rest) (find rest)
 
--- what a node of a rule spells, by its text and what its children spell
+-- what a node of a rule denotes, by its text and by what its children denote
 pub record Nodes (number : ℕ) (spell : List ℕ → List Spelling → List Spelling) : Type 0 where
   pub spells : (file : List ℕ) (before start end last : ℕ) (inner : List Spelling)
       → node_spelled file number before start end last inner ≡ spell (part file start end) inner
@@ -421,7 +421,7 @@ pub record Nodes (number : ℕ) (spell : List ℕ → List Spelling → List Spe
   pub no_primary : (number == rule.primary) ≡ false
   pub no_count : (number == rule.count) ≡ false
 
--- a way to find that finds the same
+-- a matcher with the same results
 pub takes-same : {file : List ℕ} {e : Form} {find other : Finding} → ((rest : List ℕ) → find rest ≡ other rest)
     → Takes file e find → Takes file e other
 takes-same {file} same a = record {
@@ -473,7 +473,7 @@ takes-node {file} {used} {find} {spell} span m known nodes a = record {
         let same : node_of spell (drop p file) x ≡ piece = cc in
         subst (λ (z : Piece). Finds file (Name used span) p z) same (found_node p x (a.some p x is))
 
--- a rule whose node spells what its children spell
+-- a rule whose node denotes what its children denote
 pub takes-name : {file used : List ℕ} {find : Finding} (span : Extent) (m : Meaning) → meant figure used ≡ Some m
     → Nodes m.rule (λ text inner. inner) → Takes file m.body find → Takes file (Name used span) find
 takes-name {file} {used} {find} span m known nodes a =

@@ -1,16 +1,16 @@
--- The figure's rules of names, characters, literals and classes, as functions on the bytes at the front.
+-- The metagrammar's rules of names, characters, literals and classes agree with their prefix matchers.
 use Rattle.std.proofs.Common.{ℕ, true, List, [], ◌∷◌, refl, codes, lit<}
 use Rattle.peg_bytes.specs.Extent.{Extent, between}
-use Rattle.peg_ford.specs.Form.{Name, Class}
-use Rattle.peg_figure.specs.Figure.{ident_start_body, ident_cont_body, char_body, range_body, hexadecimal_class, number_body}
-use Rattle.peg_figure.specs.FigureRules as rule
+use Rattle.peg_semantics.specs.Form.{Name, Class}
+use Rattle.peg_metagrammar.specs.Figure.{ident_start_body, ident_cont_body, char_body, range_body, hexadecimal_class, number_body}
+use Rattle.peg_metagrammar.specs.FigureRules as rule
 use Rattle.peg_lexer.specs.Lexical.{begins_name, is_digit, in_name, identifier, is_sign, is_low_digit, is_hexadecimal, backslash, octal_digit, hexadecimal_digit, hexadecimal_digits, three_digits, two_digits, char, is_quote, quoted_char, quoted, literal, range, classed_range, class, digit, number, count}
 use Rattle.peg_lexer.specs.Pieces.{one_that, these, followed, unless}
-use Rattle.peg_figure.specs.Ranges as ranges
-use Rattle.peg_figure.specs.Ranges.{class_of}
-use Rattle.peg_figure.specs.Spelled.{Byte, Bytes, Numeral, decimal, is_octal, byte_spelled, range_spelled, bytes_in}
+use Rattle.peg_metagrammar.specs.Ranges as ranges
+use Rattle.peg_metagrammar.specs.Ranges.{class_of}
+use Rattle.peg_metagrammar.specs.Spelled.{Byte, Bytes, Numeral, decimal, is_octal, byte_spelled, range_spelled, bytes_in}
 use Rattle.peg_lexer.proofs.Classes.{has_range, has_name_start, has_hexadecimal, has_sign}
-use Rattle.peg_figure.proofs.FigureNames.{ident_start-meant, ident_cont-meant, char-meant, range-meant, number-meant}
+use Rattle.peg_metagrammar.proofs.FigureNames.{ident_start-meant, ident_cont-meant, char-meant, range-meant, number-meant}
 use Rattle.peg_lexer.proofs.PieceSizes.{Fits, HasBytes, is_long, fits-these, has-these, fits-one, has-one, fits-followed, has-first, has-next, fits-either, has-either, fits-unless, fits-maybe, fits-star, fits-noded, has-noded}
 use Rattle.peg_lexer.proofs.Takes.{Takes, IsLong, Nodes, takes-these, takes-class, takes-any, takes-then, takes-last, takes-seq, takes-only, takes-or, takes-choice, takes-not, takes-optional, takes-plus, takes-name, takes-node}
 

@@ -1,34 +1,34 @@
--- What the figure's rules with Spacing behind them say: a text, and how far the spacing behind it goes.
+-- The metagrammar's rules that end in Spacing: a text, and the end of the spacing after it.
 use Rattle.std.proofs.Common.{◌≡◌, ℕ, max, ◌+◌, Bool, true, false, ◌&&◌, ◌||◌, List, [], ◌++◌, drop, add_assoc, append-nil}
 use Rattle.std.proofs.Common.{Option, None, Some, option_map, option_and_then, if◌then◌else◌, ◌==◌, codes, refl, sym, ap, ◌∙◌, subst}
 use Rattle.std.proofs.lemmas.List.{drop-drop}
 use Rattle.peg_bytes.specs.Extent.{Extent}
 use Rattle.peg_tree.specs.Trees.{Trees, NoTrees, Tree, followed_by}
-use Rattle.peg_ford.specs.Form.{Form, Forms, Name, Seq, Choice, End, Then}
-use Rattle.peg_ford.specs.Record.{Failed, Matched}
-use Rattle.peg_ford.specs.Rules.{Meaning, meant}
-use Rattle.peg_ford.proofs.Derivations.{Derives, DerivesItems, DerivesFirst}
-use Rattle.peg_figure.specs.Figure.{figure}
-use Rattle.peg_figure.specs.FigureRules as rule
+use Rattle.peg_semantics.specs.Form.{Form, Forms, Name, Seq, Choice, End, Then}
+use Rattle.peg_semantics.specs.Record.{Failed, Matched}
+use Rattle.peg_semantics.specs.Rules.{Meaning, meant}
+use Rattle.peg_semantics.proofs.Derivations.{Derives, DerivesItems, DerivesFirst}
+use Rattle.peg_metagrammar.specs.Figure.{figure}
+use Rattle.peg_metagrammar.specs.FigureRules as rule
 use Rattle.peg_lexer.specs.Lexical.{spacing}
 use Rattle.peg_lexer.specs.Pieces.{Piece, Finding, both, followed, or_piece, either}
-use Rattle.peg_figure.specs.Spelled.{Spelling, text_end, node_spelled, spelled, bad_count, bad_counts}
-use Rattle.peg_figure.specs.Nesting.{nesting, has_open}
+use Rattle.peg_metagrammar.specs.Spelled.{Spelling, text_end, node_spelled, spelled, bad_count, bad_counts}
+use Rattle.peg_metagrammar.specs.Nesting.{nesting, has_open}
 use Rattle.peg_lexer.proofs.SpacingRules.{FindsSpacing, finds-spacing}
 use Rattle.peg_lexer.proofs.Takes.{Takes, SpellsAs, spelled-followed, text_end-followed, nesting-followed, bad_counts-followed}
 
--- where the spacing behind a text of so many bytes ends
+-- the end of the spacing after a text of `size` bytes
 abbrev pub behind_text : List ℕ → (p size : ℕ) → ℕ
 behind_text file p size = p + size + (spacing (drop (p + size) file)).length
 
--- trees that spell these pieces, and whose text ends at a place
+-- trees that denote these parts, with a text that ends at `last`
 pub record Spells (file : List ℕ) (trees : Trees) (pieces : List Spelling) (last : ℕ) : Type 0 where
   pub spells : (before : ℕ) → spelled file before trees ≡ pieces
   pub ends : (before : ℕ) → text_end before trees ≡ last
   pub flat : nesting trees ≡ 0
   pub fine : bad_counts file trees ≡ []
 
--- items whose last is Spacing
+-- items of which the last is Spacing
 pub record FindsItems (file : List ℕ) (items : Forms) (p : ℕ) (piece : Piece) : Type 0 where
   pub trees : Trees
   pub derives : DerivesItems figure file items p (Matched (behind_text file p piece.length) trees)
@@ -48,7 +48,7 @@ pub record TakesText (file : List ℕ) (e : Form) (find : Finding) : Type 0 wher
   pub none : (p : ℕ) → find (drop p file) ≡ None → Derives figure file e p Failed
   pub some : (p : ℕ) (piece : Piece) → find (drop p file) ≡ Some piece → FindsText file e p piece
 
--- spacing behind the last item
+-- spacing after the last item
 pub text-last : {file : List ℕ} {e : Form} {find : Finding} (span : Extent) → Takes file e find
     → TakesItems file (Then e (Then (Name (codes "Spacing") span) End)) find
 text-last {file} {e} {find} span a = record {
@@ -83,7 +83,7 @@ text-last {file} {e} {find} span a = record {
       };
 }
 
--- a text behind a piece
+-- a text after a match
 both_items : {file : List ℕ} {e : Form} {rest : Forms} {p : ℕ} (first next : Piece)
     → Rattle.peg_lexer.proofs.Takes.Finds file e p first → FindsItems file rest (p + first.length) next
     → FindsItems file (Then e rest) p (both first next)
@@ -197,7 +197,7 @@ or_false : (t : Bool) → (t || false) ≡ t
 or_false true = refl
 or_false false = refl
 
--- a token's rule at a place: its tree, where its text ends, and what it spells
+-- a token rule at an offset: its tree, the end of its text, and what it denotes
 pub record FindsToken (file : List ℕ) (number : ℕ) (used : List ℕ) (span : Extent) (p : ℕ)
     (piece : Piece) : Type 0 where
   pub trees : Trees

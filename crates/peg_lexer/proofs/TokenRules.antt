@@ -1,11 +1,11 @@
--- The figure's rules of tokens, as functions on the bytes at the front.
+-- The metagrammar's token rules agree with their prefix matchers.
 use Rattle.std.proofs.Common.{ℕ, List, refl, codes, lit<}
-use Rattle.peg_figure.specs.Figure.{identifier_body, literal_body, class_body, count_body}
-use Rattle.peg_figure.specs.FigureRules as rule
+use Rattle.peg_metagrammar.specs.Figure.{identifier_body, literal_body, class_body, count_body}
+use Rattle.peg_metagrammar.specs.FigureRules as rule
 use Rattle.peg_lexer.specs.Lexical.{identifier, literal, class, quoted, count, is_quote}
 use Rattle.peg_lexer.specs.Pieces.{these}
 use Rattle.peg_lexer.proofs.Classes.{has_one}
-use Rattle.peg_figure.proofs.FigureNames.{identifier-meant, literal-meant, class-meant, leftarrow-meant, slash-meant, and_sign-meant, not_sign-meant, question-meant, star-meant, plus-meant, count-meant, open_sign-meant, close-meant, dot-meant}
+use Rattle.peg_metagrammar.proofs.FigureNames.{identifier-meant, literal-meant, class-meant, leftarrow-meant, slash-meant, and_sign-meant, not_sign-meant, question-meant, star-meant, plus-meant, count-meant, open_sign-meant, close-meant, dot-meant}
 use Rattle.peg_lexer.proofs.Takes.{takes-these, takes-class, takes-then, takes-last, takes-seq, takes-not, takes-optional, takes-star}
 use Rattle.peg_lexer.proofs.TextRules.{takes-ident_start, takes-ident_cont, in_name-long, takes-char, quoted_char-long, takes-range, classed_range-long, takes-number}
 use Rattle.peg_lexer.proofs.Texts.{TakesToken, text-last, text-then, text-seq, text-either, takes-token}

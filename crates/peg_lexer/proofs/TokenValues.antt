@@ -1,4 +1,4 @@
--- What the texts of literals and classes spell, as loops go over them, and names as text.
+-- What the texts of literals and classes denote, as the code's loops compute it, and names as strings.
 use Rattle.std.proofs.Common.{◌≡◌, ℕ, zero, suc, ◌+◌, ◌-◌, ◌<◌, ◌≤◌, Bool, true, false, if◌then◌else◌, ◌==◌, ◌||◌, List, [], ◌∷◌, ◌++◌, length, take, drop, get_or, codes}
 use Rattle.std.proofs.Common.{Option, None, Some, option_map, option_and_then, is_some, IsTrue, nat_eq, refl, sym, ap, ◌∙◌, append_assoc, append-nil, subst, arith}
 use Rattle.std.proofs.lemmas.Bool.Decides.{nat_tests}
@@ -9,15 +9,15 @@ use Rattle.std.specs.Str.{IsUtf8}
 use Rattle.peg_lexer.specs.Lexical.{begins_name, is_digit, in_name, identifier, quoted_char, up_to_quote, quoted, literal, classed_range, class, is_quote}
 use Rattle.peg_lexer.specs.LexicalCode.{char_piece, item_piece, spells_of}
 use Rattle.peg_lexer.specs.Pieces.{Piece, Finding, these, one_that, followed, or_piece, star, many, many_behind, and_more, both, plain}
-use Rattle.peg_figure.specs.Ranges.{Range}
-use Rattle.peg_figure.specs.RangesCode.{range_of}
-use Rattle.peg_figure.specs.Spelled.{Spelling, bytes_in, ranges_in}
+use Rattle.peg_metagrammar.specs.Ranges.{Range}
+use Rattle.peg_metagrammar.specs.RangesCode.{range_of}
+use Rattle.peg_metagrammar.specs.Spelled.{Spelling, bytes_in, ranges_in}
 use Rattle.peg_lexer.specs.declared.text.Char.{Char}
 use Rattle.peg_lexer.specs.declared.text.Item.{Item}
 use Rattle.peg_lexer.proofs.PieceLemmas.{from, from-drop, length-from, many-none, many-some}
 use Rattle.peg_lexer.proofs.PieceSizes.{IsBlank, blank-one, blank-these, followed_parts}
 
--- how far a loop over pieces has come: what is spelled so far, and what the rest spells, are what all spells
+-- the progress of a loop over matches: the parts so far and the remaining parts are all parts
 pub record Spelled {X : Type 0} (pick : List Spelling → List X) (find : Finding) (rest : List ℕ) (at : ℕ) (so_far : List X) : Type 0 where
   pub within : at ≤ length rest
   pub same : pick (many find rest).spells ≡ so_far ++ pick (many find (drop at rest)).spells
@@ -25,7 +25,7 @@ pub record Spelled {X : Type 0} (pick : List Spelling → List X) (find : Findin
 pub spelled-none : {X : Type 0} (pick : List Spelling → List X) (find : Finding) (rest : List ℕ) → Spelled pick find rest 0 []
 spelled-none pick find rest = record { within = omega arith; same = refl }
 
--- where a piece of some bytes is next, it is the first of the rest
+-- if the next match is nonempty, it is the first of the remaining matches
 next-piece : (find : Finding) (rest : List ℕ) (at : ℕ) (piece : Piece) → find (from at rest) ≡ Some piece
     → 0 < piece.length → piece.length ≤ length (from at rest)
     → many find (drop at rest) ≡ both piece (many find (drop (at + piece.length) rest))
@@ -55,7 +55,7 @@ ranges-one find rest at item ranges s found long fits = record {
       ∙ sym (append_assoc ranges (range_of item.bytes ∷ []) (ranges_in (many find (drop (at + item.length) rest)).spells)));
 }
 
--- where no piece is next, all is spelled
+-- if no match comes next, all parts are found
 pub spelled-all : {X : Type 0} (pick : List Spelling → List X) → pick [] ≡ [] → (find : Finding) (rest : List ℕ) (at : ℕ) (so_far : List X)
     → Spelled pick find rest at so_far → None ≡ find (from at rest) → so_far ≡ pick (many find rest).spells
 spelled-all pick empty find rest at so_far s none =
@@ -64,7 +64,7 @@ spelled-all pick empty find rest at so_far s none =
 
 -- ---- whole literals and classes
 
--- a sign, pieces, and a sign spell what the pieces spell
+-- matches between two delimiters denote what the matches denote
 between_signs : (opening find closing : Finding) → IsBlank opening → IsBlank closing → (rest : List ℕ) (whole : Piece)
     → ((piece : Piece) → opening rest ≡ Some piece → piece.length ≡ 1)
     → followed opening (followed (star find) closing) rest ≡ Some whole → whole.spells ≡ (many find (drop 1 rest)).spells
@@ -83,7 +83,7 @@ between_signs opening find closing first last rest whole one found =
     some_is : {a b : Piece} → Some a ≡ Some b → a ≡ b
     some_is e = cc
 
--- a byte that passes a test is one
+-- a byte that passes a test is a match of one byte
 one_byte : (test : ℕ → Bool) (rest : List ℕ) (piece : Piece) → one_that test rest ≡ Some piece → piece.length ≡ 1
 one_byte test [] piece found = cc
 one_byte test (byte ∷ rest) piece found = by (test byte) found
@@ -102,7 +102,7 @@ quoted_spells quote rest whole found =
 same_byte : (a b : ℕ) → (a == b) ≡ true → a ≡ b
 same_byte a b is = grind (arith, nat_tests)
 
--- in quotes stands what begins with the quote
+-- a quoted text begins with the quote
 begins_quoted : (quote byte : ℕ) (inside : List ℕ) (whole : Piece) → quoted quote (byte ∷ inside) ≡ Some whole → byte ≡ quote
 unfolding quoted
 begins_quoted quote byte inside whole found = by (byte == quote) refl found
@@ -153,7 +153,7 @@ class-inside byte inside is = by (class (byte ∷ inside)) refl is
     by None found is = cc
     by (Some whole) found is = ap ranges_in (sym (class_spells (byte ∷ inside) whole found))
 
--- the same over bytes that code looks at
+-- the same for the bytes that the code reads
 pub no_literal : (rest : List ℕ) → length rest < 1 → IsTrue (is_some (literal rest)) → ⊥
 unfolding literal quoted
 no_literal [] short is = cc
@@ -186,7 +186,7 @@ small_before : (byte : ℕ) (bytes : List ℕ) → byte < 128 → ((i : ℕ) →
 small_before byte bytes here more zero = here
 small_before byte bytes here more (suc i) = more i
 
--- bytes that go on with a name are below 128
+-- bytes that continue a name are below 128
 name_bytes_small : (rest : List ℕ) (i : ℕ) → get_or (take (many in_name rest).length rest) i 0 < 128
 unfolding many_behind
 name_bytes_small [] i = omega arith
@@ -208,7 +208,7 @@ name_bytes_small (byte ∷ rest) i =
     by false true a b more = more (in_name_small byte (λ j. a j || b j))
     by false false a b more = omega arith
 
--- a name is text
+-- a name is valid UTF-8
 pub name-is_text : (rest : List ℕ) (piece : Piece) → identifier rest ≡ Some piece → IsUtf8 (take piece.length rest)
 unfolding identifier
 name-is_text [] piece found = cc

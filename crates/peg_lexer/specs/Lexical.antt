@@ -1,8 +1,8 @@
--- Describes code: the figure's rules below Primary as functions on the bytes at the front (Ford 2004, section 2.1).
+-- Describes code: the metagrammar's rules below Primary as prefix matchers (Ford 2004, section 2.1).
 use Rattle.std.specs.Prelude.{ℕ, Bool, true, ◌==◌, ◌&&◌, ◌||◌, nat_le, List, [], ◌∷◌, take, codes, Option, None, Some}
 use Rattle.std.specs.Prelude.{option_map, option_and_then, if◌then◌else◌}
 use Rattle.peg_lexer.specs.Pieces.{Piece, Finding, these, one_that, followed, either, unless, maybe, many, star}
-use Rattle.peg_figure.specs.Spelled.{Byte, Bytes, Numeral, decimal, is_octal, byte_spelled, range_spelled, bytes_in}
+use Rattle.peg_metagrammar.specs.Spelled.{Byte, Bytes, Numeral, decimal, is_octal, byte_spelled, range_spelled, bytes_in}
 use Rattle.peg_lexer.specs.declared.token.TokenKind.{TokenKind}
 use Rattle.peg_lexer.specs.declared.token.TokenKind.TheVariants.{Ident, Literal, Class, Arrow, Slash, And, Not}
 use Rattle.peg_lexer.specs.declared.token.TokenKind.TheVariants.{Question, Star, Plus, Count, Open, Close, Dot}
@@ -44,7 +44,7 @@ identifier = followed (one_that begins_name) (star in_name)
 
 -- ---- characters
 
--- whether a sign may stand behind a backslash
+-- whether a byte can be escaped by a backslash alone
 abbrev pub is_sign : ℕ → Bool
 is_sign byte =
     byte == 110 || (byte == 114 || (byte == 116 || (byte == 39 || (byte == 34 ||
@@ -53,7 +53,7 @@ is_sign byte =
 abbrev pub is_low_digit : ℕ → Bool
 is_low_digit byte = nat_le 48 byte && nat_le byte 50
 
--- whether a byte is a hexadecimal digit, in upper or lower case
+-- whether a byte is a hexadecimal digit, upper or lower case
 abbrev pub is_hexadecimal : ℕ → Bool
 is_hexadecimal byte =
     (nat_le 48 byte && nat_le byte 57) || ((nat_le 97 byte && nat_le byte 102) || (nat_le 65 byte && nat_le byte 70))
@@ -71,14 +71,14 @@ hexadecimal_digit = one_that is_hexadecimal
 abbrev pub hexadecimal_digits : Finding
 hexadecimal_digits = followed hexadecimal_digit hexadecimal_digit
 
--- three octal digits, the first at most 2; one or two
+-- three octal digits, the first at most 2; and one or two octal digits
 abbrev pub three_digits : Finding
 three_digits = followed (one_that is_low_digit) (followed octal_digit octal_digit)
 
 abbrev pub two_digits : Finding
 two_digits = followed octal_digit (maybe octal_digit)
 
--- what may stand behind a backslash
+-- the escape after a backslash
 abbrev pub escape : Finding
 escape =
     either (followed (these (codes "x")) hexadecimal_digits)
@@ -102,15 +102,15 @@ char rest =
 
 -- ---- literals
 
--- whether a byte is this quote
+-- whether a byte is the given quote
 abbrev pub is_quote : ℕ → ℕ → Bool
 is_quote quote byte = byte == quote
 
--- a character before the quote
+-- a character other than the quote
 abbrev pub quoted_char : ℕ → Finding
 quoted_char quote = followed (unless (one_that (is_quote quote))) char
 
--- characters and the quote behind them
+-- characters up to and including the closing quote
 abbrev pub up_to_quote : ℕ → Finding
 up_to_quote quote = followed (star (quoted_char quote)) (one_that (is_quote quote))
 
@@ -133,7 +133,7 @@ range rest =
       length = piece.length;
     }) (range_text rest)
 
--- a range before the bracket
+-- a range, if the closing bracket does not come next
 abbrev pub classed_range : Finding
 classed_range = followed (unless (these (codes "]"))) range
 
@@ -145,7 +145,7 @@ class = followed (these (codes "[")) (followed (star classed_range) (these (code
 abbrev pub digit : Finding
 digit = one_that is_digit
 
--- some digits
+-- one or more digits
 abbrev pub digits : Finding
 digits = followed digit (star digit)
 
@@ -161,7 +161,7 @@ number rest =
 abbrev pub second_number : Finding
 second_number = followed (these (codes ",")) number
 
--- what may stand behind the first number
+-- the rest of a count after its first number
 abbrev pub behind_number : Finding
 behind_number = followed (maybe second_number) (these (codes "}"))
 
@@ -170,7 +170,7 @@ count = followed (these (codes "{")) (followed number behind_number)
 
 -- ---- tokens
 
--- the text of a token, without the spacing behind it
+-- the text of a token, without the spacing after it
 abbrev pub text_of : TokenKind → Finding
 text_of Ident = identifier
 text_of Literal = literal
@@ -187,7 +187,7 @@ text_of Open = these (codes "(")
 text_of Close = these (codes ")")
 text_of Dot = these (codes ".")
 
--- the kind of token that may begin with a byte: at most one
+-- the only kind of token that can begin with a byte
 unfoldable pub kind_of : ℕ → Option TokenKind
 kind_of byte =
     if begins_name byte then Some Ident
@@ -206,16 +206,16 @@ kind_of byte =
     else (if byte == 46 then Some Dot
     else None)))))))))))))
 
--- a token's kind and its text
+-- the kind of a token, and its text
 pub record Found : Type 0 where
   pub kind : TokenKind
   pub text : Piece
 
--- the token of this kind at the front
+-- the token of a given kind at the start of the bytes
 abbrev pub token_of : TokenKind → List ℕ → Option Found
 token_of kind rest = option_map (λ text. record { kind = kind; text = text }) (text_of kind rest)
 
--- the token at the front
+-- the token at the start of the bytes
 abbrev pub token : List ℕ → Option Found
 token [] = None
 token (byte ∷ rest) = option_and_then (λ kind. token_of kind (byte ∷ rest)) (kind_of byte)

@@ -1,9 +1,9 @@
 pub use Rattle.peg_bytes.specs.ByteSet
 pub use Rattle.peg_bytes.specs.Extent
-pub use Rattle.peg_figure.specs.Notation
-pub use Rattle.peg_figure.specs.Ranges
-pub use Rattle.peg_figure.specs.RangesCode
-pub use Rattle.peg_figure.specs.Spelled
+pub use Rattle.peg_metagrammar.specs.Notation
+pub use Rattle.peg_metagrammar.specs.Ranges
+pub use Rattle.peg_metagrammar.specs.RangesCode
+pub use Rattle.peg_metagrammar.specs.Spelled
 pub use Rattle.peg_tree.specs.Trees
 pub mod Lexical
 pub mod LexicalCode

@@ -1,6 +1,6 @@
-//! The texts of counts: one or two numbers in braces.
+//! Counts: one or two numbers in braces.
 ghost use Rattle.std.specs.Prelude.{◌≡◌, ◌<◌, ◌≤◌, length, option_map, IfSome};
-ghost use Rattle.peg_figure.specs.Spelled.{decimal};
+ghost use Rattle.peg_metagrammar.specs.Spelled.{decimal};
 ghost use Rattle.peg_lexer.specs.Lexical.{digit, number, second_number, count};
 ghost use Rattle.peg_lexer.specs.LexicalCode.{told, number_seen, numbers_found, count_seen, count_found};
 ghost use Rattle.peg_lexer.specs.LexicalCode.{bounds_of, count_in_range};
@@ -8,21 +8,21 @@ ghost use Rattle.peg_lexer.specs.Pieces.{length_of, many};
 
 use crate::text::is_digit;
 
-/// The bounds of a count that is in range: at least and at most how often its expression is matched.
+/// The bounds of a count that is in range: the least and greatest number of repetitions.
 #[derive(Clone, Copy, Debug, PartialEq, Eq)]
 pub struct Bounds {
     pub min: u8,
     pub max: u8,
 }
 
-// A number at the front: its value, and how many bytes its text has.
+// A number: its value, saturated at `MUCH`, and the length of its text.
 #[derive(Clone, Copy, Debug)]
 struct NumberText {
     value: u16,
     length: usize,
 }
 
-// A count at the front: its numbers, and how many bytes its text has.
+// A count: its bounds, saturated at `MUCH`, and the length of its text.
 #[derive(Clone, Copy, Debug)]
 struct CountText {
     min: u16,
@@ -30,11 +30,11 @@ struct CountText {
     length: usize,
 }
 
-// What stands for every number that is greater: no such number is in range.
+// The value of every number over 255; none of them is in range.
 const MUCH: u16 = 256;
 
-/// The bounds that the count at the front spells, if they are in range: no more at least than at most, and from 1 to 255
-/// at most. Linear in its text, however long its numbers are.
+/// Returns the bounds of the count at the start of `rest`, if they are in range: `min` at most `max`, and `max` from 1
+/// to 255. Linear in the length of the count's text, with numbers of any length.
 pub fn count_bounds(rest: &[u8]) -> Option<Bounds>
     ensures { option_map bounds_of result ≡ count_in_range rest.now }
 {
@@ -49,7 +49,7 @@ pub fn count_bounds(rest: &[u8]) -> Option<Bounds>
     }
 }
 
-/// How many bytes the count at the front has. Linear in them.
+/// Returns the length of the count at the start of `rest`. Linear in that length.
 pub(crate) fn count(rest: &[u8]) -> Option<usize>
     ensures value { result ≡ length_of (count rest.now) }
     ensures some { IfSome result (λ n. 0 < n) }
@@ -59,7 +59,6 @@ pub(crate) fn count(rest: &[u8]) -> Option<usize>
     Some(count.length)
 }
 
-// The count at the front.
 fn count_at(rest: &[u8]) -> Option<CountText>
     ensures value { option_map count_seen result ≡ option_map count_found (count rest.now) }
     ensures some { IfSome result (λ count. 0 < count.length) }
@@ -84,7 +83,7 @@ fn count_at(rest: &[u8]) -> Option<CountText>
     })
 }
 
-// The comma at the front, and the number behind it.
+// A comma and the number after it.
 fn second_number(rest: &[u8]) -> Option<NumberText>
     ensures value { option_map number_seen result ≡ option_map numbers_found (second_number rest.now) }
     ensures fits { IfSome result (λ number. number.length ≤ length rest.now) }
@@ -99,7 +98,6 @@ fn second_number(rest: &[u8]) -> Option<NumberText>
     })
 }
 
-// The number at the front.
 fn number(rest: &[u8]) -> Option<NumberText>
     ensures value { option_map number_seen result ≡ option_map numbers_found (number rest.now) }
     ensures fits { IfSome result (λ number. number.length ≤ length rest.now) }
@@ -112,7 +110,7 @@ fn number(rest: &[u8]) -> Option<NumberText>
     Some(NumberText { value, length })
 }
 
-// How many digits stand at the front.
+// The number of digits at the start of `rest`.
 fn digits(rest: &[u8]) -> usize
     ensures value { result ≡ (many digit rest.now).length }
     ensures fits { result ≤ length rest.now }
@@ -124,7 +122,7 @@ fn digits(rest: &[u8]) -> usize
     at
 }
 
-// The digit at the front: how many bytes it has.
+// The length of one digit, which is 1.
 fn digit_at(rest: &[u8]) -> Option<usize>
     ensures value { result ≡ length_of (digit rest.now) }
     ensures some { IfSome result (λ n. 0 < n) }
@@ -136,7 +134,7 @@ fn digit_at(rest: &[u8]) -> Option<usize>
     }
 }
 
-// The number that digits spell; `MUCH` stands for every greater one.
+// The value of decimal digits, saturated at `MUCH`.
 fn value_of(digits: &[u8]) -> u16
     ensures value { result ≡ told (decimal digits.now) }
     ensures small { result ≤ 256 }

@@ -1,17 +1,17 @@
-//! Why a grammar file has no tokens.
+//! Why a grammar file could not be split into tokens.
 use std::alloc::{AllocError, AllocFailed};
 use thiserror::Error;
 
-/// Why a file has no tokens.
+/// Why a grammar file could not be split into tokens.
 #[derive(Clone, Copy, Debug, PartialEq, Eq, Error)]
 pub enum LexFault {
-    /// It has more than `MOST_FILE_BYTES` bytes.
+    /// The file has more than `MAX_FILE_BYTES` bytes.
     #[error("the grammar file is too long")]
     FileTooLong,
-    /// At this place, in bytes from 0, behind spacing, the file doesn't end and no token begins.
+    /// No token begins at byte offset `at`, after spacing, although the file continues there.
     #[error("no token begins at byte {at} of the grammar file")]
     Syntax { at: u32 },
-    /// Memory ran out.
+    /// An allocation failed.
     #[error("out of memory")]
     Memory,
 }

@@ -1,4 +1,4 @@
-//! The token at the front of what is left of a file.
+//! The token at the start of the remaining bytes of a file.
 ghost use Rattle.std.specs.Prelude.{◌≡◌, ◌<◌, ◌≤◌, length, IfSome};
 ghost use Rattle.peg_lexer.specs.Lexical.{kind_of, text_of};
 ghost use Rattle.peg_lexer.specs.LexicalCode.{seen_at_front, token_seen};
@@ -8,14 +8,14 @@ use crate::counts::count;
 use crate::text::{begins_name, class, identifier, literal};
 use crate::token::TokenKind;
 
-/// A token at the front: its kind, and how many bytes its text has.
+/// A token at the start of the remaining bytes: its kind, and the length of its text in bytes.
 #[derive(Clone, Copy, Debug)]
 pub(crate) struct Front {
     pub(crate) kind: TokenKind,
     pub(crate) length: usize,
 }
 
-/// The token at the front, if one is there. Linear in its text.
+/// Returns the token at the start of `rest`, if there is one. Linear in the length of its text.
 pub(crate) fn token(rest: &[u8]) -> Option<Front>
     ensures value { seen_at_front result ≡ token_seen rest.now }
     ensures some { IfSome result (λ front. 0 < front.length) }
@@ -29,7 +29,7 @@ pub(crate) fn token(rest: &[u8]) -> Option<Front>
     Some(Front { kind, length })
 }
 
-// The kind of token that may begin with a byte.
+// The kind of token that can begin with this byte.
 #[tactic(auto, unfolding(crate::specs::Lexical::kind_of))]
 fn kind_of(first: u8) -> Option<TokenKind>
     ensures { result ≡ kind_of first }
@@ -55,7 +55,7 @@ fn kind_of(first: u8) -> Option<TokenKind>
     }
 }
 
-// How many bytes the text of a token of this kind has at the front.
+// The length of the token of this kind at the start of `rest`.
 fn text_length(kind: TokenKind, rest: &[u8]) -> Option<usize>
     ensures value { result ≡ length_of (text_of kind rest.now) }
     ensures some { IfSome result (λ n. 0 < n) }
@@ -79,7 +79,7 @@ fn text_length(kind: TokenKind, rest: &[u8]) -> Option<usize>
     }
 }
 
-// How many bytes a sign has, where it stands at the front.
+// The length of an operator or bracket, if `rest` starts with it.
 fn sign(sign: &[u8], rest: &[u8]) -> Option<usize>
     requires { 0 < length sign.now }
     ensures value { result ≡ length_of (these sign.now rest.now) }

@@ -1,16 +1,16 @@
-//! Laws of the definitions. Each function does nothing; its contract is the law.
+//! Laws of the definitions. Each function does nothing; the contract of the function is the law.
 ghost use Rattle.std.specs.Prelude.{◌≡◌, ℕ, List};
-ghost use Rattle.peg_figure.specs.Notation.{most_file_bytes};
+ghost use Rattle.peg_metagrammar.specs.Notation.{max_file_bytes};
 ghost use Rattle.peg_lexer.specs.Tokens.{Lexeme, IsTokens, IsLexingFault};
 
-use crate::lexer::MOST_FILE_BYTES;
+use crate::lexer::MAX_FILE_BYTES;
 
-/// The most bytes that the code takes are those that the definitions name.
-pub fn files_have_a_most_of_bytes()
-    ensures { MOST_FILE_BYTES ≡ most_file_bytes }
+/// The code's limit on the length of a grammar file is the limit in the definitions.
+pub fn max_file_size_matches_spec()
+    ensures { MAX_FILE_BYTES ≡ max_file_bytes }
 {}
 
-/// A file has one list of tokens at most and one lexing fault at most, and not both.
+/// A file has at most one list of tokens and at most one lexing fault, and never both.
 pub fn a_file_has_tokens_or_one_fault()
     ensures tokens { (file : List ℕ) (first second : List Lexeme)
         → IsTokens file first → IsTokens file second → first ≡ second }

@@ -1,4 +1,4 @@
-//! Tokens of a file.
+//! The lexer.
 ghost use Rattle.peg_lexer.specs.Tokens.{Lexes};
 
 use crate::fault::LexFault;
@@ -8,15 +8,16 @@ use crate::token::Token;
 use peg_bytes::Span;
 use std::alloc::Global;
 
-/// The most bytes that a grammar file may have.
-pub const MOST_FILE_BYTES: usize = 1_048_576;
+/// The maximum length of a grammar file, in bytes.
+pub const MAX_FILE_BYTES: usize = 1_048_576;
 
-/// The tokens of a grammar file, in order (Ford 2004, section 2.1): `FileTooLong` for over `MOST_FILE_BYTES` bytes;
-/// `Syntax` at the first place where, behind spacing, the file doesn't end and no token begins; `Memory`. One pass.
+/// Splits a grammar file into tokens (Ford 2004, section 2.1), in one pass. Returns `FileTooLong` for a file over
+/// `MAX_FILE_BYTES`, and `Memory` if an allocation fails. Returns `Syntax` at the first offset after spacing where no
+/// token begins although the file continues.
 pub fn lex(alloc: Global, file: &[u8]) -> Result<Vec<Token>, LexFault>
     ensures { Lexes file.now result }
 {
-    if file.len() > MOST_FILE_BYTES {
+    if file.len() > MAX_FILE_BYTES {
         return Err(LexFault::FileTooLong);
     }
     let mut tokens = Vec::new(alloc);

@@ -1,4 +1,5 @@
-//! The tokens of a grammar file, as Ford's figure 1 says, and what names, literals, classes and counts spell.
+//! The lexer of grammar files: tokens, by the rules of the metagrammar, and the values of names, literals, classes and
+//! counts.
 #![tactic(auto)]
 
 mod counts;
@@ -13,6 +14,6 @@ mod values;
 
 pub use counts::{Bounds, count_bounds};
 pub use fault::LexFault;
-pub use lexer::{MOST_FILE_BYTES, lex};
+pub use lexer::{MAX_FILE_BYTES, lex};
 pub use token::{Token, TokenKind};
 pub use values::{class_bytes, literal_bytes, name_text};

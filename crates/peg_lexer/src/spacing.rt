@@ -3,7 +3,7 @@ ghost use Rattle.std.specs.Prelude.{◌≡◌, ◌<◌, ◌≤◌, length, IfSom
 ghost use Rattle.peg_lexer.specs.Lexical.{end_of_line, space, comment, in_comment, space_or_comment, spacing};
 ghost use Rattle.peg_lexer.specs.Pieces.{length_of, many};
 
-/// How many bytes of spacing stand at the front. Linear in them.
+/// Returns the length of the spacing at the start of `rest`. Linear in that length.
 #[tactic(auto, unfolding(crate::specs::Lexical::spacing))]
 pub(crate) fn spacing(rest: &[u8]) -> usize
     ensures value { result ≡ (spacing rest.now).length }
@@ -16,7 +16,7 @@ pub(crate) fn spacing(rest: &[u8]) -> usize
     at
 }
 
-// The blank, line end or comment at the front: how many bytes it has.
+// The length of a blank, line end or comment.
 fn space_or_comment(rest: &[u8]) -> Option<usize>
     ensures value { result ≡ length_of (space_or_comment rest.now) }
     ensures some { IfSome result (λ n. 0 < n) }
@@ -28,7 +28,7 @@ fn space_or_comment(rest: &[u8]) -> Option<usize>
     }
 }
 
-// The comment at the front: from `#` up to the next line end, which belongs to it.
+// The length of a comment: from `#` up to and including the next line end.
 #[tactic(auto, unfolding(crate::specs::Lexical::comment))]
 fn comment(rest: &[u8]) -> Option<usize>
     ensures value { result ≡ length_of (comment rest.now) }
@@ -44,7 +44,7 @@ fn comment(rest: &[u8]) -> Option<usize>
     Some(1 + length + end)
 }
 
-// How many bytes stand at the front before the next line end.
+// The number of bytes before the next line end.
 fn line_text(rest: &[u8]) -> usize
     ensures value { result ≡ (many in_comment rest.now).length }
     ensures fits { result ≤ length rest.now }
@@ -56,7 +56,7 @@ fn line_text(rest: &[u8]) -> usize
     at
 }
 
-// The byte at the front, unless a line ends there.
+// One byte, unless a line end or the end of the file comes next.
 fn byte_of_line(rest: &[u8]) -> Option<usize>
     ensures value { result ≡ length_of (in_comment rest.now) }
     ensures some { IfSome result (λ n. 0 < n) }
@@ -68,7 +68,7 @@ fn byte_of_line(rest: &[u8]) -> Option<usize>
     Some(1)
 }
 
-// The blank or line end at the front: how many bytes it has.
+// The length of a blank or line end.
 #[tactic(auto, unfolding(crate::specs::Lexical::space))]
 fn space(rest: &[u8]) -> Option<usize>
     ensures value { result ≡ length_of (space rest.now) }
@@ -84,7 +84,7 @@ fn space(rest: &[u8]) -> Option<usize>
     }
 }
 
-// The line end at the front: how many bytes it has.
+// The length of a line end: CR LF, LF or CR.
 #[tactic(auto, unfolding(crate::specs::Lexical::end_of_line))]
 fn end_of_line(rest: &[u8]) -> Option<usize>
     ensures value { result ≡ length_of (end_of_line rest.now) }

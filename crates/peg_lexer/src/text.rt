@@ -6,25 +6,25 @@ ghost use Rattle.peg_lexer.specs.Lexical.{backslash, char, is_quote, quoted_char
 ghost use Rattle.peg_lexer.specs.Lexical.{classed_range, class};
 ghost use Rattle.peg_lexer.specs.LexicalCode.{char_piece, item_piece, escaped_char};
 ghost use Rattle.peg_lexer.specs.Pieces.{length_of, one_that, followed, many};
-ghost use Rattle.peg_figure.specs.Spelled.{is_octal, hexadecimal_digit, escaped};
+ghost use Rattle.peg_metagrammar.specs.Spelled.{is_octal, hexadecimal_digit, escaped};
 
-use peg_figure::ByteRange;
+use peg_metagrammar::ByteRange;
 
-/// A character at the front: the byte that it spells, and how many bytes it has.
+/// A character: the byte that it denotes, and the length of its text.
 #[derive(Clone, Copy, Debug)]
 pub(crate) struct Char {
     pub(crate) byte: u8,
     pub(crate) length: usize,
 }
 
-/// A range at the front: its bytes, and how many bytes its text has.
+/// A range of a class: its bytes, and the length of its text.
 #[derive(Clone, Copy, Debug)]
 pub(crate) struct Item {
     pub(crate) bytes: ByteRange,
     pub(crate) length: usize,
 }
 
-/// How many bytes the name at the front has. Linear in them.
+/// Returns the length of the name at the start of `rest`. Linear in that length.
 #[tactic(auto, unfolding(crate::specs::Lexical::identifier))]
 pub(crate) fn identifier(rest: &[u8]) -> Option<usize>
     ensures value { result ≡ length_of (identifier rest.now) }
@@ -37,7 +37,7 @@ pub(crate) fn identifier(rest: &[u8]) -> Option<usize>
     }
 }
 
-// How many bytes at the front go on with a name.
+// The number of name bytes at the start of `rest`.
 fn name_tail(rest: &[u8]) -> usize
     ensures value { result ≡ (many in_name rest.now).length }
     ensures fits { result ≤ length rest.now }
@@ -49,7 +49,7 @@ fn name_tail(rest: &[u8]) -> usize
     at
 }
 
-// The byte at the front, if it may stand in a name.
+// One byte, if it can continue a name.
 fn byte_of_name(rest: &[u8]) -> Option<usize>
     ensures value { result ≡ length_of (in_name rest.now) }
     ensures some { IfSome result (λ n. 0 < n) }
@@ -61,21 +61,20 @@ fn byte_of_name(rest: &[u8]) -> Option<usize>
     }
 }
 
-// Whether a byte may begin a name.
+// Whether a name can begin with the byte.
 pub(crate) fn begins_name(byte: u8) -> bool
     ensures { result ≡ begins_name byte }
 {
     matches!(byte, b'a'..=b'z' | b'A'..=b'Z' | b'_')
 }
 
-// Whether a byte is a decimal digit.
 pub(crate) fn is_digit(byte: u8) -> bool
     ensures { result ≡ is_digit byte }
 {
     matches!(byte, b'0'..=b'9')
 }
 
-/// How many bytes the literal at the front has, its quotes included. Linear in them.
+/// Returns the length of the literal at the start of `rest`, including its quotes. Linear in that length.
 #[tactic(auto, unfolding(crate::specs::Lexical::literal))]
 pub(crate) fn literal(rest: &[u8]) -> Option<usize>
     ensures value { result ≡ length_of (literal rest.now) }
@@ -88,7 +87,7 @@ pub(crate) fn literal(rest: &[u8]) -> Option<usize>
     }
 }
 
-// The literal in these quotes at the front.
+// The length of a literal in the given quotes.
 #[tactic(auto, unfolding(crate::specs::Lexical::quoted))]
 fn quoted(quote: u8, rest: &[u8]) -> Option<usize>
     ensures value { result ≡ length_of (quoted quote rest.now) }
@@ -100,7 +99,7 @@ fn quoted(quote: u8, rest: &[u8]) -> Option<usize>
     Some(open + inside)
 }
 
-// The characters at the front and the quote behind them.
+// The length of the characters up to and including the closing quote.
 fn up_to_quote(quote: u8, rest: &[u8]) -> Option<usize>
     ensures value { result ≡ length_of (up_to_quote quote rest.now) }
     ensures some { IfSome result (λ n. 0 < n) }
@@ -111,7 +110,7 @@ fn up_to_quote(quote: u8, rest: &[u8]) -> Option<usize>
     Some(length + close)
 }
 
-// This byte at the front.
+// One given byte.
 fn byte_at_front(byte: u8, rest: &[u8]) -> Option<usize>
     ensures value { result ≡ length_of (one_that (is_quote byte) rest.now) }
     ensures some { IfSome result (λ n. 0 < n) }
@@ -123,7 +122,7 @@ fn byte_at_front(byte: u8, rest: &[u8]) -> Option<usize>
     }
 }
 
-// How many bytes the characters at the front have, up to the quote or to what is no character.
+// The length of the characters up to the quote, or up to an invalid character.
 fn chars_before(quote: u8, rest: &[u8]) -> usize
     ensures value { result ≡ (many (quoted_char quote) rest.now).length }
     ensures fits { result ≤ length rest.now }
@@ -135,7 +134,7 @@ fn chars_before(quote: u8, rest: &[u8]) -> usize
     at
 }
 
-/// The character at the front, unless the quote stands there.
+/// Returns the character at the start of `rest`, unless it is the quote.
 pub(crate) fn quoted_char(quote: u8, rest: &[u8]) -> Option<Char>
     ensures value { option_map char_piece result ≡ quoted_char quote rest.now }
     ensures some { IfSome result (λ char. 0 < char.length) }
@@ -147,7 +146,7 @@ pub(crate) fn quoted_char(quote: u8, rest: &[u8]) -> Option<Char>
     }
 }
 
-/// How many bytes the class at the front has, its brackets included. Linear in them.
+/// Returns the length of the class at the start of `rest`, including its brackets. Linear in that length.
 #[tactic(auto, unfolding(crate::specs::Lexical::class))]
 pub(crate) fn class(rest: &[u8]) -> Option<usize>
     ensures value { result ≡ length_of (class rest.now) }
@@ -165,7 +164,7 @@ pub(crate) fn class(rest: &[u8]) -> Option<usize>
     Some(length + 2)
 }
 
-// How many bytes the ranges at the front have, up to the bracket or to what is no range.
+// The length of the ranges up to the bracket, or up to an invalid range.
 fn ranges_before_bracket(rest: &[u8]) -> usize
     ensures value { result ≡ (many classed_range rest.now).length }
     ensures fits { result ≤ length rest.now }
@@ -177,7 +176,7 @@ fn ranges_before_bracket(rest: &[u8]) -> usize
     at
 }
 
-/// The range at the front, unless the bracket stands there.
+/// Returns the range at the start of `rest`, unless the closing bracket comes next.
 pub(crate) fn classed_range(rest: &[u8]) -> Option<Item>
     ensures value { option_map item_piece result ≡ classed_range rest.now }
     ensures some { IfSome result (λ item. 0 < item.length) }
@@ -189,7 +188,7 @@ pub(crate) fn classed_range(rest: &[u8]) -> Option<Item>
     range_at(rest)
 }
 
-// The range at the front: two characters with a dash between them, or one.
+// A range: two characters separated by a dash, or one character.
 #[tactic(auto, unfolding(crate::specs::Lexical::range))]
 fn range_at(rest: &[u8]) -> Option<Item>
     ensures value { option_map item_piece result ≡ range rest.now }
@@ -220,7 +219,7 @@ fn range_at(rest: &[u8]) -> Option<Item>
     }
 }
 
-// The character at the front: a byte alone, or a backslash with a sign or with hexadecimal or octal digits.
+// A character: a single byte, or a backslash and an escape.
 #[tactic(auto, unfolding(crate::specs::Lexical::char))]
 fn char_at(rest: &[u8]) -> Option<Char>
     ensures value { option_map char_piece result ≡ char rest.now }
@@ -237,8 +236,8 @@ fn char_at(rest: &[u8]) -> Option<Char>
     }
 }
 
-// What stands behind a backslash: an x and two hexadecimal digits, a sign, or one to three octal digits, three only
-// where the first is at most 2.
+// The escape after a backslash. It is x and two hexadecimal digits, an escape letter, or one to three octal digits.
+// Three octal digits are read only if the first is at most 2.
 fn escape(rest: &[u8]) -> Option<Char>
     ensures value { option_map char_piece result ≡ escaped_char rest.now }
     ensures some { IfSome result (λ char. 0 < char.length) }
@@ -270,7 +269,6 @@ fn escape(rest: &[u8]) -> Option<Char>
     }
 }
 
-// The value of a hexadecimal digit.
 fn hexadecimal_digit(digit: u8) -> u8
     requires { IsTrue (is_hexadecimal digit) }
     ensures value { result ≡ hexadecimal_digit digit }
@@ -283,7 +281,7 @@ fn hexadecimal_digit(digit: u8) -> u8
     }
 }
 
-// The byte that a sign behind a backslash spells.
+// The byte that an escape letter denotes.
 fn escaped(sign: u8) -> u8
     ensures { result ≡ escaped sign }
 {
@@ -295,7 +293,7 @@ fn escaped(sign: u8) -> u8
     }
 }
 
-// Whether a byte may stand behind a backslash by itself.
+// Whether the byte is an escape letter or another byte that can be escaped by a backslash alone.
 fn is_sign(byte: u8) -> bool
     ensures { result ≡ is_sign byte }
 {
@@ -305,21 +303,20 @@ fn is_sign(byte: u8) -> bool
     )
 }
 
-// Whether a byte may be the first of three octal digits.
+// Whether the byte can be the first of three octal digits.
 fn is_low_digit(byte: u8) -> bool
     ensures { result ≡ is_low_digit byte }
 {
     matches!(byte, b'0'..=b'2')
 }
 
-// Whether a byte is an octal digit.
 fn is_octal(byte: u8) -> bool
     ensures { result ≡ is_octal byte }
 {
     matches!(byte, b'0'..=b'7')
 }
 
-// Whether a byte is a hexadecimal digit, in upper or lower case.
+// Whether the byte is a hexadecimal digit, upper or lower case.
 fn is_hexadecimal(byte: u8) -> bool
     ensures { result ≡ is_hexadecimal byte }
 {

@@ -6,9 +6,9 @@ use peg_bytes::Span;
 pub enum TokenKind {
     /// A name.
     Ident,
-    /// Bytes in quotes.
+    /// A literal: characters in quotes.
     Literal,
-    /// Ranges of bytes in brackets.
+    /// A class: byte ranges in brackets.
     Class,
     /// `<-`
     Arrow,
@@ -24,7 +24,7 @@ pub enum TokenKind {
     Star,
     /// `+`
     Plus,
-    /// A number, or two with a comma between them, in braces.
+    /// A count: one number, or two separated by a comma, in braces.
     Count,
     /// `(`
     Open,
@@ -34,7 +34,7 @@ pub enum TokenKind {
     Dot,
 }
 
-/// A token, and where its text stands in the file, without the spacing behind it.
+/// A token: its kind, and the span of its text in the file, without the spacing after it.
 #[derive(Clone, Copy, Debug, PartialEq, Eq)]
 pub struct Token {
     pub kind: TokenKind,

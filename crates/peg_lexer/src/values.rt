@@ -1,20 +1,20 @@
-//! What the texts of tokens spell (Ford 2004, section 2.1).
+//! The values that the texts of tokens denote (Ford 2004, section 2.1).
 ghost use Rattle.std.specs.Prelude.{◌≡◌, IsTrue, is_some, IfOk, map, string_bytes};
 ghost use Rattle.std.specs.Str.{IsUtf8};
 ghost use Rattle.peg_bytes.specs.ByteSet.{bytes_of};
 ghost use Rattle.peg_lexer.specs.Lexical.{literal, class, quoted_char, classed_range};
 ghost use Rattle.peg_lexer.specs.LexicalCode.{spells_of};
 ghost use Rattle.peg_lexer.specs.Pieces.{many};
-ghost use Rattle.peg_figure.specs.Ranges.{class_of};
-ghost use Rattle.peg_figure.specs.RangesCode.{range_of};
-ghost use Rattle.peg_figure.specs.Spelled.{bytes_in, ranges_in};
+ghost use Rattle.peg_metagrammar.specs.Ranges.{class_of};
+ghost use Rattle.peg_metagrammar.specs.RangesCode.{range_of};
+ghost use Rattle.peg_metagrammar.specs.Spelled.{bytes_in, ranges_in};
 
 use crate::text::{classed_range, quoted_char};
 use peg_bytes::ByteSet;
-use peg_figure::{ByteRange, class_set};
+use peg_metagrammar::{ByteRange, class_set};
 use std::alloc::{AllocError, Global};
 
-/// The text of a name.
+/// Returns the text of a name as a string.
 pub fn name_text(alloc: Global, name: &[u8]) -> Result<String, AllocError>
     requires { IsUtf8 name.now }
     ensures { IfOk result (λ text. string_bytes text ≡ name.now) }
@@ -23,7 +23,7 @@ pub fn name_text(alloc: Global, name: &[u8]) -> Result<String, AllocError>
     String::from_str(alloc, text)
 }
 
-/// The bytes that the literal at the front spells. Linear in its text.
+/// Returns the bytes that the literal at the start of `rest` denotes. Linear in the length of the literal's text.
 pub fn literal_bytes(alloc: Global, rest: &[u8]) -> Result<Vec<u8>, AllocError>
     requires { IsTrue (is_some (literal rest.now)) }
     ensures { IfOk result (λ bytes. bytes.items ≡ bytes_in (spells_of (literal rest.now))) }
@@ -34,7 +34,7 @@ pub fn literal_bytes(alloc: Global, rest: &[u8]) -> Result<Vec<u8>, AllocError>
     }
 }
 
-// The bytes that the characters at the front spell, up to the quote.
+// The bytes denoted by the characters before the closing quote.
 fn bytes_before(alloc: Global, quote: u8, rest: &[u8]) -> Result<Vec<u8>, AllocError>
     ensures { IfOk result (λ bytes. bytes.items ≡ bytes_in (many (quoted_char quote) rest.now).spells) }
 {
@@ -47,7 +47,7 @@ fn bytes_before(alloc: Global, quote: u8, rest: &[u8]) -> Result<Vec<u8>, AllocE
     Ok(bytes)
 }
 
-/// The set of the bytes that the class at the front spells. Linear in its text.
+/// Returns the set that the class at the start of `rest` denotes. Linear in the length of the class's text.
 pub fn class_bytes(alloc: Global, rest: &[u8]) -> Result<ByteSet, AllocError>
     requires { IsTrue (is_some (class rest.now)) }
     ensures { IfOk result (λ set. bytes_of set ≡ class_of (ranges_in (spells_of (class rest.now)))) }
@@ -61,7 +61,7 @@ pub fn class_bytes(alloc: Global, rest: &[u8]) -> Result<ByteSet, AllocError>
     }
 }
 
-// The ranges at the front, up to the bracket.
+// The ranges before the closing bracket.
 fn ranges_before(alloc: Global, rest: &[u8]) -> Result<Vec<ByteRange>, AllocError>
     ensures { IfOk result (λ ranges. map range_of ranges.items ≡ ranges_in (many classed_range rest.now).spells) }
 {

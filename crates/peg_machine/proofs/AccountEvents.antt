@@ -1,10 +1,10 @@
--- What each instruction, and failing, makes of the accounts of a run.
+-- The effect of each instruction, and of backtracking, on the accounts of a run.
 use Rattle.std.proofs.Common.{◌≡◌, ◌⊎◌, ℕ, ◌+◌, List, [], ◌∷◌, Contains, Some, length, drop, slice_get, sym, ◌∙◌, ap}
 use Rattle.std.proofs.Common.{subst}
 use Rattle.peg_bytes.specs.ByteSet.{Bytes, has}
 use Rattle.peg_tree.specs.Rows.{Row}
-use Rattle.peg_ford.specs.Record.{Record, Use, matched_at, failed_at, test_of, byte_at}
-use Rattle.peg_ford.specs.Record as ford
+use Rattle.peg_semantics.specs.Record.{Record, Use, matched_at, failed_at, test_of, byte_at}
+use Rattle.peg_semantics.specs.Record as ford
 use Rattle.peg_code.specs.Instructions.{Test, Ret, Choice, Commit, FailTwice}
 use Rattle.peg_machine.specs.Accounts.{counting, Account, ReturnsToCaller, FailsItsCaller}
 use Rattle.peg_machine.specs.Local.{Way, way_to}
@@ -116,7 +116,7 @@ module _ (job : Job) (start : Use) (answer : Record) (tests : List ford.Test) (s
 
 module _ (job : Job) (start : Use) (answer : Record) (tests : List ford.Test) (shown : List Use) (steps saved : ℕ)
     (active caller : Active) (below : List Active) where
-  -- rows closed by their children are those closed where they stand
+  -- nodes closed with their children are the list with the node closed in place
   closed_rows : (rows : List Row) (place : ℕ) (counted : Counted) (to_come : ℕ)
       (back : HasReturned (counting counted job) start answer tests shown to_come place rows active caller below)
       → closed active.frame.before active.frame.pair place back.children

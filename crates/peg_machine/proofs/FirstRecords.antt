@@ -1,13 +1,13 @@
--- Each form that has a record has a first one.
+-- Each form that has a record has a least depth with one.
 use Rattle.std.proofs.Common.{◌≡◌, ℕ, zero, suc, ◌+◌, ◌-◌, ◌≤◌, List, Option, None, Some, refl, ◌∙◌, ap, subst, arith}
-use Rattle.peg_ford.specs.Record.{Record}
+use Rattle.peg_semantics.specs.Record.{Record}
 use Rattle.peg_core.specs.CoreForm.{CoreForm}
 use Rattle.peg_core.specs.CoreRecord.{core_record_in}
 use Rattle.peg_core.proofs.CoreRounds.{core_record_in-more, core_record_in-later}
 use Rattle.peg_machine.specs.Running.{IsFirstRecord}
 
 module _ (bodies : List CoreForm) (text : List ℕ) (form : CoreForm) (place : ℕ) where
-  -- a record in fewer is one in more
+  -- a record at a depth is one at greater depths
   pub record_later : (fewer n : ℕ) (r : Record) → fewer ≤ n → core_record_in bodies text fewer form place ≡ Some r
       → core_record_in bodies text n form place ≡ Some r
   record_later fewer n r least is =
@@ -15,7 +15,7 @@ module _ (bodies : List CoreForm) (text : List ℕ) (form : CoreForm) (place : �
       subst (λ (k : ℕ). core_record_in bodies text k form place ≡ Some r) same
       (core_record_in-later bodies text (n - fewer) fewer form place r is)
 
-  -- where there is none in n, there is none in fewer
+  -- if there is none at depth n, there is none at a lower depth
   none_earlier : (fewer n : ℕ) → fewer ≤ n → core_record_in bodies text n form place ≡ None
       → core_record_in bodies text fewer form place ≡ None
   none_earlier fewer n least none = by (core_record_in bodies text fewer form place) refl

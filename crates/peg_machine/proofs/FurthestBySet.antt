@@ -1,23 +1,23 @@
--- The furthest failure goes by which tests failed alone, not by their order or how often.
+-- The furthest failure depends only on the set of failed tests, not on their order or number.
 use Rattle.std.proofs.Common.{◌≡◌, ◌↔◌, ℕ, zero, suc, ◌<◌, ◌≤◌, List, [], ◌∷◌, Contains, length, get_or, refl, subst}
 use Rattle.std.proofs.Common.{arith}
-use Rattle.peg_ford.specs.Furthest.{IsFurthest}
-use Rattle.peg_ford.specs.Record.{Test}
+use Rattle.peg_semantics.specs.Furthest.{IsFurthest}
+use Rattle.peg_semantics.specs.Record.{Test}
 use Rattle.peg_machine.proofs.NotedLemmas.{not_in_none}
 
--- a list with no element is empty
+-- a list without elements is empty
 empty_list : (tests : List Test) → ((test : Test) → Contains tests test → ⊥) → tests ≡ []
 empty_list [] none = refl
 empty_list (test ∷ tests) none = let some : 0 < length (test ∷ tests) = omega arith in absurd (none test (0, some, refl))
 
--- within a list no default is read
+-- within a list the default is not read
 nearest : (tests : List Test) (k : ℕ) (one other : Test) → k < length tests → get_or tests k one ≡ get_or tests k other
 nearest [] k one other within = absurd (omega arith)
 nearest (test ∷ tests) zero one other within = refl
 nearest (test ∷ tests) (suc k) one other within =
     let less : k < length tests = omega arith in nearest tests k one other less
 
--- tests that are the same as a set have the same furthest failure
+-- lists with the same set of tests have the same furthest failure
 pub same_furthest : (tests others : List Test) (far : ℕ) (expected : List ℕ)
     → ((test : Test) → (Contains tests test ↔ Contains others test)) → IsFurthest tests far expected
     → IsFurthest others far expected

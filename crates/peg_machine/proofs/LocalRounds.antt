@@ -1,15 +1,15 @@
--- What comes of a body in n rounds comes of it in n + 1.
+-- The result of a body in n rounds is its result in n + 1 rounds.
 use Rattle.std.proofs.Common.{ℕ, zero, suc, ◌+◌, List, [], ◌∷◌, ◌++◌, Option, None, Some, slice_get, drop, zero-add}
 use Rattle.std.proofs.Common.{suc-add}
 use Rattle.peg_bytes.specs.ByteSet.{has}
 use Rattle.peg_tree.specs.Rows.{Row, rows_of}
-use Rattle.peg_ford.specs.Record.{Recognition, Failed, Matched, Record, byte_at}
-use Rattle.peg_ford.proofs.RecordLemmas.{Extends, Extends-refl, Extends-none, Extends-map, Extends-and_then}
+use Rattle.peg_semantics.specs.Record.{Recognition, Failed, Matched, Record, byte_at}
+use Rattle.peg_semantics.proofs.RecordLemmas.{Extends, Extends-refl, Extends-none, Extends-map, Extends-and_then}
 use Rattle.peg_code.specs.Instructions.{Instruction, Test, Call, Ret, Choice, Commit, FailTwice, End}
 use Rattle.peg_machine.specs.Local.{Setting, Way, way_to, Work, only_steps, work_of, both, Finish, finished, GaveUp}
 use Rattle.peg_machine.specs.Local.{Returned, working, Next, fall_back, goes_on, answered, step_of, local}
 
--- where more comes of it later, more comes of it with the work before
+-- a result that extends another one does so with work added before both
 Extends-working : (work : Work) (later more : Option Finish) → Extends later more
     → Extends (working work later) (working work more)
 Extends-working work later more h =
@@ -58,7 +58,7 @@ module _ (setting : Setting) (next more : Next)
       Extends-working (only_steps 1) (fall_back next ways) (fall_back more ways) (Extends-fall_back ways)
   Extends-step_of (Some End) pc place rows ways = Extends-none None
 
--- what comes of a body in n rounds comes of it in n + 1
+-- the result of a body in n rounds is its result in n + 1 rounds
 pub local-more : (setting : Setting) (n pc place : ℕ) (rows : List Row) (ways : List Way)
     → Extends (local setting n pc place rows ways) (local setting (suc n) pc place rows ways)
 unfolding local
@@ -67,7 +67,7 @@ local-more setting (suc n) pc place rows ways =
     Extends-step_of setting (local setting n) (local setting (suc n)) (local-more setting n) (slice_get setting.code pc)
     pc place rows ways
 
--- and in each greater number
+-- and in each greater number of rounds
 pub local-later : (setting : Setting) (more n pc place : ℕ) (rows : List Row) (ways : List Way)
     → Extends (local setting n pc place rows ways) (local setting (more + n) pc place rows ways)
 local-later setting zero n pc place rows ways finish h = rw zero-add h

@@ -1,7 +1,7 @@
--- Each event keeps that the pairs shown are held or under way, so a use that begins was never shown.
+-- Each event preserves that the pairs traced have a memo entry or are active, so a new call was never traced.
 use Rattle.std.proofs.Common.{◌≡◌, ◌≢◌, ◌⊎◌, inl, inr, ℕ, List, [], ◌∷◌, ◌++◌, All, Contains, subst}
 use Rattle.std.proofs.lemmas.List.Elements.{All-head, All-tail, Contains-append_cases}
-use Rattle.peg_ford.specs.Record.{Record, Test, Use}
+use Rattle.peg_semantics.specs.Record.{Record, Test, Use}
 use Rattle.peg_memo.specs.Held.{Held}
 use Rattle.peg_machine.specs.Local.{Way}
 use Rattle.peg_machine.specs.Packrat.{IsOnStack, IsHeld, AreHeldOrUnderWay}
@@ -10,7 +10,7 @@ use Rattle.peg_machine.specs.Underway.{Active, Doing, Underway}
 use Rattle.peg_machine.proofs.AccountLemmas.{one_pair_on}
 use Rattle.peg_machine.proofs.NotedLemmas.{head_or_tail, not_in_none}
 
--- no use below the newest is of its pair
+-- no call below the newest has its pair
 not_on_stack : (pair : Use) (below : List Active) → All (λ (other : Active). other.frame.pair ≢ pair) below
     → IsOnStack below pair → ⊥
 not_on_stack pair [] others on = on
@@ -19,7 +19,7 @@ not_on_stack pair (active ∷ below) others (inl same) =
 not_on_stack pair (active ∷ below) others (inr on) =
     not_on_stack pair below (All-tail (λ (other : Active). other.frame.pair ≢ pair) active below others) on
 
--- A use that begins, and is not held, was never shown.
+-- A new call without a memo entry was never traced.
 pub never_shown : (held : Held) (job : Job) (start : Use) (answer : Record) (tests : List Test) (uses : List Use)
     (to_come : ℕ) (doing : Doing) (active : Active) (below : List Active) (shown : List Use)
     → Underway job start answer tests uses to_come doing (active ∷ below) → AreHeldOrUnderWay held shown below
@@ -31,7 +31,7 @@ never_shown held job start answer tests uses to_come doing active below shown un
           (one_pair_on job start answer tests uses to_come doing active below underway) on
     ]
 
--- it is shown, and under way
+-- a new call is traced and active
 pub begins_held : (held : Held) (shown : List Use) (active : Active) (below : List Active)
     → AreHeldOrUnderWay held shown below → AreHeldOrUnderWay held (shown ++ active.frame.pair ∷ []) (active ∷ below)
 begins_held held shown active below are pair has =
@@ -50,7 +50,7 @@ begins_held held shown active below are pair has =
     by (inl has) = before (are pair has)
     by (inr here) = inr (inl (last (head_or_tail active.frame.pair [] pair here)))
 
--- where its use ends, it is held
+-- a call that has ended has a memo entry
 pub ends_held : (held more_held : Held) (shown : List Use) (active : Active) (below : List Active)
     → ((pair : Use) → IsHeld held pair → IsHeld more_held pair) → IsHeld more_held active.frame.pair
     → AreHeldOrUnderWay held shown (active ∷ below) → AreHeldOrUnderWay more_held shown below
@@ -61,7 +61,7 @@ ends_held held more_held shown active below keeps is are pair has = by (are pair
     by (inr (inl same)) = inl (subst (λ (p : Use). IsHeld more_held p) same is)
     by (inr (inr on)) = inr on
 
--- and ways back do not matter
+-- choice points don't matter
 pub ways_held : (held : Held) (shown : List Use) (active : Active) (ways : List Way) (below : List Active)
     → AreHeldOrUnderWay held shown (active ∷ below)
     → AreHeldOrUnderWay held shown (record active { ways = ways } ∷ below)

@@ -1,11 +1,11 @@
--- The machine does what the record of a form says: from rules for each form, by the rounds of the record.
+-- The machine computes the record of a form, by rules for each form and induction on the depth of the record.
 use Rattle.std.proofs.Common.{◌≡◌, ℕ, zero, suc, ◌+◌, List, Option, None, Some, option_map, option_and_then, drop}
 use Rattle.std.proofs.Common.{slice_get, refl, sym, ◌∙◌, ap, subst, arith, append-nil}
 use Rattle.peg_bytes.specs.ByteSet.{has}
 use Rattle.peg_tree.specs.Trees.{NoTrees}
-use Rattle.peg_ford.specs.Record.{Recognition, Failed, Matched, Record, matched_at, after_both, byte_at, behind}
-use Rattle.peg_ford.specs.Record.{with_result, if_failed, followed, then_at, replaced, or_else, repeated}
-use Rattle.peg_ford.proofs.RecordLemmas.{Extends}
+use Rattle.peg_semantics.specs.Record.{Recognition, Failed, Matched, Record, matched_at, after_both, byte_at, behind}
+use Rattle.peg_semantics.specs.Record.{with_result, if_failed, followed, then_at, replaced, or_else, repeated}
+use Rattle.peg_semantics.proofs.RecordLemmas.{Extends}
 use Rattle.peg_core.specs.CoreForm.{CoreForm, Empty, Test, Rule, Seq, Choice, Star, Not}
 use Rattle.peg_core.specs.CoreRecord.{CoreTaking, core_table, core_record_in}
 use Rattle.peg_code.specs.Code.{size}
@@ -20,9 +20,9 @@ use Rattle.peg_machine.proofs.StepsOfRecords.{mapped}
 use Rattle.peg_machine.proofs.RunRules.{nothing_runs, test_runs, call_runs, failing_runs, runs_then, falls_back}
 use Rattle.peg_machine.proofs.RunRules.{commits, fails_twice, body_gives_up, body_returns}
 
--- ---- what there is where something comes of it
+-- ---- parts that have a result
 
--- the steps of a part that has some, and of what comes next
+-- the steps of a part, and of what comes next
 pub counted_parts : (r : Record) (steps : Option ℕ) (next : Recognition → Option ℕ) (n : ℕ)
     → steps_of_part (Some r) steps next ≡ Some n
     → (k : ℕ) × (m : ℕ) × (steps ≡ Some k) × (next r.result ≡ Some m) × (k + m ≡ n)
@@ -31,12 +31,12 @@ counted_parts r (Some k) next n is =
     let rest = mapped (λ (m : ℕ). k + m) (next r.result) n is in (k, rest.0, refl, rest.1, rest.2)
 
 module _ (setting : Setting) where
-  -- The machine runs as what was tried says, in the steps that were counted, where there are both.
+  -- The machine runs as the record of an attempt says, in its steps, if there are both.
   abbrev pub RunsAs : (from to place : ℕ) → Option Record → Option ℕ → Type 0
   RunsAs from to place tried count =
       (r : Record) (steps : ℕ) → tried ≡ Some r → count ≡ Some steps → Runs setting from to place r steps
 
-  -- the same record, steps and end by other names
+  -- equal records and steps describe the same run
   same_runs : {from to place steps other_steps : ℕ} {r other : Record} → r ≡ other → steps ≡ other_steps
       → Runs setting from to place r steps → Runs setting from to place other other_steps
   same_runs {from} {to} {place} {steps} {other_steps} {r} {other} same_record same_steps runs =
@@ -70,11 +70,11 @@ module _ (setting : Setting) where
           let more = mapped (λ (more : Record). after_both part more (behind trees more.result)) (next end) r is in
           same_runs more.2 all (runs_then setting part_runs matched (rest end more.0 m more.1 more_counted))
 
-  -- ---- a part for which a way back is left
+  -- ---- a part with a choice point
 
   module _ (pc middle target place : ℕ) (tried : Option Record) (count : Option ℕ)
       (leaves : slice_get setting.code pc ≡ Some (code.Choice target)) (first : RunsAs (pc + 1) middle place tried count) where
-    -- what the part did, and then what comes next by its result
+    -- the part runs, and then what its result leads to
     tried_runs : (to : ℕ) (made : Record → Option Record) (count_next : Recognition → Option ℕ)
         → ((part r : Record) (k m : ℕ) (x : Recognition) → Runs setting (pc + 1) middle place part k → part.result ≡ x
         → made part ≡ Some r → count_next x ≡ Some m → Runs setting pc to place r (1 + (k + m)))
@@ -233,9 +233,9 @@ module _ (setting : Setting) where
         (not_runs pc (pc + 1 + size part) (pc + size part + 2) place (take part place) (count part place) stands.0
         (parts part place (pc + 1) stands.1) stands.2 r steps is counted)
 
-  -- ---- by the rounds
+  -- ---- by depth
 
-  -- where the calls are answered in n, the machine runs as the form's record in n says
+  -- if calls are answered at depth n, the machine runs as the form's record at depth n says
   pub record_runs : (counted : Counted) (bodies : List CoreForm) (n : ℕ) → Answers counted bodies n setting
       → (form : CoreForm) (place pc : ℕ) → Stands setting.code pc form
       → RunsAs pc (pc + size form) place (core_record_in bodies setting.text n form place)
@@ -247,7 +247,7 @@ module _ (setting : Setting) where
       (record_runs counted bodies n (Answers-less counted bodies n setting answers)) answers.uses answers.costs form place pc stands
       r steps is count
 
-  -- and a rule's body ends as its record in n says, in its steps and one more where it matched
+  -- a rule's body ends as its record at depth n says, in its steps and one more if it matched
   pub body_ends : (counted : Counted) (bodies : List CoreForm) (n : ℕ) → Answers counted bodies n setting
       → (body : CoreForm) (place entry : ℕ) → IsEntry setting.code entry body → (r : Record) (steps : ℕ)
       → core_record_in bodies setting.text n body place ≡ Some r

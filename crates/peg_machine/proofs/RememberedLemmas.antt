@@ -1,5 +1,5 @@
--- What a memo is known to hold stays known, when more is noted, when a use is marked as used, and when a result is
--- offered; and a memo that holds all keeps what it is offered.
+-- The invariant of a memo is preserved when more is noted, when an entry is marked as used, and when a result is
+-- offered. A memo with full capacity stores what it is offered.
 use Rattle.std.proofs.Common.{◌≡◌, inl, inr, ⊎_elim, ℕ, zero, suc, ◌+◌, ◌*◌, ◌<◌, ◌≤◌, Bool, true, false}
 use Rattle.std.proofs.Common.{if◌then◌else◌, IsTrue, List, ◌∷◌, Contains, length, slice_get, Option, None, Some}
 use Rattle.std.proofs.Common.{option_map, option_and_then, refl, sym, ◌∙◌, ap, subst, arith}
@@ -7,7 +7,7 @@ use Rattle.std.proofs.Math.Nat.{le-mul_of_pos_right}
 use Rattle.std.proofs.lemmas.List.Elements.{All-contains}
 use Rattle.std.proofs.lemmas.Option.{slice_get_within}
 use Rattle.std.specs.FinMap as map
-use Rattle.peg_ford.specs.Record.{Record, Test, Use, as_use}
+use Rattle.peg_semantics.specs.Record.{Record, Test, Use, as_use}
 use Rattle.peg_core.specs.CoreForm.{CoreForm, Rule}
 use Rattle.peg_core.specs.CoreRecord.{core_record_in}
 use Rattle.peg_core.proofs.CoreWithin.{core_record_in-uses_in_text}
@@ -23,7 +23,7 @@ use Rattle.peg_machine.specs.Underway.{Active, IsAnswer}
 use Rattle.peg_machine.proofs.NotedLemmas.{head_or_tail}
 use Rattle.peg_machine.proofs.UnderwayLemmas.{kept_more}
 
--- Each result that is held may be kept where more is noted too.
+-- Each entry may still be stored when more is noted.
 pub remembers_more : (job : Job) (tests more_tests : List Test) (shown more_shown : List Use) (held : Held)
     → ((t : Test) → Contains tests t → Contains more_tests t)
     → ((p : Use) → Contains shown p → Contains more_shown p)
@@ -37,14 +37,14 @@ remembers_more job tests more_tests shown more_shown held keeps_tests keeps_show
       is = known.is;
     }
 
--- ---- a memo that holds all
+-- ---- a memo with full capacity
 
--- where no memory is refused now, none was before
+-- if no allocation has failed, none had failed before
 never_refused : (before after : Bool) → (IsTrue before → IsTrue after) → after ≡ false → before ≡ false
 never_refused false after keeps given = refl
 never_refused true after keeps given = let refused : after ≡ true = keeps refl in cc
 
--- a memo that holds all, where there is a rule, has room for a result
+-- a memo with full capacity has a capacity above 0, if there is a rule
 pub has_room : (job : Job) (memo : Memory) (start : Use) (answer : Record) → IsAnswer job start answer
     → HoldsAll job memo → 0 < memo.room
 has_room job memo start answer answers all =
@@ -55,7 +55,7 @@ has_room job memo start answer answers all =
     let room = all.room in
     omega arith
 
--- the same holds of a memo with as much room that was refused no more
+-- the same holds for a memo of the same capacity with no more failed allocations
 held_all_before : (job : Job) (old new : Memory) → new.room ≡ old.room → (IsTrue old.refused → IsTrue new.refused)
     → HoldsAll job new → HoldsAll job old
 held_all_before job old new same keeps all = record {
@@ -63,20 +63,20 @@ held_all_before job old new same keeps all = record {
   given = never_refused old.refused new.refused keeps all.given;
 }
 
--- ---- a use is marked as used
+-- ---- an entry is marked as used
 
 module _ (job : Job) (old new : Memory) (touched : IsTouched old new) where
-  -- what is held may be kept
+  -- the entries may still be stored
   pub remembers_touched : (tests : List Test) (shown : List Use) → Remembers job tests shown old.held
       → Remembers job tests shown new.held
   remembers_touched tests shown remembers pair result found =
       remembers pair result (touched.part (pair.rule, pair.place) result found)
 
-  -- a memo that holds all held all before
+  -- a memo with full capacity had it before
   pub all_before_touch : HoldsAll job new → HoldsAll job old
   all_before_touch = held_all_before job old new touched.room touched.refused
 
-  -- where no pair was shown twice, none was
+  -- if no pair was traced twice before, none is
   pub once_touched : (start : Use) (answer : Record) → IsAnswer job start answer → (shown : List Use)
       (stack : List Active) → HoldsAll job new → (HoldsAll job old → IsOnce shown old.held stack)
       → IsOnce shown new.held stack
@@ -87,12 +87,12 @@ module _ (job : Job) (old new : Memory) (touched : IsTouched old new) where
 
 -- ---- a result is offered
 
--- a memo that is offered a result and holds all held all before
+-- a memo with full capacity after an offer had it before
 pub all_before_offer : (job : Job) (old new : Memory) (pair : Use) (result : Kept) (kept : Bool)
     → IsOffered old pair result kept new → HoldsAll job new → HoldsAll job old
 all_before_offer job old new pair result kept offered = held_all_before job old new offered.room offered.refused
 
--- what is held may be kept, where what is offered may be
+-- the entries may be stored, if the result offered may be
 pub remembers_offered : (job : Job) (tests : List Test) (shown : List Use) (old new : Memory) (pair : Use)
     (result : Kept) (kept : Bool) → IsOffered old pair result kept new → IsResultOf job tests shown pair result
     → Remembers job tests shown old.held → Remembers job tests shown new.held
@@ -115,7 +115,7 @@ remembers_offered job tests shown old new pair result kept offered is remembers 
         ⊎_elim (λ here. put here.0 here.1) (λ before. remembers other found before)
         (found_after old.held (pair.rule, pair.place) (other.rule, other.place) result found known)
 
--- a record of a rule is that of a rule with a body, and has the use itself among its uses
+-- a record of a rule comes from a rule with a body, and includes the call itself
 use_recorded : (bodies : List CoreForm) (text : List ℕ) (n rule place : ℕ) (r : Record)
     → core_record_in bodies text n (Rule rule) place ≡ Some r
     → (rule < length bodies) × Contains r.uses (record { rule = rule; place = place })
@@ -139,11 +139,11 @@ use_recorded bodies text (suc n) rule place r is = by (slice_get bodies rule) re
     by (Some body) some is =
         (slice_get_within bodies rule body some, of (core_record_in bodies text n body place) is)
 
--- of a start at a place of the text the uses shown are its own
+-- for a start within the text, the calls traced are those of its record
 module _ (job : Job) (start : Use) (answer : Record) (answers : IsAnswer job start answer)
     (here : start.place ≤ length job.text) (tests : List Test) (shown : List Use)
     (uses_within : (pair : Use) → Contains shown pair → Contains (start ∷ answer.uses) pair) where
-  -- each is at a place of the text
+  -- each call traced is at a position of the text
   shown_in_text : (pair : Use) → Contains shown pair → pair.place ≤ length job.text
   shown_in_text pair has =
       ⊎_elim (λ same. subst (λ (p : Use). p.place ≤ length job.text) same here)
@@ -153,7 +153,7 @@ module _ (job : Job) (start : Use) (answer : Record) (answers : IsAnswer job sta
       later)
       (head_or_tail start answer.uses pair (uses_within pair has))
 
-  -- what may be kept is of one of the rules, at a place of the text
+  -- a result that may be stored is of a rule of the grammar, at a position of the text
   kept_in_bounds : (pair : Use) (result : Kept) → IsResultOf job tests shown pair result
       → (pair.rule < length job.bodies) × (pair.place < length job.text + 1)
   kept_in_bounds pair result is =
@@ -164,7 +164,7 @@ module _ (job : Job) (start : Use) (answer : Record) (answers : IsAnswer job sta
       let less : pair.place < length job.text + 1 = omega arith in
       (known.0, less)
 
-  -- A memo that holds all keeps the result that it is offered, and drops none.
+  -- A memo with full capacity stores the result offered, and evicts none.
   pub offered_is_kept : (old new : Memory) (pair : Use) (result : Kept) (kept : Bool)
       → IsOffered old pair result kept new → IsResultOf job tests shown pair result
       → Remembers job tests shown old.held → HoldsAll job new
@@ -189,16 +189,16 @@ module _ (job : Job) (start : Use) (answer : Record) (answers : IsAnswer job sta
           let room = before.room in
           omega arith
 
--- ---- a result that is put in
+-- ---- a result that is inserted
 
 module _ (held : Held) (pair : Use) (result : Kept) where
-  -- it is held
+  -- it has an entry
   pub put_is_held : IsHeld (map.insert held (pair.rule, pair.place) result) pair
   put_is_held =
       contains_found (map.insert held (pair.rule, pair.place) result) (pair.rule, pair.place) result
       (get_inserted held (pair.rule, pair.place) result)
 
-  -- and so is what was held before
+  -- and so has each pair that had one before
   pub still_held : (other : Use) → IsHeld held other
       → IsHeld (map.insert held (pair.rule, pair.place) result) other
   still_held other is =

@@ -1,19 +1,19 @@
--- Closing the row of a use in the rows makes them end in the use's tree.
+-- Closing the node of a call completes its tree in the list of nodes.
 use Rattle.std.proofs.Common.{◌≡◌, ℕ, ◌+◌, ◌-◌, List, [], ◌∷◌, ◌++◌, length, set, refl, sym, ◌∙◌, ap, arith}
 use Rattle.std.proofs.Common.{length-append, append_assoc, append-nil}
 use Rattle.std.proofs.Math.Seq.{set-append_seam}
 use Rattle.peg_tree.specs.Rows.{Row, rows_of}
 use Rattle.peg_tree.specs.Trees.{Trees, NoTrees, Tree, nodes}
-use Rattle.peg_ford.specs.Record.{Use}
+use Rattle.peg_semantics.specs.Record.{Use}
 use Rattle.peg_machine.specs.OpenRows.{open_row, opened, closed, close_row}
 
--- there are as many rows as nodes
+-- the list has one entry for each node of the trees
 length-rows_of : (trees : Trees) → length (rows_of trees) ≡ nodes trees
 length-rows_of NoTrees = refl
 length-rows_of (Tree rule start end children rest) =
     omega (arith, length-append (rows_of children) (rows_of rest), length-rows_of children, length-rows_of rest)
 
--- the row of a use stands at the number of those before it; closed there, it is the row of the use's tree
+-- the node of a call is at the index of the number of nodes before it; closing it gives the root of the call's tree
 pub close_row-closes : (before : List Row) (pair : Use) (end : ℕ) (trees : Trees)
     → close_row (length before) (opened before pair ++ rows_of trees) pair end ≡ closed before pair end trees
 close_row-closes before pair end trees =

@@ -1,12 +1,12 @@
--- What the machine does with the code of each form, from what it does with the codes of its parts: a rule for each way
--- that a form can go. Proofs about runs are put together from these rules.
+-- What the machine computes with the code of each form, from the results of its parts: one rule for each outcome of a
+-- form. Proofs about runs are composed of these rules.
 use Rattle.std.proofs.Common.{◌≡◌, ℕ, suc, ◌+◌, List, [], ◌∷◌, ◌++◌, Option, Some, option_and_then, drop, slice_get}
 use Rattle.std.proofs.Common.{refl, sym, ◌∙◌, ap, arith, append-nil, zero-add, add-zero, suc-add, add_assoc}
 use Rattle.peg_bytes.specs.ByteSet.{Bytes, has}
 use Rattle.peg_tree.specs.Rows.{Row, rows_of}
 use Rattle.peg_tree.specs.Trees.{Trees}
-use Rattle.peg_ford.specs.Record.{Recognition, Failed, Matched, Record, matched_at, after_both, byte_at, behind}
-use Rattle.peg_ford.specs.Record.{with_result}
+use Rattle.peg_semantics.specs.Record.{Recognition, Failed, Matched, Record, matched_at, after_both, byte_at, behind}
+use Rattle.peg_semantics.specs.Record.{with_result}
 use Rattle.peg_code.specs.Instructions.{Instruction, Test, Call, Ret, Choice, Commit, FailTwice}
 use Rattle.peg_machine.specs.Local.{Setting, Way, way_to, Work, only_steps, work_of, both, GaveUp, Returned, finished}
 use Rattle.peg_machine.specs.Local.{working, Next, fall_back, goes_on, answered, step_of, local}
@@ -19,7 +19,7 @@ one-more n = omega arith
 module _ (setting : Setting) where
   -- ---- single instructions
 
-  -- one round is the instruction that stands there
+  -- one round executes the current instruction
   round : (instruction : Instruction) (left pc place : ℕ) (rows : List Row) (ways : List Way)
       → slice_get setting.code pc ≡ Some instruction
       → local setting (suc left) pc place rows ways
@@ -28,7 +28,7 @@ module _ (setting : Setting) where
   round instruction left pc place rows ways is =
       ap (λ (i : Option Instruction). step_of setting (local setting left) i pc place rows ways) is
 
-  -- what a part did, where its result is known
+  -- the result of a part, if that is known
   answer : (r : Record) (result : Recognition) (steps : ℕ) (next : Next) (pc : ℕ) (rows : List Row) (ways : List Way)
       → r.result ≡ result
       → answered r steps next pc rows ways ≡ working (work_of r steps) (goes_on next result pc rows ways)
@@ -37,7 +37,7 @@ module _ (setting : Setting) where
 
   -- ---- the rules
 
-  -- no code: nothing is done
+  -- no code does nothing
   pub nothing_runs : (pc place : ℕ) → Runs setting pc pc place (matched_at place) 0
   nothing_runs pc place = record {
     rounds = 0;
@@ -47,7 +47,7 @@ module _ (setting : Setting) where
         ∙ sym (working-nothing (local setting left pc place (rows ++ []) ways));
   }
 
-  -- a test of a byte
+  -- a terminal test
   pub test_runs : (pc place terminal : ℕ) (set : Bytes) → slice_get setting.code pc ≡ Some (Test set terminal)
       → Runs setting pc (pc + 1) place (byte_at (has set) terminal place (drop place setting.text)) 1
   test_runs pc place terminal set is = record {
@@ -68,7 +68,7 @@ module _ (setting : Setting) where
         ∙ ap (option_and_then (λ (r : Record). answered r (setting.costs rule place) (local setting left) (pc + 1) rows ways)) known;
   }
 
-  -- what failed has failed wherever it would have gone on
+  -- a failed run fails wherever it would have continued
   pub failing_runs : {from to place steps : ℕ} {r : Record} (elsewhere : ℕ) → Runs setting from to place r steps
       → r.result ≡ Failed → Runs setting from elsewhere place r steps
   failing_runs {from} {to} {place} {steps} {r} elsewhere part failed = record {
@@ -79,7 +79,7 @@ module _ (setting : Setting) where
         ∙ sym (answer r Failed steps (local setting left) elsewhere rows ways failed);
   }
 
-  -- a part that matched, and what stands behind it
+  -- a part that matched, followed by the code after it
   pub runs_then : {from middle to place end steps more_steps : ℕ} {r more : Record} {trees : Trees}
       → Runs setting from middle place r steps → r.result ≡ Matched end trees → Runs setting middle to end more more_steps
       → Runs setting from to place (after_both r more (behind trees more.result)) (steps + more_steps)
@@ -95,10 +95,10 @@ module _ (setting : Setting) where
         (goes_on-behind (local setting left) trees more.result to rows ways);
   }
 
-  -- a part for which a way back is left, whose target stands at the part's last instruction's place
+  -- a part with a choice point, followed by the instruction at `middle`
   module _ (pc : ℕ) {middle target place steps : ℕ} {r : Record} (leaves : slice_get setting.code pc ≡ Some (Choice target))
       (part : Runs setting (pc + 1) middle place r steps) where
-    -- the way back is left, and the part is run
+    -- the choice point is pushed, and the part runs
     tried : (left : ℕ) (rows : List Row) (ways : List Way)
         → local setting (suc part.rounds + left) pc place rows ways
         ≡ working (only_steps 1) (answered r steps (local setting left) middle rows (way_to target place rows ∷ ways))
@@ -107,7 +107,7 @@ module _ (setting : Setting) where
         ∙ round (Choice target) (part.rounds + left) pc place rows ways leaves
         ∙ ap (working (only_steps 1)) (part.runs left rows (way_to target place rows ∷ ways))
 
-    -- it failed: the way back is taken, and what stands there is run
+    -- the part failed: the run resumes at the choice point's target
     pub falls_back : {to more_steps : ℕ} {more : Record} → r.result ≡ Failed → Runs setting target to place more more_steps
         → Runs setting pc to place (after_both r more more.result) (1 + (steps + more_steps))
     falls_back {to} {more_steps} {more} failed other = record {
@@ -123,7 +123,7 @@ module _ (setting : Setting) where
           (goes_on (local setting left) more.result to rows ways);
     }
 
-    -- it matched: the way back is taken away, and the run goes on elsewhere
+    -- the part matched: the choice point is popped, and the run continues at the target of the commit
     pub commits : {end to : ℕ} {trees : Trees} → r.result ≡ Matched end trees
         → slice_get setting.code middle ≡ Some (Commit to) → Runs setting pc to place r (1 + (steps + 1))
     commits {end} {to} {trees} matched commit = record {
@@ -142,7 +142,7 @@ module _ (setting : Setting) where
           ∙ sym (answer r (Matched end trees) (1 + (steps + 1)) (local setting left) to rows ways matched);
     }
 
-    -- it matched where it was not to: the way back is taken away, and the run fails
+    -- the part of a not-predicate matched: the choice point is popped, and the run fails
     pub fails_twice : {end : ℕ} {trees : Trees} (to : ℕ) → r.result ≡ Matched end trees
         → slice_get setting.code middle ≡ Some FailTwice
         → Runs setting pc to place (with_result r Failed) (1 + (steps + 1))
@@ -176,7 +176,7 @@ module _ (setting : Setting) where
         ∙ ap (λ (x : Recognition). Some (finished (ending_of before x) (work_of r steps))) (sym failed);
   }
 
-  -- a body that matched, with the end of its rule behind it
+  -- a body that matched, followed by `Ret`
   pub body_returns : {entry to place end steps : ℕ} {r : Record} {trees : Trees} → Runs setting entry to place r steps
       → r.result ≡ Matched end trees → slice_get setting.code to ≡ Some Ret → Ends setting entry place r (steps + 1)
   body_returns {entry} {to} {place} {end} {steps} {r} {trees} part matched returns = record {

@@ -1,10 +1,10 @@
--- What the tasks of a run hold together: the newest record is part of the start's, and no use is under way twice.
+-- The tasks of a run together: the newest record is part of the start's, and no call is active twice.
 use Rattle.std.proofs.Common.{◌≡◌, ◌≢◌, ℕ, ◌<◌, ◌≤◌, List, [], ◌∷◌, ◌++◌, All, Contains, Option, Some, slice_get, ap}
 use Rattle.std.proofs.Common.{subst, arith}
 use Rattle.std.proofs.lemmas.List.Elements.{All-nil, All-cons, Contains-append_left, Contains-append_right}
 use Rattle.peg_tree.specs.Rows.{Row}
-use Rattle.peg_ford.specs.Record.{Record, Use, as_use}
-use Rattle.peg_ford.specs.Record as ford
+use Rattle.peg_semantics.specs.Record.{Record, Use, as_use}
+use Rattle.peg_semantics.specs.Record as ford
 use Rattle.peg_core.specs.CoreForm.{CoreForm}
 use Rattle.peg_core.specs.CoreRecord.{core_record_in, IsCoreRecord}
 use Rattle.peg_machine.specs.Local.{Work, work_of, both, Finish, goes_on, local}
@@ -14,7 +14,7 @@ use Rattle.peg_machine.proofs.Stacks.{awaited}
 module _ (job : Job) where
   -- ---- the newest record is part of the start's
 
-  -- The start has a record, of which the tests and the uses of the newest task's record are part.
+  -- The start has a record, which includes the tests and the calls of the newest task's record.
   pub within_the_start : (n : ℕ) (called : Frame) (done to_come : Work) (later : ℕ → Option Finish) (older : List Task)
       (promise : Promise job n called.pair called.before done to_come later) → AllWait job n called older
       → (body : CoreForm) × (all : Record)
@@ -56,9 +56,9 @@ module _ (job : Job) where
             (subst (λ (l : List Use). Contains l other) answer_uses has)))))),
       )
 
-  -- ---- no use twice
+  -- ---- no call twice
 
-  -- two uses of one rule at one place have their first record in the same number
+  -- two calls of one rule at one position have their first record at the same depth
   not_before : {n m : ℕ} {pair : Use} {before other_before : List Row} {done to_come other_done other_to_come : Work}
       {later other_later : ℕ → Option Finish} → Promise job n pair before done to_come later
       → Promise job m pair other_before other_done other_to_come other_later → n < m → ⊥
@@ -71,7 +71,7 @@ module _ (job : Job) where
       let also = ap (λ (body : CoreForm). core_record_in job.bodies job.text n body pair.place) same in
       cc
 
-  -- A use is under way once: no older task has the pair of a newer one.
+  -- A call is active once: no older task has the pair of a newer one.
   pub no_pair_twice : (n m : ℕ) (pair : Use) (before : List Row) (done to_come : Work) (later : ℕ → Option Finish)
       (called : Frame) (older : List Task) → Promise job n pair before done to_come later → n ≤ m → AllWait job m called older
       → All (λ (task : Task). task.frame.pair ≢ pair) older

@@ -1,4 +1,4 @@
--- Core forms of grammars worked by hand, to compare the counts of steps with.
+-- Core forms of a grammar worked by hand, to compare step counts with.
 use Rattle.std.specs.Prelude.{List, [], ◌∷◌}
 use Rattle.peg_bytes.specs.ByteSet.{only}
 use Rattle.peg_core.specs.CoreForm.{CoreForm, Test, Rule, Seq, Choice}

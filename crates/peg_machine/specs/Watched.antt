@@ -1,8 +1,8 @@
--- Describes code: what a watch that keeps a list is seen as.
+-- Describes code: the view of a tracer that stores a list.
 use Rattle.std.specs.Prelude.{ℕ}
-use Rattle.peg_ford.specs.Record.{Use}
+use Rattle.peg_semantics.specs.Record.{Use}
 
--- a rule at a place
+-- the call of a rule at a position
 abbrev pub use_at : (rule place : ℕ) → Use
 use_at rule place = record { rule = rule; place = place }
 

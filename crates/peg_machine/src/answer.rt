@@ -1,11 +1,11 @@
-//! What a run gives.
+//! The answer of a run.
 use peg_tree::Outcome;
 
-/// What a run of a program on a text gives.
+/// The answer of a run of a program on a text.
 #[derive(Debug, Drop)]
 pub struct Answer {
-    /// Whether the text's front matched, by which tree, and the furthest failure.
+    /// Whether a prefix of the text matched, its tree, and the furthest failure.
     pub outcome: Outcome,
-    /// How many instructions were carried out; `u64::MAX` where they are more.
+    /// The number of instructions executed; `u64::MAX` if there are more.
     pub steps: u64,
 }

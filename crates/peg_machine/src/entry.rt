@@ -1,16 +1,16 @@
-//! The machine's stack.
+//! Entries of the machine's stack.
 
-/// An entry of the stack: a use of a rule that is under way, or a way back. It knows how many rows there were.
+/// A stack entry: an active call of a rule, or a choice point. It stores the number of nodes at the time of its push.
 #[derive(Clone, Copy, Debug)]
 pub(crate) enum Entry {
-    /// A use of a rule from a place on, which returns to an instruction; its row stands behind those before it.
+    /// An active call: its rule, its start, and the instruction to return to. Its node is at index `rows`.
     Frame {
         rule: u32,
         start: u32,
         back: u32,
         rows: usize,
     },
-    /// What the machine goes back to where it fails: an instruction and a place, with no more rows than these.
+    /// A choice point: the instruction and the position to resume at on failure. The nodes are truncated to `rows`.
     Way {
         pc: u32,
         place: u32,

@@ -1,15 +1,15 @@
-//! Laws of the stack as it stands in memory. Each function does nothing; its contract is the law.
+//! Laws of the stack as it is represented in memory. Each function has an empty body; its contract is the law.
 ghost use Rattle.std.specs.Prelude.{◌≡◌, ◌≤◌, ◌++◌, ◌∷◌, [], length, set, take, List, ℕ};
 ghost use Rattle.peg_machine.specs.Entries.{count_of, put_on, stack_of, Ascends, Entry};
 ghost use Rattle.peg_tree.specs.Rows.{Row};
 
-/// An entry more at the end is put on the stack.
+/// Appending an entry to the list pushes it on the stack.
 pub fn an_entry_is_put_on_the_stack()
     ensures { (rows : List Row) (entries : List Entry) (entry : Entry)
         → stack_of rows (entries ++ entry ∷ []) ≡ put_on rows entry (stack_of rows entries) }
 {}
 
-/// Counts of rows that rise do so with one more at the end, without the last one, and up to a greater number.
+/// Ascending node counts stay ascending after a push, after a pop, and under a greater upper bound.
 pub fn counts_of_rows_rise()
     ensures push { (low high : ℕ) (entries : List Entry) (entry : Entry) → Ascends low (count_of entry) entries
         → count_of entry ≤ high → Ascends low high (entries ++ entry ∷ []) }
@@ -19,7 +19,7 @@ pub fn counts_of_rows_rise()
         → Ascends low higher entries }
 {}
 
-/// Entries stand for the same stack where rows are put behind those that they count, or taken from there, or changed.
+/// Entries denote the same stack when nodes at or after their counts are appended, removed or changed.
 pub fn later_rows_change_no_stack()
     ensures more { (rows more : List Row) (entries : List Entry) → Ascends 0 (length rows) entries
         → stack_of (rows ++ more) entries ≡ stack_of rows entries }

@@ -1,11 +1,11 @@
-//! Laws of a run that is under way: what each event makes of what is known of it. So a loop that carries out one
-//! instruction after the other keeps this. Each function does nothing; its contract is the law.
+//! Laws of an active run: what each event does to its invariant. A loop that executes one instruction after the other
+//! preserves the invariant. Each function has an empty body; its contract is the law.
 ghost use Rattle.std.specs.Prelude.{◌≡◌, ◌≢◌, ◌+◌, ◌<◌, ◌∷◌, ◌⊎◌, [], All, Contains, drop, slice_get, List, ℕ};
 ghost use Rattle.std.specs.Prelude.{None, Some};
 ghost use Rattle.peg_bytes.specs.ByteSet.{Bytes, has};
 ghost use Rattle.peg_code.specs.Instructions.{Call, Choice, Commit, End, FailTwice, Ret};
 ghost use Rattle.peg_code.specs.Instructions.{Test as TestOf};
-ghost use Rattle.peg_ford.specs.Record.{byte_at, failed_at, matched_at, test_of, Record, Test, Use};
+ghost use Rattle.peg_semantics.specs.Record.{byte_at, failed_at, matched_at, test_of, Record, Test, Use};
 ghost use Rattle.peg_machine.specs.Local.{local, step_of, way_to, working, Costs, Next, Uses, Way, Work};
 ghost use Rattle.peg_machine.specs.Noted.{IsNoted};
 ghost use Rattle.peg_machine.specs.Running.{steps_of_call, Job};
@@ -16,8 +16,8 @@ ghost use Rattle.peg_machine.specs.Underway.{comes_of, doing_after, Active, CanB
 ghost use Rattle.peg_machine.specs.Underway.{HasReturned, IsAnswer, RunFailed, RunMatched, RunsAt, Underway};
 ghost use Rattle.peg_tree.specs.Rows.{Row};
 
-/// A run begins from a start whose body has a record: at the entry of its rule, with its row open, and with all the
-/// steps of the body to come. Nothing is noted but the start.
+/// A run starts at the entry of its rule if the body of that rule has a record. The node of the start is open, and all
+/// steps of the body remain. Only the start is noted.
 pub fn a_run_begins()
     ensures { (job : Job) (start : Use) (answer : Record) (entries : List ℕ) → Enters job.code entries job.bodies
         → IsAnswer job start answer
@@ -27,7 +27,7 @@ pub fn a_run_begins()
         (record { frame = record { pair = start; back = 0; before = [] }; ways = [] } ∷ []) }
 {}
 
-/// A run that is under way is not stuck: there is an instruction, it is not the end of the run, and a step is to come.
+/// An active run is never stuck: there is an instruction, which isn't `End`, and at least one step remains.
 pub fn a_run_goes_on()
     ensures there { (job : Job) (start : Use) (answer : Record) (tests : List Test) (uses : List Use)
         (to_come pc place : ℕ) (rows : List Row) (active : Active) (below : List Active)
@@ -43,7 +43,7 @@ pub fn a_run_goes_on()
         → 0 < to_come }
 {}
 
-/// A byte passes its test, or the failed test is noted and the use fails: either takes one step.
+/// A byte passes its terminal test, or the failed test is noted and the call fails. Either takes one step.
 pub fn a_test_passes_or_fails()
     ensures passes { (job : Job) (start : Use) (answer : Record) (tests : List Test) (uses : List Use)
         (to_come pc place : ℕ) (rows : List Row) (active : Active) (below : List Active)
@@ -65,7 +65,8 @@ pub fn a_test_passes_or_fails()
         × Underway job start answer more_tests uses left Fails (active ∷ below) }
 {}
 
-/// A way back is left, or taken away, which is there then, and the run goes on or the use fails: each takes one step.
+/// Choice points are pushed and popped in one step each. One is on the stack wherever an instruction pops it. Resuming
+/// at a choice point after a failure takes no step.
 pub fn ways_back_are_left_and_taken_away()
     ensures leaves { (job : Job) (start : Use) (answer : Record) (tests : List Test) (uses : List Use)
         (to_come pc place : ℕ) (rows : List Row) (active : Active) (below : List Active)
@@ -94,8 +95,9 @@ pub fn ways_back_are_left_and_taken_away()
         (record active { ways = ways } ∷ below) }
 {}
 
-/// What an instruction does, whatever comes next, or what some rounds do, whatever rounds are left, is done of the run.
-pub fn what_is_done_is_done_of_the_run()
+/// An instruction whose effect doesn't depend on what follows has this effect on the run. So have several rounds whose
+/// effect doesn't depend on the rounds left.
+pub fn a_step_consumes_remaining_work()
     ensures step { (job : Job) (start : Use) (answer : Record) (tests more_tests : List Test) (uses : List Use)
         (to_come pc place : ℕ) (rows : List Row) (active : Active) (below : List Active) (work : Work) (next : Doing)
         (ways : List Way)
@@ -124,7 +126,7 @@ pub fn what_is_done_is_done_of_the_run()
         × Underway job start answer more_tests uses left next (record active { ways = ways } ∷ below) }
 {}
 
-/// A call is answered by a record that a memo kept, or it begins its use, which is noted.
+/// A call is answered by a record that a memo stored, or it runs the rule's body and is noted.
 pub fn a_call_hits_or_begins()
     ensures hits { (job : Job) (start : Use) (answer : Record) (tests : List Test) (uses : List Use)
         (to_come pc place : ℕ) (rows : List Row) (active : Active) (below : List Active)
@@ -150,7 +152,7 @@ pub fn a_call_hits_or_begins()
         (record { frame = record { pair = pair; back = pc + 1; before = rows }; ways = [] } ∷ active ∷ below) }
 {}
 
-/// A use returns to its caller, or fails its caller, and its record may be kept.
+/// A call returns to its caller or fails its caller, and the memo may store its record.
 pub fn a_use_ends_in_its_caller()
     ensures returns { (job : Job) (start : Use) (answer : Record) (tests : List Test) (uses : List Use)
         (to_come pc place : ℕ) (rows : List Row) (active caller : Active) (below : List Active)
@@ -163,7 +165,7 @@ pub fn a_use_ends_in_its_caller()
         → HasFailed job start answer tests uses to_come active caller below }
 {}
 
-/// A run ends as the start's record says, matched or failed, and all that this record tells is noted.
+/// A run matches or fails as the start's record says, and exactly the failed tests and calls of this record are noted.
 pub fn a_run_ends_as_its_record_says()
     ensures matches { (job : Job) (start : Use) (answer : Record) (tests : List Test) (uses : List Use)
         (to_come pc place : ℕ) (rows : List Row) (active : Active)
@@ -176,7 +178,7 @@ pub fn a_run_ends_as_its_record_says()
         → RunFailed start answer tests uses to_come }
 {}
 
-/// What a memo may keep it may keep from then on, and of one use it is one record.
+/// A record that a memo may store may be stored from then on. A call has one such record.
 pub fn what_may_be_kept_stays()
     ensures stays { (job : Job) (tests more_tests : List Test) (uses more_uses : List Use) (pair : Use) (r : Record)
         → ((test : Test) → Contains tests test → Contains more_tests test)
@@ -186,7 +188,7 @@ pub fn what_may_be_kept_stays()
         → CanBeKept job tests uses pair r → CanBeKept job tests uses pair s → r ≡ s }
 {}
 
-/// No use is under way twice: none below the newest is of its pair.
+/// No pair of a rule and a position is on the stack twice: no older call has the pair of the newest one.
 pub fn no_pair_is_on_the_stack_twice()
     ensures { (job : Job) (start : Use) (answer : Record) (tests : List Test) (uses : List Use) (to_come : ℕ)
         (doing : Doing) (active : Active) (below : List Active)

@@ -2,16 +2,16 @@
 use std::alloc::AllocError;
 use thiserror::Error;
 
-/// Why a program isn't run to its end.
+/// Why a run ended without an answer.
 #[derive(Clone, Copy, Debug, PartialEq, Eq, Error)]
 pub enum RunFault {
-    /// The text has more than `MOST_TEXT_BYTES` bytes.
+    /// The text has more than `MAX_TEXT_BYTES` bytes.
     #[error("the text is too long")]
     TextTooLong,
-    /// More steps are needed than were allowed.
+    /// The parse needs more steps than the limit allows.
     #[error("the limit of steps is reached")]
     StepLimit,
-    /// Memory ran out.
+    /// Out of memory.
     #[error("out of memory")]
     Memory,
 }

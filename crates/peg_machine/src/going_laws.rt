@@ -1,9 +1,9 @@
-//! Laws of a run with a memo: what is known of it is known after each event. Each function does nothing; its contract
-//! is the law.
+//! Laws of a run with a memo: each event preserves the invariant of the run. Each function has an empty body; its
+//! contract is the law.
 ghost use Rattle.std.specs.Prelude.{◌≡◌, ◌+◌, ◌∷◌, ◌<◌, [], slice_get, Bool, List, None, Some, ℕ};
 ghost use Rattle.std.specs.FinMap as map;
 ghost use Rattle.peg_code.specs.Instructions.{Call, Ret};
-ghost use Rattle.peg_ford.specs.Record.{Record, Test, Use};
+ghost use Rattle.peg_semantics.specs.Record.{Record, Test, Use};
 ghost use Rattle.peg_machine.specs.Going.{hit_by, shown_by, Course, Goes, GoesBack};
 ghost use Rattle.peg_machine.specs.OpenRows.{opened};
 ghost use Rattle.peg_machine.specs.Remembered.{kept_result, IsOffered, IsTouched, Memory};
@@ -13,9 +13,9 @@ ghost use Rattle.peg_machine.specs.Underway.{doing_after, Active, Doing, Fails, 
 ghost use Rattle.peg_memo.specs.Kept.{Kept, KeptFailure};
 ghost use Rattle.peg_tree.specs.Rows.{Row};
 
-/// What is known of a run is known after a use was marked as used in its memo; and after the result of a use that has
-/// ended was offered to the memo, whether the memo kept it or not.
-pub fn a_memo_keeps_what_is_known()
+/// The invariant survives a lookup that marks a memo entry as used. It survives offering the result of an ended call
+/// to the memo, whether the memo stores the result or not.
+pub fn memo_may_forget_without_losing_the_invariant()
     ensures touched { (job : Job) (course : Course) (tests : List Test) (memo : Memory) (doing : Doing)
         (stack : List Active) → Goes job course tests memo doing stack → (new : Memory) → IsTouched memo new
         → Goes job course tests new doing stack }
@@ -29,8 +29,8 @@ pub fn a_memo_keeps_what_is_known()
         → GoesBack job course tests memo place rows active caller older }
 {}
 
-/// A call whose result is held goes on as the record of that result says, in one step, which saves some. Another begins
-/// its use, where the memo, if it has room, holds no result of it; the use is shown.
+/// A call with a memo entry continues as the record of that entry says, in one step, and saves some steps. Any other
+/// call runs the rule's body and is traced; a memo with a capacity above 0 has no entry for it.
 pub fn a_hit_or_a_call()
     ensures hits { (job : Job) (course : Course) (tests : List Test) (memo : Memory) (pc place : ℕ) (rows : List Row)
         (active : Active) (below : List Active) → Goes job course tests memo (RunsAt pc place rows) (active ∷ below)

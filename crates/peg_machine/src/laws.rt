@@ -1,10 +1,10 @@
-//! Laws of the definitions: what holds for every grammar and text. Each function does nothing; its contract is the law.
+//! Laws of the definitions, for every grammar and text. Each function has an empty body; its contract is the law.
 ghost use Rattle.std.specs.Prelude.{◌≡◌, ◌↔◌, ◌+◌, ◌≤◌, codes, Contains, length, List, ℕ, suc, Some};
 ghost use Rattle.peg_core.specs.CoreExamples.{nested_core};
 ghost use Rattle.peg_core.specs.CoreForm.{CoreForm};
 ghost use Rattle.peg_core.specs.CoreRecord.{core_record_in};
-ghost use Rattle.peg_ford.specs.Furthest.{IsFurthest};
-ghost use Rattle.peg_ford.specs.Record.{Record, Test};
+ghost use Rattle.peg_semantics.specs.Furthest.{IsFurthest};
+ghost use Rattle.peg_semantics.specs.Record.{Record, Test};
 ghost use Rattle.peg_code.specs.Code.{size, code_of, program_code, entries_of};
 ghost use Rattle.peg_machine.specs.Local.{Setting};
 ghost use Rattle.peg_machine.specs.Runs.{Answers, Ends, Runs};
@@ -14,29 +14,30 @@ ghost use Rattle.peg_machine.specs.StepExamples.{repeated_prefix_core};
 ghost use Rattle.peg_machine.specs.Steps.{Counted, own_steps_of_pair_in, plain_steps_of_start_in, steps_in};
 ghost use Rattle.peg_machine.specs.Steps.{steps_of_body};
 
-/// A form's code has as many instructions as its size.
+/// The code of a form has as many instructions as the form's size.
 pub fn the_code_of_a_form_has_its_size()
     ensures { (form : CoreForm) (pc : ℕ) → length (code_of form pc) ≡ size form }
 {}
 
-/// A form that takes so many steps in n takes as many in n + 1.
+/// The step count of a form at depth n is also its step count at depth n + 1.
 pub fn counts_of_steps_stay()
     ensures { (counted : Counted) (bodies : List CoreForm) (text : List ℕ) (n : ℕ) (form : CoreForm) (place steps : ℕ)
         → steps_in counted bodies text n form place ≡ Some steps
         → steps_in counted bodies text (suc n) form place ≡ Some steps }
 {}
 
-/// A form that has a record in n has its steps in n.
+/// A form that has a record at depth n has a step count at depth n.
 pub fn steps_are_counted_where_a_record_is()
     ensures { (counted : Counted) (bodies : List CoreForm) (text : List ℕ) (n : ℕ) (form : CoreForm) (place : ℕ)
         (r : Record) → core_record_in bodies text n form place ≡ Some r
         → (steps : ℕ) × (steps_in counted bodies text n form place ≡ Some steps) }
 {}
 
-/// The machine does with the code of a form what the form's record says, where its calls are answered by the records of
-/// their uses: from the form's first instruction it runs to behind its last, with the rows of the record's trees put
-/// behind those before, or fails, with exactly the record's failed tests in their order and its uses, in exactly the
-/// steps that are counted for it.
+/// The code of a form computes the form's record if its calls are answered by the records of the rules called. It runs
+/// from its first instruction to the one after its last, or fails.
+///
+/// The nodes of the record's trees are appended. The failed tests (in order), the calls and the steps are exactly
+/// those of the record.
 pub fn code_runs_as_its_record_says()
     ensures { (counted : Counted) (bodies : List CoreForm) (setting : Setting) (n : ℕ) (form : CoreForm)
         (pc place steps : ℕ) (r : Record) → Answers counted bodies n setting → Stands setting.code pc form
@@ -45,9 +46,8 @@ pub fn code_runs_as_its_record_says()
         → Runs setting pc (pc + size form) place r steps }
 {}
 
-/// So the body of a rule, from the rule's entry, ends as its record says: it has given up, or it has returned at the
-/// record's end with the rows of its trees behind those before, in the steps that are counted for it and one more where
-/// it matched.
+/// The body of a rule, run from the rule's entry, ends as its record says. It fails, or it returns at the record's end
+/// with the nodes of the record's trees appended. It takes the steps counted for it, and one more if it matched.
 pub fn a_body_ends_as_its_record_says()
     ensures { (counted : Counted) (bodies : List CoreForm) (setting : Setting) (n : ℕ) (body : CoreForm)
         (entry place steps : ℕ) (r : Record) → Answers counted bodies n setting → IsEntry setting.code entry body
@@ -56,14 +56,13 @@ pub fn a_body_ends_as_its_record_says()
         → Ends setting entry place r steps }
 {}
 
-/// In the code of a grammar's rules each rule's body stands at the rule's entry, with the end of the rule behind it,
-/// and the end of a run is instruction 0.
+/// In the code of a grammar each rule's body is at the rule's entry, followed by `Ret`. Instruction 0 is `End`.
 pub fn each_rule_stands_at_its_entry()
     ensures { (bodies : List CoreForm) → Enters (program_code bodies) (entries_of bodies) bodies }
 {}
 
-/// The counts of steps on two grammars that were worked by hand: plain steps from the start, and own steps of pairs of
-/// a rule and a place.
+/// The step counts of two grammars worked by hand: plain steps from the start, and own steps of pairs of a rule and a
+/// position.
 pub fn the_counts_of_steps_agree_with_hand_worked_grammars()
     ensures nested { plain_steps_of_start_in nested_core (codes "aab") 16 0 ≡ Some 15 }
     ensures repeated_prefix { plain_steps_of_start_in repeated_prefix_core (codes "(a)y") 16 0 ≡ Some 25 }
@@ -71,14 +70,14 @@ pub fn the_counts_of_steps_agree_with_hand_worked_grammars()
     ensures inner_own { own_steps_of_pair_in repeated_prefix_core (codes "(a)y") 16 0 1 ≡ Some 6 }
 {}
 
-/// A form that has a record has a first one: in a number with none in fewer.
+/// A form that has a record has a least depth with a record.
 pub fn each_record_has_a_first_number()
     ensures { (bodies : List CoreForm) (text : List ℕ) (form : CoreForm) (place : ℕ) (n : ℕ) (r : Record)
         → core_record_in bodies text n form place ≡ Some r
         → (m : ℕ) × (m ≤ n) × IsFirstRecord bodies text m form place r }
 {}
 
-/// The furthest failure goes by which tests failed alone, not by their order or how often.
+/// The furthest failure depends only on the set of failed tests, not on their order or number.
 pub fn the_furthest_failure_goes_by_the_set()
     ensures { (tests others : List Test) (far : ℕ) (expected : List ℕ)
         → ((test : Test) → (Contains tests test ↔ Contains others test)) → IsFurthest tests far expected

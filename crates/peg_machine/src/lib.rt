@@ -1,12 +1,18 @@
-//! The parsing machine: the code of a checked grammar, run on a text.
+//! The parsing machine: runs the code of a checked grammar on a text.
 //!
-//! Its definitions, in the order of reading: `Stands`, where code stands; `Steps`, how many steps a form takes; `Local`,
-//! the machine local to one rule's body, and `Runs`, what code does in it; `OpenRows`, `Running` and `Begins`, what each
-//! use of a rule that is under way has been promised; `Noted` and `Underway`, what is known of a run at each moment;
-//! `Accounts`, how its steps stand to its own and its plain steps; `Packrat`, why none is begun twice; `Remembered`, what
-//! a memo is known to hold, and `Going`, all of this together; `Entries`, its stack as it stands in memory, `Stamps`, its
-//! failed tests, and `Moments`, what is known of both; `CoreOutcome` and `Shown`, what a run has to answer and to show;
-//! `Machine` and `Watched`, what the code's own types are seen as.
+//! Its definitions, in reading order:
+//!
+//! - `Stands`: where the code of a form is.
+//! - `Steps`: how many steps a form takes.
+//! - `Local` and `Runs`: the machine local to one rule's body, and what code does in it.
+//! - `OpenRows`, `Running` and `Begins`: the result that each active call expects.
+//! - `Noted` and `Underway`: the invariant of a run.
+//! - `Accounts`: the steps of a run in terms of own steps and plain steps.
+//! - `Packrat`: why no rule body runs twice at the same position.
+//! - `Remembered` and `Going`: the invariant of a memo, and of a run with a memo.
+//! - `Entries`, `Stamps` and `Moments`: the stack and the failed tests in memory, and the invariant on them.
+//! - `CoreOutcome` and `Shown`: what a run has to answer and to trace.
+//! - `Machine` and `Watched`: the views of the types of the code.
 #![tactic(auto)]
 
 pub mod account_laws;

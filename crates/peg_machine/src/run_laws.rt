@@ -1,11 +1,11 @@
-//! Laws of runs of a whole program: what each use of a rule that is under way has been promised, and how each
-//! instruction keeps it. Each function does nothing; its contract is the law.
+//! Laws of runs of a whole program: the result that each active call expects, and how each instruction preserves this
+//! expectation. Each function has an empty body; its contract is the law.
 ghost use Rattle.std.specs.Prelude.{◌≡◌, ◌≢◌, ◌+◌, ◌++◌, ◌∷◌, ◌≤◌, [], All, Contains, length, slice_get, List, ℕ};
 ghost use Rattle.std.specs.Prelude.{None, Option, Some};
 ghost use Rattle.peg_code.specs.Instructions.{Call, Commit, End, FailTwice, Ret};
 ghost use Rattle.peg_core.specs.CoreForm.{CoreForm, Rule};
 ghost use Rattle.peg_core.specs.CoreRecord.{IsCoreRecord};
-ghost use Rattle.peg_ford.specs.Record.{Failed, Matched, Record, Test, Use};
+ghost use Rattle.peg_semantics.specs.Record.{Failed, Matched, Record, Test, Use};
 ghost use Rattle.peg_machine.specs.Local.{both, fall_back, local, only_steps, step_of, working, work_of};
 ghost use Rattle.peg_machine.specs.Local.{Finish, Next, Way, Work};
 ghost use Rattle.peg_machine.specs.Noted.{IsNoted, TaskNoted};
@@ -20,16 +20,17 @@ ghost use Rattle.peg_machine.specs.Stands.{Enters};
 ghost use Rattle.peg_tree.specs.Rows.{Row, rows_of};
 ghost use Rattle.peg_tree.specs.Trees.{Trees};
 
-/// A run from a use whose body has a record is promised this record.
+/// A run from a call whose body has a record is expected to compute this record.
 pub fn a_run_begins_as_promised()
     ensures { (job : Job) (entries : List ℕ) → Enters job.code entries job.bodies → (pair : Use) (body : CoreForm)
         (r : Record) → slice_get job.bodies pair.rule ≡ Some body → IsCoreRecord job.bodies job.text body pair.place r
         → RunBegins job entries pair r }
 {}
 
-/// What an instruction does, whatever comes next, or what some rounds do, whatever rounds are left, is done of the
-/// promise: its work comes first, and what is left to come next is promised.
-pub fn what_is_done_is_done_of_the_promise()
+/// The work of an instruction comes first in the work expected, and the rest remains. This holds for an instruction
+/// whose effect doesn't depend on what follows. It also holds for several rounds whose effect doesn't depend on the
+/// rounds left.
+pub fn a_step_consumes_promised_work()
     ensures step { (job : Job) (pc place : ℕ) (rows : List Row) (task : Task) → Running job pc place rows task
         → (work : Work) (later : Next → Option Finish)
         → ((next : Next) → step_of (setting_of job task.rounds) next (slice_get job.code pc) pc place rows task.ways
@@ -43,8 +44,8 @@ pub fn what_is_done_is_done_of_the_promise()
         → (rest : Work) × (task.to_come ≡ both work rest) × Keeps job (worked task work rest) later }
 {}
 
-/// A run is never stuck: where a task runs there is an instruction, and not the end of the run; and a way back that is
-/// to be taken away is there.
+/// A run is never stuck: there is an instruction, which isn't `End`. A choice point that is to be popped is on the
+/// stack.
 pub fn a_run_is_never_stuck()
     ensures there { (job : Job) (pc place : ℕ) (rows : List Row) (task : Task) → Running job pc place rows task
         → slice_get job.code pc ≢ None }
@@ -62,7 +63,8 @@ pub fn a_run_is_never_stuck()
         × Failing job (record (worked task (only_steps 1) rest) { ways = ways }) }
 {}
 
-/// A call whose record is known, as from a memo, is answered by it; any other begins its use, for which its task waits.
+/// A call whose record is known, as from a memo, is answered by it. Any other call runs its body while its caller
+/// waits.
 pub fn a_call_is_answered_or_begins()
     ensures answered { (job : Job) (pc place : ℕ) (rows : List Row) (task : Task) (rule : ℕ) (r : Record)
         → Running job pc place rows task → slice_get job.code pc ≡ Some (Call rule)
@@ -81,7 +83,7 @@ pub fn a_call_is_answered_or_begins()
         ≡ begins.steps + steps_to_come (task ∷ older) }
 {}
 
-/// At the end of its rule a use returns to its caller, or a run from its start to instruction 0, with its row closed.
+/// At the end of its rule a call returns to its caller with its node closed. The start returns to instruction 0.
 pub fn a_use_returns_with_its_tree()
     ensures returns { (job : Job) (pc place : ℕ) (rows : List Row) (task caller : Task) (older : List Task)
         (promised : Promised job pc place rows task (caller ∷ older)) → slice_get job.code pc ≡ Some Ret
@@ -99,7 +101,7 @@ pub fn a_use_returns_with_its_tree()
         → close_row (length before) (opened before pair ++ rows_of trees) pair end ≡ closed before pair end trees }
 {}
 
-/// A task that fails goes back to its newest way; where it has none, its record is failed, and its caller fails too.
+/// A task that fails resumes at its newest choice point. Without one its record is failed, and its caller fails too.
 pub fn a_use_falls_back_or_through()
     ensures way { (job : Job) (task : Task) (way : Way) (ways : List Way) → task.ways ≡ way ∷ ways → Failing job task
         → Running job way.pc way.place way.rows (record task { ways = ways }) }
@@ -110,7 +112,7 @@ pub fn a_use_falls_back_or_through()
         → Falling job (resumed job caller task.frame.pair falling.0.answer) older }
 {}
 
-/// The failed tests and the uses of each record that is under way are among those of the start's record.
+/// The failed tests and the calls of each active call's record are among those of the start's record.
 pub fn each_task_is_part_of_the_start()
     ensures { (job : Job) (n : ℕ) (called : Frame) (done to_come : Work) (later : ℕ → Option Finish)
         (older : List Task) (promise : Promise job n called.pair called.before done to_come later)
@@ -122,7 +124,7 @@ pub fn each_task_is_part_of_the_start()
         → Contains (start_of called.pair older ∷ all.uses) pair) }
 {}
 
-/// No use is under way twice: no task that waits is of the pair of a newer one.
+/// No call is active twice: no waiting task has the pair of a newer one.
 pub fn no_use_is_under_way_twice()
     ensures { (job : Job) (n m : ℕ) (pair : Use) (before : List Row) (done to_come : Work)
         (later : ℕ → Option Finish) (called : Frame) (older : List Task)
@@ -130,7 +132,7 @@ pub fn no_use_is_under_way_twice()
         → All (λ (task : Task). task.frame.pair ≢ pair) older }
 {}
 
-/// What a task has done stays noted: where it begins, where it does more, where it ends, and in its caller then.
+/// The work of a task stays noted: at its start, after more work, at its end, and then in its caller.
 pub fn what_is_done_is_noted()
     ensures begins { (tests : List Test) (uses : List Use) (pair : Use) (back : ℕ) (before : List Row) (rounds : ℕ)
         (to_come : Work) → Contains uses pair → TaskNoted tests uses (begun pair back before rounds to_come) }

@@ -1,22 +1,22 @@
-//! The failed tests of a run: one stamp for each terminal, so that a test is noted in constant time.
+//! The failed tests of a run: one failure position per terminal, so a test is recorded in constant time.
 ghost use Rattle.std.specs.Prelude.{◌≡◌, ◌↔◌, ◌∷◌, ◌^◌, ◌-◌, ◌<◌, ◌≤◌, ℕ, [], All, Contains, IfOk, List, length};
 ghost use Rattle.std.specs.Prelude.{slice_index};
 ghost use Rattle.std.specs.List.Sorted.{IsStrictlyIncreasing};
-ghost use Rattle.peg_ford.specs.Furthest.{IsFurthest};
-ghost use Rattle.peg_ford.specs.Record.{test_of, Test};
+ghost use Rattle.peg_semantics.specs.Furthest.{IsFurthest};
+ghost use Rattle.peg_semantics.specs.Record.{test_of, Test};
 ghost use Rattle.peg_machine.specs.Stamps.{stamp_at, stamps_at, AreStampsOf};
 
 use std::alloc::{AllocError, Global};
 
-/// The furthest failure: the greatest place where a test failed, in bytes, and the numbers of the terminals whose test
-/// failed there, ascending.
+/// The furthest failure: the greatest byte offset at which a terminal test failed, and the numbers of the terminals
+/// that failed there, ascending.
 #[derive(Debug, Drop)]
 pub(crate) struct Furthest {
     pub(crate) far: u32,
     pub(crate) expected: Vec<u32>,
 }
 
-/// The failed tests so far, by stamps: for each terminal 1 + the greatest place where a test of it failed, and 0 where
+/// The failure positions of the terminals: for each terminal 1 + the greatest offset at which its test failed, or 0 if
 /// none did.
 #[derive(Debug, Drop)]
 pub(crate) struct Stamps {
@@ -25,7 +25,8 @@ pub(crate) struct Stamps {
 }
 
 impl Stamps {
-    /// No test has failed, of so many terminals. Linear in their number.
+    /// Returns the failure positions of this many terminals before any test has failed. Linear in the number of
+    /// terminals.
     pub(crate) fn new(alloc: Global, terminals: u32) -> Result<Stamps, AllocError>
         ensures nothing { IfOk result (λ s. AreStampsOf [] s.stamps.items) }
         ensures count { IfOk result (λ s. length s.stamps.items ≡ terminals) }
@@ -35,7 +36,7 @@ impl Stamps {
         })
     }
 
-    /// Notes that the test of a terminal failed at a place. Constant time.
+    /// Records that the test of a terminal failed at a position. Constant time.
     pub(crate) fn note(&mut self, terminal: u32, place: u32)
         requires within { terminal < length self.old.stamps.items }
         requires room { place < 2 ^ 32 - 1 }
@@ -48,7 +49,7 @@ impl Stamps {
         *stamp = (*stamp).max(place + 1);
     }
 
-    /// Notes that tests of these terminals failed at a place, one after the other.
+    /// Records that the tests of several terminals failed at a position.
     pub(crate) fn note_all(&mut self, terminals: &[u32], place: u32)
         requires within { All (λ terminal. terminal < length self.old.stamps.items) terminals.now }
         requires room { place < 2 ^ 32 - 1 }
@@ -59,7 +60,7 @@ impl Stamps {
         }
     }
 
-    /// The furthest failure of the tests noted. Linear in the number of terminals.
+    /// Returns the furthest failure of the tests recorded. Linear in the number of terminals.
     pub(crate) fn furthest(&self, alloc: Global) -> Result<Furthest, AllocError>
         ensures { IfOk result (λ f. (tests : List Test) → AreStampsOf tests self.now.stamps.items
             → IsFurthest tests f.far f.expected.items) }
@@ -78,7 +79,7 @@ impl Stamps {
     }
 }
 
-// The greatest stamp, 0 of none.
+// The greatest failure position, 0 for an empty list.
 fn greatest_of(stamps: &[u32]) -> u32
     ensures greatest { All (λ stamp. stamp ≤ result) stamps.now }
     ensures there { 0 < result → Contains stamps.now result }
@@ -86,7 +87,7 @@ fn greatest_of(stamps: &[u32]) -> u32
     stamps.iter().copied().max().unwrap_or(0)
 }
 
-// The terminals that have this stamp, ascending.
+// The terminals with this failure position, ascending.
 fn terminals_with(alloc: Global, stamps: &[u32], wanted: u32) -> Result<Vec<u32>, AllocError>
     requires { length stamps.now < 2 ^ 32 }
     ensures ascending { IfOk result (λ terminals. IsStrictlyIncreasing terminals.items) }

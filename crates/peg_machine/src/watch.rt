@@ -1,33 +1,34 @@
-//! What is shown the uses of rules that a run begins.
+//! Tracers: receivers of the rule calls of a run.
 ghost use Rattle.std.specs.Prelude.{◌≡◌, ◌∷◌, ◌++◌, [], map, false, true, Bool, IsTrue, List, OnErr, OnOk};
-ghost use Rattle.peg_ford.specs.Record.{Use};
+ghost use Rattle.peg_semantics.specs.Record.{Use};
 ghost use Rattle.peg_machine.specs.Watched.{use_at, use_of};
 
 use std::alloc::{AllocError, Global};
 use std::marker::Model;
 
-/// What is shown each rule body that a run begins, in order: the start first, and no use that a memo answers.
+/// A tracer of rule calls. It is called for each rule body that runs, in order, the start first. Calls that a memo
+/// answers are left out.
 pub trait Watch {
-    // whether anything is promised of what it was shown
+    // whether the contracts promise anything about the calls traced
     ghost records: { Bool };
 
-    // the uses that it was shown
+    // the calls traced so far
     ghost shown: { Self → List Use };
 
-    /// Whether it looks: one that looks away isn't shown every body.
+    /// Returns whether the tracer is active. An inactive tracer isn't called for every body.
     fn looks(&self) -> bool
         ensures { ¬ IsTrue result → records ≡ false }
     {
         true
     }
 
-    /// Shows it that the body of a rule begins at a place. An `Err` leaves what it was shown.
+    /// Records that the body of a rule runs from a position. An `Err` leaves the calls recorded so far.
     fn begin(&mut self, rule: u32, place: u32) -> Result<(), AllocError>
         ensures ok { OnOk result (IsTrue records → shown self.new ≡ shown self.old ++ use_at rule place ∷ []) }
         ensures err { OnErr result (IsTrue records → shown self.new ≡ shown self.old) };
 }
 
-/// Looks away.
+/// A tracer that ignores all calls.
 #[derive(Clone, Copy, Debug, Drop)]
 pub struct NoWatch;
 
@@ -45,7 +46,7 @@ impl Watch for NoWatch {
     }
 }
 
-/// Keeps a list of what it is shown.
+/// A tracer that stores the calls in a list.
 #[derive(Debug, Drop)]
 pub struct ListWatch {
     pairs: Vec<(u32, u32)>,
@@ -53,7 +54,7 @@ pub struct ListWatch {
 
 impl Model for ListWatch {
     ghost use Rattle.std.specs.Prelude.{map, List};
-    ghost use Rattle.peg_ford.specs.Record.{Use};
+    ghost use Rattle.peg_semantics.specs.Record.{Use};
     ghost use Rattle.peg_machine.specs.Watched.{use_of};
 
     ghost Value = { List Use };
@@ -62,7 +63,7 @@ impl Model for ListWatch {
 }
 
 impl ListWatch {
-    /// An empty list, which takes no memory yet.
+    /// Returns an empty list. Doesn't allocate.
     pub fn new(alloc: Global) -> ListWatch
         ensures { result ≡ [] }
     {
@@ -71,7 +72,7 @@ impl ListWatch {
         }
     }
 
-    /// The rules, by their numbers, and the places where they began, in order.
+    /// Returns the rule numbers and the start positions of the calls, in order.
     pub fn pairs(&self) -> &[(u32, u32)]
         ensures { map use_of result.now ≡ self.now }
     {

@@ -1,4 +1,4 @@
-//! As many of `a` as of `b` as of `c`, one after the other: no grammar without predicates says that.
+//! The language a^n b^n c^n, which isn't context-free; its grammar uses predicates.
 use crate::outcomes::{Case, assert_outcome, failed, matched};
 use crate::pairs::program_of;
 use crate::runs::run_plain;
@@ -15,7 +15,7 @@ const COUNTS: &[u8] = b"\
     A <- 'a' A 'b' / ''\n\
     B <- 'b' B 'c' / ''\n";
 
-// A run from the first rule.
+// Runs a program from its first rule.
 fn run_first(
     rt: &impl Abort,
     alloc: Global,
@@ -26,7 +26,7 @@ fn run_first(
     Ok(run_plain(alloc, program, text, None)?)
 }
 
-// A text has this outcome, and the one terminal that is expected stands there in the file.
+// Checks the outcome on a text, and the span in the file of the one expected terminal.
 fn assert_told(rt: &impl Abort, alloc: Global, case: Case, wanted: Span) -> Result<(), Fail> {
     let program = program_of(alloc, COUNTS)?;
     let answer = run_first(rt, alloc, &program, case.text)?;
@@ -51,7 +51,7 @@ fn a_missing_byte_at_the_end_is_told(rt: HostRuntime) -> Result<(), Fail> {
     assert_told(&rt, rt.alloc(), case, Span { start: 56, end: 59 })
 }
 
-// So many of each byte.
+// A text with `count` of each byte.
 fn counted(alloc: Global, count: usize) -> Result<Vec<u8>, AllocError> {
     let mut text = Vec::new(alloc);
     for byte in *b"abc" {
@@ -60,7 +60,7 @@ fn counted(alloc: Global, count: usize) -> Result<Vec<u8>, AllocError> {
     Ok(text)
 }
 
-// How many nodes are of a rule.
+// The number of nodes of a rule.
 fn count_of(tree: &Tree, rule: u32) -> usize {
     (0..tree.len())
         .filter(|node| tree.rule(*node) == rule)

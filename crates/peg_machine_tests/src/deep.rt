@@ -1,4 +1,4 @@
-//! Runs as deep and as long as the native stack would never bear.
+//! Runs that are deeper and longer than the native stack would allow.
 use crate::pairs::program_of;
 use crate::runs::run_plain;
 use peg_machine::{Answer, RunFault};
@@ -9,21 +9,21 @@ use std::test::Fail;
 
 const MILLION: usize = 1_000_000;
 
-// A run of the program of a file from the first rule.
+// Runs the program of a file from the first rule.
 fn run_first(rt: &impl Abort, alloc: Global, file: &[u8], text: &[u8]) -> Result<Answer, Fail> {
     let program = program_of(alloc, file)?;
     assert!(rt; program.rules() > 0);
     Ok(run_plain(alloc, &program, text, None)?)
 }
 
-// So many of a byte, then other bytes.
+// A byte repeated `count` times, followed by other bytes.
 fn many_and(alloc: Global, byte: u8, count: usize, end: &[u8]) -> Result<Vec<u8>, AllocError> {
     let mut text = vec![in alloc; byte; count]?;
     text.extend_from_slice(end)?;
     Ok(text)
 }
 
-// An answer is a match up to there, by a tree of so many nodes and as many levels, with this furthest failure.
+// Checks a match: its end, the number of nodes and levels of its tree, and the furthest failure.
 fn assert_matched(
     rt: &impl Abort,
     answer: &Answer,

@@ -1,18 +1,18 @@
-//! Numbers that look like chance, the same in each run.
+//! Pseudo-random numbers, the same in each run.
 ghost use Rattle.std.specs.Prelude.{◌<◌};
 
-/// What is thrown next, by Knuth's linear congruence over 64 bits.
+/// The state of the generator: Knuth's 64-bit linear congruential generator.
 #[derive(Drop)]
-pub(crate) struct Dice {
+pub(crate) struct Rng {
     state: u64,
 }
 
-impl Dice {
-    pub(crate) fn new(seed: u64) -> Dice {
-        Dice { state: seed }
+impl Rng {
+    pub(crate) fn new(seed: u64) -> Rng {
+        Rng { state: seed }
     }
 
-    /// A number below another one.
+    /// Returns a number below `count`.
     pub(crate) fn below(&mut self, count: usize) -> usize
         requires { 0 < count }
         ensures { result < count }

@@ -1,5 +1,5 @@
-//! The grammars of the folder `examples` at the top, over their texts: the machine's outcomes are those of the
-//! evaluator. The folder's `same.py` sees to it that they are the same here and there.
+//! The grammars of the folder `examples` on their texts: the machine's outcomes are those of the evaluator. The script
+//! `same.py` of that folder checks that the copies are equal.
 use crate::pairs::{assert_same, pair_of, same_outcome};
 use peg_tree::{Outcome, Parsed};
 use std::alloc::Global;
@@ -109,7 +109,7 @@ pub(crate) const URI: &[u8] = b"\
     Hex        <- [0-9a-fA-F]\n\
     Delimiter  <- [!$&'()*+,;=]\n";
 
-// 0 where the whole text matched, 1 where it didn't.
+// 0 if the whole text matched, 1 otherwise.
 fn status_of(outcome: &Outcome, text: &[u8]) -> u8 {
     match &outcome.result {
         Parsed::Matched { end, .. } if *end as usize == text.len() => 0,
@@ -117,8 +117,7 @@ fn status_of(outcome: &Outcome, text: &[u8]) -> u8 {
     }
 }
 
-// Each text, which stands behind its file's name, is matched whole, or fails; and from each rule on both outcomes are
-// the same.
+// Checks whether each text, given after its file name, matches as a whole. From each rule both outcomes are the same.
 fn assert_ends(
     rt: &impl Abort,
     alloc: Global,

@@ -1,26 +1,26 @@
-//! A memo that forgets.
+//! A memo that evicts all its entries from time to time.
 ghost use Rattle.std.specs.Prelude.{◌≡◌, [], false, IfOk};
 ghost use Rattle.peg_memo.specs.Held.{held_in};
 
 use peg_memo::{Found, Keep, LruMemo};
 use std::alloc::{AllocError, Global};
 
-// How many results it holds at most: more than it keeps until it forgets them.
+// The capacity of the memo, more than it stores between two evictions.
 const CAPACITY: u32 = 4;
 
-/// At each third result that it is to keep it forgets all that it held, and that one too.
+/// A memo that at each third result offered evicts all entries, and doesn't store that result.
 #[derive(Drop)]
-pub(crate) struct Forgetful {
+pub(crate) struct EvictingMemo {
     alloc: Global,
     memo: LruMemo,
     offered: u32,
 }
 
-impl Forgetful {
-    pub(crate) fn new(alloc: Global) -> Result<Forgetful, AllocError>
+impl EvictingMemo {
+    pub(crate) fn new(alloc: Global) -> Result<EvictingMemo, AllocError>
         ensures { IfOk result (λ it. it.memo.pairs ≡ []) }
     {
-        Ok(Forgetful {
+        Ok(EvictingMemo {
             alloc,
             memo: LruMemo::new(alloc, CAPACITY)?,
             offered: 0,
@@ -28,7 +28,7 @@ impl Forgetful {
     }
 }
 
-impl Keep for Forgetful {
+impl Keep for EvictingMemo {
     ghost held = { λ it. held_in it.memo.pairs };
 
     ghost room = { λ _. 0 };

@@ -1,5 +1,5 @@
-//! Tests of the parsing machine, by the public calls: on small grammars against what was worked out by hand, on deep
-//! nesting and long texts, and on many grammars and texts against the evaluator of written expressions.
+//! Tests of the parsing machine, by its public calls. Small grammars are compared with results worked by hand. Further
+//! tests cover deep nesting, long texts, and many grammars and texts that are compared with the evaluator.
 #![tactic(auto)]
 
 #[cfg(test)]

@@ -1,4 +1,4 @@
-//! Each limit of steps, by shortcuts and step by step.
+//! Step limits, by shortcuts and one instruction at a time.
 use crate::pairs::program_of;
 use crate::runs::{run_from, run_step_by_step};
 use peg_code::Program;
@@ -7,7 +7,7 @@ use std::alloc::Global;
 use std::process::Abort;
 use std::test::Fail;
 
-// The steps of an answer; none where the limit was met.
+// The steps of an answer; `None` if the limit was reached.
 fn steps_of(told: Result<Answer, RunFault>) -> Result<Option<u64>, Fail> {
     match told {
         Ok(answer) => Ok(Some(answer.steps)),
@@ -16,7 +16,7 @@ fn steps_of(told: Result<Answer, RunFault>) -> Result<Option<u64>, Fail> {
     }
 }
 
-// The steps with a limit are the same by shortcuts and step by step.
+// Checks that the steps under a limit are the same by shortcuts and one instruction at a time.
 fn assert_limited(
     rt: &impl Abort,
     alloc: Global,
@@ -31,7 +31,7 @@ fn assert_limited(
     Ok(plain)
 }
 
-// Each limit from 1 on is met step by step and by shortcuts alike, up to the one that is enough.
+// Checks each limit from 1 up to the one that is enough, by shortcuts and one instruction at a time.
 fn assert_limits(
     rt: &impl Abort,
     alloc: Global,
@@ -47,8 +47,8 @@ fn assert_limits(
     Ok(())
 }
 
-// Worked by hand: of `'a'*` each a takes 3 steps and what ends it 2, and then there are a return and the end; of
-// `(!'b' .)*` each byte takes 5, and a b or the text's end 4.
+// Worked by hand. In `'a'*` each a takes 3 steps and the end of the star 2; a return and the end of the run follow. In
+// `(!'b' .)*` each byte takes 5 steps, and a b or the text's end 4.
 #[test]
 fn each_limit_is_met_at_its_step(rt: HostRuntime) -> Result<(), Fail> {
     let alloc = rt.alloc();
@@ -61,8 +61,8 @@ fn each_limit_is_met_at_its_step(rt: HostRuntime) -> Result<(), Fail> {
     assert_limits(&rt, alloc, b"S <- 'a' S / 'b'", b"aab", 15)
 }
 
-// Worked by hand: a call and a return are a step each. Of `(A / B)*` an a takes 7 steps, bc takes 9 and the end 6; of
-// `!A . S / ''` a byte that is taken takes 8, and the x 6.
+// Worked by hand. A call and a return are a step each. In `(A / B)*` an a takes 7 steps, bc takes 9 and the end 6. In
+// `!A . S / ''` a byte that is consumed takes 8 steps, and the x 6.
 #[test]
 fn each_limit_is_met_at_its_step_through_calls(rt: HostRuntime) -> Result<(), Fail> {
     let alloc = rt.alloc();

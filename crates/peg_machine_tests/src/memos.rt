@@ -1,4 +1,4 @@
-//! Runs with memos and with watches, against what was worked out by hand.
+//! Runs with memos and with tracers, against results worked by hand.
 ghost use Rattle.std.specs.Prelude.{◌<◌, length, IfOk};
 
 use crate::outcomes::{assert_alike, assert_outcome, failed, matched};
@@ -20,7 +20,7 @@ const COUNTS: &[u8] = b"\
     A <- 'a' A 'b' / ''\n\
     B <- 'b' B 'c' / ''\n";
 
-// The program of a file whose grammar is well-formed, which has a rule.
+// The program of a file with a well-formed grammar and at least one rule.
 fn some_program(rt: &impl Abort, alloc: Global, file: &[u8]) -> Result<Program, Fail>
     ensures { IfOk result (λ program. 0 < length program.core.bodies) }
 {
@@ -29,7 +29,7 @@ fn some_program(rt: &impl Abort, alloc: Global, file: &[u8]) -> Result<Program, 
     Ok(program)
 }
 
-// The pairs that a run without a memo shows.
+// Checks the pairs that a run without a memo traces.
 fn assert_pairs(
     rt: &impl Abort,
     alloc: Global,
@@ -81,7 +81,7 @@ fn a_memo_of_one_result_saves_six_steps(rt: HostRuntime) -> Result<(), Fail> {
     Ok(())
 }
 
-/// So many parentheses round an `a`, each followed by `y`.
+/// Returns `count` parentheses around an `a`, each followed by `y`.
 pub(crate) fn parentheses(alloc: Global, count: usize) -> Result<Vec<u8>, AllocError> {
     let mut text = vec![in alloc; b'('; count]?;
     text.push(b'a')?;
@@ -91,7 +91,7 @@ pub(crate) fn parentheses(alloc: Global, count: usize) -> Result<Vec<u8>, AllocE
     Ok(text)
 }
 
-// The tree is a chain of nodes, each one byte further in, and two bytes at its end.
+// Checks that the tree is a chain of nodes. Each one starts one byte later and ends two bytes earlier than its parent.
 fn assert_chain(rt: &impl Abort, tree: &Tree, nodes: u32) {
     assert_eq!(rt; tree.len(), nodes as usize);
     for node in 0..tree.len() {
@@ -102,7 +102,7 @@ fn assert_chain(rt: &impl Abort, tree: &Tree, nodes: u32) {
     }
 }
 
-// What so many parentheses, each closed before a `y`, take of steps; below, the text is that of `parentheses`.
+// The steps of a number of parentheses, each closed before a `y`; the text is that of `parentheses`.
 #[derive(Clone, Copy)]
 struct Nested<'a> {
     program: &'a Program,
@@ -111,7 +111,7 @@ struct Nested<'a> {
     steps: u64,
 }
 
-// With a memo of this capacity so many steps are enough, and one less isn't.
+// Checks that this many steps are enough with a memo of this capacity, and that one less isn't.
 fn assert_nested(
     rt: &impl Abort,
     alloc: Global,
@@ -156,7 +156,7 @@ fn assert_nested(
     Ok(())
 }
 
-// At capacities 1 and 4096 so many parentheses take so many steps.
+// Checks the steps of this many parentheses at capacities 1 and 4096.
 fn assert_parentheses(rt: &impl Abort, alloc: Global, count: u32, steps: u64) -> Result<(), Fail>
     requires { count < 1000 }
 {
@@ -177,7 +177,7 @@ fn thirty_parentheses_take_few_steps_with_a_memo(rt: HostRuntime) -> Result<(), 
     assert_parentheses(&rt, rt.alloc(), 30, 367)
 }
 
-// Without a memo no machine would come to the end of these.
+// Without a memo the time would be exponential.
 #[test]
 fn a_hundred_parentheses_take_few_steps_with_a_memo(rt: HostRuntime) -> Result<(), Fail> {
     assert_parentheses(&rt, rt.alloc(), 100, 1_207)
@@ -193,7 +193,7 @@ fn a_missing_byte_is_told_with_each_memo(rt: HostRuntime) -> Result<(), Fail> {
     Ok(())
 }
 
-// The evaluator's outcome comes with each memo, one that forgets among them.
+// Each memo gives the evaluator's outcome, including one that evicts all its entries.
 #[test]
 fn worked_texts_have_one_outcome_with_each_memo(rt: HostRuntime) -> Result<(), Fail> {
     let alloc = rt.alloc();

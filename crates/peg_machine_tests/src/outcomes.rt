@@ -1,12 +1,13 @@
-//! What is wanted of a run, and outcomes that are compared.
+//! Expected outcomes, and comparisons of outcomes.
 use peg_tree::{Outcome, Parsed, Tree};
 use std::alloc::{AllocError, Global};
 use std::process::Abort;
 
-/// A node of a tree: its rule, its first byte, the byte behind it, how many children it has.
+/// A node of a tree: its rule, its start, its end, and its number of children.
 pub(crate) type Node = (u32, u32, u32, usize);
 
-/// What is wanted on a text: how far it matches, if it does; the furthest failure; the tree's nodes in preorder.
+/// The expected outcome on a text: the end of the match, if any, the furthest failure, and the tree's nodes in
+/// preorder.
 #[derive(Clone, Copy)]
 pub(crate) struct Case {
     pub(crate) text: &'static [u8],
@@ -56,7 +57,7 @@ fn nodes_of(alloc: Global, tree: &Tree) -> Result<Vec<Node>, AllocError> {
     Ok(nodes)
 }
 
-/// Compares an outcome with what is wanted.
+/// Compares an outcome with the expected one.
 pub(crate) fn assert_outcome(
     rt: &impl Abort,
     alloc: Global,
@@ -77,7 +78,7 @@ pub(crate) fn assert_outcome(
     Ok(())
 }
 
-// Whether two trees have the same nodes: of the same rules, on the same bytes, with as many children each.
+// Whether two trees have the same nodes: the same rules, spans and child counts.
 fn are_same_trees(one: &Tree, other: &Tree) -> bool {
     if one.len() != other.len() {
         return false;
@@ -93,7 +94,7 @@ fn are_same_trees(one: &Tree, other: &Tree) -> bool {
     true
 }
 
-// Whether two results are the same: no match, or one with the same end and the same tree.
+// Whether two results are the same: both failures, or matches with the same end and tree.
 fn are_same_results(one: &Parsed, other: &Parsed) -> bool {
     match (one, other) {
         (Parsed::Failed, Parsed::Failed) => true,
@@ -108,7 +109,8 @@ fn are_same_results(one: &Parsed, other: &Parsed) -> bool {
     }
 }
 
-/// Two outcomes of a parse are the same: the result and the furthest failure. The parse is told where they aren't.
+/// Checks that two outcomes are the same: the result and the furthest failure. `parse` describes the parse in the
+/// message.
 pub(crate) fn assert_alike(rt: &impl Abort, outcome: &Outcome, wanted: &Outcome, parse: &str) {
     assert_eq!(rt; outcome.far, wanted.far, "{parse}");
     let expected = wanted.expected.as_slice();

@@ -1,6 +1,6 @@
-//! Grammars with their programs, from grammar files, and the machine beside the evaluator of written expressions.
+//! Grammars with their programs, from grammar files, and comparisons of the machine with the evaluator.
 ghost use Rattle.std.specs.Prelude.{◌≡◌, length, IfOk, OnOk};
-ghost use Rattle.peg_ford.specs.WellFormed.{IsWellFormedGrammar};
+ghost use Rattle.peg_semantics.specs.WellFormed.{IsWellFormedGrammar};
 ghost use Rattle.peg_grammar.specs.GrammarRules.{rules_in};
 
 use crate::outcomes::assert_alike;
@@ -16,7 +16,7 @@ use std::alloc::{AllocError, Global};
 use std::process::Abort;
 use std::test::Fail;
 
-/// A file, its grammar, which is well-formed, and its program.
+/// A file, its well-formed grammar, and its program.
 #[derive(Drop)]
 pub(crate) struct Pair {
     file: Vec<u8>,
@@ -35,7 +35,7 @@ fn checked_of(alloc: Global, grammar: &Grammar) -> Result<Checked, CheckFault>
     check(alloc, core)
 }
 
-// The pair of a file whose grammar was checked.
+// The pair of a file with a checked grammar.
 fn compiled(
     alloc: Global,
     file: Vec<u8>,
@@ -53,7 +53,7 @@ fn compiled(
     })
 }
 
-/// The grammar of a file with its program, or none where it isn't well-formed.
+/// Returns the grammar of a file with its program, or `None` if it isn't well-formed.
 pub(crate) fn accepted_pair(alloc: Global, file: &[u8]) -> Result<Option<Pair>, Fail> {
     let grammar = Grammar::new(alloc, read(alloc, file)?)?;
     match checked_of(alloc, &grammar) {
@@ -66,18 +66,18 @@ pub(crate) fn accepted_pair(alloc: Global, file: &[u8]) -> Result<Option<Pair>, 
     }
 }
 
-/// The grammar of a file, which is well-formed, with its program.
+/// Returns the grammar and the program of a file with a well-formed grammar.
 pub(crate) fn pair_of(alloc: Global, file: &[u8]) -> Result<Pair, Fail> {
     Ok(accepted_pair(alloc, file)?.ok_or("a grammar that isn't well-formed")?)
 }
 
-/// The program of a file whose grammar is well-formed.
+/// Returns the program of a file with a well-formed grammar.
 pub(crate) fn program_of(alloc: Global, file: &[u8]) -> Result<Program, Fail> {
     let Pair { program, .. } = pair_of(alloc, file)?;
     Ok(program)
 }
 
-// Two outcomes of a text from a start are the same; the parse is told where they aren't.
+// Checks that two outcomes of a text from a start are the same; the message describes the parse.
 fn assert_told_alike(
     rt: &impl Abort,
     alloc: Global,
@@ -93,8 +93,8 @@ fn assert_told_alike(
     Ok(())
 }
 
-/// All outcomes of a text from a start, the machine's by shortcuts and step by step and the evaluator's, are the same; it is
-/// handed back. By shortcuts the machine takes as many steps.
+/// Checks that all outcomes of a text from a start are the same: the evaluator's, and the machine's with and without
+/// shortcuts. Returns this outcome. The machine takes as many steps by shortcuts.
 pub(crate) fn same_outcome(
     rt: &impl Abort,
     alloc: Global,
@@ -112,8 +112,8 @@ pub(crate) fn same_outcome(
     Ok(wanted)
 }
 
-/// The outcome of a text from a start is the evaluator's with each memo: of several sizes, those that keep what pays, and one
-/// that forgets.
+/// Checks the outcome of a text from a start against the evaluator's with each memo: several capacities, selective
+/// memos, and one that evicts all its entries.
 pub(crate) fn same_outcome_with_memos(
     rt: &impl Abort,
     alloc: Global,
@@ -144,7 +144,7 @@ pub(crate) fn same_outcome_with_memos(
     Ok(wanted)
 }
 
-/// Both outcomes of a text are the same from each rule on.
+/// Checks that both outcomes of a text are the same from each rule.
 pub(crate) fn assert_same(
     rt: &impl Abort,
     alloc: Global,

@@ -1,4 +1,4 @@
-//! Each front of a text of 2,048 bytes, by three of the example grammars: the machine's outcomes are those of the
+//! Each prefix of a text of 2,048 bytes, by three of the example grammars: the machine's outcomes are those of the
 //! evaluator.
 use crate::examples::{ARITHMETIC, CSV, JSON};
 use crate::pairs::{pair_of, same_outcome};
@@ -8,7 +8,7 @@ use std::test::Fail;
 
 const BYTES: usize = 2_048;
 
-// A text of that many bytes: a first piece, and then another one again and again.
+// A text of that many bytes: a first piece, followed by copies of another one.
 fn text_of(alloc: Global, first: &[u8], piece: &[u8]) -> Result<Vec<u8>, AllocError> {
     let mut text = Vec::from_slice(alloc, first)?;
     for _ in 0..BYTES {
@@ -18,7 +18,7 @@ fn text_of(alloc: Global, first: &[u8], piece: &[u8]) -> Result<Vec<u8>, AllocEr
     Ok(text)
 }
 
-// Both outcomes of each front of a text are the same.
+// Checks that both outcomes of each prefix of a text are the same.
 fn assert_fronts(rt: &impl Abort, alloc: Global, file: &[u8], text: &[u8]) -> Result<(), Fail> {
     let pair = pair_of(alloc, file)?;
     for len in 0..=text.len() {

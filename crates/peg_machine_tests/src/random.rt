@@ -1,23 +1,23 @@
-//! Small grammars and texts by chance, of which the machine's outcomes are those of the evaluator, with each memo.
+//! Small random grammars and texts. The machine's outcomes are those of the evaluator, with each memo.
 ghost use Rattle.std.specs.Prelude.{◌<◌, ◌≤◌};
 
-use crate::dice::Dice;
+use crate::dice::Rng;
 use crate::pairs::{Pair, accepted_pair, same_outcome_with_memos};
 use peg_tree::Parsed;
 use std::alloc::{AllocError, Global};
 use std::process::Abort;
 use std::test::Fail;
 
-// How many grammars are tried.
+// The number of grammars.
 const GRAMMARS: usize = 1_500;
 
-// How many texts each has.
+// The number of texts of each grammar.
 const TEXTS: usize = 8;
 
-// How many bytes a text has at most.
+// The most bytes of a text.
 const MOST_BYTES: usize = 8;
 
-// How many levels of operators an expression has at most.
+// The most levels of operators of an expression.
 const LEVELS: u32 = 3;
 
 const NAMES: [&[u8]; 4] = [b"A", b"B", b"C", b"D"];
@@ -26,7 +26,7 @@ const TERMINALS: [&[u8]; 12] = [
     b"'a'", b"'b'", b"'c'", b"'a'", b"'b'", b"'ab'", b"'ca'", b"[a-b]", b"[bc]", b".", b"[]", b"''",
 ];
 
-// Operators of one part: what stands before it and behind.
+// Operators on one part: the text before it and after it.
 const SIGNS: [(&[u8], &[u8]); 5] = [
     (b"(", b")?"),
     (b"(", b")*"),
@@ -35,10 +35,10 @@ const SIGNS: [(&[u8], &[u8]); 5] = [
     (b"!(", b")"),
 ];
 
-// Operators of two parts: what stands between them.
+// Operators on two parts: the text between them.
 const JOINTS: [&[u8]; 2] = [b") (", b") / ("];
 
-// What was compared: how many accepted grammars, runs that matched some byte, and runs that failed.
+// What was compared: accepted grammars, runs that matched some byte, and runs that failed.
 #[derive(Drop, Default)]
 struct Counts {
     grammars: u32,
@@ -46,8 +46,8 @@ struct Counts {
     failed: u32,
 }
 
-// A terminal, or the use of one of so many rules.
-fn add_leaf(dice: &mut Dice, file: &mut Vec<u8>, rules: usize) -> Result<(), AllocError>
+// A terminal, or a call of one of `rules` rules.
+fn add_leaf(dice: &mut Rng, file: &mut Vec<u8>, rules: usize) -> Result<(), AllocError>
     requires some { 0 < rules }
     requires few { rules ≤ 4 }
 {
@@ -59,9 +59,9 @@ fn add_leaf(dice: &mut Dice, file: &mut Vec<u8>, rules: usize) -> Result<(), All
     Ok(())
 }
 
-// An expression of so many levels at most. It recurses as deep as these.
+// An expression of a bounded number of levels. The recursion is as deep as these.
 fn add_expression(
-    dice: &mut Dice,
+    dice: &mut Rng,
     file: &mut Vec<u8>,
     rules: usize,
     levels: u32,
@@ -93,7 +93,7 @@ fn add_expression(
 }
 
 // A grammar file of one to four rules.
-pub(crate) fn some_file(alloc: Global, dice: &mut Dice) -> Result<Vec<u8>, AllocError> {
+pub(crate) fn some_file(alloc: Global, dice: &mut Rng) -> Result<Vec<u8>, AllocError> {
     let rules = dice.below(4) + 1;
     let mut file = Vec::new(alloc);
     for rule in 0..rules {
@@ -105,8 +105,8 @@ pub(crate) fn some_file(alloc: Global, dice: &mut Dice) -> Result<Vec<u8>, Alloc
     Ok(file)
 }
 
-// A text of letters that the grammars have.
-pub(crate) fn some_text(alloc: Global, dice: &mut Dice) -> Result<Vec<u8>, AllocError> {
+// A text of letters that occur in the grammars.
+pub(crate) fn some_text(alloc: Global, dice: &mut Rng) -> Result<Vec<u8>, AllocError> {
     let mut text = Vec::new(alloc);
     for _ in 0..dice.below(MOST_BYTES + 1) {
         text.push(b"abc"[dice.below(3)])?;
@@ -114,7 +114,7 @@ pub(crate) fn some_text(alloc: Global, dice: &mut Dice) -> Result<Vec<u8>, Alloc
     Ok(text)
 }
 
-// Compares both outcomes of a text from each rule on.
+// Compares both outcomes of a text from each rule.
 fn compare(
     rt: &impl Abort,
     alloc: Global,
@@ -140,7 +140,7 @@ fn compare(
 fn compare_texts(
     rt: &impl Abort,
     alloc: Global,
-    dice: &mut Dice,
+    dice: &mut Rng,
     pair: &Pair,
     counts: &mut Counts,
 ) -> Result<(), Fail> {
@@ -154,7 +154,7 @@ fn compare_texts(
 #[test]
 fn grammars_by_chance_have_the_outcomes_of_the_evaluator(rt: HostRuntime) -> Result<(), Fail> {
     let alloc = rt.alloc();
-    let mut dice = Dice::new(2004);
+    let mut dice = Rng::new(2004);
     let mut counts = Counts::default();
     for _ in 0..GRAMMARS {
         let file = some_file(alloc, &mut dice)?;

@@ -1,4 +1,4 @@
-//! A memo that keeps all but one result, and a watch that refuses one pair.
+//! A memo that stores all but one result, and a tracer that fails at one pair.
 ghost use Rattle.std.specs.Prelude.{◌≡◌, ◌<◌, [], false, true, length, IfOk};
 ghost use Rattle.peg_memo.specs.Held.{held_in};
 
@@ -16,7 +16,7 @@ use std::test::Fail;
 
 const TWICE: &[u8] = b"A <- '(' A ')' 'x' / '(' A ')' 'y' / 'a'";
 
-// Keeps all results but the one with this number, of which it says that it couldn't keep it.
+// A memo that stores all results except the one with this number, for which it reports a failure.
 #[derive(Drop)]
 struct AllBut {
     memo: LruMemo,
@@ -61,7 +61,7 @@ impl Keep for AllBut {
     }
 }
 
-// Keeps a list of the first pairs that it is shown, so many, and refuses the next one.
+// A tracer that stores the first `most` pairs and fails at the next one.
 #[derive(Drop)]
 struct First {
     list: ListWatch,
@@ -82,7 +82,8 @@ impl Watch for First {
     }
 }
 
-// A run from the first rule whose memo refuses the result with this number, and how many results it was offered.
+// Runs from the first rule with a memo that doesn't store the result with this number. Also returns the number of
+// results offered.
 fn run_all_but(
     alloc: Global,
     program: &Program,
@@ -96,7 +97,8 @@ fn run_all_but(
     Ok((answer, memo.offered))
 }
 
-// Whichever result isn't kept, the outcome is this one. Answers how many results were refused, one in each run.
+// Checks that the outcome is the same whichever result isn't stored. Returns how many results were left out, one in
+// each run.
 fn assert_all_but(
     rt: &impl Abort,
     alloc: Global,
@@ -127,7 +129,7 @@ fn a_result_that_is_refused_changes_no_answer(rt: HostRuntime) -> Result<(), Fai
     Ok(())
 }
 
-// The parse of three pairs without a memo ends where the third is refused.
+// Without a memo the parse has three pairs; it ends when the third fails.
 #[test]
 fn a_watch_that_refuses_ends_the_run(rt: HostRuntime) -> Result<(), Fail> {
     let alloc = rt.alloc();
@@ -145,7 +147,8 @@ fn a_watch_that_refuses_ends_the_run(rt: HostRuntime) -> Result<(), Fail> {
     Ok(())
 }
 
-// Without a memo no machine would come to the end of so many parentheses: the outcome is that with all results kept.
+// Without a memo the time for this many parentheses would be exponential. The outcome is that of a memo with all
+// results.
 fn assert_parentheses(rt: &impl Abort, alloc: Global, count: u32) -> Result<(), Fail>
     requires { count < 1000 }
 {

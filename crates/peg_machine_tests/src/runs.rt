@@ -1,15 +1,16 @@
 //! Runs without a memo, and with several.
 ghost use Rattle.std.specs.Prelude.{◌≡◌, ◌<◌, ◌≤◌, length};
 
-use crate::forgetful::Forgetful;
+use crate::forgetful::EvictingMemo;
 use peg_code::Program;
 use peg_machine::{Answer, NoWatch, RunFault, Watch, run, run_by};
 use peg_memo::{LruMemo, NoMemo};
-use peg_policy::{Costs, Selective};
+use peg_memo_policy::{RerunCosts, SelectiveMemo};
 use peg_shortcut::Shortcuts;
 use std::alloc::Global;
 
-/// A run without a memo, from a rule, by shortcuts wherever there are some, through calls where the watch looks away.
+/// Runs without a memo, from a rule, with shortcuts for every instruction. They go through calls if the tracer is
+/// inactive.
 pub(crate) fn run_from<W: Watch>(
     alloc: Global,
     program: &Program,
@@ -33,7 +34,7 @@ pub(crate) fn run_from<W: Watch>(
     )
 }
 
-/// A run without a memo, from the first rule, by a table of shortcuts, that a watch looks at.
+/// Runs without a memo, from the first rule, with a table of shortcuts and a tracer.
 pub(crate) fn run_looked_at<W: Watch>(
     alloc: Global,
     shortcuts: &mut Shortcuts<'_>,
@@ -48,7 +49,7 @@ pub(crate) fn run_looked_at<W: Watch>(
     run_by(alloc, shortcuts, program, text, 0, &mut NoMemo, watch, None)
 }
 
-/// A run without a memo or a watch, from the first rule, by a table of shortcuts.
+/// Runs without a memo or a tracer, from the first rule, with a table of shortcuts.
 pub(crate) fn run_without_memo(
     alloc: Global,
     shortcuts: &mut Shortcuts<'_>,
@@ -62,7 +63,7 @@ pub(crate) fn run_without_memo(
     run_looked_at(alloc, shortcuts, program, text, &mut NoWatch)
 }
 
-/// A run without a memo or a watch, from a rule, step by step.
+/// Runs without a memo or a tracer, from a rule, one instruction at a time.
 pub(crate) fn run_step_by_step(
     alloc: Global,
     program: &Program,
@@ -85,7 +86,7 @@ pub(crate) fn run_step_by_step(
     )
 }
 
-/// A run without a memo or a watch, from the first rule.
+/// Runs without a memo or a tracer, from the first rule.
 pub(crate) fn run_plain(
     alloc: Global,
     program: &Program,
@@ -97,7 +98,7 @@ pub(crate) fn run_plain(
     run_from(alloc, program, text, 0, &mut NoWatch, most)
 }
 
-/// A run with a memo of so many results, from a rule.
+/// Runs with a memo of this capacity, from a rule.
 pub(crate) fn run_with<W: Watch>(
     alloc: Global,
     program: &Program,
@@ -124,7 +125,7 @@ pub(crate) fn run_with<W: Watch>(
     )
 }
 
-/// A run with a memo of so many results that keeps what pays, from a rule.
+/// Runs with a selective memo of this capacity, from a rule.
 pub(crate) fn run_selecting(
     alloc: Global,
     program: &Program,
@@ -136,12 +137,12 @@ pub(crate) fn run_selecting(
     requires rule { start < length program.now.core.bodies }
     requires some { 1 ≤ capacity }
 {
-    let costs = Costs::new(alloc, program)?;
-    let mut memo = Selective::new(alloc, capacity, &costs, text)?;
+    let costs = RerunCosts::new(alloc, program)?;
+    let mut memo = SelectiveMemo::new(alloc, capacity, &costs, text)?;
     run(alloc, program, text, start, &mut memo, &mut NoWatch, most)
 }
 
-/// A run with a memo that forgets, from a rule.
+/// Runs with a memo that evicts all its entries from time to time, from a rule.
 pub(crate) fn run_forgetting(
     alloc: Global,
     program: &Program,
@@ -150,6 +151,6 @@ pub(crate) fn run_forgetting(
 ) -> Result<Answer, RunFault>
     requires { start < length program.now.core.bodies }
 {
-    let mut memo = Forgetful::new(alloc)?;
+    let mut memo = EvictingMemo::new(alloc)?;
     run(alloc, program, text, start, &mut memo, &mut NoWatch, None)
 }

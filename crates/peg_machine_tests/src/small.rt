@@ -1,5 +1,5 @@
-//! Runs on small grammars. Every value that is wanted was worked out by hand, from the recognition table, the numbers
-//! of the terminals, the furthest failure and the code.
+//! Runs on small grammars. The expected values were worked by hand from the recognition table, the terminal numbers,
+//! the furthest failure and the code.
 use crate::outcomes::{Case, assert_outcome, failed, matched};
 use crate::pairs::program_of;
 use crate::runs::run_plain;
@@ -9,7 +9,7 @@ use std::alloc::Global;
 use std::process::Abort;
 use std::test::Fail;
 
-// A run from the first rule, with as many steps as are allowed.
+// Runs from the first rule with a step limit.
 fn run_within(
     rt: &impl Abort,
     alloc: Global,
@@ -31,7 +31,8 @@ fn assert_cases(rt: &impl Abort, alloc: Global, file: &[u8], cases: &[Case]) -> 
     Ok(())
 }
 
-// A text takes exactly so many steps: with as many, or with any number, it is this outcome, and with fewer none.
+// Checks that a text takes exactly this many steps. The outcome is the same with this limit and without one, and there
+// is none with a lower limit.
 fn assert_steps(
     rt: &impl Abort,
     alloc: Global,
@@ -127,7 +128,7 @@ fn an_empty_body_matches_nothing(rt: HostRuntime) -> Result<(), Fail> {
     assert_cases(&rt, rt.alloc(), b"A <-", &cases)
 }
 
-// By the figure `\377` is the escape `\37` and a 7: bytes 31 and 55.
+// By the metagrammar `\377` is the escape `\37` and a 7: bytes 31 and 55.
 #[test]
 fn a_literal_of_an_escape_and_a_digit(rt: HostRuntime) -> Result<(), Fail> {
     let cases = [

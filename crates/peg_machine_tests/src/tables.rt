@@ -1,4 +1,4 @@
-//! Tables of shortcuts that know little or all that they may, and runs by them.
+//! Tables of shortcuts that are nearly empty or full, and runs with them.
 ghost use Rattle.std.specs.Prelude.{◌≡◌, ◌<◌, length};
 
 use crate::outcomes::assert_alike;
@@ -11,13 +11,13 @@ use std::alloc::{AllocError, Global};
 use std::process::Abort;
 use std::test::Fail;
 
-// How often the first rule below calls the other one, in its first instructions.
+// The number of calls of the second rule in the first one.
 const CALLS: u32 = 3_000;
 
-// The bytes that the alternatives of the rule take, and another.
+// The bytes that the alternatives of the rule consume, and another one.
 const BYTES: &[u8] = b"abcdefghijklmnopqrst-";
 
-// A rule that calls another so many times; this one takes any of twenty letters.
+// A rule that calls another `CALLS` times; that one consumes any of twenty letters.
 fn file_of_calls(alloc: Global) -> Result<Vec<u8>, AllocError> {
     let mut file = Vec::new(alloc);
     file.extend_from_slice(b"S <-")?;
@@ -44,7 +44,7 @@ fn is_found(shortcuts: &Shortcuts<'_>, pc: u32, byte: u8) -> bool {
         .is_some()
 }
 
-// A run by a table has the outcome and the steps of one that goes step by step.
+// Checks that a run with a table has the outcome and the steps of a run without shortcuts.
 fn assert_same_by(
     rt: &impl Abort,
     alloc: Global,
@@ -63,7 +63,7 @@ fn assert_same_by(
     Ok(())
 }
 
-// Finds the shortcuts from an instruction on, on each of the bytes; and those from each call on.
+// Computes the shortcuts from an instruction on each of the bytes, and those from each call.
 fn find_each(shortcuts: &mut Shortcuts<'_>, pc: u32)
     ensures { shortcuts.new.program.now ≡ shortcuts.old.program.now }
 {
@@ -80,7 +80,7 @@ fn find_all(shortcuts: &mut Shortcuts<'_>)
     }
 }
 
-// From each call on there are 21 shortcuts, one for each byte; the table has room for 60,000.
+// From each call there are 21 shortcuts, one for each byte; the table has capacity for 60,000.
 #[test]
 fn a_table_at_its_cap_changes_no_answer(rt: HostRuntime) -> Result<(), Fail> {
     let alloc = rt.alloc();
@@ -122,7 +122,7 @@ fn a_table_that_finds_late_changes_no_answer(rt: HostRuntime) -> Result<(), Fail
     Ok(())
 }
 
-// A run by a table that a watch looks at shows it each use, in as many steps.
+// Checks that a tracer gets each call of a run with a table, in as many steps.
 fn assert_shown(
     rt: &impl Abort,
     alloc: Global,
@@ -141,7 +141,7 @@ fn assert_shown(
     Ok(())
 }
 
-// A table that goes through calls isn't taken where a watch looks.
+// Shortcuts through calls are not applied if a tracer is active.
 #[test]
 fn a_watch_that_looks_is_shown_each_use(rt: HostRuntime) -> Result<(), Fail> {
     let alloc = rt.alloc();

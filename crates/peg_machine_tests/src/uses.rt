@@ -1,5 +1,5 @@
-//! The pairs that a run shows, beside the uses that an evaluator of written expressions meets.
-use crate::dice::Dice;
+//! The pairs that a run traces, compared with the calls of an evaluator of written expressions.
+use crate::dice::Rng;
 use crate::pairs::{Pair, accepted_pair, pair_of};
 use crate::random::{some_file, some_text};
 use crate::runs::{run_from, run_with};
@@ -10,14 +10,14 @@ use std::alloc::Global;
 use std::process::Abort;
 use std::test::Fail;
 
-// How many expressions may be looked at one in the other.
+// The most nested expressions.
 const DEPTH: u32 = 400;
 
-// How many grammars by chance are tried.
+// The number of random grammars.
 const GRAMMARS: usize = 400;
 
-// Recognizes expressions, and notes each use of a rule that it meets: those of predicates and of abandoned branches too.
-// It gives up where too many expressions stand one in the other, or where memory is refused.
+// Recognizes expressions and records each call of a rule, including those in predicates and in abandoned branches. It
+// gives up if expressions nest too deep or an allocation fails.
 #[derive(Drop)]
 struct Evaluator<'a> {
     grammar: &'a Grammar,
@@ -32,7 +32,7 @@ impl Evaluator<'_> {
         None
     }
 
-    // The place behind the next byte, if it is in a set.
+    // The position after the next byte, if that is in a set.
     fn behind_byte(&self, set: &ByteSet, place: u32) -> Option<u32> {
         match self.text.get(place as usize) {
             None => None,
@@ -46,7 +46,7 @@ impl Evaluator<'_> {
         }
     }
 
-    // The place behind a literal, if it stands there.
+    // The position after a literal, if the text has it here.
     fn behind_literal(&self, bytes: &[u8], place: u32) -> Option<u32> {
         let mut end = place;
         for byte in bytes {
@@ -58,7 +58,7 @@ impl Evaluator<'_> {
         Some(end)
     }
 
-    // Where an expression ends that matches at a place.
+    // The end of an expression that matches at a position.
     #[cycle(end_of)]
     fn end_of(&mut self, expr: &Expr, place: u32, depth: u32) -> Option<u32> {
         if depth == 0 {
@@ -84,7 +84,7 @@ impl Evaluator<'_> {
         }
     }
 
-    // The place itself, where a part matches, or where it fails.
+    // The position itself, if a part matches, or if it fails.
     #[cycle(end_of)]
     fn place_if(&mut self, part: &Expr, matches: bool, place: u32, depth: u32) -> Option<u32> {
         if depth == 0 {
@@ -96,7 +96,7 @@ impl Evaluator<'_> {
         None
     }
 
-    // A part so often at least and so often at most.
+    // A part repeated at least and at most a number of times.
     #[cycle(end_of)]
     fn end_of_count(
         &mut self,
@@ -120,7 +120,7 @@ impl Evaluator<'_> {
         Some(end)
     }
 
-    // A use of a rule, which is noted.
+    // A call of a rule, which is recorded.
     #[cycle(end_of)]
     fn end_of_use(&mut self, name: &str, place: u32, depth: u32) -> Option<u32> {
         let grammar = self.grammar;
@@ -167,7 +167,7 @@ impl Evaluator<'_> {
         end
     }
 
-    // A part once, and again and again until it fails.
+    // A part at least once, until it fails.
     #[cycle(end_of)]
     fn end_of_some_rounds(&mut self, part: &Expr, place: u32, depth: u32) -> Option<u32> {
         if depth == 0 {
@@ -179,7 +179,7 @@ impl Evaluator<'_> {
         }
     }
 
-    // A part again and again, until it fails.
+    // A part any number of times, until it fails.
     #[cycle(end_of)]
     fn end_of_rounds(&mut self, part: &Expr, place: u32, depth: u32) -> Option<u32> {
         if depth == 0 {
@@ -196,7 +196,7 @@ impl Evaluator<'_> {
     }
 }
 
-// The uses that an evaluation from the first rule meets, that of the first rule among them.
+// The calls of an evaluation from the first rule, including that of the first rule.
 fn uses_of(
     rt: &impl Abort,
     alloc: Global,
@@ -216,7 +216,7 @@ fn uses_of(
     Ok(uses)
 }
 
-// Without a memo a watch is shown the uses, each as often as it is met; with one that holds all, none twice.
+// Without a memo a tracer gets each call as often as it occurs; with a memo of full capacity it gets none twice.
 fn assert_uses(rt: &impl Abort, alloc: Global, pair: &Pair, text: &[u8]) -> Result<(), Fail> {
     let wanted = uses_of(rt, alloc, pair, text)?;
     assert!(rt; pair.program.rules() > 0);
@@ -255,7 +255,7 @@ fn uses_of_small_grammars_are_shown(rt: HostRuntime) -> Result<(), Fail> {
 #[test]
 fn uses_of_grammars_by_chance_are_shown(rt: HostRuntime) -> Result<(), Fail> {
     let alloc = rt.alloc();
-    let mut dice = Dice::new(2002);
+    let mut dice = Rng::new(2002);
     for _ in 0..GRAMMARS {
         let file = some_file(alloc, &mut dice)?;
         if let Some(pair) = accepted_pair(alloc, &file)? {

@@ -1,4 +1,4 @@
--- What a memo holds after a result was to be kept.
+-- The entries of a memo after `keep`.
 use Rattle.std.proofs.Common.{◌≡◌, ◌<◌, ◌⊎◌, inl, inr, Bool, true, false, Some, is_some, sym, ap, ◌∙◌, arith}
 use Rattle.std.specs.Bool.{IsTrue, if◌then◌else◌}
 use Rattle.std.specs.FinMap as map

@@ -1,4 +1,4 @@
--- What maps from uses hold after one more is put in, and how many uses they can hold.
+-- The entries of a map from calls after an insertion, and how many calls a map can hold.
 use Rattle.std.proofs.Common.{◌≡◌, ◌≢◌, ℕ, suc, ◌+◌, ◌*◌, ◌<◌, ◌≤◌, ◌⊎◌, inl, inr, ⊎_elim, T, Bool, true, false, List, [], ◌∷◌, length, Option, Some, None, IsTrue, is_some, Ordering, Less, Equal, Greater, is_eq, is_lt, refl, sym, ap, subst, ◌∙◌, zero-le, mul_comm, arith}
 use Rattle.std.proofs.lemmas.Bool.{cases_Bool, cond-true, cond-false, false_from_ne_true, and_parts}
 use Rattle.std.proofs.lemmas.Map.Views.{tells_apart}
@@ -12,35 +12,35 @@ use Rattle.peg_memo.specs.Kept.{Kept, KeptFailure}
 use Rattle.peg_memo.specs.Use.{Use, use_cmp}
 use Rattle.peg_memo.proofs.Uses.{use_cmp-IsTotalOrder, use_cmp-IsAntisymmetric}
 
--- the order does not tell a use from itself
+-- the order makes a call equal to itself
 tied : (a b : Use) → a ≡ b → eq_by_cmp use_cmp a b ≡ true
 tied a b same = subst (λ c. eq_by_cmp use_cmp a c ≡ true) same (ap is_eq (tied_itself use_cmp-IsTotalOrder a))
 
--- and it tells it from each other use
+-- and different from each other call
 untied : (a b : Use) → a ≢ b → eq_by_cmp use_cmp a b ≡ false
 untied a b differ = false_from_ne_true _ (λ is. differ (tells_apart use_cmp-IsAntisymmetric a b is))
 
--- two uses are the same, or they differ
+-- two calls are the same, or they differ
 pub same_or_other : (a b : Use) → (a ≡ b) ⊎ (a ≢ b)
 same_or_other a b =
     ⊎_elim (λ is. inl (tells_apart use_cmp-IsAntisymmetric a b is))
     (λ is. inr (λ same. let answer = tied a b same in cc)) (cases_Bool (eq_by_cmp use_cmp a b))
 
--- what is put at a use is found there
+-- an inserted result is found
 pub get_inserted : (held : Held) (asked : Use) (kept : Kept)
     → map.get (map.insert held asked kept) asked ≡ Some kept
 get_inserted held asked kept =
     map.get-insert use_cmp-IsTotalOrder held asked kept asked
     ∙ cond-true _ (Some kept) (map.get held asked) (tied asked asked refl)
 
--- at each other use the same is found as before
+-- the entries of other calls are the same as before
 pub get_other : (held : Held) (asked other : Use) (kept : Kept) → other ≢ asked
     → map.get (map.insert held asked kept) other ≡ map.get held other
 get_other held asked other kept differs =
     map.get-insert use_cmp-IsTotalOrder held asked kept other
     ∙ cond-false _ (Some kept) (map.get held other) (untied other asked differs)
 
--- what is found where a result was put is that result
+-- the result that is found for an inserted call is the inserted one
 found_there : (held : Held) (asked other : Use) (kept found : Kept) → other ≡ asked
     → map.get (map.insert held asked kept) other ≡ Some found → found ≡ kept
 found_there held asked other kept found same is =
@@ -48,7 +48,7 @@ found_there held asked other kept found same is =
     let here = ap (map.get (map.insert held asked kept)) same in
     cc
 
--- whatever is found was put, or was found before
+-- each entry was inserted, or was there before
 pub found_after : (held : Held) (asked other : Use) (kept found : Kept)
     → map.get (map.insert held asked kept) other ≡ Some found
     → ((other ≡ asked) × (found ≡ kept)) ⊎ (map.get held other ≡ Some found)
@@ -58,7 +58,7 @@ found_after held asked other kept found is =
     (λ differs. inr (sym (get_other held asked other kept differs) ∙ is))
     (same_or_other other asked)
 
--- a map of no results finds none
+-- an empty map has no entries
 pub none_in_empty : (held : Held) (asked : Use) → map.len held ≡ 0 → map.get held asked ≡ None
 none_in_empty held asked none =
     ap (λ m. map.get m asked) (map.empty_of_len held none) ∙ map.get-empty use_cmp asked
@@ -73,30 +73,30 @@ what_is_some : {A : Type 0} (o : Option A) → IsTrue (is_some o) → (x : A) ×
 what_is_some None is = cc
 what_is_some (Some x) is = (x, refl)
 
--- a result of the use is held, or none is found
+-- a call has an entry, or none is found
 pub contains_or_not : (held : Held) (asked : Use) → IsTrue (map.contains_key held asked) ⊎ (map.get held asked ≡ None)
 contains_or_not held asked = some_or_none (map.get held asked)
 
--- the result that is held
+-- the entry of a call that has one
 pub contained : (held : Held) (asked : Use) → IsTrue (map.contains_key held asked)
     → (kept : Kept) × (map.get held asked ≡ Some kept)
 contained held asked is = what_is_some (map.get held asked) is
 
--- a result that is found is held
+-- a call with a result has an entry
 pub contains_found : (held : Held) (asked : Use) (kept : Kept) → map.get held asked ≡ Some kept
     → IsTrue (map.contains_key held asked)
 contains_found held asked kept found = ap is_some found
 
--- ---- how many results are held
+-- ---- the number of entries
 
--- of an order by two parts, the first is less, or the second where the first tie
+-- a lexicographic order is less if its first part is less, or the first parts tie and the second is less
 less_parts : (first second : Ordering) → ordering_then first second ≡ Less
     → (first ≡ Less) ⊎ ((first ≡ Equal) × (second ≡ Less))
 less_parts Less second is = inl refl
 less_parts Equal second is = inr (refl, is)
 less_parts Greater second is = cc
 
--- an answer that passes the test for less is it
+-- an ordering that passes the test for less is Less
 is_less : (o : Ordering) → is_lt o ≡ true → o ≡ Less
 is_less Less is = refl
 is_less Equal is = cc
@@ -107,7 +107,7 @@ is_true : (b : Bool) → T b → b ≡ true
 is_true true holds = refl
 is_true false holds = absurd holds
 
--- a use below each pair is below each use that is found among them
+-- a call below each pair is below each call found among them
 below_found : (first other : Use) (kept : Kept) (pairs : List (Use × Kept)) → below_all use_cmp first pairs ≡ true
     → map.find use_cmp other pairs ≡ Some kept → use_cmp first other ≡ Less
 below_found first other kept [] below found = cc
@@ -125,7 +125,7 @@ found_first : (pair : Use × Kept) (pairs : List (Use × Kept))
     → map.find use_cmp pair.0 (pair ∷ pairs) ≡ Some pair.1
 found_first pair pairs = cond-true _ (Some pair.1) (map.find use_cmp pair.0 pairs) (tied pair.0 pair.0 refl)
 
--- where something is found of a use, something is found of it too after one more pair in front
+-- a call that is found is still found with one more pair in front
 found_later : (pair : Use × Kept) (pairs : List (Use × Kept)) (other : Use) (kept : Kept)
     → map.find use_cmp other pairs ≡ Some kept
     → (seen : Kept) × (map.find use_cmp other (pair ∷ pairs) ≡ Some seen)
@@ -136,35 +136,35 @@ found_later pair pairs other kept found =
     (cases_Bool (eq_by_cmp use_cmp other pair.0))
 
 module _ (rules places : ℕ) where
-  -- a use of one of the rules at one of the places
+  -- a call of one of the rules at one of the positions
   abbrev IsWithin : Use → Type 0
   IsWithin asked = (asked.0 < rules) × (asked.1 < places)
 
-  -- each use that is found among the pairs is such a use
+  -- each call that is found among the pairs is one of these
   abbrev AreWithin : List (Use × Kept) → Type 0
   AreWithin pairs = (other : Use) (kept : Kept) → map.find use_cmp other pairs ≡ Some kept → IsWithin other
 
-  -- the uses counted, rule by rule
+  -- the number of a call, counted rule by rule
   abbrev number : Use → ℕ
   number asked = asked.0 * places + asked.1
 
-  -- each number is below the count of all
+  -- each number is below the number of all calls
   number-lt : (asked : Use) → IsWithin asked → number asked < rules * places
   number-lt asked within =
       let low = mul-add-lt asked.0 places asked.1 rules within.0 within.1 in
       omega (arith, mul_comm rules places)
 
-  -- a use of a lower rule has the lower number
+  -- a call of a smaller rule has the smaller number
   rule-rises : (a b : Use) → a.1 < places → a.0 < b.0 → number a < number b
   rule-rises a b within lower =
       let row = mul-add-lt a.0 places a.1 b.0 lower within in
       omega (arith, mul_comm b.0 places)
 
-  -- and so has one of the same rule at a lower place
+  -- and so has a call of the same rule at a smaller position
   place-rises : (a b : Use) → a.0 ≡ b.0 → a.1 < b.1 → number a < number b
   place-rises a b same lower = omega (arith, ap (λ n. n * places) same)
 
-  -- a use that is below another has the lower number
+  -- a call that is less than another has the smaller number
   number-rises : (a b : Use) → a.1 < places → use_cmp a b ≡ Less → number a < number b
   number-rises a b within less =
       ⊎_elim
@@ -172,7 +172,7 @@ module _ (rules places : ℕ) where
       (λ is. place-rises a b (ranked a.0 b.0 Equal (sym is.0)) (ranked a.1 b.1 Less (sym is.1)))
       (less_parts (nat_cmp a.0 b.0) (nat_cmp a.1 b.1) less)
 
-  -- pairs in order are no more than the numbers from the least of theirs on
+  -- sorted pairs are at most as many as the numbers from the least of theirs on
   length-pairs : (low : ℕ) (pairs : List (Use × Kept)) → low ≤ rules * places → is_sorted use_cmp pairs ≡ true
       → AreWithin pairs
       → ((other : Use) (kept : Kept) → map.find use_cmp other pairs ≡ Some kept → low ≤ number other)
@@ -189,7 +189,7 @@ module _ (rules places : ℕ) where
       number-rises pair.0 other first.1 (below_found pair.0 other kept pairs parts.0 found)) in
       omega arith
 
-  -- no more results are held than there are uses
+  -- there are at most as many entries as calls
   len-le : (held : Held)
       → ((other : Use) (kept : Kept) → map.get held other ≡ Some kept → IsWithin other)
       → map.len held ≤ rules * places
@@ -199,7 +199,7 @@ module _ (rules places : ℕ) where
       (λ other kept found. within other kept (map.get-entries held other ∙ found)) (λ other kept found. zero-le) in
       omega (arith, map.len-entries held)
 
--- of the uses below the bounds fewer are held than there are, where one is not held
+-- if one of the calls has no entry, there are fewer entries than calls
 pub fewer_are_held : (held : Held) (rules places : ℕ) (asked : Use)
     → ((other : Use) (kept : Kept) → map.get held other ≡ Some kept → (other.0 < rules) × (other.1 < places))
     → asked.0 < rules → asked.1 < places → map.get held asked ≡ None → map.len held < rules * places

@@ -1,4 +1,4 @@
--- What the map of pairs holds, and how it changes where the pairs do.
+-- The map of a list of pairs, and how it changes with the pairs.
 use Rattle.std.proofs.Common.{◌≡◌, ℕ, zero, suc, ◌+◌, ◌-◌, ◌<◌, ◌≤◌, ◌⊎◌, inl, inr, Bool, true, false, cond, List, [], ◌∷◌, take, length, Option, Some, None, is_some, IsSome, refl, sym, ap, ◌∙◌, arith}
 use Rattle.std.proofs.lemmas.Bool.{cond-true, cond-false}
 use Rattle.std.proofs.lemmas.List.{take_all}
@@ -31,14 +31,14 @@ find-lookup asked (pair ∷ pairs) =
 pub get-held_in : (pairs : Pairs) (asked : Use) → map.get (held_in pairs) asked ≡ lookup (use_eq asked) pairs
 get-held_in pairs asked = map.get-from_entries use_cmp-IsTotalOrder pairs asked ∙ find-lookup asked pairs
 
--- maps of pairs in which the same is found are the same
+-- two maps in which the same is found are equal
 same_held : (pairs : Pairs) (held : Held) → ((other : Use) → lookup (use_eq other) pairs ≡ map.get held other)
     → held_in pairs ≡ held
 same_held pairs held same =
     map.same_map use_cmp-IsTotalOrder use_cmp-IsAntisymmetric (held_in pairs) held
     (λ other. get-held_in pairs other ∙ same other)
 
--- what the map with one more pair holds
+-- the map with one more pair
 get-inserted : (pairs : Pairs) (asked : Use) (kept : Kept) (other : Use)
     → map.get (map.insert (held_in pairs) asked kept) other
     ≡ cond (use_eq other asked) (Some kept) (lookup (use_eq other) pairs)
@@ -47,7 +47,7 @@ get-inserted pairs asked kept other =
     ∙ ap (λ b. cond b (Some kept) (map.get (held_in pairs) other)) (sym (use_eq-eq_by_cmp other asked))
     ∙ ap (cond (use_eq other asked) (Some kept)) (get-held_in pairs other)
 
--- how many results the map holds
+-- the number of entries of the map
 
 passes_none : (asked : Use) (pairs : Pairs) → AllByRecursion (λ other. use_eq asked other ≡ false) (keys_of pairs)
     → NonePasses (use_eq asked) pairs
@@ -77,7 +77,7 @@ no_pairs (pair ∷ pairs) none =
     ap (λ held. map.get held pair.0) (map.empty_of_len (held_in (pair ∷ pairs)) none) ∙ map.get-empty use_cmp pair.0 in
     cc
 
--- where the pair of a use is put in front
+-- the pair of a call is put in front
 
 apart : (asked other held : Use) → use_eq other asked ≡ false → use_eq asked held ≡ true → use_eq other held ≡ false
 apart asked other held differs same =
@@ -116,7 +116,7 @@ lookup-in_front asked front other kept pairs is =
     ∙ lookup-remaining asked other differs pairs
     ∙ sym (cond-false _ (Some kept) (lookup (use_eq other) pairs) differs))
 
--- a pair that is brought to the front
+-- a pair is moved to the front
 
 lookup-promoted : (asked other : Use) (pairs : Pairs) (o : Option (Use × Kept))
     → lookup_entry (use_eq asked) pairs ≡ o
@@ -138,7 +138,7 @@ held_in-promoted asked pairs =
     (λ other. lookup-promoted asked other pairs (lookup_entry (use_eq asked) pairs) refl
     ∙ sym (get-held_in pairs other))
 
--- a pair that is put
+-- a pair is stored
 
 lookup-take : (test : Use → Bool) (count : ℕ) (pairs : Pairs) (kept : Kept)
     → lookup test (take count pairs) ≡ Some kept → lookup test pairs ≡ Some kept
@@ -152,14 +152,14 @@ lookup-take test (suc count) (pair ∷ pairs) kept found =
     (λ fails. cond-false _ front (lookup test pairs) fails
     ∙ lookup-take test count pairs kept (sym (cond-false _ front (lookup test (take count pairs)) fails) ∙ found))
 
--- what the first pairs hold, all of them hold
+-- the entries of the first pairs are entries of all pairs
 pub IsPartOf-take : (count : ℕ) (pairs : Pairs) → IsPartOf (held_in (take count pairs)) (held_in pairs)
 IsPartOf-take count pairs asked kept found =
     get-held_in pairs asked
     ∙ lookup-take (use_eq asked) count pairs kept (sym (get-held_in (take count pairs) asked) ∙ found)
 
 module _ (cache : LruCache Use Kept) (asked : Use) (kept : Kept) where
-  -- the pairs after the put, where the look-up answers o
+  -- the pairs after storing, if the lookup returns o
   abbrev after : Option (Use × Kept) → Pairs
   after o =
       option_map_or (λ e. (e.0, kept) ∷ remove_entry (use_eq asked) cache.entries) o
@@ -174,7 +174,7 @@ module _ (cache : LruCache Use Kept) (asked : Use) (kept : Kept) where
       lookup-in_front asked pair.0 other kept cache.entries
       (Contains-lookup_entry (use_eq asked) cache.entries pair is).1
 
-  -- whatever is found was there, or was put
+  -- each entry was there, or was stored
   part-cases : (o : Option (Use × Kept)) → lookup_entry (use_eq asked) cache.entries ≡ o → (other : Use) (seen : Kept)
       → lookup (use_eq other) (after o) ≡ Some seen → with_pair other ≡ Some seen
   part-cases None is other seen found =
@@ -206,7 +206,7 @@ module _ (cache : LruCache Use Kept) (asked : Use) (kept : Kept) where
       get-held_in (put_entries use_eq cache asked kept) asked
       ∙ front-cases (lookup_entry (use_eq asked) cache.entries) refl
 
-  -- the cache has room, or the use is held
+  -- the cache isn't full, or the call has an entry
   abbrev pub HasRoom : Type 0
   HasRoom = (length cache.entries < cache.cap) ⊎ IsSome (lookup (use_eq asked) cache.entries)
 

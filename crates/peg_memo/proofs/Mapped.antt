@@ -1,4 +1,4 @@
--- Entries of a cache whose values are read by a function: the words of caches and maps on them.
+-- Entries of a cache whose values are mapped by a function, and the operations of caches and maps on them.
 use Rattle.std.proofs.Common.{◌≡◌, ℕ, zero, suc, ◌-◌, Bool, true, false, cond, List, [], ◌∷◌, length, map, take, Option, Some, None, refl, ap, ◌∙◌}
 use Rattle.std.specs.List.{slice_get}
 use Rattle.std.proofs.lemmas.List.{length-map, take-map}
@@ -11,7 +11,7 @@ cond-map g true x y = refl
 cond-map g false x y = refl
 
 module _ {K V W : Type 0} (f : V → W) where
-  -- an entry with what the function reads of its value
+  -- an entry with its value mapped
   abbrev pub read_entry : K × V → K × W
   read_entry e = (e.0, f e.1)
 

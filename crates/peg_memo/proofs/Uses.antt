@@ -1,4 +1,4 @@
--- Uses are told apart by their order and by their equality.
+-- The order and the equality of calls decide whether they are the same.
 use Rattle.std.proofs.Common.{◌≡◌}
 use Rattle.std.specs.Cmp.{IsTotalOrder, IsEquivalence, nat_cmp_total, nat_eq_equiv, unsigned_ties, then_total, on_total, on_equiv, and_equiv, both_tied}
 use Rattle.std.specs.FinMap.{IsAntisymmetric}

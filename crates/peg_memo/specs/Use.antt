@@ -1,16 +1,16 @@
--- A rule at a place, and their order.
+-- Calls, each a rule at a position, and their order.
 use Rattle.std.specs.Prelude.{ℕ, Bool, ◌&&◌, nat_eq}
 use Rattle.std.specs.Ordering.{nat_cmp, ordering_then}
 use Rattle.std.specs.declared.cmp.Ordering.{Ordering}
 
--- the number of a rule, and a place of the text
+-- the number of a rule, and a position in the text
 abbrev pub Use : Type 0
 Use = ℕ × ℕ
 
--- uses go by their rules, and those of one rule by their places
+-- calls are ordered by rule, then by position
 abbrev pub use_cmp : Use → Use → Ordering
 use_cmp a b = ordering_then (nat_cmp a.0 b.0) (nat_cmp a.1 b.1)
 
--- the same rule at the same place
+-- both calls are of the same rule at the same position
 abbrev pub use_eq : Use → Use → Bool
 use_eq a b = nat_eq a.0 b.0 && nat_eq a.1 b.1

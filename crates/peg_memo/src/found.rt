@@ -1,11 +1,11 @@
-//! What came of a use of a rule.
+//! The result of a call of a rule.
 use peg_tree::TreeNode;
 
-/// What came of a use of a rule.
+/// The result of a call of a rule, as a memo lends it and takes it.
 #[derive(Clone, Copy, Debug)]
 pub enum Found<'a> {
-    /// It failed.
+    /// The rule failed.
     Failed,
-    /// It matched up to `end`, and these rows are its tree.
+    /// The rule matched up to the byte offset `end`; `nodes` is its tree, in preorder.
     Done { end: u32, nodes: &'a [TreeNode] },
 }

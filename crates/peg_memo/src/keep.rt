@@ -1,4 +1,4 @@
-//! What a memo promises.
+//! The interface of a memo.
 ghost use Rattle.std.specs.Prelude.{◌≡◌, ◌<◌, ◌⊎◌, ◌↔◌, ℕ, Bool, false, Some, option_map};
 ghost use Rattle.std.specs.Prelude.{if◌then◌else◌, IfSome, IsTrue};
 ghost use Rattle.std.specs.FinMap as map;
@@ -7,41 +7,44 @@ ghost use Rattle.peg_memo.specs.Kept.{kept_of};
 
 use crate::Found;
 
-/// What keeps results of rules at places. It may forget any of them at each `touch` and `keep`.
+/// A memo: stores the results of calls, by rule and position. A memo with capacity evicts nothing in `touch`. In `keep`
+/// it may evict entries if it is full or an allocation has failed. A memo without capacity may evict entries in either.
 pub trait Keep {
-    // the results that it holds
+    // the entries
     ghost held: { Self → Held };
 
-    // how many results it holds before it may forget one, where memory is given; it never changes
+    // how many entries the memo holds before it may evict one, unless an allocation fails; it never changes
     ghost room: { Self → ℕ };
 
-    // whether memory was refused; it never goes back to false
+    // whether an allocation has failed; it never becomes false again
     ghost refused: { Self → Bool };
 
-    /// Whether it holds no result.
+    /// Returns whether the memo has no entries.
     fn is_empty(&self) -> bool
         ensures { IsTrue result ↔ (map.len (held self.now) ≡ 0) };
 
-    /// Whether it may ever keep a result: one that doesn't is neither asked nor told of every use.
+    /// Returns whether the memo may ever store a result. It returns false only for a memo without capacity. For such a
+    /// memo the machine may omit lookups and stores.
     fn keeps(&self) -> bool
         ensures { ¬ IsTrue result → room self.now ≡ 0 }
     {
         true
     }
 
-    /// Marks the result of a rule at a place as used, if it is held.
+    /// Marks the entry of a rule at a position as used, if there is one.
     fn touch(&mut self, rule: u32, place: u32)
         ensures part { IsPartOf (held self.new) (held self.old) }
         ensures same { 0 < room self.old → held self.new ≡ held self.old }
         ensures room { room self.new ≡ room self.old }
         ensures refused { IsTrue (refused self.old) → IsTrue (refused self.new) };
 
-    /// The result of a rule at a place, if it is held.
+    /// Returns the entry of a rule at a position, or `None`. A memo with capacity finds every entry that it has.
     fn find(&self, rule: u32, place: u32) -> Option<Found<'_>>
         ensures held { IfSome result (λ found. map.get (held self.now) (rule, place) ≡ Some (kept_of found)) }
         ensures all { 0 < room self.now → option_map kept_of result ≡ map.get (held self.now) (rule, place) };
 
-    /// Keeps the result of a rule at a place, in the stead of one that is held of them. Whether it is held then.
+    /// Stores the result of a rule at a position, and replaces an entry that they have. Returns whether the result is
+    /// stored now.
     fn keep(&mut self, rule: u32, place: u32, found: Found<'_>) -> bool
         ensures part { IsPartOf (held self.new)
             (if result then map.insert (held self.old) (rule, place) (kept_of found.entry) else held self.old) }

@@ -1,4 +1,4 @@
-//! Memos: what came of a rule at a place, kept as long as there is room.
+//! Memos: they store the results of rules by position, up to a capacity.
 #![tactic(auto)]
 
 mod found;

@@ -1,4 +1,4 @@
-//! A memo of bounded size that forgets the least recently used result.
+//! A memo of bounded size that evicts the least recently used entry.
 ghost use Rattle.std.specs.Prelude.{◌≡◌, ◌-◌, ◌<◌, ◌≤◌, ◌↔◌, [], false, length, option_map, take};
 ghost use Rattle.std.specs.Prelude.{IfOk, OnOk, OnErr, IsTrue};
 ghost use Rattle.std.specs.List.{IsDistinct};
@@ -17,10 +17,11 @@ use std::alloc::{AllocError, Global};
 use std::marker::Model;
 use std::num::NonZeroUsize;
 
-// Stored results, by rules and places.
+// Stored results, by rule and position.
 type Results = LruCache<(u32, u32), Stored>;
 
-/// Holds up to `capacity` results. One more drops the one that was kept or touched the longest ago.
+/// A memo of up to `capacity` entries. When it is full, a new entry evicts the one that was stored or touched the
+/// longest ago.
 #[derive(Drop)]
 pub struct LruMemo {
     alloc: Global,
@@ -38,7 +39,7 @@ impl Model for LruMemo {
 }
 
 impl LruMemo {
-    /// A memo that holds nothing yet.
+    /// Returns an empty memo. The only error is a failed allocation.
     pub fn new(alloc: Global, capacity: u32) -> Result<LruMemo, AllocError>
         requires { 1 ≤ capacity }
         ensures { IfOk result (λ it. it ≡ memo [] capacity false) }
@@ -51,14 +52,14 @@ impl LruMemo {
         })
     }
 
-    /// Whether it holds no result.
+    /// Returns whether the memo has no entries.
     pub fn is_empty(&self) -> bool
         ensures { IsTrue result ↔ (self.now.pairs ≡ []) }
     {
         self.cache.is_empty()
     }
 
-    /// Brings the result of a rule at a place to the front, if it is held.
+    /// Moves the entry of a rule at a position to the front, if there is one.
     pub fn touch(&mut self, rule: u32, place: u32)
         ensures { self.new
             ≡ memo (promoted (use_eq (rule, place)) self.old.pairs) self.old.capacity self.old.refused }
@@ -66,7 +67,7 @@ impl LruMemo {
         self.cache.promote(&(rule, place));
     }
 
-    /// The result of a rule at a place, if it is held.
+    /// Returns the entry of a rule at a position, if there is one. The order of the entries doesn't change.
     pub fn find(&self, rule: u32, place: u32) -> Option<Found<'_>>
         ensures { option_map kept_of result ≡ lookup (use_eq (rule, place)) self.now.pairs }
     {
@@ -74,13 +75,13 @@ impl LruMemo {
         Some(lent(kept))
     }
 
-    /// Keeps the result of a rule at a place in front, in the stead of one that is held of them. Of a full memo the
-    /// last result goes. Where memory is refused, no result changes, and the answer is false.
+    /// Stores the result of a rule at a position as the first entry, and replaces an entry that they have. A full memo
+    /// evicts its last entry for a new one. Returns false if an allocation fails; then no entry changes.
     pub fn keep(&mut self, rule: u32, place: u32, found: Found<'_>) -> bool
         ensures memo { self.new ≡ after_keep result self.old (rule, place) (kept_of found.entry) }
         ensures distinct { IsDistinct use_eq (keys_of self.old.pairs) }
     {
-        // Only its contract is wanted: that no use is held twice.
+        // Called for its contract only: no two entries have the same rule and position.
         let _ = self.cache.len();
         let kept = put(self.alloc, &mut self.cache, (rule, place), found).is_ok();
         if !kept {
@@ -89,7 +90,7 @@ impl LruMemo {
         kept
     }
 
-    /// Drops the last result, and tells how many rows it had; None where none is held.
+    /// Evicts the last entry and returns the number of its nodes, or `None` if the memo is empty.
     pub fn drop_last(&mut self) -> Option<usize>
         ensures memo { self.new
             ≡ memo (take (length self.old.pairs - 1) self.old.pairs) self.old.capacity self.old.refused }
@@ -101,7 +102,7 @@ impl LruMemo {
     }
 }
 
-// Puts a copy of a result into a cache. An `Err` leaves the cache as it was.
+// On an error the cache is as it was.
 fn put(
     alloc: Global,
     cache: &mut Results,

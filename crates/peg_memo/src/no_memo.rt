@@ -1,10 +1,10 @@
-//! A memo that holds nothing.
+//! A memo that stores nothing.
 ghost use Rattle.std.specs.Prelude.{false};
 ghost use Rattle.std.specs.FinMap as map;
 
 use crate::{Found, Keep};
 
-/// Holds nothing, and forgets what it is to keep.
+/// A memo that stores nothing.
 #[derive(Clone, Copy, Debug, Drop)]
 pub struct NoMemo;
 

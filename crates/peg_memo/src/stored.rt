@@ -7,14 +7,14 @@ use crate::Found;
 use peg_tree::TreeNode;
 use std::alloc::{AllocError, Global};
 
-/// A result with rows of its own.
+/// A result that owns its nodes.
 #[derive(Drop)]
 pub enum Stored {
     Failed,
     Done { end: u32, nodes: Vec<TreeNode> },
 }
 
-// The same result, with a copy of its rows.
+// Copies a result with its nodes. The only error is a failed allocation.
 pub fn store(alloc: Global, found: Found<'_>) -> Result<Stored, AllocError>
     ensures { IfOk result (λ stored. kept_in stored ≡ kept_of found.entry) }
 {
@@ -27,7 +27,7 @@ pub fn store(alloc: Global, found: Found<'_>) -> Result<Stored, AllocError>
     }
 }
 
-// The result, with its rows lent.
+// Returns the result with its nodes borrowed.
 pub fn lent(stored: &Stored) -> Found<'_>
     ensures { kept_of result ≡ kept_in stored.now }
 {
@@ -40,7 +40,7 @@ pub fn lent(stored: &Stored) -> Found<'_>
     }
 }
 
-// How many rows it has.
+// Returns the number of nodes of a stored result.
 pub fn rows_in(stored: &Stored) -> usize
     ensures { result ≡ row_count (kept_in stored.now) }
 {

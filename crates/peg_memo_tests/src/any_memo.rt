@@ -1,11 +1,11 @@
-//! What tests ask of any memo.
+//! Helpers for tests of any memo.
 ghost use Rattle.std.specs.Prelude.{◌≡◌, Some, IsTrue};
 ghost use Rattle.std.specs.FinMap as map;
 ghost use Rattle.peg_memo.specs.Kept.{KeptFailure};
 
 use peg_memo::{Found, Keep};
 
-// Keeps a failure, and then looks it up. Whether it was kept, and whether it is found.
+// Stores a failure, and then looks it up. Returns whether it was stored, and whether it is found.
 pub(crate) fn keep_and_find<K: Keep>(memo: &mut K, rule: u32, place: u32) -> (bool, bool)
     ensures { IsTrue result.0 → map.get (K.held memo.new) (rule, place) ≡ Some KeptFailure }
 {

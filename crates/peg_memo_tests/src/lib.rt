@@ -1,4 +1,4 @@
-//! Tests of memos, by public calls.
+//! Tests of memos, by their public calls.
 #![tactic(auto)]
 
 #[cfg(test)]

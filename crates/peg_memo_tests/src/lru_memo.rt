@@ -1,11 +1,11 @@
-//! Tests of the memo that drops the least recently used result.
+//! Tests of the memo that evicts the least recently used entry.
 use crate::any_memo::keep_and_find;
 use peg_bytes::Span;
 use peg_memo::{Found, Keep, LruMemo};
 use peg_tree::TreeNode;
 use std::test::Fail;
 
-// A node of rule 1 from 2 up to 5, and the one below it.
+// A node of rule 1 from 2 to 5, and the one below it.
 fn rows() -> [TreeNode; 2] {
     [
         TreeNode {
@@ -21,7 +21,7 @@ fn rows() -> [TreeNode; 2] {
     ]
 }
 
-// Whether a rule is known to fail at a place.
+// Whether the memo has a failure of a rule at a position.
 fn fails<K: Keep>(memo: &K, rule: u32, place: u32) -> bool {
     matches!(memo.find(rule, place), Some(Found::Failed))
 }

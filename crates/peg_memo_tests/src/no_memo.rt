@@ -1,4 +1,4 @@
-//! Tests of the memo that holds nothing.
+//! Tests of the memo that stores nothing.
 use crate::any_memo::keep_and_find;
 use peg_memo::{Found, Keep, NoMemo};
 

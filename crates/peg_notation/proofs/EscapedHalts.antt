@@ -1,40 +1,41 @@
--- The escaped figure beside the figure: what it makes of a form at a place the figure makes of a form too, or the escaped
--- figure has halted, at a brace, which it has in no token.
+-- Compares the escaped metagrammar, the one before counts, with the metagrammar. At each position, the result of a form
+-- under the first is also its result under the second, or the first has stopped at a brace. No token of the escaped
+-- metagrammar starts with a brace.
 use Rattle.std.proofs.Common.{◌≡◌, ◌⊎◌, inl, inr, ℕ, List, drop, codes}
 use Rattle.std.proofs.Common.{Option, Some, sym, ap, ◌∙◌, subst}
 use Rattle.peg_bytes.specs.Extent.{Extent}
 use Rattle.peg_tree.specs.Trees.{Trees, NoTrees, Tree}
-use Rattle.peg_ford.specs.Form.{Form, Forms, Name, Seq, Choice, Star, Plus, End, Then}
-use Rattle.peg_ford.specs.Record.{Recognition, Failed, Matched, behind}
-use Rattle.peg_ford.specs.Rules.{Meaning, meant}
-use Rattle.peg_ford.proofs.Derivations.{Derives, DerivesItems, DerivesFirst}
-use Rattle.peg_figure.specs.EscapedFigure.{escaped_figure, number_now, numbered_now}
-use Rattle.peg_figure.specs.Figure.{figure}
+use Rattle.peg_semantics.specs.Form.{Form, Forms, Name, Seq, Choice, Star, Plus, End, Then}
+use Rattle.peg_semantics.specs.Record.{Recognition, Failed, Matched, behind}
+use Rattle.peg_semantics.specs.Rules.{Meaning, meant}
+use Rattle.peg_semantics.proofs.Derivations.{Derives, DerivesItems, DerivesFirst}
+use Rattle.peg_metagrammar.specs.EscapedFigure.{escaped_figure, number_now, numbered_now}
+use Rattle.peg_metagrammar.specs.Figure.{figure}
 use Rattle.peg_notation.proofs.EscapedMeanings.{now, behind-now, trees-now}
 use Rattle.peg_notation.proofs.Fronts.{front}
 
--- how the escaped figure may halt before a brace
+-- how the escaped metagrammar may stop before a brace
 pub data Halt : Type 0 where
-  -- nowhere
+  -- not at all
   never : Halt
-  -- a form fails that begins with a parenthesis
+  -- a form that begins with a parenthesis fails
   parenthesis : Halt
-  -- signs behind an expression end before a brace
+  -- operators after an expression end before a brace
   signs : Halt
   -- a Suffix or a Prefix fails, or ends before a brace
   token : Halt
   -- expressions end before a brace, or before a Prefix that fails
   words : Halt
-  -- all fails
+  -- everything fails
   whole : Halt
 
--- a byte that a Prefix may begin with which fails before a brace
+-- a byte that may begin a Prefix which fails before a brace
 pub data IsOpener : Option ℕ → Type 0 where
   parenthesis : IsOpener (Some 40)
   ampersand : IsOpener (Some 38)
   exclamation : IsOpener (Some 33)
 
--- a byte before which expressions may end then
+-- a byte before which expressions may then end
 pub data IsStop : Option ℕ → Type 0 where
   parenthesis : IsStop (Some 40)
   ampersand : IsStop (Some 38)
@@ -42,7 +43,7 @@ pub data IsStop : Option ℕ → Type 0 where
   brace : IsStop (Some 123)
 
 module _ (file : List ℕ) where
-  -- the byte at a place
+  -- the byte at a position
   abbrev pub at : ℕ → Option ℕ
   at p = front (drop p file)
 
@@ -66,7 +67,7 @@ module _ (file : List ℕ) where
   Halts k p Failed = FailsAt k p
   Halts k p (Matched end trees) = EndsAt k end
 
-  -- the rules above the tokens, and how they halt
+  -- the rules above the tokens, and how they stop
   pub data IsHalting : List ℕ → Halt → Type 0 where
     is_grammar : IsHalting (codes "Grammar") Halt.whole
     is_definition : IsHalting (codes "Definition") Halt.words
@@ -78,7 +79,7 @@ module _ (file : List ℕ) where
 
   -- ---- forms
 
-  -- how a form of the escaped figure halts beside one of the figure, by how its parts do
+  -- how a form of the escaped metagrammar stops beside one of the metagrammar, from its parts
   mutual
     pub data Carries : Form → Form → Halt → Type 0 where
       shown : {e f : Form} {k : Halt} → ((p : ℕ) (x : Recognition) → Derives escaped_figure file e p x
@@ -119,14 +120,14 @@ module _ (file : List ℕ) where
           → ((p : ℕ) (x : Recognition) → Halts l p x → Halts m p x)
           → CarriesFirst first (Then next rest) m
 
-  -- what a rule means in the figure, whose body in the escaped figure halts so
+  -- the meaning of a rule in the metagrammar, if its body in the escaped metagrammar stops in this way
   pub record Carried (used : List ℕ) (m : Meaning) (k : Halt) : Type 0 where
     pub meaning : Meaning
     pub known : meant figure used ≡ Some meaning
     pub rule_is : meaning.rule ≡ number_now m.rule
     pub carries : Carries m.body meaning.body k
 
-  -- what comes of a form by the escaped figure comes of it by the figure, or the escaped figure halts
+  -- the result of a form under the escaped metagrammar is also its result under the metagrammar, or the first stops
   module _ (body-carries : (used : List ℕ) (k : Halt) (m : Meaning) → IsHalting used k
       → meant escaped_figure used ≡ Some m → Carried used m k) where
     mutual

@@ -1,23 +1,23 @@
--- What names mean in the escaped figure: all but Suffix what they mean in the figure, but for the numbers of rules; and all
--- its forms without Suffix match and fail alike.
+-- The meaning of names in the escaped metagrammar. All names but Suffix mean the same as in the metagrammar, apart from
+-- rule numbers. All forms without Suffix have the same results.
 use Rattle.std.proofs.Common.{◌≡◌, ℕ, zero, suc, ◌+◌, ◌<◌, ◌≤◌, Bool, true, false, ◌&&◌, if◌then◌else◌, List, [], ◌∷◌, ◌++◌, take, drop, length, codes}
 use Rattle.std.proofs.Common.{Some, bytes_eq, nat_lt, refl, sym, ap, ◌∙◌, subst, arith}
 use Rattle.std.proofs.lemmas.Bool.{and_parts}
 use Rattle.std.proofs.lemmas.Bool.Decides.{nat_tests}
 use Rattle.std.proofs.lemmas.Slice.Eq.{bytes_eq-Decides}
 use Rattle.peg_tree.specs.Trees.{Trees, NoTrees, Tree, followed_by}
-use Rattle.peg_ford.specs.Form.{Form, Forms, terminals}
-use Rattle.peg_ford.specs.Record.{Recognition, Failed, Matched, behind}
-use Rattle.peg_ford.specs.Rules.{Rule, Meaning, meant_from, meant}
-use Rattle.peg_ford.proofs.Derivations.{Derives, DerivesItems, DerivesFirst}
-use Rattle.peg_figure.specs.EscapedFigure.{escaped_figure, escaped_suffix, number_now, numbered_now}
-use Rattle.peg_figure.specs.Figure.{figure}
-use Rattle.peg_figure.specs.FigureRules as rule
+use Rattle.peg_semantics.specs.Form.{Form, Forms, terminals}
+use Rattle.peg_semantics.specs.Record.{Recognition, Failed, Matched, behind}
+use Rattle.peg_semantics.specs.Rules.{Rule, Meaning, meant_from, meant}
+use Rattle.peg_semantics.proofs.Derivations.{Derives, DerivesItems, DerivesFirst}
+use Rattle.peg_metagrammar.specs.EscapedFigure.{escaped_figure, escaped_suffix, number_now, numbered_now}
+use Rattle.peg_metagrammar.specs.Figure.{figure}
+use Rattle.peg_metagrammar.specs.FigureRules as rule
 use Rattle.peg_notation.proofs.Meanings.{Meant, meant-changed, without, all_without, not_false, turned, meant_without, leads_elsewhere}
 
 -- ---- trees
 
--- what comes of an expression by the escaped figure, with the numbers that rules have in the figure
+-- the result of an expression under the escaped metagrammar, with the rule numbers of the metagrammar
 abbrev pub now : Recognition → Recognition
 now Failed = Failed
 now (Matched end trees) = Matched end (numbered_now trees)
@@ -37,14 +37,14 @@ trees-now one more trees is = ap numbered_now is ∙ followed-now one more
 
 -- ---- meanings with rules between others
 
--- what a name means, where its rule stands so many places later
+-- the meaning of a name whose rule comes this many places later
 pub record Later (n t : ℕ) (rules : List Rule) (used : List ℕ) (rule : ℕ) (m : Meaning) : Type 0 where
   pub meaning : Meaning
   pub known : meant_from n t rules used ≡ Some meaning
   pub rule_is : meaning.rule ≡ rule
   pub body_is : meaning.body ≡ m.body
 
--- a rule's number is not below that of the first
+-- a rule's number is at least the number of the first one
 no_earlier : (n t : ℕ) (rules : List Rule) (used : List ℕ) (m : Meaning) → meant_from n t rules used ≡ Some m → n ≤ m.rule
 no_earlier n t [] used m is = cc
 no_earlier n t (r ∷ rs) used m is =
@@ -59,7 +59,7 @@ no_earlier n t (r ∷ rs) used m is =
         omega (arith, number)
     by behind false is = let more = behind is in omega (arith, more)
 
--- the first of rules, where a name is its own, and where it isn't
+-- the first of some rules, if it has the name, and if it hasn't
 at_first : (n t : ℕ) (r : Rule) (rs : List Rule) (used : List ℕ) → bytes_eq used r.name ≡ true
     → meant_from n t (r ∷ rs) used ≡ Some (record { rule = n; terminal = t; body = r.body })
 at_first n t r rs used is = ap (λ (b : Bool). if b then Some (record { rule = n; terminal = t; body = r.body })
@@ -102,11 +102,11 @@ moved n t u (r ∷ rs) used m is =
           body_is = it.body_is;
         }
 
--- rules, and two others behind them
+-- rules, and two others after them
 abbrev moved_from : (first rule : ℕ) → ℕ
 moved_from first rule = if nat_lt rule first then rule else rule + 2
 
--- where two rules of other names are put between rules
+-- two rules with other names are inserted between rules
 inserted : (xs two ys : List Rule) (n t u : ℕ) (used : List ℕ) (m : Meaning)
     → ((k v w : ℕ) → meant_from k v ys used ≡ Some m → Later k w (two ++ ys) used (m.rule + 2) m)
     → meant_from n t (xs ++ ys) used ≡ Some m
@@ -152,7 +152,7 @@ inserted (r ∷ xs) two ys n t u used m over is =
           body_is = it.body_is;
         }
 
--- rules behind two others, whose names a name isn't
+-- rules after two others that don't have the name
 over_two : (k v w : ℕ) (one two : Rule) (ys : List Rule) (used : List ℕ) (m : Meaning) → bytes_eq used one.name ≡ false
     → bytes_eq used two.name ≡ false → meant_from k v ys used ≡ Some m → Later k w (one ∷ two ∷ ys) used (m.rule + 2) m
 over_two k v w one two ys used m first second is =
@@ -170,7 +170,7 @@ over_two k v w one two ys used m first second is =
       body_is = it.body_is;
     }
 
--- ---- the two figures
+-- ---- the two metagrammars
 
 abbrev before_counts : List Rule
 before_counts = take rule.count figure
@@ -181,7 +181,7 @@ of_counts = take 2 (drop rule.count figure)
 abbrev behind_counts : List Rule
 behind_counts = drop rule.open_sign figure
 
--- no rule behind those of counts has their names
+-- no rule after those of counts has their names
 no_count : (k v : ℕ) (used : List ℕ) (m : Meaning) → meant_from k v behind_counts used ≡ Some m
     → (bytes_eq used (codes "COUNT") ≡ false) × (bytes_eq used (codes "Number") ≡ false)
 unfolding figure
@@ -203,7 +203,7 @@ no_count k v used m is = (
         test true is = absurd (apart ((bytes_eq-Decides used name).0 is))
         test false is = is
 
--- a name behind the rules of counts, with these before
+-- a name after the rules of counts, with these before it
 over_counts : (k v w : ℕ) (used : List ℕ) (m : Meaning) → meant_from k v behind_counts used ≡ Some m
     → Later k w (of_counts ++ behind_counts) used (m.rule + 2) m
 unfolding figure
@@ -241,7 +241,7 @@ named used m n found leads =
 
 module _ {file : List ℕ} where
   mutual
-    -- what comes of them by the escaped figure comes of them by the figure
+    -- their results under the escaped metagrammar are their results under the metagrammar
     pub alike : (n : ℕ) {e : Form} {p : ℕ} {x : Recognition} → Derives escaped_figure file e p x
         → without (elsewhere n) e ≡ true → Derives figure file e p (now x)
     alike n (Derives.literal_matched a b) is = Derives.literal_matched a b

@@ -1,13 +1,13 @@
--- The parentheses of a tree of the figure before counts nest as deep with the numbers that rules have in the figure.
+-- A tree of the metagrammar before counts has the same nesting depth with the rule numbers of the metagrammar.
 use Rattle.std.proofs.Common.{◌≡◌, ℕ, ◌+◌, Bool, max, if◌then◌else◌, refl, ap, ◌∙◌, arith}
 use Rattle.std.specs.Prelude.{◌==◌, ◌&&◌, ◌||◌}
 use Rattle.std.proofs.lemmas.Bool.Decides.{nat_tests}
 use Rattle.peg_tree.specs.Trees.{Trees, NoTrees, Tree}
-use Rattle.peg_figure.specs.EscapedFigure.{number_now, numbered_now}
-use Rattle.peg_figure.specs.Nesting.{has_open, nesting}
+use Rattle.peg_metagrammar.specs.EscapedFigure.{number_now, numbered_now}
+use Rattle.peg_metagrammar.specs.Nesting.{has_open, nesting}
 use Rattle.peg_notation.specs.EscapedNesting.{escaped_nesting, has_escaped_open}
 
--- OPEN stands two places later, and Primary where it stood
+-- OPEN has moved by two, and Primary has the same number
 open-now : (rule : ℕ) → (number_now rule == 23) ≡ (rule == 21)
 open-now rule = grind (arith, nat_tests)
 

@@ -1,40 +1,41 @@
--- How the rules of the escaped figure halt, from Primary up to Grammar, which is matched only where the figure matches it.
+-- How the rules of the escaped metagrammar stop, from Primary up to Grammar. Grammar matches only what the metagrammar
+-- matches.
 use Rattle.std.proofs.Common.{◌≡◌, ◌⊎◌, inl, inr, ℕ, ◌+◌, Bool, true, false, not, ◌&&◌, ◌||◌, ◌==◌, nat_eq, nat_lt, if◌then◌else◌, List, [], ◌∷◌, ◌++◌, drop, codes}
 use Rattle.std.proofs.Common.{Option, None, Some, refl, sym, ap, ◌∙◌, subst, arith}
 use Rattle.std.proofs.lemmas.Bool.Decides.{nat_tests}
 use Rattle.std.specs.List.{starts_with}
 use Rattle.peg_bytes.specs.Extent.{Extent, between}
 use Rattle.peg_tree.specs.Trees.{Trees, NoTrees, Tree}
-use Rattle.peg_ford.specs.Form.{Form, Forms, Name, Seq, Choice, Optional, Star, Plus, End, Then}
-use Rattle.peg_ford.specs.Record.{Recognition, Failed, Matched, behind}
-use Rattle.peg_ford.specs.Rules.{Rule, Meaning, meant}
-use Rattle.peg_ford.proofs.Derivations.{Derives, DerivesItems, DerivesFirst, derived, star_never_fails}
-use Rattle.peg_ford.proofs.ResultSteps.{starts_with-rest}
-use Rattle.peg_figure.specs.EscapedFigure.{escaped_figure, escaped_suffix, MatchesEscaped, number_now, numbered_now, IsEscapedReading}
-use Rattle.peg_figure.specs.Figure.{figure, grammar_body, definition_body, expression_body, sequence_body, prefix_body, suffix_body, primary_body, identifier_body, ident_start_body, ident_cont_body, literal_body, class_body, range_body, char_body, count_body, spacing_body, comment_body, space_body, end_of_line_body, end_of_file_body}
-use Rattle.peg_figure.specs.FigureRules as rule
-use Rattle.peg_figure.specs.Notation.{Matches, IsReading}
-use Rattle.peg_figure.specs.Ranges.{class_of}
-use Rattle.peg_figure.specs.Spelled.{spelled, numerals_in, bounds_spelled, bounds_in_range, bad_counts}
-use Rattle.peg_figure.proofs.FigureNames.{grammar-meant, definition-meant, expression-meant, sequence-meant, prefix-meant, suffix-meant, primary-meant, count-meant}
+use Rattle.peg_semantics.specs.Form.{Form, Forms, Name, Seq, Choice, Optional, Star, Plus, End, Then}
+use Rattle.peg_semantics.specs.Record.{Recognition, Failed, Matched, behind}
+use Rattle.peg_semantics.specs.Rules.{Rule, Meaning, meant}
+use Rattle.peg_semantics.proofs.Derivations.{Derives, DerivesItems, DerivesFirst, derived, star_never_fails}
+use Rattle.peg_semantics.proofs.ResultSteps.{starts_with-rest}
+use Rattle.peg_metagrammar.specs.EscapedFigure.{escaped_figure, escaped_suffix, MatchesEscaped, number_now, numbered_now, IsEscapedReading}
+use Rattle.peg_metagrammar.specs.Figure.{figure, grammar_body, definition_body, expression_body, sequence_body, prefix_body, suffix_body, primary_body, identifier_body, ident_start_body, ident_cont_body, literal_body, class_body, range_body, char_body, count_body, spacing_body, comment_body, space_body, end_of_line_body, end_of_file_body}
+use Rattle.peg_metagrammar.specs.FigureRules as rule
+use Rattle.peg_metagrammar.specs.Notation.{Matches, IsReading}
+use Rattle.peg_metagrammar.specs.Ranges.{class_of}
+use Rattle.peg_metagrammar.specs.Spelled.{spelled, numerals_in, bounds_spelled, bounds_in_range, bad_counts}
+use Rattle.peg_metagrammar.proofs.FigureNames.{grammar-meant, definition-meant, expression-meant, sequence-meant, prefix-meant, suffix-meant, primary-meant, count-meant}
 use Rattle.peg_lexer.proofs.Lexemes.{matches}
 use Rattle.peg_notation.proofs.EscapedHalts.{Halt, IsOpener, IsStop, at, FailsAt, EndsAt, Halts, IsHalting, Carries, CarriesItems, CarriesFirst, Carried, carried}
 use Rattle.peg_notation.proofs.EscapedMeanings.{now, elsewhere, alike, items_alike}
 use Rattle.peg_notation.proofs.Fronts.{front, is_byte, name_may_match, may_match, some_may_match, matches_front, never_here, items_blocked, first_blocked, star_blocked}
 use Rattle.peg_notation.proofs.Meanings.{without, all_without}
 
--- ---- what the bytes at places say
+-- ---- the bytes at positions
 
 byte_is : (h : Option ℕ) (byte : ℕ) → is_byte h byte ≡ true → h ≡ Some byte
 byte_is None byte is = cc
 byte_is (Some front) byte is = ap Some (grind (arith, nat_tests))
 
--- alternatives with one more behind them
+-- alternatives with one more appended
 abbrev behind_forms : Forms → Form → Forms
 behind_forms End last = Then last End
 behind_forms (Then first rest) last = Then first (behind_forms rest last)
 
--- which match where some did, and fail where all fail and so does it
+-- they match if some did, and fail if all of them and the new one fail
 more_matched : {file : List ℕ} {first : Form} {rest : Forms} {p end : ℕ} {trees : Trees} (last : Form)
     → DerivesFirst figure file first rest p (Matched end trees)
     → DerivesFirst figure file first (behind_forms rest last) p (Matched end trees)
@@ -67,7 +68,7 @@ module _ (file : List ℕ) where
   abbrev OldItems : Forms → ℕ → Recognition → Type 0
   OldItems items p x = DerivesItems escaped_figure file items p x
 
-  -- ---- forms that halt nowhere
+  -- ---- forms that don't stop
 
   never_halts : (p : ℕ) (x : Recognition) → Halts file Halt.never p x → ⊥
   never_halts p Failed s = s
@@ -79,7 +80,7 @@ module _ (file : List ℕ) where
   plain_items : {items : Forms} {k : Halt} → all_without (elsewhere 5) items ≡ true → CarriesItems file items items k
   plain_items is = CarriesItems.items_shown (λ p x ds. inl (items_alike 5 ds is))
 
-  -- a plain item, and those behind it
+  -- a plain item, and those after it
   plain_then : {e : Form} {rest : Forms} {l m : Halt} → without (elsewhere 5) e ≡ true → CarriesItems file rest rest l
       → ((p middle : ℕ) (trees : Trees) (x : Recognition) → Old e p (Matched middle trees) → Halts file l middle x
       → Halts file m p (behind trees x))
@@ -87,7 +88,7 @@ module _ (file : List ℕ) where
   plain_then is rest go =
       CarriesItems.item (plain {k = Halt.never} is) rest (λ p s. absurd s) (λ p middle trees x s ds. absurd s) go
 
-  -- an item that halts, and plain items behind it
+  -- an item that stops, and plain items after it
   then_plain : {e f : Form} {rest : Forms} {k m : Halt} → Carries file e f k → all_without (elsewhere 5) rest ≡ true
       → ((p : ℕ) → FailsAt file k p → FailsAt file m p)
       → ((p middle : ℕ) (trees : Trees) (x : Recognition) → EndsAt file k middle → OldItems rest middle x
@@ -105,7 +106,7 @@ module _ (file : List ℕ) where
           → Halts file k p (behind trees x)
       ends p middle trees x s DerivesItems.items_none = s
 
-  -- halting so that the whole fails
+  -- stopping so that the whole fails
   all_halts : (p : ℕ) (trees : Trees) (x : Recognition) → x ≡ Failed → Halts file Halt.whole p (behind trees x)
   all_halts p trees Failed is = tt
   all_halts p trees (Matched end more) is = cc
@@ -223,7 +224,7 @@ module _ (file : List ℕ) where
   count_fails is =
       Derives.name_failed count-meant.1 (Derives.sequence (DerivesItems.items_failed (Derives.literal_failed is)))
 
-  -- the signs that may stand behind an expression, and those with a count behind them
+  -- the operators that may come after an expression, and the same with a count appended
   abbrev signs : (q r s t : Extent) → Form
   signs q r s t = Choice (Name (codes "QUESTION") q) (Then (Name (codes "STAR") r) (Then (Name (codes "PLUS") s) End)) t
 
@@ -387,7 +388,7 @@ module _ (file : List ℕ) where
       go p middle trees Failed d h = tt
       go p middle trees (Matched end more) d h = h
 
-  -- ---- what the rules mean
+  -- ---- the meaning of the rules
 
   same_body : (used : List ℕ) {k : Halt} (m : Meaning) (number terminal now_terminal : ℕ) (body new : Form)
       → meant escaped_figure used ≡ Some (record { rule = number; terminal = terminal; body = body })
@@ -438,7 +439,7 @@ module _ (file : List ℕ) where
         | inr h ↦ absurd h
       ]
 
-  -- no rule of the escaped figure is COUNT
+  -- no rule of the escaped metagrammar is COUNT
   no_count : (n : ℕ) → (number_now n == rule.count) ≡ false
   no_count n = by (nat_lt n rule.count) refl
     where

@@ -1,23 +1,23 @@
--- The reader's `sequence` and `expression` say what the figure's Sequence and Expression say.
+-- The reader's `sequence` and `expression` agree with the metagrammar's Sequence and Expression.
 use Rattle.std.proofs.Common.{◌≡◌, ℕ, zero, suc, ◌+◌, Bool, true, false, List, [], ◌∷◌, ◌++◌, map, length, drop, codes, inl, inr}
 use Rattle.std.proofs.Common.{if◌then◌else◌, Option, None, Some, Result, Ok, Err, refl, sym, ap, ◌∙◌, subst, arith}
 use Rattle.std.proofs.lemmas.List.{drop-drop}
 use Rattle.peg_bytes.specs.Extent.{Extent, between}
 use Rattle.peg_tree.specs.Trees.{Trees, NoTrees, Tree, followed_by}
-use Rattle.peg_ford.specs.Form as form
-use Rattle.peg_ford.specs.Form.{Form, Name}
-use Rattle.peg_ford.specs.Record.{Failed, Matched}
-use Rattle.peg_ford.proofs.Derivations.{Derives, DerivesItems}
-use Rattle.peg_figure.specs.Figure.{figure, sequence_body, expression_body}
-use Rattle.peg_figure.specs.FigureRules as rule
+use Rattle.peg_semantics.specs.Form as form
+use Rattle.peg_semantics.specs.Form.{Form, Name}
+use Rattle.peg_semantics.specs.Record.{Failed, Matched}
+use Rattle.peg_semantics.proofs.Derivations.{Derives, DerivesItems}
+use Rattle.peg_metagrammar.specs.Figure.{figure, sequence_body, expression_body}
+use Rattle.peg_metagrammar.specs.FigureRules as rule
 use Rattle.peg_lexer.specs.Lexical.{text_of}
 use Rattle.peg_lexer.specs.Pieces.{Piece}
 use Rattle.peg_notation.specs.Reader.{Halt, Unexpected, TooDeep, BadCountAt, FormRead, FormsRead, Reading, place_of, starts_with_arrow, kind_begins, begins_prefix, and_read, many, is_bad_count, suffix_sign, with_suffix, then_suffix, primary, suffix, prefix, whole_sequence, sequence, is_slash, starts_with_slash, behind, alternative, whole_choice, expression, expression_in}
-use Rattle.peg_figure.specs.Spelled.{Spelling, Expression, part, text_end, spelled, expressions_in, sequence_spelled, choice_spelled}
+use Rattle.peg_metagrammar.specs.Spelled.{Spelling, Expression, part, text_end, spelled, expressions_in, sequence_spelled, choice_spelled}
 use Rattle.peg_lexer.specs.Tokens.{Lexeme}
 use Rattle.peg_lexer.specs.declared.token.TokenKind.{TokenKind}
 use Rattle.peg_lexer.specs.declared.token.TokenKind.TheVariants as kind
-use Rattle.peg_figure.proofs.FigureNames.{sequence-meant, expression-meant}
+use Rattle.peg_metagrammar.proofs.FigureNames.{sequence-meant, expression-meant}
 use Rattle.peg_lexer.proofs.Lexemes.{lexeme_at}
 use Rattle.peg_lexer.proofs.PieceSizes.{blank-these}
 use Rattle.peg_notation.proofs.PrefixRules.{prefix-exact}
@@ -60,7 +60,7 @@ none_begins file inner p (_ ∷ more) (Stream.next k piece lexeme found is rest)
     by kind.Count begins = (p, refl)
     by kind.Close begins = (p, refl)
 
--- behind an expression no token is one that can't stand there
+-- after an expression no token is unexpected
 never_unexpected : (file : List ℕ) (start : ℕ) (part_read : FormRead) (left : List Lexeme) (at : ℕ)
     → then_suffix file start part_read left ≡ Err (Unexpected at) → ⊥
 never_unexpected file start part_read [] at is = cc
@@ -79,7 +79,7 @@ suffix_goes_on file inner lexemes part_read at read is =
     (sym (ap (λ (x : Result FormRead Halt). and_read x (λ (p : FormRead). then_suffix file (place_of (length file) lexemes) p
     (drop p.taken lexemes))) read) ∙ is)
 
--- where one begins and none is read, a sign or a parenthesis stands
+-- where one begins and none is read, there is an operator or a parenthesis
 begun_stuck : (file : List ℕ) (inner : Option Reading) (p at : ℕ) (lexemes : List Lexeme) → Stream file p lexemes
     → begins_prefix lexemes ≡ true → prefix file inner lexemes ≡ Err (Unexpected at) → IsStuck file p
 unfolding prefix suffix primary
@@ -156,12 +156,12 @@ prefix_rounds file inner good = record {
     by p lexemes stream begins (Err (TooDeep at)) is e = tt
     by p lexemes stream begins (Err (BadCountAt at)) is e = tt
 
--- the expressions among spelled expressions
+-- the expressions among the pieces that expressions denote
 expressions-all : (forms : List Form) → expressions_in (map Expression forms) ≡ forms
 expressions-all [] = refl
 expressions-all (e ∷ forms) = ap (λ (more : List Form). e ∷ more) (expressions-all forms)
 
--- Sequence is what is read
+-- Sequence matches exactly what is read
 pub sequence-exact : (file : List ℕ) (inner : Option Reading) → Good file inner
     → (before p : ℕ) (lexemes : List Lexeme) → Stream file p lexemes
     → ExactAt file (codes "Sequence") before p lexemes (sequence file inner before lexemes)
@@ -201,7 +201,7 @@ no_slash : {file : List ℕ} {p : ℕ} → ((span : Extent) → Derives figure f
     → Derives figure file slash_sequence p Failed
 no_slash fails = Derives.sequence (DerivesItems.items_failed (fails _))
 
--- nothing that can't be followed is a slash
+-- no token that nothing can follow is a slash
 stuck_slash : (file : List ℕ) (q : ℕ) → IsStuck file q → (span : Extent)
     → Derives figure file (Name (codes "SLASH") span) q Failed
 stuck_slash file q stuck span =
@@ -304,7 +304,7 @@ alternative_rounds file inner good = record {
 
 -- ---- Expression
 
--- a sequence and alternatives behind it
+-- a sequence and the alternatives after it
 both_parts : (file : List ℕ) (before p : ℕ) (lexemes : List Lexeme) (first : FormRead)
     → (e : ReadsAt file (codes "Sequence") before p lexemes first) → (x : Result FormsRead Halt)
     → ExactMany file slash_sequence (between 110 127) first.last e.end (drop first.taken lexemes) x
@@ -337,7 +337,7 @@ both_parts file before p lexemes first e (Err (Unexpected at)) stops = record {
 both_parts file before p lexemes first e (Err (TooDeep at)) m = tt
 both_parts file before p lexemes first e (Err (BadCountAt at)) m = tt
 
--- Expression is what is read
+-- Expression matches exactly what is read
 expression-exact : (file : List ℕ) (inner : Option Reading) → Good file inner
     → (before p : ℕ) (lexemes : List Lexeme) → Stream file p lexemes
     → ExactAt file (codes "Expression") before p lexemes (expression file inner before lexemes)
@@ -369,7 +369,7 @@ expression-exact file inner good before p lexemes stream =
     by (Err (TooDeep at)) e = tt
     by (Err (BadCountAt at)) e = tt
 
--- with as many parentheses as may be open, Expression is what is read
+-- within the limit of open parentheses, Expression matches exactly what is read
 pub expression_in-exact : (file : List ℕ) (most before p : ℕ) (lexemes : List Lexeme) → Stream file p lexemes
     → ExactAt file (codes "Expression") before p lexemes
     (expression_in file most before lexemes)

@@ -1,25 +1,25 @@
--- What is read of the tokens of a file, joined into what reading the file answers.
+-- From what is read of the tokens of a file to the result of reading the file.
 use Rattle.std.proofs.Common.{◌≡◌, ◌≢◌, ◌⊎◌, inl, inr, ℕ, zero, suc, ◌+◌, ◌≤◌, Bool, true, false, not, ◌&&◌, if◌then◌else◌, List, [], ◌∷◌, ◌++◌, length, take, drop, map, codes, Contains, All}
 use Rattle.std.proofs.Common.{Option, Some, option_map, Result, Ok, Err, refl, sym, ap, ◌∙◌, subst, arith}
 use Rattle.std.proofs.lemmas.List.Sums.{sum_by-cons}
 use Rattle.peg_bytes.specs.Extent.{between}
 use Rattle.peg_tree.specs.Trees.{Trees}
-use Rattle.peg_ford.specs.Form.{Name}
-use Rattle.peg_ford.specs.Record.{Failed, Matched}
-use Rattle.peg_ford.proofs.Derivations.{Derives, one_result}
-use Rattle.peg_figure.specs.Figure.{figure}
-use Rattle.peg_figure.specs.Notation.{Matches, FigureMatches, most_file_bytes}
+use Rattle.peg_semantics.specs.Form.{Name}
+use Rattle.peg_semantics.specs.Record.{Failed, Matched}
+use Rattle.peg_semantics.proofs.Derivations.{Derives, one_result}
+use Rattle.peg_metagrammar.specs.Figure.{figure}
+use Rattle.peg_metagrammar.specs.Notation.{Matches, FigureMatches, max_file_bytes}
 use Rattle.peg_lexer.specs.Lexical.{text_of}
 use Rattle.peg_lexer.specs.Pieces.{Piece}
-use Rattle.peg_figure.specs.Spelled.{text_end, bounds_in_range, bad_counts}
+use Rattle.peg_metagrammar.specs.Spelled.{text_end, bounds_in_range, bad_counts}
 use Rattle.peg_lexer.specs.declared.token.TokenKind.{TokenKind}
 use Rattle.peg_lexer.specs.declared.token.TokenKind.TheVariants as token
 use Rattle.peg_notation.specs.Reader.{Halt, Unexpected, TooDeep, BadCountAt, RulesRead, bounds_of, is_count, is_bad_count, grammar}
 use Rattle.peg_notation.specs.ReaderCode.{IsText, AreTexts, ConveysHalt}
-use Rattle.peg_figure.specs.Nesting.{most_open}
+use Rattle.peg_metagrammar.specs.Nesting.{max_open}
 use Rattle.peg_notation.specs.Reads.{fault_of, Reads, IsReadingWithin, NestsDeeper, CountsOutOfRange, IsTokenPlace, one_if_open, opens, one_if_close, closes, IsOneTooMany, IsBadCountToken}
 use Rattle.peg_notation.specs.Spans.{RuleLiesIn, AnswerLiesIn}
-use Rattle.peg_figure.specs.Nesting.{nesting}
+use Rattle.peg_metagrammar.specs.Nesting.{nesting}
 use Rattle.peg_lexer.specs.Tokens.{Lexeme, IsTokens, Lexes}
 use Rattle.peg_lexer.specs.declared.fault.LexFault.{LexFault}
 use Rattle.peg_lexer.specs.declared.fault.LexFault.TheVariants.{FileTooLong, Syntax, Memory}
@@ -37,7 +37,7 @@ use Rattle.peg_lexer.proofs.Texts.{behind_text}
 
 -- ---- tokens
 
--- the first spacing ends where it is seen to end
+-- the end of the first spacing
 first_start : (file : List ℕ) {start : ℕ} {trees : Trees} → Matches file (codes "Spacing") 0 start trees
     → start ≡ first_place file
 first_start file {start} {trees} m =
@@ -45,7 +45,7 @@ first_start file {start} {trees} m =
     let same : Matched start trees ≡ Matched (first_place file) gap.trees = one_result (derives m) gap.derives in
     cc
 
--- the tokens of a file stand one behind the other
+-- the tokens of a file follow each other
 pub tokens-stream : (file : List ℕ) (lexemes : List Lexeme) → IsTokens file lexemes → Stream file (first_place file) lexemes
 tokens-stream file lexemes tokens = subst (λ p. Stream file p lexemes) (first_start file tokens.2) (stream tokens.3 refl)
 
@@ -62,7 +62,7 @@ pub tokens-texts : (file : List ℕ) (lexemes : List Lexeme) → IsTokens file l
 tokens-texts file lexemes tokens =
     texts-from file (first_place file) 0 lexemes (omega arith) (stream-texts (tokens-stream file lexemes tokens))
 
--- ---- places
+-- ---- offsets
 
 contains-later : (x y : ℕ) (list : List ℕ) → Contains list x → Contains (y ∷ list) x
 contains-later x y list is = (suc is.0, omega (arith, is.1), is.2)
@@ -79,7 +79,7 @@ token_place size (lexeme ∷ more) at (IsPlace.later rest) =
 
 -- ---- open parentheses
 
--- what a run passes over: the tokens, how many open and close, and that no more than the most are open on the way
+-- The tokens that a run passes: the numbers of those that open and close, with at most `most` open on the way.
 record Passed (most a b : ℕ) (lexemes rest : List Lexeme) : Type 0 where
   pub before : List Lexeme
   pub same : lexemes ≡ before ++ rest
@@ -93,7 +93,7 @@ counts lexeme more = (
   sum_by-cons (λ (l : Lexeme). one_if_close l.kind) lexeme more,
 )
 
--- one token, and what is passed behind it
+-- one token, and what is passed after it
 one_passed : (most a c b : ℕ) (lexeme : Lexeme) (more rest : List Lexeme) → a ≤ most
     → a + one_if_open lexeme.kind ≡ c + one_if_close lexeme.kind → Passed most c b more rest
     → Passed most a b (lexeme ∷ more) rest
@@ -145,9 +145,9 @@ too_many most file lexemes at tokens deep =
       λ n. omega (arith, p.within n),
     )
 
--- ---- the answer
+-- ---- the result
 
--- a reading is the figure's, and nests no deeper than is allowed
+-- a reading is the metagrammar's, and within the nesting limit
 read_within : (file : List ℕ) (most : ℕ) (lexemes : List Lexeme) (read : RulesRead) → IsTokens file lexemes
     → ExactFile file (Ok read) → RulesReach file most lexemes (Ok read) → IsReadingWithin most file read.rules
 read_within file most lexemes read tokens exact reach =
@@ -166,7 +166,7 @@ not_matched : (file : List ℕ) → ((span : Rattle.peg_bytes.specs.Extent.Exten
 not_matched file fails end trees m =
     let bad : Matched end trees ≡ Failed = one_result (derives m) (fails (between 0 0)) in cc
 
--- where so many parentheses are open behind tokens, and another opens, they nest deeper
+-- if `most` parentheses are open after some tokens and another one opens, they nest deeper
 runs-deepest : {file : List ℕ} {most a b : ℕ} {lexemes rest : List Lexeme} → Runs file most a lexemes b rest
     → b + deepest rest ≤ a + deepest lexemes
 runs-deepest Runs.stays = omega arith
@@ -207,7 +207,7 @@ out_of_range file lexemes at tokens it end trees m none =
     bad_somewhere file it.before it.count it.more it.bad
     (ap (bad_places file) (sym it.same) ∙ (sym (counts-tokens file lexemes tokens end trees m) ∙ none))
 
--- tokens behind others are a stream too
+-- tokens after others are a stream too
 stream-behind : (file : List ℕ) (before rest : List Lexeme) (p : ℕ) → Stream file p (before ++ rest)
     → (q : ℕ) × Stream file q rest
 stream-behind file [] rest p there = (p, there)
@@ -230,7 +230,7 @@ count_kind token.Open t is = cc
 count_kind token.Close t is = cc
 count_kind token.Dot t is = cc
 
--- the figure's COUNT of such a token
+-- the match of COUNT for such a token
 bad_tree : (file : List ℕ) (count : Lexeme) (more : List Lexeme) (q : ℕ) → Stream file q (count ∷ more)
     → is_bad_count file count ≡ true
     → (end : ℕ) × (trees : Trees) × Matches file (codes "COUNT") count.text.start end trees
@@ -273,7 +273,7 @@ bad_within file [] count more at from texts place =
 bad_within file (lexeme ∷ before) count more at from texts place =
     bad_within file before count more at lexeme.text.end texts.2 place
 
--- What is read of the tokens of a file with so many parentheses at most.
+-- what is read of the tokens of a file with at most this number of open parentheses
 pub record OfTokens (file : List ℕ) (most : ℕ) (lexemes : List Lexeme) : Type 0 where
   pub read : (r : RulesRead) → grammar file most lexemes ≡ Ok r → IsReadingWithin most file r.rules
   pub lies : (r : RulesRead) → grammar file most lexemes ≡ Ok r → All (RuleLiesIn (length file)) r.rules
@@ -316,7 +316,7 @@ answers file most lexemes tokens =
           );
     }
 
--- a file without tokens isn't read
+-- the result for a file that can't be tokenized
 pub lexing_reads : (file : List ℕ) (fault : LexFault) → Lexes file (Err fault) → Reads file (Err (fault_of fault))
 lexing_reads file FileTooLong is = is
 lexing_reads file (Syntax at) is = (is.0, fault_not_matched file at is.1, inl is.1)
@@ -327,19 +327,19 @@ lexing_lies file FileTooLong is = tt
 lexing_lies file (Syntax at) is = let before = is.1.2 in omega (arith, before)
 lexing_lies file Memory is = tt
 
--- what the reader answers on the tokens of a file is what reading the file answers
-pub fault_reads : (file : List ℕ) (lexemes : List Lexeme) (fault : NotationFault) → length file ≤ most_file_bytes
-    → IsTokens file lexemes → ConveysHalt (grammar file most_open lexemes) fault → Reads file (Err fault)
+-- the result of the reader on the tokens of a file is the result of reading the file
+pub fault_reads : (file : List ℕ) (lexemes : List Lexeme) (fault : NotationFault) → length file ≤ max_file_bytes
+    → IsTokens file lexemes → ConveysHalt (grammar file max_open lexemes) fault → Reads file (Err fault)
 fault_reads file lexemes answer.FileTooLong short tokens is = absurd is
 fault_reads file lexemes (answer.Syntax at) short tokens is =
-    let it = (answers file most_open lexemes tokens).unread at is in (short, it.0, inr it.1)
+    let it = (answers file max_open lexemes tokens).unread at is in (short, it.0, inr it.1)
 fault_reads file lexemes (answer.TooNested at) short tokens is =
-    let it = (answers file most_open lexemes tokens).deep at is in (short, it.0, it.1)
+    let it = (answers file max_open lexemes tokens).deep at is in (short, it.0, it.1)
 fault_reads file lexemes (answer.BadCount at) short tokens is =
-    let it = (answers file most_open lexemes tokens).bad at is in (short, it.0, it.1)
+    let it = (answers file max_open lexemes tokens).bad at is in (short, it.0, it.1)
 fault_reads file lexemes answer.Memory short tokens is = tt
 
--- a place where a token starts lies in the file
+-- the offset where a token starts is in the file
 starts_within : (file : List ℕ) (from : ℕ) (lexemes : List Lexeme) (at : ℕ) → AreTexts file from lexemes
     → IsPlace (length file) lexemes at → at ≤ length file
 starts_within file from lexemes at texts (IsPlace.the_end is) = omega (arith, is)
@@ -355,15 +355,15 @@ runs_within file (Runs.shut {lexeme = lexeme} is run) from texts = runs_within f
 runs_within file (Runs.other {lexeme = lexeme} plain run) from texts = runs_within file run lexeme.text.end texts.2
 
 pub fault_lies : (file : List ℕ) (lexemes : List Lexeme) (fault : NotationFault) → IsTokens file lexemes
-    → ConveysHalt (grammar file most_open lexemes) fault → AnswerLiesIn (length file) (Err fault)
+    → ConveysHalt (grammar file max_open lexemes) fault → AnswerLiesIn (length file) (Err fault)
 fault_lies file lexemes answer.FileTooLong tokens is = tt
 fault_lies file lexemes (answer.Syntax at) tokens is =
     starts_within file 0 lexemes at (tokens-texts file lexemes tokens)
-    (subst (λ (x : Result RulesRead Halt). StopsAt (length file) lexemes x) is (grammar-stops file most_open lexemes))
+    (subst (λ (x : Result RulesRead Halt). StopsAt (length file) lexemes x) is (grammar-stops file max_open lexemes))
 fault_lies file lexemes (answer.TooNested at) tokens is =
     let texts = tokens-texts file lexemes tokens in
-    let deep : IsDeepAt file most_open 0 lexemes at =
-    subst (λ (x : Result RulesRead Halt). RulesReach file most_open lexemes x) is (grammar-reaches file most_open 0 lexemes texts) in
+    let deep : IsDeepAt file max_open 0 lexemes at =
+    subst (λ (x : Result RulesRead Halt). RulesReach file max_open lexemes x) is (grammar-reaches file max_open 0 lexemes texts) in
     let left = runs_within file deep.runs 0 texts in
     omega (
       arith,
@@ -371,5 +371,5 @@ fault_lies file lexemes (answer.TooNested at) tokens is =
       token-order file left.0 deep.opening deep.more left.1,
       texts-within file deep.opening.text.end deep.more left.1.2,
     )
-fault_lies file lexemes (answer.BadCount at) tokens is = ((answers file most_open lexemes tokens).bad at is).2
+fault_lies file lexemes (answer.BadCount at) tokens is = ((answers file max_open lexemes tokens).bad at is).2
 fault_lies file lexemes answer.Memory tokens is = tt

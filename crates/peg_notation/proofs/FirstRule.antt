@@ -1,29 +1,29 @@
--- A file of the notation has a rule: the figure's Grammar has a Definition.
+-- A file of the notation has a rule, since the metagrammar's Grammar has a Definition.
 use Rattle.std.proofs.Common.{◌≡◌, ◌≢◌, ℕ, List, [], ◌∷◌, ◌++◌, drop, codes, Option, None, Some, refl, sym, ap, ◌∙◌}
 use Rattle.std.proofs.Common.{append-nil, subst}
 use Rattle.peg_bytes.specs.Extent.{Extent, between}
 use Rattle.peg_tree.specs.Trees.{Trees, NoTrees, Tree, followed_by}
-use Rattle.peg_ford.specs.Form.{Form, Forms, Name, Seq, Plus, End, Then}
-use Rattle.peg_ford.specs.Record.{Recognition, Failed, Matched, behind}
-use Rattle.peg_ford.specs.Rules.{Rule, Meaning, meant}
-use Rattle.peg_ford.proofs.Derivations.{Derives, DerivesItems, derived, one_result}
-use Rattle.peg_figure.specs.Figure.{figure, grammar_body, definition_body}
-use Rattle.peg_figure.specs.FigureRules as rule
+use Rattle.peg_semantics.specs.Form.{Form, Forms, Name, Seq, Plus, End, Then}
+use Rattle.peg_semantics.specs.Record.{Recognition, Failed, Matched, behind}
+use Rattle.peg_semantics.specs.Rules.{Rule, Meaning, meant}
+use Rattle.peg_semantics.proofs.Derivations.{Derives, DerivesItems, derived, one_result}
+use Rattle.peg_metagrammar.specs.Figure.{figure, grammar_body, definition_body}
+use Rattle.peg_metagrammar.specs.FigureRules as rule
 use Rattle.peg_lexer.specs.Lexical.{text_of}
 use Rattle.peg_lexer.specs.Pieces.{Piece}
-use Rattle.peg_figure.specs.Notation.{IsReading}
-use Rattle.peg_figure.specs.Spelled.{Spelling, Byte, Bytes, Numeral, Word, Sign, Expression, Definition}
-use Rattle.peg_figure.specs.Spelled.{text_end, part, spelled, choice_spelled, definition_spelled, expressions_in}
-use Rattle.peg_figure.specs.Spelled.{rules_in, rules_spelled}
+use Rattle.peg_metagrammar.specs.Notation.{IsReading}
+use Rattle.peg_metagrammar.specs.Spelled.{Spelling, Byte, Bytes, Numeral, Word, Sign, Expression, Definition}
+use Rattle.peg_metagrammar.specs.Spelled.{text_end, part, spelled, choice_spelled, definition_spelled, expressions_in}
+use Rattle.peg_metagrammar.specs.Spelled.{rules_in, rules_spelled}
 use Rattle.peg_lexer.specs.declared.token.TokenKind.TheVariants as kind
-use Rattle.peg_figure.proofs.FigureNames.{grammar-meant, definition-meant, identifier-meant, expression-meant}
+use Rattle.peg_metagrammar.proofs.FigureNames.{grammar-meant, definition-meant, identifier-meant, expression-meant}
 use Rattle.peg_lexer.proofs.PieceSizes.{blank-these}
 use Rattle.peg_notation.proofs.Streams.{here}
-use Rattle.peg_spelling.proofs.TokenNodes.{takes-kind}
+use Rattle.peg_bootstrap.proofs.TokenNodes.{takes-kind}
 use Rattle.peg_lexer.proofs.Takes.{spelled-followed}
 use Rattle.peg_lexer.proofs.Texts.{FindsToken}
 
--- ---- what a derivation is made of
+-- ---- the parts of a derivation
 
 -- a match of a name is one tree of its rule, over a match of the rule's expression
 record InName (file : List ℕ) (m : Meaning) (p end : ℕ) (trees : Trees) : Type 0 where
@@ -41,7 +41,7 @@ in_name {file} {used} {span} {p} {end} m known (Derives.name_matched {meaning = 
       is = is ∙ ap (λ (x : Meaning). Tree x.rule p end inner NoTrees) it;
     }
 
--- a match of items is one of the first and one of the rest behind it
+-- a match of items is a match of the first and a match of the rest after it
 record InItems (file : List ℕ) (item : Form) (rest : Forms) (p end : ℕ) (trees : Trees) : Type 0 where
   middle : ℕ
   first : Trees
@@ -75,7 +75,7 @@ in_sequence (Derives.sequence items) = items
 
 -- ---- a definition
 
--- an arrow spells nothing
+-- an arrow denotes nothing
 arrow-blank : (file : List ℕ) (span : Extent) (p end : ℕ) (trees : Trees)
     → Derives figure file (Name (codes "LEFTARROW") span) p (Matched end trees) → (before : ℕ)
     → spelled file before trees ≡ []
@@ -90,12 +90,12 @@ arrow-blank file span p end trees d before = by (text_of kind.Arrow (drop p file
         let same : trees ≡ it.trees = cc in
         ap (spelled file before) same ∙ (it.spells before ∙ (blank-these (codes "<-")).blank (drop p file) piece found)
 
--- no items leave no tree
+-- no items give no tree
 in_nothing : {file : List ℕ} {p end : ℕ} {trees : Trees} → DerivesItems figure file End p (Matched end trees)
     → trees ≡ NoTrees
 in_nothing DerivesItems.items_none = refl
 
--- the tree of a definition spells one
+-- the tree of a definition denotes one
 definition-spells : (file : List ℕ) (span : Extent) (p end : ℕ) (trees : Trees)
     → Derives figure file (Name (codes "Definition") span) p (Matched end trees) → (before : ℕ)
     → (r : Rule) × (spelled file before trees ≡ Definition r ∷ [])
@@ -139,7 +139,7 @@ definition-spells file span p end trees d before =
 
 -- ---- a file
 
--- one and more are one and those behind it
+-- one or more are one and those after it
 record InPlus (file : List ℕ) (part : Form) (p : ℕ) (trees : Trees) : Type 0 where
   middle : ℕ
   first : Trees
@@ -152,7 +152,7 @@ in_plus : {file : List ℕ} {part : Form} {span : Extent} {p end : ℕ} {trees :
 in_plus (Derives.plus_matched {middle = middle} {first = first} {more = more} d others is) =
     record { middle = middle; first = first; more = more; here_is = d; is = is }
 
--- where a definition is among pieces, a rule is
+-- if a definition is among the pieces, a rule is
 rules_in-some : (pieces : List Spelling) (r : Rule) (others : List Spelling)
     → rules_in (pieces ++ Definition r ∷ others) ≢ []
 rules_in-some [] r others none = cc

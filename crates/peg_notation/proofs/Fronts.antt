@@ -1,17 +1,17 @@
--- With which byte a match of a figure's forms may begin.
+-- The bytes with which a match of the metagrammar's forms may begin.
 use Rattle.std.proofs.Common.{◌≡◌, ℕ, zero, suc, Bool, true, false, ◌||◌, ◌==◌, nat_eq, List, [], ◌∷◌, drop}
 use Rattle.std.proofs.Common.{Option, None, Some, refl, sym, ap, ◌∙◌}
 use Rattle.std.specs.List.{starts_with}
 use Rattle.std.proofs.lemmas.Bool.{and_parts}
 use Rattle.peg_bytes.specs.ByteSet.{has}
 use Rattle.peg_tree.specs.Trees.{Trees}
-use Rattle.peg_ford.specs.Form.{Form, Forms, Literal, Class, Any, Name, Seq, Choice, Optional, Star, Plus, Counted, And, Not, End, Then}
-use Rattle.peg_ford.specs.Record.{Recognition, Failed, Matched}
-use Rattle.peg_ford.specs.Rules.{Rule, Meaning, meant}
-use Rattle.peg_ford.proofs.Derivations.{Derives, DerivesItems, DerivesFirst}
-use Rattle.peg_ford.proofs.ResultSteps.{begins_with, passes_any}
+use Rattle.peg_semantics.specs.Form.{Form, Forms, Literal, Class, Any, Name, Seq, Choice, Optional, Star, Plus, Counted, And, Not, End, Then}
+use Rattle.peg_semantics.specs.Record.{Recognition, Failed, Matched}
+use Rattle.peg_semantics.specs.Rules.{Rule, Meaning, meant}
+use Rattle.peg_semantics.proofs.Derivations.{Derives, DerivesItems, DerivesFirst}
+use Rattle.peg_semantics.proofs.ResultSteps.{begins_with, passes_any}
 
--- the byte at the front, if there is one
+-- the next byte, if there is one
 abbrev pub front : List ℕ → Option ℕ
 front [] = None
 front (byte ∷ rest) = Some byte
@@ -28,7 +28,7 @@ abbrev pub is_none : Option ℕ → Bool
 is_none None = true
 is_none (Some front) = false
 
--- whether an expression may match where this is at the front, by what is known of names
+-- whether an expression may match with this next byte, from what is known of names
 abbrev mutual
   pub may_match : (List ℕ → Bool) → Option ℕ → Form → Bool
   may_match known at (Literal [] span) = true
@@ -68,7 +68,7 @@ abbrev pub meant_may_match : (List ℕ → Bool) → Option ℕ → Option Meani
 meant_may_match known at None = true
 meant_may_match known at (Some m) = may_match known at m.body
 
--- the same of a name, in so many steps from name to name
+-- the same for a name, in this number of steps from name to name
 abbrev pub name_may_match : List Rule → ℕ → Option ℕ → List ℕ → Bool
 name_may_match rules zero at used = true
 name_may_match rules (suc n) at used = meant_may_match (name_may_match rules n at) at (meant rules used)
@@ -111,7 +111,7 @@ module _ {rules : List Rule} {file : List ℕ} where
   not_front n (Not part inside) span d = refl
 
   mutual
-    -- what matches may match
+    -- an expression that matches may match
     pub matches_front : (n : ℕ) {e : Form} {p end : ℕ} {trees : Trees}
         → Derives rules file e p (Matched end trees)
         → may_match (name_may_match rules n (front (drop p file))) (front (drop p file)) e ≡ true
@@ -152,7 +152,7 @@ module _ {rules : List Rule} {file : List ℕ} where
         or_other (may_match (name_may_match rules n (front (drop p file))) (front (drop p file)) first)
         (some_may_match (name_may_match rules n (front (drop p file))) (front (drop p file)) (Then next rest)) (first_front n ds)
 
--- ---- what fails where another byte is at the front
+-- ---- forms that fail with another next byte
 
 true≢false : true ≡ false → ⊥
 true≢false e = cc

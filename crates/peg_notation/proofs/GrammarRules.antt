@@ -1,38 +1,38 @@
--- The reader's `definition` and `grammar` say what the figure's Definition and Grammar say.
+-- The reader's `definition` and `grammar` agree with the metagrammar's Definition and Grammar.
 use Rattle.std.proofs.Common.{◌≡◌, ◌≢◌, ℕ, zero, suc, ◌+◌, ◌-◌, ◌<◌, ◌≤◌, List, [], ◌∷◌, ◌++◌, map, length, drop, length-drop, codes, ◌⊎◌, inl, inr}
 use Rattle.std.proofs.Common.{None, Some, Result, Ok, Err, refl, sym, ap, ◌∙◌, subst, arith, append-nil}
 use Rattle.std.proofs.lemmas.List.{drop_all}
 use Rattle.peg_bytes.specs.Extent.{Extent, between}
 use Rattle.peg_tree.specs.Trees.{Trees, NoTrees, Tree, followed_by}
-use Rattle.peg_ford.specs.Form as form
-use Rattle.peg_ford.specs.Form.{Form, Name, Star}
-use Rattle.peg_ford.specs.Record.{Failed, Matched}
-use Rattle.peg_ford.specs.Rules.{Rule}
-use Rattle.peg_ford.proofs.Derivations.{Derives, DerivesItems, any_here, any_at_end}
-use Rattle.peg_figure.specs.Figure.{figure, definition_body, grammar_body, end_of_file_body}
-use Rattle.peg_figure.specs.FigureRules as rule
+use Rattle.peg_semantics.specs.Form as form
+use Rattle.peg_semantics.specs.Form.{Form, Name, Star}
+use Rattle.peg_semantics.specs.Record.{Failed, Matched}
+use Rattle.peg_semantics.specs.Rules.{Rule}
+use Rattle.peg_semantics.proofs.Derivations.{Derives, DerivesItems, any_here, any_at_end}
+use Rattle.peg_metagrammar.specs.Figure.{figure, definition_body, grammar_body, end_of_file_body}
+use Rattle.peg_metagrammar.specs.FigureRules as rule
 use Rattle.peg_lexer.specs.Lexical.{text_of, spacing}
 use Rattle.peg_lexer.specs.Pieces.{Piece}
 use Rattle.peg_notation.specs.Reader.{Halt, Unexpected, TooDeep, BadCountAt, FormRead, starts_with_arrow, is_arrow, and_read, expression_in, RuleRead, RulesRead, and_rules, rule_of, definition_behind, definition_of, definition, definitions_behind, grammar}
-use Rattle.peg_figure.specs.Spelled.{Spelling, Definition, Word, Expression, text_end, part, spelled, definition_spelled, rules_in, rules_spelled}
-use Rattle.peg_figure.specs.Nesting.{nesting}
+use Rattle.peg_metagrammar.specs.Spelled.{Spelling, Definition, Word, Expression, text_end, part, spelled, definition_spelled, rules_in, rules_spelled}
+use Rattle.peg_metagrammar.specs.Nesting.{nesting}
 use Rattle.peg_lexer.specs.Tokens.{Lexeme}
 use Rattle.peg_lexer.specs.declared.token.TokenKind.{TokenKind}
 use Rattle.peg_lexer.specs.declared.token.TokenKind.TheVariants as kind
 use Rattle.peg_notation.proofs.ExpressionRules.{expression_in-exact}
-use Rattle.peg_figure.proofs.FigureNames.{grammar-meant, definition-meant, end_of_file-meant}
+use Rattle.peg_metagrammar.proofs.FigureNames.{grammar-meant, definition-meant, end_of_file-meant}
 use Rattle.peg_lexer.proofs.Lexemes.{lexeme_at}
 use Rattle.peg_lexer.proofs.PieceSizes.{blank-these}
 use Rattle.peg_notation.proofs.Readings.{followed-none, ExactAt, Stops, IsStuck}
 use Rattle.peg_lexer.proofs.SpacingRules.{FindsSpacing, finds-spacing}
 use Rattle.peg_notation.proofs.Streams.{Stream, here, not_here, none_here}
-use Rattle.peg_spelling.proofs.TokenNodes.{nothing_left}
+use Rattle.peg_bootstrap.proofs.TokenNodes.{nothing_left}
 use Rattle.peg_lexer.proofs.Takes.{spelled-followed, nesting-followed}
 use Rattle.peg_lexer.proofs.Texts.{FindsToken, behind_text}
 
 -- ---- the end of the file
 
--- where a token stands the file doesn't end
+-- where there is a token, the file doesn't end
 pub not_ended : {file : List ℕ} {p : ℕ} (k : TokenKind) (piece : Piece) → text_of k (drop p file) ≡ Some piece
     → (span : Extent) → Derives figure file (Name (codes "EndOfFile") span) p Failed
 unfolding end_of_file_body
@@ -52,7 +52,7 @@ ended_here {file} {p} last span =
 
 -- ---- Definition
 
--- a definition at a place
+-- a definition at an offset
 pub record ReadsRule (file : List ℕ) (p : ℕ) (lexemes : List Lexeme) (part_read : RuleRead) : Type 0 where
   pub end : ℕ
   pub trees : Trees
@@ -62,7 +62,7 @@ pub record ReadsRule (file : List ℕ) (p : ℕ) (lexemes : List Lexeme) (part_r
   pub nests : nesting trees ≡ part_read.depth
   pub some : 0 < part_read.taken
 
--- what is read is matched; where none is read the rule fails, or goes no further than a token that nothing can follow
+-- What is read is matched. If nothing is read, the rule fails, or stops at a token that nothing can follow.
 abbrev pub ExactRule : (file : List ℕ) (p : ℕ) (lexemes : List Lexeme) → Result RuleRead Halt → Type 0
 ExactRule file p lexemes (Ok part_read) = ReadsRule file p lexemes part_read
 ExactRule file p lexemes (Err (Unexpected at)) =
@@ -71,7 +71,7 @@ ExactRule file p lexemes (Err (Unexpected at)) =
 ExactRule file p lexemes (Err (TooDeep at)) = Unit {0}
 ExactRule file p lexemes (Err (BadCountAt at)) = Unit {0}
 
--- no definition begins without a name
+-- a definition begins with a name
 no_name : {file : List ℕ} {p : ℕ} → ((span : Extent) → Derives figure file (Name (codes "Identifier") span) p Failed)
     → (span : Extent) → Derives figure file (Name (codes "Definition") span) p Failed
 unfolding definition_body
@@ -153,7 +153,7 @@ definition_read file p piece found arrow there rest (Err (Unexpected at)) stops 
 definition_read file p piece found arrow there rest (Err (TooDeep at)) e = tt
 definition_read file p piece found arrow there rest (Err (BadCountAt at)) e = tt
 
--- what stands behind a name
+-- what comes after a name
 behind_name : (file : List ℕ) (most p : ℕ) (piece : Piece) (more : List Lexeme) → text_of kind.Ident (drop p file)
     ≡ Some piece → Stream file (behind_text file p piece.length) more
     → ExactRule file p (lexeme_at kind.Ident p piece.length ∷
@@ -197,7 +197,7 @@ behind_name file most p piece (_ ∷ rest) found (Stream.next k arrow lexeme the
     by kind.Close at_end = none kind.Close at_end (λ e. cc)
     by kind.Dot at_end = none kind.Dot at_end (λ e. cc)
 
--- Definition is what is read
+-- Definition matches exactly what is read
 pub definition-exact : (file : List ℕ) (most p : ℕ) (lexemes : List Lexeme) → Stream file p lexemes
     → ExactRule file p lexemes (definition file most lexemes)
 unfolding definition
@@ -228,9 +228,9 @@ definition-exact file most p (_ ∷ more) (Stream.next k piece lexeme found is r
     by kind.Close there = none kind.Close there (λ e. cc)
     by kind.Dot there = none kind.Dot there (λ e. cc)
 
--- ---- definitions, one behind the other
+-- ---- definitions one after the other
 
--- what can't be followed is no name
+-- a token that nothing can follow isn't a name
 stuck_name : (file : List ℕ) (q : ℕ) → IsStuck file q → (span : Extent)
     → Derives figure file (Name (codes "Identifier") span) q Failed
 stuck_name file q stuck span =
@@ -253,7 +253,7 @@ pub record ReadsRules (file : List ℕ) (p : ℕ) (read : RulesRead) : Type 0 wh
   pub spells : (before : ℕ) → spelled file before trees ≡ map Definition read.rules
   pub nests : nesting trees ≡ read.depth
 
--- definitions that go no further than a place before the end
+-- definitions that stop before the end
 pub record StopsEarly (file : List ℕ) (p : ℕ) : Type 0 where
   pub end : ℕ
   pub trees : Trees
@@ -276,7 +276,7 @@ definitions_behind-drop file most [] (suc skipped) = refl
 definitions_behind-drop file most (l ∷ rest) zero = refl
 definitions_behind-drop file most (l ∷ rest) (suc skipped) = definitions_behind-drop file most rest skipped
 
--- one definition and those behind it
+-- one definition and those after it
 more_rules : (file : List ℕ) (p : ℕ) (lexemes : List Lexeme) (first : RuleRead) → (e : ReadsRule file p lexemes first)
     → (x : Result RulesRead Halt) → ExactRules file e.end x
     → ExactRules file p (and_read x (λ (more : RulesRead). Ok (and_rules first more)))
@@ -298,7 +298,7 @@ more_rules file p lexemes first e (Err (Unexpected at)) stops = record {
 more_rules file p lexemes first e (Err (TooDeep at)) m = tt
 more_rules file p lexemes first e (Err (BadCountAt at)) m = tt
 
--- where a definition goes no further than a token that nothing can follow, the star ends there
+-- if a definition stops at a token that nothing can follow, the star ends there
 rules_stop : (file : List ℕ) (p : ℕ) → Stops file (codes "Definition") p → StopsEarly file p
 rules_stop file p stops = record {
   end = stops.end;
@@ -361,12 +361,12 @@ definitions file most (suc n) p (l ∷ rest) few stream =
 
 -- ---- Grammar
 
--- the rules among spelled definitions
+-- the rules among the pieces that definitions denote
 rules-all : (rules : List Rule) → rules_in (map Definition rules) ≡ rules
 rules-all [] = refl
 rules-all (r ∷ rules) = ap (λ (more : List Rule). r ∷ more) (rules-all rules)
 
--- the figure matches a file, and its tree spells these rules
+-- the metagrammar matches a file, and its tree denotes these rules
 pub record ReadsFile (file : List ℕ) (read : RulesRead) : Type 0 where
   pub end : ℕ
   pub trees : Trees
@@ -374,18 +374,18 @@ pub record ReadsFile (file : List ℕ) (read : RulesRead) : Type 0 where
   pub spells : read.rules ≡ rules_spelled file trees
   pub nests : nesting trees ≡ read.depth
 
--- what is read is matched, and where a token can't stand there the figure doesn't match
+-- what is read is matched, and at an unexpected token the metagrammar doesn't match
 abbrev pub ExactFile : List ℕ → Result RulesRead Halt → Type 0
 ExactFile file (Ok read) = ReadsFile file read
 ExactFile file (Err (Unexpected at)) = (span : Extent) → Derives figure file (Name (codes "Grammar") span) 0 Failed
 ExactFile file (Err (TooDeep at)) = Unit {0}
 ExactFile file (Err (BadCountAt at)) = Unit {0}
 
--- where the first spacing ends
+-- the end of the first spacing
 abbrev pub first_place : List ℕ → ℕ
 first_place file = 0 + (spacing (drop 0 file)).length
 
--- no definition, or something else behind the last one
+-- no definition, or something else after the last one
 grammar_fails : (file : List ℕ) → DerivesItems figure file
     (form.Then (form.Plus (Name (codes "Definition") (between 19 29)) (between 19 30))
     (form.Then (Name (codes "EndOfFile") (between 31 40)) form.End)) (first_place file) Failed → (span : Extent)
@@ -395,7 +395,7 @@ grammar_fails file items span =
     let gap : FindsSpacing file (between 11 18) 0 = finds-spacing file (between 11 18) 0 in
     Derives.name_failed grammar-meant.1 (Derives.sequence (DerivesItems.items_then gap.derives items refl))
 
--- one definition and those behind it, up to the end
+-- one definition and those after it, up to the end
 grammar_read : (file : List ℕ) (lexemes : List Lexeme) (first : RuleRead)
     → (e : ReadsRule file (first_place file) lexemes first) → (x : Result RulesRead Halt) → ExactRules file e.end x
     → ExactFile file (and_read x (λ (more : RulesRead). Ok (and_rules first more)))
@@ -442,7 +442,7 @@ grammar_read file lexemes first e (Err (Unexpected at)) stops =
 grammar_read file lexemes first e (Err (TooDeep at)) m = tt
 grammar_read file lexemes first e (Err (BadCountAt at)) m = tt
 
--- Grammar is what is read.
+-- Grammar matches exactly what is read
 pub grammar-exact : (file : List ℕ) (most : ℕ) (lexemes : List Lexeme) → Stream file (first_place file) lexemes
     → ExactFile file (grammar file most lexemes)
 unfolding grammar definitions_behind

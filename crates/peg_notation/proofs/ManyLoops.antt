@@ -1,8 +1,8 @@
--- Loops over tokens: what is read so far, and what is to be read, are what is read in all.
+-- Loops over tokens: what is read so far and what is left to read make the whole.
 use Rattle.std.proofs.Common.{◌≡◌, ℕ, suc, ◌+◌, ◌-◌, ◌<◌, max, Bool, true, false, List, [], ◌∷◌, ◌++◌, length, drop}
 use Rattle.std.proofs.Common.{Result, Ok, Err, if◌then◌else◌, refl, sym, ap, ◌∙◌, subst, append_assoc, append-nil, arith}
 use Rattle.std.proofs.lemmas.List.{drop-drop}
-use Rattle.peg_ford.specs.Rules.{Rule}
+use Rattle.peg_semantics.specs.Rules.{Rule}
 use Rattle.peg_notation.specs.Reader.{Halt, FormRead, FormsRead, Reading, and_read, no_more, and_form, many_behind, many, RuleRead, RulesRead, and_rules, definition, definitions_behind}
 use Rattle.peg_notation.specs.ReaderCode.{with_form}
 use Rattle.peg_lexer.specs.Tokens.{Lexeme}
@@ -11,7 +11,7 @@ use Rattle.peg_notation.proofs.Repeats.{many_behind-drop}
 
 -- ---- expressions
 
--- expressions and those behind them
+-- expressions and those after them
 abbrev pub joined : FormsRead → FormsRead → FormsRead
 joined parts more =
     record { forms = parts.forms ++ more.forms; taken = parts.taken + more.taken; last = more.last; depth = max parts.depth more.depth }
@@ -31,7 +31,7 @@ pub so_far-none : (begins : List Lexeme → Bool) (read : Reading) (before : ℕ
     → SoFar begins read before lexemes (no_more before)
 so_far-none begins read before lexemes = record { same = only_read (many begins read before lexemes) before }
 
--- where one begins, it is the first
+-- if one begins, it is the first
 first_of_many : (begins : List Lexeme → Bool) (read : Reading) (before : ℕ) (lexemes : List Lexeme) → begins [] ≡ false
     → begins lexemes ≡ true → (x : Result FormRead Halt) → read before lexemes ≡ x
     → ((p : FormRead) → x ≡ Ok p → 0 < p.taken)
@@ -93,7 +93,7 @@ joined-none parts =
     let deep : max parts.depth 0 ≡ parts.depth = omega arith in
     λ i. record { forms = all i; taken = count i; last = parts.last; depth = deep i }
 
--- where none begins, all is read
+-- if none begins, all is read
 pub so_far-all : (begins : List Lexeme → Bool) (read : Reading) (before : ℕ) (lexemes : List Lexeme) (parts : FormsRead)
     → SoFar begins read before lexemes parts → begins (drop parts.taken lexemes) ≡ false
     → many begins read before lexemes ≡ Ok parts
@@ -101,7 +101,7 @@ so_far-all begins read before lexemes parts so_far none =
     so_far.same ∙ (ap (λ (x : Result FormsRead Halt). and_read x (λ (more : FormsRead). Ok (joined parts more)))
     (none_of_many begins read parts.last (drop parts.taken lexemes) none) ∙ ap (λ (p : FormsRead). Ok p) (joined-none parts))
 
--- where one stops, all stops
+-- if one stops, all stops
 pub so_far-halt : (begins : List Lexeme → Bool) (read : Reading) (before : ℕ) (lexemes : List Lexeme) (parts : FormsRead) (halt : Halt)
     → SoFar begins read before lexemes parts → begins [] ≡ false → begins (drop parts.taken lexemes) ≡ true
     → read parts.last (drop parts.taken lexemes) ≡ Err halt → many begins read before lexemes ≡ Err halt
@@ -111,7 +111,7 @@ so_far-halt begins read before lexemes parts halt so_far none begun is =
 
 -- ---- rules
 
--- rules and those behind them
+-- rules and those after them
 abbrev pub after : List Rule → (depth : ℕ) → RulesRead → RulesRead
 after rules depth more = record { rules = rules ++ more.rules; depth = max depth more.depth }
 
@@ -184,7 +184,7 @@ rules-all file most lexemes taken rules depth so_far none =
     (λ (more : RulesRead). Ok (after rules depth more))) none
     ∙ (λ i. Ok (record { rules = all i; depth = deep i })))
 
--- where one stops, all stops
+-- if one stops, all stops
 pub rules-halt : (file : List ℕ) (most : ℕ) (lexemes : List Lexeme) (taken : ℕ) (rules : List Rule) (depth : ℕ) (halt : Halt)
     → RulesSoFar file most lexemes taken rules depth → 0 < length (drop taken lexemes)
     → definition file most (drop taken lexemes) ≡ Err halt → definitions_behind file most lexemes 0 ≡ Err halt

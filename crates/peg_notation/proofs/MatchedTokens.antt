@@ -1,25 +1,25 @@
--- What the figure matches has tokens: from Definition to Primary, whatever is matched is one token behind the other, and
--- its trees nest as deep as parentheses of these tokens are open at once, and have the counts that are out of range.
+-- What the metagrammar matches has tokens. A match of a rule from Definition to Primary is one token after the other.
+-- Its trees have the nesting depth of these tokens, and their counts out of range.
 use Rattle.std.proofs.Common.{◌≡◌, ◌⊎◌, inl, inr, ℕ, suc, ◌+◌, ◌-◌, ◌≤◌, max, Bool, true, false, not, ◌||◌, List, [], ◌∷◌, ◌++◌, length, drop, codes}
 use Rattle.std.proofs.Common.{append_assoc, append-nil, Option, None, Some, option_map, unwrap_or, if◌then◌else◌, ◌==◌, ◌&&◌, refl, sym, ap, ◌∙◌, subst, arith, length-drop}
 use Rattle.std.proofs.lemmas.List.Sums.{sum_by-append, sum_by-cons}
 use Rattle.peg_bytes.specs.Extent.{Extent, between}
 use Rattle.peg_tree.specs.Trees.{Trees, NoTrees, Tree, followed_by}
-use Rattle.peg_ford.specs.Form.{Form, Forms, Literal, Class, Any, Name, Seq, Choice, Optional, Star, Plus, Counted, And, Not, End, Then}
-use Rattle.peg_ford.specs.Record.{Recognition, Failed, Matched, behind}
-use Rattle.peg_ford.specs.Rules.{Meaning, meant}
-use Rattle.peg_ford.proofs.Derivations.{Derives, DerivesItems, DerivesFirst, recorded, derived, one_result}
-use Rattle.peg_ford.proofs.ResultSteps.{begins_with, passes_any}
-use Rattle.peg_ford.proofs.TerminalLemmas.{record_in-ends}
-use Rattle.peg_figure.specs.Figure.{figure, grammar_body, definition_body, expression_body, sequence_body, prefix_body, suffix_body, primary_body, end_of_file_body}
-use Rattle.peg_figure.specs.FigureRules as rule
-use Rattle.peg_figure.specs.Nesting.{nesting, has_open}
-use Rattle.peg_figure.specs.Notation.{Matches, FigureMatches}
-use Rattle.peg_figure.specs.Spelled.{text_end, spelled, numerals_in, bounds_spelled, bounds_in_range, bad_counts}
+use Rattle.peg_semantics.specs.Form.{Form, Forms, Literal, Class, Any, Name, Seq, Choice, Optional, Star, Plus, Counted, And, Not, End, Then}
+use Rattle.peg_semantics.specs.Record.{Recognition, Failed, Matched, behind}
+use Rattle.peg_semantics.specs.Rules.{Meaning, meant}
+use Rattle.peg_semantics.proofs.Derivations.{Derives, DerivesItems, DerivesFirst, recorded, derived, one_result}
+use Rattle.peg_semantics.proofs.ResultSteps.{begins_with, passes_any}
+use Rattle.peg_semantics.proofs.TerminalLemmas.{record_in-ends}
+use Rattle.peg_metagrammar.specs.Figure.{figure, grammar_body, definition_body, expression_body, sequence_body, prefix_body, suffix_body, primary_body, end_of_file_body}
+use Rattle.peg_metagrammar.specs.FigureRules as rule
+use Rattle.peg_metagrammar.specs.Nesting.{nesting, has_open}
+use Rattle.peg_metagrammar.specs.Notation.{Matches, FigureMatches}
+use Rattle.peg_metagrammar.specs.Spelled.{text_end, spelled, numerals_in, bounds_spelled, bounds_in_range, bad_counts}
 use Rattle.peg_lexer.specs.Tokens.{rule_of_kind, Lexeme, Lexemes, IsTokens, IsLexingFault}
 use Rattle.peg_lexer.specs.declared.token.TokenKind.{TokenKind}
 use Rattle.peg_lexer.specs.declared.token.TokenKind.TheVariants as kind
-use Rattle.peg_figure.proofs.FigureNames.{grammar-meant, definition-meant, expression-meant, sequence-meant, prefix-meant, suffix-meant, primary-meant, open_sign-meant, end_of_file-meant}
+use Rattle.peg_metagrammar.proofs.FigureNames.{grammar-meant, definition-meant, expression-meant, sequence-meant, prefix-meant, suffix-meant, primary-meant, open_sign-meant, end_of_file-meant}
 use Rattle.peg_lexer.proofs.Lexemes.{matches}
 use Rattle.peg_lexer.proofs.OneLexing.{tokens_or_fault, one_list}
 use Rattle.peg_lexer.proofs.Takes.{nesting-followed, bad_counts-followed}
@@ -31,11 +31,11 @@ use Rattle.peg_lexer.specs.Lexical.{text_of}
 use Rattle.peg_lexer.specs.Pieces.{Piece}
 use Rattle.peg_lexer.proofs.SpacingRules.{finds-spacing}
 use Rattle.peg_lexer.proofs.Texts.{FindsToken, behind_text}
-use Rattle.peg_spelling.proofs.TokenNodes.{number_of, takes-kind}
+use Rattle.peg_bootstrap.proofs.TokenNodes.{number_of, takes-kind}
 
 -- ---- expressions over tokens
 
--- the figure's rules above the tokens and below Grammar
+-- the metagrammar's rules above the tokens and below Grammar
 pub data IsSyntax (name : List ℕ) : Type 0 where
   is_definition : name ≡ codes "Definition" → IsSyntax name
   is_expression : name ≡ codes "Expression" → IsSyntax name
@@ -44,7 +44,7 @@ pub data IsSyntax (name : List ℕ) : Type 0 where
   is_suffix : name ≡ codes "Suffix" → IsSyntax name
   is_primary : name ≡ codes "Primary" → IsSyntax name
 
--- a token that is no parenthesis
+-- a token that isn't a parenthesis
 pub record IsToken (name : List ℕ) : Type 0 where
   pub kind : TokenKind
   pub is : name ≡ rule_of_kind kind
@@ -54,7 +54,7 @@ pub record IsToken (name : List ℕ) : Type 0 where
 token : (k : TokenKind) → one_if_open k ≡ 0 → one_if_close k ≡ 0 → IsToken (rule_of_kind k)
 token k no_open no_close = record { kind = k; is = refl; no_open = no_open; no_close = no_close }
 
--- an expression that takes tokens alone, and no parenthesis but inside a Primary
+-- an expression that matches only tokens, with parentheses only inside a Primary
 abbrev mutual
   pub OfTokens : Form → Type 0
   OfTokens (Literal bytes span) = ⊥
@@ -103,7 +103,7 @@ data IsParenthesized : Form → Type 0 where
   parenthesized : {inside : Form} {first last span : Extent} → OfTokens inside → IsParenthesized
       (Seq (Then (Name (codes "OPEN") first) (Then inside (Then (Name (codes "CLOSE") last) End))) span)
 
--- what an alternative of Primary takes
+-- what an alternative of Primary matches
 abbrev OfPrimary : Form → Type 0
 OfPrimary e = OfTokens e ⊎ IsParenthesized e
 
@@ -128,12 +128,12 @@ primary-takes = (
   ),
 )
 
--- what a rule's body takes: that of Primary takes parentheses
+-- what a rule's body matches: only that of Primary matches parentheses
 abbrev TakesBody : Meaning → Type 0
 TakesBody m =
     (OfTokens m.body ⊎ (IsPrimaryChoice m.body × (m.rule ≡ rule.primary))) × ((m.rule == rule.count) ≡ false)
 
--- what a name means is one thing
+-- a name has one meaning
 meant_body : (name used : List ℕ) (m known : Meaning) → used ≡ name → meant figure name ≡ Some known
     → meant figure used ≡ Some m → TakesBody known → TakesBody m
 meant_body name used m known is there found takes =
@@ -155,9 +155,9 @@ body-takes used m (IsSyntax.is_suffix is) found =
 body-takes used m (IsSyntax.is_primary is) found =
     meant_body (codes "Primary") used m _ is primary-meant.1 found (inr (primary-takes, refl), refl)
 
--- ---- how deep tokens nest
+-- ---- the nesting depth of tokens
 
--- How many more parentheses of some tokens are open at once, at most, than where they begin.
+-- the greatest number of parentheses open at once in some tokens, beyond those open at their start
 abbrev pub deepest : List Lexeme → ℕ
 deepest [] = 0
 deepest (lexeme ∷ more) = (one_if_open lexeme.kind + deepest more) - one_if_close lexeme.kind
@@ -175,7 +175,7 @@ pub closes-cons : (lexeme : Lexeme) (more : List Lexeme)
     → closes (lexeme ∷ more) ≡ one_if_close lexeme.kind + closes more
 closes-cons lexeme more = sum_by-cons (λ (l : Lexeme). one_if_close l.kind) lexeme more
 
--- of tokens and those behind them
+-- the same for tokens and those after them
 deepest-append : (a b : List Lexeme)
     → deepest (a ++ b) ≤ max (deepest a) ((deepest b + opens a) - closes a)
 deepest-append [] b = omega arith
@@ -192,10 +192,10 @@ bad_places-append file (lexeme ∷ a) b =
     ap (λ (l : List ℕ). own ++ l) (bad_places-append file a b)
     ∙ sym (append_assoc own (bad_places file a) (bad_places file b))
 
--- ---- tokens from one place to another
+-- ---- tokens between two offsets
 
--- Tokens stand from one place to another, each parenthesis of them is closed, trees nest as deep, and the counts that are
--- out of range are those of the trees.
+-- There are tokens between two offsets, and each of their parentheses is closed. The trees have the same nesting depth
+-- and the same counts out of range.
 record Stand (file : List ℕ) (place end : ℕ) (trees : Trees) : Type 0 where
   pub list : List Lexeme
   pub stand : Lexemes file place list end
@@ -203,7 +203,7 @@ record Stand (file : List ℕ) (place end : ℕ) (trees : Trees) : Type 0 where
   pub deep : deepest list ≤ nesting trees
   pub counts : bad_counts file trees ≡ bad_places file list
 
--- the same of what comes of an expression, if it matches
+-- the same for the result of an expression, if it matches
 abbrev Stood : List ℕ → (place : ℕ) → Recognition → Type 0
 Stood file place Failed = Unit {0}
 Stood file place (Matched end trees) = Stand file place end trees
@@ -240,7 +240,7 @@ behind_stands : {file : List ℕ} {place middle : ℕ} {one : Trees} → Stand f
 behind_stands first Failed rest = tt
 behind_stands first (Matched end more) rest = both_stand first rest refl
 
--- a node of another rule than COUNT has the counts of what is inside
+-- a node of a rule other than COUNT has the counts of its children
 node-counts : (file : List ℕ) (number place end : ℕ) (inside : Trees) → (number == rule.count) ≡ false
     → bad_counts file (Tree number place end inside NoTrees) ≡ bad_counts file inside
 node-counts file number place end inside no_count =
@@ -248,7 +248,7 @@ node-counts file number place end inside no_count =
     else []) ++ (bad_counts file inside ++ [])) no_count
     ∙ append-nil (bad_counts file inside)
 
--- the trees of a rule's node nest no less than those inside
+-- the trees of a rule's node nest at least as deep as those inside
 node_stands : {file : List ℕ} {place end : ℕ} {inside tree : Trees} (number : ℕ) → (number == rule.count) ≡ false
     → Stand file place end inside → tree ≡ Tree number place end inside NoTrees → Stand file place end tree
 node_stands {file} {place} {end} {inside = inside} number no_count x is = record {
@@ -269,13 +269,13 @@ node_stands {file} {place} {end} {inside = inside} number no_count x is = record
 abbrev pub lexeme_here : TokenKind → (place : ℕ) → Trees → Lexeme
 lexeme_here k place trees = record { kind = k; text = between place (text_end place trees) }
 
--- what a name matches, wherever it is used
+-- a match of a name is a match wherever the name is called
 elsewhere : {file : List ℕ} {used : List ℕ} {span : Extent} (other : Extent) {place : ℕ} {x : Recognition}
     → Derives figure file (Name used span) place x → Derives figure file (Name used other) place x
 elsewhere other (Derives.name_matched found d t) = Derives.name_matched found d t
 elsewhere other (Derives.name_failed found d) = Derives.name_failed found d
 
--- one token stands where its rule matches
+-- there is one token where its rule matches
 one_token : {file : List ℕ} {span : Extent} {place end : ℕ} {trees : Trees} (k : TokenKind)
     → Derives figure file (Name (rule_of_kind k) span) place (Matched end trees)
     → Lexemes file place (lexeme_here k place trees ∷ []) end
@@ -335,7 +335,7 @@ token_stands {file} {used} {span} {place} (Matched end trees) is d =
 
 -- ---- an expression in parentheses
 
--- an expression, and the parenthesis that closes behind it
+-- an expression, and the closing parenthesis after it
 record Closing (file : List ℕ) (place end : ℕ) (trees : Trees) : Type 0 where
   pub list : List Lexeme
   pub stand : Lexemes file place list end
@@ -383,7 +383,7 @@ behind_closes {file} {one = one} first (Matched end more) rest = record {
       ∙ sym (bad_places-append file first.list rest.list));
 }
 
--- The trees of an expression in parentheses, inside their Primary.
+-- the trees of an expression in parentheses, inside their Primary
 record Parentheses (file : List ℕ) (place end : ℕ) (trees : Trees) : Type 0 where
   pub list : List Lexeme
   pub stand : Lexemes file place list end
@@ -392,7 +392,7 @@ record Parentheses (file : List ℕ) (place end : ℕ) (trees : Trees) : Type 0 
   pub opening : has_open trees ≡ true
   pub counts : bad_counts file trees ≡ bad_places file list
 
--- what stands inside a Primary
+-- the inside of a Primary
 abbrev InPrimary : List ℕ → (place : ℕ) → Recognition → Type 0
 InPrimary file place Failed = Unit {0}
 InPrimary file place (Matched end trees) = Stand file place end trees ⊎ Parentheses file place end trees
@@ -543,17 +543,17 @@ mutual
 
 -- ---- whole files
 
--- what is matched ends where it is said to
+-- a match has one end
 ends_at : {a b : ℕ} {t u : Trees} → Matched a t ≡ Matched b u → a ≡ b
 ends_at e = cc
 
--- trees before a match are trees of a match that ends there
+-- trees in front of a match are part of a match that ends at the same offset
 behind_matched : (one : Trees) (more : Recognition) (end : ℕ) (trees : Trees) → behind one more ≡ Matched end trees
     → (rest : Trees) × (more ≡ Matched end rest) × (trees ≡ followed_by one rest)
 behind_matched one Failed end trees is = cc
 behind_matched one (Matched last rest) end trees is = (rest, ap (λ n. Matched n rest) (ends_at is), cc)
 
--- a first item, and those behind it
+-- a first item, and those after it
 record FirstItem (file : List ℕ) (first : Form) (others : Forms) (place end : ℕ) (trees : Trees) : Type 0 where
   pub middle : ℕ
   pub one : Trees
@@ -588,7 +588,7 @@ named_tree {place = place} {a = a} {inside = inside} {number = number} is t one 
     same_trees : {a b : ℕ} {t u : Trees} → Matched a t ≡ Matched b u → t ≡ u
     same_trees e = cc
 
--- what a name matches is matched by its body
+-- a match of a name is a match of its body
 named : {file : List ℕ} {used : List ℕ} {span : Extent} {place : ℕ} {x : Recognition} → Derives figure file (Name used span) place x
     → (end : ℕ) (trees : Trees) → x ≡ Matched end trees → (rule terminal : ℕ) (body : Form)
     → meant figure used ≡ Some (record { rule = rule; terminal = terminal; body = body })
@@ -631,22 +631,21 @@ no_byte : {file : List ℕ} {inner span : Extent} {place : ℕ} {x : Recognition
 no_byte (Derives.not_matched d) end trees is = not_any d refl
 no_byte (Derives.not_failed d) end trees is = cc
 
--- what is matched is derived
+-- each match has a derivation
 pub derives : {file name : List ℕ} {p end : ℕ} {trees : Trees} → Matches file name p end trees
     → Derives figure file (Name name (between 0 0)) p (Matched end trees)
 derives {file} {name} {p} m =
     subst (λ (x : Recognition). Derives figure file (Name name (between 0 0)) p x) m.2
     (derived figure file m.1.0 (Name name (between 0 0)) 0 p m.0 m.1.1)
 
--- The tokens of a file that the figure matches, and its trees, which nest as deep and have the counts that are out of
--- range.
+-- the tokens of a file that the metagrammar matches, and its trees, with the same nesting depth and counts out of range
 pub record MatchedFile (file : List ℕ) (trees : Trees) : Type 0 where
   pub lexemes : List Lexeme
   pub tokens : IsTokens file lexemes
   pub deep : deepest lexemes ≤ nesting trees
   pub counts : bad_counts file trees ≡ bad_places file lexemes
 
--- no count is in spacing
+-- spacing has no count
 spacing-fine : {file : List ℕ} {span : Extent} {place end : ℕ} {trees : Trees}
     → Derives figure file (Name (codes "Spacing") span) place (Matched end trees) → bad_counts file trees ≡ []
 spacing-fine {file} {span} {place} {end} {trees} d =
@@ -655,17 +654,17 @@ spacing-fine {file} {span} {place} {end} {trees} d =
     let one : trees ≡ gap.trees = cc in
     ap (bad_counts file) one ∙ gap.fine
 
--- no items leave no tree
+-- no items give no tree
 no_items : {file : List ℕ} {place end : ℕ} {trees : Trees} → DerivesItems figure file End place (Matched end trees)
     → trees ≡ NoTrees
 no_items DerivesItems.items_none = refl
 
--- a predicate leaves no tree
+-- a predicate gives no tree
 not_leaves : {file : List ℕ} {part : Form} {span : Extent} {place end : ℕ} {trees : Trees}
     → Derives figure file (Not part span) place (Matched end trees) → trees ≡ NoTrees
 not_leaves (Derives.not_matched d) = refl
 
--- a file that the figure matches has tokens
+-- a file that the metagrammar matches has tokens
 pub has_tokens : (file : List ℕ) (end : ℕ) (trees : Trees) → Matches file (codes "Grammar") 0 end trees
     → MatchedFile file trees
 unfolding grammar_body end_of_file_body
@@ -713,19 +712,19 @@ has_tokens file end trees m =
           ∙ (append-nil (bad_counts file rules.one) ∙ tokens.counts))))))));
     }
 
--- the figure doesn't match a file with a lexing fault
+-- the metagrammar doesn't match a file with a lexing fault
 pub fault_not_matched : (file : List ℕ) (at : ℕ) → IsLexingFault file at → ¬ FigureMatches file
 fault_not_matched file at fault m =
     let it = has_tokens file m.0 m.1 m.2 in tokens_or_fault file it.lexemes at it.tokens fault
 
--- the counts of a file's trees that are out of range are those of its tokens
+-- the counts out of range of a file's trees are those of its tokens
 pub counts-tokens : (file : List ℕ) (lexemes : List Lexeme) → IsTokens file lexemes → (end : ℕ) (trees : Trees)
     → Matches file (codes "Grammar") 0 end trees → bad_counts file trees ≡ bad_places file lexemes
 counts-tokens file lexemes tokens end trees m =
     let it = has_tokens file end trees m in
     it.counts ∙ ap (bad_places file) (one_list file it.lexemes lexemes it.tokens tokens)
 
--- the trees of a file nest as deep as its tokens
+-- the trees of a file have the nesting depth of its tokens
 pub nests-tokens : (file : List ℕ) (lexemes : List Lexeme) → IsTokens file lexemes → (end : ℕ) (trees : Trees)
     → Matches file (codes "Grammar") 0 end trees → deepest lexemes ≤ nesting trees
 nests-tokens file lexemes tokens end trees m =

@@ -1,19 +1,19 @@
--- What names mean in a figure, beside what they mean in one with another expression in one rule; and which forms lead to
--- no use of that rule.
+-- The meaning of names in a grammar, compared with a grammar that differs in the body of one rule. Also the forms that
+-- lead to no call of that rule.
 use Rattle.std.proofs.Common.{◌≡◌, ℕ, zero, suc, ◌+◌, Bool, true, false, ◌&&◌, if◌then◌else◌, List, [], ◌∷◌, map}
 use Rattle.std.proofs.Common.{Option, None, Some, bytes_eq, refl, sym, ap, ◌∙◌}
 use Rattle.std.proofs.lemmas.Slice.Eq.{bytes_eq-Decides}
-use Rattle.peg_ford.specs.Form.{Form, Forms, Literal, Class, Any, Name, Seq, Choice, Optional, Star, Plus, Counted, And, Not, End, Then, terminals}
-use Rattle.peg_ford.specs.Rules.{Rule, Meaning, meant_from, meant}
+use Rattle.peg_semantics.specs.Form.{Form, Forms, Literal, Class, Any, Name, Seq, Choice, Optional, Star, Plus, Counted, And, Not, End, Then, terminals}
+use Rattle.peg_semantics.specs.Rules.{Rule, Meaning, meant_from, meant}
 
 -- ---- meanings
 
--- a rule, with this expression where it has this name
+-- a rule, with this body if it has this name
 abbrev pub changed : List ℕ → Form → Rule → Rule
 changed name body rule =
     if bytes_eq rule.name name then record { name = rule.name; span = rule.span; body = body } else rule
 
--- what a name means among rules, as far as a meaning of it elsewhere goes
+-- the meaning of a name among rules, which agrees with its meaning elsewhere
 pub record Meant (n t : ℕ) (rules : List Rule) (used : List ℕ) (m : Meaning) : Type 0 where
   pub meaning : Meaning
   pub known : meant_from n t rules used ≡ Some meaning
@@ -77,9 +77,9 @@ meant-changed name body (r ∷ rs) n t u used m other is =
     by behind true named found = other_body behind named (bytes_eq used r.name) refl found
     by behind false named found = kept behind (bytes_eq used r.name) refl found
 
--- ---- forms without a use of a rule
+-- ---- forms without a call of a rule
 
--- whether an expression uses only names that are known to lead to no use of it
+-- whether an expression has only names that are known to lead to no call of the rule
 abbrev mutual
   pub without : (List ℕ → Bool) → Form → Bool
   without known (Literal bytes span) = true
@@ -99,7 +99,7 @@ abbrev mutual
   all_without known End = true
   all_without known (Then first rest) = without known first && all_without known rest
 
--- no
+-- negation
 abbrev pub turned : Bool → Bool
 turned true = false
 turned false = true
@@ -112,7 +112,7 @@ abbrev pub meant_without : (List ℕ → Bool) → Option Meaning → Bool
 meant_without known None = true
 meant_without known (Some m) = without known m.body
 
--- whether a name of rules leads to no use of a rule of this name, in so many steps from name to name
+-- whether a name leads to no call of the rule with this name, in this number of steps from name to name
 abbrev pub leads_elsewhere : List Rule → (name : List ℕ) → ℕ → List ℕ → Bool
 leads_elsewhere rules name zero used = false
 leads_elsewhere rules name (suc n) used =

@@ -1,11 +1,11 @@
--- Where the reader stops: at a token's start, or at the end of the file.
+-- Where the reader stops: at the start of a token, or at the end of the file.
 use Rattle.std.proofs.Common.{◌≡◌, ℕ, zero, suc, ◌-◌, Bool, true, false, List, [], ◌∷◌, length, drop, refl}
 use Rattle.std.proofs.Common.{Option, None, Some, Result, Ok, Err, if◌then◌else◌}
 use Rattle.peg_bytes.specs.Extent.{Extent}
-use Rattle.peg_ford.specs.Form as form
-use Rattle.peg_ford.specs.Form.{Form}
+use Rattle.peg_semantics.specs.Form as form
+use Rattle.peg_semantics.specs.Form.{Form}
 use Rattle.peg_notation.specs.Reader.{Halt, Unexpected, TooDeep, BadCountAt, FormRead, FormsRead, Reading, place_of, starts_with_arrow, begins_prefix, and_read, one_token, no_more, and_form, close_of, closed, parenthesized, named, primary_of, primary, is_bad_count, suffix_sign, with_suffix, then_suffix, suffix, with_prefix, prefix_sign, prefix_of, prefix, many_behind, many, whole_sequence, sequence, starts_with_slash, behind, alternative, whole_choice, expression, expression_in, RuleRead, RulesRead, and_rules, rule_of, definition_behind, definition_of, definition, definitions_behind, grammar}
-use Rattle.peg_figure.specs.Spelled.{part}
+use Rattle.peg_metagrammar.specs.Spelled.{part}
 use Rattle.peg_lexer.specs.Tokens.{Lexeme}
 use Rattle.peg_lexer.specs.declared.token.TokenKind.{TokenKind}
 use Rattle.peg_lexer.specs.declared.token.TokenKind.TheVariants as kind
@@ -25,7 +25,7 @@ from_drop size zero lexemes at is = is
 from_drop size (suc n) [] at is = is
 from_drop size (suc n) (lexeme ∷ more) at is = IsPlace.later (from_drop size n more at is)
 
--- where it stops for a token that can't stand there, that is such a place
+-- the offset of an unexpected token is one of these
 abbrev pub StopsAt : {X : Type 0} → ℕ → List Lexeme → Result X Halt → Type 0
 StopsAt size lexemes (Ok x) = Unit {0}
 StopsAt size lexemes (Err (Unexpected at)) = IsPlace size lexemes at
@@ -76,7 +76,7 @@ closed-stops : (size : ℕ) (inside : FormRead) (lexemes : List Lexeme) → Stop
 closed-stops size inside [] = IsPlace.the_end refl
 closed-stops size inside (lexeme ∷ more) = close_of-stops size inside lexeme more lexeme.kind
 
--- a way to read inside parentheses that stops at such places
+-- a function that reads inside parentheses and stops at such offsets
 abbrev pub InnerStops : (size : ℕ) → Option Reading → Type 0
 InnerStops size None = Unit {0}
 InnerStops size (Some read) = (before : ℕ) (lexemes : List Lexeme) → StopsAt size lexemes (read before lexemes)
@@ -282,7 +282,7 @@ definitions-stops file most (lexeme ∷ rest) (suc skipped) =
     stops_later (length file) lexeme rest (definitions_behind file most rest skipped)
     (definitions-stops file most rest skipped)
 
--- the reader stops at a token's start or at the end
+-- the reader stops at the start of a token or at the end
 pub grammar-stops : (file : List ℕ) (most : ℕ) (lexemes : List Lexeme)
     → StopsAt (length file) lexemes (grammar file most lexemes)
 unfolding grammar

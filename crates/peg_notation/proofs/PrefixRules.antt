@@ -1,23 +1,23 @@
--- The reader's `suffix` and `prefix` say what the figure's Suffix and Prefix say.
+-- The reader's `suffix` and `prefix` agree with the metagrammar's Suffix and Prefix.
 use Rattle.std.proofs.Common.{◌≡◌, ◌≢◌, ℕ, suc, ◌+◌, Bool, true, false, if◌then◌else◌, List, [], ◌∷◌, ◌++◌, length, drop, codes}
 use Rattle.std.proofs.Common.{Option, Some, Result, Ok, Err, refl, sym, ap, ◌∙◌, subst, arith}
 use Rattle.std.proofs.lemmas.List.{drop-drop}
 use Rattle.peg_bytes.specs.Extent.{Extent, between}
 use Rattle.peg_tree.specs.Trees.{Trees, followed_by}
-use Rattle.peg_ford.specs.Form as form
-use Rattle.peg_ford.specs.Form.{Form, Name}
-use Rattle.peg_ford.specs.Record.{Failed, Matched}
-use Rattle.peg_ford.proofs.Derivations.{Derives, DerivesItems, DerivesFirst}
-use Rattle.peg_figure.specs.Figure.{figure, suffix_body, prefix_body}
-use Rattle.peg_figure.specs.FigureRules as rule
+use Rattle.peg_semantics.specs.Form as form
+use Rattle.peg_semantics.specs.Form.{Form, Name}
+use Rattle.peg_semantics.specs.Record.{Failed, Matched}
+use Rattle.peg_semantics.proofs.Derivations.{Derives, DerivesItems, DerivesFirst}
+use Rattle.peg_metagrammar.specs.Figure.{figure, suffix_body, prefix_body}
+use Rattle.peg_metagrammar.specs.FigureRules as rule
 use Rattle.peg_lexer.specs.Lexical.{text_of}
 use Rattle.peg_lexer.specs.Pieces.{Piece}
 use Rattle.peg_notation.specs.Reader.{Halt, Unexpected, TooDeep, BadCountAt, FormRead, Reading, place_of, and_read, pieces_of, bounds_of, is_bad_count, primary, with_token, then_suffix, suffix, with_prefix, prefix_of, prefix_sign, prefix}
-use Rattle.peg_figure.specs.Spelled.{Spelling, Expression, Sign, text_end, spelled, signed, counted, bounds_spelled, numerals_in}
+use Rattle.peg_metagrammar.specs.Spelled.{Spelling, Expression, Sign, text_end, spelled, signed, counted, bounds_spelled, numerals_in}
 use Rattle.peg_lexer.specs.Tokens.{Lexeme}
 use Rattle.peg_lexer.specs.declared.token.TokenKind.{TokenKind}
 use Rattle.peg_lexer.specs.declared.token.TokenKind.TheVariants as kind
-use Rattle.peg_figure.proofs.FigureNames.{suffix-meant, prefix-meant}
+use Rattle.peg_metagrammar.proofs.FigureNames.{suffix-meant, prefix-meant}
 use Rattle.peg_lexer.proofs.Lexemes.{lexeme_at}
 use Rattle.peg_notation.proofs.PrimaryRule.{pieces_here, primary-exact}
 use Rattle.peg_notation.proofs.Readings.{followed-none, ReadsAny, ExactAny, Good, node_any, place-is}
@@ -31,7 +31,7 @@ use Rattle.peg_lexer.proofs.Texts.{FindsToken, behind_text}
 after_one : (lexemes : List Lexeme) (taken : ℕ) → drop (taken + 1) lexemes ≡ drop 1 (drop taken lexemes)
 after_one lexemes taken = sym (drop-drop 1 taken lexemes)
 
--- no sign behind the primary
+-- no operator after the primary
 no_suffix : (file : List ℕ) (p : ℕ) (lexemes : List Lexeme) (part : FormRead)
     → (e : ReadsAny file (codes "Primary") p lexemes part)
     → ((span : Extent) → Derives figure file (Name (codes "QUESTION") span) e.end Failed)
@@ -49,7 +49,7 @@ no_suffix file p lexemes part e question star plus count =
     (ap (λ (t : Trees). Matched e.end t) (sym (followed-none e.trees)))))
     part (λ before. ap (signed (between p part.last)) (e.spells before)) e.ends e.nests e.some e.left
 
--- a sign behind the primary
+-- an operator after the primary
 one_suffix : (file : List ℕ) (p : ℕ) (lexemes : List Lexeme) (part : FormRead)
     → (e : ReadsAny file (codes "Primary") p lexemes part)
     → {number : ℕ} {used : List ℕ} {span : Extent} {piece : Piece} (sign : Form → Extent → Form) (rest : List Lexeme)
@@ -98,7 +98,7 @@ suffix_read file p lexemes part e (_ ∷ rest) same (Stream.next k piece lexeme 
         subst (λ (l : List Lexeme). Stream file (behind_text file e.end piece.length) l)
         (sym (after_one lexemes part.taken ∙ ap (drop 1) left_is)) left
 
-    -- a count that is out of range says nothing
+    -- a count out of range says nothing
     in_range : {part : FormRead} (at : ℕ) (t : Bool) → ReadsAny file (codes "Suffix") p lexemes part
         → ExactAny file (codes "Suffix") p lexemes (if t then Err (BadCountAt at) else Ok part)
     in_range at true it = tt
@@ -178,7 +178,7 @@ suffix_read file p lexemes part e (_ ∷ rest) same (Stream.next k piece lexeme 
     by kind.Close at_end left_is = none kind.Close at_end (λ x. cc) (λ x. cc) (λ x. cc) (λ x. cc)
     by kind.Dot at_end left_is = none kind.Dot at_end (λ x. cc) (λ x. cc) (λ x. cc) (λ x. cc)
 
--- Suffix is what is read
+-- Suffix matches exactly what is read
 pub suffix-exact : (file : List ℕ) (inner : Option Reading) → Good file inner
     → (p : ℕ) (lexemes : List Lexeme) → Stream file p lexemes
     → ExactAny file (codes "Suffix") p lexemes (suffix file inner lexemes)
@@ -199,7 +199,7 @@ suffix-exact file inner good p lexemes stream =
 
 -- ---- Prefix
 
--- no sign before the suffix
+-- no operator before the suffix
 no_prefix : (file : List ℕ) (p : ℕ) (lexemes : List Lexeme)
     → ((span : Extent) → Derives figure file (Name (codes "AND") span) p Failed)
     → ((span : Extent) → Derives figure file (Name (codes "NOT") span) p Failed) → (x : Result FormRead Halt)
@@ -220,7 +220,7 @@ no_prefix file p lexemes ands nots (Err (Unexpected at)) fails =
 no_prefix file p lexemes ands nots (Err (TooDeep at)) e = tt
 no_prefix file p lexemes ands nots (Err (BadCountAt at)) e = tt
 
--- a sign before the suffix
+-- an operator before the suffix
 one_prefix : (file : List ℕ) (p : ℕ) (lexeme : Lexeme)
     (more : List Lexeme) {number : ℕ} {used : List ℕ} {span : Extent} {piece : Piece} (sign : Form → Extent → Form)
     → (it : FindsToken file number used span p piece) → ((before : ℕ) → spelled file before it.trees ≡ Sign sign ∷ [])
@@ -249,7 +249,7 @@ one_prefix file p lexeme more sign it spells d (Err (Unexpected at)) fails =
 one_prefix file p lexeme more sign it spells d (Err (TooDeep at)) e = tt
 one_prefix file p lexeme more sign it spells d (Err (BadCountAt at)) e = tt
 
--- Prefix is what is read
+-- Prefix matches exactly what is read
 pub prefix-exact : (file : List ℕ) (inner : Option Reading) → Good file inner
     → (p : ℕ) (lexemes : List Lexeme) → Stream file p lexemes
     → ExactAny file (codes "Prefix") p lexemes (prefix file inner lexemes)

@@ -1,31 +1,31 @@
--- The reader's `primary` says what the figure's Primary says.
+-- The reader's `primary` agrees with the metagrammar's Primary.
 use Rattle.std.proofs.Common.{◌≡◌, ◌≢◌, ℕ, suc, max, ◌+◌, Bool, true, false, ◌||◌, List, [], ◌∷◌, ◌++◌, length, drop, codes, ◌⊎◌, inl, inr}
 use Rattle.std.proofs.Common.{Option, None, Some, Result, Ok, Err, option_map, unwrap_or, if◌then◌else◌, ◌==◌, refl, sym, ap, ◌∙◌, subst, arith, append-nil}
 use Rattle.std.proofs.lemmas.List.{drop-drop}
 use Rattle.peg_bytes.specs.Extent.{Extent, between}
 use Rattle.peg_tree.specs.Trees.{Trees, NoTrees, Tree, followed_by}
-use Rattle.peg_ford.specs.Form as form
-use Rattle.peg_ford.specs.Form.{Form, Name, Not, End, Then}
-use Rattle.peg_ford.specs.Record.{Failed, Matched}
-use Rattle.peg_ford.proofs.Derivations.{Derives, DerivesItems, DerivesFirst}
-use Rattle.peg_figure.specs.Figure.{figure, primary_body}
-use Rattle.peg_figure.specs.FigureRules as rule
+use Rattle.peg_semantics.specs.Form as form
+use Rattle.peg_semantics.specs.Form.{Form, Name, Not, End, Then}
+use Rattle.peg_semantics.specs.Record.{Failed, Matched}
+use Rattle.peg_semantics.proofs.Derivations.{Derives, DerivesItems, DerivesFirst}
+use Rattle.peg_metagrammar.specs.Figure.{figure, primary_body}
+use Rattle.peg_metagrammar.specs.FigureRules as rule
 use Rattle.peg_lexer.specs.Lexical.{text_of}
 use Rattle.peg_lexer.specs.Pieces.{Piece}
-use Rattle.peg_figure.specs.Ranges.{class_of}
+use Rattle.peg_metagrammar.specs.Ranges.{class_of}
 use Rattle.peg_notation.specs.Reader.{Halt, Unexpected, TooDeep, BadCountAt, FormRead, Reading, pieces_of, and_read, closed, parenthesized, primary, primary_of, starts_with_arrow}
-use Rattle.peg_figure.specs.Spelled.{Spelling, Expression, bytes_in, ranges_in, part, text_end, spelled, node_spelled, primary_spelled}
-use Rattle.peg_figure.specs.Nesting.{nesting, has_open}
+use Rattle.peg_metagrammar.specs.Spelled.{Spelling, Expression, bytes_in, ranges_in, part, text_end, spelled, node_spelled, primary_spelled}
+use Rattle.peg_metagrammar.specs.Nesting.{nesting, has_open}
 use Rattle.peg_lexer.specs.Tokens.{Lexeme, rule_of_kind}
 use Rattle.peg_lexer.specs.declared.token.TokenKind.{TokenKind}
 use Rattle.peg_lexer.specs.declared.token.TokenKind.TheVariants as kind
-use Rattle.peg_figure.proofs.FigureNames.{primary-meant}
+use Rattle.peg_metagrammar.proofs.FigureNames.{primary-meant}
 use Rattle.peg_lexer.proofs.Lexemes.{lexeme_at}
 use Rattle.peg_lexer.proofs.PieceSizes.{blank-these}
 use Rattle.peg_lexer.proofs.Takes.{spelled-followed, text_end-followed, nesting-followed}
 use Rattle.peg_notation.proofs.Readings.{followed-none, has_open-followed, ReadsAny, ExactAny, ExactAt, ReadsAt, IsStuck, Good}
 use Rattle.peg_notation.proofs.Streams.{Stream, here, not_here, none_here}
-use Rattle.peg_spelling.proofs.TokenNodes.{number_of}
+use Rattle.peg_bootstrap.proofs.TokenNodes.{number_of}
 use Rattle.peg_lexer.proofs.Texts.{FindsToken, behind_text}
 
 -- ---- Primary in general
@@ -51,7 +51,7 @@ failed ident opens literal class dot span =
     (DerivesFirst.alternative_failed (literal _) (DerivesFirst.alternative_failed (class _)
     (DerivesFirst.alternative_last (dot _)))))))
 
--- a token of a kind that begins no primary is next
+-- the next token is of a kind that begins no primary
 other_fails : {file : List ℕ} {p : ℕ} (k : TokenKind) (piece : Piece) → text_of k (drop p file) ≡ Some piece
     → kind.Ident ≢ k → kind.Open ≢ k → kind.Literal ≢ k → kind.Class ≢ k → kind.Dot ≢ k → (span : Extent)
     → Derives figure file (Name (codes "Primary") span) p Failed
@@ -162,7 +162,7 @@ name_primary file p piece more inner found rest =
 
 -- ---- literals, classes and dots
 
--- what a token spells
+-- what a token denotes
 pub pieces_here : (file : List ℕ) (k : TokenKind) (p : ℕ) (piece : Piece) → text_of k (drop p file) ≡ Some piece
     → pieces_of file (lexeme_at k p piece.length) ≡ piece.spells
 pieces_here file k p piece found = ap (λ text. unwrap_or (option_map (λ (x : Piece). x.spells) text) []) found
@@ -223,7 +223,7 @@ dot_primary file p piece more inner found rest =
 
 -- ---- parentheses
 
--- a parenthesis opens and the rest of its alternative fails: so does Primary
+-- if a parenthesis opens and the rest of its alternative fails, so does Primary
 open_fails : (file : List ℕ) (p : ℕ) (piece : Piece) → text_of kind.Open (drop p file) ≡ Some piece
     → ((span next : Extent) → DerivesItems figure file (Then (Name (codes "Expression") span)
     (Then (Name (codes "CLOSE") next) End)) (behind_text file p piece.length) Failed) → (span : Extent)
@@ -239,7 +239,7 @@ open_fails file p piece found inside span =
     (DerivesFirst.alternative_failed (not_here kind.Open piece kind.Class _ found (λ e. cc))
     (DerivesFirst.alternative_last (not_here kind.Open piece kind.Dot _ found (λ e. cc))))))))
 
--- after as many tokens as are inside and two more
+-- after the tokens inside and two more
 behind_both : (opening : Lexeme) (more : List Lexeme) (taken : ℕ) → drop (taken + 2) (opening ∷ more)
     ≡ drop 1 (drop taken more)
 behind_both opening more taken =
@@ -318,7 +318,7 @@ parentheses file p piece more part found e closing rest there left_is left =
       some = omega arith;
     }
 
--- where the parenthesis doesn't close, CLOSE fails
+-- if the parenthesis doesn't close, CLOSE fails
 no_close : (file : List ℕ) (p : ℕ) (piece : Piece) (more : List Lexeme) (part : FormRead) → text_of kind.Open (drop p file)
     ≡ Some piece → (e : ReadsAt file (codes "Expression") (p + piece.length)
     (behind_text file p piece.length) more part) → ((span : Extent)
@@ -371,7 +371,7 @@ close_read file p piece more part found e (_ ∷ rest) same (Stream.next k closi
     by kind.Dot here_is left_is = no_close file p piece more part found e
         (λ span. not_here kind.Dot closing kind.Close span here_is (λ x. cc))
 
--- where Expression goes no further than a token that begins one, CLOSE fails there
+-- if Expression stops at a token that begins none, CLOSE fails there
 stuck_close : (file : List ℕ) (q : ℕ) → IsStuck file q → (span : Extent)
     → Derives figure file (Name (codes "CLOSE") span) q Failed
 stuck_close file q stuck span =
@@ -406,7 +406,7 @@ open_primary file p piece more (Some read) good found rest =
 
 -- ---- every kind
 
--- Primary is what is read
+-- Primary matches exactly what is read
 pub primary-exact : (file : List ℕ) (inner : Option Reading) → Good file inner
     → (p : ℕ) (lexemes : List Lexeme) → Stream file p lexemes
     → ExactAny file (codes "Primary") p lexemes (primary file inner lexemes)

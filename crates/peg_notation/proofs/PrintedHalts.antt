@@ -1,25 +1,25 @@
--- The printed figure beside the escaped figure: what it makes of a form at a place that makes of it too, or the printed
--- figure has halted, at a place where nothing that it has may follow.
+-- Compares the printed figure with the escaped metagrammar. At each position, the result of a form under the first is
+-- also its result under the second, or the first has stopped at a position where it can't continue.
 use Rattle.std.proofs.Common.{◌≡◌, ◌⊎◌, inl, inr, ℕ, ◌+◌, false, List, drop, codes, bytes_eq}
 use Rattle.std.proofs.Common.{Option, Some, refl, sym, ap, ◌∙◌, subst}
 use Rattle.peg_bytes.specs.Extent.{Extent, between}
 use Rattle.peg_tree.specs.Trees.{Trees, NoTrees, Tree}
-use Rattle.peg_ford.specs.Form.{Form, Forms, Name, Seq, Choice, Star, Plus, End, Then}
-use Rattle.peg_ford.specs.Record.{Recognition, Failed, Matched, behind}
-use Rattle.peg_ford.specs.Rules.{Meaning, meant}
-use Rattle.peg_ford.proofs.Derivations.{Derives, DerivesItems, DerivesFirst}
-use Rattle.peg_figure.specs.EscapedFigure.{escaped_figure}
+use Rattle.peg_semantics.specs.Form.{Form, Forms, Name, Seq, Choice, Star, Plus, End, Then}
+use Rattle.peg_semantics.specs.Record.{Recognition, Failed, Matched, behind}
+use Rattle.peg_semantics.specs.Rules.{Meaning, meant}
+use Rattle.peg_semantics.proofs.Derivations.{Derives, DerivesItems, DerivesFirst}
+use Rattle.peg_metagrammar.specs.EscapedFigure.{escaped_figure}
 use Rattle.peg_notation.specs.PrintedFigure.{printed_figure}
 use Rattle.peg_notation.proofs.Fronts.{front}
 use Rattle.peg_notation.proofs.PrintedMeanings.{meant-printed}
 
--- how the printed figure may halt before hexadecimal digits
+-- how the printed figure may stop before hexadecimal digits
 pub data Halt : Type 0 where
-  -- nowhere
+  -- not at all
   never : Halt
   -- a Char fails
   character : Halt
-  -- behind a dash a Char fails
+  -- after a dash a Char fails
   dashed : Halt
   -- before a dash a Char has matched, or failed
   pair : Halt
@@ -27,7 +27,7 @@ pub data Halt : Type 0 where
   ranged : Halt
   -- Chars or Ranges end there
   loose : Halt
-  -- a form fails that begins with this byte
+  -- a form that begins with this byte fails
   begun : ℕ → Halt
   -- a literal fails
   literal : Halt
@@ -35,10 +35,10 @@ pub data Halt : Type 0 where
   token : Halt
   -- expressions end before such a Prefix
   words : Halt
-  -- all fails
+  -- everything fails
   whole : Halt
 
--- a byte that a Primary or a Prefix may begin with, and no name
+-- a byte that may begin a Primary or a Prefix, but no name
 pub data IsOpener : Option ℕ → Type 0 where
   single : IsOpener (Some 39)
   double : IsOpener (Some 34)
@@ -56,7 +56,7 @@ pub data IsLoose : Option ℕ → Type 0 where
   dash : IsLoose (Some 45)
 
 module _ (file : List ℕ) where
-  -- the byte at a place
+  -- the byte at a position
   abbrev pub at : ℕ → Option ℕ
   at p = front (drop p file)
 
@@ -106,7 +106,7 @@ module _ (file : List ℕ) where
 
   -- ---- rules
 
-  -- the rules above Char, and how they halt
+  -- the rules above Char, and how they stop
   pub data IsHalting : List ℕ → Halt → Type 0 where
     is_grammar : IsHalting (codes "Grammar") Halt.whole
     is_definition : IsHalting (codes "Definition") Halt.words
@@ -133,7 +133,7 @@ module _ (file : List ℕ) where
 
   -- ---- forms
 
-  -- how a form halts, by how its parts do
+  -- how a form stops, from its parts
   mutual
     pub data Carries : Form → Halt → Type 0 where
       shown : {e : Form} {k : Halt} → ((p : ℕ) (x : Recognition) → Derives printed_figure file e p x
@@ -173,7 +173,7 @@ module _ (file : List ℕ) where
           → ((p : ℕ) (x : Recognition) → Halts l p x → Halts m p x)
           → CarriesFirst first (Then next rest) m
 
-  -- what comes of a form by the printed figure comes of it by the escaped figure, or the printed figure halts
+  -- the result of a form under the printed figure is also its result under the escaped metagrammar, or the first stops
   module _ (body-carries : (used : List ℕ) (k : Halt) (m : Meaning) → IsHalting used k
       → meant printed_figure used ≡ Some m → Carries m.body k) where
     mutual

@@ -1,14 +1,14 @@
--- What names mean in the printed figure: all but Char what they mean in the escaped figure, and all its forms without Char
--- match and fail alike.
+-- The meaning of names in the printed figure. All names but Char mean the same as in the escaped metagrammar, and all
+-- forms without Char have the same results.
 use Rattle.std.proofs.Common.{◌≡◌, ℕ, zero, suc, Bool, true, false, ◌&&◌, List, codes}
 use Rattle.std.proofs.Common.{Some, bytes_eq, sym, ap, ◌∙◌, subst}
 use Rattle.std.proofs.lemmas.Bool.{and_parts}
 use Rattle.peg_tree.specs.Trees.{NoTrees, Tree}
-use Rattle.peg_ford.specs.Form.{Form, Forms}
-use Rattle.peg_ford.specs.Record.{Recognition, Failed, Matched}
-use Rattle.peg_ford.specs.Rules.{Meaning, meant}
-use Rattle.peg_ford.proofs.Derivations.{Derives, DerivesItems, DerivesFirst}
-use Rattle.peg_figure.specs.EscapedFigure.{escaped_figure}
+use Rattle.peg_semantics.specs.Form.{Form, Forms}
+use Rattle.peg_semantics.specs.Record.{Recognition, Failed, Matched}
+use Rattle.peg_semantics.specs.Rules.{Meaning, meant}
+use Rattle.peg_semantics.proofs.Derivations.{Derives, DerivesItems, DerivesFirst}
+use Rattle.peg_metagrammar.specs.EscapedFigure.{escaped_figure}
 use Rattle.peg_notation.specs.PrintedFigure.{printed_char, printed_figure}
 use Rattle.peg_notation.proofs.Meanings.{Meant, meant-changed, without, all_without, turned, not_false, meant_without, leads_elsewhere}
 
@@ -16,7 +16,7 @@ pub meant-printed : (used : List ℕ) (m : Meaning) → bytes_eq used (codes "Ch
     → meant printed_figure used ≡ Some m → Meant 0 0 escaped_figure used m
 meant-printed used m other is = meant-changed (codes "Char") printed_char escaped_figure 0 0 0 used m other is
 
--- whether a name leads to no Char, in so many steps from name to name
+-- whether a name leads to no Char, in this number of steps from name to name
 abbrev pub leads_past : ℕ → List ℕ → Bool
 leads_past n used = leads_elsewhere printed_figure (codes "Char") n used
 
@@ -31,7 +31,7 @@ named used m n found leads =
 
 module _ {file : List ℕ} where
   mutual
-    -- what comes of them by the printed figure comes of them by the escaped figure
+    -- their results under the printed figure are their results under the escaped metagrammar
     pub alike : (n : ℕ) {e : Form} {p : ℕ} {x : Recognition} → Derives printed_figure file e p x
         → without (leads_past n) e ≡ true → Derives escaped_figure file e p x
     alike n (Derives.literal_matched a b) is = Derives.literal_matched a b

@@ -1,5 +1,5 @@
--- How the rules of the printed figure halt, from Char up to Grammar, which is matched only where the escaped figure
--- matches it.
+-- How the rules of the printed figure stop, from Char up to Grammar. Grammar matches only what the escaped metagrammar
+-- matches.
 use Rattle.std.proofs.Common.{◌≡◌, ◌⊎◌, inl, inr, ℕ, ◌+◌, Bool, true, false, ◌&&◌, ◌||◌, ◌==◌, nat_eq, List, [], ◌∷◌, length, drop, codes}
 use Rattle.std.proofs.Common.{Option, None, Some, ◌<◌, nat_le, refl, sym, ap, ◌∙◌, subst, arith}
 use Rattle.std.proofs.lemmas.Bool.{cases_lt}
@@ -10,17 +10,17 @@ use Rattle.std.specs.List.{starts_with}
 use Rattle.peg_bytes.specs.ByteSet.{has}
 use Rattle.peg_bytes.specs.Extent.{Extent, between}
 use Rattle.peg_tree.specs.Trees.{Trees, NoTrees, Tree}
-use Rattle.peg_ford.specs.Form.{Form, Forms, Literal, Class, Name, Seq, Choice, Optional, Star, Plus, Not, End, Then}
-use Rattle.peg_ford.specs.Record.{Recognition, Failed, Matched, behind, as_tree}
-use Rattle.peg_ford.specs.Rules.{Meaning, meant}
-use Rattle.peg_ford.proofs.Derivations.{Derives, DerivesItems, DerivesFirst, recorded, derived, one_result, star_never_fails, literal_here, class_missing}
-use Rattle.peg_ford.proofs.ResultSteps.{begins_with, passes_any, starts_with-rest}
-use Rattle.peg_figure.specs.Ranges.{range, class_of, in_ranges}
-use Rattle.peg_figure.specs.EscapedFigure.{escaped_figure, escaped_suffix, MatchesEscaped, numbered_now}
-use Rattle.peg_figure.specs.Figure.{figure, grammar_body, definition_body, expression_body, sequence_body, prefix_body, suffix_body, primary_body, identifier_body, ident_start_body, ident_cont_body, literal_body, class_body, range_body, char_body, spacing_body, comment_body, space_body, end_of_line_body, end_of_file_body}
-use Rattle.peg_figure.specs.FigureRules as rule
-use Rattle.peg_figure.specs.Notation.{Matches, IsReading}
-use Rattle.peg_ford.specs.Rules.{Rule}
+use Rattle.peg_semantics.specs.Form.{Form, Forms, Literal, Class, Name, Seq, Choice, Optional, Star, Plus, Not, End, Then}
+use Rattle.peg_semantics.specs.Record.{Recognition, Failed, Matched, behind, as_tree}
+use Rattle.peg_semantics.specs.Rules.{Meaning, meant}
+use Rattle.peg_semantics.proofs.Derivations.{Derives, DerivesItems, DerivesFirst, recorded, derived, one_result, star_never_fails, literal_here, class_missing}
+use Rattle.peg_semantics.proofs.ResultSteps.{begins_with, passes_any, starts_with-rest}
+use Rattle.peg_metagrammar.specs.Ranges.{range, class_of, in_ranges}
+use Rattle.peg_metagrammar.specs.EscapedFigure.{escaped_figure, escaped_suffix, MatchesEscaped, numbered_now}
+use Rattle.peg_metagrammar.specs.Figure.{figure, grammar_body, definition_body, expression_body, sequence_body, prefix_body, suffix_body, primary_body, identifier_body, ident_start_body, ident_cont_body, literal_body, class_body, range_body, char_body, spacing_body, comment_body, space_body, end_of_line_body, end_of_file_body}
+use Rattle.peg_metagrammar.specs.FigureRules as rule
+use Rattle.peg_metagrammar.specs.Notation.{Matches, IsReading}
+use Rattle.peg_semantics.specs.Rules.{Rule}
 use Rattle.peg_notation.specs.PrintedFigure.{printed_char, printed_figure, MatchesPrinted, IsPrintedReading}
 use Rattle.peg_notation.proofs.Fronts.{front, is_byte, is_in, name_may_match, may_match, some_may_match, matches_front, items_blocked, first_blocked, star_blocked}
 use Rattle.peg_notation.proofs.PrintedHalts.{Halt, IsOpener, IsQuote, IsLoose, at, IsDead, IsDash, FailsAt, EndsAt, Halts, IsHalting, Carries, CarriesItems, CarriesFirst, carried}
@@ -28,7 +28,7 @@ use Rattle.peg_notation.proofs.EscapedRules.{escaped-kept, escaped-reading}
 use Rattle.peg_notation.proofs.Meanings.{without, all_without}
 use Rattle.peg_notation.proofs.PrintedMeanings.{leads_past, alike, items_alike}
 
--- ---- what the bytes at places say
+-- ---- the bytes at positions
 
 byte_is : (h : Option ℕ) (byte : ℕ) → is_byte h byte ≡ true → h ≡ Some byte
 byte_is None byte is = cc
@@ -66,7 +66,7 @@ module _ (file : List ℕ) where
   abbrev OldItems : Forms → ℕ → Recognition → Type 0
   OldItems items p x = DerivesItems printed_figure file items p x
 
-  -- ---- what derivations are made of
+  -- ---- the parts of derivations
 
   elsewhere : {used : List ℕ} {span : Extent} {p : ℕ} {x : Recognition} → Old (Name used span) p x
       → Old (Name used (between 0 0)) p x
@@ -118,7 +118,7 @@ module _ (file : List ℕ) where
   matched≢failed : {end : ℕ} {trees : Trees} → Matched end trees ≡ Failed → ⊥
   matched≢failed e = cc
 
-  -- ---- forms that halt nowhere
+  -- ---- forms that don't stop
 
   never_halts : (p : ℕ) (x : Recognition) → Halts file Halt.never p x → ⊥
   never_halts p Failed s = s
@@ -131,7 +131,7 @@ module _ (file : List ℕ) where
       → CarriesItems file items k
   plain_items is = CarriesItems.items_shown (λ p x ds. inl (items_alike 5 ds is))
 
-  -- a plain item, and those behind it
+  -- a plain item, and those after it
   plain_then : {e : Form} {rest : Forms} {l m : Halt} → without (leads_past 5) e ≡ true
       → CarriesItems file rest l
       → ((p middle : ℕ) (trees : Trees) (x : Recognition) → Old e p (Matched middle trees) → Halts file l middle x
@@ -140,7 +140,7 @@ module _ (file : List ℕ) where
   plain_then is rest go =
       CarriesItems.item (plain {k = Halt.never} is) rest (λ p s. absurd s) (λ p middle trees x s ds. absurd s) go
 
-  -- an item that halts, and plain items behind it
+  -- an item that stops, and plain items after it
   then_plain : {e : Form} {rest : Forms} {k m : Halt} → Carries file e k
       → all_without (leads_past 5) rest ≡ true → ((p : ℕ) → FailsAt file k p → FailsAt file m p)
       → ((p middle : ℕ) (trees : Trees) (x : Recognition) → EndsAt file k middle → OldItems rest middle x
@@ -158,7 +158,7 @@ module _ (file : List ℕ) where
           → Halts file k p (behind trees x)
       ends p middle trees x s DerivesItems.items_none = s
 
-  -- halting so that the whole fails
+  -- stopping so that the whole fails
   all_halts : (p : ℕ) (trees : Trees) (x : Recognition) → x ≡ Failed → Halts file Halt.whole p (behind trees x)
   all_halts p trees Failed is = tt
   all_halts p trees (Matched end more) is = cc
@@ -345,7 +345,7 @@ module _ (file : List ℕ) where
       by (inl one) = matched≢failed (one_result one.2 dead.1)
       by (inr one) = matched≢failed (one_result one.1 dead.1)
 
-  -- a place isn't both at a backslash and at a dash
+  -- no position is both at a backslash and at a dash
   no_dash : (place middle : ℕ) → middle ≡ place → at file place ≡ Some 92 → at file middle ≡ Some 45 → ⊥
   no_dash place middle same slashed dashed = apart (sym slashed ∙ (ap (at file) (sym same) ∙ dashed))
     where
@@ -677,7 +677,7 @@ module _ (file : List ℕ) where
       go p middle trees Failed d h = tt
       go p middle trees (Matched end more) d h = h
 
-  -- ---- what the rules mean
+  -- ---- the meaning of the rules
 
   same_body : (used : List ℕ) {k : Halt} (m : Meaning) (rule terminal : ℕ) (body : Form)
       → meant printed_figure used ≡ Some (record { rule = rule; terminal = terminal; body = body })

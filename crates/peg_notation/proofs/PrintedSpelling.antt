@@ -1,19 +1,19 @@
--- What the Chars of the printed figure spell: none of them is written with an x behind a backslash.
+-- The bytes that the Chars of the printed figure denote. None of them has an x after a backslash.
 use Rattle.std.proofs.Common.{◌≡◌, ℕ, zero, suc, ◌+◌, ◌-◌, Bool, true, false, ◌==◌, nat_eq, List, [], ◌∷◌, take, drop, codes}
 use Rattle.std.proofs.Common.{if◌then◌else◌, refl, sym, ap, ◌∙◌, subst, arith}
 use Rattle.std.proofs.lemmas.Bool.Decides.{nat_tests}
 use Rattle.std.specs.List.{starts_with}
 use Rattle.peg_bytes.specs.Extent.{between}
 use Rattle.peg_tree.specs.Trees.{Trees, NoTrees, Tree}
-use Rattle.peg_ford.specs.Form.{Name}
-use Rattle.peg_ford.specs.Record.{Failed, Matched}
-use Rattle.peg_ford.proofs.Derivations.{Derives, DerivesItems, DerivesFirst, derived, one_result}
-use Rattle.peg_ford.proofs.ResultSteps.{begins_with, passes_any}
-use Rattle.peg_figure.specs.Spelled.{is_octal, octal, escaped, hexadecimal, byte_spelled, part}
+use Rattle.peg_semantics.specs.Form.{Name}
+use Rattle.peg_semantics.specs.Record.{Failed, Matched}
+use Rattle.peg_semantics.proofs.Derivations.{Derives, DerivesItems, DerivesFirst, derived, one_result}
+use Rattle.peg_semantics.proofs.ResultSteps.{begins_with, passes_any}
+use Rattle.peg_metagrammar.specs.Spelled.{is_octal, octal, escaped, hexadecimal, byte_spelled, part}
 use Rattle.peg_notation.specs.PrintedFigure.{MatchesPrinted, printed_figure, printed_byte}
 use Rattle.peg_notation.proofs.PrintedRules.{Old, no_escape, printed-meant}
 
--- an end of a list that is behind one byte
+-- an end that is one byte after the start
 one_byte : (file : List ℕ) (p end : ℕ) → end ≡ p + 1 → end - p ≡ 1
 one_byte file p end is = omega arith
 
@@ -24,7 +24,7 @@ taken_none : (n : ℕ) → take n none ≡ none
 taken_none zero = refl
 taken_none (suc n) = refl
 
--- where no backslash stands, a Char is one byte
+-- without a backslash, a Char is one byte
 alone : (file : List ℕ) (p byte : ℕ) (rest : List ℕ) → drop p file ≡ byte ∷ rest → (byte == 92) ≡ false → (end : ℕ)
     (trees : Trees) → Old file (Name (codes "Char") (between 0 0)) p (Matched end trees) → end ≡ p + 1
 alone file p byte rest is other end trees d =
@@ -48,14 +48,14 @@ alone file p byte rest is other end trees d =
     differs : starts_with nat_eq (byte ∷ rest) (codes "\\") ≡ false
     differs = grind (arith, nat_tests)
 
--- a text with another sign than x behind its first byte
+-- a text whose second byte isn't an x
 no_x : (first sign : ℕ) (digits : List ℕ) → (sign == 120) ≡ false
     → byte_spelled (first ∷ sign ∷ digits) ≡ printed_byte (first ∷ sign ∷ digits)
 no_x first sign digits other =
     ap (λ (b : Bool). if b then hexadecimal digits
     else (if is_octal sign then octal (sign ∷ digits) else escaped sign)) other
 
--- the front of a text with a backslash
+-- the start of a text with a backslash
 behind_backslash : (sign : ℕ) (rest : List ℕ) (n : ℕ) → (sign == 120) ≡ false
     → byte_spelled (take n (92 ∷ sign ∷ rest)) ≡ printed_byte (take n (92 ∷ sign ∷ rest))
 behind_backslash sign rest zero other = refl

@@ -1,26 +1,26 @@
--- What a reading of tokens reaches: where its spans lie, which tokens are left, and how many parentheses are open on the
--- way.
+-- What a reading of tokens reaches: the spans of what is read, the tokens that are left, and the number of parentheses
+-- that are open on the way.
 use Rattle.std.proofs.Common.{◌≡◌, ℕ, suc, ◌+◌, ◌-◌, ◌<◌, ◌≤◌, Bool, true, false, not, ◌&&◌, List, [], ◌∷◌, ◌++◌, length, drop}
 use Rattle.std.proofs.Common.{Option, None, Some, option_map, Result, Ok, Err, if◌then◌else◌, refl, sym, ap, ◌∙◌, subst, arith}
 use Rattle.std.proofs.lemmas.List.{drop-drop}
 use Rattle.peg_bytes.specs.Extent.{Extent, between}
-use Rattle.peg_ford.specs.Form as form
-use Rattle.peg_ford.specs.Form.{Form, Forms, forms}
+use Rattle.peg_semantics.specs.Form as form
+use Rattle.peg_semantics.specs.Form.{Form, Forms, forms}
 use Rattle.peg_lexer.specs.Lexical.{text_of}
 use Rattle.peg_lexer.specs.Pieces.{Piece}
-use Rattle.peg_figure.specs.Ranges.{class_of}
+use Rattle.peg_metagrammar.specs.Ranges.{class_of}
 use Rattle.peg_notation.specs.Reader.{Halt, Unexpected, TooDeep, BadCountAt, FormRead, Reading, place_of, starts_with_arrow, and_read, one_token, pieces_of, bounds_of, is_count, is_bad_count, close_of, closed, parenthesized, named, primary_of, primary, suffix_sign, with_suffix, then_suffix, suffix, with_prefix, prefix_sign, prefix_of, prefix}
 use Rattle.peg_notation.specs.ReaderCode.{AreTexts}
 use Rattle.peg_notation.specs.Reads.{one_if_open, one_if_close}
 use Rattle.peg_notation.specs.Spans.{LiesIn, FormLiesIn}
-use Rattle.peg_figure.specs.Spelled.{part, bytes_in, ranges_in, bounds_in_range, counted}
+use Rattle.peg_metagrammar.specs.Spelled.{part, bytes_in, ranges_in, bounds_in_range, counted}
 use Rattle.peg_lexer.specs.Tokens.{Lexeme}
 use Rattle.peg_lexer.specs.declared.token.TokenKind.{TokenKind}
 use Rattle.peg_lexer.specs.declared.token.TokenKind.TheVariants as kind
 
 -- ---- texts
 
--- so many bytes from a place on end behind it
+-- a piece of a text ends no earlier than it starts
 end_behind : (start end : ℕ) (x : Option Piece) → option_map (λ (piece : Piece). start + piece.length) x ≡ Some end → start ≤ end
 end_behind start end None is = cc
 end_behind start end (Some piece) is = let same : start + piece.length ≡ end = cc in omega (arith, same)
@@ -66,8 +66,8 @@ plain-kind file lexeme k is no_open no_close no_count = record {
   fine = ap (λ (t : Bool). t && not (bounds_in_range (bounds_of file lexeme))) (ap is_count is ∙ no_count);
 }
 
--- From tokens with so many parentheses open to the tokens left, with so many open, and never more than the most; no count
--- is out of range.
+-- A run from some tokens to the tokens that are left, with the number of parentheses open at both ends. At most `most`
+-- are open on the way, and no count is out of range.
 pub data Runs (file : List ℕ) (most : ℕ) : ℕ → List Lexeme → ℕ → List Lexeme → Type 0 where
   stays : {a : ℕ} {lexemes : List Lexeme} → Runs file most a lexemes a lexemes
   opened : {a b : ℕ} {lexeme : Lexeme} {more rest : List Lexeme} → lexeme.kind ≡ kind.Open → a < most
@@ -84,7 +84,7 @@ runs-then (Runs.opened is less more) next = Runs.opened is less (runs-then more 
 runs-then (Runs.shut is more) next = Runs.shut is (runs-then more next)
 runs-then (Runs.other plain more) next = Runs.other plain (runs-then more next)
 
--- the parenthesis that opens at a place is one too many
+-- the parenthesis that opens at an offset is one too many
 pub record IsDeepAt (file : List ℕ) (most a : ℕ) (lexemes : List Lexeme) (at : ℕ) : Type 0 where
   pub opening : Lexeme
   pub more : List Lexeme
@@ -104,7 +104,7 @@ deep-behind runs deep = record {
 
 -- ---- counts out of range
 
--- the count at a place is out of range
+-- the count at an offset is out of range
 pub record IsBadAt (file : List ℕ) (lexemes : List Lexeme) (at : ℕ) : Type 0 where
   pub before : List Lexeme
   pub count : Lexeme
@@ -142,7 +142,7 @@ pub record Taken (file : List ℕ) (most a : ℕ) (lexemes : List Lexeme) (p : F
   pub runs : Runs file most a lexemes a (drop p.taken lexemes)
   pub shallow : p.depth ≤ most - a
 
--- by an expression behind a token whose text ends at a place
+-- by an expression after a token whose text ends at an offset
 pub record Reached (file : List ℕ) (most a before : ℕ) (lexemes : List Lexeme) (p : FormRead) : Type 0 where
   pub form : FormLiesIn (length file) p.form
   pub after : before ≤ p.last
@@ -163,7 +163,7 @@ Reaches file most a before lexemes (Err (Unexpected at)) = Unit {0}
 Reaches file most a before lexemes (Err (TooDeep at)) = IsDeepAt file most a lexemes at
 Reaches file most a before lexemes (Err (BadCountAt at)) = IsBadAt file lexemes at
 
--- a way to read inside parentheses, where so many are open: none may be opened, or one more
+-- a function that reads inside parentheses, with this number open: none may be opened, or one more
 abbrev pub InnerReaches : (file : List ℕ) (most a : ℕ) → Option Reading → Type 0
 InnerReaches file most a None = a ≡ most
 InnerReaches file most a (Some read) =
@@ -184,7 +184,7 @@ one_token-takes file most a from lexeme rest f texts lies plain = record {
   shallow = omega arith;
 }
 
--- a parenthesis that closes, behind what stood inside
+-- a closing parenthesis after what is inside
 shut-takes : (file : List ℕ) (most a from : ℕ) (opening : Lexeme) (rest : List Lexeme) (inside : FormRead) (lexeme : Lexeme)
     (more : List Lexeme) → AreTexts file from (opening ∷ rest) → opening.kind ≡ kind.Open → a < most
     → Reached file most (suc a) opening.text.end rest inside → drop inside.taken rest ≡ lexeme ∷ more → lexeme.kind ≡ kind.Close
@@ -296,7 +296,7 @@ primary-takes file most a from inner e (lexeme ∷ rest) texts =
 
 -- ---- Suffix and Prefix
 
--- a sign behind an expression
+-- an operator after an expression
 signed-takes : (file : List ℕ) (most a : ℕ) (lexemes : List Lexeme) (p : FormRead) → Taken file most a lexemes p
     → (lexeme : Lexeme) (more : List Lexeme) → drop p.taken lexemes ≡ lexeme ∷ more → IsPlain file lexeme
     → (sign : Form → Extent → Form)
@@ -318,7 +318,7 @@ signed-takes file most a lexemes p e lexeme more left plain sign lies =
       shallow = e.shallow;
     }
 
--- a count that is in range is plain, and so is what is no count and no parenthesis
+-- a count in range is plain, and so is a token that is no count and no parenthesis
 sign_of-takes : (file : List ℕ) (most a : ℕ) (lexemes : List Lexeme) (p : FormRead) → Taken file most a lexemes p
     → (lexeme : Lexeme) (more : List Lexeme) → drop p.taken lexemes ≡ lexeme ∷ more → is_bad_count file lexeme ≡ false
     → (k : TokenKind) → lexeme.kind ≡ k
@@ -374,7 +374,7 @@ suffix-takes file most a from inner is lexemes texts =
     by (Err (TooDeep at)) e = e
     by (Err (BadCountAt at)) e = e
 
--- a sign before an expression
+-- an operator before an expression
 prefixed-takes : (file : List ℕ) (most a from : ℕ) (inner : Option Reading) → InnerReaches file most a inner
     → (lexeme : Lexeme) (rest : List Lexeme) → AreTexts file from (lexeme ∷ rest) → IsPlain file lexeme → (sign : Form → Extent → Form)
     → ((f : Form) (span : Extent) → FormLiesIn (length file) f → LiesIn (length file) span → FormLiesIn (length file) (sign f span))

@@ -4,11 +4,11 @@ use Rattle.std.proofs.Common.{Option, None, Some, Result, Ok, Err, if◌then◌e
 use Rattle.std.proofs.lemmas.List.{drop-drop}
 use Rattle.std.proofs.lemmas.List.Elements.{All-cons}
 use Rattle.peg_bytes.specs.Extent.{between}
-use Rattle.peg_ford.specs.Form.{Form, forms}
+use Rattle.peg_semantics.specs.Form.{Form, forms}
 use Rattle.peg_notation.specs.Reader.{Halt, Unexpected, TooDeep, BadCountAt, FormRead, FormsRead, Reading, place_of, bounds_of, is_count, is_bad_count, is_arrow, starts_with_arrow, begins_prefix, and_read, no_more, and_form, prefix, many_behind, many, whole_sequence, sequence, starts_with_slash, is_slash, behind, alternative, whole_choice, expression, expression_in, RuleRead, RulesRead, and_rules, rule_of, definition_behind, definition_of, definition, definitions_behind, grammar}
 use Rattle.peg_notation.specs.ReaderCode.{AreTexts}
 use Rattle.peg_notation.specs.Spans.{FormLiesIn, FormsLieIn, RuleLiesIn}
-use Rattle.peg_figure.specs.Spelled.{sequence_spelled, choice_spelled, bounds_in_range}
+use Rattle.peg_metagrammar.specs.Spelled.{sequence_spelled, choice_spelled, bounds_in_range}
 use Rattle.peg_lexer.specs.Tokens.{Lexeme}
 use Rattle.peg_lexer.specs.declared.token.TokenKind.{TokenKind}
 use Rattle.peg_lexer.specs.declared.token.TokenKind.TheVariants as kind
@@ -18,7 +18,7 @@ use Rattle.peg_notation.proofs.Repeats.{many_behind-drop}
 
 -- ---- several in a row
 
--- by expressions one behind the other
+-- by expressions one after the other
 pub record Passes (file : List ℕ) (most a before : ℕ) (lexemes : List Lexeme) (p : FormsRead) : Type 0 where
   pub forms : FormsLieIn (length file) (forms p.forms)
   pub after : before ≤ p.last
@@ -64,7 +64,7 @@ one-passes file most a before lexemes texts p e (Err (Unexpected at)) m = tt
 one-passes file most a before lexemes texts p e (Err (TooDeep at)) m = deep-behind e.runs m
 one-passes file most a before lexemes texts p e (Err (BadCountAt at)) m = bad-behind e.runs m
 
--- a way to read one, where one begins
+-- a function that reads one, where one begins
 abbrev pub Rounds : (file : List ℕ) (most a : ℕ) (begins : List Lexeme → Bool) → Reading → Type 0
 Rounds file most a begins read =
     (before : ℕ) (lexemes : List Lexeme) → AreTexts file before lexemes → begins lexemes ≡ true
@@ -212,7 +212,7 @@ choice_form-lies : (size start last : ℕ) (first : Form) (list : List Form) →
 choice_form-lies size start last first [] lies lie order fits = lies
 choice_form-lies size start last first (f ∷ more) lies lie order fits = ((order (omega arith), fits), lies, lie)
 
--- a first expression and those behind it begin no later than they end
+-- a first expression and those after it begin no later than they end
 pub both-order : (file : List ℕ) (lexemes : List Lexeme) (taken more last end : ℕ)
     → (0 < taken → place_of (length file) lexemes ≤ last) → last ≤ end
     → (0 < more → place_of (length file) (drop taken lexemes) ≤ end) → 0 < taken + more
@@ -339,7 +339,7 @@ definition-reaches file most from [] texts = tt
 definition-reaches file most from (lexeme ∷ rest) texts =
     definition_of-reaches file most from lexeme rest texts lexeme.kind refl
 
--- where the counts of some tokens start that are out of range
+-- the offsets of the counts out of range among some tokens
 abbrev pub bad_places : List ℕ → List Lexeme → List ℕ
 bad_places file [] = []
 bad_places file (lexeme ∷ more) =
@@ -356,7 +356,7 @@ bad_places-fine : (file : List ℕ) (lexeme : Lexeme) (more : List Lexeme) → i
 bad_places-fine file lexeme more fine =
     ap (λ (t : Bool). (if t then lexeme.text.start ∷ [] else []) ++ bad_places file more) fine
 
--- tokens that are run over have no such count
+-- the tokens of a run have no count out of range
 pub runs-bad_places : {file : List ℕ} {most a b : ℕ} {lexemes rest : List Lexeme} → Runs file most a lexemes b rest
     → bad_places file lexemes ≡ bad_places file rest
 runs-bad_places Runs.stays = refl

@@ -1,4 +1,4 @@
--- Steps of the reader's functions: how a fault is passed on, and what a token at the front is.
+-- Steps of the reader's functions: passing on a fault, and the next token.
 use Rattle.std.proofs.Common.{◌≡◌, ℕ, zero, suc, ◌-◌, ◌<◌, ◌≤◌, ◌≢◌, List, [], ◌∷◌, length, drop, take, get_or, true}
 use Rattle.std.proofs.Common.{Option, Result, Ok, Err, refl, sym, ap, ◌∙◌, subst, arith}
 use Rattle.peg_bytes.specs.Extent.{extent}
@@ -23,7 +23,7 @@ fault_passes {X} {Y} x next (TooNested at) is = ap (λ (r : Result X Halt). and_
 fault_passes {X} {Y} x next (BadCount at) is = ap (λ (r : Result X Halt). and_read r next) is
 fault_passes x next Memory is = tt
 
--- a fault of the part is that of the whole, where each halt of the part is one of the whole
+-- a fault of the part is a fault of the whole, if each reason to stop in the part is one in the whole
 pub fault_same : {X Y : Type 0} (x : Result X Halt) (y : Result Y Halt) (fault : NotationFault)
     → ((halt : Halt) → x ≡ Err halt → y ≡ Err halt) → ConveysHalt x fault → ConveysHalt y fault
 fault_same x y FileTooLong same is = is
@@ -32,14 +32,14 @@ fault_same x y (TooNested at) same is = same (TooDeep at) is
 fault_same x y (BadCount at) same is = same (BadCountAt at) is
 fault_same x y Memory same is = tt
 
--- what may be read inside parentheses is an expression with one parenthesis less
+-- an expression inside parentheses may have one parenthesis less open
 pub expression_in-is : (file : List ℕ) (n before : ℕ) (lexemes : List Lexeme)
     → expression_in file n before lexemes ≡ expression file (inner_of file n) before lexemes
 unfolding expression_in
 expression_in-is file zero before lexemes = refl
 expression_in-is file (suc n) before lexemes = refl
 
--- where a parenthesis may be opened, it holds an expression
+-- if a parenthesis may be opened, it contains an expression
 pub parenthesized-is : (file : List ℕ) (left : ℕ) → left ≢ 0 → (size : ℕ) (opening : Lexeme) (rest : List Lexeme)
     → parenthesized (inner_of file left) size opening rest
     ≡ and_read (expression file (inner_of file (left - 1)) opening.text.end rest)
@@ -51,14 +51,14 @@ parenthesized-is file (suc n) some size opening rest =
     (expression_in-is file n opening.text.end rest
     ∙ ap (λ k. expression file (inner_of file k) opening.text.end rest) less)
 
--- tokens behind so many stand behind the file's beginning
+-- the tokens after the first n have their texts after the start of the file
 pub texts-behind : (file : List ℕ) (from n : ℕ) (lexemes : List Lexeme) → AreTexts file from lexemes
     → AreTexts file 0 (drop n lexemes)
 texts-behind file from zero lexemes texts = texts-from file from 0 lexemes (omega arith) texts
 texts-behind file from (suc n) [] texts = omega arith
 texts-behind file from (suc n) (lexeme ∷ more) texts = texts-behind file lexeme.text.end n more texts.2
 
--- the token at the front, and those behind it
+-- the next token, and those after it
 pub front_token : (tokens : List Token) (token : Token) → 1 ≤ length tokens → token ≡ get_or tokens 0 token
     → lexemes tokens ≡ lexeme_of token ∷ lexemes (take (length tokens - 1) (drop 1 tokens))
 front_token [] token long is = absurd (omega arith)
@@ -76,14 +76,14 @@ front_lies file from tokens token long is texts =
     token-lies file from (lexeme_of token) (lexemes (take (length tokens - 1) (drop 1 tokens)))
     (front_texts file from tokens token long is texts)
 
--- ---- order of places
+-- ---- the order of offsets
 
--- where no parenthesis is open yet, as many may be opened as are left
+-- if no parenthesis is open yet, as many may be opened as are left
 inner-reaches : (file : List ℕ) (left : ℕ) → InnerReaches file left 0 (inner_of file left)
 inner-reaches file zero = refl
 inner-reaches file (suc n) = (omega arith, expression_in-reaches file (suc n) n 1 (omega arith))
 
--- a predicate's sign stands before the end of its part
+-- the operator of a predicate is before the end of its part
 pub prefix_order : (file : List ℕ) (left : ℕ) (tokens : List Token) (sign : Token) → 1 ≤ length tokens
     → sign ≡ get_or tokens 0 sign → AreTexts file 0 (lexemes tokens) → (part : FormRead)
     → suffix file (inner_of file left) (lexemes (take (length tokens - 1) (drop 1 tokens))) ≡ Ok part
@@ -96,7 +96,7 @@ prefix_order file left tokens sign long is texts part read =
     (suffix-takes file left 0 sign.span.end (inner_of file left) (inner-reaches file left) rest all.2) in
     omega (arith, token-order file 0 (lexeme_of sign) rest all, texts-place file sign.span.end rest all.2, reached.order)
 
--- what is read as Primary ends no earlier than it starts, and the tokens behind it stand behind it
+-- a Primary that is read ends no earlier than it starts, and the tokens after it follow it
 pub primary_taken : (file : List ℕ) (left : ℕ) (lexemes : List Lexeme) → AreTexts file 0 lexemes → (part : FormRead)
     → primary file (inner_of file left) lexemes ≡ Ok part → Taken file left 0 lexemes part
 primary_taken file left lexemes texts part read =
@@ -178,7 +178,7 @@ expression_read file inner before lexemes first more read read_more =
 
 pub ruleset faults = (fault_passes)
 
--- a rule behind its name, by its body
+-- a rule after its name, by its body
 behind_is : (file : List ℕ) (most : ℕ) (name : Lexeme) (lexemes : List Lexeme) (arrow : Lexeme) (more : List Lexeme)
     → lexemes ≡ arrow ∷ more → starts_with_arrow lexemes ≡ true
     → definition_behind file most name lexemes (starts_with_arrow lexemes)

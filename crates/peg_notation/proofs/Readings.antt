@@ -1,20 +1,20 @@
--- What it is that the reader's functions say what the figure says: at a place where tokens stand, a rule of the figure
--- matches just what is read, or fails, or goes no further than a token that nothing can follow.
+-- How the reader's functions agree with the metagrammar. At the start of a token, a rule matches exactly what is read,
+-- or fails, or stops at a token that nothing can follow.
 use Rattle.std.proofs.Common.{◌≡◌, ℕ, max, ◌+◌, ◌<◌, Bool, true, false, ◌&&◌, ◌||◌, List, [], ◌∷◌, length, drop, codes, ◌⊎◌}
 use Rattle.std.proofs.Common.{Option, None, Some, Result, Ok, Err, if◌then◌else◌, ◌==◌, refl, sym, ap, ◌∙◌, arith, append-nil}
 use Rattle.peg_bytes.specs.Extent.{Extent}
 use Rattle.peg_tree.specs.Trees.{Trees, NoTrees, Tree, followed_by}
-use Rattle.peg_ford.specs.Form.{Name}
-use Rattle.peg_ford.specs.Record.{Failed, Matched}
-use Rattle.peg_ford.specs.Rules.{Meaning, meant}
-use Rattle.peg_ford.proofs.Derivations.{Derives}
-use Rattle.peg_figure.specs.Figure.{figure}
-use Rattle.peg_figure.specs.FigureRules as rule
+use Rattle.peg_semantics.specs.Form.{Name}
+use Rattle.peg_semantics.specs.Record.{Failed, Matched}
+use Rattle.peg_semantics.specs.Rules.{Meaning, meant}
+use Rattle.peg_semantics.proofs.Derivations.{Derives}
+use Rattle.peg_metagrammar.specs.Figure.{figure}
+use Rattle.peg_metagrammar.specs.FigureRules as rule
 use Rattle.peg_lexer.specs.Lexical.{text_of}
 use Rattle.peg_lexer.specs.Pieces.{Piece}
 use Rattle.peg_notation.specs.Reader.{Halt, Unexpected, TooDeep, BadCountAt, FormRead, Reading, place_of}
-use Rattle.peg_figure.specs.Spelled.{Expression, text_end, node_spelled, spelled}
-use Rattle.peg_figure.specs.Nesting.{nesting, has_open}
+use Rattle.peg_metagrammar.specs.Spelled.{Expression, text_end, node_spelled, spelled}
+use Rattle.peg_metagrammar.specs.Nesting.{nesting, has_open}
 use Rattle.peg_lexer.specs.Tokens.{Lexeme}
 use Rattle.peg_lexer.specs.declared.token.TokenKind.{TokenKind}
 use Rattle.peg_lexer.specs.declared.token.TokenKind.TheVariants.{And, Not, Open}
@@ -35,9 +35,9 @@ has_open-followed (Tree r start end children rest) b = by (r == rule.open_sign) 
     by true e = refl
     by false e = e
 
--- ---- rules whose value doesn't depend on what stands before them
+-- ---- rules whose value doesn't depend on the token before them
 
--- a rule matches an expression at a place, and the tokens behind it are left
+-- a rule matches an expression at an offset, and the tokens after it are left
 pub record ReadsAny (file used : List ℕ) (p : ℕ) (lexemes : List Lexeme) (part : FormRead) : Type 0 where
   pub end : ℕ
   pub trees : Trees
@@ -48,8 +48,8 @@ pub record ReadsAny (file used : List ℕ) (p : ℕ) (lexemes : List Lexeme) (pa
   pub nests : nesting trees ≡ part.depth
   pub some : 0 < part.taken
 
--- What is read is matched, and where a token can't stand there the rule fails. A reading that stops for a parenthesis too
--- many says nothing.
+-- What is read is matched, and at an unexpected token the rule fails. A reading that stops at a parenthesis too many
+-- says nothing.
 abbrev pub ExactAny : (file used : List ℕ) (p : ℕ) (lexemes : List Lexeme) → Result FormRead Halt → Type 0
 ExactAny file used p lexemes (Ok part) = ReadsAny file used p lexemes part
 ExactAny file used p lexemes (Err (Unexpected at)) = (span : Extent) → Derives figure file (Name used span) p Failed
@@ -58,7 +58,7 @@ ExactAny file used p lexemes (Err (BadCountAt at)) = Unit {0}
 
 -- ---- rules that never fail
 
--- a rule matches an expression at a place, behind a token whose text ends at another
+-- a rule matches an expression at an offset, after a token whose text ends at another
 pub record ReadsAt (file used : List ℕ) (before p : ℕ) (lexemes : List Lexeme) (part : FormRead) : Type 0 where
   pub end : ℕ
   pub trees : Trees
@@ -68,14 +68,15 @@ pub record ReadsAt (file used : List ℕ) (before p : ℕ) (lexemes : List Lexem
   pub ends : text_end before trees ≡ part.last
   pub nests : nesting trees ≡ part.depth
 
--- a sign or a parenthesis stands at a place, which begins no expression: nothing that may follow an expression does
+-- A `&`, a `!` or an open parenthesis is at an offset. No token that may come after a complete Expression is one of
+-- these.
 pub record IsStuck (file : List ℕ) (p : ℕ) : Type 0 where
   pub kind : TokenKind
   pub piece : Piece
   pub found : text_of kind (drop p file) ≡ Some piece
   pub opens : (kind ≡ And) ⊎ (kind ≡ Not) ⊎ (kind ≡ Open)
 
--- a rule goes no further than such a token
+-- a rule stops at such a token
 pub record Stops (file used : List ℕ) (p : ℕ) : Type 0 where
   pub end : ℕ
   pub trees : Trees
@@ -88,7 +89,7 @@ ExactAt file used before p lexemes (Err (Unexpected at)) = Stops file used p
 ExactAt file used before p lexemes (Err (TooDeep at)) = Unit {0}
 ExactAt file used before p lexemes (Err (BadCountAt at)) = Unit {0}
 
--- a way to read inside parentheses that says what Expression says
+-- a function that reads inside parentheses and agrees with Expression
 abbrev pub Good : (file : List ℕ) → Option Reading → Type 0
 Good file None = Unit {0}
 Good file (Some read) =
@@ -139,7 +140,7 @@ node_at {file} {used} {p} {end} {t} {lexemes} before m known no_spacing no_prima
       ∙ (ap (λ n. max (0 + n) 0) nests ∙ omega arith);
 }
 
--- where tokens stand, there the first begins, or the file ends
+-- the first of the tokens at an offset starts there, or the file ends there
 pub place-is : {file : List ℕ} {p : ℕ} {lexemes : List Lexeme} → Stream file p lexemes → place_of (length file) lexemes
     ≡ p
 place-is (Stream.ended last) = sym last

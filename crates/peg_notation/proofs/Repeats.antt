@@ -1,16 +1,16 @@
--- A star of the figure and the reader's `many`: expressions, one behind the other, as long as one begins.
+-- A star of the metagrammar and the reader's `many`: expressions one after the other, as long as one begins.
 use Rattle.std.proofs.Common.{◌≡◌, ℕ, zero, suc, ◌-◌, ◌<◌, ◌≤◌, Bool, true, false, List, [], ◌∷◌, ◌++◌, map, length, drop, length-drop}
 use Rattle.std.proofs.Common.{Result, Ok, Err, if◌then◌else◌, refl, sym, ap, ◌∙◌, subst, arith}
 use Rattle.std.proofs.lemmas.List.{drop-drop}
 use Rattle.peg_bytes.specs.Extent.{Extent}
 use Rattle.peg_tree.specs.Trees.{Trees, NoTrees, followed_by}
-use Rattle.peg_ford.specs.Form.{Form, Star}
-use Rattle.peg_ford.specs.Record.{Failed, Matched}
-use Rattle.peg_ford.proofs.Derivations.{Derives}
-use Rattle.peg_figure.specs.Figure.{figure}
+use Rattle.peg_semantics.specs.Form.{Form, Star}
+use Rattle.peg_semantics.specs.Record.{Failed, Matched}
+use Rattle.peg_semantics.proofs.Derivations.{Derives}
+use Rattle.peg_metagrammar.specs.Figure.{figure}
 use Rattle.peg_notation.specs.Reader.{Halt, Unexpected, TooDeep, BadCountAt, FormRead, FormsRead, Reading, and_read, no_more, and_form, many_behind, many}
-use Rattle.peg_figure.specs.Spelled.{Spelling, Expression, text_end, spelled}
-use Rattle.peg_figure.specs.Nesting.{nesting}
+use Rattle.peg_metagrammar.specs.Spelled.{Spelling, Expression, text_end, spelled}
+use Rattle.peg_metagrammar.specs.Nesting.{nesting}
 use Rattle.peg_lexer.specs.Tokens.{Lexeme}
 use Rattle.peg_notation.proofs.Readings.{IsStuck}
 use Rattle.peg_notation.proofs.Streams.{Stream}
@@ -25,7 +25,7 @@ many_behind-drop begins read before [] (suc skipped) = refl
 many_behind-drop begins read before (l ∷ rest) zero = refl
 many_behind-drop begins read before (l ∷ rest) (suc skipped) = many_behind-drop begins read before rest skipped
 
--- one round: an expression, whatever stands before it
+-- one iteration: an expression, whatever comes before it
 pub record ReadsRound (file : List ℕ) (element : Form) (p : ℕ) (lexemes : List Lexeme) (part : FormRead) : Type 0 where
   pub end : ℕ
   pub trees : Trees
@@ -36,7 +36,7 @@ pub record ReadsRound (file : List ℕ) (element : Form) (p : ℕ) (lexemes : Li
   pub nests : nesting trees ≡ part.depth
   pub some : 0 < part.taken
 
--- the star goes no further than a token that nothing can follow
+-- the star stops at a token that nothing can follow
 pub record StarStops (file : List ℕ) (element : Form) (span : Extent) (p : ℕ) : Type 0 where
   pub end : ℕ
   pub trees : Trees
@@ -50,7 +50,7 @@ ExactRound file element span p lexemes (Err (Unexpected at)) = StarStops file el
 ExactRound file element span p lexemes (Err (TooDeep at)) = Unit {0}
 ExactRound file element span p lexemes (Err (BadCountAt at)) = Unit {0}
 
--- where one begins, it is what is read; elsewhere it fails
+-- if one begins, it is what is read; otherwise it fails
 pub record Rounds (file : List ℕ) (element : Form) (span : Extent) (begins : List Lexeme → Bool)
     (read : Reading) : Type 0 where
   pub none : (p : ℕ) (lexemes : List Lexeme) → Stream file p lexemes → begins lexemes ≡ false
@@ -58,7 +58,7 @@ pub record Rounds (file : List ℕ) (element : Form) (span : Extent) (begins : L
   pub one : (before p : ℕ) (lexemes : List Lexeme) → Stream file p lexemes → begins lexemes ≡ true
       → ExactRound file element span p lexemes (read before lexemes)
 
--- all rounds: expressions behind a token whose text ends at a place
+-- all iterations: expressions after a token whose text ends at an offset
 pub record ReadsMany (file : List ℕ) (element : Form) (span : Extent) (before p : ℕ) (lexemes : List Lexeme)
     (parts : FormsRead) : Type 0 where
   pub end : ℕ
@@ -89,7 +89,7 @@ no_round {file} {element} {span} {p} before lexemes stream fails = record {
   nests = refl;
 }
 
--- one round and those behind it
+-- one iteration and those after it
 more_rounds : {file : List ℕ} {element : Form} (span : Extent) {p : ℕ} (before : ℕ) (lexemes : List Lexeme)
     (part : FormRead) → (e : ReadsRound file element p lexemes part) → (x : Result FormsRead Halt)
     → ExactMany file element span part.last e.end (drop part.taken lexemes) x
@@ -116,7 +116,7 @@ more_rounds span before lexemes part e (Err (Unexpected at)) stops = record {
 more_rounds span before lexemes part e (Err (TooDeep at)) m = tt
 more_rounds span before lexemes part e (Err (BadCountAt at)) m = tt
 
--- the star is what is read
+-- the star matches exactly what is read
 pub rounds : {file : List ℕ} {element : Form} {span : Extent} {begins : List Lexeme → Bool} {read : Reading}
     → Rounds file element span begins read → (n before p : ℕ) (lexemes : List Lexeme) → length lexemes ≤ n
     → Stream file p lexemes → begins [] ≡ false

@@ -1,30 +1,30 @@
--- The tokens of a file from a place on, each with the text that stands there.
+-- The tokens of a file from an offset on, each with its text.
 use Rattle.std.proofs.Common.{◌≡◌, ◌≢◌, ℕ, ◌+◌, List, [], ◌∷◌, length, drop, ◌⊎◌, inl, inr}
 use Rattle.std.proofs.Common.{Option, None, Some, refl, sym, ap, ◌∙◌, subst, arith}
 use Rattle.std.proofs.lemmas.List.{drop_all}
 use Rattle.peg_bytes.specs.Extent.{Extent, between}
 use Rattle.peg_tree.specs.Trees.{Trees}
-use Rattle.peg_ford.specs.Form.{Name}
-use Rattle.peg_ford.specs.Record.{Recognition, Failed, Matched}
-use Rattle.peg_ford.proofs.Derivations.{Derives, derived, one_result}
-use Rattle.peg_figure.specs.Figure.{figure}
+use Rattle.peg_semantics.specs.Form.{Name}
+use Rattle.peg_semantics.specs.Record.{Recognition, Failed, Matched}
+use Rattle.peg_semantics.proofs.Derivations.{Derives, derived, one_result}
+use Rattle.peg_metagrammar.specs.Figure.{figure}
 use Rattle.peg_lexer.specs.Lexical.{text_of, kind_of}
 use Rattle.peg_lexer.specs.Pieces.{Piece}
-use Rattle.peg_figure.specs.Spelled.{text_end}
+use Rattle.peg_metagrammar.specs.Spelled.{text_end}
 use Rattle.peg_lexer.specs.Tokens.{rule_of_kind, Lexeme, IsLexeme, Lexemes}
 use Rattle.peg_lexer.specs.declared.token.TokenKind.{TokenKind}
 use Rattle.peg_lexer.proofs.Lexemes.{lexeme_at, kinds_apart}
 use Rattle.peg_lexer.proofs.Texts.{FindsToken, behind_text}
-use Rattle.peg_spelling.proofs.TokenNodes.{number_of, takes-kind, nothing_left}
+use Rattle.peg_bootstrap.proofs.TokenNodes.{number_of, takes-kind, nothing_left}
 
--- from a place up to the end of the file stand these tokens
+-- these tokens follow each other from an offset to the end of the file
 pub data Stream (file : List ℕ) : ℕ → List Lexeme → Type 0 where
   ended : {p : ℕ} → p ≡ length file → Stream file p []
   next : {p : ℕ} {more : List Lexeme} (kind : TokenKind) (piece : Piece) (lexeme : Lexeme) → text_of kind (drop p file)
       ≡ Some piece → lexeme ≡ lexeme_at kind p piece.length → Stream file (behind_text file p piece.length) more
       → Stream file p (lexeme ∷ more)
 
--- a text at a place is that of one kind alone
+-- the text at an offset is a token of one kind only
 one_kind : (rest : List ℕ) (kind other : TokenKind) (piece : Piece) → text_of kind rest ≡ Some piece
     → (other ≡ kind) ⊎ (text_of other rest ≡ None)
 one_kind [] kind other piece found = inr (nothing_left other)
@@ -65,7 +65,7 @@ none_here {file} {p} other span last =
 
 -- ---- streams of tokens
 
--- a token that the figure has at a place, by its text
+-- a token that the metagrammar has at an offset, by its text
 lexeme_text : (file : List ℕ) (p end : ℕ) (lexeme : Lexeme) → IsLexeme file p end lexeme → (piece : Piece)
     × (text_of lexeme.kind (drop p file) ≡ Some piece) × (lexeme ≡ lexeme_at lexeme.kind p piece.length)
     × (end ≡ behind_text file p piece.length)

@@ -1,4 +1,4 @@
--- What the text of a token gives, by its kind.
+-- Facts from the text of a token, by its kind.
 use Rattle.std.proofs.Common.{◌≡◌, ℕ, ◌+◌, ◌-◌, List, take, drop, length, length-drop, Option, None, Some, option_map, is_some, IsTrue}
 use Rattle.std.proofs.Common.{refl, sym, ap, ◌∙◌, subst, arith}
 use Rattle.std.proofs.lemmas.List.{drop-map, take_all}
@@ -8,7 +8,7 @@ use Rattle.peg_lexer.specs.LexicalCode.{spells_of}
 use Rattle.peg_lexer.specs.Pieces.{Piece}
 use Rattle.peg_notation.specs.Reader.{pieces_of}
 use Rattle.peg_notation.specs.ReaderCode.{IsText, lexemes}
-use Rattle.peg_figure.specs.Spelled.{part}
+use Rattle.peg_metagrammar.specs.Spelled.{part}
 use Rattle.peg_lexer.specs.Tokens.{Lexeme, lexeme_of}
 use Rattle.peg_lexer.specs.declared.token.Token.{Token}
 use Rattle.peg_lexer.specs.declared.token.TokenKind.{TokenKind}
@@ -52,7 +52,7 @@ class-pieces file lexeme e =
     ap (λ bytes. spells_of (class bytes)) (from-drop lexeme.text.start file)
     ∙ ap (λ (k : TokenKind). spells_of (text_of k (drop lexeme.text.start file))) (sym e)
 
--- a name is text
+-- a name is UTF-8
 pub name-here : (file : List ℕ) (lexeme : Lexeme) → IsText file lexeme → lexeme.kind ≡ kind.Ident
     → IsUtf8 (part file lexeme.text.start lexeme.text.end)
 name-here file lexeme is e =
@@ -68,7 +68,7 @@ name-here file lexeme is e =
         subst (λ n. IsUtf8 (take n (drop lexeme.text.start file))) size
         (name-is_text (drop lexeme.text.start file) piece found)
 
--- tokens behind so many
+-- the tokens after the first `taken` ones
 pub lexemes-behind : (tokens : List Token) (taken : ℕ)
     → lexemes (take (length tokens - taken) (drop taken tokens)) ≡ drop taken (lexemes tokens)
 lexemes-behind tokens taken =

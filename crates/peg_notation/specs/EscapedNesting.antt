@@ -1,9 +1,9 @@
--- How deep the parentheses of a tree of the figure before counts nest: as in the figure, but for the number of OPEN.
+-- The nesting depth of parentheses in a tree of the metagrammar before counts. Only the number of OPEN differs.
 use Rattle.std.specs.Prelude.{ℕ, ◌+◌, Bool, false, max, if◌then◌else◌, ◌==◌, ◌&&◌, ◌||◌}
 use Rattle.peg_tree.specs.Trees.{Trees, NoTrees, Tree}
-use Rattle.peg_figure.specs.FigureRules as figure
+use Rattle.peg_metagrammar.specs.FigureRules as figure
 
--- OPEN stood right behind PLUS, where COUNT stands now
+-- the number of OPEN, which came directly after PLUS, where COUNT is now
 abbrev pub escaped_open : ℕ
 escaped_open = figure.count
 

@@ -1,56 +1,55 @@
--- Describes code: what stands at the front of tokens, by functions that mirror the figure's rules from Grammar to
--- Primary. The private functions of the reader are described in these words; that they say what the figure says is
--- proved.
+-- Describes code: functions that read from tokens and mirror the metagrammar rules from Grammar to Primary. The
+-- contracts of the reader's private functions use them. It is proved that they agree with the metagrammar.
 use Rattle.std.specs.Prelude.{ℕ, zero, suc, max, ◌+◌, ◌-◌, Bool, true, false, not, ◌&&◌, List, [], ◌∷◌, length, drop, Option}
 use Rattle.std.specs.Prelude.{None, Some}
 use Rattle.std.specs.Prelude.{Result, Ok, Err, option_map, unwrap_or, if◌then◌else◌}
 use Rattle.peg_bytes.specs.Extent.{Extent, between}
-use Rattle.peg_ford.specs.Form as form
-use Rattle.peg_ford.specs.Form.{Form}
-use Rattle.peg_ford.specs.Rules.{Rule}
+use Rattle.peg_semantics.specs.Form as form
+use Rattle.peg_semantics.specs.Form.{Form}
+use Rattle.peg_semantics.specs.Rules.{Rule}
 use Rattle.peg_lexer.specs.Lexical.{text_of}
 use Rattle.peg_lexer.specs.Pieces.{Piece}
-use Rattle.peg_figure.specs.Ranges.{class_of}
-use Rattle.peg_figure.specs.Spelled.{Spelling, Bounds, bytes_in, ranges_in, numerals_in, part, sequence_spelled}
-use Rattle.peg_figure.specs.Spelled.{choice_spelled, bounds_spelled, bounds_in_range, counted}
+use Rattle.peg_metagrammar.specs.Ranges.{class_of}
+use Rattle.peg_metagrammar.specs.Spelled.{Spelling, Bounds, bytes_in, ranges_in, numerals_in, part, sequence_spelled}
+use Rattle.peg_metagrammar.specs.Spelled.{choice_spelled, bounds_spelled, bounds_in_range, counted}
 use Rattle.peg_lexer.specs.Tokens.{Lexeme}
 use Rattle.peg_lexer.specs.declared.token.TokenKind.{TokenKind}
 use Rattle.peg_lexer.specs.declared.token.TokenKind.TheVariants.{Ident, Literal, Class, Arrow, Slash, And, Not}
 use Rattle.peg_lexer.specs.declared.token.TokenKind.TheVariants.{Question, Star, Plus, Count, Open, Close, Dot}
 
--- why reading stops: at a place no file goes on so, or a parenthesis is one too many, or a count is out of range
+-- why reading stops: an unexpected token, a parenthesis too many, or a count out of range
 pub data Halt : Type 0 where
   Unexpected : (at : ℕ) → Halt
   TooDeep : (at : ℕ) → Halt
   BadCountAt : (at : ℕ) → Halt
 
--- an expression that was read, how many tokens it has, where the text of the last token before what is next ends, and
--- how deep its parentheses nest
+-- An expression that was read, the number of its tokens, the offset where the text of the last token ends, and the
+-- nesting depth of its parentheses.
 pub record FormRead : Type 0 where
   pub form : Form
   pub taken : ℕ
   pub last : ℕ
   pub depth : ℕ
 
--- expressions that were read, in order
+-- several expressions that were read, in order
 pub record FormsRead : Type 0 where
   pub forms : List Form
   pub taken : ℕ
   pub last : ℕ
   pub depth : ℕ
 
--- a way to read an expression, given where the text of the token before it ends
+-- a function that reads an expression, from the offset where the text of the token before it ends
 abbrev pub Reading : Type 0
 Reading = (before : ℕ) → List Lexeme → Result FormRead Halt
 
 -- ---- tokens
 
--- where tokens begin in a file of this length
+-- the offset where the first of these tokens starts, or the length of the file if there is none
 abbrev pub place_of : (size : ℕ) → List Lexeme → ℕ
 place_of size [] = size
 place_of size (lexeme ∷ lexemes) = lexeme.text.start
 
--- whether a token of this kind is next
+-- whether a token is an arrow; and whether the next one is
 abbrev pub is_arrow : TokenKind → Bool
 is_arrow Arrow = true
 is_arrow _ = false
@@ -59,7 +58,7 @@ abbrev pub starts_with_arrow : List Lexeme → Bool
 starts_with_arrow [] = false
 starts_with_arrow (lexeme ∷ lexemes) = is_arrow lexeme.kind
 
--- whether a token begins an expression with or without a sign, where a name isn't followed by an arrow
+-- whether a token begins a prefix, where a name must not be followed by an arrow
 abbrev pub kind_begins : TokenKind → (arrow_next : Bool) → Bool
 kind_begins Ident true = false
 kind_begins Ident false = true
@@ -75,16 +74,16 @@ abbrev pub begins_prefix : List Lexeme → Bool
 begins_prefix [] = false
 begins_prefix (lexeme ∷ lexemes) = kind_begins lexeme.kind (starts_with_arrow lexemes)
 
--- the pieces that a token's text spells
+-- the pieces that a token's text denotes
 abbrev pub pieces_of : List ℕ → Lexeme → List Spelling
 pieces_of file lexeme =
     unwrap_or (option_map (λ (piece : Piece). piece.spells) (text_of lexeme.kind (drop lexeme.text.start file))) []
 
--- the bounds that a count's text spells
+-- the bounds that a count's text denotes
 abbrev pub bounds_of : List ℕ → Lexeme → Bounds
 bounds_of file lexeme = bounds_spelled (numerals_in (pieces_of file lexeme))
 
--- whether a token is a count that is out of range
+-- whether a token is a count; and whether it is a count that is out of range
 abbrev pub is_count : TokenKind → Bool
 is_count Count = true
 is_count _ = false
@@ -92,9 +91,9 @@ is_count _ = false
 abbrev pub is_bad_count : List ℕ → Lexeme → Bool
 is_bad_count file lexeme = is_count lexeme.kind && not (bounds_in_range (bounds_of file lexeme))
 
--- ---- how readings go on
+-- ---- sequencing
 
--- with what is read, or stop
+-- continue with what was read, or stop
 abbrev pub and_read : {X Y : Type 0} → Result X Halt → (X → Result Y Halt) → Result Y Halt
 and_read (Ok x) next = next x
 and_read (Err halt) next = Err halt
@@ -103,13 +102,13 @@ and_read (Err halt) next = Err halt
 abbrev pub one_token : Form → Lexeme → Result FormRead Halt
 one_token value lexeme = Ok (record { form = value; taken = 1; last = lexeme.text.end; depth = 0 })
 
--- an expression behind so many tokens
+-- an expression after `taken` other tokens
 abbrev pub behind : (taken : ℕ) → FormRead → FormRead
 behind taken part = record part { taken = taken + part.taken }
 
 -- ---- Primary
 
--- A parenthesis that closes; where a name stands in its place, the arrow behind that is what can't stand there.
+-- A closing parenthesis. If there is a name instead, the token after it is the unexpected one.
 abbrev pub close_of : (size : ℕ) → FormRead → Lexeme → List Lexeme → TokenKind → Result FormRead Halt
 close_of size inside lexeme more Close =
     Ok (record { form = inside.form; taken = inside.taken + 2; last = lexeme.text.end; depth = inside.depth + 1 })
@@ -120,7 +119,7 @@ abbrev pub closed : (size : ℕ) → FormRead → List Lexeme → Result FormRea
 closed size inside [] = Err (Unexpected size)
 closed size inside (lexeme ∷ more) = close_of size inside lexeme more lexeme.kind
 
--- what stands inside parentheses, if there may be more of them
+-- an expression in parentheses, if one more may be open
 abbrev pub parenthesized : Option Reading → (size : ℕ) → Lexeme → List Lexeme → Result FormRead Halt
 parenthesized None size opening rest = Err (TooDeep opening.text.start)
 parenthesized (Some inner) size opening rest =
@@ -166,7 +165,7 @@ with_suffix start part lexeme (Some sign) =
       depth = part.depth;
     }
 
--- an expression with the token behind it, unless that is a count out of range
+-- an expression with the operator or count after it, unless that is a count out of range
 abbrev pub with_token : List ℕ → (start : ℕ) → FormRead → Lexeme → Result FormRead Halt
 with_token file start part lexeme =
     if is_bad_count file lexeme then Err (BadCountAt lexeme.text.start) else Ok
@@ -208,7 +207,7 @@ prefix file inner (lexeme ∷ rest) = prefix_of file inner lexeme rest (prefix_s
 
 -- ---- Sequence and Expression
 
--- no more expressions
+-- an empty list of expressions
 abbrev pub no_more : (last : ℕ) → FormsRead
 no_more last = record { forms = []; taken = 0; last = last; depth = 0 }
 
@@ -222,7 +221,7 @@ and_form part parts =
       depth = max part.depth parts.depth;
     }
 
--- readings, one behind the other, as long as one begins, behind so many tokens
+-- expressions one after the other while the next one can begin, after `skipped` more tokens of the expression before
 unfoldable pub many_behind : (List Lexeme → Bool) → Reading → (before : ℕ) → List Lexeme → (skipped : ℕ)
     → Result FormsRead Halt
 many_behind begins read before [] skipped = Ok (no_more before)
@@ -258,7 +257,7 @@ abbrev pub starts_with_slash : List Lexeme → Bool
 starts_with_slash [] = false
 starts_with_slash (lexeme ∷ lexemes) = is_slash lexeme.kind
 
--- a slash, and the sequence behind it
+-- a slash and the sequence after it
 unfoldable pub alternative : List ℕ → Option Reading → Reading
 alternative file inner before [] = Err (Unexpected (length file))
 alternative file inner before (slash ∷ rest) =
@@ -281,14 +280,14 @@ expression file inner before lexemes =
     (many starts_with_slash (alternative file inner) first.last (drop first.taken lexemes))
     (λ (more : FormsRead). Ok (whole_choice (place_of (length file) lexemes) first more)))
 
--- an expression in which so many parentheses may be open at once
+-- an expression in which at most this number of parentheses may be open at once
 unfoldable pub expression_in : List ℕ → ℕ → Reading
 expression_in file zero = expression file None
 expression_in file (suc n) = expression file (Some (expression_in file n))
 
 -- ---- Definition and Grammar
 
--- a rule that was read, and how many tokens it has
+-- a rule that was read, the number of its tokens, and the nesting depth of its parentheses
 pub record RuleRead : Type 0 where
   pub rule : Rule
   pub taken : ℕ
@@ -314,7 +313,7 @@ rule_of file name part_read =
       depth = part_read.depth;
     }
 
--- an arrow and an expression behind a name
+-- an arrow and an expression after a name
 abbrev pub definition_behind : List ℕ → (most : ℕ) → Lexeme → List Lexeme → Bool → Result RuleRead Halt
 definition_behind file most name [] arrow_next = Err (Unexpected (length file))
 definition_behind file most name (arrow ∷ rest) false = Err (Unexpected arrow.text.start)
@@ -329,7 +328,7 @@ unfoldable pub definition : List ℕ → (most : ℕ) → List Lexeme → Result
 definition file most [] = Err (Unexpected (length file))
 definition file most (lexeme ∷ rest) = definition_of file most lexeme rest lexeme.kind
 
--- definitions, one behind the other, up to the end, behind so many tokens
+-- definitions one after the other up to the end, after `skipped` more tokens of the definition before
 unfoldable pub definitions_behind : List ℕ → (most : ℕ) → List Lexeme → (skipped : ℕ) → Result RulesRead Halt
 definitions_behind file most [] skipped = Ok (record { rules = []; depth = 0 })
 definitions_behind file most (lexeme ∷ rest) zero =
@@ -337,7 +336,7 @@ definitions_behind file most (lexeme ∷ rest) zero =
     (definitions_behind file most rest (first.taken - 1)) (λ (more : RulesRead). Ok (and_rules first more)))
 definitions_behind file most (lexeme ∷ rest) (suc skipped) = definitions_behind file most rest skipped
 
--- one definition at least
+-- at least one definition
 unfoldable pub grammar : List ℕ → (most : ℕ) → List Lexeme → Result RulesRead Halt
 grammar file most [] = Err (Unexpected (length file))
 grammar file most (lexeme ∷ rest) = definitions_behind file most (lexeme ∷ rest) 0

@@ -1,9 +1,9 @@
--- Describes code: what is seen of what the reader's functions take and give.
+-- Describes code: the models of the arguments and results of the reader's functions.
 use Rattle.std.specs.Prelude.{◌≡◌, ℕ, zero, suc, ◌+◌, ◌≤◌, max, true, false, List, [], ◌∷◌, ◌++◌, map, length, drop, Option, None}
 use Rattle.std.specs.Prelude.{Some, option_map, Result, Ok, Err}
 use Rattle.peg_grammar.specs.Written.{form_of, rule_of, rules_of}
-use Rattle.peg_figure.specs.Spelled.{bounds_in_range, counted}
-use Rattle.peg_ford.specs.Form.{Form}
+use Rattle.peg_metagrammar.specs.Spelled.{bounds_in_range, counted}
+use Rattle.peg_semantics.specs.Form.{Form}
 use Rattle.peg_bytes.specs.Extent.{Extent}
 use Rattle.peg_grammar.specs.declared.expr.Expr.{Expr}
 use Rattle.peg_lexer.specs.Lexical.{text_of}
@@ -21,27 +21,27 @@ use Rattle.peg_notation.specs.declared.rules.ReadRules.{ReadRules}
 use Rattle.peg_lexer.specs.declared.counts.Bounds as code
 use Rattle.peg_lexer.specs.declared.token.Token.{Token}
 
--- what tokens stand for
+-- the lexemes that tokens denote
 abbrev pub lexemes : List Token → List Lexeme
 lexemes tokens = map lexeme_of tokens
 
--- the text of a token stands where it says
+-- the text of a token is at its span
 abbrev pub IsText : List ℕ → Lexeme → Type 0
 IsText file lexeme =
     option_map (λ (piece : Piece). lexeme.text.start + piece.length) (text_of lexeme.kind (drop lexeme.text.start file))
     ≡ Some lexeme.text.end
 
--- behind a place, tokens stand one behind the other
+-- the tokens follow each other from an offset on
 abbrev pub AreTexts : List ℕ → (from : ℕ) → List Lexeme → Type 0
 AreTexts file from [] = from ≤ length file
 AreTexts file from (lexeme ∷ more) =
     (from ≤ lexeme.text.start) × IsText file lexeme × AreTexts file lexeme.text.end more
 
--- what is seen of an expression that was read
+-- the model of an expression that was read
 abbrev pub form_seen : ReadExpr → FormRead
 form_seen read = record { form = form_of read.expression; taken = read.taken; last = read.last; depth = read.depth }
 
--- what is seen of expressions that were read
+-- the model of several expressions that were read
 abbrev pub forms_seen : ReadExprs → FormsRead
 forms_seen read =
     record {
@@ -51,7 +51,7 @@ forms_seen read =
       depth = read.depth;
     }
 
--- expressions with one more behind them
+-- expressions with one more appended
 abbrev pub with_form : FormsRead → FormRead → FormsRead
 with_form read next =
     record {
@@ -61,20 +61,20 @@ with_form read next =
       depth = max read.depth next.depth;
     }
 
--- what is seen of a rule that was read
+-- the model of a rule that was read
 abbrev pub rule_seen : ReadRule → RuleRead
 rule_seen read = record { rule = rule_of read.definition; taken = read.taken; depth = read.depth }
 
--- what is seen of the rules that were read
+-- the model of the rules that were read
 abbrev pub rules_seen : ReadRules → RulesRead
 rules_seen read = record { rules = rules_of read.definitions.items; depth = read.depth }
 
--- how an expression in parentheses is read, where so many may still be opened
+-- how an expression in parentheses is read, if at most `left` more may be opened
 abbrev pub inner_of : List ℕ → (left : ℕ) → Option Reading
 inner_of file zero = None
 inner_of file (suc n) = Some (expression_in file n)
 
--- a fault is why reading stops, but for want of memory
+-- a fault is the reason why reading stops, unless an allocation failed
 abbrev pub ConveysHalt : {X : Type 0} → Result X Halt → NotationFault → Type 0
 ConveysHalt read FileTooLong = ⊥
 ConveysHalt read (Syntax at) = read ≡ Err (Unexpected at)
@@ -82,19 +82,19 @@ ConveysHalt read (TooNested at) = read ≡ Err (TooDeep at)
 ConveysHalt read (BadCount at) = read ≡ Err (BadCountAt at)
 ConveysHalt read Memory = Unit {0}
 
--- what is seen of an answer is what was read, but for want of memory
+-- the model of a result is what was read, unless an allocation failed
 abbrev pub Conveys : {X Y : Type 0} → (seen : Y → X) → Result X Halt → Result Y NotationFault → Type 0
 Conveys seen read (Ok y) = read ≡ Ok (seen y)
 Conveys seen read (Err fault) = ConveysHalt read fault
 
--- the bounds of a count that is in range, or the fault that it isn't
+-- the bounds of a count in range, or the fault that it is out of range
 abbrev pub IsBounded : List ℕ → (count : Lexeme) → Result code.Bounds NotationFault → Type 0
 IsBounded file count (Ok found) =
     (bounds_in_range (bounds_of file count) ≡ true) × (lexical.bounds_of found ≡ bounds_of file count)
 IsBounded file count (Err fault) =
     (bounds_in_range (bounds_of file count) ≡ false) × (fault ≡ BadCount count.text.start)
 
--- An expression as often as a count says that is in range, or the fault that it isn't; want of memory says nothing.
+-- An expression with a count in range, or the fault that the count is out of range. Out of memory says nothing.
 abbrev pub IsCounted : List ℕ → (count : Lexeme) → (part : Form) → (span : Extent) → Result Expr NotationFault → Type 0
 IsCounted file count part span (Ok whole) =
     (bounds_in_range (bounds_of file count) ≡ true) × (form_of whole ≡ counted (bounds_of file count) part span)

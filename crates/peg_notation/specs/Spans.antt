@@ -1,21 +1,21 @@
--- Where what was read lies: every span in the file, and every place of a refusal.
+-- The spans of what was read, and the offsets of faults, lie in the file.
 use Rattle.std.specs.Prelude.{ℕ, ◌≤◌, All, Result, Ok, Err}
 use Rattle.std.specs.declared.alloc.Global.{Global}
 use Rattle.std.specs.declared.vec.Vec.{Vec}
 use Rattle.peg_bytes.specs.Extent.{Extent}
-use Rattle.peg_ford.specs.Form.{Form, Forms, Literal, Class, Any, Name, Seq, Choice, Optional, Star, Plus, Counted}
-use Rattle.peg_ford.specs.Form.{And, Not, End, Then}
-use Rattle.peg_ford.specs.Rules.{Rule}
+use Rattle.peg_semantics.specs.Form.{Form, Forms, Literal, Class, Any, Name, Seq, Choice, Optional, Star, Plus, Counted}
+use Rattle.peg_semantics.specs.Form.{And, Not, End, Then}
+use Rattle.peg_semantics.specs.Rules.{Rule}
 use Rattle.peg_grammar.specs.Written.{rules_of}
 use Rattle.peg_grammar.specs.declared.expr.Definition.{Definition}
 use Rattle.peg_notation.specs.declared.fault.NotationFault.{NotationFault}
 use Rattle.peg_notation.specs.declared.fault.NotationFault.TheVariants.{FileTooLong, Syntax, TooNested, BadCount, Memory}
 
--- a part of a file of this length
+-- a span in a file of length `size`
 abbrev pub LiesIn : (size : ℕ) → Extent → Type 0
 LiesIn size span = (span.start ≤ span.end) × (span.end ≤ size)
 
--- the spans of an expression and of all its parts lie in a file of this length
+-- the spans of an expression and of all its parts lie in a file of length `size`
 abbrev mutual
   pub FormLiesIn : (size : ℕ) → Form → Type 0
   FormLiesIn size (Literal bytes span) = LiesIn size span
@@ -35,11 +35,11 @@ abbrev mutual
   FormsLieIn size End = Unit {0}
   FormsLieIn size (Then first rest) = FormLiesIn size first × FormsLieIn size rest
 
--- the spans of a rule's name and of its expression lie in a file of this length
+-- the spans of a rule's name and of its expression lie in a file of length `size`
 abbrev pub RuleLiesIn : (size : ℕ) → Rule → Type 0
 RuleLiesIn size rule = LiesIn size rule.span × FormLiesIn size rule.body
 
--- the definitions, or the place of a refusal, lie in a file of this length
+-- the spans of the definitions, or the offset of a fault, lie in a file of length `size`
 abbrev pub AnswerLiesIn : (size : ℕ) → Result (Vec Definition Global) NotationFault → Type 0
 AnswerLiesIn size (Ok definitions) = All (RuleLiesIn size) (rules_of definitions.items)
 AnswerLiesIn size (Err FileTooLong) = Unit {0}

@@ -1,4 +1,4 @@
-//! Expressions that were read, and what becomes of several in a row.
+//! Expressions that were read, and how several become a sequence or a choice.
 ghost use Rattle.std.specs.Prelude.{◌≡◌, ◌≤◌, ◌+◌, ◌<◌, ◌^◌, max, length, IfOk, OnOk};
 ghost use Rattle.peg_bytes.specs.Extent.{extent, between};
 ghost use Rattle.peg_grammar.specs.Written.{form_of};
@@ -13,15 +13,15 @@ use std::alloc::{AllocError, Global};
 #[derive(Debug, Drop)]
 pub(crate) struct ReadExpr {
     pub(crate) expression: Expr,
-    /// How many tokens it has.
+    /// The number of its tokens.
     pub(crate) taken: usize,
-    /// Where the text of its last token ends; without tokens, that of the token before it.
+    /// The offset where the text of its last token ends. Without tokens, it is the end of the token before it.
     pub(crate) last: u32,
-    /// How deep its parentheses nest.
+    /// The nesting depth of its parentheses.
     pub(crate) depth: usize,
 }
 
-/// Expressions that were read, one behind the other.
+/// Several expressions that were read one after the other.
 #[derive(Debug, Drop)]
 pub(crate) struct ReadExprs {
     pub(crate) expressions: Vec<Expr>,
@@ -31,7 +31,7 @@ pub(crate) struct ReadExprs {
 }
 
 impl ReadExprs {
-    /// No expressions, behind a token whose text ends at a place.
+    /// Returns an empty list, after a token whose text ends at `last`.
     pub(crate) fn none(alloc: Global, last: u32) -> ReadExprs
         ensures { forms_seen result ≡ no_more last }
     {
@@ -43,7 +43,7 @@ impl ReadExprs {
         }
     }
 
-    /// Adds one behind them.
+    /// Appends an expression. The only error is a failed allocation.
     pub(crate) fn add(&mut self, part: ReadExpr) -> Result<(), AllocError>
         requires { self.old.taken + part.taken < 2 ^ 64 }
         ensures { OnOk result (forms_seen self.new ≡ with_form (forms_seen self.old) (form_seen part)) }
@@ -55,7 +55,8 @@ impl ReadExprs {
         Ok(())
     }
 
-    /// A sequence: one expression is itself; none stand where the token before them ends.
+    /// Returns the sequence of these expressions, from the offset `start`. A single expression is itself. An empty
+    /// sequence is at the end of the token before it.
     pub(crate) fn into_sequence(self, before: u32, start: u32) -> ReadExpr
         requires { 1 < length self.expressions.items → start ≤ self.last }
         ensures { form_seen result ≡ whole_sequence before start (forms_seen self) }
@@ -88,7 +89,8 @@ impl ReadExprs {
         }
     }
 
-    /// A choice of a first expression and these; without these, that one alone.
+    /// Returns the choice of a first expression and these, from the offset `start`. Without these it is the first one
+    /// alone. The only error is a failed allocation.
     pub(crate) fn into_choice(
         self,
         alloc: Global,

@@ -1,26 +1,26 @@
-//! Why a grammar file isn't read.
+//! Why a grammar file can't be read.
 use peg_lexer::LexFault;
 use std::alloc::{AllocError, AllocFailed};
 use thiserror::Error;
 
-/// Why a grammar file isn't read.
+/// Why a grammar file can't be read. All positions are byte offsets from 0.
 #[derive(Clone, Copy, Debug, PartialEq, Eq, Error)]
 pub enum NotationFault {
-    /// It has more than `MOST_FILE_BYTES` bytes.
+    /// The file has more than `MAX_FILE_BYTES` bytes.
     #[error("the grammar file is too long")]
     FileTooLong,
-    /// It isn't in the notation: no file that the figure matches begins with the tokens up to the one at this place, in
-    /// bytes from 0, or no token begins there.
+    /// The file isn't in the notation. Either no token starts at this offset, or no file of the notation begins with
+    /// the tokens up to the one at this offset. The offset is the file's length if the file ends too early.
     #[error("the grammar file isn't in the notation, at byte {at}")]
     Syntax { at: u32 },
-    /// The parenthesis at this place, in bytes from 0, is the first that opens where `MOST_OPEN` are open.
+    /// The parenthesis at this offset is the first that opens while `MAX_OPEN` are open.
     #[error("one parenthesis too many opens at byte {at} of the grammar file")]
     TooNested { at: u32 },
-    /// The count at this place, in bytes from 0, stands as a suffix and is out of range: it has more at least than at
-    /// most, or not from 1 to 255 at most.
+    /// The count at this offset is used as a suffix and is out of range. Its minimum is greater than its maximum, or
+    /// its maximum is not from 1 to 255.
     #[error("the count at byte {at} of the grammar file is out of range")]
     BadCount { at: u32 },
-    /// Memory ran out.
+    /// An allocation failed.
     #[error("out of memory")]
     Memory,
 }

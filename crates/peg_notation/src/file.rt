@@ -1,4 +1,4 @@
-//! Reading a grammar file.
+//! Reads a grammar file.
 ghost use Rattle.std.specs.Prelude.{length};
 ghost use Rattle.peg_notation.specs.Reads.{Reads};
 ghost use Rattle.peg_notation.specs.Spans.{AnswerLiesIn};
@@ -9,10 +9,15 @@ use peg_grammar::Definition;
 use peg_lexer::lex;
 use std::alloc::Global;
 
-/// The definitions of a grammar file, in order (Ford 2004, section 2.1): `FileTooLong` for over `MOST_FILE_BYTES`
-/// bytes; `Syntax` where no token begins; then, whichever comes first, `Syntax` at the first token with which no file
-/// that the figure matches goes on so, `TooNested` at the parenthesis that is one more than `MOST_OPEN`, or `BadCount` at
-/// a count behind an expression that is out of range; `Memory`. Linear time.
+/// Reads the definitions of a grammar file, in order (Ford 2004, section 2.1). Takes linear time.
+///
+/// The error is `FileTooLong` for more than `MAX_FILE_BYTES` bytes, and `Syntax` where no token starts. Once the file
+/// is tokenized, the error is the first of three in file order. `Syntax` is at the first token that can't follow those
+/// before it in any file of the notation. `TooNested` is at a parenthesis that opens while `MAX_OPEN` are open.
+/// `BadCount` is at a count after an expression that is out of range. The error is `Memory` if an allocation fails.
+///
+/// The contract says of `Syntax` that the file isn't in the notation. The offset is that of a lexing error or a token,
+/// or the file's length.
 pub fn read(alloc: Global, file: &[u8]) -> Result<Vec<Definition>, NotationFault>
     ensures reads { Reads file.now result }
     ensures inside { AnswerLiesIn (length file.now) result }

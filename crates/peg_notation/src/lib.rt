@@ -1,4 +1,4 @@
-//! The notation of grammar files: reads a file of it, by its tokens, as Ford's figure 1 says.
+//! Reads grammar files from their tokens, by the metagrammar: Ford's figure 1 with the extensions.
 #![tactic(auto)]
 
 mod expressions;
@@ -10,6 +10,6 @@ mod rules;
 
 pub use fault::NotationFault;
 pub use file::read;
-pub use peg_figure::{figure, figure_text};
-pub use peg_lexer::{Bounds, LexFault, MOST_FILE_BYTES, Token, TokenKind, count_bounds, lex};
-pub use peg_spelling::{DefinitionsFault, MOST_OPEN, definitions_of};
+pub use peg_bootstrap::{DefinitionsFault, MAX_OPEN, definitions_of};
+pub use peg_lexer::{Bounds, LexFault, MAX_FILE_BYTES, Token, TokenKind, count_bounds, lex};
+pub use peg_metagrammar::{figure, figure_text};

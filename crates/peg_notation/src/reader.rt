@@ -1,12 +1,12 @@
-//! Expressions over tokens: one function for each rule of the figure from Expression to Primary.
+//! Reads expressions from tokens, with one function for each metagrammar rule from Expression to Primary.
 ghost use Rattle.std.specs.Prelude.{◌≡◌, ℕ, ◌+◌, ◌-◌, ◌<◌, ◌≤◌, ◌^◌, length, drop, IfOk, Ok};
 ghost use Rattle.std.specs.Str.{IsUtf8};
 ghost use Rattle.peg_bytes.specs.ByteSet.{bytes_of};
 ghost use Rattle.peg_bytes.specs.Extent.{extent};
-ghost use Rattle.peg_ford.specs.Form.{And, Not, Name, Literal, Class, Any};
+ghost use Rattle.peg_semantics.specs.Form.{And, Not, Name, Literal, Class, Any};
 ghost use Rattle.peg_grammar.specs.Written.{form_of};
-ghost use Rattle.peg_figure.specs.Notation.{most_file_bytes};
-ghost use Rattle.peg_figure.specs.Ranges.{class_of};
+ghost use Rattle.peg_metagrammar.specs.Notation.{max_file_bytes};
+ghost use Rattle.peg_metagrammar.specs.Ranges.{class_of};
 ghost use Rattle.peg_notation.specs.Reader.{starts_with_arrow, starts_with_slash, begins_prefix, place_of, pieces_of};
 ghost use Rattle.peg_notation.specs.Reader.{one_token, closed, parenthesized, named, primary, with_token};
 ghost use Rattle.peg_notation.specs.Reader.{then_suffix, suffix, with_prefix, prefix, sequence, alternative};
@@ -14,7 +14,7 @@ ghost use Rattle.peg_notation.specs.Reader.{expression};
 ghost use Rattle.peg_notation.specs.ReaderCode.{lexemes, IsText, AreTexts, form_seen, inner_of, Conveys, IsCounted};
 ghost use Rattle.peg_notation.specs.ReaderCode.{IsBounded};
 ghost use Rattle.peg_notation.specs.Spans.{LiesIn};
-ghost use Rattle.peg_figure.specs.Spelled.{bytes_in, ranges_in};
+ghost use Rattle.peg_metagrammar.specs.Spelled.{bytes_in, ranges_in};
 ghost use Rattle.peg_lexer.specs.Tokens.{lexeme_of};
 
 use crate::expressions::{ReadExpr, ReadExprs};
@@ -24,15 +24,15 @@ use peg_grammar::Expr;
 use peg_lexer::{Bounds, Token, TokenKind, class_bytes, count_bounds, literal_bytes, name_text};
 use std::alloc::{AllocError, Global};
 
-/// What is read: a file, whose tokens are given call by call.
+/// A reader of a file. Each call gets the tokens that are left.
 #[derive(Clone, Copy, Debug)]
 pub(crate) struct Reader<'a> {
     pub(crate) alloc: Global,
     pub(crate) file: &'a [u8],
-    ghost small: { length file.now ≤ most_file_bytes },
+    ghost small: { length file.now ≤ max_file_bytes },
 }
 
-/// The tokens behind so many.
+/// Returns the tokens after the first `taken` ones.
 pub(crate) fn behind(tokens: &[Token], taken: usize) -> &[Token]
     requires { taken ≤ length tokens.now }
     ensures tokens { lexemes result.now ≡ drop taken (lexemes tokens.now) }
@@ -41,7 +41,7 @@ pub(crate) fn behind(tokens: &[Token], taken: usize) -> &[Token]
     &tokens[taken..]
 }
 
-/// Whether an arrow is next.
+/// Returns whether the next token is an arrow.
 pub(crate) fn starts_with_arrow(tokens: &[Token]) -> bool
     ensures { result ≡ starts_with_arrow (lexemes tokens.now) }
 {
@@ -51,7 +51,6 @@ pub(crate) fn starts_with_arrow(tokens: &[Token]) -> bool
     }
 }
 
-// Whether a slash is next.
 fn starts_with_slash(tokens: &[Token]) -> bool
     ensures { result ≡ starts_with_slash (lexemes tokens.now) }
 {
@@ -61,7 +60,7 @@ fn starts_with_slash(tokens: &[Token]) -> bool
     }
 }
 
-// Whether an expression with or without a sign begins: a name, unless it is that of the next definition.
+// Whether a prefix begins here. A name does, unless it is the name of the next definition.
 fn begins_prefix(tokens: &[Token]) -> bool
     ensures { result ≡ begins_prefix (lexemes tokens.now) }
 {
@@ -83,7 +82,7 @@ fn begins_prefix(tokens: &[Token]) -> bool
 impl<'a> Reader<'a> {
     ghost use Rattle.peg_notation.specs.ReaderFile.{file_of};
 
-    /// Where the next token starts; where there is none, the file's length.
+    /// Returns the byte offset where the next token starts, or the file's length if there is none.
     pub(crate) fn place_of(&self, tokens: &[Token]) -> u32
         ensures { result ≡ place_of (length (file_of self.now)) (lexemes tokens.now) }
     {
@@ -93,7 +92,7 @@ impl<'a> Reader<'a> {
         }
     }
 
-    /// The fault that the next token can't stand there.
+    /// Returns the `Syntax` error at the next token.
     pub(crate) fn unexpected(&self, tokens: &[Token]) -> NotationFault
         ensures { result ≡ NotationFault.Syntax (place_of (length (file_of self.now)) (lexemes tokens.now)) }
     {
@@ -102,8 +101,9 @@ impl<'a> Reader<'a> {
         }
     }
 
-    /// Sequences with slashes between them, where so many parentheses may be opened; `before` is where the text of the
-    /// token before them ends.
+    /// Reads an Expression: sequences separated by slashes. At most `left` parentheses may be open in it, and `before`
+    /// is the offset where the text of the token before it ends. The errors are those of the file, without
+    /// `FileTooLong`.
     #[cycle(reader)]
     #[tactic(auto, using(crate::proofs::ReaderSteps::faults))]
     pub(crate) fn expression(
@@ -128,7 +128,7 @@ impl<'a> Reader<'a> {
         Ok(more.into_choice(self.alloc, self.place_of(tokens), first)?)
     }
 
-    // A slash, and the sequence behind it.
+    // A slash and the sequence after it.
     #[cycle(reader)]
     #[tactic(auto, using(crate::proofs::ReaderSteps::faults), unfolding(crate::specs::Reader::alternative))]
     fn alternative(&self, tokens: &[Token], left: usize) -> Result<ReadExpr, NotationFault>
@@ -151,7 +151,7 @@ impl<'a> Reader<'a> {
         }
     }
 
-    // Expressions with or without signs, one behind the other.
+    // Sequence: prefixes one after the other.
     #[cycle(reader)]
     #[tactic(auto, using(crate::proofs::ReaderSteps::faults), unfolding(crate::specs::Reader::sequence))]
     fn sequence(
@@ -174,7 +174,7 @@ impl<'a> Reader<'a> {
         Ok(items.into_sequence(before, self.place_of(tokens)))
     }
 
-    // An expression with a suffix, or a predicate of one.
+    // Prefix: a suffix, or a predicate of one.
     #[cycle(reader)]
     #[tactic(auto, using(crate::proofs::ReaderSteps::faults), unfolding(crate::specs::Reader::prefix))]
     fn prefix(&self, tokens: &[Token], left: usize) -> Result<ReadExpr, NotationFault>
@@ -198,7 +198,6 @@ impl<'a> Reader<'a> {
         }
     }
 
-    // The predicate `&` of an expression.
     fn and(&self, sign: Token, part: ReadExpr) -> Result<ReadExpr, AllocError>
         requires few { part.taken < 2 ^ 63 }
         requires order { sign.span.start ≤ part.last }
@@ -216,7 +215,6 @@ impl<'a> Reader<'a> {
         })
     }
 
-    // The predicate `!` of an expression.
     fn not(&self, sign: Token, part: ReadExpr) -> Result<ReadExpr, AllocError>
         requires few { part.taken < 2 ^ 63 }
         requires order { sign.span.start ≤ part.last }
@@ -234,7 +232,7 @@ impl<'a> Reader<'a> {
         })
     }
 
-    // An expression, with the sign or the count behind it if there is one.
+    // Suffix: a primary with an optional operator or count.
     #[cycle(reader)]
     #[tactic(auto, using(crate::proofs::ReaderSteps::faults), unfolding(crate::specs::Reader::suffix))]
     fn suffix(&self, tokens: &[Token], left: usize) -> Result<ReadExpr, NotationFault>
@@ -250,7 +248,7 @@ impl<'a> Reader<'a> {
         self.then_suffix(start, behind(tokens, part.taken), part)
     }
 
-    // An expression with the sign or the count that is next, if one is; `start` is where it starts.
+    // Adds the operator or count that is next, if there is one. `start` is the offset where the expression starts.
     fn then_suffix(
         &self,
         start: u32,
@@ -272,7 +270,7 @@ impl<'a> Reader<'a> {
         }
     }
 
-    // An expression with this token behind it, if it is a sign or a count.
+    // Adds this token if it is an operator or a count.
     fn with_suffix(
         &self,
         start: u32,
@@ -327,7 +325,7 @@ impl<'a> Reader<'a> {
         })
     }
 
-    // An expression as often as the count behind it says.
+    // An expression with a count.
     fn counted(&self, count: Token, part: Expr, span: Span) -> Result<Expr, NotationFault>
         requires inside { LiesIn (length (file_of self.now)) (extent count.span) }
         requires count { count.kind ≡ TokenKind.Count }
@@ -342,7 +340,7 @@ impl<'a> Reader<'a> {
         })
     }
 
-    // The bounds of a count, if they are in range.
+    // The bounds of a count, which must be in range.
     fn bounds(&self, count: Token) -> Result<Bounds, NotationFault>
         requires inside { LiesIn (length (file_of self.now)) (extent count.span) }
         requires count { count.kind ≡ TokenKind.Count }
@@ -355,7 +353,7 @@ impl<'a> Reader<'a> {
         }
     }
 
-    // A name, a literal, a class or a dot, or an expression in parentheses.
+    // Primary: a name, a literal, a class, a dot, or an expression in parentheses.
     #[cycle(reader)]
     #[tactic(auto, using(crate::proofs::ReaderSteps::faults), unfolding(crate::specs::Reader::primary))]
     fn primary(&self, tokens: &[Token], left: usize) -> Result<ReadExpr, NotationFault>
@@ -379,7 +377,7 @@ impl<'a> Reader<'a> {
         }
     }
 
-    // A name that isn't that of the next definition.
+    // A name that isn't the name of the next definition.
     fn name(&self, token: Token, rest: &[Token]) -> Result<ReadExpr, NotationFault>
         requires text { IsText (file_of self.now) (lexeme_of token) }
         requires inside { LiesIn (length (file_of self.now)) (extent token.span) }
@@ -397,7 +395,7 @@ impl<'a> Reader<'a> {
         Ok(one_token(Expr::Name { name, span }, token))
     }
 
-    // The bytes that a literal spells.
+    // The bytes that a literal denotes.
     fn literal(&self, token: Token) -> Result<ReadExpr, AllocError>
         requires text { IsText (file_of self.now) (lexeme_of token) }
         requires inside { LiesIn (length (file_of self.now)) (extent token.span) }
@@ -411,7 +409,7 @@ impl<'a> Reader<'a> {
         Ok(one_token(literal_of(bytes, span), token))
     }
 
-    // The set of bytes that a class spells.
+    // The set of bytes that a class denotes.
     fn class(&self, token: Token) -> Result<ReadExpr, AllocError>
         requires text { IsText (file_of self.now) (lexeme_of token) }
         requires inside { LiesIn (length (file_of self.now)) (extent token.span) }
@@ -425,7 +423,7 @@ impl<'a> Reader<'a> {
         Ok(one_token(class_of(set, span), token))
     }
 
-    // What stands behind an open parenthesis, if it may be opened, up to the one that closes it.
+    // The expression after an open parenthesis, if one more may be open, and the parenthesis that closes it.
     #[cycle(reader)]
     #[tactic(auto, using(crate::proofs::ReaderSteps::faults))]
     fn parenthesized(
@@ -450,7 +448,8 @@ impl<'a> Reader<'a> {
         self.closed(behind(rest, inside.taken), inside)
     }
 
-    // The parenthesis that closes; where a name stands in its place, what can't stand there is the arrow behind it.
+    // The closing parenthesis. If there is a name instead, it is followed by an arrow, and the arrow is the unexpected
+    // token.
     fn closed(&self, rest: &[Token], inside: ReadExpr) -> Result<ReadExpr, NotationFault>
         requires few { inside.taken < 2 ^ 63 }
         requires shallow { inside.depth + 1 < 2 ^ 64 }
@@ -476,7 +475,6 @@ impl<'a> Reader<'a> {
     }
 }
 
-// An expression of one token.
 fn one_token(expression: Expr, token: Token) -> ReadExpr
     ensures { Ok (form_seen result) ≡ one_token (form_of expression) (lexeme_of token) }
 {
@@ -488,21 +486,18 @@ fn one_token(expression: Expr, token: Token) -> ReadExpr
     }
 }
 
-// Any one byte.
 fn any_of(span: Span) -> Expr
     ensures { form_of result ≡ Any (extent span) }
 {
     Expr::Any { span }
 }
 
-// A literal of these bytes.
 fn literal_of(bytes: Vec<u8>, span: Span) -> Expr
     ensures { form_of result ≡ Literal bytes.items (extent span) }
 {
     Expr::Literal { bytes, span }
 }
 
-// A class of this set.
 fn class_of(set: ByteSet, span: Span) -> Expr
     ensures { form_of result ≡ Class (bytes_of set) (extent span) }
 {

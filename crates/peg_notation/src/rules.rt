@@ -1,25 +1,25 @@
-//! Rules and whole files over tokens: the figure's rules Definition and Grammar.
+//! Reads rules and whole files from tokens: the metagrammar rules Definition and Grammar.
 ghost use Rattle.std.specs.Prelude.{◌≡◌, ◌+◌, ◌<◌, ◌≤◌, length, IfOk};
 ghost use Rattle.peg_bytes.specs.Extent.{extent};
 ghost use Rattle.peg_notation.specs.Reader.{starts_with_arrow, definition_behind, definition, grammar};
 ghost use Rattle.peg_notation.specs.ReaderCode.{lexemes, IsText, AreTexts, rule_seen, rules_seen, Conveys};
-ghost use Rattle.peg_figure.specs.Nesting.{most_open};
+ghost use Rattle.peg_metagrammar.specs.Nesting.{max_open};
 ghost use Rattle.peg_notation.specs.Spans.{LiesIn};
 ghost use Rattle.peg_lexer.specs.Tokens.{lexeme_of};
 
 use crate::fault::NotationFault;
 use crate::reader::{Reader, behind, starts_with_arrow};
+use peg_bootstrap::MAX_OPEN;
 use peg_grammar::Definition;
 use peg_lexer::{Token, TokenKind, name_text};
-use peg_spelling::MOST_OPEN;
 
 /// A rule that was read.
 #[derive(Debug, Drop)]
 pub(crate) struct ReadRule {
     pub(crate) definition: Definition,
-    /// How many tokens it has.
+    /// The number of its tokens.
     pub(crate) taken: usize,
-    /// How deep its parentheses nest.
+    /// The nesting depth of its parentheses.
     pub(crate) depth: usize,
 }
 
@@ -33,11 +33,11 @@ pub(crate) struct ReadRules {
 impl<'a> Reader<'a> {
     ghost use Rattle.peg_notation.specs.ReaderFile.{file_of};
 
-    /// Definitions, one behind the other, up to the end: one at least.
+    /// Reads definitions up to the end of the tokens, at least one.
     #[tactic(auto, unfolding(crate::specs::Reader::grammar))]
     pub(crate) fn grammar(&self, tokens: &[Token]) -> Result<ReadRules, NotationFault>
         requires { AreTexts (file_of self.now) 0 (lexemes tokens.now) }
-        ensures { Conveys rules_seen (grammar (file_of self.now) most_open (lexemes tokens.now)) result }
+        ensures { Conveys rules_seen (grammar (file_of self.now) max_open (lexemes tokens.now)) result }
     {
         if tokens.is_empty() {
             return Err(self.unexpected(tokens));
@@ -54,11 +54,11 @@ impl<'a> Reader<'a> {
         Ok(ReadRules { definitions, depth })
     }
 
-    // A name, an arrow and an expression.
+    // Definition: a name, an arrow and an expression.
     #[tactic(auto, unfolding(crate::specs::Reader::definition))]
     fn definition(&self, tokens: &[Token]) -> Result<ReadRule, NotationFault>
         requires { AreTexts (file_of self.now) 0 (lexemes tokens.now) }
-        ensures read { Conveys rule_seen (definition (file_of self.now) most_open (lexemes tokens.now)) result }
+        ensures read { Conveys rule_seen (definition (file_of self.now) max_open (lexemes tokens.now)) result }
         ensures fits { IfOk result (λ rule. rule.taken ≤ length tokens.now) }
         ensures some { IfOk result (λ rule. 0 < rule.taken) }
     {
@@ -70,20 +70,20 @@ impl<'a> Reader<'a> {
         }
     }
 
-    // An arrow and an expression behind a name.
+    // The arrow and the expression after a name.
     fn definition_behind(&self, name: Token, rest: &[Token]) -> Result<ReadRule, NotationFault>
         requires text { IsText (file_of self.now) (lexeme_of name) }
         requires inside { LiesIn (length (file_of self.now)) (extent name.span) }
         requires ident { name.kind ≡ TokenKind.Ident }
         requires texts { AreTexts (file_of self.now) name.span.end (lexemes rest.now) }
-        ensures read { Conveys rule_seen (definition_behind (file_of self.now) most_open (lexeme_of name)
+        ensures read { Conveys rule_seen (definition_behind (file_of self.now) max_open (lexeme_of name)
             (lexemes rest.now) (starts_with_arrow (lexemes rest.now))) result }
         ensures fits { IfOk result (λ rule. rule.taken ≤ 1 + length rest.now) }
         ensures some { IfOk result (λ rule. 0 < rule.taken) }
     {
         match rest {
             [arrow, ..] if starts_with_arrow(rest) => {
-                let body = self.expression(arrow.span.end, &rest[1..], MOST_OPEN)?;
+                let body = self.expression(arrow.span.end, &rest[1..], MAX_OPEN)?;
                 let span = name.span;
                 let text = &self.file[span.start as usize..span.end as usize];
                 let definition = Definition {

@@ -1,16 +1,16 @@
-//! Tests of the lexer and of the figure. Every value that is wanted was worked out by hand from the figure.
+//! Tests of the lexer and of the metagrammar. The expected values were worked by hand from the metagrammar.
 use peg_bytes::Span;
 use peg_notation::{
-    Bounds, LexFault, MOST_FILE_BYTES, Token, TokenKind, count_bounds, figure, figure_text, lex,
+    Bounds, LexFault, MAX_FILE_BYTES, Token, TokenKind, count_bounds, figure, figure_text, lex,
 };
 use std::alloc::Global;
 use std::process::Abort;
 use std::test::Fail;
 
-// A token: its kind, its first byte, the byte behind it.
+// A token: its kind, its start, and its end.
 type Seen = (TokenKind, u32, u32);
 
-// The figure's text (Ford 2004, section 2.1, with hexadecimal digits in Char, and with counts).
+// The metagrammar's text (Ford 2004, section 2.1, with hexadecimal digits in Char, and with counts).
 const FIGURE: &[u8] = b"\
     Grammar <- Spacing Definition+ EndOfFile\n\
     Definition <- Identifier LEFTARROW Expression\n\
@@ -56,7 +56,7 @@ fn assert_tokens(rt: &impl Abort, alloc: Global, file: &[u8], wanted: &[Seen]) -
     Ok(())
 }
 
-// Each file is one token of this kind.
+// Checks that each file is one token of this kind.
 fn assert_one_token(
     rt: &impl Abort,
     alloc: Global,
@@ -64,13 +64,13 @@ fn assert_one_token(
     files: &[&[u8]],
 ) -> Result<(), Fail> {
     for file in files {
-        assert!(rt; file.len() <= MOST_FILE_BYTES);
+        assert!(rt; file.len() <= MAX_FILE_BYTES);
         assert_tokens(rt, alloc, file, &[(kind, 0, file.len() as u32)])?;
     }
     Ok(())
 }
 
-// Each file has its lexing fault at this place.
+// Checks that each file has its lexical error at this offset.
 fn assert_faults(rt: &impl Abort, alloc: Global, at: u32, files: &[&[u8]]) {
     for file in files {
         let fault = lex(alloc, file).err();
@@ -205,9 +205,8 @@ fn other_escapes_are_none(rt: HostRuntime) {
     assert_faults(&rt, rt.alloc(), 0, files);
 }
 
-// In `[a-ESCAPE-]` the last dash stands for itself, and the class is closed, where the escape is one character. Where
-// its last digit is a character of its own, that one, the dash and the bracket are a range, and nothing closes the
-// class.
+// If the escape in `[a-ESCAPE-]` is one character, the last dash is a character and the class is closed. If its last
+// digit is a character of its own, that digit, the dash and the bracket are a range, and the class isn't closed.
 #[test]
 fn an_escape_has_so_many_digits(rt: HostRuntime) -> Result<(), Fail> {
     let alloc = rt.alloc();

@@ -1,4 +1,4 @@
-//! Tests of the lexer, of the figure and of the reader, by their public calls.
+//! Tests of the lexer, of the metagrammar and of the reader, by their public calls.
 #![tactic(auto)]
 
 #[cfg(test)]

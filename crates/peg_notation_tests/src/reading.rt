@@ -1,11 +1,11 @@
-//! Tests of the reader. Every value that is wanted was worked out by hand from the figure.
+//! Tests of the reader. The expected values were worked by hand from the metagrammar.
 use peg_grammar::{Definition, Expr};
-use peg_notation::{MOST_FILE_BYTES, MOST_OPEN, NotationFault, figure, figure_text, read};
+use peg_notation::{MAX_FILE_BYTES, MAX_OPEN, NotationFault, figure, figure_text, read};
 use std::alloc::{AllocError, Global};
 use std::process::Abort;
 use std::test::Fail;
 
-// Each file is refused as no syntax at the place beside it.
+// Checks that each file is rejected with a syntax error at this offset.
 fn assert_refused(rt: &impl Abort, alloc: Global, files: &[(&[u8], u32)]) {
     for (file, at) in files {
         let fault = read(alloc, file).err();
@@ -17,7 +17,7 @@ fn assert_refused(rt: &impl Abort, alloc: Global, files: &[(&[u8], u32)]) {
     }
 }
 
-// Each file is refused for a count out of range at the place beside it.
+// Checks that each file is rejected for a count out of range at this offset.
 fn assert_bad_counts(rt: &impl Abort, alloc: Global, files: &[(&[u8], u32)]) {
     for (file, at) in files {
         let fault = read(alloc, file).err();
@@ -29,13 +29,13 @@ fn assert_bad_counts(rt: &impl Abort, alloc: Global, files: &[(&[u8], u32)]) {
     }
 }
 
-// What a file's definitions print as.
+// The printed definitions of a file.
 fn printed(alloc: Global, file: &[u8]) -> Result<String, Fail> {
     let definitions = read(alloc, file)?;
     Ok(format!(in alloc; "{definitions:?}")?)
 }
 
-// A rule A with this body prints as this.
+// Checks the printed body of a rule A.
 fn assert_body(rt: &impl Abort, alloc: Global, file: &[u8], body: &str) -> Result<(), Fail> {
     let found = printed(alloc, file)?;
     let span = "Span { start: 0, end: 1 }";
@@ -44,7 +44,7 @@ fn assert_body(rt: &impl Abort, alloc: Global, file: &[u8], body: &str) -> Resul
     Ok(())
 }
 
-// How many rules each file has.
+// Checks the number of rules of each file.
 fn assert_rules(rt: &impl Abort, alloc: Global, files: &[(&[u8], usize)]) -> Result<(), Fail> {
     for (file, count) in files {
         let definitions = read(alloc, file)?;
@@ -53,7 +53,7 @@ fn assert_rules(rt: &impl Abort, alloc: Global, files: &[(&[u8], usize)]) -> Res
     Ok(())
 }
 
-// A rule whose body is `'x'` with a count of a thousand digits, all of them alike but for the last one.
+// A rule whose body is `'x'` with a count of a thousand digits, all equal except the last one.
 fn long_count(alloc: Global, digit: u8, last: u8) -> Result<Vec<u8>, AllocError> {
     let mut file = Vec::from_slice(alloc, b"A <- 'x'{")?;
     for _ in 0..999 {
@@ -64,7 +64,7 @@ fn long_count(alloc: Global, digit: u8, last: u8) -> Result<Vec<u8>, AllocError>
     Ok(file)
 }
 
-// A rule whose body is `'a'` in so many parentheses, and a line end.
+// A rule whose body is `'a'` in `depth` parentheses, and a line end.
 fn add_nested(file: &mut Vec<u8>, depth: usize) -> Result<(), AllocError> {
     file.extend_from_slice(b"A <- ")?;
     for _ in 0..depth {
@@ -311,10 +311,10 @@ fn of_a_count_and_another_fault_the_first_is_told(rt: HostRuntime) -> Result<(),
     ];
     assert_refused(&rt, alloc, &others);
     let mut file = Vec::from_slice(alloc, b"B <- 'x'{0} ")?;
-    add_nested(&mut file, MOST_OPEN + 1)?;
+    add_nested(&mut file, MAX_OPEN + 1)?;
     assert_bad_counts(&rt, alloc, &[(file.as_slice(), 8)]);
     let mut other = Vec::new(alloc);
-    add_nested(&mut other, MOST_OPEN + 1)?;
+    add_nested(&mut other, MAX_OPEN + 1)?;
     other.extend_from_slice(b"B <- 'x'{0}")?;
     assert_eq!(rt;
         read(alloc, &other).err(),
@@ -367,7 +367,7 @@ fn escapes_spell_bytes(rt: HostRuntime) -> Result<(), Fail> {
     )
 }
 
-// The set of the class that the first rule is.
+// The set of the class that is the first rule's body.
 fn class_of(definitions: &[Definition]) -> Option<peg_bytes::ByteSet> {
     match definitions {
         [first, ..] => match &first.body {
@@ -378,7 +378,7 @@ fn class_of(definitions: &[Definition]) -> Option<peg_bytes::ByteSet> {
     }
 }
 
-// The class of each file holds the first byte and not the second.
+// The class of each file contains the first byte and not the second.
 #[test]
 fn a_class_holds_the_bytes_of_its_ranges(rt: HostRuntime) -> Result<(), Fail> {
     let alloc = rt.alloc();
@@ -406,12 +406,12 @@ fn a_class_holds_the_bytes_of_its_ranges(rt: HostRuntime) -> Result<(), Fail> {
 fn two_hundred_parentheses_may_be_open(rt: HostRuntime) -> Result<(), Fail> {
     let alloc = rt.alloc();
     let mut file = Vec::new(alloc);
-    add_nested(&mut file, MOST_OPEN)?;
-    add_nested(&mut file, MOST_OPEN)?;
+    add_nested(&mut file, MAX_OPEN)?;
+    add_nested(&mut file, MAX_OPEN)?;
     assert_eq!(rt; read(alloc, &file)?.len(), 2);
-    // Each of these lines has 409 bytes, and a rule's first parenthesis is its byte 5.
+    // Each of these lines has 409 bytes, and the first parenthesis of a rule is its byte 5.
     assert_eq!(rt; file.len(), 818);
-    add_nested(&mut file, MOST_OPEN + 1)?;
+    add_nested(&mut file, MAX_OPEN + 1)?;
     let fault = read(alloc, &file).err();
     assert_eq!(rt; fault, Some(NotationFault::TooNested { at: 818 + 5 + 200 }));
     Ok(())
@@ -421,14 +421,14 @@ fn two_hundred_parentheses_may_be_open(rt: HostRuntime) -> Result<(), Fail> {
 fn what_comes_first_is_told(rt: HostRuntime) -> Result<(), Fail> {
     let alloc = rt.alloc();
     let mut file = Vec::new(alloc);
-    add_nested(&mut file, MOST_OPEN + 1)?;
+    add_nested(&mut file, MAX_OPEN + 1)?;
     file.push(b')')?;
     let deep = Some(NotationFault::TooNested { at: 205 });
     assert_eq!(rt; read(alloc, &file).err(), deep, "deep, and then no syntax");
     file.truncate(206);
     assert_eq!(rt; read(alloc, &file).err(), deep, "deep, and then the end");
     let mut other = Vec::from_slice(alloc, b"A <- ? ")?;
-    add_nested(&mut other, MOST_OPEN + 1)?;
+    add_nested(&mut other, MAX_OPEN + 1)?;
     let fault = Some(NotationFault::Syntax { at: 5 });
     assert_eq!(rt;
         read(alloc, &other).err(),
@@ -467,9 +467,9 @@ fn each_fault_has_a_text(rt: HostRuntime) -> Result<(), Fail> {
 #[test]
 fn a_file_at_the_limit_is_read(rt: HostRuntime) -> Result<(), Fail> {
     let alloc = rt.alloc();
-    let mut file = vec![in alloc; b' '; MOST_FILE_BYTES]?;
-    file[MOST_FILE_BYTES - 2] = b'A';
-    assert_refused(&rt, alloc, &[(file.as_slice(), MOST_FILE_BYTES as u32)]);
+    let mut file = vec![in alloc; b' '; MAX_FILE_BYTES]?;
+    file[MAX_FILE_BYTES - 2] = b'A';
+    assert_refused(&rt, alloc, &[(file.as_slice(), MAX_FILE_BYTES as u32)]);
     file[0] = b'A';
     file[1] = b'<';
     file[2] = b'-';

@@ -1,4 +1,4 @@
--- What the layers' faults tell of a grammar file.
+-- The causes of the stages' faults for a grammar file.
 use Rattle.std.proofs.Common.{◌≡◌, inl, inr, ℕ, true, not, if◌then◌else◌, List, [], ◌∷◌, find, option_map, ap, All, IsErrAnd, IfErr, IfOk, IfSome, OnOk, Result, Ok, Err, Option, None, Some, length, map, ◌<◌, ◌≤◌, refl, subst, sym, ◌∙◌, arith}
 use Rattle.std.proofs.lemmas.List.{length-map}
 use Rattle.std.proofs.lemmas.List.Elements.{All-head, All-tail}
@@ -6,15 +6,15 @@ use Rattle.peg_bytes.specs.Extent.{extent}
 use Rattle.peg_check.specs.Verdicts.{IsIllFormedBy, NamesRules}
 use Rattle.peg_check.specs.declared.fault.CheckFault.{CheckFault}
 use Rattle.peg_check.specs.declared.fault.CheckFault.TheVariants as check
-use Rattle.peg_code.specs.Compiled.{most_instructions}
+use Rattle.peg_code.specs.Compiled.{max_instructions}
 use Rattle.peg_code.specs.declared.fault.CodeFault.{CodeFault}
 use Rattle.peg_code.specs.declared.fault.CodeFault.TheVariants as code
-use Rattle.peg_ford.specs.Form.{Count}
-use Rattle.peg_ford.specs.Grammar.{is_in_range}
-use Rattle.peg_ford.specs.Rules.{Rule, counts, names}
-use Rattle.peg_ford.specs.WellFormed.{IsWellFormedGrammar}
-use Rattle.peg_figure.proofs.CountsInRange.{IsReading-in_range}
-use Rattle.peg_ford.proofs.GrammarLemmas.{searches_from_IsGrammar}
+use Rattle.peg_semantics.specs.Form.{Count}
+use Rattle.peg_semantics.specs.Grammar.{is_in_range}
+use Rattle.peg_semantics.specs.Rules.{Rule, counts, names}
+use Rattle.peg_semantics.specs.WellFormed.{IsWellFormedGrammar}
+use Rattle.peg_metagrammar.proofs.CountsInRange.{IsReading-in_range}
+use Rattle.peg_semantics.proofs.GrammarLemmas.{searches_from_IsGrammar}
 use Rattle.peg_grammar.specs.GrammarRules.{rules_in}
 use Rattle.peg_grammar.specs.Refusal as definitions
 use Rattle.peg_grammar.specs.declared.fault.GrammarFault.{GrammarFault}
@@ -40,7 +40,7 @@ use Rattle.peg_parser.proofs.CheckLemmas.{loop-inside}
 use Rattle.peg_parser.proofs.NameLemmas.{twice-inside, missing-inside}
 use Rattle.peg_parser.proofs.RuleNames.{name-numbered, names-of-path}
 
--- an error that is this refusal tells what it tells
+-- an error equal to a refusal has the refusal's cause
 pub told-error : {X : Type 0} (Kind : Cause → Type 0) (size : ℕ) (result : Result X Refusal) (why : Refusal)
     → IsErrAnd result (λ other. other ≡ why) → TellsWhy Kind size why → IfErr result (TellsWhy Kind size)
 told-error Kind size (Ok x) why is tells = tt
@@ -61,7 +61,7 @@ told-notation file notation.Memory reads inside = want_of_memory refl
 
 -- ---- the grammar
 
--- where all counts are in range, none is found that isn't
+-- if all counts are in range, the search finds none out of range
 no_bad_count : (written : List Count) → All (λ count. is_in_range count ≡ true) written
     → find (λ (count : Count). not (is_in_range count)) written ≡ None
 no_bad_count [] all = refl
@@ -90,12 +90,12 @@ told-grammar file rules grammar.Memory read inside refuses = want_of_memory refl
 
 -- ---- the check
 
--- the rules that a fault names are among those with a name
+-- the rules that a fault refers to by number have names
 named-too : (rules : List Rule) (why : CheckFault) → NamesRules (length rules) why → NamesRules (length (names rules)) why
 named-too rules why named =
     subst (λ (n : ℕ). NamesRules n why) (sym (length-map rules (λ (rule : Rule). rule.name))) named
 
--- what the check's fault tells of the grammar that it comes with
+-- the cause of the check's fault for its grammar
 pub told-check : (file : List ℕ) (grammar : Grammar) (why : CheckFault) → IsIllFormedBy (rules_in grammar) why
     → NamesRules (length (rules_in grammar)) why → IsRead file (rules_in grammar) → IsTaken (rules_in grammar) → All (RuleLiesIn (length file)) (rules_in grammar)
     → TellsWhy (Refuses file) (length file) (of_check why grammar)
@@ -116,17 +116,17 @@ told-check file grammar check.Memory ill named read taken inside = want_of_memor
 
 -- ---- the code
 
--- what the compiler's fault tells of a well-formed grammar
+-- the cause of the compiler's fault for a well-formed grammar
 pub told-code : (file : List ℕ) (rules : List Rule) (why : CodeFault) → IsRead file rules → IsTaken rules
-    → IsWellFormedGrammar rules → (why ≡ code.CodeTooLarge → most_instructions < code_size rules)
+    → IsWellFormedGrammar rules → (why ≡ code.CodeTooLarge → max_instructions < code_size rules)
     → TellsWhy (Refuses file) (length file) (of_code why)
 told-code file rules code.CodeTooLarge read taken formed over =
     of_cause CodeTooLarge refl (inr (inr (code_too_large read taken formed (over refl)))) tt tt
 told-code file rules code.Memory read taken formed over = want_of_memory refl
 
--- ---- what refusals mean
+-- ---- what refusals imply
 
--- a file that is refused before the check is refused
+-- a file that is rejected before the check is rejected
 pub told-early : (file : List ℕ) (size : ℕ) (why : Refusal) → TellsWhy (IsNoGrammar file) size why
     → TellsWhy (Refuses file) size why
 told-early file size why (want_of_memory is) = want_of_memory is
@@ -154,12 +154,12 @@ told-means file size why (want_of_memory is) =
 told-means file size why (of_cause cause tells holds starts named) =
     subst (λ (told : Option Cause). IfSome told (Shows file)) (sym tells) (shows file cause holds)
 
--- ---- what is accepted
+-- ---- accepted files
 
--- the parser of a file's grammar that is well-formed is that of an accepted file
+-- the parser of a well-formed grammar of a file is that of an accepted file
 pub accepted-whole : (file : List ℕ) (grammar : Grammar) (result : Result Parser Refusal) → IsRead file (rules_in grammar)
     → IsTaken (rules_in grammar) → IfOk result (λ parser. parser_rules parser ≡ rules_in grammar)
-    → OnOk result (IsWellFormedGrammar (rules_in grammar)) → OnOk result (code_size (rules_in grammar) ≤ most_instructions)
+    → OnOk result (IsWellFormedGrammar (rules_in grammar)) → OnOk result (code_size (rules_in grammar) ≤ max_instructions)
     → IfOk result (λ parser. Accepts file (parser_rules parser))
 accepted-whole file grammar (Ok parser) read taken same formed small =
     subst (λ (rules : List Rule). Accepts file rules) (sym same)

@@ -1,14 +1,14 @@
--- What the check of core forms tells of the rules as written, and where its faults stand in the file.
+-- What the check of core forms implies about the rules as written, and the offsets of its faults in the file.
 use Rattle.std.proofs.Common.{◌≡◌, inl, inr, ℕ, zero, suc, List, [], ◌∷◌, ◌++◌, All, Contains, Some, slice_get, subst}
 use Rattle.std.proofs.lemmas.List.Elements.{All-nil, All-cons, All-head, All-tail, All-append}
 use Rattle.peg_bytes.specs.Extent.{Extent}
-use Rattle.peg_ford.specs.Form.{Form, Forms, Literal, Class, Any, Name, Seq, Choice, Optional, Star, Plus, Counted, And, Not, End, Then}
-use Rattle.peg_ford.specs.Loops.{IsEmptyLoop, WritesLoop}
-use Rattle.peg_ford.specs.Rules.{Rule}
-use Rattle.peg_ford.specs.WellFormed.{subexpressions, below, below_all}
+use Rattle.peg_semantics.specs.Form.{Form, Forms, Literal, Class, Any, Name, Seq, Choice, Optional, Star, Plus, Counted, And, Not, End, Then}
+use Rattle.peg_semantics.specs.Loops.{IsEmptyLoop, WritesLoop}
+use Rattle.peg_semantics.specs.Rules.{Rule}
+use Rattle.peg_semantics.specs.WellFormed.{subexpressions, below, below_all}
 use Rattle.peg_notation.specs.Spans.{LiesIn, FormLiesIn, FormsLieIn, RuleLiesIn}
 
--- all expressions below one lie where it does
+-- all parts of an expression are within the file if the expression is
 mutual
   below-inside : (size : ℕ) (e : Form) → FormLiesIn size e → All (FormLiesIn size) (below e)
   below-inside size (Literal bytes span) inside = All-nil (FormLiesIn size)
@@ -40,7 +40,7 @@ mutual
       (All-append (FormLiesIn size) (below e) (below_all rest) (below-inside size e inside.0)
       (all_below-inside size rest inside.1))
 
--- what all are, one of them is
+-- an item of a list has a property that all items have
 one_of_all : {X : Type 0} (P : X → Type 0) (list : List X) (x : X) → All P list → Contains list x → P x
 one_of_all P list x all is = subst P is.2 (all is.0 x is.1)
 
@@ -52,7 +52,7 @@ rule-inside size (first ∷ more) zero rule inside is =
 rule-inside size (first ∷ more) (suc number) rule inside is =
     rule-inside size more number rule (All-tail (RuleLiesIn size) first more inside) is
 
--- an empty loop stands in the file
+-- an empty loop is within the file
 pub loop-inside : (size : ℕ) (rules : List Rule) (number : ℕ) (span : Extent) → All (RuleLiesIn size) rules
     → IsEmptyLoop rules number span → LiesIn size span
 loop-inside size rules number span inside empty = by empty.written

@@ -16,9 +16,9 @@ use Rattle.peg_core.specs.CoreRecord.{AreBytes, IsCoreRecord, core_record_in}
 use Rattle.peg_core.specs.Layout.{bodies_of, form_at}
 use Rattle.peg_core.proofs.Meanings.{length-core_bodies}
 use Rattle.peg_core.proofs.SugarRecords.{IsRecord-from_core}
-use Rattle.peg_ford.specs.Form.{Form, Name, terminals}
-use Rattle.peg_ford.specs.Grammar.{IsGrammar}
-use Rattle.peg_ford.specs.Rules.{Meaning, Rule, meant_from, name_of, names}
+use Rattle.peg_semantics.specs.Form.{Form, Name, terminals}
+use Rattle.peg_semantics.specs.Grammar.{IsGrammar}
+use Rattle.peg_semantics.specs.Rules.{Meaning, Rule, meant_from, name_of, names}
 use Rattle.peg_grammar.specs.Outcomes.{IsOutcome}
 use Rattle.peg_machine.specs.CoreOutcome.{IsCoreOutcome}
 use Rattle.peg_tree.specs.declared.outcome.Outcome.{Outcome}
@@ -26,7 +26,7 @@ use Rattle.peg_parser.specs.Parser.{parser_rules}
 use Rattle.peg_parser.specs.declared.parser.Parser.{Parser}
 use Rattle.peg_parser.proofs.RuleNames.{name-numbered}
 
--- names that differ from one another
+-- names that are pairwise distinct
 abbrev Differ : List (List ℕ) → Type 0
 Differ = AllPairs (λ (a b : List ℕ). a ≢ b)
 
@@ -34,7 +34,7 @@ Differ = AllPairs (λ (a b : List ℕ). a ≢ b)
 abbrev number : Option Meaning → Option ℕ
 number = option_map (λ (m : Meaning). m.rule)
 
--- where names differ, a rule's name means the rule: none before it has that name
+-- if the names are distinct, a rule's name means the rule
 meant_from-number : (first terminal : ℕ) (rules : List Rule) (rule : ℕ) → Differ (names rules) → rule < length rules
     → number (meant_from first terminal rules (name_of rules rule)) ≡ Some (rule + first)
 meant_from-number first terminal [] rule differ less = absurd (omega arith)
@@ -57,26 +57,26 @@ meant_from-number first terminal (r ∷ rs) (suc rule) differ less =
     (λ i j d before within. differ (suc i) (suc j) d (omega arith) (omega arith)) (omega arith)
     ∙ ap Some next
 
--- where names differ, a rule's name has the rule's number
+-- if the names are distinct, a rule's name has the rule's number
 number_of-named : (rules : List Rule) (start : ℕ) → start < length rules → IsGrammar rules
     → number_of rules (name_of rules start) ≡ start
 number_of-named rules start less grammar =
     ap (λ (found : Option ℕ). unwrap_or found (length rules)) (meant_from-number 0 0 rules start grammar.distinct less)
     ∙ add-zero start
 
--- ---- what a parser knows of its program
+-- ---- facts about a parser's program
 
 -- the program's core forms are the grammar's
 pub same-bodies : (parser : Parser) → bodies_of parser.program.core ≡ core_bodies (parser_rules parser)
 same-bodies parser = ∥∥₁_elim parser.bodies (Coded-set (coded_list form_code) _ _) (λ same. same)
 
--- they are as many as the rules
+-- there are as many core forms as rules
 pub length-bodies : (parser : Parser) → length parser.program.core.bodies ≡ length (parser_rules parser)
 length-bodies parser =
     sym (length-map parser.program.core.bodies (form_at parser.program.core.forms))
     ∙ ap length (same-bodies parser) ∙ length-core_bodies (parser_rules parser)
 
--- the name of one of its rules has that rule's number
+-- the name of a parser's rule has that rule's number
 pub number-named : (parser : Parser) (start : ℕ) → start < length (parser_rules parser)
     → number_of (parser_rules parser) (name_of (parser_rules parser) start) ≡ start
 number-named parser start less =
@@ -84,7 +84,7 @@ number-named parser start less =
 
 -- ---- outcomes
 
--- the outcome of a rule's use among core forms is that of the rule's name
+-- the outcome of a rule's call on core forms is that of the rule's name
 written-outcome : (rules : List Rule) (text : List ℕ) (start : ℕ) (outcome : Outcome) → AreBytes text
     → number_of rules (name_of rules start) ≡ start → IsCoreOutcome (core_bodies rules) text start outcome
     → IsOutcome rules text (name_of rules start) outcome
@@ -96,7 +96,7 @@ written-outcome rules text start outcome bytes same is =
     let found = IsRecord-from_core rules text bytes name 0 0 held.0 there in
     (found.0, (held.0, found.1, held.2, held.3))
 
--- what a parser's program makes of a text is the outcome of the grammar as written
+-- the result of a parser's program on a text is the outcome of the grammar as written
 pub parser-outcome : (parser : Parser) (text : List ℕ) (start : ℕ) (outcome : Outcome) → AreBytes text
     → start < length (parser_rules parser) → IsCoreOutcome (bodies_of parser.program.core) text start outcome
     → IsOutcome (parser_rules parser) text (name_of (parser_rules parser) start) outcome

@@ -1,4 +1,4 @@
--- The figure's definitions are a grammar that is taken, and nothing but memory can be wanting.
+-- The metagrammar's definitions are a grammar within the limits, so only an allocation can fail.
 use Rattle.std.proofs.Common.{◌≡◌, [], None, Some, Result, Ok, Err, option_map, refl, sym, ap, ◌∙◌, arith}
 use Rattle.std.specs.Prelude.{IfErr, IsErrAnd}
 use Rattle.peg_check.specs.Verdicts.{IsIllFormedBy}
@@ -6,11 +6,11 @@ use Rattle.peg_check.specs.declared.fault.CheckFault.{CheckFault}
 use Rattle.peg_check.specs.declared.fault.CheckFault.TheVariants as check
 use Rattle.peg_code.specs.declared.fault.CodeFault.{CodeFault}
 use Rattle.peg_code.specs.declared.fault.CodeFault.TheVariants as code
-use Rattle.peg_figure.specs.Figure.{figure, grammar_body, definition_body, expression_body, sequence_body, prefix_body, suffix_body, primary_body, identifier_body, ident_start_body, ident_cont_body, literal_body, class_body, range_body, char_body, count_body, number_body, spacing_body, comment_body, space_body, end_of_line_body, end_of_file_body}
-use Rattle.peg_ford.specs.Grammar.{first_bad_count, first_duplicate, first_undefined}
-use Rattle.peg_ford.specs.Form.{Count}
-use Rattle.peg_ford.specs.Rules.{weight_of}
-use Rattle.peg_ford.specs.WellFormed.{IsWellFormedGrammar}
+use Rattle.peg_metagrammar.specs.Figure.{figure, grammar_body, definition_body, expression_body, sequence_body, prefix_body, suffix_body, primary_body, identifier_body, ident_start_body, ident_cont_body, literal_body, class_body, range_body, char_body, count_body, number_body, spacing_body, comment_body, space_body, end_of_line_body, end_of_file_body}
+use Rattle.peg_semantics.specs.Grammar.{first_bad_count, first_duplicate, first_undefined}
+use Rattle.peg_semantics.specs.Form.{Count}
+use Rattle.peg_semantics.specs.Rules.{weight_of}
+use Rattle.peg_semantics.specs.WellFormed.{IsWellFormedGrammar}
 use Rattle.peg_grammar.specs.GrammarRules.{rules_in}
 use Rattle.peg_grammar.specs.Refusal.{Refuses}
 use Rattle.peg_grammar.specs.declared.fault.GrammarFault.{GrammarFault}
@@ -40,7 +40,7 @@ not_empty : figure ≡ [] → ⊥
 unfolding figure
 not_empty is = cc
 
--- why definitions are refused is true of the figure for want of memory alone
+-- the only fault of a grammar that the metagrammar can have is out of memory
 pub grammar_memory : (fault : GrammarFault) → Refuses figure fault → fault ≡ grammar.Memory
 grammar_memory grammar.NoRule is = absurd (not_empty is)
 grammar_memory (grammar.Duplicate name span) is = absurd (let bad : Some _ ≡ None = sym is ∙ no_duplicate in cc)
@@ -50,7 +50,7 @@ grammar_memory (grammar.BadCount span) is =
 grammar_memory grammar.TooManyParts is = absurd (let bad : ⊥ = omega (arith, is.1, figure-weight) in bad)
 grammar_memory grammar.Memory is = refl
 
--- and why a well-formed grammar is, whose code is small
+-- the same for the check and the compiler
 pub check_memory : (g : Grammar) (fault : CheckFault) → IsIllFormedBy (rules_in g) fault → IsWellFormedGrammar (rules_in g)
     → of_check fault g ≡ refusal.Memory
 check_memory g (check.EmptyLoop rule span) is formed = absurd (is.0 formed)
@@ -61,7 +61,7 @@ pub code_memory : (fault : CodeFault) → (fault ≡ code.CodeTooLarge → ⊥) 
 code_memory code.CodeTooLarge small = absurd (small refl)
 code_memory code.Memory small = refl
 
--- an error that is want of memory
+-- an error that is out of memory
 pub told_memory : {X : Type 0} (result : Result X Refusal) (why : Refusal) → IsErrAnd result (λ other. other ≡ why)
     → why ≡ refusal.Memory → IfErr result (λ other. other ≡ refusal.Memory)
 told_memory (Ok x) why is memory = tt

@@ -1,4 +1,4 @@
--- What the figure's own parse of a file tells, and that both readers tell the same.
+-- The metagrammar's parse of a file, and the agreement of both readers.
 use Rattle.std.proofs.Common.{◌≡◌, ℕ, ◌<◌, ◌≤◌, List, [], ◌∷◌, length, codes, Option, Some, None, Result, Ok, Err, refl, sym, ap, ◌∙◌, subst, arith}
 use Rattle.std.specs.Prelude.{IfSome, IsErrAnd, IsErrOf}
 use Rattle.std.specs.declared.alloc.Global.{Global}
@@ -6,22 +6,22 @@ use Rattle.std.specs.declared.vec.Vec.{Vec}
 use Rattle.peg_tree.specs.Trees.{Trees}
 use Rattle.peg_tree.specs.declared.outcome.Outcome.{Outcome}
 use Rattle.peg_tree.specs.declared.outcome.Parsed.TheVariants as parsed
-use Rattle.peg_ford.specs.Record.{Recognition, Failed, Matched}
-use Rattle.peg_ford.specs.Rules.{Rule}
-use Rattle.peg_ford.specs.Starts.{start_of}
-use Rattle.peg_ford.proofs.Derivations.{one_result}
-use Rattle.peg_figure.specs.Figure.{figure}
-use Rattle.peg_figure.specs.Nesting.{nesting, most_open}
-use Rattle.peg_figure.specs.Notation.{FigureMatches, IsReading, most_file_bytes}
-use Rattle.peg_figure.specs.Spelled.{bad_counts, rules_spelled}
+use Rattle.peg_semantics.specs.Record.{Recognition, Failed, Matched}
+use Rattle.peg_semantics.specs.Rules.{Rule}
+use Rattle.peg_semantics.specs.Starts.{start_of}
+use Rattle.peg_semantics.proofs.Derivations.{one_result}
+use Rattle.peg_metagrammar.specs.Figure.{figure}
+use Rattle.peg_metagrammar.specs.Nesting.{nesting, max_open}
+use Rattle.peg_metagrammar.specs.Notation.{FigureMatches, IsReading, max_file_bytes}
+use Rattle.peg_metagrammar.specs.Spelled.{bad_counts, rules_spelled}
 use Rattle.peg_grammar.specs.Outcomes.{IsOutcome, parsed_of}
 use Rattle.peg_grammar.specs.Written.{rules_of}
 use Rattle.peg_grammar.specs.declared.expr.Definition.{Definition}
 use Rattle.peg_notation.specs.Reads.{IsReadingWithin, NestsDeeper, NestsWithin}
-use Rattle.peg_spelling.specs.FigureTrees.{IsTreeOf, TellsBadCount}
-use Rattle.peg_spelling.proofs.Inversions.{derives}
-use Rattle.peg_spelling.specs.declared.fault.DefinitionsFault.{DefinitionsFault}
-use Rattle.peg_spelling.specs.declared.fault.DefinitionsFault.TheVariants as definitions
+use Rattle.peg_bootstrap.specs.FigureTrees.{IsTreeOf, TellsBadCount}
+use Rattle.peg_bootstrap.proofs.Inversions.{derives}
+use Rattle.peg_bootstrap.specs.declared.fault.DefinitionsFault.{DefinitionsFault}
+use Rattle.peg_bootstrap.specs.declared.fault.DefinitionsFault.TheVariants as definitions
 use Rattle.peg_parser.specs.ReadsByFigure.{ReadsByFigure, AgreesWithRead, of_definitions}
 use Rattle.peg_parser.specs.declared.figure_reader.FigureFault.{FigureFault}
 use Rattle.peg_parser.specs.declared.figure_reader.FigureFault.TheVariants.{FileTooLong, NotInFigure, TooNested, BadCount, Memory}
@@ -32,17 +32,17 @@ one_tree : (file : List ℕ) (a b : Trees) → IsTreeOf file a → IsTreeOf file
 one_tree file a b m n =
     let same : Matched m.0 a ≡ Matched n.0 b = one_result (derives m.1) (derives n.1) in cc
 
-tree_within : (file : List ℕ) (tree : Trees) → IsTreeOf file tree → nesting tree ≤ most_open → NestsWithin most_open file
+tree_within : (file : List ℕ) (tree : Trees) → IsTreeOf file tree → nesting tree ≤ max_open → NestsWithin max_open file
 tree_within file tree m within end trees other =
-    subst (λ t. nesting t ≤ most_open) (one_tree file tree trees m (end, other)) within
+    subst (λ t. nesting t ≤ max_open) (one_tree file tree trees m (end, other)) within
 
--- the rules that its tree spells, where no count is out of range, are its reading
+-- the rules that the tree denotes are its reading, if no count is out of range
 pub tree_reads : (file : List ℕ) (tree : Trees) (rules : List Rule) → IsTreeOf file tree → bad_counts file tree ≡ []
-    → rules ≡ rules_spelled file tree → nesting tree ≤ most_open → IsReadingWithin most_open file rules
+    → rules ≡ rules_spelled file tree → nesting tree ≤ max_open → IsReadingWithin max_open file rules
 tree_reads file tree rules m none is within = ((m.0, tree, m.1, none, is), tree_within file tree m within)
 
-pub tree_deep : (file : List ℕ) (tree : Trees) → IsTreeOf file tree → most_open < nesting tree → NestsDeeper most_open file
-tree_deep file tree m deep end trees other = subst (λ t. most_open < nesting t) (one_tree file tree trees m (end, other)) deep
+pub tree_deep : (file : List ℕ) (tree : Trees) → IsTreeOf file tree → max_open < nesting tree → NestsDeeper max_open file
+tree_deep file tree m deep end trees other = subst (λ t. max_open < nesting t) (one_tree file tree trees m (end, other)) deep
 
 -- a file has one reading
 one_reading : (file : List ℕ) (a b : List Rule) → IsReading file a → IsReading file b → a ≡ b
@@ -55,7 +55,7 @@ pub start-figure : start_of figure None ≡ Some (codes "Grammar")
 unfolding figure
 start-figure = refl
 
--- an outcome of the figure's parse, from its first rule
+-- an outcome of the metagrammar's parse, from its first rule
 pub outcome_of : (rules : List Rule) (file : List ℕ) (outcome : Outcome) → rules ≡ figure
     → IfSome (start_of rules None) (λ start. IsOutcome rules file start outcome) → IsOutcome figure file (codes "Grammar") outcome
 outcome_of rules file outcome is told =
@@ -80,7 +80,7 @@ failed_none file outcome is told m = by is.1.0.result refl (sym told ∙ is.1.2)
     by : (x : Recognition) → is.1.0.result ≡ x → parsed.Failed ≡ parsed_of is.1.0.result → ⊥
     by (Matched e t) at same = let bad : parsed.Failed ≡ parsed.Matched e t = same ∙ ap parsed_of at in cc
     by Failed at same =
-        let known : is.1.0.result ≡ Matched m.0 m.1 = Rattle.peg_ford.proofs.Derivations.one_record (derives m.2) 0 (is.0, is.1.1) in
+        let known : is.1.0.result ≡ Matched m.0 m.1 = Rattle.peg_semantics.proofs.Derivations.one_record (derives m.2) 0 (is.0, is.1.1) in
         let bad : Failed ≡ Matched m.0 m.1 = sym at ∙ known in cc
 
 -- ---- agreement
@@ -103,9 +103,9 @@ agree file read (Err Memory) by_hand by_figure some = absurd (some refl)
 
 -- ---- faults
 
--- what a tree's fault tells of the file
-pub told_definitions : (file : List ℕ) (tree : Trees) (why : DefinitionsFault) → length file ≤ most_file_bytes → IsTreeOf file tree
-    → (IsErrOf {T = Vec Definition Global} (Err why) definitions.TooNested → most_open < nesting tree)
+-- what a fault of a tree's definitions implies about the file
+pub told_definitions : (file : List ℕ) (tree : Trees) (why : DefinitionsFault) → length file ≤ max_file_bytes → IsTreeOf file tree
+    → (IsErrOf {T = Vec Definition Global} (Err why) definitions.TooNested → max_open < nesting tree)
     → TellsBadCount file tree why
     → (result : Result (Vec Definition Global) FigureFault) → IsErrAnd result (λ told. told ≡ of_definitions why)
     → ReadsByFigure file result

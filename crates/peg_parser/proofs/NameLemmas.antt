@@ -1,19 +1,19 @@
--- The names that a grammar is refused for stand where the file's rules do.
+-- The names that a grammar is rejected for are within the file.
 use Rattle.std.proofs.Common.{◌≡◌, ℕ, ◌≤◌, List, [], ◌∷◌, ◌++◌, All, Bool, true, false, not, bytes_eq, find, Some}
 use Rattle.std.proofs.Common.{if◌then◌else◌, subst, arith}
 use Rattle.std.specs.List.{list_any}
 use Rattle.std.proofs.lemmas.List.Elements.{All-nil, All-cons, All-head, All-tail, All-append}
-use Rattle.peg_ford.specs.Form.{Form, Forms, Reference, Literal, Class, Any, Name, Seq, Choice, Optional, Star}
-use Rattle.peg_ford.specs.Form.{Plus, Counted, And, Not, End, Then, names_used, names_used_by_all}
-use Rattle.peg_ford.specs.Grammar.{duplicate_after, first_duplicate, first_undefined}
-use Rattle.peg_ford.specs.Rules.{Rule, uses, defined_at, is_defined}
+use Rattle.peg_semantics.specs.Form.{Form, Forms, Reference, Literal, Class, Any, Name, Seq, Choice, Optional, Star}
+use Rattle.peg_semantics.specs.Form.{Plus, Counted, And, Not, End, Then, names_used, names_used_by_all}
+use Rattle.peg_semantics.specs.Grammar.{duplicate_after, first_duplicate, first_undefined}
+use Rattle.peg_semantics.specs.Rules.{Rule, uses, defined_at, is_defined}
 use Rattle.peg_notation.specs.Spans.{LiesIn, FormLiesIn, FormsLieIn, RuleLiesIn}
 
--- a name that stands in a file of this length
+-- a name within a file of this length
 abbrev StandsIn : (size : ℕ) → Reference → Type 0
 StandsIn size name = LiesIn size name.span
 
--- a definition whose name stands earlier is one of them
+-- a duplicate name is the name of one of the rules
 duplicate-inside : (size : ℕ) (earlier : List (List ℕ)) (rules : List Rule) (name : Reference)
     → All (RuleLiesIn size) rules → duplicate_after earlier rules ≡ Some name → StandsIn size name
 duplicate-inside size earlier [] name inside is = cc
@@ -29,7 +29,7 @@ duplicate-inside size earlier (rule ∷ rules) name inside is =
         subst (StandsIn size) same (All-head (RuleLiesIn size) rule rules inside).0
     by false there later = later there
 
--- the names that an expression uses are among its parts
+-- the names that an expression calls are within the expression
 mutual
   names-inside : (size : ℕ) (e : Form) → FormLiesIn size e → All (StandsIn size) (names_used e)
   names-inside size (Literal bytes span) inside = All-nil (StandsIn size)
@@ -60,7 +60,7 @@ uses-inside size (rule ∷ rules) inside =
     (names-inside size rule.body (All-head (RuleLiesIn size) rule rules inside).1)
     (uses-inside size rules (All-tail (RuleLiesIn size) rule rules inside))
 
--- what is found is one of them
+-- a name that a search finds is in the list
 found-inside : (size : ℕ) (test : Reference → Bool) (names : List Reference) (name : Reference)
     → All (StandsIn size) names → find test names ≡ Some name → StandsIn size name
 found-inside size test [] name inside is = cc
@@ -74,7 +74,7 @@ found-inside size test (first ∷ rest) name inside is =
         subst (StandsIn size) same (All-head (StandsIn size) first rest inside)
     by false there later = later there
 
--- a name that rules have twice, and one that is missing among them
+-- a duplicate name and an undefined name are within the file
 pub twice-inside : (size : ℕ) (rules : List Rule) (name : Reference) → All (RuleLiesIn size) rules
     → first_duplicate rules ≡ Some name → name.span.start ≤ size
 twice-inside size rules name inside is =

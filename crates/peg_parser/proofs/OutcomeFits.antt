@@ -1,19 +1,19 @@
--- The tree of an outcome is of the grammar's rules, and its terminals are the grammar's.
+-- The tree of an outcome has rules of the grammar, and its terminals are the grammar's.
 use Rattle.std.proofs.Common.{◌≡◌, ℕ, List, length, refl, sym, Some}
 use Rattle.peg_grammar.specs.Outcomes.{IsOutcome, parsed_of}
-use Rattle.peg_ford.specs.Record.{Recognition, Record, start_record}
-use Rattle.peg_ford.specs.Record as recognition
-use Rattle.peg_ford.specs.Rules.{Rule}
-use Rattle.peg_ford.specs.Terminals.{extents_of_terminals}
-use Rattle.peg_ford.proofs.TerminalLemmas.{expected-below, start_record-below}
-use Rattle.peg_ford.proofs.TreeRules.{start_record-rules}
+use Rattle.peg_semantics.specs.Record.{Recognition, Record, start_record}
+use Rattle.peg_semantics.specs.Record as recognition
+use Rattle.peg_semantics.specs.Rules.{Rule}
+use Rattle.peg_semantics.specs.Terminals.{extents_of_terminals}
+use Rattle.peg_semantics.proofs.TerminalLemmas.{expected-below, start_record-below}
+use Rattle.peg_semantics.proofs.TreeRules.{start_record-rules}
 use Rattle.peg_tree.specs.Trees.{Trees}
 use Rattle.peg_tree.specs.declared.outcome.Outcome.{Outcome}
 use Rattle.peg_tree.specs.declared.outcome.Parsed.{Parsed}
 use Rattle.peg_tree.specs.declared.outcome.Parsed.TheVariants as parsed
 use Rattle.peg_parser.specs.Fits.{Fits, ResultFits}
 
--- what an outcome's result tells of the record's
+-- the result of an outcome in terms of the record's
 pub parsed-failed : (result : Recognition) → parsed.Failed ≡ parsed_of result → result ≡ recognition.Failed
 parsed-failed recognition.Failed is = refl
 parsed-failed (recognition.Matched end tree) is = cc
@@ -26,7 +26,7 @@ parsed-matched (recognition.Matched there left) end tree is =
     let same_tree : tree ≡ left = cc in
     λ i. recognition.Matched (sym same i) (sym same_tree i)
 
--- the nodes of a record's tree are of rules
+-- the nodes of a record's tree have rules of the grammar
 result-fits : (rules : List Rule) (text : List ℕ) (n : ℕ) (start : List ℕ) (r : Record)
     → start_record rules text n start ≡ Some r → (result : Parsed) → result ≡ parsed_of r.result
     → ResultFits (length rules) result

@@ -1,9 +1,9 @@
--- The names of a grammar's rules, by their numbers.
+-- The names of a grammar's rules, by number.
 use Rattle.std.proofs.Common.{◌≡◌, ℕ, zero, suc, ◌+◌, ◌<◌, ◌≤◌, All, List, [], ◌∷◌, ◌++◌, length, map, take, get_or}
 use Rattle.std.proofs.Common.{Bor, refl, sym, ap, ◌∙◌, arith}
 use Rattle.std.proofs.lemmas.List.{length-map, map_push, take_more, take_all}
 use Rattle.std.proofs.lemmas.List.Elements.{All-head, All-tail}
-use Rattle.peg_ford.specs.Rules.{Rule, names, name_of}
+use Rattle.peg_semantics.specs.Rules.{Rule, names, name_of}
 use Rattle.peg_tree.specs.Names.{name_at}
 
 -- the name with a number
@@ -12,7 +12,7 @@ name-numbered [] k low = absurd (omega arith)
 name-numbered (rule ∷ rules) zero low = refl
 name-numbered (rule ∷ rules) (suc k) low = name-numbered rules k (omega arith)
 
--- one name more
+-- the list with one more name
 pub names-more : (rules : List Rule) (list : List (Bor (List ℕ))) (k : ℕ) (name : Bor (List ℕ))
     → map (λ name. name.now) list ≡ take k (names rules) → k < length rules → name.now ≡ name_of rules k
     → map (λ name. name.now) (list ++ name ∷ []) ≡ take (k + 1) (names rules)
@@ -27,7 +27,7 @@ pub names-all : (rules : List Rule) (list : List (List ℕ)) (k : ℕ) → list 
 names-all rules list k so_far over =
     so_far ∙ take_all k (names rules) (omega (arith, length-map rules (λ rule. rule.name)))
 
--- the names by numbers, where all numbers are below how many rules there are
+-- the names by number, if all numbers are below the number of rules
 pub names-of-path : (rules : List Rule) (path : List ℕ) → All (λ rule. rule < length rules) path
     → map (name_at (names rules)) path ≡ map (name_of rules) path
 names-of-path rules [] all = refl

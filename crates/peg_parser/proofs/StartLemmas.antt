@@ -1,4 +1,4 @@
--- The start that a parse's options name.
+-- The start that the options of a parse name.
 use Rattle.std.proofs.Common.{◌≡◌, ◌↔◌, ℕ, suc, ◌+◌, ◌≤◌, Bool, true, false, not, ◌||◌, List, [], ◌∷◌, length, get_or, position}
 use Rattle.std.proofs.Common.{Option, None, Some, IfSome, bytes_eq, if◌then◌else◌, cond, refl, sym, ap, ◌∙◌, arith}
 use Rattle.std.proofs.lemmas.Grind.{common_steps}
@@ -7,11 +7,11 @@ use Rattle.std.proofs.lemmas.List.Folds.{list_any_at}
 use Rattle.std.proofs.lemmas.List.Quantifiers.{position-Some}
 use Rattle.std.proofs.lemmas.Slice.Eq.{bytes_eq-Decides}
 use Rattle.std.specs.List.{list_any, position_or_len}
-use Rattle.peg_ford.specs.Rules.{Rule, names, name_of}
-use Rattle.peg_ford.specs.Starts.{start_of}
+use Rattle.peg_semantics.specs.Rules.{Rule, names, name_of}
+use Rattle.peg_semantics.specs.Starts.{start_of}
 use Rattle.peg_parser.proofs.RuleNames.{name-numbered}
 
--- where the search goes over the end, none passes
+-- if the search reaches the end, no item passes
 none-passes : {X : Type 0} (p : X → Bool) (xs : List X) → length xs ≤ position_or_len p xs → list_any p xs ≡ false
 none-passes p [] over = refl
 none-passes p (x ∷ xs) over = by (p x) over (none-passes p xs)
@@ -41,7 +41,7 @@ start-some rules name k is =
     ap (λ (b : Bool). if b then Some name else None) (some-found (bytes_eq name) (names rules) k [] is)
     ∙ ap Some (same ∙ name-numbered rules k (omega (arith, found.0, length-map rules (λ rule. rule.name))))
 
--- a start that is named has the number at which its name is found, and none where it isn't
+-- a start by name has the number at which its name is found, and none if it isn't found
 pub start-numbered : (rules : List Rule) (start : Option (List ℕ)) (name : List ℕ) (found : Option ℕ)
     → start ≡ Some name → found ≡ position (bytes_eq name) (names rules)
     → IfSome found (λ k. start_of rules start ≡ Some (name_of rules k))

@@ -2,15 +2,15 @@
 use Rattle.std.proofs.Common.{◌≡◌, ℕ, ◌<◌, List, length, Option, Some, sym, ◌∙◌, subst}
 use Rattle.peg_core.specs.CoreForm.{CoreForm, core_bodies, number_of}
 use Rattle.peg_core.specs.Layout.{bodies_of}
-use Rattle.peg_ford.specs.Rules.{name_of}
-use Rattle.peg_ford.specs.Starts.{start_of}
+use Rattle.peg_semantics.specs.Rules.{name_of}
+use Rattle.peg_semantics.specs.Starts.{start_of}
 use Rattle.peg_machine.specs.CoreOutcome.{TakesMore}
 use Rattle.peg_parser.specs.Parser.{parser_rules}
 use Rattle.peg_parser.specs.StepLimits.{TakesMoreSteps}
 use Rattle.peg_parser.specs.declared.parser.Parser.{Parser}
 use Rattle.peg_parser.proofs.CoreStarts.{number-named, same-bodies}
 
--- what a parser's program takes is what its grammar's core forms take
+-- the steps of a parser's program are those of its grammar's core forms
 pub of-program : (parser : Parser) (text : List ℕ) (start : ℕ) (most : Option ℕ)
     → TakesMore (bodies_of parser.program.core) text start most
     → TakesMore (core_bodies (parser_rules parser)) text start most
@@ -23,7 +23,7 @@ pub to-program : (parser : Parser) (text : List ℕ) (start : ℕ) (most : Optio
 to-program parser text start most =
     subst (λ (bodies : List CoreForm). TakesMore bodies text start most) (sym (same-bodies parser))
 
--- a start that has a rule's name takes what that rule takes
+-- the steps of a start with a rule's name are those of the rule
 pub of-start : (parser : Parser) (text : List ℕ) (named : Option (List ℕ)) (start : ℕ) (most : Option ℕ)
     → start < length (parser_rules parser)
     → start_of (parser_rules parser) named ≡ Some (name_of (parser_rules parser) start)

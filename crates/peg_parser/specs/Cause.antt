@@ -1,10 +1,10 @@
--- Why a grammar file, a start or a text is refused.
+-- Why a grammar file, a start or a text is rejected.
 use Rattle.std.specs.Prelude.{ℕ, List}
 use Rattle.peg_bytes.specs.Extent.{Extent}
-use Rattle.peg_ford.specs.Form.{Reference}
+use Rattle.peg_semantics.specs.Form.{Reference}
 
--- A place is one of the grammar file. A name comes with where it stands, an empty loop with its rule's name and its own
--- place, a left cycle with the names of its rules.
+-- A reason for rejection. Offsets are byte offsets in the grammar file. A name comes with its span, an empty loop with
+-- the name of its rule and the span of the loop. A left cycle comes with the names of its rules.
 pub data Cause : Type 0 where
   FileTooLong : Cause
   Syntax : (at : ℕ) → Cause
@@ -22,6 +22,6 @@ pub data Cause : Type 0 where
   TooDeep : Cause
   TextTooLong : Cause
 
--- a name and where it stands
+-- a name and its span
 abbrev pub reference : List ℕ → Extent → Reference
 reference name span = record { name = name; span = span }

@@ -1,5 +1,5 @@
--- Describes code: what the faults of the layers tell, as causes, which have names in place of numbers; and where these
--- lie.
+-- Describes code: the causes that the faults of the stages denote, with names in place of rule numbers, and their
+-- offsets.
 use Rattle.std.specs.Prelude.{◌≡◌, ℕ, ◌≤◌, List, [], length, Option, None, Some, IfSome, map, string_bytes}
 use Rattle.peg_bytes.specs.Extent.{extent}
 use Rattle.peg_check.specs.Verdicts.{NamesRules}
@@ -7,7 +7,7 @@ use Rattle.peg_check.specs.declared.fault.CheckFault.{CheckFault}
 use Rattle.peg_check.specs.declared.fault.CheckFault.TheVariants as check
 use Rattle.peg_code.specs.declared.fault.CodeFault.{CodeFault}
 use Rattle.peg_code.specs.declared.fault.CodeFault.TheVariants as code
-use Rattle.peg_ford.specs.Rules.{names}
+use Rattle.peg_semantics.specs.Rules.{names}
 use Rattle.peg_grammar.specs.GrammarRules.{rules_in}
 use Rattle.peg_grammar.specs.declared.fault.GrammarFault.{GrammarFault}
 use Rattle.peg_grammar.specs.declared.fault.GrammarFault.TheVariants as grammar
@@ -21,7 +21,7 @@ use Rattle.peg_parser.specs.Refusals.{Shows}
 use Rattle.peg_parser.specs.declared.refusal.Refusal.{Refusal}
 use Rattle.peg_parser.specs.declared.refusal.Refusal.TheVariants as refusal
 
--- ---- what they tell: of want of memory, nothing
+-- ---- the cause of a fault; out of memory has none
 
 abbrev pub notation_cause : NotationFault → Option Cause
 notation_cause notation.FileTooLong = Some FileTooLong
@@ -43,7 +43,7 @@ check_cause names (check.EmptyLoop rule span) = Some (EmptyLoop (reference (name
 check_cause names (check.LeftRecursion path) = Some (LeftRecursion (map (name_at names) path.items))
 check_cause names check.Memory = None
 
--- a refusal of a grammar file, where rules have these names
+-- the cause of a rejected grammar file, where the rules have these names
 abbrev pub refusal_cause : (names : List (List ℕ)) → Refusal → Option Cause
 refusal_cause names (refusal.Notation why) = notation_cause why
 refusal_cause names (refusal.Grammar why) = grammar_cause why
@@ -51,18 +51,18 @@ refusal_cause names (refusal.NotWellFormed why grammar) = check_cause names why
 refusal_cause names refusal.CodeTooLarge = Some CodeTooLarge
 refusal_cause names refusal.Memory = None
 
--- the names that a refusal has for the rules that it numbers
+-- the names that a refusal has for the rules that it refers to by number
 abbrev pub names_told : Refusal → List (List ℕ)
 names_told (refusal.NotWellFormed why grammar) = names (rules_in grammar)
 names_told other = []
 
--- what a refusal tells by its own names
+-- the cause of a refusal, by its own names
 abbrev pub cause_told : Refusal → Option Cause
 cause_told why = refusal_cause (names_told why) why
 
--- ---- where they lie
+-- ---- the offsets of causes
 
--- the places and spans of a cause start in a file of this length
+-- the offsets and spans of a cause start within a file of this length
 abbrev pub StartsIn : (size : ℕ) → Cause → Type 0
 StartsIn size (Syntax at) = at ≤ size
 StartsIn size (TooNested at) = at ≤ size
@@ -72,14 +72,14 @@ StartsIn size (Undefined name) = name.span.start ≤ size
 StartsIn size (EmptyLoop rule) = rule.span.start ≤ size
 StartsIn size cause = Unit {0}
 
--- the rules that a refusal numbers are among so many
+-- the rule numbers of a refusal are below `count`
 abbrev pub RefusalNames : (count : ℕ) → Refusal → Type 0
 RefusalNames count (refusal.NotWellFormed why grammar) = NamesRules count why
 RefusalNames count other = Unit {0}
 
--- ---- how they are passed on
+-- ---- how faults are converted
 
--- want of memory is told by itself alone
+-- out of memory is `Memory` in every stage
 abbrev pub of_notation : NotationFault → Refusal
 of_notation notation.Memory = refusal.Memory
 of_notation why = refusal.Notation why
@@ -96,17 +96,17 @@ abbrev pub of_code : CodeFault → Refusal
 of_code code.CodeTooLarge = refusal.CodeTooLarge
 of_code code.Memory = refusal.Memory
 
--- What a refusal tells is a cause of this kind, which starts in a file of this length, and it has names for the rules
--- that it numbers; or memory ran out.
+-- A refusal has a cause of this kind. The cause starts within a file of this length, and the refusal has names for the
+-- rules that it refers to by number. Or an allocation failed.
 pub data TellsWhy (Kind : Cause → Type 0) (size : ℕ) (why : Refusal) : Type 0 where
   want_of_memory : why ≡ refusal.Memory → TellsWhy Kind size why
   of_cause : (cause : Cause) → cause_told why ≡ Some cause → Kind cause → StartsIn size cause
       → RefusalNames (length (names_told why)) why → TellsWhy Kind size why
 
--- a refusal can be told of a file of this length
+-- a refusal that a file of this length can have
 abbrev pub IsTellable : (size : ℕ) → Refusal → Type 0
 IsTellable size why = TellsWhy (λ cause. Unit {0}) size why
 
--- what a refusal shows of the file
+-- what a refusal implies about the file
 abbrev pub Means : List ℕ → Refusal → Type 0
 Means file why = IfSome (cause_told why) (Shows file)

@@ -1,41 +1,42 @@
--- Why a grammar file is refused: in the order of what is looked at first.
+-- Why a grammar file is rejected, in the order of the tests.
 use Rattle.std.specs.Prelude.{◌≡◌, ◌⊎◌, ℕ, ◌<◌, ◌≤◌, List, length, map, None, Some}
 use Rattle.peg_bytes.specs.Extent.{Extent}
-use Rattle.peg_ford.specs.Form.{Reference}
-use Rattle.peg_ford.specs.Grammar.{IsGrammar, most_parts, first_duplicate, first_undefined}
-use Rattle.peg_ford.specs.Loops.{IsEmptyLoop, IsLeftCycle}
-use Rattle.peg_ford.specs.Rules.{Rule, name_of, weight_of}
-use Rattle.peg_ford.specs.WellFormed.{IsWellFormedGrammar}
+use Rattle.peg_semantics.specs.Form.{Reference}
+use Rattle.peg_semantics.specs.Grammar.{IsGrammar, max_parts, first_duplicate, first_undefined}
+use Rattle.peg_semantics.specs.Loops.{IsEmptyLoop, IsLeftCycle}
+use Rattle.peg_semantics.specs.Rules.{Rule, name_of, weight_of}
+use Rattle.peg_semantics.specs.WellFormed.{IsWellFormedGrammar}
 use Rattle.peg_check.specs.Verdicts.{AllDiffer}
-use Rattle.peg_figure.specs.Notation.{FigureMatches, IsInNotation, IsReading, most_file_bytes}
+use Rattle.peg_metagrammar.specs.Notation.{FigureMatches, IsInNotation, IsReading, max_file_bytes}
 use Rattle.peg_lexer.specs.Tokens.{IsLexingFault}
-use Rattle.peg_figure.specs.Nesting.{most_open}
+use Rattle.peg_metagrammar.specs.Nesting.{max_open}
 use Rattle.peg_notation.specs.Reads.{CountsOutOfRange, IsBadCountToken, IsOneTooMany, IsTokenPlace, NestsDeeper}
-use Rattle.peg_code.specs.Compiled.{most_instructions}
+use Rattle.peg_code.specs.Compiled.{max_instructions}
 use Rattle.peg_parser.specs.Accepts.{IsRead, IsTaken, code_size}
 use Rattle.peg_parser.specs.Cause.{Cause, FileTooLong, Syntax, TooNested, BadCount, Duplicate, Undefined, TooManyParts}
 use Rattle.peg_parser.specs.Cause.{EmptyLoop, LeftRecursion, CodeTooLarge, reference}
 
--- The file isn't read, or the rules that it spells, of which there are some, are no grammar that is taken. A place of a
--- file without syntax is its lexing fault, or else where a token starts or the end; a parenthesis is one too many where
--- it is the first that opens inside too many others; a count that is told is out of range, and where the figure matches
--- the file some count is.
+-- The file can't be read, or it has definitions that aren't a grammar within the limits.
+--
+-- The offset of a syntax error is that of a lexical error, or the start of a token, or the end of the file. The offset
+-- of `TooNested` is that of the first parenthesis that opens inside too many others. The count of `BadCount` is out of
+-- range, and if the metagrammar matches the file some count is.
 pub data IsNoGrammar (file : List ℕ) : Cause → Type 0 where
-  file_too_long : most_file_bytes < length file → IsNoGrammar file FileTooLong
-  not_in_the_notation : {at : ℕ} → length file ≤ most_file_bytes → ¬ FigureMatches file
+  file_too_long : max_file_bytes < length file → IsNoGrammar file FileTooLong
+  not_in_the_notation : {at : ℕ} → length file ≤ max_file_bytes → ¬ FigureMatches file
       → IsLexingFault file at ⊎ IsTokenPlace file at → IsNoGrammar file (Syntax at)
-  too_nested : {at : ℕ} → length file ≤ most_file_bytes → NestsDeeper most_open file
-      → IsOneTooMany most_open file at → IsNoGrammar file (TooNested at)
-  count_out_of_range : {at : ℕ} → length file ≤ most_file_bytes → CountsOutOfRange file
+  too_nested : {at : ℕ} → length file ≤ max_file_bytes → NestsDeeper max_open file
+      → IsOneTooMany max_open file at → IsNoGrammar file (TooNested at)
+  count_out_of_range : {at : ℕ} → length file ≤ max_file_bytes → CountsOutOfRange file
       → IsBadCountToken file at → IsNoGrammar file (BadCount at)
   a_name_twice : {rules : List Rule} {name : Reference} → IsRead file rules → first_duplicate rules ≡ Some name
       → IsNoGrammar file (Duplicate name)
   a_name_missing : {rules : List Rule} {name : Reference} → IsRead file rules → first_duplicate rules ≡ None
       → first_undefined rules ≡ Some name → IsNoGrammar file (Undefined name)
-  too_many_parts : {rules : List Rule} → IsRead file rules → IsGrammar rules → most_parts < weight_of rules
+  too_many_parts : {rules : List Rule} → IsRead file rules → IsGrammar rules → max_parts < weight_of rules
       → IsNoGrammar file TooManyParts
 
--- the file spells a grammar that isn't well-formed; a left cycle is told by rules that differ
+-- the grammar of the file isn't well-formed; the rules of a left cycle are distinct
 pub data IsIllFormed (file : List ℕ) : Cause → Type 0 where
   empty_loop : {rules : List Rule} (number : ℕ) (span : Extent) → IsRead file rules → IsTaken rules
       → ¬ IsWellFormedGrammar rules → IsEmptyLoop rules number span
@@ -44,24 +45,24 @@ pub data IsIllFormed (file : List ℕ) : Cause → Type 0 where
       → ¬ IsWellFormedGrammar rules → ((number : ℕ) (span : Extent) → ¬ IsEmptyLoop rules number span)
       → IsLeftCycle rules path → AllDiffer path → IsIllFormed file (LeftRecursion (map (name_of rules) path))
 
--- the file spells a well-formed grammar whose code is too large
+-- the grammar of the file is well-formed, but its code is too large
 pub data HasTooMuchCode (file : List ℕ) : Cause → Type 0 where
   code_too_large : {rules : List Rule} → IsRead file rules → IsTaken rules → IsWellFormedGrammar rules
-      → most_instructions < code_size rules → HasTooMuchCode file CodeTooLarge
+      → max_instructions < code_size rules → HasTooMuchCode file CodeTooLarge
 
 -- why a file isn't accepted
 abbrev pub Refuses : List ℕ → Cause → Type 0
 Refuses file cause = IsNoGrammar file cause ⊎ (IsIllFormed file cause ⊎ HasTooMuchCode file cause)
 
--- ---- what a refusal means
+-- ---- what a refusal implies
 
--- the file isn't in the notation; or what it spells isn't a grammar, or not a well-formed one
+-- the file isn't in the notation; or its rules are no grammar, or no well-formed one
 pub data IsWrong (file : List ℕ) : Type 0 where
   no_notation : ¬ IsInNotation file → IsWrong file
   no_grammar : (rules : List Rule) → IsReading file rules → ¬ IsGrammar rules → IsWrong file
   ill_formed : (rules : List Rule) → IsReading file rules → ¬ IsWellFormedGrammar rules → IsWrong file
 
--- a refusal for a stated limit says nothing about the file's grammar; any other that it is wrong
+-- a refusal for a stated limit says nothing about the file's grammar; any other implies that it is wrong
 abbrev pub Shows : List ℕ → Cause → Type 0
 Shows file FileTooLong = Unit {0}
 Shows file (TooNested at) = Unit {0}

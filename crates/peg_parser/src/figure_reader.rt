@@ -1,36 +1,37 @@
-//! Grammar files read by Ford's figure 1 itself: its own code parses the file, and the tree spells the definitions.
+//! Reads grammar files by the metagrammar (Ford's figure 1, extended): its own code parses the file, and the tree
+//! gives the definitions.
 ghost use Rattle.std.specs.Prelude.{◌≡◌, ◌≤◌, ℕ, length, IfOk, IfErr, IsErrOf, MatchOption};
-ghost use Rattle.peg_figure.specs.Figure.{figure};
-ghost use Rattle.peg_figure.specs.Notation.{most_file_bytes, FigureMatches};
+ghost use Rattle.peg_metagrammar.specs.Figure.{figure};
+ghost use Rattle.peg_metagrammar.specs.Notation.{max_file_bytes, FigureMatches};
 ghost use Rattle.peg_parser.specs.Parser.{parser_rules};
 ghost use Rattle.peg_parser.specs.ReadsByFigure.{ReadsByFigure};
-ghost use Rattle.peg_spelling.specs.FigureTrees.{IsTreeOf};
+ghost use Rattle.peg_bootstrap.specs.FigureTrees.{IsTreeOf};
 
 use crate::options::ParseOptions;
 use crate::parser::{ParseFault, Parser};
 use crate::refusal::Refusal;
 use peg_grammar::{Definition, Grammar};
-use peg_notation::{DefinitionsFault, MOST_FILE_BYTES, definitions_of, figure};
+use peg_notation::{DefinitionsFault, MAX_FILE_BYTES, definitions_of, figure};
 use peg_tree::{Outcome, Parsed, Tree};
 use std::alloc::Global;
 use thiserror::Error;
 
-/// Why a file isn't read by the figure.
+/// Why the metagrammar doesn't read a file.
 #[derive(Clone, Copy, Debug, PartialEq, Eq, Error)]
 pub enum FigureFault {
-    /// It has more than `MOST_FILE_BYTES` bytes.
+    /// The file has more than `MAX_FILE_BYTES` bytes.
     #[error("the grammar file is too long")]
     FileTooLong,
-    /// The figure doesn't match it.
+    /// The metagrammar doesn't match the file.
     #[error("the grammar file isn't in the notation")]
     NotInFigure,
-    /// More than `MOST_OPEN` of its parentheses are open at once.
+    /// More than `MAX_OPEN` parentheses are open at once.
     #[error("the grammar file's parentheses nest too deep")]
     TooNested,
-    /// The first count that is out of range, and where its brace stands.
+    /// A count is out of range; `at` is the byte offset of the first such count's brace.
     #[error("a count of the grammar file is out of range")]
     BadCount { at: u32 },
-    /// Memory ran out.
+    /// Out of memory.
     #[error("out of memory")]
     Memory,
 }
@@ -49,22 +50,24 @@ impl From<DefinitionsFault> for FigureFault {
     }
 }
 
-/// The definitions of a grammar file, in order, as the figure's own parse of it tells them (Ford 2004, section 2.1):
-/// `FileTooLong` for over `MOST_FILE_BYTES` bytes; `NotInFigure` where the figure doesn't match it; `TooNested` where
-/// more than `MOST_OPEN` parentheses are open at once; else `BadCount` at the first count that is out of range; `Memory`.
+/// Returns the definitions of a grammar file, in order, by the metagrammar's parse of it (Ford 2004, section 2.1).
+///
+/// Returns `FileTooLong` for more than `MAX_FILE_BYTES` bytes, and `NotInFigure` if the metagrammar doesn't match the
+/// file. Returns `TooNested` if more than `MAX_OPEN` parentheses are open at once, otherwise `BadCount` at the first
+/// count that is out of range. Returns `Memory` if an allocation fails.
 pub fn read_by_figure(alloc: Global, file: &[u8]) -> Result<Vec<Definition>, FigureFault>
     ensures { ReadsByFigure file.now result }
 {
-    if file.len() > MOST_FILE_BYTES {
+    if file.len() > MAX_FILE_BYTES {
         return Err(FigureFault::FileTooLong);
     }
     let tree = figure_tree(alloc, file)?;
     Ok(definitions_of(alloc, &tree, file)?)
 }
 
-// The tree that the figure leaves of a file.
+// Parses a file by the metagrammar.
 fn figure_tree(alloc: Global, file: &[u8]) -> Result<Tree, FigureFault>
-    requires { length file.now ≤ most_file_bytes }
+    requires { length file.now ≤ max_file_bytes }
     ensures tree { IfOk result (IsTreeOf file.now) }
     ensures none { IsErrOf result FigureFault.NotInFigure → ¬ FigureMatches file.now }
     ensures other { IsErrOf result FigureFault.TooNested → ⊥ }
@@ -77,10 +80,10 @@ fn figure_tree(alloc: Global, file: &[u8]) -> Result<Tree, FigureFault>
     }
 }
 
-// The tree that the figure's parser leaves of a file.
+// Parses a file by the metagrammar's parser.
 fn tree_by(alloc: Global, parser: &Parser, file: &[u8]) -> Result<Tree, FigureFault>
     requires rules { parser_rules parser.now ≡ figure }
-    requires short { length file.now ≤ most_file_bytes }
+    requires short { length file.now ≤ max_file_bytes }
     ensures tree { IfOk result (IsTreeOf file.now) }
     ensures none { IsErrOf result FigureFault.NotInFigure → ¬ FigureMatches file.now }
     ensures other { IsErrOf result FigureFault.TooNested → ⊥ }
@@ -104,7 +107,7 @@ fn tree_by(alloc: Global, parser: &Parser, file: &[u8]) -> Result<Tree, FigureFa
     }
 }
 
-// The tree of an outcome, if there is one.
+// The tree of an outcome, if it is a match.
 fn tree_of(outcome: Outcome) -> Option<Tree>
     ensures { MatchOption result (outcome.result ≡ Parsed.Failed)
         (λ tree. (end : ℕ) × (outcome.result ≡ Parsed.Matched end tree)) }
@@ -116,7 +119,7 @@ fn tree_of(outcome: Outcome) -> Option<Tree>
     }
 }
 
-// The parser of the figure, which is well-formed and whose code is small: nothing but memory can be wanting.
+// The parser of the metagrammar. The metagrammar is well-formed and its code is small, so only an allocation can fail.
 fn figure_parser(alloc: Global) -> Result<Parser, Refusal>
     ensures rules { IfOk result (λ parser. parser_rules parser ≡ figure) }
     ensures memory { IfErr result (λ why. why ≡ Refusal.Memory) }

@@ -1,10 +1,10 @@
-//! The layers that a grammar file goes through: reading, its grammar, the check.
+//! The stages of a grammar file: reading, its grammar, the check.
 ghost use Rattle.std.specs.Prelude.{◌≡◌, All, IfOk, IfErr, OnOk, length};
 ghost use Rattle.peg_check.specs.Verdicts.{IsIllFormedBy, NamesRules};
 ghost use Rattle.peg_core.specs.CoreForm.{core_bodies};
 ghost use Rattle.peg_core.specs.Layout.{bodies_of};
-ghost use Rattle.peg_ford.specs.Terminals.{extents_of_terminals};
-ghost use Rattle.peg_ford.specs.WellFormed.{IsWellFormedGrammar};
+ghost use Rattle.peg_semantics.specs.Terminals.{extents_of_terminals};
+ghost use Rattle.peg_semantics.specs.WellFormed.{IsWellFormedGrammar};
 ghost use Rattle.peg_grammar.specs.GrammarRules.{rules_in};
 ghost use Rattle.peg_notation.specs.Spans.{RuleLiesIn};
 ghost use Rattle.peg_parser.specs.Accepts.{IsRead, IsTaken};
@@ -18,8 +18,8 @@ use peg_grammar::Grammar;
 use peg_notation::read;
 use std::alloc::Global;
 
-/// The grammar that a file spells, well-formed or not, or why the file is refused: first as no file of the notation,
-/// then as no grammar (Ford 2004, figure 1 and section 3.1). Linear in the file, but for hashing.
+/// Returns the grammar of a file, well-formed or not. The file is rejected first if it isn't in the notation, then if
+/// its definitions are no grammar (Ford 2004, figure 1 and section 3.1). Linear in the file, apart from hashing.
 #[tactic(auto, using(crate::proofs::AcceptLemmas::accepting))]
 pub fn grammar_of(alloc: Global, file: &[u8]) -> Result<Grammar, Refusal>
     ensures read { IfOk result (λ grammar. IsRead file.now (rules_in grammar)) }
@@ -32,7 +32,7 @@ pub fn grammar_of(alloc: Global, file: &[u8]) -> Result<Grammar, Refusal>
     Ok(grammar)
 }
 
-/// The checked core forms of a grammar, or why it isn't well-formed.
+/// Returns the checked core forms of a grammar, or why it isn't well-formed.
 pub(crate) fn checked_core(alloc: Global, grammar: &Grammar) -> Result<Checked, CheckFault>
     ensures well_formed { OnOk result (IsWellFormedGrammar (rules_in grammar.now)) }
     ensures bodies { IfOk result (λ checked. bodies_of checked.core ≡ core_bodies (rules_in grammar.now)) }

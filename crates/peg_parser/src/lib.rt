@@ -1,4 +1,4 @@
-//! Parsers: grammar files that are accepted, or why they are refused, and the texts that are parsed by them.
+//! Parsers: accepted grammar files, the reasons for rejecting others, and parsing texts.
 #![tactic(auto)]
 
 mod figure_reader;

@@ -1,15 +1,15 @@
-//! How a text is parsed.
+//! Options of a parse.
 
-/// The capacity of the memo where none is given.
+/// The default capacity of the memo.
 pub const DEFAULT_MEMO: u32 = 4096;
 
-/// From which rule a text is parsed, how large the memo may grow, and how long the parse may take.
+/// The options of a parse: start rule, memo capacity and step limit.
 #[derive(Clone, Copy, Debug, PartialEq, Eq)]
 pub struct ParseOptions<'a> {
-    /// The name of the rule to start from; the grammar's first rule, if none is named.
+    /// The name of the start rule; `None` for the grammar's first rule.
     pub start: Option<&'a str>,
-    /// The most results that the memo may hold; with 0 there is none. It changes no answer.
+    /// The capacity of the memo, in entries; 0 for no memo. It changes no result.
     pub memo: u32,
-    /// The most steps that the parse may take, each an instruction of the grammar's code; no limit, if there is none.
+    /// The most steps that the parse may take, one for each instruction executed; `None` for no limit.
     pub steps: Option<u64>,
 }

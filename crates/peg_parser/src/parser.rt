@@ -1,4 +1,4 @@
-//! Parsers: grammar files that are accepted, and texts that are parsed by them.
+//! Parsers: accepted grammar files, and parsing texts by them.
 ghost use Rattle.std.specs.Prelude.{◌≡◌, ◌<◌, ◌≤◌, ◌↔◌, ℕ, List, All, None};
 ghost use Rattle.std.specs.Prelude.{length, slice_get, Some, IfOk, IfErr, IfSome, IsErrOf, OnOk};
 ghost use Rattle.std.specs.FinMap as map;
@@ -6,11 +6,11 @@ ghost use Rattle.peg_bytes.specs.Extent.{extent};
 ghost use Rattle.peg_core.specs.CoreForm.{core_bodies};
 ghost use Rattle.peg_core.specs.Layout.{bodies_of};
 ghost use Rattle.peg_code.specs.Code.{entries_of, program_code};
-ghost use Rattle.peg_code.specs.Compiled.{most_instructions};
+ghost use Rattle.peg_code.specs.Compiled.{max_instructions};
 ghost use Rattle.peg_grammar.specs.GrammarRules.{rules_in};
 ghost use Rattle.peg_grammar.specs.Outcomes.{IsOutcome};
-ghost use Rattle.peg_ford.specs.Terminals.{extents_of_terminals};
-ghost use Rattle.peg_ford.specs.WellFormed.{IsWellFormedGrammar};
+ghost use Rattle.peg_semantics.specs.Terminals.{extents_of_terminals};
+ghost use Rattle.peg_semantics.specs.WellFormed.{IsWellFormedGrammar};
 ghost use Rattle.peg_machine.specs.CoreOutcome.{TakesMore};
 
 use crate::layers::{checked_core, grammar_of};
@@ -18,19 +18,19 @@ use crate::options::ParseOptions;
 use crate::refusal::Refusal;
 use peg_bytes::Span;
 use peg_code::{Program, compile};
-use peg_grammar::{Grammar, MOST_TEXT_BYTES};
+use peg_grammar::{Grammar, MAX_TEXT_BYTES};
 use peg_machine::{Answer, NoWatch, RunFault, run};
 use peg_memo::{Keep, NoMemo};
-use peg_policy::{Costs, Selective};
+use peg_memo_policy::{RerunCosts, SelectiveMemo};
 use std::alloc::{AllocError, Global};
 use thiserror::Error;
 
-/// A grammar file that was accepted: its grammar is well-formed, and parses every text. It is compiled.
+/// The parser of an accepted grammar file: its grammar is well-formed, is compiled, and parses every text.
 #[derive(Drop)]
 pub struct Parser {
     grammar: Grammar,
     program: Program,
-    costs: Costs,
+    costs: RerunCosts,
     pub ghost well_formed: { ∥ IsWellFormedGrammar (rules_in grammar) ∥₁ },
     pub ghost bodies: { ∥ bodies_of program.core ≡ core_bodies (rules_in grammar) ∥₁ },
     pub ghost code: { program.code ≡ program_code (core_bodies (rules_in grammar)) },
@@ -47,10 +47,10 @@ pub enum ParseFault {
     /// The text has more than 67,108,864 bytes.
     #[error("the text is too long")]
     TextTooLong,
-    /// The parse takes more steps than were allowed.
+    /// The parse takes more steps than the limit allows.
     #[error("the parse takes more steps than were allowed")]
     StepLimit,
-    /// Memory ran out.
+    /// Out of memory.
     #[error("out of memory")]
     Memory,
 }
@@ -67,7 +67,7 @@ impl From<AllocError> for ParseFault {
 }
 
 impl Parser {
-    ghost use Rattle.peg_ford.specs.Rules.{name_of};
+    ghost use Rattle.peg_semantics.specs.Rules.{name_of};
     ghost use Rattle.peg_notation.specs.Spans.{RuleLiesIn};
     ghost use Rattle.peg_parser.specs.Accepts.{Accepts, IsRead, IsTaken, code_size};
     ghost use Rattle.peg_parser.specs.Faults.{Means, TellsWhy};
@@ -75,13 +75,14 @@ impl Parser {
     ghost use Rattle.peg_parser.specs.Parser.{parser_rules, start_named};
     ghost use Rattle.peg_parser.specs.Refusals.{Refuses};
     ghost use Rattle.peg_parser.specs.StepLimits.{TakesMoreSteps};
-    ghost use Rattle.peg_grammar.specs.Limits.{most_text_bytes};
-    ghost use Rattle.peg_ford.specs.Starts.{start_of};
+    ghost use Rattle.peg_grammar.specs.Limits.{max_text_bytes};
+    ghost use Rattle.peg_semantics.specs.Starts.{start_of};
 
-    /// The parser of a grammar file, or why the file is refused: first as no file of the notation, then as no grammar,
-    /// then as none that is well-formed (Ford 2004, figure 1 and sections 3.1 and 3.6), then as one whose code is too
-    /// large. What is the first three is refused for nothing but a stated limit or want of memory. Linear in the file, but
-    /// for hashing and for sorting the rules that one rule meets first.
+    /// Returns the parser of a grammar file, or why the file is rejected. The tests come in this order: the notation,
+    /// a grammar, a well-formed grammar (Ford 2004, figure 1 and sections 3.1 and 3.6), and the size of its code.
+    ///
+    /// A file that passes the first three tests is rejected only for a stated limit or if an allocation fails. Linear
+    /// in the file, apart from hashing and sorting the left calls of each rule.
     #[tactic(auto, using(crate::proofs::AcceptLemmas::accepting))]
     pub fn from_file(alloc: Global, file: &[u8]) -> Result<Parser, Refusal>
         ensures accepted { IfOk result (λ parser. Accepts file.now (parser_rules parser)) }
@@ -94,20 +95,20 @@ impl Parser {
         }
     }
 
-    // The parser of a grammar, if that is well-formed and its code isn't too large.
+    // The parser of a grammar, if it is well-formed and its code isn't too large.
     pub(crate) fn of(alloc: Global, grammar: Grammar) -> Result<Parser, Refusal>
         ensures rules { IfOk result (λ parser. parser_rules parser ≡ rules_in grammar) }
         ensures well_formed { OnOk result (IsWellFormedGrammar (rules_in grammar)) }
-        ensures small { OnOk result (code_size (rules_in grammar) ≤ most_instructions) }
+        ensures small { OnOk result (code_size (rules_in grammar) ≤ max_instructions) }
         ensures refused { (file : List ℕ) → IsRead file (rules_in grammar) → IsTaken (rules_in grammar)
             → All (RuleLiesIn (length file)) (rules_in grammar) → IfErr result (TellsWhy (Refuses file) (length file)) }
         ensures refused_where { IsWellFormedGrammar (rules_in grammar)
-            → code_size (rules_in grammar) ≤ most_instructions → IfErr result (λ why. why ≡ Refusal.Memory) }
+            → code_size (rules_in grammar) ≤ max_instructions → IfErr result (λ why. why ≡ Refusal.Memory) }
     {
         match checked_core(alloc, &grammar) {
             Ok(checked) => {
                 let program = compile(alloc, checked)?;
-                let costs = Costs::new(alloc, &program)?;
+                let costs = RerunCosts::new(alloc, &program)?;
                 Ok(Parser {
                     grammar,
                     program,
@@ -118,15 +119,15 @@ impl Parser {
         }
     }
 
-    /// The grammar that the file spells. Takes constant time.
+    /// Returns the grammar of the file. Constant time.
     pub fn grammar(&self) -> &Grammar
         ensures { rules_in result.now ≡ parser_rules self.now }
     {
         &self.grammar
     }
 
-    /// The code of the grammar that the file spells: each rule's expression by Ford's sugar (Ford 2004, section 3.2).
-    /// Takes constant time.
+    /// Returns the compiled code of the grammar. Each rule's expression is desugared first (Ford 2004, section 3.2).
+    /// Constant time.
     pub fn program(&self) -> &Program
         ensures code { result.now.code ≡ program_code (core_bodies (parser_rules self.now)) }
         ensures entries { result.now.entries ≡ entries_of (core_bodies (parser_rules self.now)) }
@@ -134,7 +135,7 @@ impl Parser {
         &self.program
     }
 
-    /// Where a terminal stands in the grammar file: its first byte and the one behind it. Takes constant time.
+    /// Returns the span of a terminal in the grammar file: the byte offsets of its start and its end. Constant time.
     pub fn terminal_span(&self, terminal: u32) -> Span
         requires { terminal < length (extents_of_terminals (parser_rules self.now)) }
         ensures { slice_get (extents_of_terminals (parser_rules self.now)) terminal ≡ Some (extent result) }
@@ -142,11 +143,13 @@ impl Parser {
         self.program.terminal_span(terminal)
     }
 
-    /// What a rule of the grammar makes of a text's front: success, consumed length, tree and furthest failure are
-    /// those of Ford's recognition relation for the grammar as written (Ford 2004, section 3.3), whatever the memo keeps
-    /// (Ford 2002). `NoSuchStart` comes first, then `TextTooLong`; `StepLimit` only where more steps are needed than
-    /// `options.steps`. Without a memo, or with one too small, it may take time exponential in the text's length; no
-    /// native recursion.
+    /// Parses a prefix of a text by the rule that `options` names. Success, consumed length, tree and furthest failure
+    /// are those of Ford's recognition relation for the grammar as written (Ford 2004, section 3.3). What the memo
+    /// stores doesn't change them (Ford 2002).
+    ///
+    /// Returns `NoSuchStart` first, then `TextTooLong`. Returns `StepLimit` only if more steps than `options.steps`
+    /// are needed, and `Memory` if an allocation fails. Without a memo, or with one too small, the time may be
+    /// exponential in the text's length. No native recursion.
     pub fn parse(
         &self,
         alloc: Global,
@@ -156,13 +159,13 @@ impl Parser {
         ensures no_start { IsErrOf result ParseFault.NoSuchStart
             ↔ (start_of (parser_rules self.now) (start_named options.now) ≡ None) }
         ensures long { (start : List ℕ) → start_of (parser_rules self.now) (start_named options.now) ≡ Some start
-            → (IsErrOf result ParseFault.TextTooLong ↔ (most_text_bytes < length text.now)) }
-        ensures short { OnOk result (length text.now ≤ most_text_bytes) }
+            → (IsErrOf result ParseFault.TextTooLong ↔ (max_text_bytes < length text.now)) }
+        ensures short { OnOk result (length text.now ≤ max_text_bytes) }
         ensures outcome { IfOk result (λ answer. IfSome (start_of (parser_rules self.now) (start_named options.now))
             (λ start. IsOutcome (parser_rules self.now) text.now start answer.outcome)) }
         ensures fits { IfOk result (λ answer. Fits (parser_rules self.now) answer.outcome) }
 
-        // A limit of steps: an answer keeps to it, and where more are needed without a memo there is no answer.
+        // The step limit: an answer stays within it. Without a memo there is no answer if more steps are needed.
         ensures allowed { IfOk result (λ answer. (limit : ℕ) → options.now.steps ≡ Some limit → answer.steps ≤ limit) }
         ensures limited { IsErrOf result ParseFault.StepLimit
             → TakesMoreSteps (parser_rules self.now) text.now (start_named options.now) options.now.steps }
@@ -172,14 +175,14 @@ impl Parser {
         let Some(start) = self.start(options) else {
             return Err(ParseFault::NoSuchStart);
         };
-        if options.memo == 0 || text.len() > MOST_TEXT_BYTES {
+        if options.memo == 0 || text.len() > MAX_TEXT_BYTES {
             return self.answer(alloc, text, start, &mut NoMemo, options.steps);
         }
-        let mut memo = Selective::new(alloc, options.memo, &self.costs, text)?;
+        let mut memo = SelectiveMemo::new(alloc, options.memo, &self.costs, text)?;
         self.answer(alloc, text, start, &mut memo, options.steps)
     }
 
-    // What the machine makes of a text from a rule, with a memo that holds nothing yet, in at most so many steps.
+    // Runs the machine on a text from a rule, with an empty memo.
     fn answer<K: Keep>(
         &self,
         alloc: Global,
@@ -191,7 +194,7 @@ impl Parser {
         requires start { start < length (parser_rules self.now) }
         requires empty { map.len (K.held memo.old) ≡ 0 }
         ensures started { ¬ IsErrOf result ParseFault.NoSuchStart }
-        ensures long { IsErrOf result ParseFault.TextTooLong ↔ (most_text_bytes < length text.now) }
+        ensures long { IsErrOf result ParseFault.TextTooLong ↔ (max_text_bytes < length text.now) }
         ensures outcome { IfOk result (λ answer. IsOutcome (parser_rules self.now) text.now
             (name_of (parser_rules self.now) start) answer.outcome) }
         ensures allowed { IfOk result (λ answer. (limit : ℕ) → most ≡ Some limit → answer.steps ≤ limit) }
@@ -208,7 +211,7 @@ impl Parser {
         }
     }
 
-    // The number of the rule that a parse starts from.
+    // The number of the start rule.
     fn start(&self, options: &ParseOptions<'_>) -> Option<u32>
         ensures none { (result ≡ None) ↔ (start_of (parser_rules self.now) (start_named options.now) ≡ None) }
         ensures some { IfSome result (λ start. start < length (parser_rules self.now)) }

@@ -1,6 +1,6 @@
-//! Why a grammar file is refused.
+//! Why a grammar file is rejected.
 ghost use Rattle.std.specs.Prelude.{◌≡◌, IfOk, map};
-ghost use Rattle.peg_ford.specs.Rules.{names};
+ghost use Rattle.peg_semantics.specs.Rules.{names};
 ghost use Rattle.peg_grammar.specs.GrammarRules.{rules_in};
 
 use peg_check::CheckFault;
@@ -10,22 +10,22 @@ use peg_notation::NotationFault;
 use std::alloc::{AllocError, Global};
 use thiserror::Error;
 
-/// Why a grammar file is refused. Want of memory in any layer is `Memory`.
+/// Why a grammar file is rejected. A failed allocation of any stage is `Memory`.
 #[derive(Debug, Drop, Error)]
 pub enum Refusal {
-    /// It isn't in the notation, or over a limit of it.
+    /// The file isn't in the notation, or it exceeds a limit of it.
     #[error("the file isn't in the notation of grammars, or over its limits")]
     Notation(NotationFault),
-    /// What it spells is no grammar, or one that is too large.
+    /// The definitions aren't a grammar, or the grammar is too large.
     #[error("the file's definitions are no grammar, or one that is too large")]
     Grammar(GrammarFault),
-    /// The grammar isn't well-formed. It comes with the grammar, whose rules the fault numbers.
+    /// The grammar isn't well-formed. The grammar comes along because the fault refers to its rules by number.
     #[error("the grammar isn't well-formed")]
     NotWellFormed(CheckFault, Grammar),
     /// The grammar's code has more than 1,000,000 instructions.
     #[error("the grammar's code is too large")]
     CodeTooLarge,
-    /// Memory ran out.
+    /// Out of memory.
     #[error("out of memory")]
     Memory,
 }
@@ -86,7 +86,7 @@ impl From<CodeFault> for Refusal {
 impl Refusal {
     ghost use Rattle.peg_parser.specs.Faults.{names_told, of_check};
 
-    // What the check's fault tells of a grammar.
+    // Converts a fault of the check to a refusal.
     pub(crate) fn of_check(fault: CheckFault, grammar: Grammar) -> Refusal
         ensures { result ≡ of_check fault grammar }
     {
@@ -96,8 +96,8 @@ impl Refusal {
         }
     }
 
-    /// The names of the grammar's rules, in order, where the refusal names rules by their numbers; else none. Linear in
-    /// how many rules there are.
+    /// Returns the names of the grammar's rules, in order, if the refusal refers to rules by number; otherwise an
+    /// empty list. Linear in the number of rules.
     pub fn names(&self, alloc: Global) -> Result<Vec<&str>, AllocError>
         ensures { IfOk result (λ list. map (λ name. name.now) list.items ≡ names_told self.now) }
     {
@@ -108,7 +108,6 @@ impl Refusal {
     }
 }
 
-// The names of a grammar's rules, in order.
 fn names_of(alloc: Global, grammar: &Grammar) -> Result<Vec<&str>, AllocError>
     ensures { IfOk result (λ list. map (λ name. name.now) list.items ≡ names (rules_in grammar.now)) }
 {

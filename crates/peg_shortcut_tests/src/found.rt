@@ -1,4 +1,4 @@
-//! Shortcuts of small grammars, against what was worked out by hand.
+//! Shortcuts of small grammars, against results worked by hand.
 use peg_check::check;
 use peg_code::{Program, compile};
 use peg_core::desugar;
@@ -27,13 +27,13 @@ fn program_of(alloc: Global, file: &[u8]) -> Result<Program, Fail> {
 // A rule that calls another: 1 call 4, 2 test [b], 3 ret; 4 test [a], 5 ret.
 const CALL: &[u8] = b"S <- A 'b' A <- 'a'";
 
-// The same, and the rule that is called goes on behind the byte: 4 test [a], 5 test [c], 6 ret.
+// The same, but the rule called continues after the byte: 4 test [a], 5 test [c], 6 ret.
 const LONGER: &[u8] = b"S <- A 'b' A <- 'a' 'c'";
 
 // A star over a set of two bytes.
 const PAIR: &[u8] = b"S <- [ab]*";
 
-// What a shortcut is to be.
+// The expected shortcut.
 #[derive(Clone, Copy)]
 struct Wanted<'a> {
     rounds: u32,
@@ -43,7 +43,7 @@ struct Wanted<'a> {
     reach: Reach,
 }
 
-// That of so many rounds, which puts and adds nothing.
+// A shortcut of this many rounds that pushes no entry and adds no node.
 fn bare(rounds: u32, failed: &[u32], reach: Reach) -> Wanted<'_> {
     Wanted {
         rounds,
@@ -54,7 +54,7 @@ fn bare(rounds: u32, failed: &[u32], reach: Reach) -> Wanted<'_> {
     }
 }
 
-// The shortcut from the first rule's first instruction on at a byte is as it is to be, and takes no older way away.
+// Checks the shortcut from the first instruction of the first rule on a byte. It pops no older choice point.
 fn assert_shortcut(
     rt: &impl Abort,
     alloc: Global,
@@ -157,7 +157,7 @@ fn a_use_that_has_not_ended_stays_on_the_stack(rt: HostRuntime) -> Result<(), Fa
     assert_shortcut(&rt, rt.alloc(), LONGER, true, b'a', open)
 }
 
-// What is known of the first instruction at a byte.
+// Whether the table has a shortcut from an instruction on a byte.
 fn is_found(shortcuts: &Shortcuts<'_>, pc: u32, byte: u8) -> bool {
     shortcuts
         .numbered(shortcuts.known(pc, byte), pc, byte)
@@ -180,7 +180,7 @@ fn a_table_knows_what_it_has_found(rt: HostRuntime) -> Result<(), Fail> {
     Ok(())
 }
 
-// Meets the first instruction at a byte so often.
+// Records this many hits of the first instruction on a byte.
 fn meet_often(shortcuts: &mut Shortcuts<'_>, byte: u8, times: u32) {
     for _ in 0..times {
         shortcuts.meet(1, byte);

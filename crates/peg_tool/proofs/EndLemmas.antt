@@ -4,16 +4,16 @@ use Rattle.std.proofs.Common.{refl, sym, ◌∙◌, subst}
 use Rattle.std.specs.Io.KnownBytes.{Keeps}
 use Rattle.peg_io.specs.declared.transfer.ReadFault.{ReadFault}
 use Rattle.peg_io.specs.declared.transfer.ReadFault.TheVariants as read
-use Rattle.peg_reply.specs.Statuses.{code_of}
-use Rattle.peg_reply.specs.declared.line.Line.{Line}
+use Rattle.peg_json.specs.Statuses.{code_of}
+use Rattle.peg_json.specs.declared.line.Line.{Line}
 use Rattle.peg_tool.specs.Ends.{Ends}
 use Rattle.peg_tool.specs.Written.{Prints, PrintsInPart}
 use Rattle.peg_tool.specs.declared.ending.ToolFault.{ToolFault}
 use Rattle.peg_tool.specs.declared.ending.ToolFault.TheVariants as tool
-use Rattle.peg_reply.specs.Lines.{line_bytes}
+use Rattle.peg_json.specs.Lines.{line_bytes}
 
 module _ (IsRight : List ℕ → ℕ → Type 0) (old new : Option (List ℕ)) where
-  -- a right line that is written whole
+  -- a correct line that is written as a whole
   pub ends-prints : (told : Result Line ReadFault) (result : Result ℕ ToolFault) → Ends told old new result
       → IfOk told (λ line. IsRight (line_bytes line) (code_of line.status))
       → IfOk result (λ status. Prints IsRight old new status)
@@ -26,7 +26,7 @@ module _ (IsRight : List ℕ → ℕ → Type 0) (old new : Option (List ℕ)) w
       absurd (let bad : Ok status ≡ Err tool.ReadFault = ends.0 in cc)
   ends-prints (Err read.Device) (Err why) ends right = tt
 
-  -- one that is written in part
+  -- a correct line that is written in part
   pub ends-in_part : (told : Result Line ReadFault) (result : Result ℕ ToolFault) → Ends told old new result
       → IfOk told (λ line. IsRight (line_bytes line) (code_of line.status)) → result ≡ Err tool.WriteFault
       → PrintsInPart IsRight old new
@@ -39,7 +39,7 @@ module _ (IsRight : List ℕ → ℕ → Type 0) (old new : Option (List ℕ)) w
   ends-in_part (Err read.Device) result ends right is =
       absurd (let bad : Err tool.ReadFault ≡ Err tool.WriteFault = sym ends.0 ∙ is in cc)
 
--- of an input that isn't told nothing is said; of one that is, its line is right
+-- if the bytes of an input are known, its line is correct; otherwise nothing is promised
 pub input-prints : (IsRight : List ℕ → List ℕ → ℕ → Type 0) (left old new : Option (List ℕ))
     (told : Result Line ReadFault) (result : Result ℕ ToolFault) → Ends told old new result
     → IfSome left (λ input. IfOk told (λ line. IsRight input (line_bytes line) (code_of line.status)))
@@ -55,7 +55,7 @@ input-in_part IsRight None old new told result ends right = tt
 input-in_part IsRight (Some input) old new told result ends right =
     ends-in_part (IsRight input) old new told result ends right
 
--- the same for a file and the texts that a task may be about
+-- the same for a file and the texts of a task
 pub file-prints : (IsText : List ℕ → List ℕ → Type 0) (IsRight : List ℕ → List ℕ → List ℕ → ℕ → Type 0)
     (left old new : Option (List ℕ)) (told : Result Line ReadFault) (result : Result ℕ ToolFault)
     → Ends told old new result
@@ -78,7 +78,7 @@ file-in_part IsText IsRight None old new told result ends right = tt
 file-in_part IsText IsRight (Some file) old new told result ends right =
     λ bytes is. ends-in_part (IsRight file bytes) old new told result ends (right bytes is)
 
--- the fault of a failed read is that the run had no line for it
+-- the run returns a read fault exactly if a read failed
 pub ends-read : (old new : Option (List ℕ)) (told : Result Line ReadFault) (result : Result ℕ ToolFault) (X : Type 0)
     → Ends told old new result → (told ≡ Err read.Device) ↔ X → (result ≡ Err tool.ReadFault) ↔ X
 ends-read old new (Ok line) (Ok status) X ends both = (λ bad. cc, λ x. absurd (let bad = both.1 x in cc))

@@ -1,30 +1,30 @@
--- Lines that a grammar file alone decides.
+-- Lines that depend on the grammar file alone.
 use Rattle.std.proofs.Common.{◌≡◌, ℕ, List, IfOk, None, Some, Result, Ok, Err, inl, inr, subst, sym, ap, ◌∙◌}
 use Rattle.std.specs.declared.alloc.AllocError.{AllocError}
 use Rattle.peg_parser.specs.Cause.{Cause}
 use Rattle.peg_parser.specs.Faults.{TellsWhy, IsTellable, want_of_memory, of_cause, cause_told}
 use Rattle.peg_parser.specs.Refusals.{Refuses}
 use Rattle.peg_parser.specs.declared.refusal.Refusal.{Refusal}
-use Rattle.peg_reply.specs.Lines.{IsReply, line_bytes}
-use Rattle.peg_reply.specs.Reply.{Refused}
-use Rattle.peg_reply.specs.Statuses.{code_of}
-use Rattle.peg_reply.specs.declared.line.Line.{Line}
+use Rattle.peg_json.specs.Lines.{IsReply, line_bytes}
+use Rattle.peg_json.specs.Reply.{Refused}
+use Rattle.peg_json.specs.Statuses.{code_of}
+use Rattle.peg_json.specs.declared.line.Line.{Line}
 use Rattle.peg_tool.specs.Replies.{IsPrinted, RepliesTo, no_grammar, ill_formed, too_large}
 use Rattle.peg_tool.specs.Task.{Task, Checks}
 
--- what tells a cause of some kind can be told
+-- a refusal with a cause of some kind is one that the file can have
 pub told-tellable : (Kind : Cause → Type 0) (size : ℕ) (why : Refusal) → TellsWhy Kind size why → IsTellable size why
 told-tellable Kind size why (want_of_memory is) = want_of_memory is
 told-tellable Kind size why (of_cause cause tells holds starts named) = of_cause cause tells tt starts named
 
--- a cause why a file isn't accepted is a reply to each task that asks for that
+-- a reason why a file isn't accepted is a reply to each task that needs it accepted
 pub refuses-replies : (file text : List ℕ) (task : Task) → Checks task → (cause : Cause) → Refuses file cause
     → RepliesTo file text task (Refused cause)
 refuses-replies file text task checks cause (inl none) = no_grammar none
 refuses-replies file text task checks cause (inr (inl ill)) = ill_formed checks ill
 refuses-replies file text task checks cause (inr (inr large)) = too_large checks large
 
--- a line that tells why, where that is a reply to a task
+-- the line of a refusal, if that is a reply to a task
 told-printed : (Kind : Cause → Type 0) (file text : List ℕ) (size : ℕ) (task : Task) (why : Refusal) (line : List ℕ)
     (status : ℕ) → TellsWhy Kind size why → ((cause : Cause) → Kind cause → RepliesTo file text task (Refused cause))
     → (cause : Cause) × (cause_told why ≡ Some cause) × IsReply file (Refused cause) line status
@@ -47,7 +47,7 @@ refusal-line Kind file text size task why (Ok line) tells replies printed =
     told-printed Kind file text size task why (line_bytes line) (code_of line.status) tells replies printed
 refusal-line Kind file text size task why (Err other) tells replies printed = tt
 
--- the line of a file that isn't accepted, whatever the text and the task that asks for that
+-- the line of a file that isn't accepted, for every text and task that needs it accepted
 pub judged-refused : (file : List ℕ) (size : ℕ) (why : Refusal) (line : Line) → TellsWhy (Refuses file) size why
     → (cause : Cause) × (cause_told why ≡ Some cause)
     × IsReply file (Refused cause) (line_bytes line) (code_of line.status)

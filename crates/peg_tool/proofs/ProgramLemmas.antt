@@ -1,11 +1,11 @@
--- What runs of the tool are to the program.
+-- The results of the tool as results of the program.
 use Rattle.std.proofs.Common.{◌≡◌, ℕ, ◌==◌, Bool, true, false, inl, inr, List, Option, None, Some, Result, Ok, Err, IfOk, IfSome}
 use Rattle.std.proofs.Common.{refl, sym, ap, ◌∙◌, subst, if◌then◌else◌}
 use Rattle.std.specs.Io.KnownBytes.{Keeps}
 use Rattle.peg_parser.specs.Cause.{Cause, FileTooLong, Syntax, TooNested, BadCount, NoRule, Duplicate, Undefined}
 use Rattle.peg_parser.specs.Cause.{TooManyParts, EmptyLoop, LeftRecursion, CodeTooLarge, NoSuchStart, StepLimit, TooDeep, TextTooLong}
-use Rattle.peg_reply.specs.CauseText.{cause_status}
-use Rattle.peg_reply.specs.Reply.{Reply, Refused, Tabled, Accepted, Coded, Failed, Matched, status_of}
+use Rattle.peg_json.specs.CauseText.{cause_status}
+use Rattle.peg_json.specs.Reply.{Reply, Refused, Tabled, Accepted, Coded, Failed, Matched, status_of}
 use Rattle.peg_tool.specs.Leads.{Outcome, answer_of}
 use Rattle.peg_tool.specs.Replies.{IsPrinted}
 use Rattle.peg_tool.specs.Task.{Task, TableTask, CheckTask, CodeTask, ParseTask, IsParse, IsTextOf}
@@ -15,7 +15,7 @@ use Rattle.peg_tool.specs.declared.ending.ToolFault.TheVariants as tool
 use Rattle.peg_tool.specs.declared.program.ProgramFault.{ProgramFault}
 use Rattle.peg_tool.specs.declared.program.ProgramFault.TheVariants as program
 
--- no reply has the status of want of memory
+-- no reply has the exit status for out of memory
 cause-told : (cause : Cause) → (cause_status cause == 5) ≡ false
 cause-told FileTooLong = refl
 cause-told (Syntax at) = refl
@@ -46,7 +46,7 @@ pub printed-told : (task : Task) (file text line : List ℕ) (status : ℕ) → 
     → (status == 5) ≡ false
 printed-told task file text line status is = ap (λ (n : ℕ). n == 5) is.3 ∙ reply-told is.0
 
--- a run of the tool is an outcome of the program, where no right line has the status of want of memory
+-- the result of the tool is a result of the program, if no correct line has the exit status for out of memory
 pub answered-outcome : (IsRight : List ℕ → ℕ → Type 0) (old new : Option (List ℕ)) (ended : Result ℕ ToolFault)
     → ((line : List ℕ) (status : ℕ) → IsRight line status → (status == 5) ≡ false)
     → IfOk ended (λ status. Prints IsRight old new status) → (ended ≡ Err tool.WriteFault → PrintsInPart IsRight old new)
@@ -59,7 +59,7 @@ answered-outcome IsRight old new (Ok status) told (inr ran_out) part nothing =
 answered-outcome IsRight old new (Err tool.WriteFault) told prints part nothing = inr (part refl)
 answered-outcome IsRight old new (Err tool.ReadFault) told prints part nothing = inl (nothing refl)
 
--- a task that is no parse takes any text, and each task the one that is left
+-- a task that is no parse takes any text
 pub takes_any : (task : Task) (file : List ℕ) (left : Option (List ℕ)) (bytes : List ℕ) → ¬ IsParse task
     → IsTextOf task file left bytes
 takes_any TableTask file left bytes other = tt
@@ -74,7 +74,7 @@ takes_left CheckTask file left bytes is = tt
 takes_left CodeTask file left bytes is = tt
 takes_left (ParseTask start steps all rows) file left bytes is = λ rules accepts. is
 
--- a run of the tool over an opened file is an outcome of the program, for each text that it may be about
+-- a run of the tool over an opened file is a result of the program, for each text of the task
 pub opened-outcome : (task : Task) (held left text old new : Option (List ℕ)) (ended : Result ℕ ToolFault)
     (result : Result ℕ ProgramFault) → IfSome held (λ bytes. left ≡ Some bytes) → result ≡ answer_of ended
     → IfSome left (λ file. (bytes : List ℕ) → IsTextOf task file text bytes
@@ -94,7 +94,7 @@ opened-outcome task (Some file) left text old new ended result opened is prints 
     (answered-outcome (IsPrinted task file bytes) old new ended (printed-told task file bytes) (whole bytes of_text)
     (cut bytes of_text) nothing)
 
--- of a file alone, whatever the text
+-- a task on a file alone, for any text
 pub alone-outcome : (task : Task) (held text old new : Option (List ℕ)) (result : Result ℕ ProgramFault)
     → ¬ IsParse task
     → IfSome held (λ file. (bytes : List ℕ) → IsTextOf task file text bytes
@@ -104,7 +104,7 @@ alone-outcome task None text old new result other outcome = tt
 alone-outcome task (Some file) text old new result other outcome =
     λ bytes. outcome bytes (takes_any task file text bytes other)
 
--- of a file and a text that is opened
+-- a task on a file and a text that is opened
 pub both-outcome : (task : Task) (held held_text text old new : Option (List ℕ)) (result : Result ℕ ProgramFault)
     → IfSome held_text (λ bytes. text ≡ Some bytes)
     → IfSome held (λ file. (bytes : List ℕ) → IsTextOf task file text bytes
@@ -115,7 +115,7 @@ both-outcome task (Some file) None text old new result opened outcome = tt
 both-outcome task (Some file) (Some bytes) text old new result opened outcome =
     outcome bytes (takes_left task file text bytes opened)
 
--- the program's answer to a parse, by the names and the start of the words
+-- the program's result for a parse, by the names and the start in the arguments
 pub parse-leads : (holds : List ℕ → Option (List ℕ)) (old new : Option (List ℕ)) (result : Result ℕ ProgramFault)
     (g t g' t' : List ℕ) (start start' : Option (List ℕ)) (steps : Option ℕ) (all rows : Bool) → g ≡ g' → t ≡ t'
     → start ≡ start'

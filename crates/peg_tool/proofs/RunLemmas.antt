@@ -1,10 +1,10 @@
--- What is told of the bytes that are held is told of all bytes of a file, a text or an input.
+-- The reply for the bytes read is the reply for all bytes of a file, a text or an input.
 use Rattle.std.proofs.Common.{◌≡◌, ℕ, ◌+◌, ◌<◌, ◌≤◌, Bool, inl, inr, List, ◌++◌, length, Option, None, Some, Result, Ok, Err, IfOk}
 use Rattle.std.proofs.Common.{IfSome, refl, sym, ap, ◌∙◌, subst, append-nil, length-append, length-take, arith}
 use Rattle.std.proofs.lemmas.Bool.{cases_lt}
 use Rattle.std.specs.Io.KnownBytes.{Consumes, IsAtEnd}
-use Rattle.peg_figure.specs.Notation.{most_file_bytes}
-use Rattle.peg_ford.specs.Rules.{Rule}
+use Rattle.peg_metagrammar.specs.Notation.{max_file_bytes}
+use Rattle.peg_semantics.specs.Rules.{Rule}
 use Rattle.peg_io.specs.declared.transfer.ReadFault.{ReadFault}
 use Rattle.peg_io.specs.Split.{IsSplit, at_separator, without_separator}
 use Rattle.peg_io.proofs.SplitLaws.{TellsSplit, separator_in_front, separator_further, front_split}
@@ -12,22 +12,22 @@ use Rattle.peg_parser.specs.Accepts.{Accepts}
 use Rattle.peg_parser.specs.Cause.{Cause, FileTooLong}
 use Rattle.peg_parser.specs.Refusals.{IsNoGrammar, IsIllFormed, code_too_large, file_too_long, not_in_the_notation, count_out_of_range, too_nested, a_name_twice}
 use Rattle.peg_parser.specs.Refusals.{a_name_missing, too_many_parts, empty_loop, left_recursion}
-use Rattle.peg_grammar.specs.Limits.{most_text_bytes}
-use Rattle.peg_reply.specs.Lines.{IsLineOf, line_bytes}
-use Rattle.peg_reply.specs.Parses.{ParsesTo, text_too_long, no_such_start, too_many_steps, failed, too_many_levels}
-use Rattle.peg_reply.specs.Parses.{matched}
-use Rattle.peg_reply.specs.Reply.{Reply, Refused, printed_line, status_of}
-use Rattle.peg_reply.specs.Statuses.{code_of}
-use Rattle.peg_reply.specs.declared.line.Line.{Line}
-use Rattle.peg_tool.specs.Replies.{RepliesTo, IsPrinted, IsPrintedJoined, most_joined_bytes, no_grammar, tabled, ill_formed}
+use Rattle.peg_grammar.specs.Limits.{max_text_bytes}
+use Rattle.peg_json.specs.Lines.{IsLineOf, line_bytes}
+use Rattle.peg_json.specs.Parses.{ParsesTo, text_too_long, no_such_start, too_many_steps, failed, too_many_levels}
+use Rattle.peg_json.specs.Parses.{matched}
+use Rattle.peg_json.specs.Reply.{Reply, Refused, printed_line, status_of}
+use Rattle.peg_json.specs.Statuses.{code_of}
+use Rattle.peg_json.specs.declared.line.Line.{Line}
+use Rattle.peg_tool.specs.Replies.{RepliesTo, IsPrinted, IsPrintedJoined, max_joined_bytes, no_grammar, tabled, ill_formed}
 use Rattle.peg_tool.specs.Replies.{too_large, accepted, coded, parsed}
 use Rattle.peg_tool.specs.Task.{Task, TableTask, CheckTask, CodeTask, ParseTask, IsTextOf, default_task}
 
 -- ---- texts over the limit
 
--- the reply to a parse of a text over the limit is that to any other text over it
+-- all texts over the limit have the same replies to a parse
 pub ParsesTo-longer : (rules : List Rule) (text more : List ℕ) (start : Option (List ℕ)) (steps : Option ℕ)
-    (all rows : Bool) (reply : Reply) → most_text_bytes < length text → most_text_bytes < length more
+    (all rows : Bool) (reply : Reply) → max_text_bytes < length text → max_text_bytes < length more
     → ParsesTo rules text start steps all rows reply
     → ParsesTo rules more start steps all rows reply
 ParsesTo-longer rules text more start steps all rows reply long longer (text_too_long over) = text_too_long longer
@@ -45,8 +45,8 @@ ParsesTo-longer rules text more start steps all rows reply long longer
     absurd (omega (arith, long, within))
 
 -- the same for any task
-RepliesTo-longer : (file text more : List ℕ) (task : Task) (reply : Reply) → most_text_bytes < length text
-    → most_text_bytes < length more → RepliesTo file text task reply → RepliesTo file more task reply
+RepliesTo-longer : (file text more : List ℕ) (task : Task) (reply : Reply) → max_text_bytes < length text
+    → max_text_bytes < length more → RepliesTo file text task reply → RepliesTo file more task reply
 RepliesTo-longer file text more task reply long longer (no_grammar is) = no_grammar is
 RepliesTo-longer file text more task reply long longer (tabled read taken are) = tabled read taken are
 RepliesTo-longer file text more task reply long longer (ill_formed checks is) = ill_formed checks is
@@ -58,8 +58,8 @@ RepliesTo-longer file text more task reply long longer (parsed {rules} {start} {
 
 -- ---- files over the limit
 
--- a file over the limit is refused for that alone
-over-reply : (file text : List ℕ) (task : Task) (reply : Reply) → most_file_bytes < length file
+-- a file over the limit is rejected as `FileTooLong`
+over-reply : (file text : List ℕ) (task : Task) (reply : Reply) → max_file_bytes < length file
     → RepliesTo file text task reply → reply ≡ Refused FileTooLong
 over-reply file text task reply long (no_grammar is) = by is
   where
@@ -83,9 +83,9 @@ over-reply file text task reply long (accepted accepts) = absurd (omega (arith, 
 over-reply file text task reply long (coded accepts) = absurd (omega (arith, long, accepts.read.within))
 over-reply file text task reply long (parsed accepts is) = absurd (omega (arith, long, accepts.read.within))
 
--- so what is printed of it is what is printed of any other file over it
-over-printed : (file text other more : List ℕ) (task : Task) (line : List ℕ) (status : ℕ) → most_file_bytes < length file
-    → most_file_bytes < length other → IsPrinted task file text line status → IsPrinted task other more line status
+-- all files over the limit have the same printed replies
+over-printed : (file text other more : List ℕ) (task : Task) (line : List ℕ) (status : ℕ) → max_file_bytes < length file
+    → max_file_bytes < length other → IsPrinted task file text line status → IsPrinted task other more line status
 over-printed file text other more task line status long longer is =
     let same = over-reply file text task is.0 long is.1 in (
       Refused FileTooLong,
@@ -94,8 +94,8 @@ over-printed file text other more task line status long longer is =
       is.3 ∙ ap status_of same,
     )
 
--- what is printed for a front that is over the limit of a file is what is printed for the whole file
-pub IsPrinted-front : (task : Task) (text front rest line : List ℕ) (status : ℕ) → most_file_bytes + 1 ≤ length front
+-- the reply for a prefix over the limit of a file is the reply for the whole file
+pub IsPrinted-front : (task : Task) (text front rest line : List ℕ) (status : ℕ) → max_file_bytes + 1 ≤ length front
     → IsPrinted task front text line status → IsPrinted task (front ++ rest) text line status
 IsPrinted-front task text front rest line status long is =
     over-printed front text (front ++ rest) text task line status (omega arith)
@@ -103,25 +103,25 @@ IsPrinted-front task text front rest line status long is =
 
 -- ---- one input
 
--- the part before the separator is no longer than the whole
+-- the part before the separator is no longer than the input
 pub split-shorter : (input file text : List ℕ) → IsSplit input file text → length file ≤ length input
 split-shorter input file text (at_separator place found is rest) = omega (arith, ap length is, length-take place input)
 split-shorter input file text (without_separator none is rest) = omega (arith, ap length is)
 
--- what is printed where a front over both limits together was split behind a separator
+-- the reply for a prefix over both limits together, split at a separator, is the reply with any bytes appended
 separated-printed : (file text rest : List ℕ) (task : Task) (line : List ℕ) (status : ℕ)
-    → most_joined_bytes ≤ length file + 3 + length text → IsPrinted task file text line status
+    → max_joined_bytes ≤ length file + 3 + length text → IsPrinted task file text line status
     → IsPrinted task file (text ++ rest) line status
-separated-printed file text rest task line status long is = elim (cases_lt most_file_bytes (length file)) [
+separated-printed file text rest task line status long is = elim (cases_lt max_file_bytes (length file)) [
   | inl over ↦ over-printed file text file (text ++ rest) task line status over over is
   | inr within ↦
-      let more : most_text_bytes < length text = omega (arith, long, within) in
-      let all : most_text_bytes < length (text ++ rest) = omega (arith, more, length-append text rest) in
+      let more : max_text_bytes < length text = omega (arith, long, within) in
+      let all : max_text_bytes < length (text ++ rest) = omega (arith, more, length-append text rest) in
       (is.0, RepliesTo-longer file text (text ++ rest) task is.0 more all is.1, is.2, is.3)
 ]
 
--- what is printed for a front over both limits together is what is printed for the whole input
-pub IsPrintedJoined-front : (front rest line : List ℕ) (status : ℕ) → most_joined_bytes ≤ length front
+-- the reply for a prefix over both limits together is the reply for the whole input
+pub IsPrintedJoined-front : (front rest line : List ℕ) (status : ℕ) → max_joined_bytes ≤ length front
     → IsPrintedJoined front line status → IsPrintedJoined (front ++ rest) line status
 IsPrintedJoined-front front rest line status long given =
     let whole = front_split front rest given.0 given.1 given.2 in
@@ -137,8 +137,8 @@ IsPrintedJoined-front front rest line status long given =
         over-printed file text before after default_task line status (omega (arith, long, ap length same))
         (omega (arith, long, lengths)) is
 
--- what is right for the bytes that are held is right for the whole input, where it is for what goes on behind a front
--- that is as long as may be held
+-- A line that is correct for the bytes read is correct for the whole input. This needs that a line for a prefix of the
+-- most bytes held is correct for every continuation.
 pub right-held : (IsRight : List ℕ → List ℕ → ℕ → Type 0) (most : ℕ)
     → ((front rest line : List ℕ) (status : ℕ) → most ≤ length front → IsRight front line status
     → IsRight (front ++ rest) line status)
@@ -164,7 +164,7 @@ pub parsed-printed : (file text : List ℕ) (rules : List Rule) (start : Option 
     → IsPrinted (ParseTask start steps all rows) file text line status
 parsed-printed file text rules start steps all rows line status accepts is = (is.0, parsed accepts is.1, is.2, is.3)
 
--- what is told of the text that is read is told of the text
+-- the reply for the text that was read is the reply for the text
 pub parsed-told : (result : Result Line ReadFault) (file : List ℕ) (left : Option (List ℕ)) (bytes : List ℕ)
     (rules : List Rule) (start : Option (List ℕ)) (steps : Option ℕ) (all rows : Bool)
     → IsTextOf (ParseTask start steps all rows) file left bytes
@@ -179,9 +179,9 @@ parsed-told (Ok line) file left bytes rules start steps all rows is accepts told
     (is rules accepts) told
 parsed-told (Err why) file left bytes rules start steps all rows is accepts told = tt
 
--- what is printed for a front that is over the limit of a text is what is printed for the whole text
+-- the reply for a prefix over the limit of a text is the reply for the whole text
 pub IsPrinted-text_front : (task : Task) (file front rest line : List ℕ) (status : ℕ)
-    → most_text_bytes + 1 ≤ length front → IsPrinted task file front line status
+    → max_text_bytes + 1 ≤ length front → IsPrinted task file front line status
     → IsPrinted task file (front ++ rest) line status
 IsPrinted-text_front task file front rest line status long is = (
   is.0,
@@ -192,7 +192,7 @@ IsPrinted-text_front task file front rest line status long is = (
 
 -- ---- devices
 
--- what is held of a file within the limit is the whole file
+-- the bytes read of a file within the limit are the whole file
 whole-held : (file : List ℕ) (new : Option (List ℕ)) (held : List ℕ) (most : ℕ) → Consumes (Some file) new held
     → (length held < most → IsAtEnd new) → length held < most → file ≡ held
 whole-held file None held most consumed end less = absurd consumed
@@ -200,15 +200,15 @@ whole-held file (Some rest) held most consumed end less =
     consumed ∙ ap (λ bytes. held ++ bytes) (end less) ∙ append-nil held
 
 accepts-whole : (file : List ℕ) (new : Option (List ℕ)) (held : List ℕ) (rules : List Rule)
-    → Consumes (Some file) new held → (length held < most_file_bytes + 1 → IsAtEnd new) → Accepts held rules
+    → Consumes (Some file) new held → (length held < max_file_bytes + 1 → IsAtEnd new) → Accepts held rules
     → Accepts file rules
 accepts-whole file new held rules consumed end accepts =
     subst (λ (l : List ℕ). Accepts l rules)
-    (sym (whole-held file new held (most_file_bytes + 1) consumed end (omega (arith, accepts.read.within)))) accepts
+    (sym (whole-held file new held (max_file_bytes + 1) consumed end (omega (arith, accepts.read.within)))) accepts
 
--- where a whole file isn't accepted, what is held of it isn't either
+-- if a whole file isn't accepted, the bytes read of it aren't either
 pub held-unaccepted : (left new : Option (List ℕ)) (held : List ℕ) (X : Type 0) → Consumes left new held
-    → (length held < most_file_bytes + 1 → IsAtEnd new) → (((rules : List Rule) → ¬ Accepts held rules) → X)
+    → (length held < max_file_bytes + 1 → IsAtEnd new) → (((rules : List Rule) → ¬ Accepts held rules) → X)
     → IfSome left (λ file. ((rules : List Rule) → ¬ Accepts file rules) → X)
 held-unaccepted None new held X consumed end then = tt
 held-unaccepted (Some file) new held X consumed end then =
@@ -216,12 +216,12 @@ held-unaccepted (Some file) new held X consumed end then =
 
 -- ---- lines for whole files
 
--- a line is right for a task on a file, whatever its text may be
+-- a line is correct for a task on a file, for every text of the task
 abbrev pub IsRightFor : Task → (text : Option (List ℕ)) → (file line : List ℕ) → ℕ → Type 0
 IsRightFor task text file line status = (bytes : List ℕ) → IsTextOf task file text bytes → IsPrinted task file bytes line status
 
--- of a front that is over the limit of a file any text is the task's
-any_text : (task : Task) (text : Option (List ℕ)) (file bytes : List ℕ) → most_file_bytes < length file
+-- a task on a prefix over the limit of a file takes any text
+any_text : (task : Task) (text : Option (List ℕ)) (file bytes : List ℕ) → max_file_bytes < length file
     → IsTextOf task file text bytes
 any_text TableTask text file bytes long = tt
 any_text CheckTask text file bytes long = tt
@@ -230,22 +230,22 @@ any_text (ParseTask start steps all rows) text file bytes long =
     λ rules accepts. absurd (omega (arith, long, accepts.read.within))
 
 pub IsRightFor-front : (task : Task) (text : Option (List ℕ)) (front rest line : List ℕ) (status : ℕ)
-    → most_file_bytes + 1 ≤ length front → IsRightFor task text front line status
+    → max_file_bytes + 1 ≤ length front → IsRightFor task text front line status
     → IsRightFor task text (front ++ rest) line status
 IsRightFor-front task text front rest line status long right bytes is =
     IsPrinted-front task bytes front rest line status long (right bytes (any_text task text front bytes (omega arith)))
 
--- a line that is right for the bytes that are held of a file is right for the file
+-- a line that is correct for the bytes read of a file is correct for the file
 pub line-held : (task : Task) (text left new : Option (List ℕ)) (held line : List ℕ) (status : ℕ)
-    → Consumes left new held → length held ≤ most_file_bytes + 1 → (length held < most_file_bytes + 1 → IsAtEnd new)
+    → Consumes left new held → length held ≤ max_file_bytes + 1 → (length held < max_file_bytes + 1 → IsAtEnd new)
     → IsRightFor task text held line status → IfSome left (λ file. IsRightFor task text file line status)
 line-held task text left new held line status consumed within end right =
-    right-held (IsRightFor task text) (most_file_bytes + 1) (IsRightFor-front task text) left new held line status
+    right-held (IsRightFor task text) (max_file_bytes + 1) (IsRightFor-front task text) left new held line status
     consumed within end right
 
--- the same of what may be a line
+-- the same for a result that may be a line
 pub told-held : (result : Result Line ReadFault) (task : Task) (text left new : Option (List ℕ)) (held : List ℕ)
-    → Consumes left new held → length held ≤ most_file_bytes + 1 → (length held < most_file_bytes + 1 → IsAtEnd new)
+    → Consumes left new held → length held ≤ max_file_bytes + 1 → (length held < max_file_bytes + 1 → IsAtEnd new)
     → ((bytes : List ℕ) → IsTextOf task held text bytes
     → IfOk result (λ line. IsPrinted task held bytes (line_bytes line) (code_of line.status)))
     → IfSome left (λ file. (bytes : List ℕ) → IsTextOf task file text bytes

@@ -1,4 +1,4 @@
--- What is written in parts.
+-- Writing in parts.
 use Rattle.std.proofs.Common.{◌≡◌, ℕ, ◌+◌, ◌-◌, ◌<◌, ◌≤◌, List, [], ◌∷◌, ◌++◌, Option, None, Some, Result, Ok, Err, OnErr, length, take, drop, refl, sym, ap, subst, ◌∙◌, arith, append_assoc, length-append}
 use Rattle.std.proofs.Math.Seq.{take-add}
 use Rattle.std.proofs.lemmas.List.{take_at, drop_at, take-append-le}
@@ -7,14 +7,14 @@ use Rattle.std.specs.Io.KnownBytes.{Appends}
 use Rattle.peg_io.specs.Transfer.{AppendsProperPrefix}
 use Rattle.peg_tree.specs.RowsLeft.{text_left}
 use Rattle.peg_tree.specs.declared.rows_text.RowsText.{RowsText}
-use Rattle.peg_reply.specs.Lines.{with_rows}
+use Rattle.peg_json.specs.Lines.{with_rows}
 
--- what holds holds where there is an error
+-- a fact that holds anyway holds if there is an error
 pub on-err : {X Y P : Type 0} (result : Result X Y) → P → OnErr result P
 on-err (Ok value) holds = tt
 on-err (Err why) holds = holds
 
--- a front of some bytes is one of those and more
+-- a proper prefix of some bytes is one of those bytes with more appended
 pub prefix-longer : (old new : Option (List ℕ)) (bytes more : List ℕ) → AppendsProperPrefix old new bytes
     → AppendsProperPrefix old new (bytes ++ more)
 prefix-longer old new bytes more cut = (
@@ -23,7 +23,7 @@ prefix-longer old new bytes more cut = (
   subst (Appends old new) (sym (take-append-le cut.0 bytes more (omega (arith, cut.1)))) cut.2,
 )
 
--- some bytes, and then a front of more, are a front of all
+-- some bytes followed by a proper prefix of more bytes are a proper prefix of all
 pub prefix-behind : (old mid new : Option (List ℕ)) (done more : List ℕ) → Appends old mid done
     → AppendsProperPrefix mid new more → AppendsProperPrefix old new (done ++ more)
 prefix-behind old mid new done more first cut =
@@ -36,7 +36,7 @@ prefix-behind old mid new done more first cut =
       subst (Appends old new) (sym all) (Appends-trans old mid new done (take cut.0 more) first cut.2),
     )
 
--- the parts of a text and the rows between them
+-- the parts of a text with the nodes between them
 pub parts-with_rows : (text front back : List ℕ) (place : ℕ) (given : Option RowsText) (rows : RowsText)
     → given ≡ Some rows → place ≡ length text - 2 → front ≡ take place text → back ≡ drop place text
     → front ++ (text_left rows ++ back) ≡ with_rows text given

@@ -4,14 +4,14 @@ use Rattle.std.specs.Io.KnownBytes.{Appends, Keeps}
 use Rattle.peg_io.specs.Transfer.{AppendsProperPrefix}
 use Rattle.peg_io.specs.declared.transfer.ReadFault.{ReadFault}
 use Rattle.peg_io.specs.declared.transfer.ReadFault.TheVariants as read
-use Rattle.peg_reply.specs.Statuses.{code_of}
-use Rattle.peg_reply.specs.declared.line.Line.{Line}
+use Rattle.peg_json.specs.Statuses.{code_of}
+use Rattle.peg_json.specs.declared.line.Line.{Line}
 use Rattle.peg_tool.specs.declared.ending.ToolFault.{ToolFault}
 use Rattle.peg_tool.specs.declared.ending.ToolFault.TheVariants as tool
-use Rattle.peg_reply.specs.Lines.{line_bytes}
+use Rattle.peg_json.specs.Lines.{line_bytes}
 
--- a run with this line, or with none, ends so: the line is written and its status answered, or it is cut off; want of
--- memory ends with its status and nothing written, a failed read with its fault and nothing written
+-- A run with a line writes the line and returns its exit status; if a write fails a proper prefix is written. Out of
+-- memory returns its status with nothing written, and a failed read its fault with nothing written.
 abbrev pub Ends : Result Line ReadFault → (old new : Option (List ℕ)) → Result ℕ ToolFault → Type 0
 Ends (Ok line) old new (Ok status) = Appends old new (line_bytes line) × (status ≡ code_of line.status)
 Ends (Ok line) old new (Err tool.WriteFault) = AppendsProperPrefix old new (line_bytes line)

@@ -1,11 +1,11 @@
--- What the words of a command line lead to.
+-- The result of the program for its arguments.
 use Rattle.std.specs.Prelude.{◌≡◌, ◌⊎◌, ℕ, ◌==◌, List, Option}
 use Rattle.std.specs.Prelude.{option_map, Result, Ok, Err, IfSome, if◌then◌else◌, string_bytes}
 use Rattle.std.specs.Io.KnownBytes.{Appends, Keeps}
 use Rattle.peg_io.specs.declared.opener.OpenFault.{OpenFault}
 use Rattle.peg_io.specs.declared.opener.OpenFault.TheVariants as opening
-use Rattle.peg_words.specs.declared.words.Words.{Words}
-use Rattle.peg_words.specs.declared.words.Words.TheVariants.{Joined, Help, Table, Check, Code, Parse}
+use Rattle.peg_cli.specs.declared.words.Words.{Words}
+use Rattle.peg_cli.specs.declared.words.Words.TheVariants.{Joined, Help, Table, Check, Code, Parse}
 use Rattle.peg_tool.specs.Replies.{IsPrinted, IsPrintedJoined}
 use Rattle.peg_tool.specs.Task.{TableTask, CheckTask, CodeTask, ParseTask}
 use Rattle.peg_tool.specs.Written.{PrintsInPart}
@@ -13,18 +13,19 @@ use Rattle.peg_tool.specs.declared.ending.ToolFault.{ToolFault}
 use Rattle.peg_tool.specs.declared.program.ProgramFault.{ProgramFault}
 use Rattle.peg_tool.specs.declared.program.ProgramFault.TheVariants.{File, Memory}
 
--- What becomes of the output: a right line is written, and its status answered; where memory ran out nothing is
--- written; where something failed outside, nothing or a front of a right line.
+-- What is written to the output: a correct line, whose exit status is returned. If an allocation failed nothing is
+-- written. If a device failed, nothing or a proper prefix of a correct line is written.
 abbrev pub Outcome : (IsRight : List ℕ → ℕ → Type 0) → (old new : Option (List ℕ)) → Result ℕ ProgramFault → Type 0
 Outcome IsRight old new (Ok status) = (line : List ℕ) × IsRight line status × Appends old new line
 Outcome IsRight old new (Err Memory) = Keeps old new
 Outcome IsRight old new (Err File) = Keeps old new ⊎ PrintsInPart IsRight old new
 
--- these bytes are the text of help, and this is its status
+-- the help text, with its exit status
 abbrev pub IsHelp : (text : List ℕ) → (line : List ℕ) → (status : ℕ) → Type 0
 IsHelp text line status = (line ≡ text) × (status ≡ 0)
 
--- What the words lead to, over files with these bytes by name and an input: nothing is said where these aren't told.
+-- The result of the program for its arguments, over files with these bytes by name and an input. It promises nothing
+-- if the bytes of a file or of the input are unknown.
 abbrev pub Leads : Words → (holds : List ℕ → Option (List ℕ)) → (input : Option (List ℕ))
     → (old new : Option (List ℕ)) → Result ℕ ProgramFault → Type 0
 Leads Joined holds input old new result = IfSome input (λ bytes. Outcome (IsPrintedJoined bytes) old new result)
@@ -39,14 +40,14 @@ Leads (Parse g t start memo steps all rows) holds input old new result =
     IfSome (holds (string_bytes g)) (λ file. IfSome (holds (string_bytes t)) (λ text.
     Outcome (IsPrinted (ParseTask (option_map string_bytes start) steps all rows) file text) old new result))
 
--- ---- how answers are passed on
+-- ---- how results are converted
 
--- that of a run of the tool: its want of memory is the program's
+-- the result of a run of the tool, whose out-of-memory status is the program's fault
 abbrev pub answer_of : Result ℕ ToolFault → Result ℕ ProgramFault
 answer_of (Ok status) = if status == 5 then Err Memory else Ok status
 answer_of (Err why) = Err File
 
--- why a file isn't opened
+-- the fault of a file that can't be opened
 abbrev pub of_open : OpenFault → ProgramFault
 of_open opening.File = File
 of_open opening.Memory = Memory

@@ -1,16 +1,16 @@
--- What the tool replies to a task on a grammar file and a text: the first case that applies.
+-- The tool's reply to a task on a grammar file and a text: the first case that applies.
 use Rattle.std.specs.Prelude.{ℕ, Bool, List, Option, length}
 use Rattle.peg_code.specs.Code.{entries_of, program_code}
 use Rattle.peg_core.specs.CoreForm.{core_bodies}
-use Rattle.peg_ford.specs.AbstractOutcomes.{Can}
-use Rattle.peg_ford.specs.RuleOutcomes.{AreOutcomes}
-use Rattle.peg_ford.specs.Rules.{Rule, names}
+use Rattle.peg_semantics.specs.AbstractOutcomes.{Can}
+use Rattle.peg_semantics.specs.RuleOutcomes.{AreOutcomes}
+use Rattle.peg_semantics.specs.Rules.{Rule, names}
 use Rattle.peg_parser.specs.Accepts.{IsRead, IsTaken, Accepts}
 use Rattle.peg_parser.specs.Cause.{Cause}
 use Rattle.peg_parser.specs.Refusals.{IsNoGrammar, IsIllFormed, HasTooMuchCode}
-use Rattle.peg_reply.specs.Lines.{IsLineOf}
-use Rattle.peg_reply.specs.Parses.{ParsesTo}
-use Rattle.peg_reply.specs.Reply.{Reply, Refused, Tabled, Accepted, Coded}
+use Rattle.peg_json.specs.Lines.{IsLineOf}
+use Rattle.peg_json.specs.Parses.{ParsesTo}
+use Rattle.peg_json.specs.Reply.{Reply, Refused, Tabled, Accepted, Coded}
 use Rattle.peg_io.specs.Split.{IsSplit}
 use Rattle.peg_tool.specs.Task.{Task, TableTask, CheckTask, CodeTask, ParseTask, Checks, default_task}
 
@@ -30,15 +30,15 @@ pub data RepliesTo (file text : List ℕ) : Task → Reply → Type 0 where
       → Accepts file rules → ParsesTo rules text start steps all rows reply
       → RepliesTo file text (ParseTask start steps all rows) reply
 
--- a line and a status are those of the reply to a task on a grammar file and a text
+-- the line and the exit status of the reply to a task on a grammar file and a text
 abbrev pub IsPrinted : Task → (file text : List ℕ) → (line : List ℕ) → (status : ℕ) → Type 0
 IsPrinted task file text = IsLineOf file (RepliesTo file text task)
 
--- they are those of a parse of the text by the grammar file that are both in one input
+-- the line and the exit status of a parse by the grammar file of the text, both from one input
 abbrev pub IsPrintedJoined : (input : List ℕ) → (line : List ℕ) → (status : ℕ) → Type 0
 IsPrintedJoined input line status =
     (file text : List ℕ) × IsSplit input file text × IsPrinted default_task file text line status
 
--- the most bytes that are held of a grammar file and a text with their separator
-abbrev pub most_joined_bytes : ℕ
-most_joined_bytes = 68157444
+-- the most bytes held in memory of an input with a grammar file, a separator and a text
+abbrev pub max_joined_bytes : ℕ
+max_joined_bytes = 68157444

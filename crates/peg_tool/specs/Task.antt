@@ -1,22 +1,22 @@
--- What is asked of the tool.
+-- The tasks of the tool.
 use Rattle.std.specs.Prelude.{◌≡◌, ℕ, Bool, false, List, Option, None, Some}
-use Rattle.peg_ford.specs.Rules.{Rule}
+use Rattle.peg_semantics.specs.Rules.{Rule}
 use Rattle.peg_parser.specs.Accepts.{Accepts}
 
--- To tell what the rules' expressions can do, or whether the grammar is accepted, or its code; or to parse a text from
--- the rule of a name, or from the first: how many steps may that take, if a number was asked for, is the whole text to
--- match, and is the tree told by its rows?
+-- A task: print the table of outcomes, check whether the grammar is accepted, print its code, or parse a text. A parse
+-- has a start rule (the first one without a name) and an optional step limit. `all` asks for a match of the whole
+-- text, and `rows` for the list of nodes.
 pub data Task : Type 0 where
   TableTask : Task
   CheckTask : Task
   CodeTask : Task
   ParseTask : (start : Option (List ℕ)) → (steps : Option ℕ) → (all rows : Bool) → Task
 
--- a parse from the first rule without a limit of steps, by which a front may match and whose tree is nested
+-- a parse from the first rule without a step limit, where a prefix may match, with a nested tree
 abbrev pub default_task : Task
 default_task = ParseTask None None false false
 
--- whether a task asks that the grammar is accepted
+-- whether a task needs the grammar to be accepted
 abbrev pub Checks : Task → Type 0
 Checks TableTask = ⊥
 Checks CheckTask = Unit {0}
@@ -30,8 +30,8 @@ IsParse CheckTask = ⊥
 IsParse CodeTask = ⊥
 IsParse (ParseTask start steps all rows) = Unit {0}
 
--- The text that a task on a grammar file is about: what is left of its reader; or any, where the task reads none or the
--- file isn't accepted.
+-- The text of a task on a grammar file: the unread bytes of its reader. Any text will do for a task that reads none
+-- and for a file that isn't accepted.
 abbrev pub IsTextOf : Task → (file : List ℕ) → Option (List ℕ) → List ℕ → Type 0
 IsTextOf TableTask file left text = Unit {0}
 IsTextOf CheckTask file left text = Unit {0}

@@ -1,17 +1,17 @@
-//! What is asked of the tool.
+//! The commands of the tool.
 use peg_parser::ParseOptions;
 
-/// What is asked of the tool.
+/// A command of the tool.
 #[derive(Clone, Copy, Debug, PartialEq, Eq)]
 pub enum Command<'a> {
-    /// The table of outcomes: what the expression of each rule can do.
+    /// Prints the table of outcomes: what the expression of each rule can do.
     Table,
-    /// Whether the grammar is accepted, and why not.
+    /// Prints whether the grammar is accepted, or why not.
     Check,
-    /// The code of the grammar.
+    /// Prints the code of the grammar.
     Code,
-    /// What a rule of the grammar makes of a text: with `all`, a match of less than the whole is told as partial; with
-    /// `rows` the tree is told by its nodes in preorder, and else nested.
+    /// Parses a text by a rule of the grammar. With `all`, a match of less than the whole text is reported as partial.
+    /// With `rows` the tree is a list of its nodes in preorder, otherwise nested objects.
     Parse {
         options: ParseOptions<'a>,
         all: bool,

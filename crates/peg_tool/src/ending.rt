@@ -1,28 +1,29 @@
-//! How a run ends.
+//! Writes the line of a run and returns its exit status.
 ghost use Rattle.std.specs.Prelude.{◌≡◌, ◌↔◌, true, false, is_err, IsErrOf, OnErr, OnOk};
 ghost use Rattle.std.specs.Io.KnownBytes.{Appends};
 ghost use Rattle.peg_io.specs.Transfer.{AppendsProperPrefix};
-ghost use Rattle.peg_reply.specs.Lines.{line_bytes, with_rows};
+ghost use Rattle.peg_json.specs.Lines.{line_bytes, with_rows};
 ghost use Rattle.peg_tree.specs.RowsLeft.{text_left};
 ghost use Rattle.peg_tool.specs.Ends.{Ends};
 
 use peg_io::{DeviceFault, ReadFault, Sink, write_all_bytes};
-use peg_reply::{Line, Status};
+use peg_json::{Line, Status};
 use peg_tree::RowsText;
 use thiserror::Error;
 
-/// What failed outside of the tool.
+/// A failure of an input or of the output.
 #[derive(Clone, Copy, Debug, PartialEq, Eq, Error)]
 pub enum ToolFault {
-    /// An input answered a failed read.
+    /// A read from an input failed.
     #[error("the input can't be read")]
     ReadFault,
-    /// The output answered a failed write.
+    /// A write to the output failed.
     #[error("the output can't be written")]
     WriteFault,
 }
 
-/// Writes the line of a run, and answers its status; that of want of memory, where memory ran out.
+/// Writes the line of a run and returns its exit status. Returns the status for out of memory, with nothing written,
+/// if an allocation failed.
 pub(crate) fn finish<W: Sink>(
     output: &mut W,
     told: Result<Line, ReadFault>,
@@ -44,7 +45,7 @@ pub(crate) fn finish<W: Sink>(
     }
 }
 
-// Writes a line, and then its end. Nothing of it is copied, and no memory is asked for.
+// Writes a line and its line end, without copies or allocations.
 fn write_line<W: Sink>(output: &mut W, line: Line) -> Result<(), DeviceFault>
     requires { W.failed output.old ≡ false }
     ensures ok { OnOk result (Appends (W.written output.old) (W.written output.new) (line_bytes line)) }
@@ -56,7 +57,7 @@ fn write_line<W: Sink>(output: &mut W, line: Line) -> Result<(), DeviceFault>
     write_all_bytes(output, b"\n")
 }
 
-// Writes a text, with its rows in the list at its end.
+// Writes a text, with its nodes inserted in the list at its end.
 fn write_text<W: Sink>(
     output: &mut W,
     text: &[u8],
@@ -79,7 +80,7 @@ fn write_text<W: Sink>(
     }
 }
 
-// Writes the text of rows, piece by piece.
+// Writes a list of nodes, piece by piece.
 fn write_rows<W: Sink>(output: &mut W, mut rows: RowsText) -> Result<(), DeviceFault>
     requires { W.failed output.old ≡ false }
     ensures ok { OnOk result (Appends (W.written output.old) (W.written output.new) (text_left rows)) }

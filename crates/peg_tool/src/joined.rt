@@ -1,26 +1,27 @@
-//! The tool over one input: a grammar file, a line `%%` and a text.
+//! Runs the tool over one input: a grammar file, a line `%%` and a text.
 ghost use Rattle.std.specs.Prelude.{◌≡◌, ◌≤◌, ◌↔◌, true, false, length, IfOk, IfSome, IsErrOf, string_bytes};
 ghost use Rattle.std.specs.Io.KnownBytes.{Keeps};
 ghost use Rattle.peg_io.specs.Transfer.{ConsumesAtMost};
-ghost use Rattle.peg_reply.specs.Statuses.{code_of};
-ghost use Rattle.peg_tool.specs.Replies.{IsPrintedJoined, most_joined_bytes};
+ghost use Rattle.peg_json.specs.Statuses.{code_of};
+ghost use Rattle.peg_tool.specs.Replies.{IsPrintedJoined, max_joined_bytes};
 ghost use Rattle.peg_tool.specs.Written.{Prints, PrintsInPart};
-ghost use Rattle.peg_reply.specs.Lines.{line_bytes};
+ghost use Rattle.peg_json.specs.Lines.{line_bytes};
 
 use crate::ending::{ToolFault, finish};
 use crate::judge::{Judged, judge};
 use crate::parse::parse_line;
 use peg_io::{ReadFault, Sink, Source, read_up_to, split};
+use peg_json::{Line, TreeForm};
 use peg_parser::{DEFAULT_MEMO, ParseOptions};
-use peg_reply::{Line, TreeForm};
 use std::alloc::{AllocError, Global};
 
-/// The most bytes of the input that are held: over the limits of a grammar file and of a text together.
-const MOST_JOINED_BYTES: usize = 68_157_444;
+/// The most bytes of the input held in memory, more than a grammar file and a text may have together.
+const MAX_JOINED_BYTES: usize = 68_157_444;
 
-/// Reads one input, a grammar file and behind a line `%%` a text, and writes what the first rule makes of the text, as
-/// one line of JSON. Answers the status that goes with it; 5, with nothing written, where memory runs out. Neither
-/// device may have failed before. It holds at most 68,157,444 bytes of the input and reads no further.
+/// Reads one input: a grammar file, a line `%%` and a text. Parses the text by the first rule, writes one line of JSON
+/// and returns the exit status. Returns 5, with nothing written, if an allocation fails.
+///
+/// Neither device may have failed before. At most 68,157,444 bytes of the input are read and held in memory.
 pub fn run_joined<G: Source, W: Sink>(
     alloc: Global,
     input: &mut G,
@@ -30,9 +31,9 @@ pub fn run_joined<G: Source, W: Sink>(
     requires output_works { W.failed output.old ≡ false }
     ensures answer { IfSome (G.left input.old) (λ bytes. IfOk result (λ status.
         Prints (IsPrintedJoined bytes) (W.written output.old) (W.written output.new) status)) }
-    ensures held { ConsumesAtMost (G.left input.old) (G.left input.new) most_joined_bytes }
+    ensures held { ConsumesAtMost (G.left input.old) (G.left input.new) max_joined_bytes }
 
-    // What fails outside, and only that, is told, and what is written then.
+    // Failures of the devices: exactly these are reported, and this much is written then.
     ensures read_fault { IsErrOf result ToolFault.ReadFault ↔ (G.failed input.new ≡ true) }
     ensures nothing_written { IsErrOf result ToolFault.ReadFault → Keeps (W.written output.old) (W.written output.new) }
     ensures write_fault { IsErrOf result ToolFault.WriteFault ↔ (W.failed output.new ≡ true) }
@@ -43,21 +44,21 @@ pub fn run_joined<G: Source, W: Sink>(
     finish(output, told)
 }
 
-// Reads an input, and tells its line.
+// Reads an input and returns its line.
 fn line_of<G: Source>(alloc: Global, input: &mut G) -> Result<Line, ReadFault>
     requires { G.failed input.old ≡ false }
     ensures answer { IfSome (G.left input.old) (λ bytes. IfOk result (λ line.
         IsPrintedJoined bytes (line_bytes line) (code_of line.status))) }
-    ensures held { ConsumesAtMost (G.left input.old) (G.left input.new) most_joined_bytes }
+    ensures held { ConsumesAtMost (G.left input.old) (G.left input.new) max_joined_bytes }
     ensures device { IsErrOf result ReadFault.Device ↔ (G.failed input.new ≡ true) }
 {
-    let bytes = read_up_to(alloc, input, MOST_JOINED_BYTES)?;
+    let bytes = read_up_to(alloc, input, MAX_JOINED_BYTES)?;
     Ok(line_for(alloc, &bytes)?)
 }
 
-// The line of an input that is held.
+// The line of an input that was read.
 fn line_for(alloc: Global, input: &[u8]) -> Result<Line, AllocError>
-    requires { length input.now ≤ most_joined_bytes }
+    requires { length input.now ≤ max_joined_bytes }
     ensures { IfOk result (λ line. IsPrintedJoined input.now (line_bytes line) (code_of line.status)) }
 {
     let (file, text) = split(input);

@@ -1,33 +1,33 @@
-//! What a grammar file alone decides.
+//! Replies that depend on the grammar file alone.
 ghost use Rattle.std.specs.Prelude.{◌≡◌, ℕ, ◌≤◌, List, length, IfOk, string_bytes};
-ghost use Rattle.peg_bytes.specs.Place.{most_place};
+ghost use Rattle.peg_bytes.specs.Place.{max_offset};
 ghost use Rattle.peg_grammar.specs.GrammarRules.{rules_in};
 ghost use Rattle.peg_parser.specs.Accepts.{IsRead, IsTaken};
-ghost use Rattle.peg_reply.specs.Statuses.{code_of};
+ghost use Rattle.peg_json.specs.Statuses.{code_of};
 ghost use Rattle.peg_tool.specs.Judged.{Judges};
 ghost use Rattle.peg_tool.specs.Replies.{IsPrinted};
 ghost use Rattle.peg_tool.specs.Task.{CheckTask, CodeTask, TableTask};
-ghost use Rattle.peg_reply.specs.Lines.{line_bytes};
+ghost use Rattle.peg_json.specs.Lines.{line_bytes};
 
 use peg_check::table_of;
 use peg_core::desugar;
 use peg_grammar::Grammar;
+use peg_json::{Line, accepted_line, code_line, refused_line, table_line};
 use peg_parser::{Parser, Refusal, grammar_of};
-use peg_reply::{Line, accepted_line, code_line, refused_line, table_line};
 use std::alloc::{AllocError, Global};
 
-/// What comes of a grammar file that has to be accepted.
+/// The result of loading a grammar file that has to be accepted.
 #[derive(Drop)]
 pub(crate) enum Judged {
-    /// Its parser.
+    /// The parser of the file.
     Accepted(Parser),
-    /// The line that tells why it is refused.
+    /// The line that reports why the file is rejected.
     Refused(Line),
 }
 
-/// The parser of a grammar file, or the line that tells why it is refused.
+/// Returns the parser of a grammar file, or the line that reports why it is rejected.
 pub(crate) fn judge(alloc: Global, file: &[u8]) -> Result<Judged, AllocError>
-    requires { length file.now ≤ most_place }
+    requires { length file.now ≤ max_offset }
     ensures { IfOk result (Judges file.now) }
 {
     match Parser::from_file(alloc, file) {
@@ -37,9 +37,9 @@ pub(crate) fn judge(alloc: Global, file: &[u8]) -> Result<Judged, AllocError>
     }
 }
 
-/// The line that tells whether a grammar file is accepted.
+/// Returns the line that reports whether a grammar file is accepted.
 pub(crate) fn check_file(alloc: Global, file: &[u8]) -> Result<Line, AllocError>
-    requires { length file.now ≤ most_place }
+    requires { length file.now ≤ max_offset }
     ensures { (text : List ℕ) → IfOk result
         (λ line. IsPrinted CheckTask file.now text (line_bytes line) (code_of line.status)) }
 {
@@ -49,9 +49,9 @@ pub(crate) fn check_file(alloc: Global, file: &[u8]) -> Result<Line, AllocError>
     }
 }
 
-/// The line of the code of a grammar file, or that tells why it isn't accepted.
+/// Returns the line of a grammar file's code, or the one that reports why the file isn't accepted.
 pub(crate) fn code_file(alloc: Global, file: &[u8]) -> Result<Line, AllocError>
-    requires { length file.now ≤ most_place }
+    requires { length file.now ≤ max_offset }
     ensures { (text : List ℕ) → IfOk result
         (λ line. IsPrinted CodeTask file.now text (line_bytes line) (code_of line.status)) }
 {
@@ -61,9 +61,9 @@ pub(crate) fn code_file(alloc: Global, file: &[u8]) -> Result<Line, AllocError>
     }
 }
 
-/// The line of a grammar file's table.
+/// Returns the line of a grammar file's table of outcomes, or the one that reports why there is none.
 pub(crate) fn table_file(alloc: Global, file: &[u8]) -> Result<Line, AllocError>
-    requires { length file.now ≤ most_place }
+    requires { length file.now ≤ max_offset }
     ensures { (text : List ℕ) → IfOk result
         (λ line. IsPrinted TableTask file.now text (line_bytes line) (code_of line.status)) }
 {
@@ -74,7 +74,7 @@ pub(crate) fn table_file(alloc: Global, file: &[u8]) -> Result<Line, AllocError>
     }
 }
 
-// The line of a grammar's table.
+// The line of a grammar's table of outcomes.
 fn tabled(alloc: Global, grammar: &Grammar) -> Result<Line, AllocError>
     requires { IsTaken (rules_in grammar.now) }
     ensures { (file text : List ℕ) → IsRead file (rules_in grammar.now) → IfOk result

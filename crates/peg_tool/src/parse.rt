@@ -3,21 +3,21 @@ ghost use Rattle.std.specs.Prelude.{◌≡◌, ◌≢◌, ℕ, ◌<◌, ◌≤�
 ghost use Rattle.peg_parser.specs.Cause.{NoSuchStart, TextTooLong};
 ghost use Rattle.peg_parser.specs.Fits.{Fits};
 ghost use Rattle.peg_parser.specs.Parser.{parser_rules, start_named};
-ghost use Rattle.peg_grammar.specs.Limits.{most_text_bytes};
-ghost use Rattle.peg_reply.specs.Lines.{IsLineOf, IsReply, line_bytes};
-ghost use Rattle.peg_reply.specs.Parses.{ParsesTo, PrintsOutcome};
-ghost use Rattle.peg_reply.specs.Reply.{Refused};
-ghost use Rattle.peg_reply.specs.Statuses.{code_of};
-ghost use Rattle.peg_reply.specs.TreeForms.{is_rows};
+ghost use Rattle.peg_grammar.specs.Limits.{max_text_bytes};
+ghost use Rattle.peg_json.specs.Lines.{IsLineOf, IsReply, line_bytes};
+ghost use Rattle.peg_json.specs.Parses.{ParsesTo, PrintsOutcome};
+ghost use Rattle.peg_json.specs.Reply.{Refused};
+ghost use Rattle.peg_json.specs.Statuses.{code_of};
+ghost use Rattle.peg_json.specs.TreeForms.{is_rows};
 
-use peg_grammar::MOST_TEXT_BYTES;
-use peg_parser::{Answer, ParseFault, ParseOptions, Parser};
-use peg_reply::{
+use peg_grammar::MAX_TEXT_BYTES;
+use peg_json::{
     Line, TreeForm, answer_line, long_text_line, no_start_line, rows_line, step_limit_line,
 };
+use peg_parser::{Answer, ParseFault, ParseOptions, Parser};
 use std::alloc::{AllocError, Global};
 
-/// The line of a parse of a text: that it is too long comes before that the start is no rule.
+/// Returns the line of a parse of a text. A text that is too long is reported before a start that no rule has.
 pub(crate) fn parse_line(
     alloc: Global,
     parser: &Parser,
@@ -59,16 +59,16 @@ fn told(
     }
 }
 
-// That the start is no rule, where the text isn't too long.
+// The line for a start that no rule has, unless the text is too long.
 fn no_start(alloc: Global, text: &[u8], start: Option<&str>) -> Result<Line, AllocError>
     requires { start ≢ None }
-    ensures long { most_text_bytes < length text.now → (file : List ℕ) → IfOk result
+    ensures long { max_text_bytes < length text.now → (file : List ℕ) → IfOk result
         (λ line. IsReply file (Refused TextTooLong) (line_bytes line) (code_of line.status)) }
-    ensures missing { length text.now ≤ most_text_bytes → (file name : List ℕ)
+    ensures missing { length text.now ≤ max_text_bytes → (file name : List ℕ)
         → option_map (λ given. given.now) start.entry ≡ Some name → IfOk result
         (λ line. IsReply file (Refused (NoSuchStart name)) (line_bytes line) (code_of line.status)) }
 {
-    if text.len() > MOST_TEXT_BYTES {
+    if text.len() > MAX_TEXT_BYTES {
         return long_text_line(alloc);
     }
     match start {

@@ -1,4 +1,4 @@
-//! What the words of a command line lead to, and why the program ends without an answer.
+//! Runs the program for its parsed arguments, and the faults that end it without an answer.
 ghost use Rattle.std.specs.Prelude.{◌≡◌, ◌≢◌, ℕ, false, List, IfSome, string_bytes};
 ghost use Rattle.peg_tool.specs.Commands.{task_of};
 ghost use Rattle.peg_tool.specs.Leads.{Leads, Outcome, IsHelp, answer_of};
@@ -9,27 +9,27 @@ use crate::command::Command;
 use crate::ending::ToolFault;
 use crate::joined::run_joined;
 use crate::tool::run_tool;
+use peg_cli::Words;
 use peg_io::{Device, OpenFault, Opener, Sink, Source, write_all_bytes};
+use peg_json::Status;
 use peg_parser::ParseOptions;
-use peg_reply::Status;
-use peg_words::Words;
 use std::alloc::Global;
 use std::io;
 use thiserror::Error;
 
-/// Why the program ends without an answer. Its text is what the program prints on standard error.
+/// Why the program ends without an answer. The program prints its text on standard error.
 #[derive(Clone, Copy, Debug, PartialEq, Eq, Error)]
 pub enum ProgramFault {
     /// A file can't be opened or read, or the output can't be written.
     #[error("pegtool: file fault")]
     File,
-    /// Memory ran out.
+    /// Out of memory.
     #[error("pegtool: out of memory")]
     Memory,
 }
 
 impl ProgramFault {
-    /// The status that the program ends with.
+    /// Returns the exit status of the program.
     pub fn status(self) -> u8
         ensures file { self ≡ ProgramFault.File → result ≡ 4 }
         ensures memory { self ≡ ProgramFault.Memory → result ≡ 5 }
@@ -56,9 +56,11 @@ impl From<OpenFault> for ProgramFault {
     }
 }
 
-/// Does what the words of a command line ask for, over files by their names, an input and an output, and answers the
-/// status; the grammar file is opened first, then the text. `File` where a file can't be opened or read or the output
-/// can't be written; `Memory`, with nothing written, where memory ran out. No device may have failed before.
+/// Runs the program for its parsed arguments, over files by name, an input and an output, and returns the exit status.
+/// The grammar file is opened first, then the text.
+///
+/// Returns `File` if a file can't be opened or read, or if the output can't be written. Returns `Memory`, with nothing
+/// written, if an allocation fails. No device may have failed before.
 pub fn run_words<O: Opener, I: Source, W: Sink>(
     alloc: Global,
     files: &O,
@@ -105,7 +107,6 @@ pub fn run_words<O: Opener, I: Source, W: Sink>(
     }
 }
 
-// Prints the help.
 fn help<W: Sink>(output: &mut W, text: &str) -> Result<u8, ProgramFault>
     requires { W.failed output.old ≡ false }
     ensures { Outcome (IsHelp text.now) (W.written output.old) (W.written output.new) result }
@@ -119,7 +120,7 @@ fn help<W: Sink>(output: &mut W, text: &str) -> Result<u8, ProgramFault>
     }
 }
 
-// Does what is asked of the grammar file with this name alone.
+// Runs a command on the grammar file with this name.
 fn on_file<O: Opener, W: Sink>(
     alloc: Global,
     files: &O,
@@ -137,7 +138,7 @@ fn on_file<O: Opener, W: Sink>(
     answered(run_tool(alloc, &mut grammar, &mut text, output, command))
 }
 
-// Does what is asked of the grammar file and the text with these names. Both are opened before one is read.
+// Runs a command on the grammar file and the text with these names. Both are opened before either is read.
 fn on_files<O: Opener, W: Sink>(
     alloc: Global,
     files: &O,
@@ -155,7 +156,7 @@ fn on_files<O: Opener, W: Sink>(
     answered(run_tool(alloc, &mut grammar, &mut text, output, command))
 }
 
-// The answer of a run of the tool, whose want of memory is a fault of the program.
+// Converts the result of the tool: exit status 5 becomes `Memory`.
 fn answered(ended: Result<u8, ToolFault>) -> Result<u8, ProgramFault>
     ensures { result ≡ answer_of ended }
 {

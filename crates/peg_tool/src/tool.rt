@@ -1,37 +1,38 @@
-//! The tool over a grammar file and a text that are read apart.
+//! Runs the tool over a grammar file and a text from separate inputs.
 ghost use Rattle.std.specs.Prelude.{◌≡◌, ◌⊎◌, ℕ, ◌≤◌, ◌↔◌, ◌+◌, true};
 ghost use Rattle.std.specs.Prelude.{false, List, IfOk, IfSome, IsErrOf, length, string_bytes};
-ghost use Rattle.peg_bytes.specs.Place.{most_place};
+ghost use Rattle.peg_bytes.specs.Place.{max_offset};
 ghost use Rattle.std.specs.Io.KnownBytes.{Keeps};
-ghost use Rattle.peg_figure.specs.Notation.{most_file_bytes};
-ghost use Rattle.peg_ford.specs.Rules.{Rule};
+ghost use Rattle.peg_metagrammar.specs.Notation.{max_file_bytes};
+ghost use Rattle.peg_semantics.specs.Rules.{Rule};
 ghost use Rattle.peg_io.specs.Transfer.{ConsumesAtMost};
 ghost use Rattle.peg_parser.specs.Accepts.{Accepts};
 ghost use Rattle.peg_parser.specs.Parser.{parser_rules, start_named};
-ghost use Rattle.peg_grammar.specs.Limits.{most_text_bytes};
-ghost use Rattle.peg_reply.specs.Statuses.{code_of};
-ghost use Rattle.peg_reply.specs.TreeForms.{is_rows};
+ghost use Rattle.peg_grammar.specs.Limits.{max_text_bytes};
+ghost use Rattle.peg_json.specs.Statuses.{code_of};
+ghost use Rattle.peg_json.specs.TreeForms.{is_rows};
 ghost use Rattle.peg_tool.specs.Commands.{task_of};
 ghost use Rattle.peg_tool.specs.Replies.{IsPrinted};
 ghost use Rattle.peg_tool.specs.Task.{IsParse, IsTextOf, ParseTask};
 ghost use Rattle.peg_tool.specs.Written.{Prints, PrintsInPart};
-ghost use Rattle.peg_reply.specs.Lines.{line_bytes};
+ghost use Rattle.peg_json.specs.Lines.{line_bytes};
 
 use crate::command::Command;
 use crate::ending::{ToolFault, finish};
 use crate::judge::{Judged, check_file, code_file, judge, table_file};
 use crate::parse::parse_line;
-use peg_grammar::MOST_TEXT_BYTES;
+use peg_grammar::MAX_TEXT_BYTES;
 use peg_io::{ReadFault, Sink, Source, read_up_to};
-use peg_notation::MOST_FILE_BYTES;
+use peg_json::{Line, TreeForm};
+use peg_notation::MAX_FILE_BYTES;
 use peg_parser::{ParseOptions, Parser};
-use peg_reply::{Line, TreeForm};
 use std::alloc::Global;
 
-/// Reads a grammar file, does what is asked and writes the answer as one line of JSON. Answers the status that goes
-/// with it; 5, with nothing written, where memory runs out. No device may have failed before. It holds at most
-/// 1,048,577 bytes of the file and 67,108,865 of the text and reads no further; the text is read for a parse by an
-/// accepted file alone.
+/// Reads a grammar file, runs a command and writes the answer as one line of JSON. Returns the exit status; 5, with
+/// nothing written, if an allocation fails. No device may have failed before.
+///
+/// At most 1,048,577 bytes of the file and 67,108,865 of the text are read and held in memory. The text is only read
+/// for a parse by an accepted file.
 pub fn run_tool<G: Source, T: Source, W: Sink>(
     alloc: Global,
     grammar: &mut G,
@@ -45,13 +46,13 @@ pub fn run_tool<G: Source, T: Source, W: Sink>(
     ensures answer { IfSome (G.left grammar.old) (λ file. (bytes : List ℕ)
         → IsTextOf (task_of command.now) file (T.left text.old) bytes → IfOk result (λ status.
         Prints (IsPrinted (task_of command.now) file bytes) (W.written output.old) (W.written output.new) status)) }
-    ensures held { ConsumesAtMost (G.left grammar.old) (G.left grammar.new) (most_file_bytes + 1) }
-    ensures text_held { ConsumesAtMost (T.left text.old) (T.left text.new) (most_text_bytes + 1) }
+    ensures held { ConsumesAtMost (G.left grammar.old) (G.left grammar.new) (max_file_bytes + 1) }
+    ensures text_held { ConsumesAtMost (T.left text.old) (T.left text.new) (max_text_bytes + 1) }
     ensures unread { ¬ IsParse (task_of command.now) → text.new ≡ text.old }
     ensures refused { IfSome (G.left grammar.old) (λ file.
         ((rules : List Rule) → ¬ Accepts file rules) → text.new ≡ text.old) }
 
-    // What fails outside, and only that, is told, and what is written then.
+    // Failures of the devices: exactly these are reported, and this much is written then.
     ensures read_fault { IsErrOf result ToolFault.ReadFault
         ↔ ((G.failed grammar.new ≡ true) ⊎ (T.failed text.new ≡ true)) }
     ensures nothing_written { IsErrOf result ToolFault.ReadFault → Keeps (W.written output.old) (W.written output.new) }
@@ -64,7 +65,7 @@ pub fn run_tool<G: Source, T: Source, W: Sink>(
     finish(output, told)
 }
 
-// Reads what a command needs, and tells its line.
+// Reads the inputs of a command and returns its line.
 fn line_of<G: Source, T: Source>(
     alloc: Global,
     grammar: &mut G,
@@ -76,15 +77,15 @@ fn line_of<G: Source, T: Source>(
     ensures answer { IfSome (G.left grammar.old) (λ file. (bytes : List ℕ)
         → IsTextOf (task_of command.now) file (T.left text.old) bytes → IfOk result (λ line.
         IsPrinted (task_of command.now) file bytes (line_bytes line) (code_of line.status))) }
-    ensures held { ConsumesAtMost (G.left grammar.old) (G.left grammar.new) (most_file_bytes + 1) }
-    ensures text_held { ConsumesAtMost (T.left text.old) (T.left text.new) (most_text_bytes + 1) }
+    ensures held { ConsumesAtMost (G.left grammar.old) (G.left grammar.new) (max_file_bytes + 1) }
+    ensures text_held { ConsumesAtMost (T.left text.old) (T.left text.new) (max_text_bytes + 1) }
     ensures unread { ¬ IsParse (task_of command.now) → text.new ≡ text.old }
     ensures refused { IfSome (G.left grammar.old) (λ file.
         ((rules : List Rule) → ¬ Accepts file rules) → text.new ≡ text.old) }
     ensures device { IsErrOf result ReadFault.Device
         ↔ ((G.failed grammar.new ≡ true) ⊎ (T.failed text.new ≡ true)) }
 {
-    let file = read_up_to(alloc, grammar, MOST_FILE_BYTES + 1)?;
+    let file = read_up_to(alloc, grammar, MAX_FILE_BYTES + 1)?;
     match command {
         Command::Table => Ok(table_file(alloc, &file)?),
         Command::Check => Ok(check_file(alloc, &file)?),
@@ -95,7 +96,7 @@ fn line_of<G: Source, T: Source>(
     }
 }
 
-// Reads a text for an accepted file, and tells the line of its parse; else why the file is refused.
+// Reads a text and returns the line of its parse, or the line that reports why the file is rejected.
 fn parsed<T: Source>(
     alloc: Global,
     file: &[u8],
@@ -104,14 +105,14 @@ fn parsed<T: Source>(
     all: bool,
     form: TreeForm,
 ) -> Result<Line, ReadFault>
-    requires short { length file.now ≤ most_place }
+    requires short { length file.now ≤ max_offset }
     requires works { T.failed text.old ≡ false }
     ensures answer { (bytes : List ℕ)
         → IsTextOf (ParseTask (start_named options.now) options.now.steps all (is_rows form)) file.now
         (T.left text.old) bytes → IfOk result (λ line.
         IsPrinted (ParseTask (start_named options.now) options.now.steps all (is_rows form)) file.now bytes
         (line_bytes line) (code_of line.status)) }
-    ensures held { ConsumesAtMost (T.left text.old) (T.left text.new) (most_text_bytes + 1) }
+    ensures held { ConsumesAtMost (T.left text.old) (T.left text.new) (max_text_bytes + 1) }
     ensures refused { ((rules : List Rule) → ¬ Accepts file.now rules) → text.new ≡ text.old }
     ensures device { IsErrOf result ReadFault.Device ↔ (T.failed text.new ≡ true) }
 {
@@ -121,7 +122,7 @@ fn parsed<T: Source>(
     }
 }
 
-// Reads a text, and tells the line of its parse.
+// Reads a text and returns the line of its parse.
 fn read_and_parse<T: Source>(
     alloc: Global,
     parser: &Parser,
@@ -135,9 +136,9 @@ fn read_and_parse<T: Source>(
         IfSome (T.left text.old) (λ bytes.
         IsPrinted (ParseTask (start_named options.now) options.now.steps all (is_rows form)) file bytes
         (line_bytes line) (code_of line.status))) }
-    ensures held { ConsumesAtMost (T.left text.old) (T.left text.new) (most_text_bytes + 1) }
+    ensures held { ConsumesAtMost (T.left text.old) (T.left text.new) (max_text_bytes + 1) }
     ensures device { IsErrOf result ReadFault.Device ↔ (T.failed text.new ≡ true) }
 {
-    let bytes = read_up_to(alloc, text, MOST_TEXT_BYTES + 1)?;
+    let bytes = read_up_to(alloc, text, MAX_TEXT_BYTES + 1)?;
     Ok(parse_line(alloc, parser, &bytes, options, all, form)?)
 }

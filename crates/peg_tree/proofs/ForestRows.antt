@@ -1,4 +1,4 @@
--- The first tree of a forest, by its rows.
+-- The first tree of a forest, by its node list.
 use Rattle.std.proofs.Common.{◌≡◌, ◌≢◌, ℕ, zero, suc, ◌+◌, ◌-◌, ◌<◌, ◌≤◌, List, [], ◌∷◌, ◌++◌, length, take, drop, get_or, map, refl, sym, ◌∙◌, ap, subst, arith}
 use Rattle.std.proofs.Math.Seq.{take-append_seam, take-length}
 use Rattle.std.proofs.lemmas.List.{length-append, length-map, length-drop, take-map}
@@ -9,11 +9,11 @@ use Rattle.peg_tree.specs.TreesOfRows.{first_trees, trees_after, trees_of, IsFor
 use Rattle.peg_tree.specs.TreesCode.{trees_of-rows_of}
 use Rattle.peg_tree.proofs.Forests.{length-rows_of, IsForest-rows_of, IsForest-tail, IsForest-drop, IsForest-size, first_and_after, trees_of-after_tree, map-drop}
 
--- the rows from one on, up to the last
+-- the nodes from n on, up to the last
 to_last : (n : ℕ) (rows : List TreeNode) → take (length rows - n) (drop n rows) ≡ drop n rows
 to_last n rows = ap (λ k. take k (drop n rows)) (sym (length-drop n rows)) ∙ take-length (drop n rows)
 
--- the first row says where its tree ends, which rows are below it, and which trees they are
+-- what the first node determines: the end of its tree, the nodes below it, and the trees of those nodes
 pub record FirstTree (rows : List TreeNode) (root : TreeNode) : Type 0 where
   pub some : 0 < root.size
   pub fits : root.size ≤ length rows

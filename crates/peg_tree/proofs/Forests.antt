@@ -1,4 +1,4 @@
--- Rows that are trees, one after the other.
+-- Node lists that are adjacent trees.
 use Rattle.std.proofs.Common.{Option, Some, slice_get, unwrap_or, ◌≡◌, Bool, true, false, ℕ, zero, suc, ◌+◌, ◌-◌, ◌<◌, ◌≤◌, List, [], ◌∷◌, ◌++◌, nat_le, if◌then◌else◌, length, drop, get_or, map, refl, sym, ◌∙◌, ap, subst, arith, append_assoc}
 use Rattle.std.proofs.lemmas.Bool.{cond-true, cond-false, le-leb, lt-leb}
 use Rattle.std.proofs.lemmas.List.{length-append, length-drop, length-map, drop_at, drop_more, drop-drop}
@@ -8,24 +8,24 @@ use Rattle.peg_tree.specs.Rows.{Row, row_of, rows_of, IsOneTree}
 use Rattle.peg_tree.specs.TreesOfRows.{first_trees, trees_after, trees_of, IsForest}
 use Rattle.peg_tree.specs.TreesCode.{trees_of-rows_of, first_trees-none}
 
--- there are as many rows as nodes
+-- the node list has one entry for each node
 pub length-rows_of : (trees : Trees) → length (rows_of trees) ≡ nodes trees
 length-rows_of NoTrees = refl
 length-rows_of (Tree rule start end children rest) =
     omega (arith, length-append (rows_of children) (rows_of rest), length-rows_of children, length-rows_of rest)
 
--- the rows of trees and of more trees
+-- the node list of trees followed by other trees
 pub rows_of-followed_by : (trees more : Trees) → rows_of (followed_by trees more) ≡ rows_of trees ++ rows_of more
 rows_of-followed_by NoTrees more = refl
 rows_of-followed_by (Tree rule start end children rest) more =
     ap (λ rows. record { rule = rule; start = start; end = end; size = 1 + nodes children } ∷ rows)
     (ap (λ rows. rows_of children ++ rows) (rows_of-followed_by rest more) ∙ sym (append_assoc (rows_of children) (rows_of rest) (rows_of more)))
 
--- the rows of trees are a forest
+-- the node list of trees is a forest
 pub IsForest-rows_of : (trees : Trees) → IsForest (rows_of trees)
 IsForest-rows_of trees = ap rows_of (trees_of-rows_of trees)
 
--- without its first row a forest is a forest
+-- a forest without its first entry is a forest
 pub IsForest-tail : (row : Row) (rows : List Row) → IsForest (row ∷ rows) → IsForest rows
 IsForest-tail row rows forest =
     let children = first_trees (row.size - 1) (trees_of rows) in
@@ -33,22 +33,22 @@ IsForest-tail row rows forest =
     let tail : rows_of children ++ rows_of rest ≡ rows = ap (drop 1) forest in
     subst IsForest (rows_of-followed_by children rest ∙ tail) (IsForest-rows_of (followed_by children rest))
 
--- without its first rows a forest is a forest
+-- a forest without its first n entries is a forest
 pub IsForest-drop : (n : ℕ) (rows : List Row) → IsForest rows → IsForest (drop n rows)
 IsForest-drop zero rows forest = forest
 IsForest-drop (suc n) [] forest = refl
 IsForest-drop (suc n) (row ∷ rows) forest = IsForest-drop n rows (IsForest-tail row rows forest)
 
--- the size of the first row
+-- the size in the first entry
 abbrev pub row_size : List Row → ℕ
 row_size [] = 0
 row_size (row ∷ rows) = row.size
 
--- the first row of a forest says how many nodes its tree has
+-- the size in the first entry of a forest is the number of nodes of its first tree
 pub IsForest-size : (row : Row) (rows : List Row) → IsForest (row ∷ rows) → 1 + nodes (first_trees (row.size - 1) (trees_of rows)) ≡ row.size
 IsForest-size row rows forest = ap row_size forest
 
--- a row before a forest makes a forest where the nodes that its size covers are whole trees
+-- an entry before a forest makes a forest if its size covers whole trees
 pub first_and_after : (count : ℕ) (trees : Trees) → followed_by (first_trees count trees) (trees_after count trees) ≡ trees
 first_and_after count NoTrees = refl
 first_and_after count (Tree rule start end children rest) =
@@ -71,7 +71,7 @@ IsForest-cons row rows forest some whole =
     ap (λ n. record { rule = row.rule; start = row.start; end = row.end; size = n } ∷ (rows_of children ++ rows_of rest)) size
     ∙ ap (λ rows. row ∷ rows) below
 
--- the rows after the first tree of a forest
+-- the node list after the first tree of a forest
 pub after_tree : (row : Row) (rows : List Row) → IsForest (row ∷ rows)
     → drop row.size (row ∷ rows) ≡ rows_of (trees_after (row.size - 1) (trees_of rows))
 after_tree row rows forest =
@@ -88,7 +88,7 @@ pub trees_of-after_tree : (row : Row) (rows : List Row) → IsForest (row ∷ ro
 trees_of-after_tree row rows forest =
     ap trees_of (after_tree row rows forest) ∙ trees_of-rows_of (trees_after (row.size - 1) (trees_of rows))
 
--- counted from the second tree on, where the first tree fits
+-- the nodes of leading trees, if the first tree fits
 pub nodes-first_trees-more : (row : Row) (rows : List Row) (count : ℕ) → IsForest (row ∷ rows) → row.size ≤ count
     → nodes (first_trees count (trees_of (row ∷ rows))) ≡ row.size + nodes (first_trees (count - row.size) (trees_of (drop row.size (row ∷ rows))))
 nodes-first_trees-more row rows count forest fits =
@@ -99,7 +99,7 @@ nodes-first_trees-more row rows count forest fits =
     ∙ ap (λ n. n + nodes (first_trees (count - n) rest)) size
     ∙ ap (λ trees. row.size + nodes (first_trees (count - row.size) trees)) (sym (trees_of-after_tree row rows forest))
 
--- where the first tree doesn't fit, none does
+-- if the first tree does not fit, no tree does
 pub nodes-first_trees-past : (row : Row) (rows : List Row) (count : ℕ) → IsForest (row ∷ rows) → count < row.size
     → nodes (first_trees count (trees_of (row ∷ rows))) ≡ 0
 nodes-first_trees-past row rows count forest past =
@@ -115,20 +115,20 @@ map-drop f zero xs = refl
 map-drop f (suc n) [] = refl
 map-drop f (suc n) (x ∷ xs) = map-drop f n xs
 
--- a forest has as many nodes as rows
+-- a forest has one node for each entry
 pub nodes-trees_of : (rows : List Row) → IsForest rows → nodes (trees_of rows) ≡ length rows
 nodes-trees_of rows forest = sym (length-rows_of (trees_of rows)) ∙ ap length forest
 
--- a tree of a forest, at the row number at
+-- a tree of a forest, whose root is entry number `at`
 module _ (rows : List TreeNode) (at : ℕ) (node : TreeNode) (within : at < length rows) (is : node ≡ get_or rows at node) where
   pub rows_from : map row_of (drop at rows) ≡ row_of node ∷ map row_of (drop (at + 1) rows)
   rows_from = ap (map row_of) (drop_more rows at node within) ∙ ap (λ n. row_of n ∷ map row_of (drop (at + 1) rows)) (sym is)
 
-  -- one row fewer
+  -- one entry less
   pub forest_from_next : IsForest (map row_of (drop at rows)) → IsForest (map row_of (drop (at + 1) rows))
   forest_from_next forest = IsForest-tail (row_of node) (map row_of (drop (at + 1) rows)) (subst IsForest rows_from forest)
 
-  -- one row more
+  -- one entry more
   pub forest_from_here : IsForest (map row_of (drop (at + 1) rows)) → 0 < node.size
       → nodes (first_trees (node.size - 1) (trees_of (map row_of (drop (at + 1) rows)))) ≡ node.size - 1
       → IsForest (map row_of (drop at rows))
@@ -139,11 +139,11 @@ module _ (rows : List TreeNode) (at : ℕ) (node : TreeNode) (within : at < leng
     opened : IsForest (row_of node ∷ map row_of (drop (at + 1) rows))
     opened = subst IsForest rows_from forest
 
-    -- the row counts the whole trees that it covers
+    -- the size in the entry counts the whole trees that it covers
     pub size_counts : (0 < node.size) × (nodes (first_trees (node.size - 1) (trees_of (map row_of (drop (at + 1) rows)))) ≡ node.size - 1)
     size_counts = let size = IsForest-size (row_of node) (map row_of (drop (at + 1) rows)) opened in (omega arith, omega arith)
 
-    -- the tree ends within the rows
+    -- the tree ends within the list
     pub tree_within : at + node.size ≤ length rows
     tree_within =
         let size = IsForest-size (row_of node) (map row_of (drop (at + 1) rows)) opened in
@@ -153,13 +153,13 @@ module _ (rows : List TreeNode) (at : ℕ) (node : TreeNode) (within : at < leng
     past : drop node.size (row_of node ∷ map row_of (drop (at + 1) rows)) ≡ map row_of (drop (at + node.size) rows)
     past = ap (drop node.size) (sym rows_from) ∙ sym (map-drop row_of node.size (drop at rows)) ∙ ap (map row_of) (drop-drop node.size at rows)
 
-    -- the rows after the tree are a forest
+    -- the entries after the tree are a forest
     pub forest_after : IsForest (map row_of (drop (at + node.size) rows))
     forest_after =
         subst IsForest (sym (after_tree (row_of node) (map row_of (drop (at + 1) rows)) opened) ∙ past)
         (IsForest-rows_of (trees_after (node.size - 1) (trees_of (map row_of (drop (at + 1) rows)))))
 
-    -- counted from the second tree on
+    -- the nodes of leading trees, if this tree fits
     pub counted_after : (count : ℕ) → node.size ≤ count
         → nodes (first_trees count (trees_of (map row_of (drop at rows)))) ≡ node.size + nodes (first_trees (count - node.size) (trees_of (map row_of (drop (at + node.size) rows))))
     counted_after count fits =
@@ -167,18 +167,18 @@ module _ (rows : List TreeNode) (at : ℕ) (node : TreeNode) (within : at < leng
         ∙ nodes-first_trees-more (row_of node) (map row_of (drop (at + 1) rows)) count opened fits
         ∙ ap (λ l. node.size + nodes (first_trees (count - node.size) (trees_of l))) past
 
-    -- the first tree is larger
+    -- this tree does not fit
     pub counted_past : (count : ℕ) → count < node.size → nodes (first_trees count (trees_of (map row_of (drop at rows)))) ≡ 0
     counted_past count less =
         ap (λ l. nodes (first_trees count (trees_of l))) rows_from
         ∙ nodes-first_trees-past (row_of node) (map row_of (drop (at + 1) rows)) count opened less
 
--- trees without nodes are none
+-- trees without nodes are empty
 pub no_nodes : (trees : Trees) → nodes trees ≡ 0 → trees ≡ NoTrees
 no_nodes NoTrees e = refl
 no_nodes (Tree rule start end children rest) e = absurd (omega arith)
 
--- a forest whose first tree has all its rows is one tree
+-- a forest whose first tree covers all entries is one tree
 pub IsOneTree-from_forest : (rows : List Row) → IsForest rows → 0 < length rows → row_size rows ≡ length rows → IsOneTree rows
 IsOneTree-from_forest [] forest some whole = absurd (omega arith)
 IsOneTree-from_forest (row ∷ rows) forest some whole =
@@ -195,7 +195,7 @@ IsOneTree-from_forest (row ∷ rows) forest some whole =
       spelled = sym forest ∙ ap (λ trees. rows_of (Tree row.rule row.start row.end children trees)) none;
     }
 
--- one tree is a forest whose first tree has all its rows
+-- one tree is a forest whose first tree covers all entries
 pub IsForest-from_one_tree : (rows : List Row) → IsOneTree rows → IsForest rows
 IsForest-from_one_tree rows one = subst IsForest (sym one.spelled) (IsForest-rows_of (Tree one.rule one.start one.end one.children NoTrees))
 
@@ -205,7 +205,7 @@ size_of_one_tree rows one =
     let count = length-rows_of tree in
     ap row_size one.spelled ∙ (let h : 1 + nodes one.children ≡ length (rows_of tree) = omega arith in h) ∙ sym (ap length one.spelled)
 
--- the same of nodes, where the first is known
+-- the same for nodes whose first is known
 module _ (rows : List TreeNode) (root : TreeNode) (first : Some root ≡ slice_get rows 0) where
   some_row : (rows : List TreeNode) → Some root ≡ slice_get rows 0 → 0 < length rows
   some_row [] e = cc
@@ -224,7 +224,7 @@ module _ (rows : List TreeNode) (root : TreeNode) (first : Some root ≡ slice_g
   pub whole_from_one_tree : IsOneTree (map row_of rows) → root.size ≡ length rows
   whole_from_one_tree one = sym first_size ∙ size_of_one_tree (map row_of rows) one ∙ length-map rows row_of
 
--- no rows are no tree
+-- an empty list is not a tree
 pub not_one_tree : IsOneTree [] → ⊥
 not_one_tree one =
     let count : 0 ≡ length (rows_of (Tree one.rule one.start one.end one.children NoTrees)) = ap length one.spelled in

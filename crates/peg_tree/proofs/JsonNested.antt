@@ -1,4 +1,4 @@
--- The stack of nested JSON objects, against the trees that it stands for.
+-- The stack of nested JSON objects, compared with the trees of these objects.
 use Rattle.std.proofs.Common.{◌≡◌, Bool, true, false, ℕ, suc, ◌+◌, ◌-◌, ◌<◌, List, [], ◌∷◌, ◌++◌, nat_le, if◌then◌else◌, length, drop, get_or, map, refl, subst, sym, ◌∙◌, ap, arith}
 use Rattle.std.proofs.lemmas.List.{reverse-append}
 use Rattle.serde_json.specs.Data.{Data}
@@ -15,7 +15,7 @@ use Rattle.peg_tree.specs.TreesCode.{trees_of-rows_of}
 use Rattle.peg_tree.proofs.Forests.{IsForest-size, rows_from}
 
 module _ (names : List (List ℕ)) where
-  -- of the objects of trees, those that are taken are the leading trees
+  -- the objects that are taken are those of the leading trees
   pub taken-objects_of_trees : (count : ℕ) (trees : Trees) → taken count (objects_of_trees names trees) ≡ nested_data names (first_trees count trees)
   taken-objects_of_trees count NoTrees = refl
   taken-objects_of_trees count (Tree rule start end children rest) =
@@ -27,7 +27,7 @@ module _ (names : List (List ℕ)) where
       by true h = ap (λ l. node_data (name_at names rule) start end (nested_data names children) ∷ l) h
       by false h = refl
 
-  -- and those that stay are the trees after them
+  -- the objects that remain are those of the trees after them
   pub left_after-objects_of_trees : (count : ℕ) (trees : Trees) → left_after count (objects_of_trees names trees) ≡ objects_of_trees names (trees_after count trees)
   left_after-objects_of_trees count NoTrees = refl
   left_after-objects_of_trees count (Tree rule start end children rest) =
@@ -42,7 +42,7 @@ module _ (names : List (List ℕ)) where
   objects_of-push : (stack : List Built) (built : Built) → objects_of (stack ++ built ∷ []) ≡ object_of built ∷ objects_of stack
   objects_of-push stack built = ap (map object_of) (reverse-append stack (built ∷ []))
 
-  -- the row before the trees that are built takes those that its size covers
+  -- a node before the finished trees takes those within its size
   pub objects_of-more : (rows : List TreeNode) (at next : ℕ) (node : TreeNode) → next ≡ at + 1 → at < length rows → node ≡ get_or rows at node
       → IsForest (map row_of (drop at rows))
       → (stack left more : List Built) (children : List Data) (built : Built)
@@ -66,12 +66,12 @@ module _ (names : List (List ℕ)) where
       ∙ ap (λ l. (node_data (name_at names node.rule) node.span.start node.span.end (nested_data names (first_trees (node.size - 1) after)), 1 + nodes (first_trees (node.size - 1) after)) ∷ l) rest
       ∙ ap (λ l. objects_of_trees names (trees_of l)) (sym row)
 
-  -- nested data are the objects of trees without their sizes
+  -- nested data is the list of objects without their sizes
   nested_data-objects : (trees : Trees) → nested_data names trees ≡ map (λ (p : SizedObject). p.0) (objects_of_trees names trees)
   nested_data-objects NoTrees = refl
   nested_data-objects (Tree rule start end children rest) = ap (λ l. node_data (name_at names rule) start end (nested_data names children) ∷ l) (nested_data-objects rest)
 
-  -- the objects of one tree are one
+  -- one tree has one object
   one_object : (rows : List Row) → IsOneTree rows → length (objects_of_trees names (trees_of rows)) ≡ 1
   one_object rows one =
       ap (λ rows. length (objects_of_trees names (trees_of rows))) one.spelled
@@ -81,7 +81,7 @@ module _ (names : List (List ℕ)) where
   no_objects [] e = refl
   no_objects (x ∷ xs) e = absurd (omega arith)
 
-  -- at the end one object is left, the tree's
+  -- at the end one object is left, which is the tree's
   pub last_object : (rows : List Row) → IsOneTree rows → (stack left : List Built) (root : Built) → objects_of stack ≡ objects_of_trees names (trees_of rows)
       → stack ≡ left ++ root ∷ [] → nested_data names (trees_of rows) ≡ view root.value ∷ []
   last_object rows one stack left root same popped =
@@ -90,7 +90,7 @@ module _ (names : List (List ℕ)) where
       let none : objects_of left ≡ [] = no_objects (objects_of left) (omega arith) in
       nested_data-objects (trees_of rows) ∙ ap (map (λ (p : SizedObject). p.0)) (sym whole) ∙ ap (λ l. view root.value ∷ map (λ (p : SizedObject). p.0) l) none
 
-  -- before the end some object is there
+  -- before the end the stack is not empty
   pub some_object : (rows : List Row) → IsOneTree rows → (stack : List Built) → objects_of stack ≡ objects_of_trees names (trees_of rows) → stack ≡ [] → ⊥
   some_object rows one stack same empty =
       let count : length (objects_of []) ≡ 1 = ap (λ l. length (objects_of l)) (sym empty) ∙ ap length same ∙ one_object rows one in

@@ -1,4 +1,4 @@
--- The JSON of a tree's rows.
+-- The JSON of a tree's node list.
 use Rattle.std.proofs.Common.{◌≡◌, ℕ, zero, suc, ◌+◌, ◌<◌, ◌≤◌, List, [], ◌∷◌, ◌++◌, length, drop, get_or, map, refl, subst, sym, ◌∙◌, ap, arith, append_assoc, append-nil}
 use Rattle.std.proofs.lemmas.List.{drop_all, drop_more, length-append, map_push}
 use Rattle.serde_json.specs.Data.{Data}
@@ -14,11 +14,11 @@ use Rattle.peg_tree.specs.Trees.{Trees, NoTrees, Tree, nodes}
 use Rattle.peg_tree.specs.TreesOfRows.{trees_of}
 use Rattle.peg_tree.proofs.Forests.{IsForest-from_one_tree, rows_from}
 
--- what a list of values holds after one more
+-- the contents of a list of values after one more value
 pub map-view-push : (values more : List Value) (value : Value) → more ≡ values ++ value ∷ [] → map view more ≡ map view values ++ view value ∷ []
 map-view-push values more value added = ap (map view) added ∙ map_push view values value
 
--- rows with their levels
+-- nodes with their levels
 abbrev pub rows_with_levels : List (List ℕ) → List ℕ → List Row → List Data
 rows_with_levels names [] rows = []
 rows_with_levels names (level ∷ levels) [] = []
@@ -35,7 +35,7 @@ rows_with_levels-append names level (Tree rule start end children rest) levels r
     ∙ ap (λ l. rows_data names (1 + level) children ++ l) (rows_with_levels-append names level rest levels rows)
     ∙ sym (append_assoc (rows_data names (1 + level) children) (rows_data names level rest) (rows_with_levels names levels rows)))
 
--- the rows of trees with the levels of their nodes
+-- the nodes of trees with their levels
 pub rows_with_levels-rows_of : (names : List (List ℕ)) (trees : Trees) → rows_with_levels names (levels_of 1 trees) (rows_of trees) ≡ rows_data names 1 trees
 rows_with_levels-rows_of names trees =
     ap (λ l. rows_with_levels names l (rows_of trees)) (sym (append-nil (levels_of 1 trees)))
@@ -43,13 +43,13 @@ rows_with_levels-rows_of names trees =
     ∙ rows_with_levels-append names 1 trees [] []
     ∙ append-nil (rows_data names 1 trees)
 
--- there is a level for each node
+-- there is one level for each node
 pub length-levels_of : (level : ℕ) (trees : Trees) → length (levels_of level trees) ≡ nodes trees
 length-levels_of level NoTrees = refl
 length-levels_of level (Tree rule start end children rest) =
     omega (arith, length-append (levels_of (1 + level) children) (levels_of level rest), length-levels_of (1 + level) children, length-levels_of level rest)
 
--- one row more
+-- one more node
 pub rows_with_levels-more : (names : List (List ℕ)) (levels : List ℕ) (rows : List TreeNode) (at level : ℕ) (node : TreeNode)
     → at < length levels → at < length rows → level ≡ get_or levels at level → node ≡ get_or rows at node
     → (done more whole : List Data) (new : Data)
@@ -66,7 +66,7 @@ rows_with_levels-more names levels rows at level node few within here is done mo
     ∙ ap (λ l. done ++ rows_with_levels names (level ∷ drop (at + 1) levels) l) (rows_from rows at node within is))
     ∙ same
 
--- at the end all rows are made
+-- at the end all nodes are converted
 pub rows_with_levels-all : (names : List (List ℕ)) (levels : List ℕ) (rows : List TreeNode) (tree : Trees) (at : ℕ) (made : List Data)
     → IsOneTree (map row_of rows) → trees_of (map row_of rows) ≡ tree → levels ≡ levels_of 1 (trees_of (map row_of rows)) → length levels ≤ at
     → made ++ rows_with_levels names (drop at levels) (map row_of (drop at rows)) ≡ rows_with_levels names levels (map row_of rows)
@@ -80,7 +80,7 @@ rows_with_levels-all names levels rows tree at made one same are_levels done all
     ∙ rows_with_levels-rows_of names (trees_of (map row_of rows))
     ∙ ap (rows_data names 1) same
 
--- each row of trees has a rule below their bound
+-- every node has a rule number below the bound
 abbrev pub EachBelow : ℕ → List Row → Type 0
 EachBelow bound [] = Unit {0}
 EachBelow bound (row ∷ rows) = (row.rule < bound) × EachBelow bound rows
@@ -99,7 +99,7 @@ EachBelow-at bound [] at node h within is = absurd (omega arith)
 EachBelow-at bound (row ∷ rows) zero node h within is = subst (λ (n : TreeNode). n.rule < bound) (sym is) h.0
 EachBelow-at bound (row ∷ rows) (suc at) node h within is = EachBelow-at bound rows at node h.1 (omega arith) is
 
--- a row of one tree has a rule below the tree's bound
+-- a node of a tree has a rule number below the bound of the tree
 pub rule_below : (bound : ℕ) (rows : List TreeNode) (trees : Trees) → IsOneTree (map row_of rows) → trees_of (map row_of rows) ≡ trees → RulesBelow bound trees
     → (at : ℕ) (node : TreeNode) → at < length rows → node ≡ get_or rows at node → node.rule < bound
 rule_below bound rows trees one same below at node within is =

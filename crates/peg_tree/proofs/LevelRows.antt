@@ -1,4 +1,4 @@
--- The levels of rows are those of the nodes that the rows spell.
+-- The levels computed from a node list are the levels of its trees.
 use Rattle.std.proofs.Common.{◌≡◌, ℕ, ◌+◌, ◌<◌, ◌≤◌, List, [], ◌∷◌, ◌++◌, length, drop, get_or, map, reverse, refl, subst, sym, ◌∙◌, ap, arith, append_assoc, append-nil}
 use Rattle.std.proofs.lemmas.Bool.{cond-true, cond-false, le-leb, lt-leb}
 use Rattle.std.proofs.lemmas.List.{reverse-append, length-reverse}
@@ -8,7 +8,7 @@ use Rattle.peg_tree.specs.Trees.{Trees, NoTrees, Tree, nodes}
 use Rattle.peg_tree.specs.Rows.{Row, row_of, rows_of}
 use Rattle.peg_tree.specs.Levels.{levels_of, open_at, levels_of_rows}
 
--- the innermost node, if there is one, reaches as far as a place
+-- the innermost open node, if any, ends at `place` or later
 abbrev Reaches : List ℕ → ℕ → Type 0
 Reaches [] place = Unit {0}
 Reaches (end ∷ ends) place = place ≤ end
@@ -16,18 +16,18 @@ Reaches (end ∷ ends) place = place ≤ end
 Reaches-same : (ends : List ℕ) (a b : ℕ) → a ≡ b → Reaches ends a → Reaches ends b
 Reaches-same ends a b e h = subst (Reaches ends) e h
 
--- nothing is closed before the innermost end
+-- no node is closed before the innermost end
 open_at-same : (ends : List ℕ) (number place : ℕ) → Reaches ends place → number < place → open_at number ends ≡ ends
 open_at-same [] number place h less = refl
 open_at-same (end ∷ ends) number place h less = cond-false _ _ _ (lt-leb end number (omega arith))
 
--- an end that has come doesn't count
+-- an end that has been reached does not count
 levels_of_rows-ended : (ends : List ℕ) (number : ℕ) (rows : List Row) → levels_of_rows (number ∷ ends) number rows ≡ levels_of_rows ends number rows
 levels_of_rows-ended ends number [] = refl
 levels_of_rows-ended ends number (row ∷ rows) =
     ap (λ still. (1 + length still) ∷ levels_of_rows ((number + row.size) ∷ still) (number + 1) rows) (cond-true _ _ _ (le-leb number number (omega arith)))
 
--- of trees below the open nodes, and of the rows after them
+-- the levels of trees below the open nodes, and of the nodes after them
 levels_of_rows-append : (trees : Trees) (ends : List ℕ) (number : ℕ) (more : List Row) → Reaches ends (number + nodes trees)
     → levels_of_rows ends number (rows_of trees ++ more) ≡ levels_of (1 + length ends) trees ++ levels_of_rows ends (number + nodes trees) more
 levels_of_rows-append NoTrees ends number more h = (let e : number ≡ number + 0 = omega arith in ap (λ n. levels_of_rows ends n more) e)
@@ -51,14 +51,14 @@ levels_of_rows-append (Tree rule start end children rest) ends number more h =
     ∙ ap (λ n. levels_of (1 + length ends) rest ++ levels_of_rows ends n more) e2)
     ∙ sym (append_assoc (levels_of (1 + (1 + length ends)) children) (levels_of (1 + length ends) rest) (levels_of_rows ends (number + nodes (Tree rule start end children rest)) more)))
 
--- the levels of the rows of trees
+-- the levels of the node list of trees
 pub levels_of_rows-rows_of : (trees : Trees) → levels_of_rows [] 0 (rows_of trees) ≡ levels_of 1 trees
 levels_of_rows-rows_of trees =
     ap (levels_of_rows [] 0) (sym (append-nil (rows_of trees)))
     ∙ levels_of_rows-append trees [] 0 [] tt
     ∙ append-nil (levels_of 1 trees)
 
--- one more row: its level is one more than the nodes that are still open
+-- one more node: its level is one more than the number of open nodes
 pub levels_of_rows-more : (rows : List TreeNode) (at : ℕ) (node : TreeNode) (within : at < length rows) (is : node ≡ get_or rows at node)
     (ends kept more : List ℕ) (levels new whole : List ℕ) (count : ℕ)
     → reverse kept ≡ open_at at (reverse ends) → count ≡ length kept

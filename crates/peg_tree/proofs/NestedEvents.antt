@@ -1,4 +1,4 @@
--- The events of a tree as nested objects.
+-- The serializer events of a tree as nested objects.
 use Rattle.std.proofs.Common.{◌≡◌, ℕ, suc, ◌+◌, ◌<◌, ◌≤◌, List, [], ◌∷◌, ◌++◌, length, drop, get_or, map, reverse, Some, refl, sym, subst, ◌∙◌, ap, arith, append_assoc, append-nil}
 use Rattle.std.proofs.lemmas.List.{drop_all, reverse-append}
 use Rattle.serde.specs.Event.{Log, Logs, WritesEach}
@@ -21,12 +21,12 @@ use Rattle.peg_tree.proofs.Forests.{IsForest-from_one_tree, map-drop, rows_from}
 use Rattle.peg_tree.proofs.NodeRows.{nodes_of_tree, row_of_node, rows_below}
 use Rattle.peg_tree.proofs.Sent.{SendsItems-from_each, items_len-items_of}
 
--- there are as many objects as trees
+-- there is one object for each tree
 length-nested_data : (names : List (List ℕ)) (trees : Trees) → length (nested_data names trees) ≡ count_of trees
 length-nested_data names NoTrees = refl
 length-nested_data names (Tree rule start end children rest) = omega (arith, length-nested_data names rest)
 
--- trees that stand at the front of the same rows, with as many nodes, are the same
+-- trees at the start of the same node list are equal if they have the same number of nodes
 front-same : (a b : Trees) (more others : List Row) → rows_of a ++ more ≡ rows_of b ++ others → nodes a ≡ nodes b → a ≡ b
 front-same a b more others same count =
     sym (first_trees-followed_by a (trees_of more))
@@ -34,7 +34,7 @@ front-same a b more others same count =
     ∙ ap (λ n. first_trees n (followed_by b (trees_of others))) count
     ∙ first_trees-followed_by b (trees_of others)
 
--- the trees that a row has below it are its node's children
+-- the trees listed after a node, within its size, are the node's children
 children_here : (rows : List TreeNode) (one : IsOneTree (map row_of rows)) (at : ℕ) (node : TreeNode) → at < length rows
     → node ≡ get_or rows at node → (children : Trees) (more : List Row)
     → map row_of (drop (at + 1) rows) ≡ rows_of children ++ more → node.size ≡ 1 + nodes children
@@ -54,7 +54,7 @@ children_here rows one at node within is children more here size =
     front-same there.children children (rows_of below.0) more same (omega (arith, ap (λ (r : Row). r.size) row))
 
 module _ (names : List (List ℕ)) where
-  -- a node whose children are sent between its beginning and its end
+  -- the events of a node: its beginning, its children, and its end
   node-sent : (rule start end count : ℕ) (children : Trees) (old begun listed ended : Log) → count ≡ count_of children
       → BeginsNode count old begun → WritesEach SendsValue (nested_data names children) begun listed
       → EndsNode (name_at names rule) start end listed ended
@@ -77,7 +77,7 @@ module _ (names : List (List ℕ)) where
         ),
       )
 
-  -- a node is begun: it is open, and its children come first
+  -- the beginning of a node opens it, and its children come next
   SendsRest-open : (rule start end count : ℕ) (children rest : Trees) (inner : Open) (opens : List OpenThen)
       (old begun new : Log) → inner.node.rule ≡ rule → inner.node.span.start ≡ start → inner.node.span.end ≡ end
       → count ≡ count_of children → BeginsNode count old begun → SendsRest names children ((inner, rest) ∷ opens) begun new
@@ -96,13 +96,13 @@ module _ (names : List (List ℕ)) where
       by [] more node = (sent.1, node, more)
       by (next ∷ opens) more node = (more.0, more.1, (sent.1, node, more.2), more.3, more.4)
 
-  -- the innermost open node ends: the trees after it come next
+  -- the end of the innermost open node: the trees after it come next
   SendsRest-close : (inner : Open) (rest : Trees) (opens : List OpenThen) (old ended new : Log)
       → EndsNode (name_at names inner.node.rule) inner.node.span.start inner.node.span.end old ended
       → SendsRest names rest opens ended new → SendsRest names NoTrees ((inner, rest) ∷ opens) old new
   SendsRest-close inner rest opens old ended new ends more = (old, ended, refl, ends, more)
 
-  -- how far the rows are sent: which trees come next, and in which open nodes they stand
+  -- the progress of serialization: the trees that come next, and the open nodes around them
   pub record IsSent (rows : List TreeNode) (bound at : ℕ) (stack : List Open) (whole : List Data) (start now : Log) : Type 0 where
     pub next : Trees
     pub opens : List OpenThen
@@ -111,7 +111,7 @@ module _ (names : List (List ℕ)) where
     pub ends : EndAt bound (at + nodes next) opens
     pub sends : (last : Log) → SendsRest names next opens now last → WritesEach SendsValue whole start last
 
-  -- at first nothing is sent
+  -- at the start nothing has been serialized
   pub none-sent : (rows : List TreeNode) (bound : ℕ) (tree : Trees) (start : Log) → IsOneTree (map row_of rows)
       → trees_of (map row_of rows) ≡ tree → IsSent rows bound 0 [] (nested_data names tree) start start
   none-sent rows bound tree start one same = record {
@@ -123,7 +123,7 @@ module _ (names : List (List ℕ)) where
     sends = λ last sent. sent;
   }
 
-  -- no trees are next, where the innermost open node has ended, or no row is left
+  -- no trees come next if the innermost open node has ended
   none-next : (next : Trees) (opens : List OpenThen) (bound at : ℕ) → EndAt bound (at + nodes next) opens
       → (inner : Open) (stack : List Open) → inner ∷ stack ≡ map (λ o. o.0) opens → inner.end ≤ at → next ≡ NoTrees
   none-next NoTrees opens bound at ends inner stack stacked ended = refl
@@ -133,7 +133,7 @@ module _ (names : List (List ℕ)) where
       let end : inner.end ≡ at + nodes (Tree rule start end children rest) = ap (λ (o : Open). o.end) (sym top) ∙ ends.1 in
       absurd (omega arith)
 
-  -- an ended node is sent
+  -- one step: an open node ends
   pub end-sent : (rows : List TreeNode) (bound at : ℕ) (stack less : List Open) (top : Open) (whole : List Data)
       (start now ended : Log) → reverse stack ≡ top ∷ reverse less → top.end ≤ at
       → EndsNode (name_at names top.node.rule) top.node.span.start top.node.span.end now ended
@@ -172,7 +172,7 @@ module _ (names : List (List ℕ)) where
       by (first ∷ opens) stacked ends =
           subst (λ (o : Open). o.node.rule < bound) (ap (λ (l : List Open). get_or l 0 top) (sym stacked)) ends.0
 
-  -- the innermost open node has more below it, where it ends past a row
+  -- if the innermost open node has not ended, more nodes come below it
   past-top : (opens : List OpenThen) (bound at : ℕ) (stack : List Open) → reverse stack ≡ map (λ o. o.0) opens
       → IsOpenPast at (reverse stack) → EndAt bound (at + nodes NoTrees) opens → opens ≡ []
   past-top [] bound at stack stacked past ends = refl
@@ -180,7 +180,7 @@ module _ (names : List (List ℕ)) where
       let inner : at < first.0.end = subst (IsOpenPast at) stacked past in
       absurd (omega (arith, ends.1))
 
-  -- the next row is begun
+  -- one step: the next node begins
   pub begin-sent : (rows : List TreeNode) (one : IsOneTree (map row_of rows)) (bound at : ℕ) (stack more : List Open)
       (whole : List Data) (start now begun : Log) → at < length rows → IsOpenPast at (reverse stack)
       → Opens rows at stack more → ((node : TreeNode) → node ≡ get_or rows at node → node.rule < bound)
@@ -227,7 +227,7 @@ module _ (names : List (List ℕ)) where
                 (ap (λ (r : Row). r.end) head) (ap count_of count) begins sent);
           }
 
-  -- with no row left and no node ended, all is sent
+  -- if no node is left and no open node has ended, the whole tree has been serialized
   pub all-sent : (rows : List TreeNode) (bound at : ℕ) (stack : List Open) (tree : Trees) (start now : Log)
       → IsOneTree (map row_of rows) → trees_of (map row_of rows) ≡ tree → length rows ≤ at → IsOpenPast at (reverse stack)
       → IsSent rows bound at stack (nested_data names tree) start now → SendsNested names tree start now

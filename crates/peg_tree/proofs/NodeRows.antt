@@ -1,4 +1,4 @@
--- The rows of a node and of its children.
+-- The entries of a node and of its children in the node list.
 use Rattle.std.proofs.Common.{◌≡◌, true, ℕ, zero, suc, ◌+◌, ◌-◌, ◌<◌, ◌≤◌, inl, inr, List, ◌∷◌, ◌++◌, nat_lt, length, drop, get_or, map, refl, sym, ◌∙◌, ap, subst, arith, append_assoc}
 use Rattle.std.proofs.lemmas.Bool.{cond-true, cond-false, lt-ltb, le-ltb, ltb-true, cases_lt, and_parts, and_from}
 use Rattle.std.proofs.lemmas.List.{length-map, get_or_append_left, get_or-append_right, get_or-append-add, drop-append-le, drop-drop, drop_at, get_or-map, get_or-drop}
@@ -11,7 +11,7 @@ use Rattle.peg_tree.proofs.Forests.{length-rows_of, rows_of-followed_by, nodes-t
 use Rattle.std.specs.List.{list_all}
 use Rattle.std.proofs.lemmas.List.Folds.{list_all-append, list_all-map}
 
--- the row that a node makes
+-- the entry of a node in the node list
 abbrev pub row_at : Node → Row
 row_at node = record { rule = node.rule; start = node.start; end = node.end; size = 1 + nodes node.children }
 
@@ -24,7 +24,7 @@ pub node_at-after : (rule start end : ℕ) (children rest : Trees) (number : ℕ
     → node_at (Tree rule start end children rest) (suc number) ≡ node_at rest (number - nodes children)
 node_at-after rule start end children rest number h = cond-false _ _ _ (le-ltb number (nodes children) h)
 
--- the row with a number is that of the node with this number
+-- entry number n of the node list is that of node n
 pub get_or-rows_of : (trees : Trees) (number : ℕ) (d : Row) → number < nodes trees → get_or (rows_of trees) number d ≡ row_at (node_at trees number)
 get_or-rows_of NoTrees number d h = absurd (omega arith)
 get_or-rows_of (Tree rule start end children rest) zero d h = refl
@@ -39,14 +39,14 @@ get_or-rows_of (Tree rule start end children rest) (suc number) d h =
           ∙ ap row_at (sym (node_at-after rule start end children rest number above))
     ]
 
--- past the front of a list, only the rest is dropped from
+-- dropping more than a prefix drops from the rest
 drop-append-past : {X : Type 0} (xs ys : List X) (n number : ℕ) → length xs ≡ n → n ≤ number → drop (suc number) (xs ++ ys) ≡ drop (suc (number - n)) ys
 drop-append-past xs ys n number count above =
     (let e : suc number ≡ n + suc (number - n) = omega arith in ap (λ k. drop k (xs ++ ys)) e)
     ∙ sym (drop-drop (suc (number - n)) n (xs ++ ys))
     ∙ ap (drop (suc (number - n))) (drop_at xs ys n count)
 
--- after a node's row come the rows of its children, and then those of other trees
+-- after the entry of a node come the entries of its children, then those of other trees
 pub rows_below : (trees : Trees) (number : ℕ) → number < nodes trees
     → (more : Trees) × (drop (suc number) (rows_of trees) ≡ rows_of (node_at trees number).children ++ rows_of more)
 rows_below NoTrees number h = absurd (omega arith)
@@ -70,7 +70,7 @@ rows_below (Tree rule start end children rest) (suc number) h =
           (part.0, drop-append-past (rows_of children) (rows_of rest) (nodes children) number count above ∙ part.1)
     ]
 
--- the nodes below a node are among the nodes
+-- the nodes below a node are within the tree
 pub node_ends_within : (trees : Trees) (number : ℕ) → number < nodes trees → number + 1 + nodes (node_at trees number).children ≤ nodes trees
 node_ends_within NoTrees number h = absurd (omega arith)
 node_ends_within (Tree rule start end children rest) zero h = omega arith
@@ -80,7 +80,7 @@ node_ends_within (Tree rule start end children rest) (suc number) h =
       | inr above ↦ let part = node_ends_within rest (number - nodes children) (omega arith) in rw (node_at-after rule start end children rest number above) (omega arith)
     ]
 
--- before all trees stand all their nodes, and before one of them fewer
+-- all nodes are before the end of the trees, and fewer are before each tree
 pub nodes_before-all : (trees : Trees) → nodes_before (count_of trees) trees ≡ nodes trees
 nodes_before-all NoTrees = refl
 nodes_before-all (Tree rule start end children rest) =
@@ -97,7 +97,7 @@ nodes_before-few trees zero = omega arith
 nodes_before-few NoTrees (suc place) = omega arith
 nodes_before-few (Tree rule start end children rest) (suc place) = let part = nodes_before-few rest place in omega arith
 
--- the row of the tree at a place says how many nodes stand before the next
+-- the size of a tree leads to the number of the next tree
 pub nodes_before-more : (trees : Trees) (more : List Row) (place : ℕ) (d : Row) → place < count_of trees
     → nodes_before place trees + (get_or (rows_of trees ++ more) (nodes_before place trees) d).size ≡ nodes_before (suc place) trees
 nodes_before-more NoTrees more place d h = absurd (omega arith)
@@ -115,7 +115,7 @@ nodes_before-more (Tree rule start end children rest) more (suc place) d h =
     let part = nodes_before-more rest more place d (omega arith) in
     omega arith
 
--- the node at a place below a node is that of the children
+-- a node below another node is a node of its children
 pub node_at-child : (trees : Trees) (number below : ℕ) → number < nodes trees → below < nodes (node_at trees number).children
     → node_at trees (suc number + below) ≡ node_at (node_at trees number).children below
 node_at-child NoTrees number below h k = absurd (omega arith)
@@ -143,7 +143,7 @@ node_at-child (Tree rule start end children rest) (suc number) below h k =
           ∙ ap (λ (n : Node). node_at n.children below) (sym same)
     ]
 
--- the node after those before a place is the root of the tree there
+-- the node after the trees before index `place` is the root of the tree at that index
 pub node_at-nodes_before : (trees : Trees) (place : ℕ) → place < count_of trees → node_at trees (nodes_before place trees) ≡ first_root (trees_from place trees)
 node_at-nodes_before NoTrees place h = absurd (omega arith)
 node_at-nodes_before (Tree rule start end children rest) zero h = refl
@@ -155,7 +155,7 @@ node_at-nodes_before (Tree rule start end children rest) (suc place) h =
     ∙ ap (node_at rest) less
     ∙ node_at-nodes_before rest place (omega arith)
 
--- rows that are one tree, the rows of nodes as the code reads them
+-- node lists that are one tree, as the code reads them
 module _ (rows : List TreeNode) (one : IsOneTree (map row_of rows)) where
   pub forest_of_tree : IsForest (map row_of rows)
   forest_of_tree = IsForest-from_one_tree (map row_of rows) one
@@ -169,7 +169,7 @@ module _ (rows : List TreeNode) (one : IsOneTree (map row_of rows)) where
       let spelled = ap row_size one.spelled in
       omega (arith, nodes-trees_of (map row_of rows) forest_of_tree)
 
-  -- the row of a node
+  -- the entry of a node
   pub row_of_node : (number : ℕ) → number < nodes (trees_of (map row_of rows)) → (node : TreeNode) → node ≡ get_or rows number node
       → row_of node ≡ row_at (node_at (trees_of (map row_of rows)) number)
   row_of_node number within node is =
@@ -179,11 +179,11 @@ module _ (rows : List TreeNode) (one : IsOneTree (map row_of rows)) where
       ∙ get_or-rows_of (trees_of (map row_of rows)) number (row_of node) within
 
   module _ (number : ℕ) (within : number < nodes (trees_of (map row_of rows))) where
-    -- where the node ends
+    -- the end of a node's subtree is within the list
     pub end_of_node : number + 1 + nodes (node_at (trees_of (map row_of rows)) number).children ≤ length rows
     end_of_node = omega (arith, nodes_of_tree, node_ends_within (trees_of (map row_of rows)) number within)
 
-    -- where nodes are left, a child is left
+    -- while nodes of the subtree are left, a child is left
     pub more_children : (place : ℕ) → place ≤ count_of (node_at (trees_of (map row_of rows)) number).children
         → child_at (trees_of (map row_of rows)) number place < number + 1 + nodes (node_at (trees_of (map row_of rows)) number).children
         → place < count_of (node_at (trees_of (map row_of rows)) number).children
@@ -197,7 +197,7 @@ module _ (rows : List TreeNode) (one : IsOneTree (map row_of rows)) where
               absurd (omega arith)
         ]
 
-    -- where no nodes are left, no child is left
+    -- if no node of the subtree is left, no child is left
     pub no_more_children : (place : ℕ) → place ≤ count_of (node_at (trees_of (map row_of rows)) number).children
         → number + 1 + nodes (node_at (trees_of (map row_of rows)) number).children ≤ child_at (trees_of (map row_of rows)) number place
         → place ≡ count_of (node_at (trees_of (map row_of rows)) number).children
@@ -209,11 +209,11 @@ module _ (rows : List TreeNode) (one : IsOneTree (map row_of rows)) where
         ]
 
     module _ (place : ℕ) (has : place < count_of (node_at (trees_of (map row_of rows)) number).children) where
-      -- a child's number is one of the tree's
+      -- the number of a child is within the list
       pub child_within : child_at (trees_of (map row_of rows)) number place < length rows
       child_within = omega (arith, end_of_node, nodes_before-one (node_at (trees_of (map row_of rows)) number).children place has)
 
-      -- the root of the child is the node with the child's number
+      -- the node with a child's number is the root of that child
       pub node_at-child_at : node_at (trees_of (map row_of rows)) (child_at (trees_of (map row_of rows)) number place)
           ≡ first_root (trees_from place (node_at (trees_of (map row_of rows)) number).children)
       node_at-child_at =
@@ -223,7 +223,7 @@ module _ (rows : List TreeNode) (one : IsOneTree (map row_of rows)) where
           ∙ node_at-child (trees_of (map row_of rows)) number (nodes_before place children) within fewer
           ∙ node_at-nodes_before children place has
 
-      -- over the child's size comes the next
+      -- the size of a child leads to the number of the next child
       pub child_at-more : (node : TreeNode) → node ≡ get_or rows (child_at (trees_of (map row_of rows)) number place) node
           → child_at (trees_of (map row_of rows)) number place + node.size ≡ child_at (trees_of (map row_of rows)) number (place + 1)
       child_at-more node is =
@@ -243,18 +243,18 @@ module _ (rows : List TreeNode) (one : IsOneTree (map row_of rows)) where
           let all : number + 1 + before + node.size ≡ number + 1 + nodes_before (suc place) children = omega arith in
           all ∙ ap (λ n. number + 1 + nodes_before n children) (sym after)
 
-      -- a child has a node
+      -- a child has at least one node
       pub child_has_size : (node : TreeNode) → node ≡ get_or rows (child_at (trees_of (map row_of rows)) number place) node → 0 < node.size
       child_has_size node is =
           let inside : child_at (trees_of (map row_of rows)) number place < nodes (trees_of (map row_of rows)) = omega (arith, child_within, nodes_of_tree) in
           let same = ap (λ (r : Row). r.size) (row_of_node (child_at (trees_of (map row_of rows)) number place) inside node is) in
           omega arith
 
-      -- the next child, or what comes after the children, is still within the rows
+      -- the next child, or the end of the children, is within the subtree
       pub child_ends_within : child_at (trees_of (map row_of rows)) number (place + 1) ≤ number + 1 + nodes (node_at (trees_of (map row_of rows)) number).children
       child_ends_within = let few = nodes_before-few (node_at (trees_of (map row_of rows)) number).children (place + 1) in omega arith
 
--- the rules of trees are below a bound exactly where those of their rows are
+-- the rule numbers of trees are below a bound exactly if those of their node list are
 pub RulesBelow-from_all : (bound : ℕ) (trees : Trees) → list_all (λ (row : Row). nat_lt row.rule bound) (rows_of trees) ≡ true → RulesBelow bound trees
 RulesBelow-from_all bound NoTrees h = tt
 RulesBelow-from_all bound (Tree rule start end children rest) h =
@@ -270,14 +270,14 @@ all-from_RulesBelow bound (Tree rule start end children rest) h =
     (list_all-append (λ (row : Row). nat_lt row.rule bound) (rows_of children) (rows_of rest)
     ∙ and_from _ _ (all-from_RulesBelow bound children h.1) (all-from_RulesBelow bound rest h.2))
 
--- the same of the rows as the code reads them
+-- the same for the node list as the code reads it
 pub rules_of_tree : (rows : List TreeNode) (bound : ℕ) → IsOneTree (map row_of rows)
     → list_all (λ (row : Row). nat_lt row.rule bound) (rows_of (trees_of (map row_of rows))) ≡ list_all (λ (node : TreeNode). nat_lt node.rule bound) rows
 rules_of_tree rows bound one =
     ap (list_all (λ (row : Row). nat_lt row.rule bound)) (IsForest-from_one_tree (map row_of rows) one)
     ∙ list_all-map (λ (row : Row). nat_lt row.rule bound) row_of rows
 
--- the same where the tree that the rows spell has a name
+-- the same for a tree with a name
 pub within_rows : (rows : List TreeNode) (one : IsOneTree (map row_of rows)) (trees : Trees) → trees_of (map row_of rows) ≡ trees
     → (number : ℕ) → number < nodes trees → number < length rows
 within_rows rows one trees same number h = let count = nodes_of_tree rows one in let named = ap nodes same in omega arith

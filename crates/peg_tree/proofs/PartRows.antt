@@ -1,4 +1,4 @@
--- Parts of a tree's rows, taken apart.
+-- Splitting parts of a node list.
 use Rattle.std.proofs.Common.{◌≡◌, ℕ, zero, suc, ◌+◌, ◌-◌, ◌*◌, ◌^◌, ◌<◌, ◌≤◌, ◌⊎◌, inl, inr, List, [], ◌∷◌, ◌++◌, length, drop, take, get_or, map, max, refl, subst, sym, ◌∙◌, ap, arith}
 use Rattle.std.proofs.lemmas.List.{drop_more, drop-map, drop-drop, drop-take, take-take, take_at, drop_at, take_all, length-append, length_push, length-take, length-drop, length-map}
 use Rattle.std.proofs.Math.Nat.{pow-suc}
@@ -11,7 +11,7 @@ use Rattle.peg_tree.specs.TreesOfRows.{trees_of, first_trees, trees_after, IsFor
 use Rattle.peg_tree.specs.TreesCode.{trees_of-rows_of}
 use Rattle.peg_tree.proofs.Forests.{length-rows_of, IsForest-rows_of, IsForest-size, IsForest-from_one_tree}
 
--- the levels of trees under so many levels more
+-- the number of levels of trees, raised by `more`
 abbrev raised : ℕ → Trees → ℕ
 raised more NoTrees = 0
 raised more (Tree rule start end children rest) = more + levels (Tree rule start end children rest)
@@ -38,12 +38,12 @@ greatest_level-raised more (Tree rule start end children rest) =
     ∙ ap (λ n. max (1 + more) (max (raised (1 + more) children) n)) (greatest_level-raised more rest)
     ∙ raised-max more (raised (1 + more) children) (raised more rest) (levels children) (levels rest) (raised-cases (1 + more) children) (raised-cases more rest)
 
--- from level 1 on, the greatest level is the number of levels
+-- if the roots have level 1, the greatest level is the number of levels
 pub greatest_level-levels : (trees : Trees) → greatest_level 1 trees ≡ levels trees
 greatest_level-levels trees =
     greatest_level-raised 0 trees ∙ elim (raised-cases 0 trees) [ inl h ↦ h.0 ∙ sym h.1 | inr h ↦ (let e : raised 0 trees ≡ levels trees = omega arith in e) ]
 
--- all rows of one tree are a part
+-- the whole node list of one tree, as a part
 abbrev pub whole : List TreeNode → Part
 whole rows = record { from = 0; to = length rows; level = 1 }
 
@@ -72,7 +72,7 @@ whole_level rows one =
 max-swap : (a b : ℕ) → max a b ≡ max b a
 max-swap a b = omega arith
 
--- a part with its first row
+-- a nonempty part and its first node
 module _ (rows : List TreeNode) (part : Part) (is_part : IsPart (map row_of rows) part) (some : part.from < part.to)
     (root : TreeNode) (is : root ≡ get_or rows part.from root) where
   in_rows : part.from < length rows
@@ -120,7 +120,7 @@ module _ (rows : List TreeNode) (part : Part) (is_part : IsPart (map row_of rows
   pub size_some : 0 < root.size
   size_some = omega (arith, size)
 
-  -- the children of the first tree, and the trees after it
+  -- the children of the first tree, and the trees after it, as parts
   abbrev pub children_part : Part
   children_part = record { from = part.from + 1; to = part.from + root.size; level = part.level + 1 }
 
@@ -174,7 +174,7 @@ module _ (rows : List TreeNode) (part : Part) (is_part : IsPart (map row_of rows
   pub level_apart_other : level_in (map row_of rows) part ≡ max part.level (max (level_in (map row_of rows) rest_part) (level_in (map row_of rows) children_part))
   level_apart_other = level_apart ∙ ap (max part.level) (max-swap (level_in (map row_of rows) children_part) (level_in (map row_of rows) rest_part))
 
--- parts with one more on top
+-- pushing a part
 pub AreParts-push : (rows : List Row) (room : ℕ) (parts : List Part) (part : Part) → AreParts rows room parts → IsPart rows part
     → length_of part < 2 ^ (room - length parts) → AreParts rows room (parts ++ part ∷ [])
 AreParts-push rows room [] part h k few = (k, (let same : room - 0 ≡ room = omega arith in subst (λ n. length_of part < 2 ^ n) same few), tt)
@@ -182,7 +182,7 @@ AreParts-push rows room (first ∷ parts) part h k few =
     let less : room - suc (length parts) ≡ room - 1 - length parts = omega arith in
     (h.0, h.1, AreParts-push rows (room - 1) parts part h.2 k (subst (λ n. length_of part < 2 ^ n) less few))
 
--- parts without the one on top
+-- popping a part
 pub AreParts-pop : (rows : List Row) (room : ℕ) (parts : List Part) (part : Part) → AreParts rows room (parts ++ part ∷ [])
     → AreParts rows room parts × IsPart rows part × (length_of part < 2 ^ (room - length parts))
 AreParts-pop rows room [] part h = (tt, h.0, (let same : room ≡ room - 0 = omega arith in subst (λ n. length_of part < 2 ^ n) same h.1))
@@ -199,13 +199,13 @@ pub length_of_parts-push : (parts : List Part) (part : Part) → length_of_parts
 length_of_parts-push [] part = omega arith
 length_of_parts-push (first ∷ parts) part = let h = length_of_parts-push parts part in omega arith
 
--- a part without rows has no levels
+-- an empty part has no levels
 pub level_in-none : (rows : List Row) (part : Part) → part.to ≤ part.from → level_in rows part ≡ 0
 level_in-none rows part none =
     let empty : part.to - part.from ≡ 0 = omega arith in
     ap (λ n. greatest_level part.level (trees_of (take n (drop part.from rows)))) empty
 
--- two to a power, and half of it
+-- powers of two, and halves of them
 power_some : (n k : ℕ) → 0 < n → n < 2 ^ k → 0 < k
 power_some n zero some less = absurd (omega arith)
 power_some n (suc k) some less = omega arith
@@ -213,7 +213,7 @@ power_some n (suc k) some less = omega arith
 power_half : (n k : ℕ) → 2 * n + 1 ≤ 2 ^ suc k → n < 2 ^ k
 power_half n k less = let double = pow-suc 2 k in omega arith
 
--- the stack after a part was taken apart
+-- the stack after a part has been split
 module _ (rows : List Row) (waiting kept : List Part) (part large small : Part) (popped : waiting ≡ kept ++ part ∷ [])
     (are_parts : AreParts rows 64 waiting) where
   parted : AreParts rows 64 kept × IsPart rows part × (length_of part < 2 ^ (64 - length kept))

@@ -1,10 +1,10 @@
--- Bytes that are put into a buffer.
+-- Writing bytes into a buffer.
 use Rattle.std.proofs.Common.{◌≡◌, ℕ, ◌+◌, ◌<◌, ◌≤◌, List, [], ◌∷◌, ◌++◌, length, take, drop, refl, ap, sym, ◌∙◌, arith, append_assoc, append-nil, length-append}
 use Rattle.std.proofs.Math.Seq.{take-add}
 use Rattle.std.proofs.lemmas.List.{take_at}
 use Rattle.peg_tree.specs.Put.{Puts}
 
--- bytes behind other bytes
+-- writing some bytes, then others after them
 pub puts-both : (old mid new : List ℕ) (at middle end : ℕ) (first second : List ℕ) → Puts old at first mid middle
     → Puts mid middle second new end → Puts old at (first ++ second) new end
 puts-both old mid new at middle end first second a b = (
@@ -13,7 +13,7 @@ puts-both old mid new at middle end first second a b = (
   b.2 ∙ ap (λ l. l ++ second) a.2 ∙ append_assoc (take at old) first second,
 )
 
--- bytes that stand from a place on
+-- bytes that are written from offset `from` on, with the bytes before it unchanged
 pub puts-written : (old new : List ℕ) (at from end : ℕ) (bytes : List ℕ) → length new ≡ length old
     → end ≡ at + length bytes → from + length bytes ≡ end → drop from new ≡ bytes ++ drop end old
     → take from new ≡ take from old → Puts old at bytes new end
@@ -29,11 +29,11 @@ puts-written old new at from end bytes same ends starts written before =
           ∙ ap (λ n. take n old ++ bytes) here,
     )
 
--- nothing at all
+-- writing nothing
 pub puts-nothing : (old : List ℕ) (at : ℕ) → Puts old at [] old at
 puts-nothing old at = (refl, omega arith, sym (append-nil (take at old)))
 
--- bytes that are put behind a front take their place in the whole
+-- the bytes written so far continue a text that `first`, `second` and `rest` make up
 pub puts-more : (old new : List ℕ) (at end : ℕ) (first second rest from whole : List ℕ)
     → Puts old at (first ++ second) new end → whole ≡ take at old ++ from → from ≡ first ++ (second ++ rest)
     → whole ≡ take end new ++ rest

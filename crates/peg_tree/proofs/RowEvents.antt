@@ -1,4 +1,4 @@
--- The events of a tree's rows.
+-- The serializer events of a tree's node list.
 use Rattle.std.proofs.Common.{◌≡◌, ℕ, suc, ◌+◌, ◌<◌, List, [], ◌∷◌, ◌++◌, length, drop, get_or, map, reverse, refl, sym, subst, ◌∙◌, ap}
 use Rattle.std.proofs.lemmas.List.{length-reverse, reverse-append}
 use Rattle.serde.specs.Event.{Log}
@@ -17,7 +17,7 @@ use Rattle.peg_tree.proofs.JsonRows.{rows_with_levels, rows_with_levels-rows_of}
 use Rattle.peg_tree.proofs.LevelRows.{levels_of_rows-rows_of}
 
 module _ (names : List (List ℕ)) where
-  -- rows from a number on, where these nodes above them are open, the innermost first
+  -- the nodes from number `number` on; `ends` are the ends of the open nodes, innermost first
   abbrev pub rows_below : List ℕ → ℕ → List Row → List Data
   rows_below ends number [] = []
   rows_below ends number (row ∷ rows) =
@@ -31,13 +31,13 @@ module _ (names : List (List ℕ)) where
       ap (λ (l : List Data). row_data (1 + length (open_at number ends)) (name_at names row.rule) row.start row.end ∷ l)
       (rows_below-levels ((number + row.size) ∷ open_at number ends) (number + 1) rows)
 
-  -- there are as many
+  -- there is one list item for each node
   pub length-rows_below : (ends : List ℕ) (number : ℕ) (rows : List Row) → length (rows_below ends number rows) ≡ length rows
   length-rows_below ends number [] = refl
   length-rows_below ends number (row ∷ rows) =
       ap suc (length-rows_below ((number + row.size) ∷ open_at number ends) (number + 1) rows)
 
-  -- with none open, they are the rows of their tree
+  -- without open nodes, the items are those of the tree
   pub rows_below-all : (rows : List TreeNode) (tree : Trees) → IsOneTree (map row_of rows) → trees_of (map row_of rows) ≡ tree
       → rows_below [] 0 (map row_of rows) ≡ rows_data names 1 tree
   rows_below-all rows tree one same =
@@ -47,11 +47,11 @@ module _ (names : List (List ℕ)) where
       ∙ rows_with_levels-rows_of names (trees_of (map row_of rows))
       ∙ ap (rows_data names 1) same
 
-  -- what the rows from here on are
+  -- the items of the nodes from `at` on
   abbrev pub rest_of : List TreeNode → (at : ℕ) → (ends : List ℕ) → List Data
   rest_of rows at ends = rows_below (reverse ends) at (map row_of (drop at rows))
 
-  -- one row more is sent
+  -- one more node is serialized
   pub row-sent : (rows : List TreeNode) (at : ℕ) (node : TreeNode) → at < length rows → node ≡ get_or rows at node
       → (ends kept more : List ℕ) → reverse kept ≡ open_at at (reverse ends) → more ≡ kept ++ (at + node.size) ∷ []
       → (count : ℕ) → count ≡ length kept → (old mid last : Log)

@@ -1,4 +1,4 @@
--- The text of a tree's rows is that of their list, and no level is over the tree's.
+-- The text of a tree's nodes is that of their JSON list, and no level is over the tree's depth.
 use Rattle.std.proofs.Common.{◌≡◌, ℕ, zero, suc, ◌+◌, ◌<◌, ◌≤◌, nat_lt, Bool, true, false, List, [], ◌∷◌, ◌++◌, length, map, drop, get_or, max, reverse, vec_len, refl, sym, subst, ap, ◌∙◌, arith, append_assoc}
 use Rattle.std.proofs.lemmas.Bool.{le-leb}
 use Rattle.std.proofs.lemmas.List.{drop-map, drop_all, get_or-map, length-reverse, reverse-append}
@@ -21,7 +21,7 @@ use Rattle.peg_tree.proofs.JsonRows.{EachBelow, EachBelow-rows_of, rows_with_lev
 use Rattle.peg_tree.proofs.LevelRows.{levels_of_rows-rows_of}
 use Rattle.peg_tree.proofs.RowEvents.{rows_below, rows_below-levels}
 
--- names as texts of JSON
+-- names as JSON strings
 abbrev pub quoted_list : List (List ℕ) → List (List ℕ)
 quoted_list names = map (λ name. compact_text (string name)) names
 
@@ -29,7 +29,7 @@ name_at-quoted : (names : List (List ℕ)) (rule : ℕ) → rule < length names
     → name_at (quoted_list names) rule ≡ compact_text (string (name_at names rule))
 name_at-quoted names rule within = get_or-map (λ name. compact_text (string name)) names rule [] [] within
 
--- rows with the end of their list
+-- the text of nodes, with the end of the list
 rest_text-items : (names : List (List ℕ)) (later : Bool) (ends : List ℕ) (number : ℕ) (rows : List Row)
     → EachBelow (length names) rows
     → rest_text later (quoted_list names) ends number rows ++ 93 ∷ []
@@ -47,7 +47,7 @@ rest_text-items names later ends number (row ∷ rows) below =
     ∙ ap (λ l. text name ++ l) (rest_text-items names true inner (number + 1) rows below.1)
     ∙ ap (λ (n : List ℕ). text n ++ items) (name_at-quoted names row.rule below.0))
 
--- all rows of a tree
+-- the text of all nodes of a tree
 pub rows-text : (names : List (List ℕ)) (tree : Trees) → RulesBelow (length names) tree
     → rest_text false (quoted_list names) [] 0 (rows_of tree) ++ 93 ∷ []
     ≡ items_text false (items_of (rows_data names 1 tree))
@@ -71,12 +71,12 @@ levels-at_most most level (Tree rule start end children rest) within = (
       (levels-at_most most (1 + level) children (omega arith)) (levels-at_most most level rest (omega arith)),
 )
 
--- no row is deeper than the tree
+-- no node is deeper than the depth of the tree
 pub rows-at_most : (tree : Trees) → EachAtMost (levels tree) (levels_of_rows [] 0 (rows_of tree))
 rows-at_most tree =
     subst (EachAtMost (levels tree)) (sym (levels_of_rows-rows_of tree)) (levels-at_most (levels tree) 1 tree (omega arith))
 
--- ---- the rows that are held
+-- ---- the stored nodes
 
 pub rows-held : (rows : List TreeNode) (tree : Trees) (at : ℕ) → IsOneTree (map row_of rows)
     → trees_of (map row_of rows) ≡ tree → map row_of (drop at rows) ≡ drop at (rows_of tree)
@@ -84,9 +84,9 @@ rows-held rows tree at one same =
     sym (drop-map row_of at rows)
     ∙ ap (drop at) (sym (IsForest-from_one_tree (map row_of rows) one) ∙ ap rows_of same)
 
--- ---- one row more
+-- ---- one more node
 
--- the innermost ends where one more node is open, and how many there were
+-- the ends after one more node is opened, innermost first, and their number
 inner : (at size : ℕ) (ends kept more : List ℕ) → reverse kept ≡ open_at at (reverse ends)
     → more ≡ kept ++ (at + size) ∷ [] → reverse more ≡ (at + size) ∷ open_at at (reverse ends)
 inner at size ends kept more closed pushed =
@@ -96,7 +96,7 @@ still : (at : ℕ) (ends kept : List ℕ) (count : ℕ) → reverse kept ≡ ope
     → length (open_at at (reverse ends)) ≡ count
 still at ends kept count closed counted = sym (counted ∙ sym (length-reverse kept) ∙ ap length closed)
 
--- the text of the rows from one on is that of this row, and then that of those behind it
+-- the text from one node on is that of the node, then that of the nodes after it
 pub text-more : (names : List (Vec ℕ Global)) (rows : List TreeNode) (at : ℕ) (node : TreeNode) → at < length rows
     → node ≡ get_or rows at node → (ends kept more : List ℕ) → reverse kept ≡ open_at at (reverse ends)
     → more ≡ kept ++ (at + node.size) ∷ [] → (count : ℕ) → count ≡ length kept → (name : Vec ℕ Global)
@@ -118,7 +118,7 @@ text-more names rows at node within is ends kept more closed pushed count counte
     ∙ ap (λ l. text count name.items (rest_text true list l (at + 1) behind)) (sym (inner at node.size ends kept more closed pushed))
     ∙ ap (λ b. text count name.items (rest_text b list (reverse more) (at + 1) behind)) later
 
--- and so are the levels
+-- the same for the levels
 levels-more : (rows : List TreeNode) (at : ℕ) (node : TreeNode) → at < length rows → node ≡ get_or rows at node
     → (ends kept more : List ℕ) → reverse kept ≡ open_at at (reverse ends) → more ≡ kept ++ (at + node.size) ∷ []
     → (count : ℕ) → count ≡ length kept
@@ -130,7 +130,7 @@ levels-more rows at node within is ends kept more closed pushed count counted =
     ∙ ap (λ n. (1 + n) ∷ levels_of_rows inside (at + 1) behind) (still at ends kept count closed counted)
     ∙ ap (λ l. (1 + count) ∷ levels_of_rows l (at + 1) behind) (sym (inner at node.size ends kept more closed pushed))
 
--- there is room for one more end
+-- the capacity suffices for one more end
 pub room-for_end : (rows : List TreeNode) (at : ℕ) (node : TreeNode) → at < length rows → node ≡ get_or rows at node
     → (ends kept : List ℕ) → reverse kept ≡ open_at at (reverse ends) → (most : ℕ)
     → EachAtMost most (levels_from rows at ends) → length kept < most
@@ -147,14 +147,14 @@ pub levels-rest : (rows : List TreeNode) (at : ℕ) (node : TreeNode) → at < l
 levels-rest rows at node within is ends kept more closed pushed most each =
     (subst (EachAtMost most) (levels-more rows at node within is ends kept more closed pushed (length kept) refl) each).1
 
--- nothing is behind the last row
+-- after the last node the text is empty
 pub text-ended : (names : List (Vec ℕ Global)) (rows : List TreeNode) (at : ℕ) (ends : List ℕ) → length rows ≤ at
     → text_from names rows at ends ≡ []
 text-ended names rows at ends over =
     ap (λ l. rest_text (nat_lt 0 at) (map (λ (n : Vec ℕ Global). n.items) names) (reverse ends) at (map row_of l))
     (drop_all at rows over)
 
--- ---- the room for names
+-- ---- the space for names
 
 pub EachAtMost-weaker : (low high : ℕ) (numbers : List ℕ) → low ≤ high → EachAtMost low numbers → EachAtMost high numbers
 EachAtMost-weaker low high [] less h = tt

@@ -1,4 +1,4 @@
--- Describes code: what callers see of a `Forest` and of a `Branch`.
+-- Describes code: the trees that a `Forest` and a `Branch` represent.
 use Rattle.std.specs.Prelude.{map}
 use Rattle.peg_tree.specs.Rows.{row_of}
 use Rattle.peg_tree.specs.Trees.{Trees, NoTrees, Tree}
@@ -10,7 +10,7 @@ use Rattle.peg_tree.specs.declared.forest.Forest.{Forest}
 abbrev pub trees_in : Forest → Trees
 trees_in forest = trees_of (map row_of forest.rows.now)
 
--- a tree with those behind it, and by itself
+-- a tree followed by the trees after it, and the tree alone
 abbrev pub trees_from_branch : Branch → Trees
 trees_from_branch branch =
     Tree branch.rule branch.span.start branch.span.end (trees_in branch.children) (trees_in branch.rest)

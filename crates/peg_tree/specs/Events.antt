@@ -1,4 +1,4 @@
--- What a serializer is sent of trees, and of members of objects.
+-- The serializer events of trees and of members of objects.
 use Rattle.std.specs.Prelude.{◌≡◌, ℕ, List, [], ◌∷◌}
 use Rattle.serde.specs.Event.{Log, Logs}
 use Rattle.serde.specs.Event as event
@@ -8,10 +8,10 @@ use Rattle.serde_json.specs.Events.{SendsValue}
 use Rattle.peg_tree.specs.Json.{nested_data}
 use Rattle.peg_tree.specs.Trees.{Trees}
 
--- a member: its key, and then what its value sends
+-- a member: its key, then the events of its value
 abbrev pub SendsMember : (key : List ℕ) → (Log → Log → Type 0) → Log → Log → Type 0
 SendsMember key Sent old new = (named : Log) × Logs old named (event.field_key key AsIs) × Sent named new
 
--- the first of the trees, where there is one alone
+-- the events of the tree, if `trees` is exactly one
 abbrev pub SendsNested : List (List ℕ) → Trees → Log → Log → Type 0
 SendsNested names trees old new = (root : Data) × (nested_data names trees ≡ root ∷ []) × SendsValue root old new

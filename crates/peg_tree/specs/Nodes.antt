@@ -1,48 +1,48 @@
--- The nodes of trees by their numbers: in preorder, from 0.
+-- The nodes of trees by number: in preorder, from 0.
 use Rattle.std.specs.Prelude.{ℕ, zero, suc, ◌+◌, ◌-◌, ◌<◌, nat_lt, if◌then◌else◌}
 use Rattle.peg_tree.specs.Trees.{Trees, NoTrees, Tree, nodes}
 
--- a node: its rule, where it starts and ends, and the trees below it
+-- a node: its rule number, its start and end in the text, and its children
 pub record Node : Type 0 where
   pub rule : ℕ
   pub start : ℕ
   pub end : ℕ
   pub children : Trees
 
--- the root of the first tree; of no trees all is 0 and nothing below
+-- the root of the first tree; for no trees, a node of zeros without children
 abbrev pub first_root : Trees → Node
 first_root NoTrees = record { rule = 0; start = 0; end = 0; children = NoTrees }
 first_root (Tree rule start end children rest) = record { rule = rule; start = start; end = end; children = children }
 
--- the node with a number: the root is 0, then come the nodes below it, then those of the trees after it
+-- the node with the given number in preorder
 abbrev pub node_at : Trees → ℕ → Node
 node_at NoTrees number = first_root NoTrees
 node_at (Tree rule start end children rest) zero = first_root (Tree rule start end children rest)
 node_at (Tree rule start end children rest) (suc number) =
     if nat_lt number (nodes children) then node_at children number else node_at rest (number - nodes children)
 
--- how many trees stand side by side
+-- the number of adjacent trees
 abbrev pub count_of : Trees → ℕ
 count_of NoTrees = 0
 count_of (Tree rule start end children rest) = 1 + count_of rest
 
--- the trees from a place on
+-- the trees from index `place` on
 abbrev pub trees_from : ℕ → Trees → Trees
 trees_from zero trees = trees
 trees_from (suc place) NoTrees = NoTrees
 trees_from (suc place) (Tree rule start end children rest) = trees_from place rest
 
--- how many nodes the trees before a place have
+-- the number of nodes of the trees before index `place`
 abbrev pub nodes_before : ℕ → Trees → ℕ
 nodes_before zero trees = 0
 nodes_before (suc place) NoTrees = 0
 nodes_before (suc place) (Tree rule start end children rest) = 1 + nodes children + nodes_before place rest
 
--- the number of a node's child: after the node come its children, each with all below it
+-- the number of the child at index `place` of node `number`
 abbrev pub child_at : Trees → (number place : ℕ) → ℕ
 child_at trees number place = number + 1 + nodes_before place (node_at trees number).children
 
--- each rule's number is below the bound
+-- every rule number is below the bound
 abbrev pub RulesBelow : ℕ → Trees → Type 0
 RulesBelow bound NoTrees = Unit {0}
 RulesBelow bound (Tree rule start end children rest) =

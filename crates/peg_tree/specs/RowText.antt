@@ -1,4 +1,4 @@
--- Describes code: the text of a tree's rows as JSON, where the names of rules stand as they are written.
+-- Describes code: the JSON text of a tree's node list, with rule names given as JSON strings.
 use Rattle.std.specs.Prelude.{◌≡◌, ℕ, ◌+◌, ◌<◌, ◌≤◌, Bool, true, List, [], ◌∷◌, ◌++◌, ◌-◌, length, map, drop, reverse, nat_lt, vec_len, ⊤}
 use Rattle.std.specs.Fmt.{decimal}
 use Rattle.std.specs.declared.alloc.Global.{Global}
@@ -11,19 +11,19 @@ use Rattle.peg_tree.specs.Names.{name_at}
 use Rattle.peg_tree.specs.Rows.{Row, row_of}
 use Rattle.peg_tree.specs.declared.row.TreeNode.{TreeNode}
 
--- a node as its level, its rule's name, and where it starts and ends
+-- a node as JSON: its level, the name of its rule, its start and its end
 abbrev pub row_text : (level : ℕ) → (name : List ℕ) → (start end : ℕ) → List ℕ
 row_text level name start end =
     91 ∷ (decimal level ++ 44 ∷ (name ++ 44 ∷ (decimal start ++ 44 ∷ (decimal end ++ 93 ∷ []))))
 
--- rows from a number on, where these nodes above them are open, the innermost first
+-- the text of the nodes from number `number` on; `ends` are the ends of the open nodes, innermost first
 abbrev pub rest_text : (later : Bool) → List (List ℕ) → (ends : List ℕ) → ℕ → List Row → List ℕ
 rest_text later names ends number [] = []
 rest_text later names ends number (row ∷ rows) =
     comma_if later ++ (row_text (1 + length (open_at number ends)) (name_at names row.rule) row.start row.end
     ++ rest_text true names ((number + row.size) ∷ open_at number ends) (number + 1) rows)
 
--- each number is at most this one
+-- every number is at most `most`
 abbrev pub EachAtMost : (most : ℕ) → List ℕ → Type 0
 EachAtMost most [] = ⊤
 EachAtMost most (number ∷ numbers) = (number ≤ most) × EachAtMost most numbers
@@ -32,14 +32,14 @@ pub EachAtMost-prop : (most : ℕ) (numbers : List ℕ) → IsProp (EachAtMost m
 EachAtMost-prop most [] = Unit-prop
 EachAtMost-prop most (number ∷ numbers) = ×_prop le_prop (EachAtMost-prop most numbers)
 
--- beside a piece a buffer of this length has room for the longest row, whose rule's name is one of these
+-- a buffer of length `len` has space for a full piece and the longest possible node, given the rule names
 abbrev pub HasRoom : (len : ℕ) → List (Vec ℕ Global) → Type 0
 HasRoom len names = (65604 ≤ len) × EachAtMost (len - 65604) (map (λ name. vec_len name) names)
 
 pub HasRoom-prop : (len : ℕ) (names : List (Vec ℕ Global)) → IsProp (HasRoom len names)
 HasRoom-prop len names = ×_prop le_prop (EachAtMost-prop (len - 65604) (map (λ name. vec_len name) names))
 
--- the levels and the text of the rows from one on, where the nodes with these ends are open, the innermost last
+-- the levels and the text of the nodes from number `at` on; `ends` are the ends of the open nodes, innermost last
 abbrev pub levels_from : List TreeNode → (at : ℕ) → (ends : List ℕ) → List ℕ
 levels_from rows at ends = levels_of_rows (reverse ends) at (map row_of (drop at rows))
 

@@ -1,15 +1,15 @@
--- Describes code: what a `RowsText` still tells.
+-- Describes code: the text that a `RowsText` has still to produce.
 use Rattle.std.specs.Prelude.{ℕ, List, drop, map, nat_lt, reverse, take}
 use Rattle.peg_tree.specs.RowText.{rest_text}
 use Rattle.peg_tree.specs.Rows.{rows_of}
 use Rattle.peg_tree.specs.declared.rows_text.RowsText.{RowsText}
 
--- the bytes that are still to be told
+-- the bytes after the current piece
 abbrev pub text_left : RowsText → List ℕ
 text_left text =
     rest_text (nat_lt 0 text.at) (map (λ name. name.items) text.names.items) (reverse text.ends.items) text.at
     (drop text.at (rows_of text.tree))
 
--- the bytes that are told now
+-- the current piece
 abbrev pub piece_of : RowsText → List ℕ
 piece_of text = take text.filled text.buffer.items

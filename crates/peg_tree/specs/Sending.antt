@@ -1,4 +1,4 @@
--- Describes code: what is sent of a node, and what is still to be sent where some nodes are open.
+-- Describes code: the serializer events of one node, and the events that remain while some nodes are open.
 use Rattle.std.specs.Prelude.{◌≡◌, ℕ, ◌+◌, ◌<◌, List, [], ◌∷◌, ◌++◌, ⊤, Some, codes, get_or}
 use Rattle.std.specs.Coded.{Unit-prop, le_prop}
 use mathlib.Core.HLevel.{×₃_prop}
@@ -15,29 +15,29 @@ use Rattle.peg_tree.specs.Trees.{Trees, NoTrees, Tree, nodes}
 use Rattle.peg_tree.specs.declared.nested_tree.Open.{Open}
 use Rattle.peg_tree.specs.declared.row.TreeNode.{TreeNode}
 
--- that each rule's number is below a bound is known in one way
+-- `RulesBelow` is a proposition: any two of its proofs are equal
 pub RulesBelow-prop : (bound : ℕ) (trees : Trees) → IsProp (RulesBelow bound trees)
 RulesBelow-prop bound NoTrees = Unit-prop
 RulesBelow-prop bound (Tree rule start end children rest) =
     ×₃_prop le_prop (RulesBelow-prop bound children) (RulesBelow-prop bound rest)
 
--- what stands before the children of a node, of which there are so many
+-- the events before the children of a node that has `count` children
 abbrev pub BeginsNode : (count : ℕ) → Log → Log → Type 0
 BeginsNode count old new =
     (begun named : Log) × Logs old begun (event.map_begins (Some 4))
     × Logs begun named (event.field_key (codes "children") AsIs) × Logs named new (event.seq_begins (Some count))
 
--- what stands behind them
+-- the events after the children of a node
 abbrev pub EndsNode : (name : List ℕ) → (start end : ℕ) → Log → Log → Type 0
 EndsNode name start end old new =
     (listed : Log) × Logs old listed event.seq_ends × SendsMembers (member (codes "end") (number (unsigned end))
     (member (codes "rule") (string name) (member (codes "start") (number (unsigned start)) no_members))) listed new
 
--- an open node, and the trees that come after it
+-- an open node, and the trees after it
 abbrev pub OpenThen : Type 0
 OpenThen = Open × Trees
 
--- what is sent of trees, and then of the open nodes that they stand in, the innermost first
+-- the events of trees, and then of the open nodes around them, innermost first
 abbrev pub SendsRest : List (List ℕ) → Trees → List OpenThen → Log → Log → Type 0
 SendsRest names trees [] old new = WritesEach SendsValue (nested_data names trees) old new
 SendsRest names trees (inner ∷ opens) old new =
@@ -45,23 +45,23 @@ SendsRest names trees (inner ∷ opens) old new =
     × EndsNode (name_at names inner.0.node.rule) inner.0.node.span.start inner.0.node.span.end listed ended
     × SendsRest names inner.1 opens ended new
 
--- the rows of what comes after open nodes
+-- the node list of the trees after the open nodes
 abbrev pub rows_behind : List OpenThen → List Row
 rows_behind [] = []
 rows_behind (inner ∷ opens) = rows_of inner.1 ++ rows_behind opens
 
--- open nodes end where the trees in them do, the innermost at this row, and have rules below a bound
+-- each open node ends where the trees in it end, the innermost at `place`, and every rule number is below the bound
 abbrev pub EndAt : (bound place : ℕ) → List OpenThen → Type 0
 EndAt bound place [] = ⊤
 EndAt bound place (inner ∷ opens) =
     (inner.0.node.rule < bound) × (inner.0.end ≡ place) × EndAt bound (place + nodes inner.1) opens
 
--- the innermost open node, if there is one, ends past this row
+-- the innermost open node, if any, ends after node number `at`
 abbrev pub IsOpenPast : (at : ℕ) → List Open → Type 0
 IsOpenPast at [] = ⊤
 IsOpenPast at (inner ∷ opens) = at < inner.end
 
--- the node of a row is open too
+-- node number `at` has been pushed as open
 abbrev pub Opens : List TreeNode → (at : ℕ) → (old new : List Open) → Type 0
 Opens rows at old new =
     (top : Open) × (new ≡ old ++ top ∷ []) × (top.node ≡ get_or rows at top.node) × (top.end ≡ at + top.node.size)

@@ -1,5 +1,5 @@
--- Describes code: trees as values that are told apart by the rows that hold them. That the rows of trees spell those
--- trees again is proved here, since a definition can't cite proofs/.
+-- Describes code: an encoding of trees by their node lists. The proof that a node list determines its trees is here,
+-- since a definition cannot cite proofs/.
 use Rattle.std.specs.Prelude.{◌≡◌, ℕ, ◌+◌, ◌-◌, List, [], ◌++◌}
 use Rattle.std.proofs.Common.{refl, sym, ◌∙◌, ap, arith, append-nil, append_assoc}
 use Rattle.std.proofs.lemmas.Bool.{cond-true, cond-false, le-leb, lt-leb}
@@ -16,7 +16,7 @@ pub trees_after-none : (trees : Trees) → trees_after 0 trees ≡ trees
 trees_after-none NoTrees = refl
 trees_after-none (Tree rule start end children rest) = cond-false _ _ _ (lt-leb (1 + nodes children) 0 (omega arith))
 
--- of trees and more, the leading ones with as many nodes are the trees
+-- of one list of trees followed by another, the first `nodes trees` nodes are the first list
 pub first_trees-followed_by : (trees more : Trees) → first_trees (nodes trees) (followed_by trees more) ≡ trees
 first_trees-followed_by NoTrees more = first_trees-none more
 first_trees-followed_by (Tree rule start end children rest) more =
@@ -37,7 +37,7 @@ pub followed_by-none : (trees : Trees) → followed_by trees NoTrees ≡ trees
 followed_by-none NoTrees = refl
 followed_by-none (Tree rule start end children rest) = ap (Tree rule start end children) (followed_by-none rest)
 
--- rows of trees before other rows add those trees in front
+-- the node list of trees, followed by other nodes, denotes those trees followed by the other trees
 pub trees_of-append : (trees : Trees) (rows : List Row)
     → trees_of (rows_of trees ++ rows) ≡ followed_by trees (trees_of rows)
 trees_of-append NoTrees rows = refl
@@ -56,18 +56,18 @@ trees_of-append (Tree rule start end children rest) rows =
     (first_trees-followed_by children beside)
     ∙ ap (Tree rule start end children) (trees_after-followed_by children beside)
 
--- the trees that the rows of trees spell are those trees
+-- the node list of trees denotes those trees
 pub trees_of-rows_of : (trees : Trees) → trees_of (rows_of trees) ≡ trees
 trees_of-rows_of trees =
     ap trees_of (sym (append-nil (rows_of trees))) ∙ trees_of-append trees [] ∙ followed_by-none trees
 
--- a row as the tuple of its numbers
+-- a node as a tuple of its numbers
 abbrev pub row_code : Coded Row
 row_code =
     code_by (ℕ × (ℕ × (ℕ × ℕ))) (coded× coded_ℕ (coded× coded_ℕ (coded× coded_ℕ coded_ℕ)))
     (λ row. (row.rule, (row.start, (row.end, row.size))))
     (λ p. record { rule = p.0; start = p.1.0; end = p.1.1.0; size = p.1.1.1 }) (λ _. refl)
 
--- trees are told apart by their rows
+-- trees are encoded by their node lists
 abbrev pub trees_code : Coded Trees
 trees_code = code_by (List Row) (coded_list row_code) rows_of trees_of trees_of-rows_of

@@ -1,9 +1,9 @@
--- The trees that rows in preorder spell, found from the last row to the first.
+-- The trees that a preorder node list denotes, computed from the last node to the first.
 use Rattle.std.specs.Prelude.{◌≡◌, ℕ, ◌+◌, ◌-◌, List, [], ◌∷◌, nat_le, if◌then◌else◌}
 use Rattle.peg_tree.specs.Trees.{Trees, NoTrees, Tree, nodes}
 use Rattle.peg_tree.specs.Rows.{Row, rows_of}
 
--- the leading trees that lie whole among the first count nodes
+-- the leading whole trees within the first `count` nodes
 abbrev pub first_trees : ℕ → Trees → Trees
 first_trees count NoTrees = NoTrees
 first_trees count (Tree rule start end children rest) =
@@ -19,13 +19,13 @@ trees_after count (Tree rule start end children rest) =
     then trees_after (count - (1 + nodes children)) rest
     else Tree rule start end children rest
 
--- the trees that the rows spell: each row takes as its children the trees that its size covers
+-- the trees that a node list denotes: each node takes as its children the trees within its subtree size
 abbrev pub trees_of : List Row → Trees
 trees_of [] = NoTrees
 trees_of (row ∷ rows) =
     Tree row.rule row.start row.end (first_trees (row.size - 1) (trees_of rows))
     (trees_after (row.size - 1) (trees_of rows))
 
--- the rows are trees, one after the other, and nothing else
+-- the node list is adjacent whole trees and nothing else
 abbrev pub IsForest : List Row → Type 0
 IsForest rows = rows_of (trees_of rows) ≡ rows

@@ -1,4 +1,4 @@
-//! How many levels a tree has.
+//! The number of levels of a tree.
 ghost use Rattle.std.specs.Prelude.{◌≡◌, ◌+◌, ◌*◌, ◌<◌, ◌≤◌, map, max};
 ghost use Rattle.peg_tree.specs.Parts.{IsPart, length_of, level_in};
 ghost use Rattle.peg_tree.specs.Rows.{row_of, IsOneTree};
@@ -8,8 +8,8 @@ ghost use Rattle.peg_tree.specs.TreesOfRows.{trees_of};
 use crate::TreeNode;
 use crate::part::{Part, Parts};
 
-// The greatest level. One step for each node: a part of the rows is taken apart into its first tree's children and the
-// trees after it. The smaller of the two goes on top, so that few parts ever wait.
+// Computes the greatest level. Each step splits a part of the node list into the children of its first tree and the
+// trees after it. The smaller part is pushed last, so 65 entries are enough for any tree.
 pub(crate) fn depth_in(rows: &[TreeNode]) -> usize
     requires { IsOneTree (map row_of rows.now) }
     ensures { result ≡ levels (trees_of (map row_of rows.now)) }
@@ -31,14 +31,14 @@ pub(crate) fn depth_in(rows: &[TreeNode]) -> usize
     deepest
 }
 
-// What stays of a part without its first row.
+// The two parts that remain when the first node of a part is removed.
 #[derive(Clone, Copy)]
 struct Halves {
     large: Part,
     small: Part,
 }
 
-// The children of a part's first tree, and the trees after it; the one of fewer rows is the small one.
+// Splits a part into the children of its first tree and the trees after it; `small` has no more nodes than `large`.
 fn taken_apart(rows: &[TreeNode], part: Part) -> Halves
     requires part { IsPart (map row_of rows.now) part }
     requires some { part.from < part.to }

@@ -1,4 +1,4 @@
-//! Trees side by side, taken apart tree by tree.
+//! Forests: adjacent trees, traversed tree by tree.
 ghost use Rattle.std.specs.Prelude.{map};
 ghost use Rattle.peg_tree.specs.Rows.{row_of};
 ghost use Rattle.peg_tree.specs.TreesOfRows.{IsForest};
@@ -6,15 +6,15 @@ ghost use Rattle.peg_tree.specs.TreesOfRows.{IsForest};
 use crate::TreeNode;
 use peg_bytes::Span;
 
-/// Trees side by side: those below a node of a tree, from one of them on.
+/// A forest: adjacent sibling trees, from one of them to the last.
 #[derive(Clone, Copy, Debug)]
 pub struct Forest<'a> {
     rows: &'a [TreeNode],
     ghost whole: { IsForest (map row_of rows.now) },
 }
 
-/// A tree of a forest: the number of its rule, the bytes of the text that it matched, the trees below it, and those
-/// that stand behind it in its forest.
+/// A tree of a forest: its rule number, the span of the text that it matched, its children, and the trees after it in
+/// the forest.
 #[derive(Clone, Copy, Debug)]
 pub struct Branch<'a> {
     pub rule: u32,
@@ -29,7 +29,6 @@ impl<'a> Forest<'a> {
     ghost use Rattle.peg_tree.specs.Trees.{NoTrees};
     ghost use Rattle.peg_tree.specs.TreesOfRows.{trees_of};
 
-    // The trees whose rows these are.
     pub(crate) fn of_rows(rows: &'a [TreeNode]) -> Forest<'a>
         requires { IsForest (map row_of rows.now) }
         ensures { trees_in result ≡ trees_of (map row_of rows.now) }
@@ -37,14 +36,14 @@ impl<'a> Forest<'a> {
         Forest { rows }
     }
 
-    /// Whether there is no tree.
+    /// Returns whether the forest has no tree.
     pub fn is_empty(&self) -> bool
         ensures { IsTrue result ↔ (trees_in self.now ≡ NoTrees) }
     {
         self.rows.is_empty()
     }
 
-    /// The first tree. Takes constant time.
+    /// Returns the first tree. Constant time.
     pub fn first(&self) -> Branch<'a>
         requires { trees_in self.now ≢ NoTrees }
         ensures { trees_in self.now ≡ trees_from_branch result }

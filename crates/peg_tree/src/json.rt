@@ -1,4 +1,4 @@
-//! Trees as JSON.
+//! Trees as JSON node lists.
 ghost use Rattle.std.specs.Prelude.{◌≡◌, ◌<◌, IfOk, length, map};
 ghost use Rattle.serde_json.specs.Data.{array};
 ghost use Rattle.serde_json.specs.View.{view, items_of};
@@ -11,7 +11,8 @@ use crate::{Names, Tree, TreeNode};
 use serde_json::{Value, json};
 use std::alloc::{AllocError, Global};
 
-/// The nodes in preorder, each as `[level,"rule",start,end]`; the root's level is 1. One pass over the nodes.
+/// Returns the preorder list of the nodes as JSON, each as `[level,"rule",start,end]`. The root has level 1. One pass
+/// over the nodes.
 pub fn rows_json<N: Names>(alloc: Global, tree: &Tree, names: &N) -> Result<Value, AllocError>
     requires { RulesBelow (length (N.names names.now)) tree.now }
     ensures { IfOk result (λ value. view value ≡ array (items_of (rows_data (N.names names.now) 1 tree.now))) }
@@ -25,7 +26,6 @@ pub fn rows_json<N: Names>(alloc: Global, tree: &Tree, names: &N) -> Result<Valu
     Ok(Value::Array(list))
 }
 
-// A node of this level.
 fn row_json<N: Names>(
     alloc: Global,
     level: usize,

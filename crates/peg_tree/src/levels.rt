@@ -8,7 +8,8 @@ ghost use Rattle.peg_tree.specs.Levels.{levels_of, open_at};
 use crate::TreeNode;
 use std::alloc::{AllocError, Global};
 
-// The level of each node; the root has level 1. One pass, with the ends of the nodes above a row, the innermost last.
+// Computes the level of each node; the root has level 1. One pass, with a stack of the ends of the node's ancestors,
+// innermost last.
 pub(crate) fn levels_in(alloc: Global, rows: &[TreeNode]) -> Result<Vec<usize>, AllocError>
     requires { IsOneTree (map row_of rows.now) }
     ensures { IfOk result (λ levels. levels.items ≡ levels_of 1 (trees_of (map row_of rows.now))) }
@@ -24,7 +25,7 @@ pub(crate) fn levels_in(alloc: Global, rows: &[TreeNode]) -> Result<Vec<usize>, 
     Ok(levels)
 }
 
-// Takes away the innermost ends that don't lie past a row's number.
+// Pops the ends of the nodes whose subtrees end at or before node number `at`.
 pub(crate) fn close_ended(ends: &mut Vec<usize>, at: usize)
     ensures ended { reverse ends.new.items ≡ open_at at (reverse ends.old.items) }
     ensures capacity { vec_capacity ends.new ≡ vec_capacity ends.old }

@@ -1,4 +1,4 @@
-//! Parse trees: what the recognition of a text by a grammar leaves.
+//! Parse trees: their representation, navigation, and JSON forms.
 #![tactic(auto)]
 
 mod depth;
@@ -25,7 +25,7 @@ pub use forest::{Branch, Forest};
 pub use json::rows_json;
 pub use member::send_member;
 pub use names::Names;
-pub use nested::{JsonFault, MOST_LEVELS, nested_json};
+pub use nested::{JsonFault, MAX_LEVELS, nested_json};
 pub use nested_tree::NestedTree;
 pub use outcome::{Outcome, Parsed};
 pub use row::TreeNode;

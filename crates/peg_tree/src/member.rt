@@ -1,10 +1,10 @@
-//! Members of JSON objects, for a serializer.
+//! Serializing members of JSON objects.
 ghost use Rattle.std.specs.Prelude.{OnOk};
 ghost use Rattle.peg_tree.specs.Events.{SendsMember};
 
 use serde::{Serialize, Serializer};
 
-/// Sends a member of an object: its key, and then its value.
+/// Serializes a member of an object: the key, then the value.
 pub fn send_member<T: Serialize, S: Serializer>(
     key: &str,
     value: &T,

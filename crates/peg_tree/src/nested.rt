@@ -1,7 +1,7 @@
-//! Trees as nested JSON objects, without recursion.
+//! Trees as nested JSON objects, built without recursion.
 ghost use Rattle.std.specs.Prelude.{◌≡◌, ◌<◌, ◌≤◌, ◌∷◌, ◌++◌, ◌↔◌, [], IfOk, OnOk, IfSome, IfNone, length, map};
 ghost use Rattle.serde_json.specs.View.{view};
-ghost use Rattle.peg_tree.specs.Json.{most_levels, node_data, nested_data};
+ghost use Rattle.peg_tree.specs.Json.{max_levels, node_data, nested_data};
 ghost use Rattle.peg_tree.specs.Built.{object_of, objects_of, taken, left_after};
 ghost use Rattle.peg_tree.specs.Names.{name_at};
 ghost use Rattle.peg_tree.specs.Nodes.{RulesBelow};
@@ -12,16 +12,16 @@ use serde_json::{Value, json};
 use std::alloc::{AllocError, Global};
 use thiserror::Error;
 
-/// How many levels nested JSON may have.
-pub const MOST_LEVELS: usize = 60;
+/// The maximum number of levels of a tree in nested JSON.
+pub const MAX_LEVELS: usize = 60;
 
-/// Why a tree isn't written as nested JSON.
+/// Why a tree could not be converted to nested JSON.
 #[derive(Clone, Copy, Debug, PartialEq, Eq, Error)]
 pub enum JsonFault {
-    /// It has more than `MOST_LEVELS` levels.
+    /// The tree has more than `MAX_LEVELS` levels.
     #[error("the tree has too many levels")]
     TooDeep,
-    /// Memory ran out.
+    /// An allocation failed.
     #[error("out of memory")]
     Memory,
 }
@@ -36,29 +36,30 @@ impl From<AllocError> for JsonFault {
     }
 }
 
-/// The root as `{"children":[..],"end":n,"rule":"..","start":n}`, with its children as such objects in order. `TooDeep`
-/// comes first, before any memory is taken. Two passes over the nodes.
+/// Returns the tree as nested JSON: each node is `{"children":[..],"end":n,"rule":"..","start":n}`, with its children
+/// in order. Returns `TooDeep` exactly if the tree has more than `MAX_LEVELS` levels. The levels are checked before
+/// anything is allocated. Two passes over the nodes.
 pub fn nested_json<N: Names>(alloc: Global, tree: &Tree, names: &N) -> Result<Value, JsonFault>
     requires { RulesBelow (length (N.names names.now)) tree.now }
     ensures value { IfOk result (λ value. nested_data (N.names names.now) tree.now ≡ view value ∷ []) }
-    ensures shallow { OnOk result (levels tree.now ≤ most_levels) }
-    ensures too_deep { (result ≡ Err JsonFault.TooDeep) ↔ (most_levels < levels tree.now) }
+    ensures shallow { OnOk result (levels tree.now ≤ max_levels) }
+    ensures too_deep { (result ≡ Err JsonFault.TooDeep) ↔ (max_levels < levels tree.now) }
 {
-    if tree.depth() > MOST_LEVELS {
+    if tree.depth() > MAX_LEVELS {
         return Err(JsonFault::TooDeep);
     }
     Ok(nested(alloc, tree, names)?)
 }
 
-// A tree's object, and how many nodes the tree has.
+// The JSON object of a tree, and the number of nodes of the tree.
 #[derive(Drop)]
 pub(crate) struct Built {
     value: Value,
     size: u64,
 }
 
-// The tree as an object that holds its children. It goes over the rows from the last to the first: each takes as its
-// children the objects that its size covers.
+// Builds the objects from the last node to the first. Each node takes as its children the finished objects within its
+// subtree size.
 fn nested<N: Names>(alloc: Global, tree: &Tree, names: &N) -> Result<Value, AllocError>
     requires { RulesBelow (length (N.names names.now)) tree.now }
     ensures { IfOk result (λ value. nested_data (N.names names.now) tree.now ≡ view value ∷ []) }
@@ -80,7 +81,7 @@ fn nested<N: Names>(alloc: Global, tree: &Tree, names: &N) -> Result<Value, Allo
     }
 }
 
-// Takes from the stack the objects that `count` nodes hold.
+// Pops the objects that together have `count` nodes, as a list of children.
 fn take_children(
     alloc: Global,
     stack: &mut Vec<Built>,
@@ -99,7 +100,7 @@ fn take_children(
     Ok(children)
 }
 
-// Takes the top of the stack, where it has at most so many nodes.
+// Pops the top object if it has at most `most` nodes.
 fn pop_within(stack: &mut Vec<Built>, most: u64) -> Option<Built>
     ensures some { IfSome result (λ built. objects_of stack.old.items ≡ object_of built ∷ objects_of stack.new.items) }
     ensures few { IfSome result (λ built. built.size ≤ most) }
@@ -114,7 +115,6 @@ fn pop_within(stack: &mut Vec<Built>, most: u64) -> Option<Built>
     }
 }
 
-// A node as an object.
 fn node_json<N: Names>(
     alloc: Global,
     node: TreeNode,

@@ -1,4 +1,4 @@
-//! A tree as nested objects, for a serializer.
+//! Serializing a tree as nested objects.
 ghost use Rattle.std.specs.Prelude.{◌≡◌, ◌+◌, ◌<◌, ◌≤◌, ◌∷◌, ◌++◌, [], IfNone, IfSome, OnOk, length, map, reverse};
 ghost use Rattle.peg_tree.specs.Names.{name_at};
 ghost use Rattle.peg_tree.specs.Nodes.{RulesBelow, count_of, node_at};
@@ -13,9 +13,9 @@ use crate::{Names, Tree, TreeNode};
 use serde::{Described, Serialize, Serializer};
 use std::alloc::Global;
 
-/// A tree that `serde` writes as its root, `{"children":[..],"end":n,"rule":"..","start":n}`, with the children as such
-/// objects in order. The nodes are sent in one pass, which keeps those that are open: want of memory for these is an
-/// error of the serializer.
+/// A tree that `serde` serializes as nested objects, `{"children":[..],"end":n,"rule":"..","start":n}` each, with the
+/// children in order. Serialization takes one pass and stores the open nodes. If an allocation fails, the serializer
+/// returns a custom error.
 #[derive(Drop)]
 pub struct NestedTree<'a, N: Names> {
     alloc: Global,
@@ -25,7 +25,7 @@ pub struct NestedTree<'a, N: Names> {
 }
 
 impl<'a, N: Names> NestedTree<'a, N> {
-    /// The tree, with the names of its rules.
+    /// Returns a serializable view of `tree`, with the names of its rules.
     pub fn new(alloc: Global, tree: &'a Tree, names: &'a N) -> NestedTree<'a, N>
         requires { RulesBelow (length (N.names names.now)) tree.now }
         ensures tree { result.tree.now ≡ tree.now }
@@ -45,14 +45,14 @@ impl<N: Names> Serialize for NestedTree<'_, N> {
     }
 }
 
-// A node that is begun and not ended, and the number of the first row behind it and all below it.
+// An open node: one that has been begun but not ended. `end` is the number of the first node after its subtree.
 #[derive(Clone, Copy)]
 pub(crate) struct Open {
     node: TreeNode,
     end: usize,
 }
 
-// Sends the root with all below it.
+// Serializes the tree in one pass, with a stack of open nodes instead of recursion.
 fn send_nested<N: Names, S: Serializer>(
     alloc: Global,
     tree: &Tree,
@@ -77,7 +77,7 @@ fn send_nested<N: Names, S: Serializer>(
     }
 }
 
-// Takes the innermost open node, where it has come to its end before this row.
+// Pops the innermost open node if its subtree ends at or before node number `at`.
 fn pop_ended(stack: &mut Vec<Open>, at: usize) -> Option<Open>
     ensures some { IfSome result (λ top. reverse stack.old.items ≡ top ∷ reverse stack.new.items) }
     ensures ended { IfSome result (λ top. top.end ≤ at) }
@@ -91,7 +91,7 @@ fn pop_ended(stack: &mut Vec<Open>, at: usize) -> Option<Open>
     }
 }
 
-// Begins the node of a row, which is open from then on.
+// Begins the object of node number `at` and pushes the node as open.
 fn begin_node<S: Serializer>(
     rows: &[TreeNode],
     at: usize,
@@ -115,7 +115,7 @@ fn begin_node<S: Serializer>(
     }
 }
 
-// Ends a node, whose children are sent.
+// Ends the object of a node, after all of its children.
 fn end_node<N: Names, S: Serializer>(node: TreeNode, names: &N, out: &mut S) -> Result<(), S::Error>
     requires { node.rule < length (N.names names.now) }
     ensures { OnOk result (EndsNode (name_at (N.names names.now) node.rule) node.span.start node.span.end

@@ -1,20 +1,20 @@
-//! What a parse of a text gives.
+//! The outcome of a parse.
 use crate::Tree;
 
-/// How a parse of a text ended, and how far it came.
+/// The outcome of a parse, with its furthest failure.
 #[derive(Debug, Drop)]
 pub struct Outcome {
     pub result: Parsed,
-    /// The greatest place, in bytes, at which a terminal was tried and failed; 0 where none failed.
+    /// The furthest failure: the greatest position, in bytes, at which a terminal failed, or 0 if none failed.
     pub far: u32,
-    /// The numbers of the terminals that failed there, each once and ascending.
+    /// The numbers of the terminals that failed at `far`, ascending and without duplicates.
     pub expected: Vec<u32>,
 }
 
-/// Whether the text's start matched.
+/// Whether a prefix of the text matched.
 #[derive(Debug, Drop)]
 pub enum Parsed {
-    /// The bytes before `end` matched, and the tree is how.
+    /// The bytes before `end` matched, with this parse tree.
     Matched { end: u32, tree: Tree },
     Failed,
 }

@@ -1,9 +1,9 @@
-//! Parts of a tree's rows, and a stack of them that takes no memory from an allocator.
+//! Parts of a tree's node list, and a stack of parts of fixed capacity, without allocation.
 ghost use Rattle.std.specs.Prelude.{◌≡◌, ◌<◌, ◌≤◌, ◌∷◌, ◌++◌, [], List, MatchOption, length, take};
 
 use std::marker::Model;
 
-// The rows from one number up to another, as trees side by side, and the level of their roots.
+// Adjacent whole trees: the nodes with numbers from `from` up to `to`, and the level of their roots.
 #[derive(Clone, Copy)]
 pub(crate) struct Part {
     pub from: usize,
@@ -30,7 +30,6 @@ impl Model for Parts {
 }
 
 impl Parts {
-    // A stack of one part.
     pub(crate) fn new(part: Part) -> Parts
         ensures { result ≡ part ∷ [] }
     {
@@ -40,7 +39,6 @@ impl Parts {
         }
     }
 
-    // Puts a part on top.
     pub(crate) fn push(&mut self, part: Part)
         requires { length self.old < 65 }
         ensures { self.new ≡ self.old ++ part ∷ [] }
@@ -49,7 +47,6 @@ impl Parts {
         self.len += 1;
     }
 
-    // Takes the top part.
     pub(crate) fn pop(&mut self) -> Option<Part>
         ensures { MatchOption result (self.old ≡ []) (λ part. self.old ≡ self.new ++ part ∷ []) }
     {

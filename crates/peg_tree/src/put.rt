@@ -1,11 +1,11 @@
-//! Bytes put into a buffer, one piece behind the other.
+//! Writing bytes and numbers into a buffer. Each function returns the end of the written bytes.
 ghost use Rattle.std.specs.Prelude.{◌≡◌, ◌+◌, ◌<◌, ◌≤◌, ◌∷◌, [], length};
 ghost use Rattle.std.specs.Fmt.{decimal};
 ghost use Rattle.peg_tree.specs.Put.{Puts};
 
 use itoa::write_digits;
 
-// Puts a byte at a place, and answers the place behind it.
+// Writes one byte at `at`.
 #[inline(always)]
 pub(crate) fn put_byte(byte: u8, buffer: &mut [u8], at: usize) -> usize
     requires { at < length buffer.old }
@@ -15,7 +15,7 @@ pub(crate) fn put_byte(byte: u8, buffer: &mut [u8], at: usize) -> usize
     at + 1
 }
 
-// Puts bytes at a place.
+// Writes bytes at `at`.
 #[inline(always)]
 pub(crate) fn put_bytes(bytes: &[u8], buffer: &mut [u8], at: usize) -> usize
     requires { at + length bytes.now ≤ length buffer.old }
@@ -26,7 +26,7 @@ pub(crate) fn put_bytes(bytes: &[u8], buffer: &mut [u8], at: usize) -> usize
     end
 }
 
-// Puts the digits of a number at a place. There has to be room for those of any number.
+// Writes a number in decimal at `at`. The buffer must have space for 20 digits, enough for any `u64`.
 #[inline(always)]
 pub(crate) fn put_number(number: u64, buffer: &mut [u8], at: usize) -> usize
     requires { at + 20 ≤ length buffer.old }
@@ -38,7 +38,7 @@ pub(crate) fn put_number(number: u64, buffer: &mut [u8], at: usize) -> usize
     end
 }
 
-// How many digits a number has.
+// Counts the decimal digits of a number, four digits per division.
 #[inline(always)]
 fn digits_of(number: u64) -> usize
     ensures count { result ≡ length (decimal number) }
@@ -53,7 +53,7 @@ fn digits_of(number: u64) -> usize
     count + few_digits_of(left)
 }
 
-// How many digits a number below 10,000 has.
+// Counts the decimal digits of a number below 10,000.
 #[inline(always)]
 fn few_digits_of(number: u64) -> usize
     requires { number < 10000 }

@@ -1,4 +1,4 @@
-//! The names of rules as JSON.
+//! Rule names as JSON strings.
 ghost use Rattle.std.specs.Prelude.{◌≡◌, IfOk, map};
 ghost use Rattle.serde_json.specs.Data.{string};
 ghost use Rattle.serde_json.specs.Written.{compact_text};
@@ -6,7 +6,7 @@ ghost use Rattle.serde_json.specs.Written.{compact_text};
 use crate::Names;
 use std::alloc::{AllocError, Global};
 
-// The name of each rule as a text of JSON, with its quotes.
+// The name of each rule as a JSON string, including the quotes.
 pub(crate) fn quoted_names<N: Names>(alloc: Global, names: &N) -> Result<Vec<Vec<u8>>, AllocError>
     ensures { IfOk result (λ list. map (λ name. name.items) list.items
         ≡ map (λ name. compact_text (string name)) (N.names names.now)) }
@@ -18,7 +18,6 @@ pub(crate) fn quoted_names<N: Names>(alloc: Global, names: &N) -> Result<Vec<Vec
     Ok(list)
 }
 
-// A name as a text of JSON.
 fn quoted_name(alloc: Global, name: &str) -> Result<Vec<u8>, AllocError>
     ensures { IfOk result (λ text. text.items ≡ compact_text (string name.now)) }
 {

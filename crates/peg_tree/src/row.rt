@@ -1,8 +1,8 @@
-//! A node of a tree as a flat row.
+//! A node in the node list of a tree.
 use peg_bytes::Span;
 
-/// A node of a tree, as a row among the tree's rows in preorder: the number of its rule, the bytes of the text that it
-/// matched, and how many nodes its subtree has, itself included.
+/// A node in the preorder node list of a tree: the number of its rule, the span of the text that it matched, and the
+/// number of nodes in its subtree, itself included.
 #[derive(Clone, Copy, Debug, PartialEq, Eq)]
 pub struct TreeNode {
     pub rule: u32,

@@ -1,4 +1,4 @@
-//! The text of a node as JSON.
+//! The JSON text of one node.
 ghost use Rattle.std.specs.Prelude.{◌+◌, ◌<◌, ◌≤◌, length};
 ghost use Rattle.serde_json.specs.Written.{comma_if};
 ghost use Rattle.peg_tree.specs.Put.{Puts};
@@ -7,10 +7,10 @@ ghost use Rattle.peg_tree.specs.RowText.{row_text};
 use crate::TreeNode;
 use crate::put::{put_byte, put_bytes, put_number};
 
-// How many bytes the text of a node has at most, and a comma before it, without the name of its rule.
+// An upper bound in bytes on a node's JSON text and the comma before it, not counting the rule's name.
 pub(crate) const MOST_ROW: usize = 68;
 
-// Puts a comma at a place, where something stands before.
+// Writes a comma at `at` if `later` is true, that is, after the first node. Returns the end of the written bytes.
 #[inline(always)]
 pub(crate) fn put_comma(later: bool, buffer: &mut [u8], at: usize) -> usize
     requires { at < length buffer.old }
@@ -24,7 +24,7 @@ pub(crate) fn put_comma(later: bool, buffer: &mut [u8], at: usize) -> usize
     }
 }
 
-// Puts the text of a node of this level, whose rule's name is written so, at a place.
+// Writes the JSON text of a node at `at`. `name` is the rule's name as JSON. Returns the end of the written bytes.
 #[inline(always)]
 pub(crate) fn put_row(
     level: usize,

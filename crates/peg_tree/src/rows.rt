@@ -1,4 +1,4 @@
-//! Walks over the rows of a tree.
+//! Navigation in the node list of a tree.
 ghost use Rattle.std.specs.Prelude.{◌≡◌, ◌+◌, ◌<◌, length, map, nat_lt};
 ghost use Rattle.std.specs.List.{list_all};
 ghost use Rattle.peg_tree.specs.Rows.{row_of, IsOneTree};
@@ -8,7 +8,7 @@ ghost use Rattle.peg_tree.specs.Nodes.{node_at, count_of, child_at, first_root, 
 
 use crate::TreeNode;
 
-// The row of a node.
+// Returns the node with number `node`.
 pub(crate) fn node_in(rows: &[TreeNode], node: usize) -> TreeNode
     requires tree { IsOneTree (map row_of rows.now) }
     requires within { node < length rows.now }
@@ -20,7 +20,7 @@ pub(crate) fn node_in(rows: &[TreeNode], node: usize) -> TreeNode
     rows[node]
 }
 
-// How many children a node has.
+// Counts the children of a node. Each step skips one child's subtree.
 pub(crate) fn count_in(rows: &[TreeNode], node: usize) -> usize
     requires tree { IsOneTree (map row_of rows.now) }
     requires within { node < length rows.now }
@@ -37,7 +37,7 @@ pub(crate) fn count_in(rows: &[TreeNode], node: usize) -> usize
     count
 }
 
-// The number of a node's child.
+// Returns the number of the child at index `place`. Each step skips one earlier child's subtree.
 pub(crate) fn child_in(rows: &[TreeNode], node: usize, place: usize) -> usize
     requires tree { IsOneTree (map row_of rows.now) }
     requires within { node < length rows.now }
@@ -55,7 +55,7 @@ pub(crate) fn child_in(rows: &[TreeNode], node: usize, place: usize) -> usize
     at
 }
 
-// Whether each rule's number is below the bound.
+// Whether the rule number of every node is below `rules`.
 pub(crate) fn fit_in(rows: &[TreeNode], rules: u32) -> bool
     ensures { result ≡ list_all (λ row. nat_lt row.rule rules) rows.now }
 {

@@ -1,4 +1,4 @@
-//! The text of a tree's rows, piece by piece.
+//! The JSON text of a tree's node list, produced in pieces.
 ghost use Rattle.std.specs.Prelude.{◌≡◌, ℕ, ◌≤◌, ◌∷◌, ◌++◌, [], IfOk, drop, false, length, map, reverse, take, vec_len};
 ghost use Rattle.std.specs.Coded.{le_prop};
 ghost use Rattle.std.specs.Vec.{vec_capacity};
@@ -18,11 +18,11 @@ use crate::row_text::{MOST_ROW, put_comma, put_row};
 use crate::{Names, Tree, TreeNode};
 use std::alloc::{AllocError, Global};
 
-// How many bytes a piece has at least, unless it is the last one.
+// The minimum size of a piece in bytes, except for the last piece.
 const PIECE: usize = 65_536;
 
-/// The text of a tree's rows, as it stands between the brackets of their list, told piece by piece. All the memory that
-/// this takes is asked for when it is made.
+/// The JSON text of a tree's node list without the enclosing brackets, produced in pieces. All memory is allocated by
+/// `new`.
 #[derive(Debug, Drop)]
 pub struct RowsText {
     tree: Tree,
@@ -40,7 +40,8 @@ pub struct RowsText {
 impl RowsText {
     ghost use Rattle.peg_tree.specs.RowsLeft.{piece_of, text_left};
 
-    /// The text of this tree, with the names of its rules; nothing is told yet.
+    /// Returns the text of `tree`, with the names of its rules, before the first piece. Returns an error if an
+    /// allocation fails, or if the required buffer would be too long.
     pub fn new<N: Names>(alloc: Global, tree: Tree, names: &N) -> Result<RowsText, AllocError>
         requires { RulesBelow (length (N.names names.now)) tree }
         ensures { IfOk result (λ text. text_left text ++ 93 ∷ []
@@ -63,7 +64,7 @@ impl RowsText {
         })
     }
 
-    /// Goes on to the next piece, which is empty where all is told.
+    /// Advances to the next piece. An empty piece means that the text is complete.
     pub fn fill(&mut self)
         ensures text { text_left self.old ≡ piece_of self.new ++ text_left self.new }
         ensures some { piece_of self.new ≡ [] → text_left self.old ≡ [] }
@@ -79,7 +80,7 @@ impl RowsText {
         self.filled = filled.end;
     }
 
-    /// The piece.
+    /// Returns the current piece.
     pub fn piece(&self) -> &[u8]
         ensures { result.now ≡ piece_of self.now }
     {
@@ -87,14 +88,14 @@ impl RowsText {
     }
 }
 
-// Up to which row a piece goes, and how many bytes it has.
+// Where a piece ends: the number of the next node, and the length of the piece in bytes.
 #[derive(Clone, Copy)]
 struct Filled {
     at: usize,
     end: usize,
 }
 
-// Fills a buffer with the rows from one on, until so many bytes stand there as a piece has.
+// Writes nodes from number `from` on into the buffer, until it holds at least `PIECE` bytes or no node is left.
 fn fill_piece(
     rows: &[TreeNode],
     names: &[Vec<u8>],
@@ -126,7 +127,6 @@ fn fill_piece(
     Filled { at, end }
 }
 
-// The length of the longest name.
 fn longest_of(names: &[Vec<u8>]) -> usize
     ensures { EachAtMost result (map (λ name. vec_len name) names.now) }
 {
@@ -137,7 +137,7 @@ fn longest_of(names: &[Vec<u8>]) -> usize
     longest
 }
 
-// That many bytes, each of them 0.
+// Allocates `count` zero bytes.
 fn zeros(alloc: Global, count: usize) -> Result<Vec<u8>, AllocError>
     ensures { IfOk result (λ bytes. vec_len bytes ≡ count) }
 {

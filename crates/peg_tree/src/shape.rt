@@ -1,4 +1,4 @@
-//! Which rows are one tree.
+//! Which node lists are a single tree.
 ghost use Rattle.std.specs.Prelude.{◌≡◌, ◌↔◌, ◌∷◌, drop, map, IsTrue};
 ghost use Rattle.peg_tree.specs.Rows.{row_of, IsOneTree};
 ghost use Rattle.peg_tree.specs.Trees.{nodes};
@@ -6,8 +6,8 @@ ghost use Rattle.peg_tree.specs.TreesOfRows.{trees_of, first_trees, IsForest};
 
 use crate::TreeNode;
 
-/// Whether the rows are one tree in preorder, by their sizes: the first row's subtree is all of them, and the rows of
-/// each subtree after its root are whole subtrees. It costs a step for each row.
+/// Returns whether the nodes are exactly one tree in preorder, judged by their sizes. The first node's subtree must be
+/// the whole list, and each subtree after its root must consist of whole subtrees. Linear in the number of nodes.
 pub fn one_tree(rows: &[TreeNode]) -> bool
     ensures { IsTrue result ↔ IsOneTree (map row_of rows.now) }
 {
@@ -17,8 +17,8 @@ pub fn one_tree(rows: &[TreeNode]) -> bool
     }
 }
 
-// Whether the rows are trees, one after the other: from the last row to the first, each steps over its children. A row
-// is the child of one row at most, so there are no more steps than rows.
+// Whether the nodes are adjacent whole trees. Goes from the last node to the first and steps over the children of each.
+// A node is the child of at most one node, so there are no more such steps than nodes.
 fn is_forest(rows: &[TreeNode]) -> bool
     ensures { IsTrue result ↔ IsForest (map row_of rows.now) }
 {
@@ -36,7 +36,7 @@ fn is_forest(rows: &[TreeNode]) -> bool
     true
 }
 
-// Whether the first `count` rows of trees are whole trees.
+// Whether the first `count` nodes are whole trees.
 fn are_whole_trees(rows: &[TreeNode], count: u64) -> bool
     requires { IsForest (map row_of rows.now) }
     ensures { IsTrue result ↔ (nodes (first_trees count (trees_of (map row_of rows.now))) ≡ count) }

@@ -1,4 +1,4 @@
-//! A parse tree, seen in contracts as a tree, and held as its rows.
+//! Parse trees. Contracts see the tree; the code stores its node list.
 ghost use Rattle.std.specs.Prelude.{◌≡◌, ◌+◌, ◌<◌, ◌↔◌, map, IsTrue};
 ghost use Rattle.peg_tree.specs.Rows.{row_of, rows_of, IsOneTree};
 ghost use Rattle.peg_tree.specs.Trees.{nodes, levels};
@@ -13,7 +13,7 @@ use crate::rows::{child_in, count_in, fit_in, node_in};
 use peg_bytes::Span;
 use std::marker::Model;
 
-/// A parse tree. Its nodes go by numbers: in preorder, from 0, which is the root.
+/// A parse tree. Nodes are numbered in preorder from 0, the root.
 #[derive(Debug, Drop)]
 pub struct Tree {
     rows: Vec<TreeNode>,
@@ -36,7 +36,7 @@ impl Model for Tree {
 }
 
 impl Tree {
-    /// The tree whose rows these are; `one_tree` tells whether they are one.
+    /// Creates the tree with the given node list, which must be one tree; see `one_tree`.
     pub fn from_rows(rows: Vec<TreeNode>) -> Tree
         requires { IsOneTree (map row_of rows.items) }
         ensures trees { result ≡ trees_of (map row_of rows.items) }
@@ -45,7 +45,7 @@ impl Tree {
         Tree { rows }
     }
 
-    /// How many nodes there are; at least the root.
+    /// Returns the number of nodes, which is at least 1.
     pub fn len(&self) -> usize
         ensures count { result ≡ nodes self.now }
         ensures some { 0 < result }
@@ -53,7 +53,7 @@ impl Tree {
         self.rows.len()
     }
 
-    /// The root's number.
+    /// Returns the number of the root, 0.
     pub fn root(&self) -> usize
         ensures number { result ≡ 0 }
         ensures within { result < nodes self.now }
@@ -62,7 +62,7 @@ impl Tree {
         0
     }
 
-    /// The number of a node's rule.
+    /// Returns the rule number of a node.
     pub fn rule(&self, node: usize) -> u32
         requires { node < nodes self.now }
         ensures { result ≡ (node_at self.now node).rule }
@@ -70,7 +70,7 @@ impl Tree {
         node_in(&self.rows, node).rule
     }
 
-    /// The bytes of the text that a node matched.
+    /// Returns the span of the text that a node matched.
     pub fn span(&self, node: usize) -> Span
         requires { node < nodes self.now }
         ensures start { result.start ≡ (node_at self.now node).start }
@@ -79,7 +79,7 @@ impl Tree {
         node_in(&self.rows, node).span
     }
 
-    /// How many children a node has. It costs a step for each.
+    /// Returns the number of children of a node. Linear in that number.
     pub fn child_count(&self, node: usize) -> usize
         requires { node < nodes self.now }
         ensures { result ≡ count_of (node_at self.now node).children }
@@ -87,7 +87,7 @@ impl Tree {
         count_in(&self.rows, node)
     }
 
-    /// The number of a node's child, by its place among the children. It costs a step for each child before it.
+    /// Returns the number of the child at index `place` among the children of `node`. Linear in `place`.
     pub fn child(&self, node: usize, place: usize) -> usize
         requires node { node < nodes self.now }
         requires place { place < count_of (node_at self.now node).children }
@@ -98,7 +98,7 @@ impl Tree {
         child_in(&self.rows, node, place)
     }
 
-    /// How many levels there are; the root is level 1. It costs a step for each node.
+    /// Returns the number of levels; the root has level 1. Linear in the number of nodes.
     pub fn depth(&self) -> usize
         ensures levels { result ≡ levels self.now }
         ensures some { 0 < result }
@@ -106,21 +106,20 @@ impl Tree {
         depth_in(&self.rows)
     }
 
-    /// Whether each rule's number is below `rules`. It costs a step for each node.
+    /// Returns whether the rule number of every node is below `rules`. Linear in the number of nodes.
     pub fn fits(&self, rules: u32) -> bool
         ensures { IsTrue result ↔ RulesBelow rules self.now }
     {
         fit_in(&self.rows, rules)
     }
 
-    /// The tree as a forest of one, to be taken apart.
+    /// Returns the tree as a forest of one tree, for traversal.
     pub fn forest(&self) -> Forest<'_>
         ensures { trees_in result ≡ self.now }
     {
         Forest::of_rows(&self.rows)
     }
 
-    // The rows.
     pub(crate) fn rows(&self) -> &[TreeNode]
         ensures tree { IsOneTree (map row_of result.now) }
         ensures same { trees_of (map row_of result.now) ≡ self.now }

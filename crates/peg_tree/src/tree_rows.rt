@@ -1,4 +1,4 @@
-//! A tree as the list of its nodes, for a serializer.
+//! Serializing a tree as a list of nodes.
 ghost use Rattle.std.specs.Prelude.{◌≡◌, ◌+◌, ◌<◌, ◌∷◌, ◌++◌, [], OnOk, length, map};
 ghost use Rattle.serde.specs.Event.{Log};
 ghost use Rattle.serde_json.specs.Data.{array};
@@ -14,9 +14,9 @@ use crate::{Names, Tree, TreeNode};
 use serde::{Described, Serialize, Serializer};
 use std::alloc::Global;
 
-/// A tree that `serde` writes as the list of its nodes in preorder, each as `[level,"rule",start,end]`; the root's level
-/// is 1. The nodes are sent in one pass, which keeps the ends of the nodes that are open: want of memory for these is an
-/// error of the serializer.
+/// A tree that `serde` serializes as the preorder list of its nodes, each as `[level,"rule",start,end]`. The root has
+/// level 1. Serialization takes one pass and stores the ends of the open nodes. If an allocation fails, the serializer
+/// returns a custom error.
 #[derive(Drop)]
 pub struct TreeRows<'a, N: Names> {
     alloc: Global,
@@ -26,7 +26,7 @@ pub struct TreeRows<'a, N: Names> {
 }
 
 impl<'a, N: Names> TreeRows<'a, N> {
-    /// The tree, with the names of its rules.
+    /// Returns a serializable view of `tree`, with the names of its rules.
     pub fn new(alloc: Global, tree: &'a Tree, names: &'a N) -> TreeRows<'a, N>
         requires { RulesBelow (length (N.names names.now)) tree.now }
         ensures tree { result.tree.now ≡ tree.now }
@@ -46,7 +46,6 @@ impl<N: Names> Serialize for TreeRows<'_, N> {
     }
 }
 
-// Sends the nodes.
 fn send_rows<N: Names, S: Serializer>(
     alloc: Global,
     tree: &Tree,
@@ -69,7 +68,6 @@ fn send_rows<N: Names, S: Serializer>(
     out.end_seq()
 }
 
-// Sends a node of this level.
 fn send_row<N: Names, S: Serializer>(
     level: usize,
     node: TreeNode,
@@ -88,7 +86,7 @@ fn send_row<N: Names, S: Serializer>(
     out.end_seq()
 }
 
-// Notes where a node that is open now ends.
+// Pushes the end of an open node, and turns a failed allocation into an error of the serializer.
 fn push_end<S: Serializer>(ends: &mut Vec<usize>, end: usize, out: &S) -> Result<(), S::Error>
     ensures { OnOk result (ends.new.items ≡ ends.old.items ++ end ∷ []) }
 {

@@ -1,4 +1,4 @@
-//! Tests of parse trees: their rows, their nodes and their JSON, by public calls.
+//! Tests of parse trees: their lists of nodes and their JSON, by their public calls.
 #![tactic(auto)]
 
 #[cfg(test)]

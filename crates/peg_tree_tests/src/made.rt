@@ -1,4 +1,4 @@
-//! Trees that tests are on, made by hand, and the names of their rules.
+//! Trees for the tests, built by hand, and the names of their rules.
 ghost use Rattle.std.specs.Prelude.{◌≤◌, ◌∷◌, [], codes};
 
 use peg_bytes::Span;
@@ -16,7 +16,7 @@ pub(crate) fn row(rule: u32, start: u32, end: u32, size: u64) -> TreeNode
     }
 }
 
-// A root with two children, of which the second has one of its own.
+// A root with two children, the second with one child of its own.
 pub(crate) fn small(alloc: Global) -> Result<Vec<TreeNode>, Fail> {
     let rows = [
         row(0, 0, 9, 4),
@@ -27,7 +27,7 @@ pub(crate) fn small(alloc: Global) -> Result<Vec<TreeNode>, Fail> {
     Ok(rows.to_vec(alloc)?)
 }
 
-// Rule 0 is `list`, and each other one `word`.
+// Rule 0 is `list`, and every other one is `word`.
 pub(crate) struct Grammar;
 
 impl Names for Grammar {

@@ -1,10 +1,10 @@
-//! Tests of the text of a tree's rows, piece by piece.
+//! Tests of the text of a tree's list of nodes, piece by piece.
 use crate::made::{Grammar, chain, row, small};
 use peg_tree::{Names, RowsText, Tree, TreeNode, TreeRows, one_tree};
 use std::alloc::Global;
 use std::test::Fail;
 
-// The tree of rows.
+// The tree of a list of nodes.
 fn tree_of(rows: Vec<TreeNode>) -> Result<Tree, Fail> {
     if !one_tree(&rows) {
         return Err("no tree".into());
@@ -12,7 +12,7 @@ fn tree_of(rows: Vec<TreeNode>) -> Result<Tree, Fail> {
     Ok(Tree::from_rows(rows))
 }
 
-// The pieces of the text of a tree, one behind the other, and how many there are.
+// The pieces of a tree's text, concatenated, and their number.
 fn told(alloc: Global, rows: Vec<TreeNode>) -> Result<(Vec<u8>, usize), Fail> {
     let tree = tree_of(rows)?;
     if !tree.fits(Grammar.count()) {

@@ -4,7 +4,7 @@ use peg_tree::{Names, NestedTree, Tree, TreeNode, TreeRows, one_tree};
 use std::alloc::Global;
 use std::test::Fail;
 
-// The text of the rows of a tree, and that of its nested objects.
+// The text of a tree's list of nodes, and that of its nested objects.
 fn texts(alloc: Global, rows: Vec<TreeNode>) -> Result<(String, String), Fail> {
     if !one_tree(&rows) {
         return Err("no tree".into());

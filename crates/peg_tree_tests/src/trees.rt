@@ -1,4 +1,4 @@
-//! Tests of trees on small ones made by hand, and on long ones.
+//! Tests of small trees built by hand, and of long ones.
 use crate::made::{Grammar, chain, row, small};
 use peg_bytes::Span;
 use peg_tree::{JsonFault, Names, Tree, nested_json, one_tree, rows_json};

@@ -1,5 +1,5 @@
-//! `pegtool`: tells what the rules of a grammar file can do, whether it is well-formed, and what one makes of a text;
-//! with no words, parses a text by a grammar file, both from standard input.
+//! `pegtool`: checks a grammar file, prints its table of outcomes or its code, or parses a text by it. Without
+//! arguments, parses a grammar file and a text from standard input.
 #![tactic(auto)]
 
 use peg_tool::{
@@ -11,16 +11,16 @@ use std::io::{ErrorKind, Input};
 use std::process::ExitCode;
 use std::{env, fs, io};
 
-/// What is told of words that aren't UTF-8.
+/// The message for arguments that are not UTF-8.
 const NOT_UTF8: &str = "error: a word isn't UTF-8\n\nFor more information, try '--help'.\n";
 
-// The files of the system by their names.
+// Opens files of the file system by name.
 #[derive(Drop)]
-struct Disk<'a, R> {
+struct FileSystem<'a, R> {
     files: &'a R,
 }
 
-impl<'a, R: Files> Opener for Disk<'a, R> {
+impl<'a, R: Files> Opener for FileSystem<'a, R> {
     ghost use Rattle.std.specs.Prelude.{None};
 
     type File = Device<R::File>;
@@ -35,18 +35,18 @@ impl<'a, R: Files> Opener for Disk<'a, R> {
 fn main(rt: HostRuntime) -> ExitCode {
     let status = match run(&rt) {
         Ok(status) => status,
-        Err(fault) => tell(&rt, fault),
+        Err(fault) => report(&rt, fault),
     };
     ExitCode::from(status)
 }
 
-// Does what the words behind the program's name ask for, and answers the status that goes with it.
+// Runs the command that the arguments request, and returns the exit status.
 fn run<R: Env + Files + Input + Print + Eprint + AllocGlobal>(rt: &R) -> Result<u8, ProgramFault> {
     match words(rt) {
         Ok(words) => {
             let mut input = Device::new(rt.reader());
             let mut output = Device::new(io::writer(rt));
-            let files = Disk { files: rt };
+            let files = FileSystem { files: rt };
             run_words(rt.alloc(), &files, &mut input, &mut output, &words)
         }
         Err(WordsFault::Usage { text }) => Ok(bad_words(rt, &text)),
@@ -54,7 +54,7 @@ fn run<R: Env + Files + Input + Print + Eprint + AllocGlobal>(rt: &R) -> Result<
     }
 }
 
-// What the words behind the program's name ask for.
+// Parses the arguments after the program's name.
 fn words<R: Env + AllocGlobal>(rt: &R) -> Result<Words, WordsFault> {
     let alloc = rt.alloc();
     match env::args(rt) {
@@ -70,14 +70,14 @@ fn words<R: Env + AllocGlobal>(rt: &R) -> Result<Words, WordsFault> {
     }
 }
 
-// Prints what is wrong with the words. The status tells it too, so it doesn't matter whether that can be printed.
+// Prints a usage error. The exit status reports it too, so a failed print is ignored.
 fn bad_words<R: Eprint>(rt: &R, text: &str) -> u8 {
     let _ = rt.eprint(text);
     Status::Usage.code()
 }
 
-// Prints why there is no answer, and answers the status, which tells it too.
-fn tell<R: Eprint>(rt: &R, fault: ProgramFault) -> u8 {
+// Prints a fault, and returns its exit status. A failed print is ignored.
+fn report<R: Eprint>(rt: &R, fault: ProgramFault) -> u8 {
     let _ = eprintln!(rt; "{fault}");
     fault.status()
 }

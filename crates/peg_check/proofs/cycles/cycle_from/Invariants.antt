@@ -19,6 +19,6 @@ invariant-steps l = record {
   differ : AllDiffer l.path.items;
 }
 
--- each step sees a rule that wasn't seen
+-- each iteration reaches a rule that wasn't seen
 abbrev pub decreases-steps : goal.decreases-steps
 decreases-steps l = sum_by one_unless l.seen.items

@@ -22,7 +22,7 @@ left_part-requires c =
     subst (λ n. LinkFits n l) (sym (c.requires.settled.count ∙ c.requires.count))
     (AsksBy-fits core number l c.parts.invariant.within (c.requires.asked number c.parts.invariant.within))
 
--- what is asked for is a part, since the form is no use of a rule
+-- the dependency is a part, since the form isn't a call of a rule
 asked-part : (c : In-Some-left_part) → AsksForPart c.args.core.now c.parts.number c.in-Some-left_part.part
 asked-part c =
     let core = c.args.core.now in

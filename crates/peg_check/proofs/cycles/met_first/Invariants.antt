@@ -4,7 +4,7 @@ use Rattle.peg_core.specs.Layout.{bodies_of, form_at}
 use Rattle.peg_check.specs.Settled.{is_marked}
 use Rattle.peg_check.proofs.cycles.met_first.Given as goal
 
--- this form isn't settled, and what it meets first the first form does
+-- this form isn't settled, and the first form left-calls what it left-calls
 abbrev pub invariant-parts : goal.invariant-parts
 invariant-parts l = record {
   within : l.number < length l.core.forms;

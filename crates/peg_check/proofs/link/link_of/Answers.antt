@@ -1,6 +1,6 @@
 use Rattle.std.proofs.Common.{Bool, true, false, sym, ap, ◌∙◌}
 use Rattle.peg_bytes.specs.ByteSet.{bytes_of}
-use Rattle.peg_ford.specs.AbstractOutcomes.{Can}
+use Rattle.peg_semantics.specs.AbstractOutcomes.{Can}
 use Rattle.peg_core.specs.CoreOutcomes.{core_can_table}
 use Rattle.peg_core.specs.Layout.{bodies_of}
 use Rattle.peg_check.proofs.LinkLemmas.{not-empty, rule-is}

@@ -5,7 +5,7 @@ use Rattle.peg_check.specs.Settled.{unmarked_in}
 use Rattle.peg_check.proofs.MetLemmas.{IsMetBy}
 use Rattle.peg_check.proofs.met.met_by.Given as goal
 
--- what the forms in the list meet first, the rule does
+-- the rule left-calls what the pending forms left-call
 abbrev pub invariant-forms : goal.invariant-forms
 invariant-forms l = record {
   seen : length l.seen ≡ length l.core.forms;
@@ -14,6 +14,6 @@ invariant-forms l = record {
   within : All (λ other. other < length l.core.bodies) l.met.items;
 }
 
--- each form is taken from the list; there are more only where one more is seen
+-- each iteration takes a form from the list, and pushes others only if one more is seen
 abbrev pub decreases-forms : goal.decreases-forms
 decreases-forms l = unmarked_in l.seen * (2 + 1) + length l.pending.items

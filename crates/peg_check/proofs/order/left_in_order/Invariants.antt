@@ -10,6 +10,6 @@ invariant-visits l = record {
   visits : AreVisits (length l.asks) l.visits.items;
 }
 
--- each visit is taken from the list; there are more only where one more form is entered
+-- each iteration takes a visit from the list, and pushes others only if one more form is entered
 abbrev pub decreases-visits : goal.decreases-visits
 decreases-visits l = unmarked_in l.entered.items * (3 + 1) + length l.visits.items

@@ -2,7 +2,7 @@ use Rattle.std.proofs.Common.{◌≤◌, length}
 use Rattle.peg_check.specs.Owners.{AreOwnersUpTo, AreHandedDownFrom}
 use Rattle.peg_check.proofs.owners.owners_of.Given as goal
 
--- from here on, parts have the owners of their forms
+-- from this number on, parts have owners if their forms do
 abbrev pub invariant-loop-number : goal.invariant-loop-number
 invariant-loop-number l = record {
   below : l.number ≤ length l.core.forms;

@@ -29,7 +29,7 @@ settle-more-requires-clause-within c =
     let at = (goal.at.settle-more-requires-clause-within c).In-Some in
     omega (arith, taken at, ap length c.deref_mut.ensures.value, c.looks.invariant.count)
 
--- at first nothing is marked
+-- at first no form is marked
 pub looks-init : goal.looks-init
 looks-init c =
     let marks = c.in_ok-marks.marks.items in
@@ -45,7 +45,7 @@ looks-init c =
       awaited = λ number below unmarked. inl (c.in_ok-pending.ensures.all number below);
     }
 
--- at last nothing waits
+-- at the end no form is pending
 pub returns : goal.returns
 returns c =
     let asks = c.args.asks.now in
@@ -63,7 +63,7 @@ add_users-requires-clause-forms c =
     subst (λ n. All (λ k. k < n) c.pop.new.self.items) (sym c.in_ok-uses.ensures.chains.forms)
     (all_taken (λ k. k < length asks) c.looks.pending.items c.pop.new.self.items c.in-Some.number c.in-Some.ensures.items c.looks.invariant.within)
 
--- nothing more was marked
+-- no form was newly marked
 pub looks-preserved-then-not-more : goal.looks-preserved-then-not-more
 looks-preserved-then-not-more c =
     let asks = c.args.asks.now in
@@ -81,7 +81,7 @@ looks-preserved-then-not-more c =
       awaited = subst (λ (m : List Bool). AreWaiting asks m rest) (sym now) (AreWaiting-same asks marks number pending rest taken c.looks.invariant.awaited (subst (λ (m : List Bool). is_marked m number ≡ false → SomeLeft m (link_at asks number)) same c.if-not-more.ensures.left));
     }
 
--- one more is marked
+-- one more form is marked
 marked : (c : After-settle-more) → c.settle-more.new.marks ≡ set c.deref_mut.result.now c.in-Some.number true
     → take c.looks.marks.len (c.settle-more.new.marks ++ drop (length c.settle-more.new.marks) c.looks.marks.items)
     ≡ set c.looks.marks.items c.in-Some.number true

@@ -5,7 +5,7 @@ use Rattle.peg_check.specs.Settled.{is_marked, IsSettledIn, SomeLeft}
 use Rattle.peg_check.specs.Steps.{one_unless}
 use Rattle.peg_check.proofs.settled.settled_of.Given as goal
 
--- what is marked is settled, and what isn't asks for a form that isn't, but for the forms still in the list
+-- marked forms are settled; each other form is pending or depends on one that isn't marked
 abbrev pub invariant-looks : goal.invariant-looks
 invariant-looks l = record {
   count : length l.marks.items ≡ length l.asks;
@@ -14,6 +14,6 @@ invariant-looks l = record {
   awaited : (number : ℕ) → number < length l.asks → is_marked l.marks.items number ≡ false → Contains l.pending.items number ⊎ SomeLeft l.marks.items (link_at l.asks number);
 }
 
--- each look takes one form from the list; it puts others there only where one more is marked
+-- each iteration takes a form from the list, and pushes others only if one more is marked
 abbrev pub decreases-looks : goal.decreases-looks
 decreases-looks l = sum_by one_unless l.marks.items * (length l.uses.entries.items + 1) + length l.pending.items

@@ -7,7 +7,7 @@ use Rattle.peg_check.specs.Verdicts.{AllDiffer}
 use Rattle.peg_check.proofs.TrailLemmas.{IsLaterRule}
 use Rattle.peg_check.proofs.shortest.path_to.Given as goal
 
--- from this step's rule, through those that were put there, last first, there is a path to the start
+-- this step's rule and the rules pushed so far, in reverse, are a path to the start
 abbrev pub invariant-loop-at : goal.invariant-loop-at
 invariant-loop-at l = record {
   within : l.at < length l.steps;

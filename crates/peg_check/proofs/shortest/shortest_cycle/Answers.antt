@@ -11,7 +11,7 @@ use Rattle.peg_check.proofs.WholeWrites.{whole-written}
 use Rattle.peg_check.proofs.shortest.shortest_cycle.Goals as goal
 use Rattle.peg_check.proofs.shortest.shortest_cycle.Goals.{In_ok-met}
 
--- all rules that were met are met first by the step's rule
+-- the step's rule left-calls all these rules
 met : (c : In_ok-met) → All (CoreMeetsFirst (bodies_of c.args.core.now) (rule_at c.steps.steps.items c.steps.at)) c.in_ok-met.met.items
 met c =
     let steps = c.steps.steps.items in

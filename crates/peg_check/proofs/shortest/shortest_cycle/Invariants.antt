@@ -13,6 +13,6 @@ invariant-steps l = record {
   room : length l.steps.items + unmarked_in l.rules.items ≡ length l.core.bodies;
 }
 
--- the steps that are still to be looked at, and the rules that may become steps
+-- the steps that are left, and the rules that may become steps
 abbrev pub decreases-steps : goal.decreases-steps
 decreases-steps l = length l.steps.items + unmarked_in l.rules.items - l.at

@@ -1,7 +1,7 @@
 use Rattle.std.proofs.Common.{ℕ, ◌<◌, ◌≤◌, All, Contains}
 use Rattle.peg_check.proofs.table.all_numbers.Given as goal
 
--- the numbers from here on are there
+-- the list has all numbers from this one on
 abbrev pub invariant-loop-number : goal.invariant-loop-number
 invariant-loop-number l = record {
   below : l.number ≤ l.count;

@@ -47,7 +47,7 @@ add_users-requires-clause-forms c =
     subst (λ n. All (λ k. k < n) c.pop.new.self.items) counted
     (all_taken (λ k. k < length forms) c.looks.pending.items c.pop.new.self.items c.in-Some.number c.in-Some.ensures.items c.looks.invariant.within)
 
--- ---- after a look
+-- ---- after an update
 
 within : (c : After-look_again-more) → c.in-Some.number < length c.args.core.now.forms
 within c =
@@ -67,7 +67,7 @@ entries c =
     (link_at c.in_ok-links.links.items c.in-Some.number) c.looks.entries.ok.0 c.deref_mut.ensures.value
     (link_at_read c.in_ok-links.links.items c.in-Some.number c.index.result.now below c.index.ensures) c.look_again-more.ensures.looked
 
--- nothing more was found where the entries are the same
+-- nothing is new if the entries are the same
 pub looks-preserved-then-not-more : goal.looks-preserved-then-not-more
 looks-preserved-then-not-more c =
     let at = (goal.at.looks-preserved-then-not-more c).After-look_again-more in
@@ -88,7 +88,7 @@ looks-preserved-then-not-more c =
       awaited = subst (λ (l : List code.Can). AreAwaited (length core.forms) links l rest) (sym (now ∙ same)) (awaited-same (length core.forms) links cans number below pending rest taken c.looks.invariant.awaited same);
     }
 
--- the forms that go by one of which more is known are in the list again
+-- the forms that depend on a changed one are pending again
 pub looks-preserved : goal.looks-preserved
 looks-preserved c =
     let at = (goal.at.looks-preserved c).After-look_again-more in

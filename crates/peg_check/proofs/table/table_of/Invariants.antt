@@ -4,7 +4,7 @@ use Rattle.peg_check.proofs.OutcomeTables.{Holds}
 use Rattle.peg_check.proofs.Worklist.{AreAwaited}
 use Rattle.peg_check.proofs.table.table_of.Given as goal
 
--- what is known holds, and what follows of it is known but for the forms still in the list
+-- known outcomes hold, and all that follow from them are known except for pending forms
 abbrev pub invariant-looks : goal.invariant-looks
 invariant-looks l = record {
   count : length l.entries.items ≡ length l.core.forms;
@@ -13,6 +13,6 @@ invariant-looks l = record {
   awaited : AreAwaited (length l.core.forms) l.links.items l.entries.items l.pending.items;
 }
 
--- each look takes one form from the list; it puts others there only where more is known
+-- each iteration takes a form from the list, and pushes others only if more outcomes are known
 abbrev pub decreases-looks : goal.decreases-looks
 decreases-looks l = unknown_in l.entries.items * (length l.uses.entries.items + 1) + length l.pending.items

@@ -4,7 +4,7 @@ use Rattle.peg_check.specs.Links.{GoesBy}
 use Rattle.peg_check.specs.declared.link.Link.{Link}
 use Rattle.peg_check.proofs.uses.uses_of.Given as goal
 
--- the forms so far are among the users of those that they go by
+-- the forms so far are among the users of their dependencies
 abbrev pub invariant-loop-user : goal.invariant-loop-user
 invariant-loop-user l = record {
   chains : AreChains (length l.links) l.uses;

@@ -6,7 +6,7 @@ use Rattle.peg_check.proofs.VerdictLemmas.{accepted-where, empty_loop-where, lef
 use Rattle.peg_check.proofs.verdict.check.Goals as goal
 use Rattle.peg_check.proofs.verdict.check.Goals.{In_ok-judge}
 
--- ---- refused
+-- ---- rejected
 
 pub returns-in_err-judge-clause-empty_loop_where : goal.returns-in_err-judge-clause-empty_loop_where
 returns-in_err-judge-clause-empty_loop_where c =

@@ -12,7 +12,7 @@ use Rattle.peg_check.proofs.PathLemmas.{has-body, cycle-bodies}
 use Rattle.peg_check.proofs.Refutations.{loop-refuted, cycle-refuted}
 use Rattle.peg_check.proofs.verdict.judge.Goals as goal
 
--- what was found, where something was
+-- the loop, if one was found
 found : (core : Desugared) (o : Option Loop) (loop : Loop) → o ≡ Some loop → MatchOption o (HasNone core) (IsLoop core)
     → IsLoop core loop
 found core o loop is h = subst (λ (p : Option Loop). MatchOption p (HasNone core) (IsLoop core)) is h
@@ -35,7 +35,7 @@ returns-in-Some-clause-named c =
     subst (λ n. c.in-Some.field-0.rule < n) (counted core)
     (has-body (bodies_of core) (λ body. (part : CoreForm) × (StandsIn (Star part (extent span)) body × CoreGivesNothing (bodies_of core) part)) c.in-Some.field-0.rule loop.named)
 
--- the cycle that was found, where one was
+-- the cycle, if one was found
 named : (core : Desugared) (o : Option (Vec ℕ Global)) (path : Vec ℕ Global) → o ≡ Some path
     → MatchOption o (AreWellFormedIn (length core.forms) core) (λ p. IsSimpleLeftCycle (bodies_of core) p.items)
     → IsSimpleLeftCycle (bodies_of core) path.items

@@ -15,7 +15,7 @@ use Rattle.peg_check.proofs.verdict.left_cycle.Goals.{In_ok-asks}
 pub settled_of-requires-clause-few : goal.settled_of-requires-clause-few
 settled_of-requires-clause-few c = omega (arith, ap length c.deref.ensures.value, c.in_ok-asks.ensures.few)
 
--- what is asked for is one of the forms
+-- the dependencies are among the forms
 fit : (c : In_ok-asks) (l : List Link) → l ≡ c.in_ok-asks.asks.items → (user : ℕ) (d : Link) → user < length l
     → LinkFits (length l) (get_or l user d)
 fit c l is user d within =

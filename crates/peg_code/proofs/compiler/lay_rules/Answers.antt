@@ -1,7 +1,7 @@
 use Rattle.std.proofs.Common.{◌≡◌, ◌+◌, ◌<◌, ◌++◌, ◌∷◌, [], drop, length, ap, arith, length-append}
 use Rattle.peg_core.specs.Layout.{bodies_of, form_at}
 use Rattle.peg_code.specs.Code.{code_of, entries_of, program_code, rules_code, size}
-use Rattle.peg_code.specs.Compiled.{most_instructions}
+use Rattle.peg_code.specs.Compiled.{max_instructions}
 use Rattle.peg_code.specs.Instructions.{Ret}
 use Rattle.peg_code.proofs.CodeLemmas.{length-code_of}
 use Rattle.peg_code.proofs.LayoutLemmas.{code-next, laid-ret, drop-body, entries-next, room-next}
@@ -14,8 +14,8 @@ overflow_cast-len c =
     let more = rules_code (drop c.loop-rule.rule (bodies_of c.args.core.now)) (length old) in
     omega (arith, ap length c.loop-rule.invariant.code, length-append old more, c.len.ensures, c.requires.few)
 
--- there is room for the rule's body, and for one more
-room : (c : After-body) → length c.loop-rule.instrs + size (form_at c.args.core.now.forms c.body.result) < most_instructions
+-- the code of the rule's body and one more instruction are within the limit
+room : (c : After-body) → length c.loop-rule.instrs + size (form_at c.args.core.now.forms c.body.result) < max_instructions
 room c =
     let core = c.args.core.now in
     let next = drop-body core c.loop-rule.rule c.body.result c.body.ensures.number in

@@ -3,7 +3,7 @@ use Rattle.peg_core.specs.Layout.{bodies_of}
 use Rattle.peg_code.specs.Code.{entries_from, entries_of, program_code, rules_code}
 use Rattle.peg_code.proofs.compiler.lay_rules.Given as goal
 
--- what stands, followed by the code of the rules that are still to come, is the program's, and so for the entries
+-- the emitted code and that of the rules that are left make the program's code, and so for the entries
 abbrev pub invariant-loop-rule : goal.invariant-loop-rule
 invariant-loop-rule l = record {
   code : l.instrs ++ rules_code (drop l.rule (bodies_of l.core)) (length l.instrs) ≡ program_code (bodies_of l.core);

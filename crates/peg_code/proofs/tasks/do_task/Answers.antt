@@ -2,7 +2,7 @@ use Rattle.std.proofs.Common.{◌+◌, ◌<◌, ◌≤◌, get_or, length, sym, 
 use Rattle.std.proofs.lemmas.Result.{on_ok_weaker}
 use Rattle.peg_core.specs.Layout.{form_at}
 use Rattle.peg_code.specs.Code.{size}
-use Rattle.peg_code.specs.Compiled.{most_instructions}
+use Rattle.peg_code.specs.Compiled.{max_instructions}
 use Rattle.peg_code.specs.Plans.{IsPlan}
 use Rattle.peg_code.specs.Tasks.{Adds, after, DoesTask, TaskFits}
 use Rattle.peg_code.specs.declared.plans.Plan.{Plan}
@@ -32,13 +32,13 @@ planned c =
     let fits : c.in-Form.number < length c.args.core.now.forms = subst (TaskFits (length c.args.core.now.forms)) c.in-Form.is c.requires.fits in
     c.requires.plans.each c.in-Form.number (record { size = 0; form = 0 }) (omega (arith, c.requires.plans.count))
 
--- there is room for the instructions of the form
-room : (c : In-Form) → length c.args.code.now + size (form_at c.args.core.now.forms (plan c).form) ≤ most_instructions
+-- the instructions of the form are within the limit
+room : (c : In-Form) → length c.args.code.now + size (form_at c.args.core.now.forms (plan c).form) ≤ max_instructions
 room c =
     let forms = c.args.core.now.forms in
     let code = c.args.code.now in
     let number = c.in-Form.number in
-    let left : length (after forms code (Form number)) ≤ most_instructions = subst (λ (t : Task). length (after forms code t) ≤ most_instructions) c.in-Form.is c.requires.room in
+    let left : length (after forms code (Form number)) ≤ max_instructions = subst (λ (t : Task). length (after forms code t) ≤ max_instructions) c.in-Form.is c.requires.room in
     omega (arith, left, length-after forms code number, size-same (form_at forms (plan c).form) (form_at forms number) (planned c).same)
 
 pub overflow_cast-len : goal.overflow_cast-len

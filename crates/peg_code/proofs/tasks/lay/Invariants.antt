@@ -3,13 +3,13 @@ use Rattle.peg_code.specs.Tasks.{after, after_all, TaskFits, weight_of_all}
 use Rattle.peg_code.specs.declared.tasks.Task.TheVariants.{Form}
 use Rattle.peg_code.proofs.tasks.lay.Given as goal
 
--- what stands, followed by the code of the tasks, is what was there and the form's code
+-- the emitted code and that of the pending tasks make the old code and that of the form
 abbrev pub invariant-lays : goal.invariant-lays
 invariant-lays l = record {
   laid : after_all l.core.forms l.code l.tasks.items ≡ after l.core.forms l.fn.code (Form l.fn.number);
   fit : All (TaskFits (length l.core.forms)) l.tasks.items;
 }
 
--- so there are no more turns than three an instruction, and one
+-- so there are at most three iterations for each instruction, and one more
 abbrev pub decreases-lays : goal.decreases-lays
 decreases-lays l = weight_of_all l.core.forms l.tasks.items

@@ -1,12 +1,12 @@
 use Rattle.std.proofs.Common.{◌+◌, ◌-◌, ◌≤◌, [], length, take}
 use Rattle.peg_core.specs.CoreForm.{tests_of}
 use Rattle.peg_core.specs.Laid.{LaysAll}
-use Rattle.peg_core.specs.Layout.{most_forms}
+use Rattle.peg_core.specs.Layout.{max_forms}
 use Rattle.peg_core.proofs.nest.add_tests.Given as goal
 
--- the tests of the bytes so far were put there
+-- the tests of the bytes so far were appended
 abbrev pub invariant-loop-byte : goal.invariant-loop-byte
 invariant-loop-byte l = record {
-  room : length l.flat.forms + (length l.bytes - l.byte-index) ≤ most_forms;
+  room : length l.flat.forms + (length l.bytes - l.byte-index) ≤ max_forms;
   so_far : LaysAll l.fn.flat (tests_of l.terminal (take l.byte-index l.bytes)) [] (tests_of l.terminal (take l.byte-index l.bytes)) l.numbers.items l.flat;
 }

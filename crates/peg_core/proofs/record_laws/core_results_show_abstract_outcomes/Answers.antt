@@ -1,5 +1,5 @@
 use Rattle.std.proofs.Common.{refl}
-use Rattle.peg_ford.specs.Record.{Failed, Matched}
+use Rattle.peg_semantics.specs.Record.{Failed, Matched}
 use Rattle.peg_core.proofs.CoreShown.{core_result-shows}
 use Rattle.peg_core.proofs.record_laws.core_results_show_abstract_outcomes.Goals as goal
 

@@ -1,11 +1,11 @@
 use Rattle.std.proofs.Common.{◌+◌, ◌-◌, ◌*◌, ◌≤◌, length}
-use Rattle.peg_core.specs.Layout.{most_forms}
+use Rattle.peg_core.specs.Layout.{max_forms}
 use Rattle.peg_core.proofs.CountLemmas.{LaysRounds, needed}
 use Rattle.peg_core.proofs.signs.add_count.Given as goal
 
--- the innermost rounds so far were put there, and the others have room
+-- the innermost iterations so far were appended, and the others are within the limit
 abbrev pub invariant-loop-done : goal.invariant-loop-done
 invariant-loop-done l = record {
-  room : length l.flat.forms + 2 * (l.max - l.done) ≤ most_forms;
+  room : length l.flat.forms + 2 * (l.max - l.done) ≤ max_forms;
   so_far : LaysRounds l.fn.flat l.part (needed l.min l.max l.done) l.done l.rest l.flat;
 }

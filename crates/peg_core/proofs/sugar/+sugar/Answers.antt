@@ -1,8 +1,8 @@
 use Rattle.std.proofs.Common.{rules as search_rules, ◌≡◌, ℕ, ◌+◌, ◌<◌, ◌≤◌, List, [], ◌∷◌, length, map, get_or, drop, IfOk, true, sym, ap, ◌∙◌, subst, arith}
 use denote.Param.Weighed.{most, at_most}
 use Rattle.peg_bytes.specs.Extent.{extent}
-use Rattle.peg_ford.specs.Form as form
-use Rattle.peg_ford.specs.Form.{Form, Count, End, Then, forms, counts_written, counts_written_by_all, form_weight, forms_weight, names_used, names_used_by_all}
+use Rattle.peg_semantics.specs.Form as form
+use Rattle.peg_semantics.specs.Form.{Form, Count, End, Then, forms, counts_written, counts_written_by_all, form_weight, forms_weight, names_used, names_used_by_all}
 use Rattle.peg_grammar.specs.GrammarRules.{rules_in}
 use Rattle.peg_grammar.specs.Written.{form_of}
 use Rattle.peg_grammar.specs.declared.expr.Expr.{Expr}
@@ -18,7 +18,7 @@ use Rattle.peg_core.proofs.AddLemmas.{SoFar, SoFar-more, LaysForm-room, LaysForm
 use Rattle.peg_core.proofs.LaidLemmas.{if_ok}
 use Rattle.peg_core.proofs.sugar.+sugar.Goals as goal
 
--- ---- signs
+-- ---- operators
 
 pub add-add_optional-requires-clause-room : goal.add-add_optional-requires-clause-room
 add-add_optional-requires-clause-room t c =
@@ -243,7 +243,7 @@ add-returns-in_ok-others-in-Choice t c =
 
 -- ---- items one after the other
 
--- an item is no deeper than the deepest
+-- an item is no deeper than the deepest one
 no_deeper : (items : List Expr) (i : ℕ) (item : Expr) → i < length items → item ≡ get_or items i item
     → the_size item ≤ most the_size items
 no_deeper items i item h e = subst (λ x. the_size x ≤ most the_size items) (sym e) (at_most the_size items i item h)

@@ -4,17 +4,17 @@ use Rattle.std.proofs.lemmas.List.{drop_all, length-map}
 use Rattle.std.proofs.Math.Logic.{∥∥₁_elim}
 use mathlib.Core.Bool.{Bool-set}
 use Rattle.std.proofs.lemmas.List.Sums.{sum_by-cons}
-use Rattle.peg_ford.specs.Form.{counts_written, form_weight, names_used}
+use Rattle.peg_semantics.specs.Form.{counts_written, form_weight, names_used}
 use Rattle.peg_grammar.specs.GrammarRules.{rules_in}
-use Rattle.peg_ford.specs.Loops.{MeetsFirst, IsEmptyLoop, IsLeftCycle}
-use Rattle.peg_ford.specs.Rules.{Rule, counts, uses}
+use Rattle.peg_semantics.specs.Loops.{MeetsFirst, IsEmptyLoop, IsLeftCycle}
+use Rattle.peg_semantics.specs.Rules.{Rule, counts, uses}
 use Rattle.peg_grammar.specs.Written.{form_of}
 use Rattle.peg_core.specs.CoreForm.{core_form, core_bodies, core_bodies_from}
 use Rattle.peg_core.specs.CoreLoops.{StandsInBody, CoreMeetsFirst, IsCoreEmptyLoop, IsCoreLeftCycle}
 use Rattle.peg_core.specs.CoreOutcomes.{IsCoreWellFormed}
 use Rattle.peg_core.specs.CoreParts.{are_defined, are_in_range, all_core_parts, core_parts_from}
 use Rattle.peg_core.specs.Subexpressions.{Numbered, numbered_subexpressions, is_star}
-use Rattle.peg_ford.specs.WellFormed.{IsWellFormedGrammar}
+use Rattle.peg_semantics.specs.WellFormed.{IsWellFormedGrammar}
 use Rattle.peg_core.specs.Laid.{LaysForm}
 use Rattle.peg_core.specs.Layout.{Layout, Desugared, form_at}
 use Rattle.peg_core.proofs.AddLemmas.{LaysForm-room, LaysForm-few, are_defined-left, are_defined-right, are_in_range-left, are_in_range-right}
@@ -101,7 +101,7 @@ loop-rule-preserved c =
       so_far = subst (λ l. RulesSoFar rules rest l new) (sym c.in_ok-push.ensures.items) (RulesSoFar-more rules step.0 rest bodies now new body so_far lays);
     }
 
--- each form stands in a rule's body
+-- each form is part of a rule's body
 pub new-requires-clause-owned : goal.new-requires-clause-owned
 new-requires-clause-owned c =
     let rules = rules_in c.args.grammar.now in
@@ -122,15 +122,15 @@ returns-clause-few c =
     let ranged = ∥∥₁_elim c.args.grammar.now.grammar (Bool-set _ _) (grammar-ranged rules) in
     omega (arith, ap (λ (d : Desugared). length d.forms) c.new.ensures, ap length c.loop-rule.invariant.so_far.forms, length-append flat.forms rest, length-all_core_parts rules ranged)
 
--- ---- what stands among the core forms
+-- ---- the core forms
 
--- all rules are done
+-- no rule is left
 no_rule_left : (c : After-new) → drop c.loop-rule.rule (rules_in c.args.grammar.now) ≡ []
 no_rule_left c =
     drop_all c.loop-rule.rule (rules_in c.args.grammar.now)
     (omega (arith, c.loop-rule-test.false, c.rules-rule-end.ensures.count))
 
--- they are those of the grammar
+-- they are the core forms of the grammar
 are_parts : (c : After-new) → c.new.result.forms ≡ all_core_parts (rules_in c.args.grammar.now)
 are_parts c =
     let rules = rules_in c.args.grammar.now in
@@ -156,7 +156,7 @@ returns-clause-well_formed c =
     subst (λ forms. IsWellFormedGrammar rules ↔ All (IsCoreWellFormed (core_bodies rules)) forms) (sym (are_parts c))
     (grammar-right rules, grammar-fine rules)
 
--- ---- what rules meet first, and loops
+-- ---- left calls and loops
 
 -- the bodies are those of the grammar
 are_bodies : (c : After-new)

@@ -1,17 +1,17 @@
 use Rattle.std.proofs.Common.{◌≡◌, ◌+◌, ◌*◌, ◌≤◌, true, length, drop}
-use Rattle.peg_ford.specs.Grammar.{most_parts}
+use Rattle.peg_semantics.specs.Grammar.{max_parts}
 use Rattle.peg_grammar.specs.GrammarRules.{rules_in}
-use Rattle.peg_ford.specs.Rules.{counts, uses}
+use Rattle.peg_semantics.specs.Rules.{counts, uses}
 use Rattle.peg_core.specs.CoreParts.{are_defined, are_in_range}
-use Rattle.peg_core.specs.Layout.{most_forms, most_forms_each}
+use Rattle.peg_core.specs.Layout.{max_forms, max_forms_each}
 use Rattle.peg_core.proofs.RuleLemmas.{body_weights, RulesSoFar}
 use Rattle.peg_core.proofs.sugar.desugar.Given as goal
 
--- the forms of the rules so far were put there, and those that are left have room
+-- the forms of the rules so far were appended, and those of the others are within the limit
 abbrev pub invariant-loop-rule : goal.invariant-loop-rule
 invariant-loop-rule l = record {
-  room : length l.flat.forms + most_forms_each * body_weights (drop l.rule (rules_in l.grammar)) ≤ most_forms;
-  few : length l.flat.spans + body_weights (drop l.rule (rules_in l.grammar)) ≤ most_parts;
+  room : length l.flat.forms + max_forms_each * body_weights (drop l.rule (rules_in l.grammar)) ≤ max_forms;
+  few : length l.flat.spans + body_weights (drop l.rule (rules_in l.grammar)) ≤ max_parts;
   rules : l.flat.rules ≡ length (rules_in l.grammar);
   counted : length l.bodies.items ≡ l.rule;
   defined : are_defined (rules_in l.grammar) (uses (drop l.rule (rules_in l.grammar))) ≡ true;

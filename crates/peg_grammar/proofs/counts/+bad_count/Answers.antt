@@ -3,7 +3,7 @@ use Rattle.std.specs.declared.alloc.Global.{Global}
 use Rattle.std.specs.declared.boxed.Box.{Box}
 use Rattle.std.specs.declared.vec.Vec.{Vec}
 use Rattle.peg_bytes.specs.declared.span.Span.{Span}
-use Rattle.peg_ford.specs.Form.{forms, counts_written, counts_written_by_all}
+use Rattle.peg_semantics.specs.Form.{forms, counts_written, counts_written_by_all}
 use Rattle.peg_grammar.specs.Counts.{count_of}
 use Rattle.peg_grammar.specs.Written.{form_of}
 use Rattle.peg_grammar.specs.declared.expr.Expr.{Expr}
@@ -27,7 +27,7 @@ bad_count_among-loop-item-preserved t c =
     c.item-item.result c.loop-item-test.true c.item-item.is c.loop-item.invariant
     c.in_default.ensures
 
--- where the counts of a choice are sought
+-- the search for counts in a choice
 sought : (expression : Expr) (first : Box Expr Global) (rest : Vec Expr Global) (span : Span)
     → expression ≡ Choice first rest span
     → find is_bad (counts_written (form_of expression))

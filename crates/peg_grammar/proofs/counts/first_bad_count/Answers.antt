@@ -1,6 +1,6 @@
 use Rattle.std.proofs.Common.{refl}
-use Rattle.peg_ford.specs.Form.{counts_written}
-use Rattle.peg_ford.specs.Rules.{counts}
+use Rattle.peg_semantics.specs.Form.{counts_written}
+use Rattle.peg_semantics.specs.Rules.{counts}
 use Rattle.peg_grammar.specs.Counts.{count_of}
 use Rattle.peg_grammar.specs.Written.{form_of, rules_of}
 use Rattle.peg_grammar.proofs.BadCounts.{is_bad}

@@ -1,7 +1,7 @@
 use Rattle.std.proofs.Common.{◌<◌, All, get_or, le_refl, nat_cmp, subst, refl, sym, ◌∙◌, Ok, Err}
 use Rattle.std.specs.List.Sorted.{IsStrictlyIncreasing, IsBinarySearchResult}
 use Rattle.std.proofs.lemmas.List.Sorted.{searched}
-use Rattle.peg_ford.proofs.Ascending.{IsStrictlyIncreasing-insert, increasing-rises, increasing-below, insert_ascending-there, insert_ascending-between, insert_ascending-last}
+use Rattle.peg_semantics.proofs.Ascending.{IsStrictlyIncreasing-insert, increasing-rises, increasing-below, insert_ascending-there, insert_ascending-between, insert_ascending-last}
 use Rattle.peg_grammar.proofs.found.insert_ascending.Goals as goal
 
 pub returns-then-is_above_all-clause-inserted : goal.returns-then-is_above_all-clause-inserted

@@ -1,9 +1,9 @@
 use Rattle.std.proofs.Common.{◌<◌, ℕ, ◌-◌, ◌≤◌, length, arith, get_or, subst, sym}
 use Rattle.std.proofs.lemmas.Bool.Decides.{nat_tests}
-use Rattle.peg_ford.proofs.Ascending.{increasing-rises}
+use Rattle.peg_semantics.proofs.Ascending.{increasing-rises}
 use Rattle.peg_grammar.proofs.found.is_above_all.Goals as goal
 
--- the last one is the greatest
+-- the last number is the greatest
 pub returns-in-Some : goal.returns-in-Some
 returns-in-Some c =
     let xs = c.args.numbers.now in

@@ -6,8 +6,8 @@ use Rattle.peg_bytes.specs.declared.span.Span.{Span}
 use Rattle.peg_grammar.specs.declared.expr.Expr.{Expr}
 use Rattle.peg_grammar.specs.declared.expr.Expr.TheViews.{Choice}
 use Rattle.peg_grammar.proofs.WrittenForms.{form_of-Choice}
-use Rattle.peg_ford.specs.Form.{forms, names_used, names_used_by_all}
-use Rattle.peg_ford.specs.Grammar.{is_unknown}
+use Rattle.peg_semantics.specs.Form.{forms, names_used, names_used_by_all}
+use Rattle.peg_semantics.specs.Grammar.{is_unknown}
 use Rattle.peg_grammar.specs.Names.{names_in, reference_of}
 use Rattle.peg_grammar.specs.Written.{form_of}
 use Rattle.peg_grammar.proofs.NameLists.{find_front, find_rest, found_here, found_later}
@@ -27,7 +27,7 @@ unknown_among-loop-item-preserved t c =
     c.item-item.result c.loop-item-test.true c.item-item.is c.loop-item.invariant
     c.in_default.ensures
 
--- where the names of a choice are sought
+-- the search for names in a choice
 sought : (names : List (List ℕ)) (expression : Expr) (first : Box Expr Global) (rest : Vec Expr Global) (span : Span)
     → expression ≡ Choice first rest span
     → find (is_unknown names) (names_used (form_of expression))

@@ -1,13 +1,13 @@
 use Rattle.std.proofs.Common.{◌≡◌, ◌≢◌, ◌==◌, Bool, false, List, [], ◌∷◌, length, find, sym, ap, ◌∙◌}
 use Rattle.std.proofs.lemmas.Bool.{true≢false}
-use Rattle.peg_ford.specs.Grammar.{is_unknown}
-use Rattle.peg_ford.specs.Rules.{uses}
+use Rattle.peg_semantics.specs.Grammar.{is_unknown}
+use Rattle.peg_semantics.specs.Rules.{uses}
 use Rattle.peg_grammar.specs.Written.{rules_of}
 use Rattle.peg_grammar.specs.declared.expr.Definition.{Definition}
-use Rattle.peg_ford.proofs.GrammarLemmas.{IsGrammar-from_searches}
+use Rattle.peg_semantics.proofs.GrammarLemmas.{IsGrammar-from_searches}
 use Rattle.peg_grammar.proofs.names.checked_names.Goals as goal
 
--- definitions that are not empty stand for some rule
+-- a nonempty list of definitions represents at least one rule
 some_rule : (definitions : List Definition) (empty : Bool) → empty ≡ (length definitions == 0)
     → empty ≡ false → rules_of definitions ≢ []
 some_rule [] empty is some none = true≢false (sym is ∙ some)

@@ -1,8 +1,8 @@
 use Rattle.std.proofs.Common.{refl}
-use Rattle.peg_ford.specs.Form.{names_used}
-use Rattle.peg_ford.specs.Grammar.{is_unknown}
+use Rattle.peg_semantics.specs.Form.{names_used}
+use Rattle.peg_semantics.specs.Grammar.{is_unknown}
 use Rattle.peg_grammar.specs.Names.{names_in, reference_of}
-use Rattle.peg_ford.specs.Rules.{uses}
+use Rattle.peg_semantics.specs.Rules.{uses}
 use Rattle.peg_grammar.specs.Written.{form_of, rules_of}
 use Rattle.peg_grammar.proofs.NameLists.{found_here, found_later}
 use Rattle.peg_grammar.proofs.names.first_unknown.Goals as goal

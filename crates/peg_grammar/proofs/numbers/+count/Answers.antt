@@ -1,18 +1,18 @@
 use Rattle.std.proofs.Common.{◌≡◌, ℕ, ◌+◌, ◌<◌, ◌≤◌, List, map, length, get_or, drop, sym, ap, subst, arith}
 use denote.Param.Weighed.{most, at_most}
-use Rattle.peg_ford.specs.Form.{forms, terminals, terminals_of_all}
+use Rattle.peg_semantics.specs.Form.{forms, terminals, terminals_of_all}
 use Rattle.peg_grammar.specs.Written.{form_of}
 use Rattle.peg_grammar.specs.declared.expr.Expr.{Expr}
 use Rattle.peg_grammar.proofs.LoopLemmas.{forms-drop}
 use Rattle.peg_grammar.proofs.expr.Expr.TheLaws.{the_size}
 use Rattle.peg_grammar.proofs.numbers.+count.Goals as goal
 
--- an item is no deeper than the deepest
+-- an item is no deeper than the deepest item
 no_deeper : (items : List Expr) (i : ℕ) (item : Expr) → i < length items → item ≡ get_or items i item
     → the_size item ≤ most the_size items
 no_deeper items i item h e = subst (λ x. the_size x ≤ most the_size items) (sym e) (at_most the_size items i item h)
 
--- the terminals of the items from one on are those of it and of the items after it
+-- the terminals from index i on are those of that item and of the items after it
 terminals-drop : (items : List Expr) (i : ℕ) (item : Expr) → i < length items → item ≡ get_or items i item
     → terminals_of_all (forms (drop i (map form_of items)))
     ≡ terminals (form_of item) + terminals_of_all (forms (drop (i + 1) (map form_of items)))

@@ -1,5 +1,5 @@
 use Rattle.std.proofs.Common.{◌≡◌, ◌+◌, map, drop}
-use Rattle.peg_ford.specs.Form.{forms, terminals_of_all}
+use Rattle.peg_semantics.specs.Form.{forms, terminals_of_all}
 use Rattle.peg_grammar.specs.Written.{form_of}
 use Rattle.peg_grammar.proofs.numbers.+count.Given as goal
 

@@ -1,13 +1,13 @@
 use Rattle.std.proofs.Common.{◌≡◌, ℕ, zero, suc, ◌+◌, ◌<◌, List, [], ◌∷◌, ◌++◌, length, get_or, drop, sym, ap, ◌∙◌, suc-add, append_assoc, arith}
 use Rattle.std.proofs.lemmas.List.Sums.{sum_by-cons}
-use Rattle.peg_ford.specs.Form.{terminals}
-use Rattle.peg_ford.specs.Numbers.{first_from, terminals_of}
-use Rattle.peg_ford.specs.Rules.{Rule}
+use Rattle.peg_semantics.specs.Form.{terminals}
+use Rattle.peg_semantics.specs.Numbers.{first_from, terminals_of}
+use Rattle.peg_semantics.specs.Rules.{Rule}
 use Rattle.peg_grammar.specs.Written.{form_of, rule_of, rules_of}
 use Rattle.peg_grammar.specs.declared.expr.Definition.{Definition}
 use Rattle.peg_grammar.proofs.numbers.first_terminals.Goals as goal
 
--- the rules from one on are that one and those after it
+-- the rules from index i on are that rule and those after it
 rules_of-drop : (ds : List Definition) (i : ℕ) (d : Definition) → i < length ds → d ≡ get_or ds i d
     → drop i (rules_of ds) ≡ rule_of d ∷ drop (i + 1) (rules_of ds)
 rules_of-drop [] i d h e = absurd (omega arith)
@@ -18,13 +18,13 @@ module _ (ds : List Definition) (i : ℕ) (d : Definition) (within : i < length 
   abbrev later : List Rule
   later = drop (i + 1) (rules_of ds)
 
-  -- the terminals of the rules from one on are its terminals and those of the rules after it
+  -- the terminals from index i on are those of that rule and of the rules after it
   terminals_of-drop : terminals_of (drop i (rules_of ds)) ≡ terminals (form_of d.body) + terminals_of later
   terminals_of-drop =
       ap terminals_of (rules_of-drop ds i d within there)
       ∙ sum_by-cons (λ (rule : Rule). terminals rule.body) (rule_of d) later
 
-  -- one more number, and those of the rules after it
+  -- one more number, and the numbers of the rules after it
   numbered-next : (numbers more : List ℕ) (next count : ℕ) → count ≡ terminals (form_of d.body)
       → more ≡ numbers ++ next ∷ [] → more ++ first_from (next + count) later ≡ numbers ++ first_from next (drop i (rules_of ds))
   numbered-next numbers more next count counts pushed =

@@ -1,5 +1,5 @@
 use Rattle.std.proofs.Common.{◌≡◌, ◌+◌, ◌++◌, drop}
-use Rattle.peg_ford.specs.Numbers.{first_from, terminals_of}
+use Rattle.peg_semantics.specs.Numbers.{first_from, terminals_of}
 use Rattle.peg_grammar.specs.Written.{rules_of}
 use Rattle.peg_grammar.proofs.numbers.first_terminals.Given as goal
 

@@ -2,12 +2,12 @@ use Rattle.std.proofs.Common.{map, ap, subst, Ok, arith}
 use Rattle.peg_tree.specs.Rows.{row_of}
 use Rattle.peg_grammar.specs.Found.{seen_in}
 use Rattle.peg_grammar.specs.GrammarRules.{rules_in}
-use Rattle.peg_ford.specs.Numbers.{terminals_of}
-use Rattle.peg_ford.specs.Record.{start_record}
-use Rattle.peg_ford.specs.Rules.{name_of}
+use Rattle.peg_semantics.specs.Numbers.{terminals_of}
+use Rattle.peg_semantics.specs.Record.{start_record}
+use Rattle.peg_semantics.specs.Rules.{name_of}
 use Rattle.peg_grammar.specs.Seen.{Evaluates}
 use Rattle.peg_grammar.proofs.OutcomeLemmas.{start-leaves, start-parsed, start-furthest}
-use Rattle.peg_ford.proofs.RulesLemmas.{terminals_of-weight}
+use Rattle.peg_semantics.proofs.RulesLemmas.{terminals_of-weight}
 use Rattle.peg_grammar.proofs.SeenLemmas.{seen}
 use Rattle.peg_grammar.proofs.plain.plain_match.Goals as goal
 

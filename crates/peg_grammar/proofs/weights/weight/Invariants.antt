@@ -1,9 +1,9 @@
 use Rattle.std.proofs.Common.{◌≡◌, ◌+◌, ◌-◌, ◌^◌, ◌≤◌, drop, min}
-use Rattle.peg_ford.specs.Rules.{weight_of}
+use Rattle.peg_semantics.specs.Rules.{weight_of}
 use Rattle.peg_grammar.specs.Written.{rules_of}
 use Rattle.peg_grammar.proofs.weights.weight.Given as goal
 
--- what the definitions so far weigh, with those that are left, is what all weigh
+-- the weight of the definitions so far and that of the remaining ones are the weight of all
 abbrev pub invariant-loop-definition : goal.invariant-loop-definition
 invariant-loop-definition l =
     (min (l.all + weight_of (rules_of (drop l.definition-index l.definitions))) (2 ^ 64 - 1)

@@ -1,17 +1,17 @@
 use Rattle.std.proofs.Common.{◌≡◌, ◌∙◌, true, false, List, [], ◌∷◌, sym, ap, subst, refl, codes}
 use Rattle.std.proofs.lemmas.Result.{IfOk-weaker}
 use Rattle.peg_bytes.specs.Extent.{between}
-use Rattle.peg_ford.specs.Form.{Form, Literal, Any, Seq, Plus, Not, Then, End}
+use Rattle.peg_semantics.specs.Form.{Form, Literal, Any, Seq, Plus, Not, Then, End}
 use Rattle.peg_grammar.specs.GrammarRules.{rules_in}
-use Rattle.peg_ford.specs.Rules.{Rule}
-use Rattle.peg_ford.specs.WellFormed.{IsWellFormedGrammar}
+use Rattle.peg_semantics.specs.Rules.{Rule}
+use Rattle.peg_semantics.specs.WellFormed.{IsWellFormedGrammar}
 use Rattle.peg_grammar.specs.Written.{form_of}
 use Rattle.peg_grammar.specs.declared.grammar.Grammar.{Grammar}
-use Rattle.peg_ford.proofs.GrammarLemmas.{IsGrammar-from_searches}
-use Rattle.peg_ford.proofs.RankedTables.{Told, IsWellFormedGrammar-shown}
+use Rattle.peg_semantics.proofs.GrammarLemmas.{IsGrammar-from_searches}
+use Rattle.peg_semantics.proofs.RankedTables.{Told, IsWellFormedGrammar-shown}
 use Rattle.peg_grammar_tests.proofs.total.run_grammar.Goals as goal
 
--- its rule takes a byte or fails, and meets no rule first
+-- the rule consumes or fails, and has no left calls
 abbrev told : List Told
 told = record { can = record { nothing = false; something = true; fails = true }; rank = 0 } ∷ []
 

@@ -1,4 +1,4 @@
--- No separator stands before the place.
+-- No separator starts before the current offset.
 use Rattle.peg_io.specs.Split.{NoneBefore}
 use Rattle.peg_io.proofs.separator.find_separator.Given as goal
 

@@ -1,4 +1,4 @@
--- What is held is what was consumed, it is no more than allowed, and no read has failed.
+-- The bytes read so far are those consumed, they are within the limit, and no read has failed.
 use Rattle.std.proofs.Common.{◌≡◌, ◌<◌, ◌≤◌, ◌-◌, false, vec_len, length}
 use Rattle.std.specs.Io.KnownBytes.{Consumes}
 use Rattle.peg_io.proofs.transfer.read_up_to.Given as goal

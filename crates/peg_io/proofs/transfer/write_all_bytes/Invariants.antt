@@ -1,4 +1,4 @@
--- The bytes before `at` are written, and no write has failed.
+-- The bytes before `at` have been written, and no write has failed.
 use Rattle.std.proofs.Common.{length, ◌-◌, ◌≡◌, ◌≤◌, false, take}
 use Rattle.std.specs.Io.KnownBytes.{Appends}
 use Rattle.peg_io.proofs.transfer.write_all_bytes.Given as goal

@@ -1,6 +1,6 @@
 use Rattle.std.proofs.Common.{ℕ, drop, ◌+◌, Some, false, true, [], ◌∷◌, option_map, sym, ap, ◌∙◌, arith}
 use Rattle.peg_lexer.specs.LexicalCode.{count_seen}
-use Rattle.peg_figure.specs.Spelled.{bounds}
+use Rattle.peg_metagrammar.specs.Spelled.{bounds}
 use Rattle.peg_lexer.proofs.CountTexts.{number-from, second-from, brace-from, seen_count, count-closed, count-empty, count-none, count-some, behind-two, behind-one, behind-unclosed, behind-none}
 use Rattle.peg_lexer.proofs.counts.count_at.Goals.{in-Some, in-None}
 use Rattle.peg_lexer.proofs.counts.count_at.Goals as goal

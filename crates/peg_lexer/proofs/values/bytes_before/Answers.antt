@@ -1,7 +1,7 @@
 use Rattle.std.proofs.Common.{◌+◌, option_map, refl, sym, ap, ◌∙◌, subst}
 use Rattle.peg_lexer.specs.Lexical.{quoted_char}
 use Rattle.peg_lexer.specs.LexicalCode.{char_piece}
-use Rattle.peg_figure.specs.Spelled.{bytes_in}
+use Rattle.peg_metagrammar.specs.Spelled.{bytes_in}
 use Rattle.peg_lexer.proofs.TokenValues.{Spelled, bytes-one, spelled-all}
 use Rattle.peg_lexer.proofs.values.bytes_before.Goals as goal
 

@@ -1,6 +1,6 @@
 use Rattle.std.proofs.Common.{◌-◌, length}
 use Rattle.peg_lexer.specs.Lexical.{quoted_char}
-use Rattle.peg_figure.specs.Spelled.{bytes_in}
+use Rattle.peg_metagrammar.specs.Spelled.{bytes_in}
 use Rattle.peg_lexer.proofs.TokenValues.{Spelled}
 use Rattle.peg_lexer.proofs.values.bytes_before.Given as goal
 

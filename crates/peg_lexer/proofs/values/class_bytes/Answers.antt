@@ -1,6 +1,6 @@
 use Rattle.std.proofs.Common.{map, ap, ◌∙◌}
-use Rattle.peg_figure.specs.Ranges.{class_of}
-use Rattle.peg_figure.specs.RangesCode.{range_of}
+use Rattle.peg_metagrammar.specs.Ranges.{class_of}
+use Rattle.peg_metagrammar.specs.RangesCode.{range_of}
 use Rattle.peg_lexer.proofs.TokenValues.{no_class, class-text}
 use Rattle.peg_lexer.proofs.values.class_bytes.Goals as goal
 

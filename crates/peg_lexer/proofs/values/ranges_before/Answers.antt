@@ -2,8 +2,8 @@ use Rattle.std.proofs.Common.{◌+◌, map, option_map, refl, sym, ap, ◌∙◌
 use Rattle.std.proofs.lemmas.List.{map_push}
 use Rattle.peg_lexer.specs.Lexical.{classed_range}
 use Rattle.peg_lexer.specs.LexicalCode.{item_piece}
-use Rattle.peg_figure.specs.RangesCode.{range_of}
-use Rattle.peg_figure.specs.Spelled.{ranges_in}
+use Rattle.peg_metagrammar.specs.RangesCode.{range_of}
+use Rattle.peg_metagrammar.specs.Spelled.{ranges_in}
 use Rattle.peg_lexer.proofs.TokenValues.{Spelled, ranges-one, spelled-all}
 use Rattle.peg_lexer.proofs.values.ranges_before.Goals as goal
 

@@ -1,7 +1,7 @@
 use Rattle.std.proofs.Common.{◌-◌, length, map}
 use Rattle.peg_lexer.specs.Lexical.{classed_range}
-use Rattle.peg_figure.specs.RangesCode.{range_of}
-use Rattle.peg_figure.specs.Spelled.{ranges_in}
+use Rattle.peg_metagrammar.specs.RangesCode.{range_of}
+use Rattle.peg_metagrammar.specs.Spelled.{ranges_in}
 use Rattle.peg_lexer.proofs.TokenValues.{Spelled}
 use Rattle.peg_lexer.proofs.values.ranges_before.Given as goal
 

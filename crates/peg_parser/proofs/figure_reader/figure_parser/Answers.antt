@@ -1,7 +1,7 @@
 use Rattle.std.proofs.Common.{◌≤◌, ◌∙◌, sym, subst, arith, ap}
-use Rattle.peg_code.specs.Compiled.{most_instructions}
-use Rattle.peg_figure.proofs.FigureWellFormed.{figure-well_formed}
-use Rattle.peg_ford.specs.WellFormed.{IsWellFormedGrammar}
+use Rattle.peg_code.specs.Compiled.{max_instructions}
+use Rattle.peg_metagrammar.proofs.FigureWellFormed.{figure-well_formed}
+use Rattle.peg_semantics.specs.WellFormed.{IsWellFormedGrammar}
 use Rattle.peg_grammar.specs.Refusal.{Refuses}
 use Rattle.peg_parser.specs.Accepts.{code_size}
 use Rattle.peg_parser.specs.Faults.{of_grammar}
@@ -19,4 +19,4 @@ pub returns-clause-memory : goal.returns-clause-memory
 returns-clause-memory c =
     let same = c.in_ok-grammar.ensures.rules ∙ c.in_ok-definitions.ensures in
     c.of.ensures.refused_where (subst IsWellFormedGrammar (sym same) figure-well_formed)
-    (subst (λ rules. code_size rules ≤ most_instructions) (sym same) (subst (λ n. n ≤ most_instructions) (sym figure-size) (omega arith)))
+    (subst (λ rules. code_size rules ≤ max_instructions) (sym same) (subst (λ n. n ≤ max_instructions) (sym figure-size) (omega arith)))

@@ -1,6 +1,6 @@
 use Rattle.std.proofs.Common.{◌≡◌, map, take}
 use Rattle.peg_grammar.specs.GrammarRules.{rules_in}
-use Rattle.peg_ford.specs.Rules.{names}
+use Rattle.peg_semantics.specs.Rules.{names}
 use Rattle.peg_parser.proofs.refusal.names_of.Given as goal
 
 -- the names so far

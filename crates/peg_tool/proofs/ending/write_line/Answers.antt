@@ -1,7 +1,7 @@
 use Rattle.std.proofs.Common.{◌≡◌, ◌∷◌, [], subst}
 use Rattle.std.proofs.lemmas.Result.{on_err_weaker}
 use Rattle.std.specs.Io.KnownBytes.{Appends}
-use Rattle.peg_reply.specs.Lines.{line_text, with_rows}
+use Rattle.peg_json.specs.Lines.{line_text, with_rows}
 use Rattle.peg_tool.proofs.WriteLemmas.{prefix-behind}
 use Rattle.peg_tool.proofs.ending.write_line.Goals as goal
 

@@ -3,7 +3,7 @@ use Rattle.std.specs.Io.KnownBytes.{Appends}
 use Rattle.peg_tree.specs.RowsLeft.{piece_of, text_left}
 use Rattle.peg_tool.proofs.ending.write_rows.Given as goal
 
--- what is written, the piece and what is left are the text
+-- the bytes written, the piece and the rest are the text
 abbrev pub invariant-pieces : goal.invariant-pieces
 invariant-pieces g l = record {
   done : List ℕ;

@@ -1,13 +1,13 @@
 use Rattle.std.proofs.Common.{None, false, subst, arith}
 use Rattle.std.proofs.lemmas.Result.{IfOk-weaker}
 use Rattle.peg_parser.specs.Parser.{parser_rules}
-use Rattle.peg_reply.specs.Statuses.{code_of}
-use Rattle.peg_reply.specs.declared.line.Line.{Line}
+use Rattle.peg_json.specs.Statuses.{code_of}
+use Rattle.peg_json.specs.declared.line.Line.{Line}
 use Rattle.peg_tool.specs.Judged.{Judges}
 use Rattle.peg_tool.specs.Replies.{IsPrintedJoined}
 use Rattle.peg_tool.proofs.RunLemmas.{split-shorter, parsed-printed}
 use Rattle.peg_tool.proofs.joined.line_for.Goals as goal
-use Rattle.peg_reply.specs.Lines.{line_bytes}
+use Rattle.peg_json.specs.Lines.{line_bytes}
 
 pub judge-requires : goal.judge-requires
 judge-requires c =

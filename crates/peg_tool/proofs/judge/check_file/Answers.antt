@@ -1,9 +1,9 @@
 use Rattle.std.proofs.Common.{ℕ, IfOk, length, subst, ap, ◌∙◌}
 use Rattle.peg_parser.specs.Parser.{parser_rules}
-use Rattle.peg_reply.specs.Lines.{IsReply, line_bytes}
-use Rattle.peg_reply.specs.Reply.{Accepted}
-use Rattle.peg_reply.specs.Statuses.{code_of}
-use Rattle.peg_reply.proofs.PrintLemmas.{reply-kind}
+use Rattle.peg_json.specs.Lines.{IsReply, line_bytes}
+use Rattle.peg_json.specs.Reply.{Accepted}
+use Rattle.peg_json.specs.Statuses.{code_of}
+use Rattle.peg_json.proofs.PrintLemmas.{reply-kind}
 use Rattle.peg_tool.specs.Judged.{Judges}
 use Rattle.peg_tool.specs.Replies.{RepliesTo, accepted}
 use Rattle.peg_tool.specs.Task.{CheckTask}

@@ -2,10 +2,10 @@ use Rattle.std.proofs.Common.{IfOk, subst}
 use Rattle.peg_code.specs.Code.{entries_of, program_code}
 use Rattle.peg_core.specs.CoreForm.{core_bodies}
 use Rattle.peg_parser.specs.Parser.{parser_rules}
-use Rattle.peg_reply.specs.Lines.{IsReply, line_bytes}
-use Rattle.peg_reply.specs.Reply.{Coded}
-use Rattle.peg_reply.specs.Statuses.{code_of}
-use Rattle.peg_reply.proofs.PrintLemmas.{reply-kind}
+use Rattle.peg_json.specs.Lines.{IsReply, line_bytes}
+use Rattle.peg_json.specs.Reply.{Coded}
+use Rattle.peg_json.specs.Statuses.{code_of}
+use Rattle.peg_json.proofs.PrintLemmas.{reply-kind}
 use Rattle.peg_tool.specs.Judged.{Judges}
 use Rattle.peg_tool.specs.Replies.{RepliesTo, coded}
 use Rattle.peg_tool.specs.Task.{CodeTask}

@@ -1,8 +1,8 @@
 use Rattle.peg_check.specs.Exact.{cans_of}
-use Rattle.peg_ford.specs.Rules.{names}
+use Rattle.peg_semantics.specs.Rules.{names}
 use Rattle.peg_grammar.specs.GrammarRules.{rules_in}
-use Rattle.peg_reply.specs.Reply.{Tabled}
-use Rattle.peg_reply.proofs.PrintLemmas.{reply-kind}
+use Rattle.peg_json.specs.Reply.{Tabled}
+use Rattle.peg_json.proofs.PrintLemmas.{reply-kind}
 use Rattle.peg_tool.specs.Replies.{RepliesTo, tabled}
 use Rattle.peg_tool.specs.Task.{TableTask}
 use Rattle.peg_tool.proofs.judge.tabled.Goals as goal

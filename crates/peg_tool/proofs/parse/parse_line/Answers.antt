@@ -1,13 +1,13 @@
 use Rattle.std.proofs.Common.{◌≡◌, None, Ok, Err, ap, sym, ◌∙◌, length}
 use Rattle.peg_parser.specs.Cause.{StepLimit, TextTooLong}
 use Rattle.peg_parser.specs.Parser.{parser_rules, start_named}
-use Rattle.peg_ford.specs.Starts.{start_of}
+use Rattle.peg_semantics.specs.Starts.{start_of}
 use Rattle.peg_parser.specs.declared.parser.ParseFault.TheVariants.{NoSuchStart as NoStart}
-use Rattle.peg_reply.specs.Parses.{ParsesTo, PrintsOutcome, text_too_long, too_many_steps}
-use Rattle.peg_reply.specs.Reply.{Refused}
-use Rattle.peg_reply.proofs.ParseLemmas.{outcome-parses, start-given}
-use Rattle.peg_reply.proofs.PrintLemmas.{kind-weaker, reply-kind}
-use Rattle.peg_reply.specs.TreeForms.{is_rows}
+use Rattle.peg_json.specs.Parses.{ParsesTo, PrintsOutcome, text_too_long, too_many_steps}
+use Rattle.peg_json.specs.Reply.{Refused}
+use Rattle.peg_json.proofs.ParseLemmas.{outcome-parses, start-given}
+use Rattle.peg_json.proofs.PrintLemmas.{kind-weaker, reply-kind}
+use Rattle.peg_json.specs.TreeForms.{is_rows}
 use Rattle.peg_tool.proofs.ParsedLines.{no_start-line, long-text, short-text}
 use Rattle.peg_tool.proofs.parse.parse_line.Goals as goal
 

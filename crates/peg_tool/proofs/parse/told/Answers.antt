@@ -1,9 +1,9 @@
 use Rattle.std.proofs.Common.{IfOk, subst, sym}
 use Rattle.peg_parser.specs.Parser.{parser_rules}
-use Rattle.peg_reply.specs.Lines.{IsLineOf, line_bytes}
-use Rattle.peg_reply.specs.Parses.{PrintsOutcome}
-use Rattle.peg_reply.specs.Statuses.{code_of}
-use Rattle.peg_reply.specs.TreeForms.{is_rows}
+use Rattle.peg_json.specs.Lines.{IsLineOf, line_bytes}
+use Rattle.peg_json.specs.Parses.{PrintsOutcome}
+use Rattle.peg_json.specs.Statuses.{code_of}
+use Rattle.peg_json.specs.TreeForms.{is_rows}
 use Rattle.peg_tool.proofs.parse.told.Goals as goal
 
 pub returns-in-Rows : goal.returns-in-Rows

@@ -1,7 +1,7 @@
 use Rattle.std.proofs.Common.{string_bytes, subst, sym, option_map}
 use Rattle.peg_tool.specs.Leads.{Leads}
 use Rattle.peg_tool.proofs.ProgramLemmas.{parse-leads}
-use Rattle.peg_words.specs.declared.words.Words.{Words}
+use Rattle.peg_cli.specs.declared.words.Words.{Words}
 use Rattle.peg_tool.proofs.program.run_words.Goals as goal
 
 pub returns-in-Parse-clause-leads : goal.returns-in-Parse-clause-leads

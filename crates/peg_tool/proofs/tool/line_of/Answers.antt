@@ -1,17 +1,17 @@
 use Rattle.std.proofs.Common.{◌≡◌, ◌∙◌, Bool, ℕ, ◌+◌, ◌<◌, ◌≤◌, List, IfOk, length, subst, sym, ap, arith}
 use Rattle.std.specs.Io.KnownBytes.{IsAtEnd}
-use Rattle.peg_figure.specs.Notation.{most_file_bytes}
-use Rattle.peg_ford.specs.Rules.{Rule}
+use Rattle.peg_metagrammar.specs.Notation.{max_file_bytes}
+use Rattle.peg_semantics.specs.Rules.{Rule}
 use Rattle.peg_parser.specs.Accepts.{Accepts}
 use Rattle.peg_parser.specs.Parser.{start_named}
-use Rattle.peg_reply.specs.Statuses.{code_of}
-use Rattle.peg_reply.specs.TreeForms.{is_rows}
+use Rattle.peg_json.specs.Statuses.{code_of}
+use Rattle.peg_json.specs.TreeForms.{is_rows}
 use Rattle.peg_tool.specs.Commands.{task_of}
 use Rattle.peg_tool.specs.Replies.{IsPrinted}
 use Rattle.peg_tool.specs.Task.{Task, TableTask, CheckTask, CodeTask, ParseTask, IsTextOf}
 use Rattle.peg_tool.proofs.RunLemmas.{IsRightFor, line-held, told-held, held-unaccepted}
 use Rattle.peg_tool.proofs.tool.line_of.Goals as goal
-use Rattle.peg_reply.specs.Lines.{line_bytes}
+use Rattle.peg_json.specs.Lines.{line_bytes}
 
 pub returns-in-Table-clause-answer : goal.returns-in-Table-clause-answer
 returns-in-Table-clause-answer g c =
@@ -25,8 +25,8 @@ returns-in-Table-clause-answer g c =
     λ bytes any. subst (λ (t : Task). IsPrinted t held.items bytes line (code_of told.status)) is
     (subst (λ (l : List ℕ). IsPrinted TableTask l bytes line (code_of told.status)) c.deref.ensures.value
     (c.in_ok-table_file-in-Table.ensures bytes)) in
-    let within : length held.items ≤ most_file_bytes + 1 = omega (arith, held.ok.0, c.in_ok-file.ensures.most) in
-    let at_end : length held.items < most_file_bytes + 1 → IsAtEnd (g.G.Source.left c.read_up_to.new.input) =
+    let within : length held.items ≤ max_file_bytes + 1 = omega (arith, held.ok.0, c.in_ok-file.ensures.most) in
+    let at_end : length held.items < max_file_bytes + 1 → IsAtEnd (g.G.Source.left c.read_up_to.new.input) =
     λ less. c.in_ok-file.ensures.end (omega (arith, held.ok.0)) in
     line-held task text (g.G.Source.left c.args.grammar.now) (g.G.Source.left c.read_up_to.new.input) held.items line
     (code_of told.status) c.in_ok-file.ensures.bytes within at_end right
@@ -43,8 +43,8 @@ returns-in-Check-clause-answer g c =
     λ bytes any. subst (λ (t : Task). IsPrinted t held.items bytes line (code_of told.status)) is
     (subst (λ (l : List ℕ). IsPrinted CheckTask l bytes line (code_of told.status)) c.deref-in-Check.ensures.value
     (c.in_ok-check_file-in-Check.ensures bytes)) in
-    let within : length held.items ≤ most_file_bytes + 1 = omega (arith, held.ok.0, c.in_ok-file.ensures.most) in
-    let at_end : length held.items < most_file_bytes + 1 → IsAtEnd (g.G.Source.left c.read_up_to.new.input) =
+    let within : length held.items ≤ max_file_bytes + 1 = omega (arith, held.ok.0, c.in_ok-file.ensures.most) in
+    let at_end : length held.items < max_file_bytes + 1 → IsAtEnd (g.G.Source.left c.read_up_to.new.input) =
     λ less. c.in_ok-file.ensures.end (omega (arith, held.ok.0)) in
     line-held task text (g.G.Source.left c.args.grammar.now) (g.G.Source.left c.read_up_to.new.input) held.items line
     (code_of told.status) c.in_ok-file.ensures.bytes within at_end right
@@ -61,8 +61,8 @@ returns-in-Code-clause-answer g c =
     λ bytes any. subst (λ (t : Task). IsPrinted t held.items bytes line (code_of told.status)) is
     (subst (λ (l : List ℕ). IsPrinted CodeTask l bytes line (code_of told.status)) c.deref-in-Code.ensures.value
     (c.in_ok-code_file-in-Code.ensures bytes)) in
-    let within : length held.items ≤ most_file_bytes + 1 = omega (arith, held.ok.0, c.in_ok-file.ensures.most) in
-    let at_end : length held.items < most_file_bytes + 1 → IsAtEnd (g.G.Source.left c.read_up_to.new.input) =
+    let within : length held.items ≤ max_file_bytes + 1 = omega (arith, held.ok.0, c.in_ok-file.ensures.most) in
+    let at_end : length held.items < max_file_bytes + 1 → IsAtEnd (g.G.Source.left c.read_up_to.new.input) =
     λ less. c.in_ok-file.ensures.end (omega (arith, held.ok.0)) in
     line-held task text (g.G.Source.left c.args.grammar.now) (g.G.Source.left c.read_up_to.new.input) held.items line
     (code_of told.status) c.in_ok-file.ensures.bytes within at_end right
@@ -85,8 +85,8 @@ returns-clause-answer g c =
     (subst (λ (l : List ℕ). (bytes : List ℕ) → IsTextOf asked l text bytes
     → IfOk c.parsed.result (λ line. IsPrinted asked l bytes (line_bytes line) (code_of line.status)))
     c.deref-in-Parse.ensures.value c.parsed.ensures.answer) in
-    let within : length held.items ≤ most_file_bytes + 1 = omega (arith, held.ok.0, c.in_ok-file.ensures.most) in
-    let at_end : length held.items < most_file_bytes + 1 → IsAtEnd (g.G.Source.left c.read_up_to.new.input) =
+    let within : length held.items ≤ max_file_bytes + 1 = omega (arith, held.ok.0, c.in_ok-file.ensures.most) in
+    let at_end : length held.items < max_file_bytes + 1 → IsAtEnd (g.G.Source.left c.read_up_to.new.input) =
     λ less. c.in_ok-file.ensures.end (omega (arith, held.ok.0)) in
     told-held c.parsed.result task text (g.G.Source.left c.args.grammar.now) (g.G.Source.left c.read_up_to.new.input)
     held.items c.in_ok-file.ensures.bytes within at_end right
@@ -94,7 +94,7 @@ returns-clause-answer g c =
 pub returns-clause-refused : goal.returns-clause-refused
 returns-clause-refused g c =
     let held = c.in_ok-file.file in
-    let at_end : length held.items < most_file_bytes + 1 → IsAtEnd (g.G.Source.left c.read_up_to.new.input) =
+    let at_end : length held.items < max_file_bytes + 1 → IsAtEnd (g.G.Source.left c.read_up_to.new.input) =
     λ less. c.in_ok-file.ensures.end (omega (arith, held.ok.0)) in
     held-unaccepted (g.G.Source.left c.args.grammar.now) (g.G.Source.left c.read_up_to.new.input) held.items _
     c.in_ok-file.ensures.bytes at_end

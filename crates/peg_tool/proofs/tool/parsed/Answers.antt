@@ -1,6 +1,6 @@
 use Rattle.std.proofs.Common.{subst}
 use Rattle.peg_parser.specs.Parser.{parser_rules, start_named}
-use Rattle.peg_reply.specs.TreeForms.{is_rows}
+use Rattle.peg_json.specs.TreeForms.{is_rows}
 use Rattle.peg_tool.specs.Judged.{Judges}
 use Rattle.peg_tool.proofs.RunLemmas.{parsed-told}
 use Rattle.peg_tool.proofs.tool.parsed.Goals as goal

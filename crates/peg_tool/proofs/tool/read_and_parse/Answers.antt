@@ -1,14 +1,14 @@
 use Rattle.std.proofs.Common.{ℕ, ◌+◌, ◌<◌, ◌≤◌, List, length, subst, arith}
 use Rattle.std.specs.Io.KnownBytes.{IsAtEnd}
-use Rattle.peg_grammar.specs.Limits.{most_text_bytes}
+use Rattle.peg_grammar.specs.Limits.{max_text_bytes}
 use Rattle.peg_parser.specs.Parser.{parser_rules, start_named}
-use Rattle.peg_reply.specs.Statuses.{code_of}
-use Rattle.peg_reply.specs.TreeForms.{is_rows}
+use Rattle.peg_json.specs.Statuses.{code_of}
+use Rattle.peg_json.specs.TreeForms.{is_rows}
 use Rattle.peg_tool.specs.Replies.{IsPrinted}
 use Rattle.peg_tool.specs.Task.{ParseTask}
 use Rattle.peg_tool.proofs.RunLemmas.{right-held, parsed-printed, IsPrinted-text_front}
 use Rattle.peg_tool.proofs.tool.read_and_parse.Goals as goal
-use Rattle.peg_reply.specs.Lines.{line_bytes}
+use Rattle.peg_json.specs.Lines.{line_bytes}
 
 pub returns-clause-answer : goal.returns-clause-answer
 returns-clause-answer g c file accepts =
@@ -23,8 +23,8 @@ returns-clause-answer g c file accepts =
     let for_held = subst (λ (text : List ℕ). IsRight text line status) c.deref.ensures.value
     (parsed-printed file c.deref.result.now rules start steps c.args.all (is_rows c.args.form) line status
     accepts (c.in_ok-parse_line.ensures file)) in
-    let within : length held.items ≤ most_text_bytes + 1 = omega (arith, held.ok.0, c.in_ok-bytes.ensures.most) in
-    let at_end : length held.items < most_text_bytes + 1 → IsAtEnd (g.T.Source.left c.read_up_to.new.input) =
+    let within : length held.items ≤ max_text_bytes + 1 = omega (arith, held.ok.0, c.in_ok-bytes.ensures.most) in
+    let at_end : length held.items < max_text_bytes + 1 → IsAtEnd (g.T.Source.left c.read_up_to.new.input) =
     λ less. c.in_ok-bytes.ensures.end (omega (arith, held.ok.0)) in
-    right-held IsRight (most_text_bytes + 1) (IsPrinted-text_front task file) (g.T.Source.left c.args.text.now)
+    right-held IsRight (max_text_bytes + 1) (IsPrinted-text_front task file) (g.T.Source.left c.args.text.now)
     (g.T.Source.left c.read_up_to.new.input) held.items line status c.in_ok-bytes.ensures.bytes within at_end for_held

@@ -3,7 +3,7 @@ use Rattle.std.specs.Vec.{vec_capacity}
 use Rattle.peg_tree.specs.Levels.{open_at}
 use Rattle.peg_tree.proofs.levels.close_ended.Given as goal
 
--- what is still open is what is open of all, and the room stays
+-- popping does not change which ends are open, and the capacity is unchanged
 abbrev pub invariant-loop-end : goal.invariant-loop-end
 invariant-loop-end l = record {
   ended : open_at l.at (reverse l.ends.items) ≡ open_at l.at (reverse l.initial.ends.items);

@@ -4,7 +4,7 @@ use Rattle.peg_tree.specs.Rows.{row_of}
 use Rattle.peg_tree.specs.TreesOfRows.{trees_of}
 use Rattle.peg_tree.proofs.nested.nested.Given as goal
 
--- on the stack are the trees of the rows from here on
+-- the stack has the objects of the trees of the nodes from `at` on
 abbrev pub invariant-loop-at : goal.invariant-loop-at
 invariant-loop-at g l = record {
   within : l.at ≤ length l.rows;

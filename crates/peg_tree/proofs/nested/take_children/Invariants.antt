@@ -3,7 +3,7 @@ use Rattle.serde_json.specs.View.{view}
 use Rattle.peg_tree.specs.Built.{objects_of, taken, left_after}
 use Rattle.peg_tree.proofs.nested.take_children.Given as goal
 
--- what is taken so far, and what is taken of the rest, is what is taken of all
+-- the objects taken so far and those still to be taken are all objects to take
 abbrev pub invariant-loop-built : goal.invariant-loop-built
 invariant-loop-built l = record {
   all : map view l.children.items ++ taken l.left (objects_of l.stack.items) ≡ taken l.count (objects_of l.initial.stack.items);

@@ -5,7 +5,7 @@ use Rattle.peg_tree.specs.TreesOfRows.{trees_of}
 use Rattle.peg_tree.proofs.NestedEvents.{IsSent}
 use Rattle.peg_tree.proofs.nested_tree.send_nested.Given as goal
 
--- the rows before this one are sent, but for the ends of open nodes
+-- the nodes before `at` are serialized, except for the ends of open nodes
 abbrev pub invariant-nodes : goal.invariant-nodes
 invariant-nodes g l = record {
   within : l.at ≤ length l.rows;

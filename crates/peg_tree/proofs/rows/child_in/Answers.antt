@@ -7,7 +7,7 @@ use Rattle.peg_tree.specs.Nodes.{node_at, count_of, child_at}
 use Rattle.peg_tree.proofs.NodeRows.{nodes_of_tree, child_within, node_at-child_at, child_at-more}
 use Rattle.peg_tree.proofs.rows.child_in.Goals as goal
 
--- a child's number is a row's
+-- the number of a child is within the node list
 module _ (rows : List TreeNode) (one : IsOneTree (map row_of rows)) (number : ℕ) (inside : number < length rows) (place : ℕ)
     (has : place < count_of (node_at (trees_of (map row_of rows)) number).children) where
   below : number < nodes (trees_of (map row_of rows))

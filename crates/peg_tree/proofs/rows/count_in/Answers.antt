@@ -18,7 +18,7 @@ loop-at-init c =
     let end_within = end_of_node c.args.rows.now c.requires.tree c.args.node (omega arith) in
     record { few = omega arith; low = omega arith; here = omega arith; all = omega arith; within = omega arith }
 
--- over this child comes the next, or the end
+-- after this child comes the next child or the end
 step : (rows : List TreeNode) (one : IsOneTree (map row_of rows)) (number : ℕ) → number < length rows
     → (place at : ℕ) → place ≤ count_of (node_at (trees_of (map row_of rows)) number).children
     → at ≡ child_at (trees_of (map row_of rows)) number place

@@ -5,7 +5,7 @@ use Rattle.peg_tree.specs.TreesOfRows.{trees_of}
 use Rattle.peg_tree.specs.Nodes.{node_at, count_of, child_at}
 use Rattle.peg_tree.proofs.rows.count_in.Given as goal
 
--- so many children stand before this row
+-- `at` is the number of the child at index `count`
 abbrev pub invariant-loop-at : goal.invariant-loop-at
 invariant-loop-at l = record {
   few : l.count ≤ count_of (node_at (trees_of (map row_of l.rows)) l.node).children;

@@ -6,7 +6,7 @@ use Rattle.peg_tree.specs.Nodes.{node_at}
 use Rattle.peg_tree.proofs.NodeRows.{row_at, nodes_of_tree, row_of_node}
 use Rattle.peg_tree.proofs.rows.node_in.Goals as goal
 
--- the row that was read is the node's
+-- the entry that is read is that of the node
 pub returns : goal.returns
 returns c =
     let rows = c.args.rows.now in

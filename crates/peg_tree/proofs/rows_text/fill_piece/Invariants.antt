@@ -3,7 +3,7 @@ use Rattle.std.specs.Vec.{vec_capacity}
 use Rattle.peg_tree.specs.RowText.{EachAtMost, levels_from, text_from}
 use Rattle.peg_tree.proofs.rows_text.fill_piece.Given as goal
 
--- what stands in the buffer and what is still to come are the text, and there is room for all ends that come
+-- the bytes in the buffer and the remaining text are the whole text, and the capacity suffices for all ends
 abbrev pub invariant-loop-at : goal.invariant-loop-at
 invariant-loop-at l = record {
   text : text_from l.names l.rows l.from l.initial.ends.items ≡ take l.end l.buffer ++ text_from l.names l.rows l.at l.ends.items;

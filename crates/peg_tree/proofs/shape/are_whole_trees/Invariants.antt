@@ -4,7 +4,7 @@ use Rattle.peg_tree.specs.Trees.{nodes}
 use Rattle.peg_tree.specs.TreesOfRows.{trees_of, first_trees, IsForest}
 use Rattle.peg_tree.proofs.shape.are_whole_trees.Given as goal
 
--- what is seen of the rest is what is seen of the whole
+-- the result for the remaining nodes is the result for all nodes
 abbrev pub invariant-loop-left : goal.invariant-loop-left
 invariant-loop-left l = record {
   within : l.at ≤ length l.rows;

@@ -3,7 +3,7 @@ use Rattle.peg_tree.specs.Rows.{row_of}
 use Rattle.peg_tree.specs.TreesOfRows.{IsForest}
 use Rattle.peg_tree.proofs.shape.is_forest.Given as goal
 
--- the rows from here on are a forest
+-- the nodes from `at` on are a forest
 abbrev pub invariant-loop-at : goal.invariant-loop-at
 invariant-loop-at l = record {
   within : l.at ≤ length l.rows;

@@ -6,7 +6,7 @@ use Rattle.peg_tree.specs.Rows.{row_of}
 use Rattle.peg_tree.proofs.RowEvents.{rest_of, rows_below}
 use Rattle.peg_tree.proofs.tree_rows.send_rows.Given as goal
 
--- whatever ends the list well from here ends it well from its start
+-- every valid end of the list from here on is a valid end of the whole list
 abbrev pub invariant-loop-at : goal.invariant-loop-at
 invariant-loop-at g l =
     (last : Log) → SendsItems (items_of (rest_of (g.N.Names.names l.names) l.rows l.at l.ends.items)) (g.S.Serializer.written l.out) last

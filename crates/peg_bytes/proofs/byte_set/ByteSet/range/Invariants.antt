@@ -2,7 +2,7 @@ use Rattle.std.proofs.Common.{◌≡◌, ℕ, ◌+◌, ◌≤◌, ◌&&◌, max,
 use Rattle.peg_bytes.specs.ByteSet.{bytes_of, has}
 use Rattle.peg_bytes.proofs.byte_set.ByteSet.range.Given as goal
 
--- the set has the bytes from the lowest up to the next
+-- the set contains the bytes from `low` up to the next byte
 abbrev pub invariant-loop-byte : goal.invariant-loop-byte
 invariant-loop-byte l =
     ((other : ℕ) → has (bytes_of l.set) other ≡ (nat_le l.low other && nat_lt other l.byte))

@@ -2,7 +2,7 @@ use Rattle.std.proofs.Common.{ℕ, ◌+◌, ◌<◌, ◌≤◌, ◌⊎◌, All, 
 use Rattle.peg_check.specs.Chains.{Leads, IsUsedBy}
 use Rattle.peg_check.proofs.uses.Uses.add_users.Given as goal
 
--- the users on the chain before this entry were put there
+-- the users in the chain before this entry were pushed
 abbrev pub invariant-loop-at : goal.invariant-loop-at
 invariant-loop-at l = record {
   within : l.at ≤ length l.self.entries.items;

@@ -1,7 +1,7 @@
 use Rattle.std.proofs.Common.{◌≡◌, ◌+◌, ◌<◌, [], ◌∷◌, ◌++◌, take, sym, ap, ◌∙◌, subst, string_bytes, length, arith}
 use Rattle.std.proofs.lemmas.List.{map_push, take_all, take_more}
 use Rattle.sha2.specs.Hashers.{Holds256}
-use Rattle.peg_ford.specs.Rules.{names as names_of}
+use Rattle.peg_semantics.specs.Rules.{names as names_of}
 use Rattle.peg_grammar.specs.Names.{ended_names}
 use Rattle.peg_grammar.specs.Written.{rule_of, rules_of}
 use Rattle.peg_grammar.proofs.NameLists.{ended_names-push}

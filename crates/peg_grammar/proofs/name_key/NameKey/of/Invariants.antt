@@ -1,6 +1,6 @@
 use Rattle.std.proofs.Common.{take}
 use Rattle.sha2.specs.Hashers.{Holds256}
-use Rattle.peg_ford.specs.Rules.{names as names_of}
+use Rattle.peg_semantics.specs.Rules.{names as names_of}
 use Rattle.peg_grammar.specs.Names.{ended_names}
 use Rattle.peg_grammar.specs.Written.{rules_of}
 use Rattle.peg_grammar.proofs.name_key.NameKey.of.Given as goal

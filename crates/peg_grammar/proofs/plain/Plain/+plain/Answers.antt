@@ -3,25 +3,25 @@ use Rattle.std.specs.Vec.{with_item}
 use Rattle.peg_bytes.specs.Extent.{extent}
 use Rattle.peg_tree.specs.Rows.{row_of, rows_of}
 use Rattle.peg_tree.specs.declared.row.TreeNode.{TreeNode}
-use Rattle.peg_ford.specs.Form as form
-use Rattle.peg_ford.specs.Form.{Form, forms, terminals, terminals_of_all, Then}
+use Rattle.peg_semantics.specs.Form as form
+use Rattle.peg_semantics.specs.Form.{Form, forms, terminals, terminals_of_all, Then}
 use Rattle.peg_grammar.specs.Found.{seen_in}
 use Rattle.peg_grammar.specs.GrammarRules.{rules_in}
 use Rattle.peg_grammar.specs.Plain.{text_of, taken_in, table_in}
-use Rattle.peg_ford.specs.Record.{take_first, as_use}
-use Rattle.peg_ford.specs.Rules.{meant}
+use Rattle.peg_semantics.specs.Record.{take_first, as_use}
+use Rattle.peg_semantics.specs.Rules.{meant}
 use Rattle.peg_grammar.specs.Seen.{Evaluates, EndsWithin, trees_left}
 use Rattle.peg_grammar.specs.Written.{form_of}
 use Rattle.peg_grammar.specs.declared.found.Verdict.TheVariants.{EndsAt, Fails}
 use Rattle.peg_grammar.proofs.LoopLemmas.{ItemsSoFar, FailedSoFar, forms-drop, forms-drop_all, items-start, items-matched, items-failed, items-stopped, items-end, choice-first_failed, choice-first_matched, choice-first_stopped, choice-next_failed, choice-next_matched, choice-next_stopped}
-use Rattle.peg_ford.proofs.RulesLemmas.{meant-position, meant-no_position, named-used, length-first_from, first_from-within, terminals_of-weight}
+use Rattle.peg_semantics.proofs.RulesLemmas.{meant-position, meant-no_position, named-used, length-first_from, first_from-within, terminals_of-weight}
 use Rattle.peg_grammar.proofs.SeenLemmas.{and-matched, not-matched, not-failed, optional-failed, record_in-none, record_in-positive}
 use Rattle.peg_grammar.proofs.StepLemmas.{cut_back, rounds-failed, rounds-evaluates, then-evaluates, star-matches, used-is, rule-failed, rule-matched}
 use Rattle.peg_grammar.proofs.TimesLemmas.{TimesSoFar, times-start, times-matched, times-enough, times-failed, times-stopped, times-end, one_less-left, some-left, none-left}
 use Rattle.peg_grammar.proofs.WrittenForms.{form_of-Name, form_of-Seq, form_of-Choice, form_of-Optional, form_of-Plus, form_of-Counted, form_of-And, form_of-Not}
 use Rattle.peg_grammar.proofs.plain.Plain.+plain.Goals as goal
 
--- ---- one level down
+-- ---- one level deeper
 
 pub expression-returns-then-depth-eq0-clause-evaluates : goal.expression-returns-then-depth-eq0-clause-evaluates
 expression-returns-then-depth-eq0-clause-evaluates t c =
@@ -39,7 +39,7 @@ pub star-returns-clause-evaluates : goal.star-returns-clause-evaluates
 star-returns-clause-evaluates t c span =
     subst (λ o. Evaluates o (seen_in c.args.found.now) c.rounds.result (seen_in c.rounds.new.found)) (sym (record_in-positive (rules_in c.args.self.now.grammar.now) (text_of c.args.self.now) c.args.depth (form.Star (form_of c.args.part.now) span) c.args.terminal c.args.place c.if-depth-eq0.false)) (c.rounds.ensures.evaluates span)
 
--- ---- the table's cases
+-- ---- the cases of Ford's rules
 
 pub case-returns-in-Name-clause-evaluates : goal.case-returns-in-Name-clause-evaluates
 case-returns-in-Name-clause-evaluates t c =
@@ -81,7 +81,7 @@ case-returns-in-Not-clause-evaluates t c =
     let same = ap form_of c.in-Not.is ∙ (form_of-Not c.in-Not.part c.in-Not.span ∙ ap (λ e. form.Not (form_of e) (extent c.in-Not.span)) (sym c.deref-in-Not.ensures)) in
     subst (λ e. Evaluates (table_in c.args.self.now c.args.depth e c.args.terminal c.args.place) (seen_in c.args.found.now) c.not.result (seen_in c.not.new.found)) (sym same) (c.not.ensures.evaluates (extent c.in-Not.span))
 
--- ---- signs
+-- ---- operators
 
 pub optional-returns-in-Ok-Fails-clause-evaluates : goal.optional-returns-in-Ok-Fails-clause-evaluates
 optional-returns-in-Ok-Fails-clause-evaluates t c span =

@@ -1,9 +1,9 @@
 use Rattle.std.proofs.Common.{◌≡◌, ◌+◌, ◌-◌, ◌*◌, ◌≤◌, map, length, drop}
-use Rattle.peg_ford.specs.Form.{forms, terminals_of_all}
+use Rattle.peg_semantics.specs.Form.{forms, terminals_of_all}
 use Rattle.peg_grammar.specs.Found.{seen_in}
-use Rattle.peg_ford.specs.Grammar.{most_parts}
+use Rattle.peg_semantics.specs.Grammar.{max_parts}
 use Rattle.peg_grammar.specs.Plain.{text_of, taken_in}
-use Rattle.peg_ford.specs.Record.{take_first}
+use Rattle.peg_semantics.specs.Record.{take_first}
 use Rattle.peg_grammar.specs.Written.{form_of}
 use Rattle.peg_grammar.proofs.LoopLemmas.{ItemsSoFar, FailedSoFar}
 use Rattle.peg_grammar.proofs.TimesLemmas.{TimesSoFar}
@@ -52,18 +52,18 @@ abbrev pub invariant-items-loop-item : goal.invariant-items-loop-item
 invariant-items-loop-item l = record {
   after : l.place ≤ l.at;
   within : l.at ≤ length (text_of l.self);
-  few : l.terminal + terminals_of_all (forms (drop l.item-index (map form_of l.items))) ≤ most_parts;
+  few : l.terminal + terminals_of_all (forms (drop l.item-index (map form_of l.items))) ≤ max_parts;
   from : l.from ≡ length (l.fn.found.rows.items);
   so_far : ItemsSoFar (taken_in l.self l.depth) (forms (map form_of l.items)) l.fn.terminal l.place (seen_in l.fn.found) (forms (drop l.item-index (map form_of l.items))) l.terminal l.at (seen_in l.found);
 }
 
 abbrev pub invariant-choice-loop-next : goal.invariant-choice-loop-next
 invariant-choice-loop-next l = record {
-  few : l.terminal + terminals_of_all (forms (drop l.next-index (map form_of l.rest))) ≤ most_parts;
+  few : l.terminal + terminals_of_all (forms (drop l.next-index (map form_of l.rest))) ≤ max_parts;
   so_far : FailedSoFar (take_first (taken_in l.self l.depth) (form_of l.first) (forms (map form_of l.rest)) l.fn.terminal l.place) (taken_in l.self l.depth) l.place (seen_in l.fn.found) (forms (drop l.next-index (map form_of l.rest))) l.terminal (seen_in l.found);
 }
 
--- the rounds so far matched
+-- the repetitions so far matched
 abbrev pub invariant-counted-loop-round : goal.invariant-counted-loop-round
 invariant-counted-loop-round l = record {
   after : l.place ≤ l.at;

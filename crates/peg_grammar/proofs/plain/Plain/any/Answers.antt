@@ -1,11 +1,11 @@
 use Rattle.std.proofs.Common.{◌+◌, true, Some, refl, sym, ap, append-nil, arith}
 use Rattle.std.proofs.Math.Seq.{drop-cons}
 use Rattle.peg_grammar.specs.Found.{seen_in}
-use Rattle.peg_ford.specs.Record.{byte_at, matched_at}
+use Rattle.peg_semantics.specs.Record.{byte_at, matched_at}
 use Rattle.peg_grammar.proofs.SeenLemmas.{seen}
 use Rattle.peg_grammar.proofs.plain.Plain.any.Goals as goal
 
--- where a byte is left, any byte passes
+-- if a byte is left, it passes
 pub returns-then-place-self-clause-evaluates : goal.returns-then-place-self-clause-evaluates
 returns-then-place-self-clause-evaluates c =
     let now = seen_in c.args.found.now in

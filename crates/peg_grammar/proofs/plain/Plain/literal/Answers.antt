@@ -5,8 +5,8 @@ use Rattle.std.proofs.lemmas.Bool.Decides.{nat_tests}
 use Rattle.std.proofs.lemmas.List.{take_rest}
 use Rattle.peg_tree.specs.Rows.{row_of}
 use Rattle.peg_grammar.specs.Found.{seen_in}
-use Rattle.peg_ford.specs.FurthestPass.{noted}
-use Rattle.peg_ford.specs.Record.{Record, literal_at, matched_at, failed_at, test_of}
+use Rattle.peg_semantics.specs.FurthestPass.{noted}
+use Rattle.peg_semantics.specs.Record.{Record, literal_at, matched_at, failed_at, test_of}
 use Rattle.peg_grammar.specs.Seen.{Seen, Evaluates}
 use Rattle.peg_grammar.specs.declared.found.Verdict.TheVariants.{EndsAt, Fails}
 use Rattle.peg_grammar.proofs.SeenLemmas.{seen}
@@ -22,7 +22,7 @@ literal_at-other : (terminal place b c : ℕ) (bs cs : List ℕ) → c ≢ b
 literal_at-other terminal place b c bs cs e = grind (arith, nat_tests)
 
 module _ (terminal place : ℕ) (bytes rest : List ℕ) (i : ℕ) where
-  -- a literal from its byte at an index on, against the rest of the bytes from there on
+  -- the rest of a literal, from its byte at index n on, against the text from there on
   abbrev from : ℕ → Record
   from n = literal_at terminal (place + n) (drop n bytes) (drop n rest)
 
@@ -30,7 +30,7 @@ module _ (terminal place : ℕ) (bytes rest : List ℕ) (i : ℕ) where
       → from i ≡ literal_at terminal (place + i) (get_or bytes i 0 ∷ drop (suc i) bytes) (get_or rest i 0 ∷ drop (suc i) rest)
   from-both h k j = literal_at terminal (place + i) (drop-cons bytes i 0 h j) (drop-cons rest i 0 k j)
 
-  -- where the bytes there are the same
+  -- the bytes at this index are equal
   from-next : i < length bytes → i < length rest → get_or rest i 0 ≡ get_or bytes i 0 → from i ≡ from (i + 1)
   from-next h k e =
       let further : (place + i) + 1 ≡ place + suc i = omega arith in
@@ -38,17 +38,17 @@ module _ (terminal place : ℕ) (bytes rest : List ℕ) (i : ℕ) where
       ∙ (literal_at-same terminal (place + i) (get_or bytes i 0) (get_or rest i 0) (drop (suc i) bytes) (drop (suc i) rest) e
       ∙ (ap (λ n. literal_at terminal n (drop (suc i) bytes) (drop (suc i) rest)) further ∙ ap from (sym (add-one i))))
 
-  -- where they differ
+  -- the bytes at this index differ
   from-other : i < length bytes → i < length rest → get_or rest i 0 ≢ get_or bytes i 0 → from i ≡ failed_at terminal (place + i)
   from-other h k e =
       from-both h k
       ∙ literal_at-other terminal (place + i) (get_or bytes i 0) (get_or rest i 0) (drop (suc i) bytes) (drop (suc i) rest) e
 
-  -- where the byte is missing
+  -- the text ends at this index
   from-missing : i < length bytes → length rest ≤ i → from i ≡ failed_at terminal (place + i)
   from-missing h k = λ j. literal_at terminal (place + i) (drop-cons bytes i 0 h j) (drop_of_length-le rest k j)
 
-  -- at the literal's end
+  -- the literal ends at this index
   from-end : i ≡ length bytes → from i ≡ matched_at (place + length bytes)
   from-end e =
       let end : length bytes ≤ i = omega arith in
@@ -62,7 +62,7 @@ evaluates-failed r old now terminal place e h =
 evaluates-matched : (r : Record) (old now : Seen) (end : ℕ) → r ≡ matched_at end → now ≡ old → Evaluates (Some r) old (Ok (EndsAt end)) now
 evaluates-matched r old now end e h = (matched_at end, ap Some e, refl, h ∙ ap (seen old.furthest) (sym (append-nil old.rows)))
 
--- the slice from a place on is the text from there on
+-- the slice from a position on is the text from there on
 pub loop-at-init : goal.loop-at-init
 loop-at-init c =
     let text = c.args.self.now.text.now in

@@ -1,10 +1,10 @@
 use Rattle.std.proofs.Common.{◌≡◌, ◌+◌, ◌≤◌, length, drop}
 use Rattle.peg_grammar.specs.Found.{seen_in}
 use Rattle.peg_grammar.specs.Plain.{text_of}
-use Rattle.peg_ford.specs.Record.{literal_at}
+use Rattle.peg_semantics.specs.Record.{literal_at}
 use Rattle.peg_grammar.proofs.plain.Plain.literal.Given as goal
 
--- the bytes so far are those of the text, and nothing has been noted
+-- the bytes so far match the text, and no failed test was noted
 abbrev pub invariant-loop-at : goal.invariant-loop-at
 invariant-loop-at l = record {
   kept : seen_in l.found ≡ seen_in l.fn.found;

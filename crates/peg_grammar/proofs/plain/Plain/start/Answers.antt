@@ -1,10 +1,10 @@
 use Rattle.std.proofs.Common.{◌-◌, ap, ◌∙◌, sym, subst}
 use Rattle.peg_bytes.specs.Extent.{between}
-use Rattle.peg_ford.specs.Form.{Name}
+use Rattle.peg_semantics.specs.Form.{Name}
 use Rattle.peg_grammar.specs.Found.{seen_in}
 use Rattle.peg_grammar.specs.GrammarRules.{rules_in}
 use Rattle.peg_grammar.specs.Plain.{text_of, table_in}
-use Rattle.peg_ford.specs.Rules.{name_of}
+use Rattle.peg_semantics.specs.Rules.{name_of}
 use Rattle.peg_grammar.specs.Seen.{Evaluates}
 use Rattle.peg_grammar.proofs.SeenLemmas.{record_in-positive, record_in-none}
 use Rattle.peg_grammar.proofs.plain.Plain.start.Goals as goal

@@ -13,7 +13,7 @@ use Rattle.peg_machine.proofs.InputLemmas.{enters_of}
 use Rattle.peg_machine.proofs.MomentEnds.{begins}
 use Rattle.peg_machine.proofs.machine.Machine.at_start.Goals as goal
 
--- the row of a use that begins
+-- the node of a new call
 abbrev row_from : (rule start end : ℕ) → Row
 row_from rule start end = record { rule = rule; start = start; end = end; size = 0 }
 

@@ -1,6 +1,6 @@
 use Rattle.std.proofs.Common.{◌≡◌, ◌+◌, ◌∷◌, ◌++◌, [], List, ℕ, inl, length, map, sym, ◌∙◌, ap, subst}
 use Rattle.std.proofs.lemmas.List.{length-map, map-append}
-use Rattle.peg_ford.specs.Record.{Use}
+use Rattle.peg_semantics.specs.Record.{Use}
 use Rattle.peg_tree.specs.Rows.{Row, row_of}
 use Rattle.peg_machine.specs.Entries.{Entry, Called}
 use Rattle.peg_machine.specs.Going.{shown_by}
@@ -23,7 +23,7 @@ entry-self-requires g c =
     (held_by old runs.1) runs.2 c.requires.here runs.3 in
     rule-within input c.args.rule next.0 next.1
 
--- the row of a use that begins
+-- the node of a new call
 abbrev row_from : (rule start end : ℕ) → Row
 row_from rule start end = record { rule = rule; start = start; end = end; size = 0 }
 

@@ -6,7 +6,7 @@ use Rattle.peg_machine.specs.Remembered.{memory}
 use Rattle.peg_machine.specs.Running.{Job}
 use Rattle.peg_machine.proofs.machine.Machine.fail.Given as goal
 
--- the machine fails still, or the run has failed and no entry is left
+-- the machine still backtracks, or the run has failed and the stack is empty
 abbrev pub invariant-falls : goal.invariant-falls
 invariant-falls g l =
     (job : Job) (course : Course)

@@ -13,7 +13,7 @@ use Rattle.peg_machine.specs.Underway.{RunsAt}
 use Rattle.peg_machine.proofs.MomentEnds.{hits_failure, hits_match}
 use Rattle.peg_machine.proofs.machine.Machine.recall.Goals as goal
 
--- a result that is held is not none
+-- an entry that is found is not none
 there_is : (held : Held) (rule place : ℕ) (result : Kept) → finite.get held (rule, place) ≡ Some result
     → finite.get held (rule, place) ≢ None
 there_is held rule place result there none = cc

@@ -1,5 +1,5 @@
 use Rattle.std.proofs.Common.{◌≡◌, ◌≤◌, ◌-◌, ◌∙◌, ℕ, All, Contains, List, arith, length, suc, subst, sym}
-use Rattle.peg_ford.specs.Furthest.{IsFurthest}
+use Rattle.peg_semantics.specs.Furthest.{IsFurthest}
 use Rattle.peg_machine.specs.Stamps.{AreStampsOf}
 use Rattle.peg_machine.proofs.StampLemmas.{AreWith, furthest_of_stamps, furthest_of_zeros}
 use Rattle.peg_machine.proofs.stamps.Stamps.furthest.Goals as goal

@@ -4,7 +4,7 @@ use Rattle.std.proofs.lemmas.Grind.{get_or_default_zero}
 use Rattle.peg_machine.proofs.StampLemmas.{stamps_after}
 use Rattle.peg_machine.proofs.stamps.Stamps.note.Goals as goal
 
--- the stamp that was there is the greater one, or 1 + the place
+-- the new value is the greater of the old one and 1 + the position
 pub returns-clause-noted : goal.returns-clause-noted
 returns-clause-noted c tests are =
     let reads = get_or_default_zero c.args.self.now.stamps.items c.args.terminal c.index_mut-stamp.result.now

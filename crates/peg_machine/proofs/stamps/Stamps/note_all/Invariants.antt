@@ -2,7 +2,7 @@ use Rattle.std.proofs.Common.{◌≡◌, length, take}
 use Rattle.peg_machine.specs.Stamps.{stamps_at}
 use Rattle.peg_machine.proofs.stamps.Stamps.note_all.Given as goal
 
--- those passed by are noted
+-- the terminals visited are recorded
 abbrev pub invariant-loop-terminal : goal.invariant-loop-terminal
 invariant-loop-terminal l = record {
   stamps : l.self.stamps.items ≡ stamps_at l.place (take l.terminal-index l.terminals) l.initial.self.stamps.items;

@@ -26,7 +26,7 @@ decreases-primary l = 8 * l.left + 1
 abbrev pub decreases-parenthesized : goal.decreases-parenthesized
 decreases-parenthesized l = 8 * l.left
 
--- the sequences so far, each behind a slash
+-- the sequences so far, each after a slash
 abbrev pub invariant-expression-alternatives : goal.invariant-expression-alternatives
 invariant-expression-alternatives l =
     let inner = inner_of (file_of l.self) l.left in

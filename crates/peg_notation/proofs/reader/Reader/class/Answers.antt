@@ -1,10 +1,10 @@
 use Rattle.std.proofs.Common.{ap, ◌∙◌}
 use Rattle.peg_bytes.specs.Extent.{extent}
-use Rattle.peg_ford.specs.Form.{Class}
-use Rattle.peg_figure.specs.Ranges.{class_of}
+use Rattle.peg_semantics.specs.Form.{Class}
+use Rattle.peg_metagrammar.specs.Ranges.{class_of}
 use Rattle.peg_notation.specs.Reader.{one_token}
 use Rattle.peg_notation.specs.ReaderFile.{file_of}
-use Rattle.peg_figure.specs.Spelled.{ranges_in}
+use Rattle.peg_metagrammar.specs.Spelled.{ranges_in}
 use Rattle.peg_lexer.specs.Tokens.{lexeme_of}
 use Rattle.peg_notation.proofs.TokenTexts.{class-here, class-pieces}
 use Rattle.peg_notation.proofs.reader.Reader.class.Goals as goal

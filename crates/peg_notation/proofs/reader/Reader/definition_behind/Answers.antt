@@ -4,7 +4,7 @@ use Rattle.peg_grammar.specs.Written.{form_of}
 use Rattle.peg_notation.specs.Reader.{starts_with_arrow, definition_behind}
 use Rattle.peg_notation.specs.ReaderCode.{lexemes, form_seen, ConveysHalt}
 use Rattle.peg_notation.specs.ReaderFile.{file_of}
-use Rattle.peg_figure.specs.Nesting.{most_open}
+use Rattle.peg_metagrammar.specs.Nesting.{max_open}
 use Rattle.peg_lexer.specs.Tokens.{lexeme_of}
 use Rattle.peg_notation.proofs.ReaderSteps.{front_token, behind_fault, behind_read}
 use Rattle.peg_notation.proofs.TokenTexts.{name-here}
@@ -15,8 +15,8 @@ returns-in_err-body-in-len1-up-clause-read c =
     let file = file_of c.args.self.now in
     let tokens = c.args.rest.now in
     let fault = c.in_err-body-in-len1-up.field-0.0 in
-    let told : ConveysHalt (definition_behind file most_open (lexeme_of c.args.name) (lexemes tokens) (starts_with_arrow (lexemes tokens))) fault =
-    behind_fault file most_open (lexeme_of c.args.name) (lexemes tokens) (lexeme_of c.arrow-item.result)
+    let told : ConveysHalt (definition_behind file max_open (lexeme_of c.args.name) (lexemes tokens) (starts_with_arrow (lexemes tokens))) fault =
+    behind_fault file max_open (lexeme_of c.args.name) (lexemes tokens) (lexeme_of c.arrow-item.result)
     (lexemes (take (length tokens - 1) (drop 1 tokens))) fault
     (front_token tokens c.arrow-item.result c.in-len1-up.len_at_least c.arrow-item.is)
     (sym c.starts_with_arrow.ensures ∙ c.if-starts_with_arrow.true) c.in_err-body-in-len1-up.ensures.read in
@@ -30,7 +30,7 @@ returns-in_ok-name_text-in-len1-up-clause-read c =
     let file = file_of c.args.self.now in
     let tokens = c.args.rest.now in
     let body = c.in_ok-body-in-len1-up.body in
-    behind_read file most_open (lexeme_of c.args.name) (lexemes tokens) (lexeme_of c.arrow-item.result)
+    behind_read file max_open (lexeme_of c.args.name) (lexemes tokens) (lexeme_of c.arrow-item.result)
     (lexemes (take (length tokens - 1) (drop 1 tokens))) (form_seen body)
     (front_token tokens c.arrow-item.result c.in-len1-up.len_at_least c.arrow-item.is)
     (sym c.starts_with_arrow.ensures ∙ c.if-starts_with_arrow.true) c.in_ok-body-in-len1-up.ensures.read

@@ -7,7 +7,7 @@ use Rattle.peg_parser.proofs.parser.Parser.answer.Goals as goal
 pub run-requires-clause-rule : goal.run-requires-clause-rule
 run-requires-clause-rule g c = omega (arith, c.requires.start, length-bodies c.args.self.now)
 
--- what the machine answers is Ford's outcome
+-- the machine's answer is Ford's outcome
 pub returns-in-Ok-clause-outcome : goal.returns-in-Ok-clause-outcome
 returns-in-Ok-clause-outcome g c =
     parser-outcome c.args.self.now c.args.text.now c.args.start c.in-Ok.answer.outcome

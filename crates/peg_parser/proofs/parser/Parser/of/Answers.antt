@@ -1,6 +1,6 @@
 use Rattle.std.proofs.Common.{◌<◌, ◌∙◌, Err, ap, length, subst, sym, arith}
 use Rattle.peg_code.specs.Code.{entries_of, program_code}
-use Rattle.peg_code.specs.Compiled.{Compiled, most_instructions}
+use Rattle.peg_code.specs.Compiled.{Compiled, max_instructions}
 use Rattle.peg_core.specs.Layout.{bodies_of}
 use Rattle.peg_grammar.specs.GrammarRules.{rules_in}
 use Rattle.peg_parser.specs.Faults.{TellsWhy, of_code}
@@ -37,13 +37,13 @@ returns-in_err-program-in-Ok-clause-refused c file read taken inside =
     let why = c.in_err-program-in-Ok.field-0.0 in
     told-error (Refuses file) (length file) c.from_residual.result (of_code why) c.from_residual.ensures.1
     (told-code file rules why read taken c.in-Ok.ensures.well_formed
-    (λ large. subst (λ bodies. most_instructions < length (program_code bodies)) c.in-Ok.ensures.bodies
+    (λ large. subst (λ bodies. max_instructions < length (program_code bodies)) c.in-Ok.ensures.bodies
     (c.in_err-program-in-Ok.ensures.too_large (ap Err large))))
 
 pub returns-in_err-program-in-Ok-clause-refused_where : goal.returns-in_err-program-in-Ok-clause-refused_where
 returns-in_err-program-in-Ok-clause-refused_where c formed small =
     told_memory c.from_residual.result (of_code c.in_err-program-in-Ok.field-0.0) c.from_residual.ensures.1
     (code_memory c.in_err-program-in-Ok.field-0.0 (λ is.
-    let large = subst (λ bodies. most_instructions < length (program_code bodies)) c.in-Ok.ensures.bodies
+    let large = subst (λ bodies. max_instructions < length (program_code bodies)) c.in-Ok.ensures.bodies
     (c.in_err-program-in-Ok.ensures.too_large (ap Err is)) in
     let bad : ⊥ = omega (arith, large, small) in bad))

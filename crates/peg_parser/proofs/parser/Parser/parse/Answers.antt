@@ -1,7 +1,7 @@
 use Rattle.std.proofs.Common.{◌∙◌, ap, List, ℕ, Result, Ok, Err, IfOk}
 use Rattle.std.proofs.lemmas.Result.{on_ok_weaker}
 use Rattle.std.specs.FinMap.{len, len-empty}
-use Rattle.peg_ford.specs.Rules.{name_of}
+use Rattle.peg_semantics.specs.Rules.{name_of}
 use Rattle.peg_grammar.specs.Outcomes.{IsOutcome}
 use Rattle.peg_machine.specs.declared.answer.Answer.{Answer}
 use Rattle.peg_memo.specs.Kept.{Kept}
@@ -14,7 +14,7 @@ use Rattle.peg_parser.proofs.OutcomeFits.{outcome-fits}
 use Rattle.peg_parser.proofs.StepLemmas.{of-start, to-start}
 use Rattle.peg_parser.proofs.parser.Parser.parse.Goals as goal
 
--- an outcome of a grammar fits it, if there is one
+-- an outcome of a grammar fits the grammar
 fits : (parser : Parser) (text : List ℕ) (start : ℕ) (result : Result Answer ParseFault)
     → IfOk result (λ answer. IsOutcome (parser_rules parser) text (name_of (parser_rules parser) start) answer.outcome)
     → IfOk result (λ answer. Fits (parser_rules parser) answer.outcome)
@@ -41,7 +41,7 @@ returns-then-options-eq0-clause-limited c is =
     of-start c.args.self.now c.args.text.now (start_named c.args.options.now) c.in-Some.start c.args.options.now.steps
     c.in-Some.ensures.some c.in-Some.ensures.named (c.answer.ensures.limited is)
 
--- without a memo nothing is ever held
+-- without a memo there is never an entry
 pub returns-then-options-eq0-clause-enough : goal.returns-then-options-eq0-clause-enough
 returns-then-options-eq0-clause-enough c none =
     on_ok_weaker c.answer.result (λ not more. not (to-start c.args.self.now c.args.text.now

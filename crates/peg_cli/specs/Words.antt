@@ -1,0 +1,15 @@
+-- What the command line arguments request.
+use Rattle.std.specs.Prelude.{◌≤◌, IfSome}
+use Rattle.peg_cli.specs.declared.words.Words.{Words}
+use Rattle.peg_cli.specs.declared.words.Words.TheVariants.{Joined, Help, Table, Check, Code, Parse}
+
+-- The arguments request a command or help. In a parse the memo has at most 1,000,000 entries, and a step limit is from
+-- 1 to 1,000,000,000,000.
+abbrev pub IsAsking : Words → Type 0
+IsAsking Joined = ⊥
+IsAsking (Help text) = Unit {0}
+IsAsking (Table g) = Unit {0}
+IsAsking (Check g) = Unit {0}
+IsAsking (Code g) = Unit {0}
+IsAsking (Parse g t start memo steps all rows) =
+    (memo ≤ 1000000) × IfSome steps (λ most. (1 ≤ most) × (most ≤ 1000000000000))

@@ -1,0 +1,194 @@
+//! Parsing the command line arguments.
+ghost use Rattle.std.specs.Prelude.{◌≡◌, ◌≢◌, ◌≤◌, [], IfOk, IfSome};
+ghost use Rattle.peg_cli.specs.Words.{IsAsking};
+
+use crate::command_line::{MAX_MEMO, MAX_STEPS, program};
+use clap::error::ErrorKind;
+use clap::{ArgMatches, Error};
+use std::alloc::{AllocError, Global};
+use thiserror::Error;
+
+/// What the arguments request.
+#[derive(Debug, PartialEq, Eq, Drop)]
+pub enum Words {
+    /// No arguments: parse standard input, which has a grammar file and a text in one input.
+    Joined,
+    /// Help; `text` is the help text.
+    Help {
+        text: String,
+    },
+    /// Print the outcomes of the rules in grammar file `g`.
+    Table {
+        g: String,
+    },
+    /// Check whether grammar file `g` is accepted.
+    Check {
+        g: String,
+    },
+    /// Print the code of grammar file `g`.
+    Code {
+        g: String,
+    },
+    /// Parse text file `t` by grammar file `g`. The other fields are those of `Command::Parse` and `ParseOptions`.
+    Parse {
+        g: String,
+        t: String,
+        start: Option<String>,
+        memo: u32,
+        steps: Option<u64>,
+        all: bool,
+        rows: bool,
+    },
+}
+
+/// Why the arguments are rejected.
+#[derive(Debug, PartialEq, Eq, Drop, Error)]
+pub enum WordsFault {
+    /// The arguments are not a valid command line. `text` says what is wrong and how to get help.
+    #[error("{text}")]
+    Usage { text: String },
+    /// An allocation failed.
+    #[error("out of memory")]
+    Memory,
+}
+
+impl From<AllocError> for WordsFault {
+    ghost use Rattle.std.specs.Prelude.{◌≡◌};
+    ghost use Rattle.peg_cli.specs.declared.words.WordsFault.TheVariants.{Memory};
+
+    ghost from_gives = { λ _ fault. fault ≡ Memory };
+
+    fn from(_error: AllocError) -> WordsFault {
+        WordsFault::Memory
+    }
+}
+
+/// Parses the arguments after the program's name. Returns `Joined` if there are none, `Help` if help is requested, and
+/// the command otherwise. Returns `Usage` for invalid arguments and `Memory` if an allocation fails.
+pub fn read_words(alloc: Global, words: &[String]) -> Result<Words, WordsFault>
+    ensures joined { words.now ≡ [] → result ≡ Ok Words.Joined }
+    ensures asking { words.now ≢ [] → IfOk result IsAsking }
+{
+    if words.is_empty() {
+        return Ok(Words::Joined);
+    }
+    let program = program(alloc)?;
+    match program.try_get_matches_from(words) {
+        Ok(matches) => command_of(alloc, &matches),
+        Err(error) => from_clap_error(alloc, words, &error),
+    }
+}
+
+fn command_of(alloc: Global, matches: &ArgMatches<'_>) -> Result<Words, WordsFault>
+    ensures { IfOk result IsAsking }
+{
+    match matches.subcommand() {
+        Some(("check", words)) => Ok(Words::Check {
+            g: file_name(alloc, words, "G")?,
+        }),
+        Some(("code", words)) => Ok(Words::Code {
+            g: file_name(alloc, words, "G")?,
+        }),
+        Some(("parse", words)) => parse_of(alloc, words),
+        Some((_, words)) => Ok(Words::Table {
+            g: file_name(alloc, words, "G")?,
+        }),
+        None => Err(internal_usage_error(alloc)),
+    }
+}
+
+fn parse_of(alloc: Global, matches: &ArgMatches<'_>) -> Result<Words, WordsFault>
+    ensures { IfOk result IsAsking }
+{
+    Ok(Words::Parse {
+        g: file_name(alloc, matches, "G")?,
+        t: file_name(alloc, matches, "T")?,
+        start: start_name(alloc, matches)?,
+        memo: memo_size(alloc, matches)?,
+        steps: step_limit(alloc, matches)?,
+        all: matches.get_flag("all"),
+        rows: matches.get_flag("rows"),
+    })
+}
+
+fn file_name(alloc: Global, matches: &ArgMatches<'_>, id: &str) -> Result<String, WordsFault> {
+    match matches.get_str(id) {
+        Some(name) => Ok(String::from_str(alloc, name)?),
+        None => Err(internal_usage_error(alloc)),
+    }
+}
+
+fn start_name(alloc: Global, matches: &ArgMatches<'_>) -> Result<Option<String>, AllocError> {
+    match matches.get_str("start") {
+        Some(name) => Ok(Some(String::from_str(alloc, name)?)),
+        None => Ok(None),
+    }
+}
+
+// The argument parser has checked the range; the test here is for the contract.
+fn memo_size(alloc: Global, matches: &ArgMatches<'_>) -> Result<u32, WordsFault>
+    ensures { IfOk result (λ memo. memo ≤ 1000000) }
+{
+    match matches.get_one::<u32>("memo") {
+        Some(memo) if memo <= MAX_MEMO => Ok(memo),
+        _ => Err(internal_usage_error(alloc)),
+    }
+}
+
+// The argument parser has checked the range; the tests here are for the contract.
+fn step_limit(alloc: Global, matches: &ArgMatches<'_>) -> Result<Option<u64>, WordsFault>
+    ensures { IfOk result (λ steps. IfSome steps (λ most. (1 ≤ most) × (most ≤ 1000000000000))) }
+{
+    match matches.get_one::<u64>("steps") {
+        Some(0) => Err(internal_usage_error(alloc)),
+        Some(most) if most <= MAX_STEPS => Ok(Some(most)),
+        Some(_) => Err(internal_usage_error(alloc)),
+        None => Ok(None),
+    }
+}
+
+// An internal usage error. The argument parser reports missing arguments itself, so no arguments should lead here.
+fn internal_usage_error(alloc: Global) -> WordsFault {
+    match String::from_str(
+        alloc,
+        "error: a word is missing\n\nFor more information, try '--help'.\n",
+    ) {
+        Ok(text) => WordsFault::Usage { text },
+        Err(_) => WordsFault::Memory,
+    }
+}
+
+// The help text, or the usage error with a hint on how to continue.
+fn from_clap_error(alloc: Global, words: &[String], error: &Error) -> Result<Words, WordsFault>
+    ensures { IfOk result IsAsking }
+{
+    if error.kind() == ErrorKind::OutOfMemory {
+        return Err(WordsFault::Memory);
+    }
+    let mut text = error.to_string(alloc)?;
+    match error.kind() {
+        ErrorKind::DisplayHelp => Ok(Words::Help { text }),
+        _ => {
+            text.push_str(usage_hint(words))?;
+            Err(WordsFault::Usage { text })
+        }
+    }
+}
+
+// The hint after a usage error: the help of the command that was given, or how to parse a text.
+fn usage_hint(words: &[String]) -> &'static str {
+    match words.first() {
+        Some(word) => hint_for(word.as_str()),
+        None => hint_for(""),
+    }
+}
+
+fn hint_for(first: &str) -> &'static str {
+    match first {
+        "check" => "For this command: pegtool check --help\n",
+        "table" => "For this command: pegtool table --help\n",
+        "code" => "For this command: pegtool code --help\n",
+        "parse" => "For this command: pegtool parse --help\n",
+        _ => "To parse a text T by a grammar file G: pegtool parse G T\n",
+    }
+}

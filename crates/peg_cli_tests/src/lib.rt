@@ -1,0 +1,5 @@
+//! Tests of the parser of arguments.
+#![tactic(auto)]
+
+#[cfg(test)]
+mod words;

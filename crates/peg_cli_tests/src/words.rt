@@ -1,0 +1,253 @@
+//! Arguments, and the commands that they denote.
+use peg_cli::{Words, WordsFault, read_words};
+use std::alloc::{AllocError, Global};
+use std::process::Abort;
+use std::test::Fail;
+
+// Parses these arguments.
+fn read(alloc: Global, words: &[&str]) -> Result<Words, WordsFault> {
+    let mut list = Vec::new(alloc);
+    for word in words {
+        let word = String::from_str(alloc, word)?;
+        match list.push(word) {
+            Ok(()) => (),
+            Err(_) => return Err(WordsFault::Memory),
+        }
+    }
+    read_words(alloc, &list)
+}
+
+#[test]
+fn no_words_are_one_input(rt: HostRuntime) {
+    assert!(rt; matches!(read(rt.alloc(), &[]), Ok(Words::Joined)));
+}
+
+#[test]
+fn table_has_its_file(rt: HostRuntime) -> Result<(), Fail> {
+    let words = read(rt.alloc(), &["table", "x"]).map_err(|_| "table x")?;
+    match words {
+        Words::Table { g } => assert_eq!(rt; g.as_str(), "x"),
+        _ => assert!(rt; false),
+    }
+    Ok(())
+}
+
+#[test]
+fn code_has_its_file(rt: HostRuntime) -> Result<(), Fail> {
+    let words = read(rt.alloc(), &["code", "x"]).map_err(|_| "code x")?;
+    match words {
+        Words::Code { g } => assert_eq!(rt; g.as_str(), "x"),
+        _ => assert!(rt; false),
+    }
+    Ok(())
+}
+
+#[test]
+fn check_has_its_file(rt: HostRuntime) -> Result<(), Fail> {
+    let words = read(rt.alloc(), &["check", "x"]).map_err(|_| "check x")?;
+    match words {
+        Words::Check { g } => assert_eq!(rt; g.as_str(), "x"),
+        _ => assert!(rt; false),
+    }
+    Ok(())
+}
+
+// Checks the command that a text of arguments, separated by spaces, denotes.
+fn asks(rt: &impl Abort, alloc: Global, line: &str, expected: &Words) -> Result<(), Fail> {
+    let words: Vec<&str> = line.split(' ').collect(alloc)?;
+    let asked = read(alloc, &words).map_err(|_| "a fault")?;
+    assert!(rt; asked == *expected, "{line}");
+    Ok(())
+}
+
+// A parse of the text t by the grammar file g.
+fn parse(
+    alloc: Global,
+    start: Option<&str>,
+    memo: u32,
+    steps: Option<u64>,
+    all: bool,
+    rows: bool,
+) -> Result<Words, AllocError> {
+    let start = match start {
+        Some(name) => Some(String::from_str(alloc, name)?),
+        None => None,
+    };
+    let g = String::from_str(alloc, "g")?;
+    let t = String::from_str(alloc, "t")?;
+    Ok(Words::Parse {
+        g,
+        t,
+        start,
+        memo,
+        steps,
+        all,
+        rows,
+    })
+}
+
+#[test]
+fn parse_has_its_options(rt: HostRuntime) -> Result<(), Fail> {
+    let alloc = rt.alloc();
+    let cases = [
+        ("parse g t", None, 4096, None, false, false),
+        ("parse g t --rows", None, 4096, None, false, true),
+        ("parse g --all t", None, 4096, None, true, false),
+        ("parse g t --memo 0", None, 0, None, false, false),
+        (
+            "parse --memo=1000000 g t",
+            None,
+            1_000_000,
+            None,
+            false,
+            false,
+        ),
+        ("parse g t --steps 1", None, 4096, Some(1), false, false),
+        (
+            "parse --steps=1000000000000 g t",
+            None,
+            4096,
+            Some(1_000_000_000_000),
+            false,
+            false,
+        ),
+        (
+            "parse g t --start Value",
+            Some("Value"),
+            4096,
+            None,
+            false,
+            false,
+        ),
+        ("parse g t --start -a", Some("-a"), 4096, None, false, false),
+        (
+            "parse g t --start A --memo 7 --steps 8 --all --rows",
+            Some("A"),
+            7,
+            Some(8),
+            true,
+            true,
+        ),
+    ];
+    for (line, start, memo, steps, all, rows) in cases {
+        let expected = parse(alloc, start, memo, steps, all, rows)?;
+        asks(&rt, alloc, line, &expected)?;
+    }
+    Ok(())
+}
+
+// The text printed instead of running a command, and whether it is help.
+fn told(alloc: Global, words: &[&str]) -> Option<(bool, String)> {
+    match read(alloc, words) {
+        Ok(Words::Help { text }) => Some((true, text)),
+        Err(WordsFault::Usage { text }) => Some((false, text)),
+        Ok(_) | Err(WordsFault::Memory) => None,
+    }
+}
+
+// Checks that the arguments ask for help, and that its text contains this part.
+fn helps(rt: &impl Abort, alloc: Global, line: &str, part: &str) -> Result<(), Fail> {
+    let words: Vec<&str> = line.split(' ').collect(alloc)?;
+    let (is_help, text) = told(alloc, &words).ok_or("no text")?;
+    assert!(rt; is_help && text.contains(part), "{text}");
+    Ok(())
+}
+
+#[test]
+fn help_is_told(rt: HostRuntime) -> Result<(), Fail> {
+    let cases = [
+        ("-h", "Usage: pegtool <COMMAND>"),
+        ("--help", "Example: pegtool parse grammar.peg text"),
+        ("--help", "may be written as `\\xHH`"),
+        ("--help", "`e{2,4}` two to four times"),
+        ("check --help", "Usage: pegtool check <G>"),
+        ("check --help", "Example: pegtool check grammar.peg"),
+        ("table --help", "Usage: pegtool table <G>"),
+        ("table --help", "Example: pegtool table grammar.peg"),
+        ("code --help", "Usage: pegtool code <G>"),
+        ("code --help", "Example: pegtool code grammar.peg"),
+        ("parse --help", "Usage: pegtool parse [OPTIONS] <G> <T>"),
+        ("parse --help", "[default: 4096]"),
+        ("parse --help", "--steps <N>"),
+        ("parse --help", "--memo 0 is faster"),
+        (
+            "parse --help",
+            "StepLimit, ask with a greater --steps or --memo",
+        ),
+        (
+            "parse --help",
+            "Example: pegtool parse grammar.peg text --start Value --all --rows",
+        ),
+    ];
+    for (line, part) in cases {
+        helps(&rt, rt.alloc(), line, part)?;
+    }
+    Ok(())
+}
+
+// Checks that the arguments in a text, separated by spaces, are rejected with a message that contains this part.
+fn refused(rt: &impl Abort, alloc: Global, line: &str, part: &str) -> Result<(), Fail> {
+    let words: Vec<&str> = line.split(' ').collect(alloc)?;
+    let (is_help, text) = told(alloc, &words).ok_or("no text")?;
+    assert!(rt; !is_help && text.contains(part), "{text}");
+    assert!(rt; text.contains("--help"), "{text}");
+    Ok(())
+}
+
+#[test]
+fn what_is_no_command_line_is_refused(rt: HostRuntime) -> Result<(), Fail> {
+    let cases = [
+        ("tables", "unrecognized subcommand 'tables'"),
+        ("table", "<G>"),
+        ("table x y", "unexpected argument 'y'"),
+        ("table --all x", "unexpected argument '--all'"),
+        ("code", "<G>"),
+        ("--start", "unexpected argument '--start'"),
+        ("help", "unrecognized subcommand 'help'"),
+        ("parse g", "<T>"),
+        ("parse g t u", "unexpected argument 'u'"),
+        ("parse g t --memo", "a value is required for '--memo <N>'"),
+        ("parse g t --memo 1000001", "1000001 is not in 0..=1000000"),
+        ("parse g t --memo -1", "-1 is not in 0..=1000000"),
+        ("parse g t --memo x", "invalid value 'x' for '--memo <N>'"),
+        (
+            "parse g t --memo 1 --memo 2",
+            "'--memo <N>' cannot be used multiple times",
+        ),
+        ("parse g t --steps", "a value is required for '--steps <N>'"),
+        ("parse g t --steps 0", "0 is not in 1..=1000000000000"),
+        (
+            "parse g t --steps 1000000000001",
+            "1000000000001 is not in 1..=1000000000000",
+        ),
+        (
+            "parse g t --steps -1",
+            "invalid value '-1' for '--steps <N>'",
+        ),
+        ("parse g t --steps x", "invalid value 'x' for '--steps <N>'"),
+        (
+            "parse g t --steps 1 --steps 2",
+            "'--steps <N>' cannot be used multiple times",
+        ),
+    ];
+    for (line, part) in cases {
+        refused(&rt, rt.alloc(), line, part)?;
+    }
+    Ok(())
+}
+
+#[test]
+fn faults_point_at_the_command_that_was_meant(rt: HostRuntime) -> Result<(), Fail> {
+    let cases = [
+        ("check", "pegtool check --help"),
+        ("table x y", "pegtool table --help"),
+        ("code --all x", "pegtool code --help"),
+        ("parse g", "pegtool parse --help"),
+        ("g.peg text", "pegtool parse G T"),
+        ("--rows g t", "pegtool parse G T"),
+    ];
+    for (line, part) in cases {
+        refused(&rt, rt.alloc(), line, part)?;
+    }
+    Ok(())
+}

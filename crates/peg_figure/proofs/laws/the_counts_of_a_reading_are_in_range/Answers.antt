@@ -1,5 +1,0 @@
-use Rattle.peg_figure.proofs.CountsInRange.{IsReading-in_range}
-use Rattle.peg_figure.proofs.laws.the_counts_of_a_reading_are_in_range.Goals as goal
-
-pub returns : goal.returns
-returns c = IsReading-in_range

@@ -1,8 +1,0 @@
-use Rattle.std.proofs.Common.{refl}
-use Rattle.peg_figure.specs.EscapedFigure.{escaped_figure}
-use Rattle.peg_figure.specs.Figure.{figure}
-use Rattle.peg_figure.proofs.laws.the_escaped_figure_has_29_rules.Goals as goal
-
-pub returns : goal.returns
-unfolding figure escaped_figure
-returns c = refl

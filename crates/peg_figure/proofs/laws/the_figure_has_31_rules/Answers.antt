@@ -1,7 +1,0 @@
-use Rattle.std.proofs.Common.{refl}
-use Rattle.peg_figure.specs.Figure.{figure}
-use Rattle.peg_figure.proofs.laws.the_figure_has_31_rules.Goals as goal
-
-pub returns : goal.returns
-unfolding figure
-returns c = refl

@@ -1,5 +1,0 @@
-use Rattle.peg_figure.proofs.FigureWellFormed.{figure-grammar, figure-well_formed}
-use Rattle.peg_figure.proofs.laws.the_figure_is_well_formed.Goals as goal
-
-pub returns : goal.returns
-returns c = record { grammar = figure-grammar; well_formed = figure-well_formed }

@@ -1,5 +1,0 @@
-use Rattle.peg_ford.proofs.GrammarLemmas.{IsGrammar-from_searches, searches_from_IsGrammar}
-use Rattle.peg_ford.proofs.laws.grammars_are_not_refused.Goals as goal
-
-pub returns : goal.returns
-returns c = λ rules. (searches_from_IsGrammar rules, λ right. IsGrammar-from_searches rules right.0 right.1 right.2 right.3)

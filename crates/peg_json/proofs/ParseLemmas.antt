@@ -1,0 +1,119 @@
+-- The printed outcome is the reply to a parse.
+use Rattle.std.proofs.Common.{◌≡◌, inl, inr, ℕ, ◌<◌, ◌≤◌, Bool, true, false, List, length, IfSome, Option, None, Some}
+use Rattle.std.proofs.Common.{refl, sym, ap, ◌∙◌, subst, if◌then◌else◌}
+use Rattle.std.proofs.lemmas.Bool.{cases_lt}
+use Rattle.peg_semantics.specs.Furthest.{IsFurthest}
+use Rattle.peg_grammar.specs.Outcomes.{IsOutcome, parsed_of}
+use Rattle.peg_semantics.specs.Record.{Record}
+use Rattle.peg_semantics.specs.Rules.{Rule, is_defined}
+use Rattle.peg_tree.specs.Trees.{levels}
+use Rattle.peg_tree.specs.declared.outcome.Outcome.{Outcome}
+use Rattle.peg_tree.specs.declared.outcome.Parsed.{Parsed}
+use Rattle.peg_tree.specs.declared.outcome.Parsed.TheVariants as parsed
+use Rattle.peg_parser.specs.Cause.{TooDeep, NoSuchStart}
+use Rattle.peg_grammar.specs.Limits.{max_text_bytes}
+use Rattle.peg_semantics.specs.Starts.{Recognizes, start_of}
+use Rattle.peg_json.specs.Parses.{ParsesTo, PrintsOutcome, IsDeep, extents_at}
+use Rattle.peg_tree.specs.Json.{max_levels}
+use Rattle.peg_json.specs.Parses.{result_reply, no_such_start, failed, too_many_levels, matched}
+use Rattle.peg_json.specs.Reply.{Reply, Refused}
+use Rattle.peg_parser.proofs.OutcomeFits.{parsed-failed, parsed-matched}
+
+-- a parse whose outcome is that of Ford's record
+record Parse (rules : List Rule) (text : List ℕ) (start : Option (List ℕ)) (r : Record) (far : ℕ) (expected : List ℕ)
+    : Type 0 where
+  within : length text ≤ max_text_bytes
+  from : List ℕ
+  starts : start_of rules start ≡ Some from
+  recognized : Recognizes rules text from r
+  furthest : IsFurthest r.tests far expected
+
+deep-parses : (rules : List Rule) (text : List ℕ) (start : Option (List ℕ)) (steps : Option ℕ) (all rows : Bool)
+    (r : Record) (far : ℕ) (expected : List ℕ) (result : Parsed) → Parse rules text start r far expected
+    → result ≡ parsed_of r.result
+    → rows ≡ false → IsDeep result → ParsesTo rules text start steps all rows (Refused TooDeep)
+deep-parses rules text start steps all rows r far expected parsed.Failed it is nested deep = absurd deep
+deep-parses rules text start steps all rows r far expected (parsed.Matched end tree) it is nested deep =
+    too_many_levels it.within it.starts it.recognized (parsed-matched r.result end tree is) nested deep
+
+-- a number that isn't over a limit is at most the limit
+not-over : (a b : ℕ) → ¬ (a < b) → b ≤ a
+not-over a b not = elim (cases_lt a b) [ inl less ↦ absurd (not less) | inr other ↦ other ]
+
+result-parses : (rules : List Rule) (text : List ℕ) (start : Option (List ℕ)) (steps : Option ℕ) (all rows : Bool)
+    (r : Record) (far : ℕ) (expected : List ℕ) (result : Parsed) → Parse rules text start r far expected
+    → result ≡ parsed_of r.result
+    → (rows ≡ false → ¬ IsDeep result)
+    → ParsesTo rules text start steps all rows
+    (result_reply rules (length text) all rows far (extents_at rules expected) result)
+result-parses rules text start steps all rows r far expected parsed.Failed it is shallow =
+    failed it.within it.starts it.recognized (parsed-failed r.result is) it.furthest
+result-parses rules text start steps all rows r far expected (parsed.Matched end tree) it is shallow =
+    matched it.within it.starts it.recognized (parsed-matched r.result end tree is)
+    (λ nested. not-over max_levels (levels tree) (shallow nested)) it.furthest
+
+pub prints-parses : (rules : List Rule) (text : List ℕ) (start : Option (List ℕ)) (steps : Option ℕ) (all rows : Bool)
+    (outcome : Outcome)
+    → length text ≤ max_text_bytes → (from : List ℕ) → start_of rules start ≡ Some from
+    → IsOutcome rules text from outcome → (reply : Reply)
+    → PrintsOutcome rules outcome (length text) all rows reply → ParsesTo rules text start steps all rows reply
+prints-parses rules text start steps all rows outcome within from starts is reply prints = by prints
+  where
+    r : Record
+    r = is.1.0
+
+    it : Parse rules text start r outcome.far outcome.expected.items
+    it = record {
+      within = within;
+      from = from;
+      starts = starts;
+      recognized = (is.0, is.1.1);
+      furthest = is.1.3;
+    }
+
+    by : PrintsOutcome rules outcome (length text) all rows reply → ParsesTo rules text start steps all rows reply
+    by (inl deep) =
+        subst (ParsesTo rules text start steps all rows) (sym deep.2)
+        (deep-parses rules text start steps all rows r outcome.far outcome.expected.items outcome.result it is.1.2
+        deep.0 deep.1)
+    by (inr shallow) =
+        subst (ParsesTo rules text start steps all rows) (sym shallow.1)
+        (result-parses rules text start steps all rows r outcome.far outcome.expected.items outcome.result it is.1.2
+        shallow.0)
+
+-- the name of a start that no rule has
+pub missing-parses : (rules : List Rule) (text : List ℕ) (start : Option (List ℕ)) (steps : Option ℕ) (all rows : Bool)
+    (name : List ℕ)
+    → length text ≤ max_text_bytes → start ≡ Some name → start_of rules start ≡ None
+    → ParsesTo rules text start steps all rows (Refused (NoSuchStart name))
+missing-parses rules text start steps all rows name within named none =
+    no_such_start name within named (by (is_defined rules name) refl)
+  where
+    missing : start_of rules (Some name) ≡ None
+    missing = sym (ap (start_of rules) named) ∙ none
+
+    by : (known : Bool) → is_defined rules name ≡ known → is_defined rules name ≡ false
+    by true is =
+        let both : Some name ≡ None =
+        sym (ap (λ (b : Bool). if b then Some name else None) is) ∙ missing in cc
+    by false is = is
+
+pub outcome-parses : (rules : List Rule) (text : List ℕ) (start : Option (List ℕ)) (steps : Option ℕ) (all rows : Bool)
+    (outcome : Outcome)
+    → length text ≤ max_text_bytes → (start_of rules start ≡ None → ⊥)
+    → IfSome (start_of rules start) (λ from. IsOutcome rules text from outcome) → (reply : Reply)
+    → PrintsOutcome rules outcome (length text) all rows reply → ParsesTo rules text start steps all rows reply
+outcome-parses rules text start steps all rows outcome within some is reply prints =
+    by (start_of rules start) refl some is
+  where
+    by : (found : Option (List ℕ)) → start_of rules start ≡ found → (found ≡ None → ⊥)
+        → IfSome found (λ from. IsOutcome rules text from outcome) → ParsesTo rules text start steps all rows reply
+    by None there some is = absurd (some refl)
+    by (Some from) there some is =
+        prints-parses rules text start steps all rows outcome within from there is reply prints
+
+-- if the start is no rule, a name was given
+pub start-given : (rules : List Rule) (start : Option (List ℕ)) → start_of rules start ≡ None
+    → (name : List ℕ) × (start ≡ Some name)
+start-given rules None none = cc
+start-given rules (Some name) none = (name, refl)

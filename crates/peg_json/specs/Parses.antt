@@ -1,0 +1,70 @@
+-- The reply to a parse of a text by an accepted grammar (Ford 2004, section 3.3).
+use Rattle.std.specs.Prelude.{◌≡◌, ◌⊎◌, ℕ, ◌<◌, ◌≤◌, Bool, false}
+use Rattle.std.specs.Prelude.{◌&&◌, nat_lt, List, length, map, slice_index_or, Option, Some}
+use Rattle.peg_bytes.specs.Extent.{Extent, between}
+use Rattle.peg_semantics.specs.Furthest.{IsFurthest}
+use Rattle.peg_semantics.specs.Record.{Record}
+use Rattle.peg_semantics.specs.Record as recognition
+use Rattle.peg_semantics.specs.Rules.{Rule, names, is_defined}
+use Rattle.peg_semantics.specs.Terminals.{extents_of_terminals}
+use Rattle.peg_tree.specs.Json.{max_levels}
+use Rattle.peg_tree.specs.Trees.{Trees, levels}
+use Rattle.peg_tree.specs.declared.outcome.Outcome.{Outcome}
+use Rattle.peg_tree.specs.declared.outcome.Parsed.{Parsed}
+use Rattle.peg_tree.specs.declared.outcome.Parsed.TheVariants as parsed
+use Rattle.peg_parser.specs.Cause.{NoSuchStart, StepLimit, TooDeep, TextTooLong}
+use Rattle.peg_parser.specs.StepLimits.{TakesMoreSteps}
+use Rattle.peg_grammar.specs.Limits.{max_text_bytes}
+use Rattle.peg_semantics.specs.Starts.{Recognizes, start_of}
+use Rattle.peg_json.specs.Reply.{Reply, Refused, Failed, Matched}
+
+-- the spans in the grammar file of the terminals with these numbers
+abbrev pub extents_at : List Rule → List ℕ → List Extent
+extents_at rules terminals = map (λ terminal. slice_index_or (extents_of_terminals rules) terminal (between 0 0))
+    terminals
+
+-- The reply to a parse of a text from a start, with an optional step limit. `all` asks for a match of the whole text,
+-- and `rows` for the list of nodes. A text that is too long is reported before a start that no rule has.
+--
+-- If the parse exceeds the step limit, that may be reported, or the result of the parse.
+pub data ParsesTo (rules : List Rule) (text : List ℕ) (start : Option (List ℕ)) (steps : Option ℕ) (all rows : Bool)
+    : Reply → Type 0 where
+  text_too_long : max_text_bytes < length text → ParsesTo rules text start steps all rows (Refused TextTooLong)
+  no_such_start : (name : List ℕ) → length text ≤ max_text_bytes → start ≡ Some name → is_defined rules name ≡ false
+      → ParsesTo rules text start steps all rows (Refused (NoSuchStart name))
+  too_many_steps : length text ≤ max_text_bytes → TakesMoreSteps rules text start steps
+      → ParsesTo rules text start steps all rows (Refused StepLimit)
+  failed : {from : List ℕ} {r : Record} {far : ℕ} {terminals : List ℕ} → length text ≤ max_text_bytes
+      → start_of rules start ≡ Some from → Recognizes rules text from r → r.result ≡ recognition.Failed
+      → IsFurthest r.tests far terminals
+      → ParsesTo rules text start steps all rows (Failed far (extents_at rules terminals))
+  too_many_levels : {from : List ℕ} {r : Record} {end : ℕ} {tree : Trees} → length text ≤ max_text_bytes
+      → start_of rules start ≡ Some from → Recognizes rules text from r → r.result ≡ recognition.Matched end tree
+      → rows ≡ false → max_levels < levels tree → ParsesTo rules text start steps all rows (Refused TooDeep)
+  matched : {from : List ℕ} {r : Record} {end far : ℕ} {terminals : List ℕ} {tree : Trees}
+      → length text ≤ max_text_bytes → start_of rules start ≡ Some from → Recognizes rules text from r
+      → r.result ≡ recognition.Matched end tree → (rows ≡ false → levels tree ≤ max_levels)
+      → IsFurthest r.tests far terminals
+      → ParsesTo rules text start steps all rows
+      (Matched (all && nat_lt end (length text)) rows end far (extents_at rules terminals) (names rules) tree)
+
+-- the reply that prints an outcome, for a text of this length
+abbrev pub result_reply : List Rule → (len : ℕ) → (all rows : Bool) → (far : ℕ) → List Extent → Parsed → Reply
+result_reply rules len all rows far expected parsed.Failed = Failed far expected
+result_reply rules len all rows far expected (parsed.Matched end tree) =
+    Matched (all && nat_lt end len) rows end far expected (names rules) tree
+
+abbrev pub outcome_reply : List Rule → Outcome → (len : ℕ) → (all rows : Bool) → Reply
+outcome_reply rules outcome len all rows =
+    result_reply rules len all rows outcome.far (extents_at rules outcome.expected.items) outcome.result
+
+-- the tree of an outcome has more levels than the nested form may have
+abbrev pub IsDeep : Parsed → Type 0
+IsDeep parsed.Failed = ⊥
+IsDeep (parsed.Matched end tree) = max_levels < levels tree
+
+-- the reply to an outcome: the outcome, or that its tree is too deep for the nested form
+abbrev pub PrintsOutcome : List Rule → Outcome → (len : ℕ) → (all rows : Bool) → Reply → Type 0
+PrintsOutcome rules outcome len all rows reply =
+    ((rows ≡ false) × IsDeep outcome.result × (reply ≡ Refused TooDeep))
+    ⊎ ((rows ≡ false → ¬ IsDeep outcome.result) × (reply ≡ outcome_reply rules outcome len all rows))

@@ -1,0 +1,97 @@
+-- The line and the exit status of the tool's replies.
+use Rattle.std.specs.Prelude.{ℕ, Bool, true, false, List, [], ◌∷◌, ◌++◌, codes, map, slice_index_or, if◌then◌else◌}
+use Rattle.serde_json.specs.Data.{Data, Members, unsigned, number, string}
+use Rattle.serde_json.specs.Data.{array, object, no_members, member, no_items, item}
+use Rattle.serde_json.specs.Data.{null}
+use Rattle.serde_json.specs.View.{items_of}
+use Rattle.serde_json.specs.Written.{compact_text}
+use Rattle.peg_bytes.specs.Extent.{Extent}
+use Rattle.peg_semantics.specs.AbstractOutcomes.{Can}
+use Rattle.peg_tree.specs.Trees.{Trees}
+use Rattle.peg_tree.specs.Json.{nested_data, rows_data}
+use Rattle.peg_code.specs.Instructions.{Instruction}
+use Rattle.peg_parser.specs.Cause.{Cause}
+use Rattle.peg_json.specs.CauseText.{cause_data, cause_status}
+use Rattle.peg_json.specs.CodeText.{code_data}
+use Rattle.peg_json.specs.TableText.{table_data}
+
+-- A reply of the tool: a refusal, a table of outcomes with the rules' names, or the number of rules of an accepted
+-- grammar. Others are the code with the entry of each rule, a failure, and a match.
+--
+-- A failure is the furthest failure: a position of the text, and the spans of terminals in the grammar file. A match
+-- adds to these its end, the rules' names and the tree. `partial` is a match shorter than asked for, and `rows` the
+-- list form.
+pub data Reply : Type 0 where
+  Refused : Cause → Reply
+  Tabled : (names : List (List ℕ)) → (cans : List Can) → Reply
+  Accepted : (rules : ℕ) → Reply
+  Coded : (code : List Instruction) → (entries : List ℕ) → Reply
+  Failed : (far : ℕ) → (expected : List Extent) → Reply
+  Matched : (partial rows : Bool) → (end far : ℕ) → (expected : List Extent) → (names : List (List ℕ)) → (tree : Trees)
+      → Reply
+
+-- the exit status of a reply: 0 success, 1 a failed or partial match, otherwise that of the refusal
+abbrev pub status_of : Reply → ℕ
+status_of (Refused cause) = cause_status cause
+status_of (Tabled names cans) = 0
+status_of (Accepted rules) = 0
+status_of (Coded code entries) = 0
+status_of (Failed far expected) = 1
+status_of (Matched partial rows end far expected names tree) = if partial then 1 else 0
+
+-- the JSON of the span of a terminal
+abbrev pub extent_data : Extent → Data
+extent_data extent = array (item (number (unsigned extent.start)) (item (number (unsigned extent.end)) no_items))
+
+abbrev pub expected_data : List Extent → Data
+expected_data expected = array (items_of (map extent_data expected))
+
+-- The JSON of a tree: the nested object of the first tree of the list, or the list of all nodes. The trees of an
+-- outcome are one tree. An empty list would give `null`, which no reply has.
+abbrev pub tree_data : List (List ℕ) → Trees → Data
+tree_data names tree = slice_index_or (nested_data names tree) 0 null
+
+abbrev pub tree_rows_data : List (List ℕ) → Trees → Data
+tree_rows_data names tree = array (items_of (rows_data names 1 tree))
+
+-- the last member of the JSON of a match
+abbrev pub tree_member : (rows : Bool) → List (List ℕ) → Trees → Members
+tree_member true names tree = member (codes "rows") (tree_rows_data names tree) no_members
+tree_member false names tree = member (codes "tree") (tree_data names tree) no_members
+
+-- the `result` of a match: of all that was asked for, or of a part of it
+abbrev pub match_word : (partial : Bool) → List ℕ
+match_word true = codes "partial"
+match_word false = codes "matched"
+
+-- the JSON of a match
+abbrev pub matched_data : (partial : Bool) → (end far : ℕ) → List Extent → (tree : Members) → Data
+matched_data partial end far expected tree =
+    object (member (codes "consumed") (number (unsigned end)) (member (codes "expected") (expected_data expected)
+    (member (codes "far") (number (unsigned far)) (member (codes "result") (string (match_word partial)) tree))))
+
+-- the JSON of a failure
+abbrev pub failed_data : (far : ℕ) → List Extent → Data
+failed_data far expected =
+    object (member (codes "expected") (expected_data expected) (member (codes "far") (number (unsigned far))
+    (member (codes "result") (string (codes "failed")) no_members)))
+
+-- the JSON of an accepted grammar
+abbrev pub accepted_data : (rules : ℕ) → Data
+accepted_data rules =
+    object (member (codes "result") (string (codes "accepted")) (member (codes "rules") (number (unsigned rules))
+    no_members))
+
+-- the JSON of a reply about this grammar file
+abbrev pub printed : (file : List ℕ) → Reply → Data
+printed file (Refused cause) = cause_data file cause
+printed file (Tabled names cans) = table_data names cans
+printed file (Accepted rules) = accepted_data rules
+printed file (Coded code entries) = code_data code entries
+printed file (Failed far expected) = failed_data far expected
+printed file (Matched partial rows end far expected names tree) =
+    matched_data partial end far expected (tree_member rows names tree)
+
+-- the printed line, with its line end, byte 10
+abbrev pub printed_line : (file : List ℕ) → Reply → List ℕ
+printed_line file reply = compact_text (printed file reply) ++ 10 ∷ []

@@ -1,0 +1,88 @@
+//! The JSON objects of answers, for a serializer.
+ghost use Rattle.std.specs.Prelude.{◌≡◌, Bool, OnOk};
+ghost use Rattle.serde_json.specs.Data.{array, no_items};
+ghost use Rattle.serde_json.specs.Events.{SendsValue};
+ghost use Rattle.peg_json.specs.Reply.{failed_data, match_word};
+ghost use Rattle.peg_json.specs.Sending.{SendsMatch, places_of};
+
+use crate::places::Places;
+use peg_tree::send_member;
+use serde::{Described, Serialize, Serializer};
+
+// A parse that failed, with its furthest failure.
+#[derive(Drop)]
+pub(crate) struct Failure<'a> {
+    pub far: u32,
+    pub expected: Places<'a>,
+}
+
+impl Described for Failure<'_> {
+    ghost writes = { λ failure. SendsValue (failed_data failure.far (places_of failure.expected)) };
+}
+
+impl Serialize for Failure<'_> {
+    fn serialize<S: Serializer>(&self, out: &mut S) -> Result<(), S::Error> {
+        out.begin_map(Some(3))?;
+        send_member("expected", &self.expected, out)?;
+        send_member("far", &self.far, out)?;
+        send_member("result", &"failed", out)?;
+        out.end_map()
+    }
+}
+
+// The members of a match without its tree. `partial` marks a match of less than the whole text where the whole was
+// asked for.
+#[derive(Drop)]
+pub(crate) struct Summary<'a> {
+    pub partial: bool,
+    pub end: u32,
+    pub far: u32,
+    pub expected: Places<'a>,
+}
+
+// An empty list.
+#[derive(Clone, Copy)]
+pub(crate) struct NoRows;
+
+impl Described for NoRows {
+    ghost writes = { λ _. SendsValue (array no_items) };
+}
+
+impl Serialize for NoRows {
+    fn serialize<S: Serializer>(&self, out: &mut S) -> Result<(), S::Error> {
+        out.begin_seq(Some(0))?;
+        out.end_seq()
+    }
+}
+
+// A match with its tree, which is the member `key`.
+#[derive(Drop)]
+pub(crate) struct Match<'a, T> {
+    pub summary: Summary<'a>,
+    pub key: &'static str,
+    pub tree: T,
+}
+
+impl<T: Described> Described for Match<'_, T> {
+    ghost writes = { λ told. SendsMatch told.summary.partial told.summary.end told.summary.far
+        (places_of told.summary.expected) told.key.now (T.writes told.tree) };
+}
+
+impl<T: Serialize> Serialize for Match<'_, T> {
+    fn serialize<S: Serializer>(&self, out: &mut S) -> Result<(), S::Error> {
+        out.begin_map(Some(5))?;
+        send_member("consumed", &self.summary.end, out)?;
+        send_member("expected", &self.summary.expected, out)?;
+        send_member("far", &self.summary.far, out)?;
+        send_member("result", &match_word(self.summary.partial), out)?;
+        send_member(self.key, &self.tree, out)?;
+        out.end_map()
+    }
+}
+
+// The `result` member of a match.
+fn match_word(partial: bool) -> &'static str
+    ensures { result.now ≡ match_word partial }
+{
+    if partial { "partial" } else { "matched" }
+}

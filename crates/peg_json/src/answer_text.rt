@@ -1,0 +1,135 @@
+//! Answers as JSON.
+ghost use Rattle.std.specs.Prelude.{◌≡◌, ◌↔◌, ◌<◌, ℕ, Bool, List, IfOk, false, length, string_bytes};
+ghost use Rattle.serde_json.specs.Written.{compact_text};
+ghost use Rattle.peg_semantics.specs.Rules.{Rule, names};
+ghost use Rattle.peg_grammar.specs.GrammarRules.{rules_in};
+ghost use Rattle.peg_tree.specs.Nodes.{RulesBelow};
+ghost use Rattle.peg_parser.specs.Parser.{parser_rules};
+ghost use Rattle.peg_parser.specs.Fits.{Fits};
+ghost use Rattle.peg_json.specs.Parses.{IsDeep, outcome_reply};
+ghost use Rattle.peg_json.specs.Reply.{failed_data, matched_data, printed, status_of, tree_member};
+ghost use Rattle.peg_json.specs.Sending.{places_of};
+ghost use Rattle.peg_json.specs.Statuses.{code_of};
+ghost use Rattle.peg_json.specs.TreeForms.{is_rows};
+
+use crate::answer_object::{Failure, Match, Summary};
+use crate::places::Places;
+use crate::status::Status;
+use crate::text::text_of;
+use crate::tree_form::TreeForm;
+use peg_grammar::Grammar;
+use peg_parser::{Answer, Parser};
+use peg_tree::{JsonFault, MAX_LEVELS, NestedTree, Parsed, Tree, TreeRows};
+use std::alloc::{AllocError, Global};
+
+/// Returns an answer as one line of JSON without its line end. With `all`, a match of less than the text's `text_len`
+/// bytes is reported as partial. With `rows` the tree is a list of its nodes in preorder, otherwise nested objects.
+///
+/// Returns `TooDeep` for a nested tree of more than 60 levels. Terminals are reported by their spans in the grammar
+/// file. Linear in the tree and the length of its rules' names. Allocates the line and the list of open nodes.
+pub fn answer_json(
+    alloc: Global,
+    parser: &Parser,
+    answer: &Answer,
+    text_len: u32,
+    all: bool,
+    rows: bool,
+) -> Result<String, JsonFault>
+    requires { Fits (parser_rules parser.now) answer.now.outcome }
+    ensures text { (file : List ℕ) → IfOk result (λ text. string_bytes text
+        ≡ compact_text (printed file (outcome_reply (parser_rules parser.now) answer.now.outcome text_len all rows))) }
+    ensures too_deep { (result ≡ Err JsonFault.TooDeep) ↔ ((rows ≡ false) × IsDeep answer.now.outcome.result) }
+{
+    answer_text(alloc, parser, answer, text_len, all, TreeForm::of(rows))
+}
+
+/// Returns an answer as JSON, with the tree in this form.
+pub(crate) fn answer_text(
+    alloc: Global,
+    parser: &Parser,
+    answer: &Answer,
+    text_len: u32,
+    all: bool,
+    form: TreeForm,
+) -> Result<String, JsonFault>
+    requires { Fits (parser_rules parser.now) answer.now.outcome }
+    ensures text { (file : List ℕ) → IfOk result (λ text. string_bytes text ≡ compact_text
+        (printed file (outcome_reply (parser_rules parser.now) answer.now.outcome text_len all (is_rows form)))) }
+    ensures too_deep { (result ≡ Err JsonFault.TooDeep)
+        ↔ ((is_rows form ≡ false) × IsDeep answer.now.outcome.result) }
+{
+    let outcome = &answer.outcome;
+    let expected = Places::new(parser, &outcome.expected);
+    match &outcome.result {
+        Parsed::Failed => Ok(failed_text(alloc, outcome.far, expected)?),
+        Parsed::Matched { tree, .. } if form == TreeForm::Nested && tree.depth() > MAX_LEVELS => {
+            Err(JsonFault::TooDeep)
+        }
+        Parsed::Matched { end, tree } => {
+            let partial = all && *end < text_len;
+            let summary = Summary {
+                partial,
+                end: *end,
+                far: outcome.far,
+                expected,
+            };
+            Ok(matched_text(alloc, summary, parser.grammar(), tree, form)?)
+        }
+    }
+}
+
+// The JSON of a failure.
+pub(crate) fn failed_text(
+    alloc: Global,
+    far: u32,
+    expected: Places<'_>,
+) -> Result<String, AllocError>
+    ensures { IfOk result (λ text. string_bytes text ≡ compact_text (failed_data far (places_of expected.entry))) }
+{
+    text_of(alloc, &Failure { far, expected })
+}
+
+// The JSON of a match, with its tree in this form.
+fn matched_text(
+    alloc: Global,
+    summary: Summary<'_>,
+    grammar: &Grammar,
+    tree: &Tree,
+    form: TreeForm,
+) -> Result<String, AllocError>
+    requires { RulesBelow (length (rules_in grammar.now)) tree.now }
+    ensures { IfOk result (λ text. string_bytes text ≡ compact_text
+        (matched_data summary.entry.partial summary.entry.end summary.entry.far (places_of summary.entry.expected)
+        (tree_member (is_rows form) (names (rules_in grammar.now)) tree.now))) }
+{
+    match form {
+        TreeForm::Rows => text_of(
+            alloc,
+            &Match {
+                summary,
+                key: "rows",
+                tree: TreeRows::new(alloc, tree, grammar),
+            },
+        ),
+        TreeForm::Nested => text_of(
+            alloc,
+            &Match {
+                summary,
+                key: "tree",
+                tree: NestedTree::new(alloc, tree, grammar),
+            },
+        ),
+    }
+}
+
+/// Returns the exit status of an answer.
+pub(crate) fn answer_status(answer: &Answer, text_len: u32, all: bool) -> Status
+    ensures { (rules : List Rule) (rows : Bool) →
+        code_of result ≡ status_of (outcome_reply rules answer.now.outcome text_len all rows) }
+{
+    match &answer.outcome.result {
+        Parsed::Failed => Status::Failed,
+        Parsed::Matched { end, .. } if all && *end < text_len => Status::Failed,
+        Parsed::Matched { .. } => Status::Done,
+    }
+}

@@ -1,0 +1,31 @@
+//! Replies: the line of JSON and the exit status for an answer, a refusal, a table, code or an accepted grammar.
+#![tactic(auto)]
+
+mod answer_object;
+mod answer_text;
+mod byte_runs;
+mod code_text;
+mod fault;
+mod line;
+mod lines;
+mod places;
+mod refusal_text;
+mod row_lines;
+mod status;
+mod table_text;
+mod text;
+mod tree_form;
+
+pub use answer_text::answer_json;
+pub use code_text::code_json;
+pub use fault::Fault;
+pub use line::Line;
+pub use lines::{
+    accepted_line, answer_line, code_line, long_text_line, no_start_line, refused_line,
+    step_limit_line, table_line,
+};
+pub use refusal_text::refusal_json;
+pub use row_lines::rows_line;
+pub use status::Status;
+pub use table_text::table_json;
+pub use tree_form::TreeForm;

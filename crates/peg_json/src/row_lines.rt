@@ -1,0 +1,121 @@
+//! The lines of answers whose trees are lists of nodes.
+ghost use Rattle.std.specs.Prelude.{◌≡◌, ◌<◌, ◌&&◌, All, List, ℕ, IfOk, codes, length, nat_lt, string_bytes, true};
+ghost use Rattle.serde_json.specs.Data.{array, member, no_items, no_members};
+ghost use Rattle.serde_json.specs.Written.{compact_text};
+ghost use Rattle.peg_semantics.specs.Terminals.{extents_of_terminals};
+ghost use Rattle.peg_parser.specs.Fits.{Fits};
+ghost use Rattle.peg_parser.specs.Parser.{parser_rules};
+ghost use Rattle.peg_json.specs.Lines.{IsLineOf, line_bytes, line_text};
+ghost use Rattle.peg_json.specs.Parses.{PrintsOutcome, extents_at, outcome_reply};
+ghost use Rattle.peg_json.specs.Reply.{failed_data, matched_data, printed};
+ghost use Rattle.peg_json.specs.Statuses.{code_of};
+
+use crate::answer_object::{Match, NoRows, Summary};
+use crate::answer_text::{answer_status, failed_text};
+use crate::line::Line;
+use crate::places::Places;
+use crate::status::Status;
+use crate::text::text_of;
+use peg_parser::{Answer, Parser};
+use peg_tree::{Outcome, Parsed, RowsText};
+use std::alloc::{AllocError, Global};
+
+/// Returns the line of an answer whose tree is a list of its nodes in preorder. The nodes are formatted piece by piece
+/// later. The text has `text_len` bytes.
+pub fn rows_line(
+    alloc: Global,
+    parser: &Parser,
+    answer: Answer,
+    text_len: u32,
+    all: bool,
+) -> Result<Line, AllocError>
+    requires { Fits (parser_rules parser.now) answer.outcome }
+    ensures { (file : List ℕ) → IfOk result (λ line. IsLineOf file
+        (PrintsOutcome (parser_rules parser.now) answer.outcome text_len all true)
+        (line_bytes line) (code_of line.status)) }
+{
+    let status = answer_status(&answer, text_len, all);
+    outcome_line(alloc, parser, answer.outcome, text_len, all, status)
+}
+
+// The line of an outcome, with this exit status.
+fn outcome_line(
+    alloc: Global,
+    parser: &Parser,
+    outcome: Outcome,
+    text_len: u32,
+    all: bool,
+    status: Status,
+) -> Result<Line, AllocError>
+    requires { Fits (parser_rules parser.now) outcome }
+    ensures text { (file : List ℕ) → IfOk result (λ line. line_text line
+        ≡ compact_text (printed file (outcome_reply (parser_rules parser.now) outcome text_len all true))) }
+    ensures status { IfOk result (λ line. line.status ≡ status) }
+{
+    let Outcome {
+        result,
+        far,
+        expected,
+    } = outcome;
+    match result {
+        Parsed::Failed => Ok(Line::new(failure(alloc, parser, far, &expected)?, status)),
+        Parsed::Matched { end, tree } => {
+            let partial = is_partial(all, end, text_len);
+            let text = empty_text(alloc, parser, partial, end, far, &expected)?;
+            let rows = RowsText::new(alloc, tree, parser.grammar())?;
+            Ok(Line::with_rows(text, rows, status))
+        }
+    }
+}
+
+// Whether the match is shorter than asked for.
+fn is_partial(all: bool, end: u32, text_len: u32) -> bool
+    ensures { result ≡ (all && nat_lt end text_len) }
+{
+    all && end < text_len
+}
+
+// The JSON of a failure of the terminals with these numbers.
+fn failure(
+    alloc: Global,
+    parser: &Parser,
+    far: u32,
+    terminals: &[u32],
+) -> Result<String, AllocError>
+    requires { All (λ terminal. terminal < length (extents_of_terminals (parser_rules parser.now))) terminals.now }
+    ensures { IfOk result (λ text. string_bytes text
+        ≡ compact_text (failed_data far (extents_at (parser_rules parser.now) terminals.now))) }
+{
+    failed_text(alloc, far, Places::new(parser, terminals))
+}
+
+// The JSON of a match with an empty list of nodes.
+fn empty_text(
+    alloc: Global,
+    parser: &Parser,
+    partial: bool,
+    end: u32,
+    far: u32,
+    terminals: &[u32],
+) -> Result<String, AllocError>
+    requires { All (λ terminal. terminal < length (extents_of_terminals (parser_rules parser.now))) terminals.now }
+    ensures { IfOk result (λ text. string_bytes text ≡ compact_text
+        (matched_data partial end far (extents_at (parser_rules parser.now) terminals.now)
+        (member (codes "rows") (array no_items) no_members))) }
+{
+    let expected = Places::new(parser, terminals);
+    let summary = Summary {
+        partial,
+        end,
+        far,
+        expected,
+    };
+    text_of(
+        alloc,
+        &Match {
+            summary,
+            key: "rows",
+            tree: NoRows,
+        },
+    )
+}

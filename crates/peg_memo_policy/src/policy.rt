@@ -1,0 +1,257 @@
+//! The policy that decides which results are stored.
+//!
+//! **Work pays for copies.** To store a result is to copy its nodes. `credit` grows with each body that is run and with
+//! each node that a hit returns. It shrinks by the nodes that are stored. A result is stored only if the credit has
+//! grown by at least its number of nodes since its body began. So no more nodes are copied than work was done. A body
+//! that is declined for this reason has left nodes in the memo for at least half of its work, and a second run finds
+//! them. A rule in debt has a higher price: the credit must have grown by more than `WORK_PER_CALL` for each node. If each of
+//! these nodes was computed once and nothing else was, running the body again costs hardly more than a copy.
+//!
+//! **Tiny rules aren't looked up.** Their bodies cost less than a memo lookup.
+//!
+//! **What was never stored isn't looked up**: see `RecentFilter`.
+//!
+//! **Each rule has a balance.** A stored result lowers the balance, and a hit raises it. A rule in debt has few calls
+//! that are repeated, so only a sample of its small results is stored. The sample shows when this changes. A small
+//! result is one that is cheap to compute again. The counted work of its body is bounded, and by `RerunCost` its own
+//! instructions are bounded too. Such a body runs again at most as often as it is called, and its work then counts as
+//! work of the calling body. If that work grows, the calling body is no longer small. Then the first test alone decides
+//! whether it is stored.
+use crate::recent_filter::RecentFilter;
+use crate::size::Size;
+use crate::{RerunCost, RerunCosts};
+use std::alloc::{AllocError, Global};
+
+// The work that a body counts for, besides its nodes.
+const WORK_PER_CALL: u64 = 4;
+
+// A rule with a smaller balance is in debt. A rule starts with the price of 512 stored failures more, so that on short
+// texts everything is stored.
+const DEBT_THRESHOLD: u64 = 256;
+
+const INITIAL_BALANCE: u64 = 4352;
+
+const MAX_BALANCE: u64 = 65536;
+
+// What each stored result costs its rule besides its nodes, and what each hit adds besides what it saves.
+const STORE_COST: u64 = 8;
+
+const HIT_GAIN: u64 = 4;
+
+// The work of a small result is less than `SMALL_WORK`, plus `SMALL_WORK_PER_NODE` for each of its nodes.
+const SMALL_WORK: u64 = 256;
+
+const SMALL_WORK_PER_NODE: u64 = 16;
+
+// A rule in debt stores one in `SAMPLE_PERIOD` of its small results, and fewer of those with more nodes.
+const SAMPLE_PERIOD: u64 = 128;
+
+// The account of a rule.
+#[derive(Clone, Copy)]
+struct RuleAccount {
+    trivial: bool,
+    linear_on_success: bool,
+    // The number of small results that were declined since the last one was stored.
+    skipped: u32,
+    balance: u64,
+}
+
+// Bodies that began directly within each other. The credit grew by `WORK_PER_CALL` from each to the next.
+#[derive(Clone, Copy)]
+struct CallRun {
+    // The credit after the start of the newest body.
+    next: u64,
+    bodies: u64,
+}
+
+/// The decisions on one parse: what was stored recently, and how far it was of use.
+#[derive(Drop)]
+pub struct Policy<'a> {
+    text: &'a [u8],
+    costs: &'a RerunCosts,
+    accounts: Vec<RuleAccount>,
+    recent: RecentFilter,
+    // The open bodies, without the newest `untracked` ones, for which an allocation failed.
+    open: Vec<CallRun>,
+    untracked: u64,
+    credit: u64,
+}
+
+impl<'a> Policy<'a> {
+    /// Returns the policy of a memo that has no entries yet. The only error is a failed allocation.
+    pub fn new(
+        alloc: Global,
+        capacity: u32,
+        costs: &'a RerunCosts,
+        text: &'a [u8],
+    ) -> Result<Policy<'a>, AllocError> {
+        Ok(Policy {
+            text,
+            costs,
+            accounts: first_accounts(alloc, costs.rules())?,
+            recent: RecentFilter::new(alloc, capacity)?,
+            open: Vec::new(alloc),
+            untracked: 0,
+            credit: 0,
+        })
+    }
+
+    /// Returns whether the memo must be searched for a call. If not, this call counts as the start of its body.
+    pub fn should_look_up(&mut self, rule: u32, place: u32) -> bool {
+        match self.accounts.get(rule as usize) {
+            Some(account) if account.trivial => {
+                self.credit = self.credit.saturating_add(WORK_PER_CALL);
+                false
+            }
+            Some(_) if self.recent.has(rule, place) => true,
+            Some(_) => {
+                self.begin();
+                false
+            }
+            None => false,
+        }
+    }
+
+    /// Records the start of a body. If an allocation fails, the result of this body isn't stored. Neither are the
+    /// results of bodies that start within it, until an allocation succeeds. They then count as started with the body
+    /// for which it succeeded.
+    pub fn begin(&mut self) {
+        match self.open.last_mut() {
+            Some(run) if run.next == self.credit && self.untracked == 0 => {
+                run.bodies = run.bodies.saturating_add(1);
+                run.next = run.next.saturating_add(WORK_PER_CALL);
+                self.credit = run.next;
+            }
+            _ => self.begin_run(),
+        }
+    }
+
+    // Records the start of a body that is not directly within the newest nest. Bodies that were missed join it.
+    #[inline(never)]
+    fn begin_run(&mut self) {
+        let bodies = self.untracked.saturating_add(1);
+        let next = self.credit.saturating_add(WORK_PER_CALL);
+        if self.open.push(CallRun { next, bodies }).is_ok() {
+            self.untracked = 0;
+            self.credit = next;
+        } else {
+            self.untracked = bodies;
+        }
+    }
+
+    /// Records a hit: the memo returned the result of a rule at a position.
+    pub fn note_found(&mut self, rule: u32, place: u32, size: Size) {
+        self.recent.note_found(rule, place);
+        self.credit = self.credit.saturating_add(size.rows.saturating_mul(2));
+        if let Some(account) = self.accounts.get_mut(rule as usize) {
+            let saved = size.rows.saturating_mul(4).saturating_add(size.bytes);
+            let balance = account
+                .balance
+                .saturating_add(saved)
+                .saturating_add(HIT_GAIN);
+            account.balance = balance.min(MAX_BALANCE);
+        }
+    }
+
+    /// Returns whether the result of a body that has ended should be stored. The result of the first call of the start
+    /// rule is not, since nothing looks it up. Nor is the result of a body whose start could not be recorded.
+    pub fn should_store(&mut self, rule: u32, place: u32, size: Size) -> bool {
+        let Some(account) = self.accounts.get_mut(rule as usize) else {
+            return false;
+        };
+        if account.trivial {
+            return false;
+        }
+        if self.untracked > 0 {
+            self.untracked = self.untracked.saturating_sub(1);
+            return false;
+        }
+        let Some(began) = end_newest_call(&mut self.open) else {
+            return false;
+        };
+        let work = self.credit.saturating_sub(began);
+        if work < account.price_of(size.rows) {
+            return false;
+        }
+        if account.balance >= DEBT_THRESHOLD || !is_small(size, work) {
+            return true;
+        }
+        let again = if size.failed {
+            is_cheap_failure(self.costs, rule, self.text, place)
+        } else {
+            account.linear_on_success
+        };
+        !(again && account.is_not_sampled(size.rows))
+    }
+
+    /// Records that a result was stored.
+    pub fn note_stored(&mut self, rule: u32, place: u32, size: Size) {
+        self.recent.note_stored(rule, place);
+        self.credit = self.credit.saturating_sub(size.rows);
+        if let Some(account) = self.accounts.get_mut(rule as usize) {
+            let price = size.rows.saturating_add(STORE_COST);
+            account.balance = account.balance.saturating_sub(price);
+        }
+    }
+}
+
+impl RuleAccount {
+    // The least work for which a result with this number of nodes is stored.
+    fn price_of(&self, rows: u64) -> u64 {
+        if self.balance < DEBT_THRESHOLD {
+            rows.saturating_mul(WORK_PER_CALL).saturating_add(1)
+        } else {
+            rows
+        }
+    }
+
+    // Whether a small result is not part of the sample.
+    fn is_not_sampled(&mut self, rows: u64) -> bool {
+        let period = SAMPLE_PERIOD.saturating_add(rows.saturating_mul(SAMPLE_PERIOD / 16));
+        self.skipped = self.skipped.saturating_add(1);
+        if u64::from(self.skipped) < period {
+            return true;
+        }
+        self.skipped = 0;
+        false
+    }
+}
+
+// Ends the newest open body, and returns the credit at its start.
+fn end_newest_call(open: &mut Vec<CallRun>) -> Option<u64> {
+    let run = open.last_mut()?;
+    let began = run.next.saturating_sub(WORK_PER_CALL);
+    run.next = began;
+    run.bodies = run.bodies.saturating_sub(1);
+    if run.bodies == 0 {
+        open.pop();
+    }
+    Some(began)
+}
+
+// Whether a result is small: its work, and the bytes that were read for it, are cheap to repeat.
+fn is_small(size: Size, work: u64) -> bool {
+    let most = SMALL_WORK.saturating_add(size.rows.saturating_mul(SMALL_WORK_PER_NODE));
+    work.saturating_add(size.bytes) < most
+}
+
+// Whether a rule that fails at a position of a text does little work of its own.
+fn is_cheap_failure(costs: &RerunCosts, rule: u32, text: &[u8], place: u32) -> bool {
+    match costs.rules().get(rule as usize) {
+        Some(cost) => cost.is_cheap_failure(text.get(place as usize).copied()),
+        None => false,
+    }
+}
+
+// The first accounts of rules with these costs.
+fn first_accounts(alloc: Global, costs: &[RerunCost]) -> Result<Vec<RuleAccount>, AllocError> {
+    costs
+        .iter()
+        .map(|cost| RuleAccount {
+            trivial: cost.trivial,
+            linear_on_success: cost.linear_on_success,
+            skipped: 0,
+            balance: INITIAL_BALANCE,
+        })
+        .collect(alloc)
+}

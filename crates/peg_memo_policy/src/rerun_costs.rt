@@ -1,0 +1,316 @@
+//! The cost of running each rule of a program again.
+//!
+//! If a policy declines to store a result, the body of the rule may run again. The calls in the body are counted by the
+//! memo, since each of them is looked up. The body's own instructions aren't counted. This module decides from the code
+//! alone which rules have few instructions of their own. It looks at each rule separately, and at a fixed number of its
+//! first instructions. Each instruction is visited a fixed number of times at most, without recursion.
+ghost use Rattle.std.specs.Prelude.{◌≡◌, length, IfOk};
+
+use crate::RerunCost;
+use peg_bytes::ByteSet;
+use peg_code::{Op, Program};
+use std::alloc::{AllocError, Global};
+
+// The number of instructions that are cheap to run again.
+const MAX_TRIVIAL_STEPS: u32 = 32;
+
+// Bodies with more instructions aren't searched for stars.
+const MAX_BODY_SIZE: u32 = 64;
+
+/// The cost of each rule, by number.
+#[derive(Debug, Drop)]
+pub struct RerunCosts {
+    rules: Vec<RerunCost>,
+}
+
+impl RerunCosts {
+    ghost use Rattle.peg_memo_policy.specs.RerunCosts.{rules_of};
+
+    /// Computes the costs of a program's rules. Takes time linear in the number of instructions. The only error is a
+    /// failed allocation.
+    pub fn new(alloc: Global, program: &Program) -> Result<RerunCosts, AllocError>
+        ensures { IfOk result (λ costs. length (rules_of costs) ≡ length program.now.core.bodies) }
+    {
+        let mut walk = Walk {
+            program,
+            ways: Vec::with_capacity(alloc, MAX_TRIVIAL_STEPS as usize)?,
+        };
+        let count = program.rules();
+        let mut rules = Vec::with_capacity(alloc, count as usize)?;
+        for rule in 0..count {
+            rules.push(walk.cost(rule)?)?;
+        }
+        Ok(RerunCosts { rules })
+    }
+
+    /// Returns the cost of each rule, in order. Takes constant time.
+    pub fn rules(&self) -> &[RerunCost]
+        ensures { result.now ≡ rules_of self.now }
+    {
+        self.rules.as_slice()
+    }
+}
+
+// The next instruction of a walk.
+#[derive(Clone, Copy)]
+enum Next {
+    // This instruction.
+    At(u32),
+    // None: the rule has ended.
+    Ended,
+    // Unknown.
+    Unknown,
+}
+
+// An entry of the stack of a walk.
+#[derive(Clone, Copy)]
+enum Return {
+    // A call that returns to this instruction.
+    AfterCall(u32),
+    // A choice point at this instruction.
+    ChoicePoint(u32),
+}
+
+// What may become of the bytes that a star matched.
+#[derive(Clone, Copy)]
+enum StarEffect {
+    // The rule ends after the star.
+    Committed,
+    // The rule may fail after the star.
+    MayFail,
+    // The match may be discarded while the rule continues.
+    MayBeDiscarded,
+}
+
+// A walk over the code of a program.
+#[derive(Drop)]
+struct Walk<'a> {
+    program: &'a Program,
+    ways: Vec<Return>,
+}
+
+impl Walk<'_> {
+    // The cost of a rule.
+    fn cost(&mut self, rule: u32) -> Result<RerunCost, AllocError> {
+        let trivial = self.is_tiny(rule)?;
+        let slow_next = self.slow_bytes(rule)?;
+        let (linear_on_success, linear_on_failure) = self.stars(rule);
+        Ok(RerunCost {
+            trivial,
+            linear_on_success,
+            linear_on_failure,
+            slow_next: slow_next.unwrap_or(ByteSet::full()),
+            slow_at_end: slow_next.is_none(),
+        })
+    }
+
+    // Whether a rule, with all that it calls, has few instructions and no star. A recursive rule is not tiny.
+    fn is_tiny(&mut self, rule: u32) -> Result<bool, AllocError> {
+        self.ways.clear();
+        let mut pc = self.entry(rule);
+        for _ in 0..MAX_TRIVIAL_STEPS {
+            match self.next_in_layout(pc)? {
+                Next::At(next) => pc = next,
+                Next::Ended => return Ok(true),
+                Next::Unknown => return Ok(false),
+            }
+        }
+        Ok(false)
+    }
+
+    // The next instruction in the order of the code, where a call continues with the code of the called rule.
+    fn next_in_layout(&mut self, pc: u32) -> Result<Next, AllocError> {
+        Ok(match self.op(pc) {
+            Op::Call(rule) => {
+                self.ways.push(Return::AfterCall(pc.saturating_add(1)))?;
+                Next::At(self.entry(rule))
+            }
+            Op::Commit(target) if target <= pc => Next::Unknown,
+            Op::End => Next::Unknown,
+            Op::Ret => match self.ways.pop() {
+                Some(Return::AfterCall(next)) => Next::At(next),
+                _ => Next::Ended,
+            },
+            _ => Next::At(pc.saturating_add(1)),
+        })
+    }
+
+    // The bytes on which a rule may take more than a few instructions; None if it may do so on any byte and at the end
+    // of the text. A test that passes consumes a byte, and no more is known from there. If all tests fail, the walk
+    // takes the same path on every byte. So it is taken once, and the bytes of the sets on this path are slow.
+    fn slow_bytes(&mut self, rule: u32) -> Result<Option<ByteSet>, AllocError> {
+        self.ways.clear();
+        let mut taken = ByteSet::empty();
+        let mut pc = self.entry(rule);
+        for _ in 0..MAX_TRIVIAL_STEPS {
+            if let Op::Test { set, .. } = self.op(pc) {
+                taken = taken.union(set);
+            }
+            match self.next_if_all_tests_fail(pc)? {
+                Next::At(next) => pc = next,
+                Next::Ended => return Ok(Some(taken)),
+                Next::Unknown => return Ok(None),
+            }
+        }
+        Ok(None)
+    }
+
+    // The instruction that runs next if each test fails.
+    fn next_if_all_tests_fail(&mut self, pc: u32) -> Result<Next, AllocError> {
+        Ok(match self.op(pc) {
+            Op::Test { .. } => self.fail(),
+            Op::Call(rule) => {
+                self.ways.push(Return::AfterCall(pc.saturating_add(1)))?;
+                Next::At(self.entry(rule))
+            }
+            Op::Choice(target) => {
+                self.ways.push(Return::ChoicePoint(target))?;
+                Next::At(pc.saturating_add(1))
+            }
+            Op::Commit(target) => {
+                self.ways.pop();
+                Next::At(target)
+            }
+            Op::FailTwice => {
+                self.ways.pop();
+                self.fail()
+            }
+            Op::Ret => match self.ways.pop() {
+                Some(Return::AfterCall(next)) => Next::At(next),
+                _ => Next::Ended,
+            },
+            Op::End => Next::Unknown,
+        })
+    }
+
+    // Backtracks to the newest choice point.
+    fn fail(&mut self) -> Next {
+        while let Some(back) = self.ways.pop() {
+            if let Return::ChoicePoint(target) = back {
+                return Next::At(target);
+            }
+        }
+        Next::Ended
+    }
+
+    // Whether a rule is `linear_on_success` and whether it is `linear_on_failure`, from its stars.
+    fn stars(&self, rule: u32) -> (bool, bool) {
+        let from = self.entry(rule);
+        let to = self.end(rule);
+        if to.saturating_sub(from) > MAX_BODY_SIZE {
+            return (false, false);
+        }
+        let mut linear_on_success = true;
+        let mut linear_on_failure = true;
+        for pc in from..to {
+            match self.star_effect(from, pc) {
+                StarEffect::Committed => {}
+                StarEffect::MayFail => linear_on_failure = false,
+                StarEffect::MayBeDiscarded => {
+                    linear_on_success = false;
+                    linear_on_failure = false;
+                }
+            }
+        }
+        (linear_on_success, linear_on_failure)
+    }
+
+    // What may become of the match of the star at an instruction, in the body that starts at `from`. Other
+    // instructions, and stars that call a rule in each iteration, are harmless: the memo counts their calls.
+    fn star_effect(&self, from: u32, star: u32) -> StarEffect {
+        if !self.is_star(star) || self.calls_each_time(star) {
+            return StarEffect::Committed;
+        }
+        let mut ways = self.open_choices_at(from, star);
+        let mut pc = self.exit(star);
+        for _ in 0..MAX_BODY_SIZE {
+            match self.op(pc) {
+                Op::Ret => return StarEffect::Committed,
+                Op::Commit(target) => {
+                    ways = ways.saturating_sub(1);
+                    pc = if target < pc {
+                        self.exit(target)
+                    } else {
+                        target
+                    };
+                }
+                _ if ways == 0 => return StarEffect::MayFail,
+                _ => return StarEffect::MayBeDiscarded,
+            }
+        }
+        StarEffect::MayBeDiscarded
+    }
+
+    // Whether a star starts at an instruction: a choice whose alternative comes after a commit that jumps back to it.
+    fn is_star(&self, pc: u32) -> bool {
+        match self.op(pc) {
+            Op::Choice(target) =>
+                matches!(self.op(target.saturating_sub(1)), Op::Commit(back) if back == pc),
+            _ => false,
+        }
+    }
+
+    // Whether a star calls a rule in each iteration. Only tests and not-predicates may come before the call.
+    fn calls_each_time(&self, star: u32) -> bool {
+        let mut pc = star.saturating_add(1);
+        for _ in 0..MAX_BODY_SIZE {
+            pc = match self.op(pc) {
+                Op::Test { .. } => pc.saturating_add(1),
+                Op::Choice(target) if self.is_not(target) => target,
+                Op::Call(_) => return true,
+                _ => return false,
+            };
+        }
+        false
+    }
+
+    // Whether a not-predicate ends before an instruction.
+    fn is_not(&self, target: u32) -> bool {
+        matches!(self.op(target.saturating_sub(1)), Op::FailTwice)
+    }
+
+    // The number of choice points of a body that are open at an instruction.
+    fn open_choices_at(&self, from: u32, pc: u32) -> u32 {
+        let mut ways: u32 = 0;
+        for before in from..pc {
+            if self.exit(before) > pc {
+                ways = ways.saturating_add(1);
+            }
+        }
+        ways
+    }
+
+    // The target of a `Choice`; 0 for other instructions.
+    fn exit(&self, pc: u32) -> u32 {
+        match self.op(pc) {
+            Op::Choice(target) => target,
+            _ => 0,
+        }
+    }
+
+    // The instruction with a number; `End` if there is none.
+    fn op(&self, pc: u32) -> Op<'_> {
+        if pc < self.program.len() {
+            self.program.op(pc)
+        } else {
+            Op::End
+        }
+    }
+
+    // The first instruction of a rule; 0 if there is no such rule.
+    fn entry(&self, rule: u32) -> u32 {
+        if rule < self.program.rules() {
+            self.program.entry(rule)
+        } else {
+            0
+        }
+    }
+
+    // The instruction after a rule's code.
+    fn end(&self, rule: u32) -> u32 {
+        match self.entry(rule.saturating_add(1)) {
+            0 => self.program.len(),
+            next => next,
+        }
+    }
+}

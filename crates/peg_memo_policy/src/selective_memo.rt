@@ -1,0 +1,152 @@
+//! A memo that stores only results that are worth their cost.
+ghost use Rattle.std.specs.Prelude.{◌≡◌, ◌≤◌, ◌↔◌, if◌then◌else◌, IfOk, IsTrue, Some};
+ghost use Rattle.std.specs.FinMap as map;
+ghost use Rattle.peg_memo.specs.Held.{held_in, IsPartOf};
+ghost use Rattle.peg_memo.specs.Kept.{kept_of};
+
+use crate::RerunCosts;
+use crate::policy::Policy;
+use crate::size::{Size, size_of};
+use peg_memo::{Found, Keep, LruMemo};
+use std::alloc::{AllocError, Global};
+
+// The number of nodes that may always be stored before entries are evicted for their nodes. The limit rises to four
+// times the nodes of a result, if that is more. A result is a part of the tree, so beyond this number the memo's size
+// is at most proportional to the tree.
+const MIN_NODE_LIMIT: u64 = 1048576;
+
+/// A memo of bounded size for a run over one text. It stores the results that are worth their cost, and evicts the
+/// least recently used entries if the stored nodes are too many. It relies on the order of calls that a machine makes:
+/// `touch`, then `find`, and then `keep` at the end of the body if nothing was found. In any other order it still
+/// stores only results that it was given.
+#[derive(Drop)]
+pub struct SelectiveMemo<'a> {
+    memo: LruMemo,
+    policy: Policy<'a>,
+    // Whether the call that was touched last has an entry.
+    hit: bool,
+    capacity: u32,
+    // The number of entries, the number of their nodes, and the limit of the latter.
+    held: u32,
+    rows: u64,
+    node_limit: u64,
+}
+
+impl<'a> SelectiveMemo<'a> {
+    ghost use Rattle.peg_memo_policy.specs.SelectiveMemo.{held_by};
+
+    /// Returns an empty memo for a run over a text of the program with these costs. The only error is a failed
+    /// allocation.
+    pub fn new(
+        alloc: Global,
+        capacity: u32,
+        costs: &'a RerunCosts,
+        text: &'a [u8],
+    ) -> Result<SelectiveMemo<'a>, AllocError>
+        requires { 1 ≤ capacity }
+        ensures { IfOk result (λ it. held_by it ≡ map.empty) }
+    {
+        Ok(SelectiveMemo {
+            memo: LruMemo::new(alloc, capacity)?,
+            policy: Policy::new(alloc, capacity, costs, text)?,
+            hit: false,
+            capacity,
+            held: 0,
+            rows: 0,
+            node_limit: MIN_NODE_LIMIT,
+        })
+    }
+
+    // Returns whether a rule at a position has an entry, and marks the entry as used.
+    fn lookup_and_touch(&mut self, rule: u32, place: u32) -> bool
+        ensures part { IsPartOf (held_by self.new) (held_by self.old) }
+        ensures refused { IsTrue self.old.memo.refused → IsTrue self.new.memo.refused }
+    {
+        let size = match Keep::find(&self.memo, rule, place) {
+            Some(found) => size_of(found, place),
+            None => return false,
+        };
+        Keep::touch(&mut self.memo, rule, place);
+        self.policy.note_found(rule, place, size);
+        true
+    }
+
+    // Evicts entries until another one with this number of nodes is within the limits.
+    fn evict_until_fits(&mut self, rows: u64)
+        ensures part { IsPartOf (held_by self.new) (held_by self.old) }
+        ensures refused { self.new.memo.refused ≡ self.old.memo.refused }
+    {
+        self.node_limit = self.node_limit.max(rows.saturating_mul(4));
+        while self.held >= self.capacity || self.rows.saturating_add(rows) > self.node_limit {
+            match self.memo.drop_last() {
+                Some(dropped) => {
+                    self.held = self.held.saturating_sub(1);
+                    self.rows = self.rows.saturating_sub(dropped as u64);
+                }
+                None => {
+                    self.held = 0;
+                    self.rows = 0;
+                    return;
+                }
+            }
+        }
+    }
+}
+
+impl SelectiveMemo<'_> {
+    ghost use Rattle.peg_memo_policy.specs.SelectiveMemo.{held_by};
+
+    // Stores a result, and evicts others for it. Returns whether it is stored now. It isn't inlined, since most results
+    // are declined.
+    #[inline(never)]
+    fn store(&mut self, rule: u32, place: u32, found: Found<'_>, size: Size) -> bool
+        ensures part { IsPartOf (held_by self.new)
+            (if result then map.insert (held_by self.old) (rule, place) (kept_of found.entry) else held_by self.old) }
+        ensures stored { IsTrue result → map.get (held_by self.new) (rule, place) ≡ Some (kept_of found.entry) }
+        ensures refused { IsTrue self.old.memo.refused → IsTrue self.new.memo.refused }
+    {
+        self.evict_until_fits(size.rows);
+        let stored = Keep::keep(&mut self.memo, rule, place, found);
+        if stored {
+            self.held = self.held.saturating_add(1);
+            self.rows = self.rows.saturating_add(size.rows);
+            self.policy.note_stored(rule, place, size);
+        }
+        stored
+    }
+}
+
+impl Keep for SelectiveMemo<'_> {
+    ghost held = { λ it. held_in it.memo.pairs };
+
+    ghost room = { λ _. 0 };
+
+    ghost refused = { λ it. it.memo.refused };
+
+    fn is_empty(&self) -> bool {
+        Keep::is_empty(&self.memo)
+    }
+
+    fn touch(&mut self, rule: u32, place: u32) {
+        self.hit = false;
+        if self.policy.should_look_up(rule, place) {
+            self.hit = self.lookup_and_touch(rule, place);
+            if !self.hit {
+                self.policy.begin();
+            }
+        }
+    }
+
+    fn find(&self, rule: u32, place: u32) -> Option<Found<'_>> {
+        if self.hit {
+            Keep::find(&self.memo, rule, place)
+        } else {
+            None
+        }
+    }
+
+    fn keep(&mut self, rule: u32, place: u32, found: Found<'_>) -> bool {
+        let size = size_of(found, place);
+        self.policy.should_store(rule, place, size) && self.store(rule, place, found, size)
+    }
+}

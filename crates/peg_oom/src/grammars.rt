@@ -1,0 +1,118 @@
+//! Calls on grammars, core forms, tables, checks, code, and the reference evaluators.
+use crate::inputs::{
+    CHAIN, COUNTS, CYCLE, LOOP, MISSING, PREFIX, Pair, TWICE, checked, compiled, core, definitions,
+    grammar, pluses,
+};
+use crate::told::{Lent, tell};
+use peg_check::{CheckFault, check, table_of};
+use peg_code::{CodeFault, compile};
+use peg_core::desugar;
+use peg_grammar::{Grammar, GrammarFault, PlainFault, TotalFault, plain_match, plain_total};
+use std::alloc::Global;
+use std::io;
+
+pub(crate) const WORDS: [&str; 13] = [
+    "grammar_new",
+    "grammar_new_twice",
+    "grammar_new_missing",
+    "plain_match",
+    "plain_match_deep",
+    "plain_total",
+    "desugar",
+    "table_of",
+    "check",
+    "check_cycle",
+    "check_loop",
+    "compile",
+    "compile_large",
+];
+
+/// Makes the call that the argument names. Returns whether the name is known here.
+pub(crate) fn call(rt: &impl Print, alloc: Global, word: &str) -> io::Result<bool> {
+    match word {
+        "grammar_new" => made(rt, alloc, COUNTS)?,
+        "grammar_new_twice" => made(rt, alloc, TWICE)?,
+        "grammar_new_missing" => made(rt, alloc, MISSING)?,
+        "plain_match" => matched(rt, alloc, 1000)?,
+        "plain_match_deep" => matched(rt, alloc, 3)?,
+        "plain_total" => total(rt, alloc)?,
+        "desugar" => desugared(rt, alloc)?,
+        "table_of" => tabled(rt, alloc)?,
+        "check" => judged(rt, alloc, COUNTS)?,
+        "check_cycle" => judged(rt, alloc, CYCLE)?,
+        "check_loop" => judged(rt, alloc, LOOP)?,
+        "compile" => coded(rt, alloc, PREFIX)?,
+        "compile_large" => coded(rt, alloc, &pluses(alloc)?)?,
+        _ => return Ok(false),
+    }
+    Ok(true)
+}
+
+fn made(rt: &impl Print, alloc: Global, file: &[u8]) -> io::Result<()> {
+    let definitions = definitions(alloc, file)?;
+    let lent = Lent::of(alloc, &())?;
+    let answer = Grammar::new(alloc, definitions);
+    let memory = matches!(answer, Err(GrammarFault::Memory));
+    tell(rt, &lent, memory, &answer)
+}
+
+fn matched(rt: &impl Print, alloc: Global, depth: u64) -> io::Result<()> {
+    let grammar = grammar(alloc, CHAIN)?;
+    let text = b"aab";
+    let borrowed = (&grammar, text);
+    let lent = Lent::of(alloc, &borrowed)?;
+    let answer = plain_match(alloc, &grammar, text, 0, depth);
+    tell(
+        rt,
+        &lent,
+        matches!(answer, Err(PlainFault::Memory)),
+        &answer,
+    )
+}
+
+fn total(rt: &impl Print, alloc: Global) -> io::Result<()> {
+    let Pair { grammar, .. } = &compiled(alloc, COUNTS)?;
+    let text = b"aabbcc";
+    let borrowed = (grammar, text);
+    let lent = Lent::of(alloc, &borrowed)?;
+    let answer = plain_total(alloc, grammar, text, 0);
+    tell(
+        rt,
+        &lent,
+        matches!(answer, Err(TotalFault::Memory)),
+        &answer,
+    )
+}
+
+fn desugared(rt: &impl Print, alloc: Global) -> io::Result<()> {
+    let grammar = grammar(alloc, COUNTS)?;
+    let lent = Lent::of(alloc, &grammar)?;
+    let answer = desugar(alloc, &grammar);
+    tell(rt, &lent, answer.is_err(), &answer)
+}
+
+fn tabled(rt: &impl Print, alloc: Global) -> io::Result<()> {
+    let core = core(alloc, COUNTS)?;
+    let lent = Lent::of(alloc, &core)?;
+    let answer = table_of(alloc, &core);
+    tell(rt, &lent, answer.is_err(), &answer)
+}
+
+fn judged(rt: &impl Print, alloc: Global, file: &[u8]) -> io::Result<()> {
+    let core = core(alloc, file)?;
+    let lent = Lent::of(alloc, &())?;
+    let answer = check(alloc, core);
+    tell(
+        rt,
+        &lent,
+        matches!(answer, Err(CheckFault::Memory)),
+        &answer,
+    )
+}
+
+fn coded(rt: &impl Print, alloc: Global, file: &[u8]) -> io::Result<()> {
+    let checked = checked(alloc, file)?;
+    let lent = Lent::of(alloc, &())?;
+    let answer = compile(alloc, checked);
+    tell(rt, &lent, matches!(answer, Err(CodeFault::Memory)), &answer)
+}

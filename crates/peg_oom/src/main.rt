@@ -1,0 +1,87 @@
+//! Tests public calls for allocation failure. The first argument names one call that can report out of memory. The
+//! program makes that call and prints one line:
+//!
+//! - `not yet`, if an allocation failed before the call;
+//! - `changed`, if something that the call borrowed has changed;
+//! - `memory`, otherwise, if an allocation failed in the call;
+//! - `done` and the answer, otherwise.
+//!
+//! Without a known argument the calls are listed.
+//!
+//! The calls are the public ones of the libraries that `grep -rn 'alloc: Global' crates/*/src` finds. Calls on values
+//! with an allocator are added: `keep` of the memos, `begin` of `ListWatch`, `parse`, and what `TreeRows` and
+//! `NestedTree` send to a serializer.
+//!
+//! Two calls are only made inside others. These are `definitions_of`, which needs the metagrammar's tree of a file, in
+//! `read_by_figure`, and `send_member` in `answer_json` and `table_json`.
+#![tactic(auto)]
+
+mod files;
+mod grammars;
+mod inputs;
+mod memos;
+mod parsers;
+mod replies;
+mod runs;
+mod shortcuts;
+mod told;
+mod tools;
+mod trees;
+
+use std::io::ErrorKind;
+use std::process::ExitCode;
+use std::{env, io};
+
+/// The exit status of a run in which an allocation failed before the call.
+const NOT_YET: u8 = 3;
+
+fn main(rt: HostRuntime) -> ExitCode {
+    match run(&rt, rt.alloc()) {
+        Ok(()) => ExitCode::from(0),
+        Err(error) => ExitCode::from(not_made(&rt, error.kind())),
+    }
+}
+
+// Reports that the call wasn't made or its line wasn't printed, and returns the exit status.
+fn not_made(rt: &impl Print, why: ErrorKind) -> u8 {
+    match why {
+        ErrorKind::OutOfMemory => {
+            let _ = println!(rt; "not yet");
+            NOT_YET
+        }
+        _ => 4,
+    }
+}
+
+fn run(rt: &(impl Print + env::Env + AllocGlobal), alloc: std::alloc::Global) -> io::Result<()> {
+    let word = env::args(rt)?.nth(1);
+    let word = word.as_ref().map_or("", |word| word.as_str());
+    if trees::call(rt, alloc, word)?
+        || files::call(rt, alloc, word)?
+        || grammars::call(rt, alloc, word)?
+        || memos::call(rt, alloc, word)?
+        || runs::call(rt, alloc, word)?
+        || shortcuts::call(rt, alloc, word)?
+        || parsers::call(rt, alloc, word)?
+        || replies::call(rt, alloc, word)?
+        || tools::call(rt, alloc, word)?
+    {
+        return Ok(());
+    }
+    print_all(rt, &trees::WORDS)?;
+    print_all(rt, &files::WORDS)?;
+    print_all(rt, &grammars::WORDS)?;
+    print_all(rt, &memos::WORDS)?;
+    print_all(rt, &runs::WORDS)?;
+    print_all(rt, &shortcuts::WORDS)?;
+    print_all(rt, &parsers::WORDS)?;
+    print_all(rt, &replies::WORDS)?;
+    print_all(rt, &tools::WORDS)
+}
+
+fn print_all(rt: &impl Print, words: &[&str]) -> io::Result<()> {
+    for word in words {
+        println!(rt; "{word}")?;
+    }
+    Ok(())
+}

@@ -1,0 +1,122 @@
+//! Calls on parsers of grammar files, on parses of texts, and on the reader by the metagrammar.
+use crate::inputs::{CHAIN, COUNTS, CYCLE, LOOP, MISSING, OPEN, PREFIX, TWICE, pluses};
+use crate::told::{Lent, tell};
+use peg_parser::{
+    DEFAULT_MEMO, FigureFault, ParseFault, ParseOptions, Parser, Refusal, grammar_of,
+    read_by_figure,
+};
+use std::alloc::{AllocError, Global};
+use std::io;
+
+pub(crate) const WORDS: [&str; 16] = [
+    "grammar_of",
+    "grammar_of_missing",
+    "from_file",
+    "from_file_cycle",
+    "from_file_loop",
+    "from_file_twice",
+    "from_file_missing",
+    "from_file_open",
+    "from_file_large",
+    "names",
+    "parse",
+    "parse_memo_1",
+    "parse_memo",
+    "parse_no_start",
+    "read_by_figure",
+    "read_by_figure_fault",
+];
+
+/// Makes the call that the argument names. Returns whether the name is known here.
+pub(crate) fn call(rt: &impl Print, alloc: Global, word: &str) -> io::Result<bool> {
+    if word.starts_with("from_file") {
+        return made(rt, alloc, word);
+    }
+    match word {
+        "grammar_of" => spelled(rt, alloc, COUNTS)?,
+        "grammar_of_missing" => spelled(rt, alloc, MISSING)?,
+        "names" => names(rt, alloc)?,
+        "parse" => parsed(rt, alloc, None, 0)?,
+        "parse_memo_1" => parsed(rt, alloc, None, 1)?,
+        "parse_memo" => parsed(rt, alloc, Some("A"), DEFAULT_MEMO)?,
+        "parse_no_start" => parsed(rt, alloc, Some("B"), DEFAULT_MEMO)?,
+        "read_by_figure" => figured(rt, alloc, COUNTS)?,
+        "read_by_figure_fault" => figured(rt, alloc, OPEN)?,
+        _ => return Ok(false),
+    }
+    Ok(true)
+}
+
+fn made(rt: &impl Print, alloc: Global, word: &str) -> io::Result<bool> {
+    match word {
+        "from_file" => accepted(rt, alloc, COUNTS)?,
+        "from_file_cycle" => accepted(rt, alloc, CYCLE)?,
+        "from_file_loop" => accepted(rt, alloc, LOOP)?,
+        "from_file_twice" => accepted(rt, alloc, TWICE)?,
+        "from_file_missing" => accepted(rt, alloc, MISSING)?,
+        "from_file_open" => accepted(rt, alloc, OPEN)?,
+        "from_file_large" => accepted(rt, alloc, &pluses(alloc)?)?,
+        _ => return Ok(false),
+    }
+    Ok(true)
+}
+
+fn spelled(rt: &impl Print, alloc: Global, file: &[u8]) -> io::Result<()> {
+    let file = file.to_vec(alloc)?;
+    let lent = Lent::of(alloc, &file)?;
+    let answer = grammar_of(alloc, &file);
+    tell(rt, &lent, matches!(answer, Err(Refusal::Memory)), &answer)
+}
+
+fn accepted(rt: &impl Print, alloc: Global, file: &[u8]) -> io::Result<()> {
+    let file = file.to_vec(alloc)?;
+    let lent = Lent::of(alloc, &file)?;
+    let answer = Parser::from_file(alloc, &file);
+    let memory = matches!(answer, Err(Refusal::Memory));
+    let told = match &answer {
+        Ok(parser) => Ok((parser.grammar(), parser.program())),
+        Err(refusal) => Err(refusal),
+    };
+    tell(rt, &lent, memory, &told)
+}
+
+fn names(rt: &impl Print, alloc: Global) -> io::Result<()> {
+    match Parser::from_file(alloc, CYCLE) {
+        Ok(_) | Err(Refusal::Memory) => Err(io::Error::from(AllocError)),
+        Err(refusal) => {
+            let lent = Lent::of(alloc, &refusal)?;
+            let answer = refusal.names(alloc);
+            tell(rt, &lent, answer.is_err(), &answer)
+        }
+    }
+}
+
+/// Returns the parser of an accepted file.
+pub(crate) fn parser(alloc: Global, file: &[u8]) -> Result<Parser, AllocError> {
+    match Parser::from_file(alloc, file) {
+        Ok(parser) => Ok(parser),
+        Err(_) => Err(AllocError),
+    }
+}
+
+// The steps aren't printed: a result that couldn't be stored is computed again.
+fn parsed(rt: &impl Print, alloc: Global, start: Option<&str>, memo: u32) -> io::Result<()> {
+    let parser = parser(alloc, PREFIX)?;
+    let text = b"((((a)y)y)y)y".to_vec(alloc)?;
+    let borrowed = (parser.grammar(), parser.program(), &text);
+    let lent = Lent::of(alloc, &borrowed)?;
+    let steps = None;
+    let options = ParseOptions { start, memo, steps };
+    let answer = parser.parse(alloc, &text, &options);
+    let memory = matches!(answer, Err(ParseFault::Memory));
+    let outcome = answer.as_ref().map(|answer| &answer.outcome);
+    tell(rt, &lent, memory, &outcome)
+}
+
+fn figured(rt: &impl Print, alloc: Global, file: &[u8]) -> io::Result<()> {
+    let file = file.to_vec(alloc)?;
+    let lent = Lent::of(alloc, &file)?;
+    let answer = read_by_figure(alloc, &file);
+    let memory = matches!(answer, Err(FigureFault::Memory));
+    tell(rt, &lent, memory, &answer)
+}

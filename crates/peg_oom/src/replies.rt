@@ -1,0 +1,213 @@
+//! Calls on replies as JSON, and on their lines.
+ghost use Rattle.std.specs.Prelude.{◌≤◌, length};
+ghost use Rattle.peg_bytes.specs.Place.{max_offset};
+
+use crate::inputs::{CHAIN, COUNTS, CYCLE, LOOP, MISSING, OPEN, PREFIX, TWICE};
+use crate::parsers::parser;
+use crate::told::{Lent, tell};
+use peg_check::table_of;
+use peg_core::desugar;
+use peg_json::{
+    Fault, TreeForm, accepted_line, answer_json, answer_line, code_json, code_line, long_text_line,
+    no_start_line, refusal_json, refused_line, rows_line, step_limit_line, table_json, table_line,
+};
+use peg_parser::{ParseOptions, Parser, Refusal, grammar_of};
+use peg_tree::JsonFault;
+use std::alloc::{AllocError, Global};
+use std::io;
+
+pub(crate) const WORDS: [&str; 22] = [
+    "answer_json",
+    "answer_json_rows",
+    "answer_json_deep",
+    "answer_json_failed",
+    "answer_line",
+    "answer_line_deep",
+    "rows_line",
+    "rows_line_failed",
+    "refusal_json",
+    "refused_line_cycle",
+    "refused_line_loop",
+    "refused_line_twice",
+    "refused_line_missing",
+    "refused_line_open",
+    "table_json",
+    "table_line",
+    "code_json",
+    "code_line",
+    "accepted_line",
+    "no_start_line",
+    "long_text_line",
+    "step_limit_line",
+];
+
+/// Makes the call that the argument names. Returns whether the name is known here.
+pub(crate) fn call(rt: &impl Print, alloc: Global, word: &str) -> io::Result<bool> {
+    if word.starts_with("refus") {
+        return refused(rt, alloc, word);
+    }
+    match word {
+        "answer_json" => answered(rt, alloc, b"aab", false)?,
+        "answer_json_rows" => answered(rt, alloc, b"aab", true)?,
+        "answer_json_deep" => answered(rt, alloc, &deep(alloc)?, false)?,
+        "answer_json_failed" => answered(rt, alloc, b"aa", false)?,
+        "answer_line" => answer_of(rt, alloc, b"aab")?,
+        "answer_line_deep" => answer_of(rt, alloc, &deep(alloc)?)?,
+        "rows_line" => rows_of(rt, alloc, b"aab")?,
+        "rows_line_failed" => rows_of(rt, alloc, b"aa")?,
+        "table_json" => table_text(rt, alloc)?,
+        "table_line" => table_of_line(rt, alloc)?,
+        "code_json" => code_text(rt, alloc)?,
+        "code_line" => code_of_line(rt, alloc)?,
+        "accepted_line" => accepted(rt, alloc)?,
+        "no_start_line" => no_start(rt, alloc)?,
+        "long_text_line" => long_text(rt, alloc)?,
+        "step_limit_line" => step_limit(rt, alloc)?,
+        _ => return Ok(false),
+    }
+    Ok(true)
+}
+
+fn refused(rt: &impl Print, alloc: Global, word: &str) -> io::Result<bool> {
+    match word {
+        "refusal_json" => fault(rt, alloc, "T\"\n")?,
+        "refused_line_cycle" => refusal_line(rt, alloc, CYCLE)?,
+        "refused_line_loop" => refusal_line(rt, alloc, LOOP)?,
+        "refused_line_twice" => refusal_line(rt, alloc, TWICE)?,
+        "refused_line_missing" => refusal_line(rt, alloc, MISSING)?,
+        "refused_line_open" => refusal_line(rt, alloc, OPEN)?,
+        _ => return Ok(false),
+    }
+    Ok(true)
+}
+
+const OPTIONS: ParseOptions<'static> = ParseOptions {
+    start: None,
+    memo: 0,
+    steps: None,
+};
+
+// A text whose tree has 61 levels.
+fn deep(alloc: Global) -> Result<Vec<u8>, AllocError> {
+    let mut text = vec![in alloc; b'a'; 60]?;
+    text.push(b'b')?;
+    Ok(text)
+}
+
+fn answered(rt: &impl Print, alloc: Global, text: &[u8], rows: bool) -> io::Result<()> {
+    let parser = parser(alloc, CHAIN)?;
+    let Ok(parsed) = parser.parse(alloc, text, &OPTIONS) else {
+        return Err(io::Error::from(AllocError));
+    };
+    let borrowed = (parser.grammar(), parser.program(), &parsed);
+    let lent = Lent::of(alloc, &borrowed)?;
+    let answer = answer_json(alloc, &parser, &parsed, text.len() as u32, true, rows);
+    tell(rt, &lent, matches!(answer, Err(JsonFault::Memory)), &answer)
+}
+
+fn answer_of(rt: &impl Print, alloc: Global, text: &[u8]) -> io::Result<()> {
+    let parser = parser(alloc, CHAIN)?;
+    let Ok(parsed) = parser.parse(alloc, text, &OPTIONS) else {
+        return Err(io::Error::from(AllocError));
+    };
+    let borrowed = (parser.grammar(), parser.program(), &parsed);
+    let lent = Lent::of(alloc, &borrowed)?;
+    let form = TreeForm::Nested;
+    let answer = answer_line(alloc, &parser, &parsed, text.len() as u32, true, form);
+    tell(rt, &lent, answer.is_err(), &answer)
+}
+
+fn rows_of(rt: &impl Print, alloc: Global, text: &[u8]) -> io::Result<()> {
+    let parser = parser(alloc, CHAIN)?;
+    let Ok(parsed) = parser.parse(alloc, text, &OPTIONS) else {
+        return Err(io::Error::from(AllocError));
+    };
+    let borrowed = (parser.grammar(), parser.program());
+    let lent = Lent::of(alloc, &borrowed)?;
+    let answer = rows_line(alloc, &parser, parsed, text.len() as u32, true);
+    tell(rt, &lent, answer.is_err(), &answer)
+}
+
+fn fault(rt: &impl Print, alloc: Global, name: &str) -> io::Result<()> {
+    let fault = Fault::NoSuchStart(name);
+    let lent = Lent::of(alloc, &fault)?;
+    let answer = refusal_json(alloc, &fault, b"", &[]);
+    tell(rt, &lent, answer.is_err(), &answer)
+}
+
+fn refusal_line(rt: &impl Print, alloc: Global, file: &[u8]) -> io::Result<()>
+    requires { length file.now ≤ max_offset }
+{
+    match Parser::from_file(alloc, file) {
+        Ok(_) | Err(Refusal::Memory) => Err(io::Error::from(AllocError)),
+        Err(refusal) => {
+            let borrowed = (file, &refusal);
+            let lent = Lent::of(alloc, &borrowed)?;
+            let answer = refused_line(alloc, file, &refusal);
+            tell(rt, &lent, answer.is_err(), &answer)
+        }
+    }
+}
+
+fn table_text(rt: &impl Print, alloc: Global) -> io::Result<()> {
+    let Ok(grammar) = grammar_of(alloc, COUNTS) else {
+        return Err(io::Error::from(AllocError));
+    };
+    let core = desugar(alloc, &grammar)?;
+    let table = table_of(alloc, &core)?;
+    let borrowed = (&grammar, &core, &table);
+    let lent = Lent::of(alloc, &borrowed)?;
+    let answer = table_json(alloc, &grammar, &core, &table);
+    tell(rt, &lent, answer.is_err(), &answer)
+}
+
+fn table_of_line(rt: &impl Print, alloc: Global) -> io::Result<()> {
+    let Ok(grammar) = grammar_of(alloc, COUNTS) else {
+        return Err(io::Error::from(AllocError));
+    };
+    let core = desugar(alloc, &grammar)?;
+    let table = table_of(alloc, &core)?;
+    let borrowed = (&grammar, &core, &table);
+    let lent = Lent::of(alloc, &borrowed)?;
+    let answer = table_line(alloc, &grammar, &core, &table);
+    tell(rt, &lent, answer.is_err(), &answer)
+}
+
+fn code_text(rt: &impl Print, alloc: Global) -> io::Result<()> {
+    let parser = parser(alloc, PREFIX)?;
+    let lent = Lent::of(alloc, parser.program())?;
+    let answer = code_json(alloc, parser.program());
+    tell(rt, &lent, answer.is_err(), &answer)
+}
+
+fn code_of_line(rt: &impl Print, alloc: Global) -> io::Result<()> {
+    let parser = parser(alloc, PREFIX)?;
+    let lent = Lent::of(alloc, parser.program())?;
+    let answer = code_line(alloc, parser.program());
+    tell(rt, &lent, answer.is_err(), &answer)
+}
+
+fn accepted(rt: &impl Print, alloc: Global) -> io::Result<()> {
+    let lent = Lent::of(alloc, &())?;
+    let answer = accepted_line(alloc, 29);
+    tell(rt, &lent, answer.is_err(), &answer)
+}
+
+fn no_start(rt: &impl Print, alloc: Global) -> io::Result<()> {
+    let name = "T\"\n";
+    let lent = Lent::of(alloc, &name)?;
+    let answer = no_start_line(alloc, name);
+    tell(rt, &lent, answer.is_err(), &answer)
+}
+
+fn long_text(rt: &impl Print, alloc: Global) -> io::Result<()> {
+    let lent = Lent::of(alloc, &())?;
+    let answer = long_text_line(alloc);
+    tell(rt, &lent, answer.is_err(), &answer)
+}
+
+fn step_limit(rt: &impl Print, alloc: Global) -> io::Result<()> {
+    let lent = Lent::of(alloc, &())?;
+    let answer = step_limit_line(alloc);
+    tell(rt, &lent, answer.is_err(), &answer)
+}

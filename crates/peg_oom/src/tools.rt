@@ -1,0 +1,209 @@
+//! Calls that read devices, parse arguments and run the tool, over files in memory.
+ghost use Rattle.std.specs.Prelude.{None};
+
+use crate::inputs::{CHAIN, COUNTS, CYCLE, LOOP, MISSING, OPEN, PREFIX, TWICE};
+use crate::told::{Lent, tell};
+use peg_io::{ReadFault, read_up_to};
+use peg_tool::{
+    Command, Device, OpenFault, Opener, ParseOptions, ProgramFault, Words, WordsFault, read_words,
+    run_joined, run_tool, run_words,
+};
+use std::alloc::{AllocError, Global};
+use std::io;
+
+pub(crate) const WORDS: [&str; 20] = [
+    "read_up_to",
+    "read_words",
+    "read_words_help",
+    "read_words_usage",
+    "tool_table",
+    "tool_table_missing",
+    "tool_check",
+    "tool_check_cycle",
+    "tool_check_loop",
+    "tool_check_twice",
+    "tool_check_missing",
+    "tool_check_open",
+    "tool_code",
+    "tool_parse",
+    "tool_parse_rows",
+    "tool_parse_no_start",
+    "joined",
+    "joined_open",
+    "words_joined",
+    "words_parse",
+];
+
+// More bytes than any line here has, so that the output never grows.
+const ROOM: usize = 4096;
+
+// The exit status for out of memory.
+const MEMORY: u8 = 5;
+
+/// Makes the call that the argument names. Returns whether the name is known here.
+pub(crate) fn call(rt: &impl Print, alloc: Global, word: &str) -> io::Result<bool> {
+    if word.starts_with("tool_check") {
+        return checked(rt, alloc, word);
+    }
+    if word.starts_with("tool_parse") {
+        return parsed(rt, alloc, word);
+    }
+    match word {
+        "read_up_to" => bytes(rt, alloc)?,
+        "read_words" => asked(rt, alloc, "parse g t --start A --memo 7 --all --rows")?,
+        "read_words_help" => asked(rt, alloc, "parse --help")?,
+        "read_words_usage" => asked(rt, alloc, "parse g --memo many")?,
+        "tool_table" => tool(rt, alloc, COUNTS, b"", &Command::Table)?,
+        "tool_table_missing" => tool(rt, alloc, MISSING, b"", &Command::Table)?,
+        "tool_code" => tool(rt, alloc, COUNTS, b"", &Command::Code)?,
+        "joined" => joined(rt, alloc, b"S <- 'a' S / 'b'\n%%\naab")?,
+        "joined_open" => joined(rt, alloc, b"A <- [a-]\n%%\naab")?,
+        "words_joined" => led(rt, alloc, "")?,
+        "words_parse" => led(rt, alloc, "parse chain aab --rows")?,
+        _ => return Ok(false),
+    }
+    Ok(true)
+}
+
+fn checked(rt: &impl Print, alloc: Global, word: &str) -> io::Result<bool> {
+    let file = match word {
+        "tool_check" => COUNTS,
+        "tool_check_cycle" => CYCLE,
+        "tool_check_loop" => LOOP,
+        "tool_check_twice" => TWICE,
+        "tool_check_missing" => MISSING,
+        "tool_check_open" => OPEN,
+        _ => return Ok(false),
+    };
+    tool(rt, alloc, file, b"", &Command::Check)?;
+    Ok(true)
+}
+
+fn parsed(rt: &impl Print, alloc: Global, word: &str) -> io::Result<bool> {
+    let (start, rows) = match word {
+        "tool_parse" => (None, false),
+        "tool_parse_rows" => (Some("A"), true),
+        "tool_parse_no_start" => (Some("B"), false),
+        _ => return Ok(false),
+    };
+    let (memo, steps) = (7, None);
+    let options = ParseOptions { start, memo, steps };
+    let all = true;
+    let command = Command::Parse { options, all, rows };
+    tool(rt, alloc, PREFIX, b"((((a)y)y)y)y", &command)?;
+    Ok(true)
+}
+
+fn bytes(rt: &impl Print, alloc: Global) -> io::Result<()> {
+    let input = COUNTS.to_vec(alloc)?;
+    let lent = Lent::of(alloc, &input)?;
+    let answer = read_up_to(alloc, &mut Device::new(input.as_slice()), ROOM);
+    tell(rt, &lent, matches!(answer, Err(ReadFault::Memory)), &answer)
+}
+
+// The arguments in a text, separated by spaces; an empty text has none.
+fn list_of(alloc: Global, text: &str) -> Result<Vec<String>, AllocError> {
+    let mut words = Vec::new(alloc);
+    if text.is_empty() {
+        return Ok(words);
+    }
+    for word in text.split(' ') {
+        words.push(String::from_str(alloc, word)?)?;
+    }
+    Ok(words)
+}
+
+fn asked(rt: &impl Print, alloc: Global, text: &str) -> io::Result<()> {
+    let words = list_of(alloc, text)?;
+    let lent = Lent::of(alloc, &words)?;
+    let answer = read_words(alloc, &words);
+    tell(
+        rt,
+        &lent,
+        matches!(answer, Err(WordsFault::Memory)),
+        &answer,
+    )
+}
+
+// Prints how a run over devices ended and what it wrote: nothing, if an allocation failed.
+fn told<B: std::fmt::Debug, E: std::fmt::Debug>(
+    rt: &impl Print,
+    lent: &mut Lent<'_, B>,
+    memory: bool,
+    answer: &Result<u8, E>,
+    written: &[u8],
+) -> io::Result<()> {
+    if memory && !written.is_empty() {
+        lent.spoil();
+    }
+    tell(rt, lent, memory, &(answer, std::str::from_utf8(written)))
+}
+
+fn tool(
+    rt: &impl Print,
+    alloc: Global,
+    file: &[u8],
+    text: &[u8],
+    command: &Command<'_>,
+) -> io::Result<()> {
+    let mut written = Vec::with_capacity(alloc, ROOM)?;
+    let borrowed = (file, text, command);
+    let mut lent = Lent::of(alloc, &borrowed)?;
+    let answer = run_tool(
+        alloc,
+        &mut Device::new(file),
+        &mut Device::new(text),
+        &mut Device::new(&mut written),
+        command,
+    );
+    told(rt, &mut lent, answer == Ok(MEMORY), &answer, &written)
+}
+
+fn joined(rt: &impl Print, alloc: Global, input: &[u8]) -> io::Result<()> {
+    let mut written = Vec::with_capacity(alloc, ROOM)?;
+    let mut lent = Lent::of(alloc, &input)?;
+    let answer = run_joined(
+        alloc,
+        &mut Device::new(input),
+        &mut Device::new(&mut written),
+    );
+    told(rt, &mut lent, answer == Ok(MEMORY), &answer, &written)
+}
+
+// Two files by name.
+#[derive(Drop)]
+struct Shelf;
+
+impl Opener for Shelf {
+    ghost use Rattle.std.specs.Prelude.{None};
+
+    type File = Device<&'static [u8]>;
+
+    ghost holds = { λ _ _. None };
+
+    fn open(&self, name: &str) -> Result<Device<&'static [u8]>, OpenFault> {
+        match name {
+            "chain" => Ok(Device::new(CHAIN)),
+            "aab" => Ok(Device::new(b"aab".as_slice())),
+            _ => Err(OpenFault::File),
+        }
+    }
+}
+
+fn led(rt: &impl Print, alloc: Global, text: &str) -> io::Result<()> {
+    let Ok(words) = read_words(alloc, &list_of(alloc, text)?) else {
+        return Err(io::Error::from(AllocError));
+    };
+    let mut written = Vec::with_capacity(alloc, ROOM)?;
+    let mut lent = Lent::of(alloc, &words)?;
+    let input = b"S <- 'a' S / 'b'\n%%\naab".as_slice();
+    let answer = run_words(
+        alloc,
+        &Shelf,
+        &mut Device::new(input),
+        &mut Device::new(&mut written),
+        &words,
+    );
+    let memory = answer == Err(ProgramFault::Memory);
+    told(rt, &mut lent, memory, &answer, &written)
+}

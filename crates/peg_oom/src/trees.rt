@@ -1,0 +1,126 @@
+//! Calls on trees as JSON values, and as text.
+ghost use Rattle.std.specs.Prelude.{◌∷◌, [], codes};
+ghost use Rattle.peg_tree.specs.Nodes.{RulesBelow};
+
+use crate::told::{Lent, tell};
+use peg_bytes::Span;
+use peg_tree::{
+    JsonFault, Names, NestedTree, RowsText, Tree, TreeNode, TreeRows, nested_json, one_tree,
+    rows_json,
+};
+use std::alloc::{AllocError, Global};
+use std::io;
+
+pub(crate) const WORDS: [&str; 6] = [
+    "rows_json",
+    "nested_json",
+    "nested_json_deep",
+    "tree_rows",
+    "nested_tree",
+    "rows_text",
+];
+
+// Rule 0 is `list`, and rule 1 is `word`.
+#[derive(Debug)]
+struct Rules;
+
+impl Names for Rules {
+    ghost names = { λ _. codes "list" ∷ codes "word" ∷ [] };
+
+    fn count(&self) -> u32 {
+        2
+    }
+
+    fn name(&self, rule: u32) -> &str {
+        if rule == 0 { "list" } else { "word" }
+    }
+}
+
+/// Makes the call that the argument names, on a tree of a root and two children, or of 61 levels. Returns whether the
+/// name is known here.
+pub(crate) fn call(rt: &impl Print, alloc: Global, word: &str) -> io::Result<bool> {
+    if !WORDS.contains(&word) {
+        return Ok(false);
+    }
+    let rows = if word == "nested_json_deep" {
+        chain(alloc)?
+    } else {
+        vec![in alloc; row(0, 3), row(1, 1), row(1, 1)]?
+    };
+    if !one_tree(&rows) {
+        return Ok(false);
+    }
+    let tree = Tree::from_rows(rows);
+    if !tree.fits(Rules.count()) {
+        return Ok(false);
+    }
+    match word {
+        "rows_json" => rows_value(rt, alloc, &tree)?,
+        "tree_rows" => rows_sent(rt, alloc, &tree)?,
+        "nested_tree" => nested_sent(rt, alloc, &tree)?,
+        "rows_text" => rows_filled(rt, alloc, tree)?,
+        _ => nested_value(rt, alloc, &tree)?,
+    }
+    Ok(true)
+}
+
+// A node whose subtree has `size` nodes.
+fn row(rule: u32, size: u64) -> TreeNode {
+    let span = Span::new(0, 1);
+    TreeNode { rule, span, size }
+}
+
+// 61 nodes, each the child of the one before.
+fn chain(alloc: Global) -> Result<Vec<TreeNode>, AllocError> {
+    let mut rows = Vec::new(alloc);
+    for above in 0..61 {
+        rows.push(row(0, 61 - above))?;
+    }
+    Ok(rows)
+}
+
+fn rows_value(rt: &impl Print, alloc: Global, tree: &Tree) -> io::Result<()>
+    requires { RulesBelow 2 tree.now }
+{
+    let lent = Lent::of(alloc, tree)?;
+    let answer = rows_json(alloc, tree, &Rules);
+    tell(rt, &lent, answer.is_err(), &answer)
+}
+
+fn nested_value(rt: &impl Print, alloc: Global, tree: &Tree) -> io::Result<()>
+    requires { RulesBelow 2 tree.now }
+{
+    let lent = Lent::of(alloc, tree)?;
+    let answer = nested_json(alloc, tree, &Rules);
+    tell(rt, &lent, matches!(answer, Err(JsonFault::Memory)), &answer)
+}
+
+// The text that a serializer makes of the tree.
+fn rows_sent(rt: &impl Print, alloc: Global, tree: &Tree) -> io::Result<()>
+    requires { RulesBelow 2 tree.now }
+{
+    let lent = Lent::of(alloc, tree)?;
+    let answer = serde_json::to_string(alloc, &TreeRows::new(alloc, tree, &Rules));
+    tell(rt, &lent, answer.is_err(), &answer)
+}
+
+fn nested_sent(rt: &impl Print, alloc: Global, tree: &Tree) -> io::Result<()>
+    requires { RulesBelow 2 tree.now }
+{
+    let lent = Lent::of(alloc, tree)?;
+    let answer = serde_json::to_string(alloc, &NestedTree::new(alloc, tree, &Rules));
+    tell(rt, &lent, answer.is_err(), &answer)
+}
+
+// Fills the first piece of the list of nodes too, which doesn't allocate.
+fn rows_filled(rt: &impl Print, alloc: Global, tree: Tree) -> io::Result<()>
+    requires { RulesBelow 2 tree }
+{
+    let lent = Lent::of(alloc, &Rules)?;
+    let mut answer = RowsText::new(alloc, tree, &Rules);
+    if let Ok(text) = &mut answer {
+        text.fill();
+    }
+    let piece = answer.as_ref().map(|text| text.piece());
+    tell(rt, &lent, answer.is_err(), &piece)
+}
