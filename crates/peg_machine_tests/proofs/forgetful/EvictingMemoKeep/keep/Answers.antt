@@ -3,7 +3,7 @@ use Rattle.std.specs.FinMap as map
 use Rattle.peg_memo.specs.Held.{held_in}
 use Rattle.peg_memo.specs.Memo.{Memo}
 use Rattle.peg_memo.proofs.Uses.{use_cmp-IsTotalOrder}
-use Rattle.peg_machine_tests.proofs.forgetful.EvictingMemo.keep.Goals as goal
+use Rattle.peg_machine_tests.proofs.forgetful.EvictingMemoKeep.keep.Goals as goal
 
 -- a new memo is empty
 pub returns-in-Ok-clause-part : goal.returns-in-Ok-clause-part
