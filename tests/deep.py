@@ -1,7 +1,6 @@
 #!/usr/bin/env python3
-"""Runs the built program over texts that nest a million levels deep, fail through a million uses, or are as long as a
-text may be, and compares the lines. The argument is the program; without one it is the one that
-`cd crates/pegtool && rt run < stdin` builds."""
+"""Runs the built program over texts that nest a million levels deep, fail through a million calls, or have the maximum
+length, and compares the lines. The argument is the program, by default the one that `make run` builds."""
 import json
 import os
 import subprocess

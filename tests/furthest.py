@@ -1,6 +1,6 @@
 #!/usr/bin/env python3
-"""Compares the furthest failure of each text here that doesn't match with what was worked out by hand (furthest.txt).
-The argument is the program; without one it is the one that `cd crates/pegtool && rt run < stdin` builds."""
+"""Compares the furthest failure of each text of examples/ that doesn't match with the hand-worked furthest.txt. The
+argument is the program, by default the one that `make run` builds."""
 import json
 import os
 import re
@@ -17,7 +17,7 @@ HELD = re.compile(rf"(?:{TERMINAL})(?:#\d+)?")
 def by_hand():
     """The place and the terminals, as `Rule terminal`, of each text of furthest.txt."""
     held = {}
-    with open("furthest.txt", encoding="utf-8") as file:
+    with open(f"{HERE}/furthest.txt", encoding="utf-8") as file:
         for line in (line for line in file if line.strip() and not line.startswith("#")):
             if line.startswith(" "):
                 rule, terminals = line.split(maxsplit=1)
@@ -53,12 +53,12 @@ def told(text):
 
 
 def main():
-    os.chdir(HERE)
+    os.chdir(f"{HERE}/../examples")
     held = by_hand()
     folders = (folder for folder, _, _ in os.walk("."))
     texts = {os.path.relpath(f"{folder}/{name}") for folder in folders for name in os.listdir(folder)
              if name.startswith("no_match")}
-    faults = [f"{text}: in one of furthest.txt and this folder" for text in sorted(texts ^ held.keys())]
+    faults = [f"{text}: in only one of furthest.txt and examples/" for text in sorted(texts ^ held.keys())]
     for text in sorted(texts & held.keys()):
         answer = told(text)
         if answer != held[text]:

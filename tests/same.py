@@ -1,19 +1,20 @@
 #!/usr/bin/env python3
-"""Compares the grammars and texts of this folder with those that the tests hold, byte for byte.
+"""Compares the grammars and texts of examples/ with those in the tests, byte for byte.
 
-The tests are src/examples.rt of crates/peg_example_tests and of crates/peg_machine_tests. There a grammar is a constant with
-the name of its file, as JSON for json.peg, and a text stands in the list of `the_texts_of_json` behind its file's name
-in the folder json, before the status that its name tells: 0 for `match`, 1 for `no_match`. Each file here has to stand
-in both, but for those of the grammars that are held here alone (HERE_ALONE), which check.sh and furthest.py run. Prints
-what differs and ends with 1; else says that all are the same.
+The tests are src/examples.rt of crates/peg_example_tests and of crates/peg_machine_tests. A grammar is a constant with
+the name of its file there, such as JSON for json.peg. A text is in the list of `the_texts_of_json`, after its file's
+name in the folder json and before its status: 0 for `match`, 1 for `no_match`. Each file of examples/ must be in both,
+except those of the grammars in HERE_ALONE, which check.sh and furthest.py run. Prints what differs and exits with 1;
+otherwise says that all are the same.
 """
 
 import re
 import sys
 from pathlib import Path
 
-HERE = Path(__file__).resolve().parent
-CRATES = HERE.parent / "crates"
+TOP = Path(__file__).resolve().parent.parent
+HERE = TOP / "examples"
+CRATES = TOP / "crates"
 HERE_ALONE = {f"{name}.peg" for name in "c color date http ipv4 layout log png semver toml utf8 uuid".split()}
 TESTS = [CRATES / name / "src" / "examples.rt" for name in ("peg_example_tests", "peg_machine_tests")]
 

@@ -1,6 +1,6 @@
 #!/usr/bin/env bash
-# Hunts for wrong answers by chance: 100,000 grammar files with texts for each seed; the words are the seeds, and with
-# none it is 1. Prints each line of the tool that isn't the wanted one, and a summary for each seed.
+# Fuzzes the tool: 100,000 random grammar files with texts for each seed. The arguments are the seeds, by default 1.
+# Prints each line of the tool that differs from the expected one, and a summary for each seed.
 set -u
 cd "$(dirname "$0")/../crates/peg_fuzz" || exit 2
 rt run > out/log 2>&1 || { cat out/log; exit 2; }

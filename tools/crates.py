@@ -1,20 +1,18 @@
 #!/usr/bin/env python3
-"""Draws the rooms: the crates that the program uses, from crates.txt, and what each hands on. `docs/rooms.py` prints
-the drawing, `docs/rooms.py --write` puts it into ARCHITECTURE.md, and `docs/rooms.py --check` compares it with what
-stands there.
+"""Draws the crates that the program uses, from crates.txt, with what each of them turns into what. `tools/crates.py`
+prints the drawing, `--write` puts it into docs/ARCHITECTURE.md, and `--check` compares it with the one there.
 
-A room is an `o`. The line below it leads down to the rooms that use it, `+` where one of them is and the line goes on,
-`'` where the last one is; `|` between dashes is a line that only crosses. A room that is used through another one, too,
-has no line of its own for that."""
+A crate is an `o`. The line below it leads down to its direct dependents: `+`, or `'` for the last one. `|` between
+dashes is a line that only crosses. Transitive dependencies have no line."""
 import os
 import re
 import sys
 
 TOP = os.path.dirname(os.path.dirname(os.path.abspath(__file__)))
 DOCUMENT = f"{TOP}/docs/ARCHITECTURE.md"
-PLACE = re.compile(r"^```rooms\n(.*?)^```$", re.M | re.S)
+PLACE = re.compile(r"^```crates\n(.*?)^```$", re.M | re.S)
 
-HANDED_ON = {
+PURPOSE = {
     "peg_bytes": "places, spans, sets of bytes",
     "peg_tree": "trees as rows, outcomes",
     "peg_semantics": "Ford's definitions; nothing runs",
@@ -39,7 +37,7 @@ HANDED_ON = {
 }
 
 
-def rooms():
+def crates():
     """Each crate that the program uses, in the order of crates.txt, with the crates that it uses."""
     with open(f"{TOP}/crates.txt", encoding="utf-8") as file:
         pairs = (line.split(":") for line in file if ":" in line and not line.startswith("#"))
@@ -63,7 +61,7 @@ def nearest(used):
 
 def drawing():
     """The lines of the drawing."""
-    used = nearest(rooms())
+    used = nearest(crates())
     last = {other: name for name, others in used.items() for other in others}
     lanes, lines = [], []
     for name, others in used.items():
@@ -85,16 +83,16 @@ def drawing():
         lines.append(("".join(char + gap for char, gap in zip(row, gaps)).rstrip(), name))
     width = max(len(line) for line, _ in lines)
     longest = max(len(name) for _, name in lines)
-    return "".join(f"{line:{width}}  {name:{longest}}  {HANDED_ON[name]}\n" for line, name in lines)
+    return "".join(f"{line:{width}}  {name:{longest}}  {PURPOSE[name]}\n" for line, name in lines)
 
 
 def main(words):
-    strangers = sorted(HANDED_ON.keys() ^ rooms().keys())
+    strangers = sorted(PURPOSE.keys() ^ crates().keys())
     if strangers:
-        print(f"rooms: what is handed on is told of other crates than the program uses: {', '.join(strangers)}")
+        print(f"crates: the descriptions are of other crates than the program uses: {', '.join(strangers)}")
         return 1
     if words not in ([], ["--check"], ["--write"]):
-        print("rooms: the words are none, --check or --write")
+        print("crates: the argument must be none, --check or --write")
         return 3
     with open(DOCUMENT, encoding="utf-8") as file:
         text = file.read()
@@ -102,10 +100,10 @@ def main(words):
         print(drawing(), end="")
     elif words == ["--write"]:
         with open(DOCUMENT, "w", encoding="utf-8") as file:
-            file.write(PLACE.sub(lambda _: f"```rooms\n{drawing()}```", text))
+            file.write(PLACE.sub(lambda _: f"```crates\n{drawing()}```", text))
     else:
         same = PLACE.findall(text) == [drawing()]
-        print(f"rooms: {len(rooms())} crates, {'the drawing is theirs' if same else 'the drawing is another'}")
+        print(f"crates: {len(crates())} crates, {'the drawing is up to date' if same else 'the drawing is out of date'}")
         return 0 if same else 1
     return 0
 

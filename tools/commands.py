@@ -1,9 +1,8 @@
 #!/usr/bin/env python3
-"""Runs the commands that the documents print on the built program, whose path is the argument, and compares what they
-print. In an indented block of README.md or docs/*.md a line that begins with `$ ` is a command for a shell, and the
-lines up to the next one or to an empty line are what it prints. The commands of a document run in one folder, where the
-program is in the path and the folder of examples is `examples`. A command that uses jq is left out where there is no
-jq."""
+"""Runs the commands that the documents show on the built program, whose path is the argument, and compares the output.
+In an indented block of README.md or docs/*.md a line that begins with `$ ` is a shell command, and the lines up to the
+next command or empty line are its output. The commands of a document run in one folder, with the program in PATH and
+the examples in `examples`. A command that uses jq is skipped if there is no jq."""
 import os
 import re
 import shutil

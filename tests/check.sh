@@ -1,13 +1,12 @@
 #!/usr/bin/env bash
-# Runs the built program over each grammar here (its table, its check, its code, and each of its texts, from files and
-# as one input), and over what can go wrong, and compares the statuses; then the scripts here that read its lines, and
-# compares what they print. A text whose name begins with `match` has to be matched (status 0), one with `no_match` to
-# fail (status 1). The argument is the program; without one it is the one that `cd crates/pegtool && rt run < stdin`
-# builds.
+# Runs the built program over each grammar of examples/ (its table, its check, its code, and each of its texts, from
+# files and as one input) and over faulty inputs, and compares the exit statuses. Then runs the scripts of examples/ that
+# read the program's output, and compares what they print. A text whose name begins with `match` must match (status 0),
+# one with `no_match` must fail (status 1). The argument is the program, by default the one that `make run` builds.
 set -u
 here=$(dirname "$0")
 program=$(realpath -- "${1:-$here/../crates/pegtool/out/pegtool}")
-cd "$here" || exit 1
+cd "$here/../examples" || exit 1
 faults=0
 folder=$(mktemp -d)
 trap 'rm -rf "$folder"' EXIT

@@ -1,14 +1,14 @@
 #!/usr/bin/env bash
-# Refuses each request for memory of runs of the built program in turn: of the Nth one, for N from 1 until a run makes
-# fewer. Each run has to end with status 5, print nothing, and tell `pegtool: out of memory` on standard error; or print
-# its line and end with its status, as it does where memory is there. Takes the program's path, by default the built one
-# (`cd crates/pegtool && rt run < stdin` builds it), and wants a C compiler for the library that refuses.
+# Fails each allocation of runs of the built program in turn: the Nth one, for N from 1 until a run makes fewer. Each
+# run must exit with status 5, print nothing, and report `pegtool: out of memory` on standard error; or print the same
+# line and exit with the same status as with enough memory. Takes the program's path, by default the one that `make run`
+# builds, and needs a C compiler for the library that fails allocations.
 set -u
-cd "$(dirname "$0")/.." || exit 1
+cd "$(dirname "$0")/../.." || exit 1
 program=$(realpath "${1:-crates/pegtool/out/pegtool}")
 work=$(mktemp -d)
 trap 'rm -rf "$work"' EXIT
-cc -shared -fPIC -O1 -o "$work/refuse.so" bench/refuse.c -ldl || exit 1
+cc -shared -fPIC -O1 -o "$work/refuse.so" tests/oom/refuse.c -ldl || exit 1
 faults=0
 refuse() { # what the run is called, its input, and its words
   want=$("$program" "${@:3}" < "$2" 2> /dev/null)
@@ -19,12 +19,12 @@ refuse() { # what the run is called, its input, and its words
     status=$?
     if [ ! -e "$work/met" ]; then
       [ "$status" = "$ends" ] && [ "$got" = "$want" ] || { echo "$1: WRONG without a refusal"; faults=$((faults + 1)); }
-      echo "$1: $((n - 1)) growths"
+      echo "$1: $((n - 1)) allocations"
       return
     fi
     case "$status:$got:$(cat "$work/told")" in
       "5::pegtool: out of memory" | "$ends:$want:"*) ;;
-      *) echo "$1, growth $n: WRONG, status $status: $got"; faults=$((faults + 1)) ;;
+      *) echo "$1, allocation $n: WRONG, status $status: $got"; faults=$((faults + 1)) ;;
     esac
   done
 }

@@ -1,17 +1,16 @@
 #!/usr/bin/env bash
-# Refuses each request for memory of public calls in turn, one call after the other: `crates/peg_oom` makes the call
-# that a word names, and prints one line. Of the Nth request, for N from 1 until a run makes fewer, each run has to
-# print `not yet`, where that came before the call; `memory`, where the call answered want of memory and left what it
-# borrowed as it was; or the very line that it prints where memory is there. Takes the program's path, by default the
-# built one (`cd crates/peg_oom && rt run` builds it), and words, by default all; wants a C compiler for the library
-# that refuses.
+# Fails each allocation of public calls in turn: `crates/peg_oom` makes the call that an argument names, and prints one
+# line. The Nth allocation fails, for N from 1 until a run makes fewer. Each run must print `not yet` if the failure came
+# before the call; `memory` if the call returned out of memory and left its borrowed arguments unchanged; or the same
+# line as with enough memory. Takes the program's path, by default the built one (`cd crates/peg_oom && rt run` builds
+# it), and the names of calls, by default all. Needs a C compiler for the library that fails allocations.
 set -u
-cd "$(dirname "$0")/.." || exit 1
+cd "$(dirname "$0")/../.." || exit 1
 program=$(realpath "${1:-crates/peg_oom/out/peg_oom}")
 [ "$#" = 0 ] || shift
 work=$(mktemp -d)
 trap 'rm -rf "$work"' EXIT
-cc -shared -fPIC -O1 -o "$work/refuse.so" bench/refuse.c -ldl || exit 1
+cc -shared -fPIC -O1 -o "$work/refuse.so" tests/oom/refuse.c -ldl || exit 1
 faults=0
 growths=0
 wrong() { # what was wrong
@@ -38,7 +37,7 @@ refuse() { # the word of a call
     esac
   done
   [ "$status:$got" = "0:$want" ] || wrong "$1: WRONG without a refusal: $got"
-  echo "$1: $((memory + same)) growths, $memory told, $same with the same answer"
+  echo "$1: $((memory + same)) allocations, $memory reported, $same with the same answer"
   growths=$((growths + memory + same))
 }
 words=("$@")
@@ -46,6 +45,6 @@ words=("$@")
 for word in "${words[@]}"; do
   refuse "$word"
 done
-echo "${#words[@]} calls, $growths growths"
+echo "${#words[@]} calls, $growths allocations"
 echo "$faults faults"
 [ "$faults" = 0 ]
