@@ -7,7 +7,7 @@ use peg_check::check;
 use peg_code::{Program, compile};
 use peg_core::desugar;
 use peg_grammar::Grammar;
-use peg_machine::{Answer, NoWatch, RunFault, run as run_program, run_by};
+use peg_machine::{Answer, NoWatch, RunFault, run as run_program, run_with_shortcuts};
 use peg_memo::NoMemo;
 use peg_notation::read;
 use peg_shortcut::Shortcuts;
@@ -33,7 +33,7 @@ pub(crate) fn run(rt: HostRuntime, alloc: Global, grammar: &str, text: &str) -> 
         return println!(rt; "no rule");
     }
     let start = Instant::now(&rt)?;
-    let told = run_program(
+    let result = run_program(
         alloc,
         &program,
         text.as_slice(),
@@ -42,7 +42,7 @@ pub(crate) fn run(rt: HostRuntime, alloc: Global, grammar: &str, text: &str) -> 
         &mut NoWatch,
         None,
     );
-    match told {
+    match result {
         Err(_) => println!(rt; "no answer"),
         Ok(answer) => {
             let time = start.elapsed(&rt)?.as_micros();
@@ -66,7 +66,7 @@ fn run_by_table(
     requires rule { 0 < length program.now.core.bodies }
     ensures { shortcuts.new.program.now ≡ shortcuts.old.program.now }
 {
-    run_by(
+    run_with_shortcuts(
         alloc,
         shortcuts,
         program,

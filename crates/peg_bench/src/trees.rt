@@ -4,7 +4,7 @@ ghost use Rattle.std.specs.Prelude.{◌∷◌, [], codes};
 ghost use Rattle.peg_tree.specs.Nodes.{RulesBelow};
 
 use peg_bytes::Span;
-use peg_tree::{Names, NestedTree, Tree, TreeNode, TreeRows, one_tree, rows_json};
+use peg_tree::{FlatTree, Names, NestedTree, Tree, TreeNode, one_tree, rows_json};
 use serde::Serialize;
 use std::alloc::{AllocError, Global};
 use std::io;
@@ -53,8 +53,8 @@ fn rows_of(alloc: Global, count: u32) -> Result<Vec<TreeNode>, AllocError> {
     let mut rows = Vec::new(alloc);
     rows.push(row(0, 0, u64::from(count)))?;
     for at in 1..count {
-        let place = (u64::from(at) - 1) % CHAIN;
-        let size = (CHAIN - place).min(u64::from(count - at));
+        let position = (u64::from(at) - 1) % CHAIN;
+        let size = (CHAIN - position).min(u64::from(count - at));
         rows.push(row(1, at, size))?;
     }
     Ok(rows)
@@ -79,13 +79,13 @@ fn text_bytes(alloc: Global, form: Form, tree: &Tree) -> Result<usize, AllocErro
     match form {
         Form::Tree => Ok(tree.len()),
         Form::Values => Ok(rows_json(alloc, tree, &Rules)?.to_string(alloc)?.len()),
-        Form::Rows => sent_bytes(alloc, &TreeRows::new(alloc, tree, &Rules)),
+        Form::Rows => sent_bytes(alloc, &FlatTree::new(alloc, tree, &Rules)),
         Form::Nested => sent_bytes(alloc, &NestedTree::new(alloc, tree, &Rules)),
     }
 }
 
-fn sent_bytes<T: Serialize>(alloc: Global, told: &T) -> Result<usize, AllocError> {
-    match serde_json::to_vec(alloc, told) {
+fn sent_bytes<T: Serialize>(alloc: Global, value: &T) -> Result<usize, AllocError> {
+    match serde_json::to_vec(alloc, value) {
         Ok(text) => Ok(text.len()),
         Err(_) => Err(AllocError),
     }

@@ -1,10 +1,10 @@
 -- What the nodes of counts denote, from the bytes at their positions.
 use Rattle.std.proofs.Common.{◌≡◌, ℕ, Bool, true, false, if◌then◌else◌, not, List, [], ◌∷◌, drop, Option, None, Some, refl, sym, ap, ◌∙◌}
 use Rattle.peg_tree.specs.Trees.{Trees, NoTrees, Tree}
-use Rattle.peg_metagrammar.specs.Spelled.{Bounds, bounds_in_range, bad_counts}
+use Rattle.peg_metagrammar.specs.Denotation.{Bounds, bounds_in_range, bad_counts}
 use Rattle.peg_lexer.specs.LexicalCode.{spells_of, count_spelled, count_in_range}
-use Rattle.peg_lexer.specs.Pieces.{Piece}
-use Rattle.peg_metagrammar.specs.Spelled.{numerals_in, bounds_spelled}
+use Rattle.peg_lexer.specs.Matchers.{PrefixMatch}
+use Rattle.peg_metagrammar.specs.Denotation.{numerals_in, bounds_spelled}
 use Rattle.peg_lexer.specs.declared.token.TokenKind.TheVariants as kind
 use Rattle.peg_lexer.proofs.PieceLemmas.{from, from-drop}
 use Rattle.peg_bootstrap.proofs.TokenNodes.{Token}
@@ -17,7 +17,7 @@ module _ (file : List ℕ) (rule start end : ℕ) (children : Trees) (t : Token 
   range_is : bounds_in_range (count_spelled (from start file)) ≡ bounds_in_range (bounds_spelled (numerals_in t.piece.spells))
   range_is =
       ap (λ r. bounds_in_range (count_spelled r)) (from-drop start file)
-      ∙ ap (λ (found : Option Piece). bounds_in_range (bounds_spelled (numerals_in (spells_of found)))) t.found
+      ∙ ap (λ (found : Option PrefixMatch). bounds_in_range (bounds_spelled (numerals_in (spells_of found)))) t.found
 
   counts_are : (b : Bool) → bounds_in_range (count_spelled (from start file)) ≡ b
       → bad_counts file (Tree rule start end children NoTrees) ≡ (if not b then start ∷ [] else [])

@@ -1,4 +1,4 @@
--- Facts that each function of `Speller` uses about its node and the nodes below it.
+-- Facts that each function of `AstBuilder` uses about its node and the nodes below it.
 use Rattle.std.proofs.Common.{◌≡◌, ◌≢◌, ℕ, max, ◌+◌, ◌≤◌, List, [], ◌∷◌, ◌++◌, Option, drop, codes, refl, sym, ap, ◌∙◌, subst, arith}
 use Rattle.std.proofs.Common.{Result, Ok, Err}
 use Rattle.std.specs.Prelude.{IfOk, IfErr, OnOk, IsErrAnd}
@@ -12,20 +12,21 @@ use Rattle.peg_metagrammar.specs.Figure.{prefix_body, suffix_body}
 use Rattle.peg_metagrammar.specs.FigureRules as rule
 use Rattle.peg_metagrammar.specs.Nesting.{nesting}
 use Rattle.peg_metagrammar.specs.Notation.{Matches}
-use Rattle.peg_metagrammar.specs.Spelled.{Spelling, Sign, Expression, text_end, spelled, numerals_in, bounds_spelled, counted, bad_count, bad_counts}
+use Rattle.peg_metagrammar.specs.Denotation.{Denotation, Sign, Expression, text_end, spelled, numerals_in, bounds_spelled, counted_form, bad_count, bad_counts}
 use Rattle.peg_lexer.specs.LexicalCode.{spells_of, count_spelled}
-use Rattle.peg_lexer.specs.Pieces.{Piece}
-use Rattle.peg_metagrammar.proofs.FigureNames.{prefix-meant, suffix-meant}
+use Rattle.peg_lexer.specs.Matchers.{PrefixMatch}
+use Rattle.peg_metagrammar.proofs.FigureNames.{prefix-meaning_of, suffix-meaning_of}
 use Rattle.peg_lexer.specs.declared.token.TokenKind.{TokenKind}
 use Rattle.peg_lexer.specs.declared.token.TokenKind.TheVariants as kind
 use Rattle.peg_lexer.specs.Tokens.{rule_of_kind}
 use Rattle.peg_bootstrap.specs.FigureNodes.{IsNode, last_start, sign_form, HasBadCount}
 use Rattle.peg_bootstrap.specs.declared.fault.DefinitionsFault.{DefinitionsFault}
-use Rattle.peg_bootstrap.specs.SpellerSeen.{Says}
+use Rattle.peg_bootstrap.specs.AstBuilderCode.{Builds}
 use Rattle.peg_bootstrap.proofs.Loops.{nesting-first, counts-first, counts-behind, bad-more}
-use Rattle.peg_bootstrap.proofs.NodeSpells.{Opened, opened, node-passes, node-nesting, node-counts, prefix-signed, suffix-signed}
+use Rattle.peg_bootstrap.proofs.NodeSpells.{Opened, opened, node-passes, node-nesting, node-counts, prefix-with_operator, suffix-with_operator}
 use Rattle.peg_bootstrap.proofs.Shapes.{Ends, Then_is, PrefixChildren, prefix_children, SuffixRest, suffix_children}
-use Rattle.peg_bootstrap.proofs.TokenNodes.{Token, token, number_of}
+use Rattle.peg_lexer.proofs.KindRules.{number_of}
+use Rattle.peg_bootstrap.proofs.TokenNodes.{Token, token}
 
 -- a property of each value is a property of an Ok result
 pub if_ok : {V E : Type 0} {P Q : V → Type 0} (r : Result V E) → ((v : V) → P v → Q v) → IfOk r P → IfOk r Q
@@ -46,9 +47,9 @@ err_told P (Ok v) e is h = tt
 err_told P (Err told) e is h = subst P (sym is) h
 
 -- trees that begin with a match
-pub then_some : (file name : List ℕ) (number : ℕ) (next : ℕ → Trees → Type 0) (place : ℕ) (trees : Trees)
-    → Then_is file name number next place trees → trees ≢ NoTrees
-then_some file name number next place trees is none = subst (Then_is file name number next place) none is
+pub then_some : (file name : List ℕ) (number : ℕ) (next : ℕ → Trees → Type 0) (position : ℕ) (trees : Trees)
+    → Then_is file name number next position trees → trees ≢ NoTrees
+then_some file name number next position trees is none = subst (Then_is file name number next position) none is
 
 -- a node with one child
 pub one_child : (node first : Branch) → trees_in node.children ≡ trees_from_branch first → trees_in first.rest ≡ NoTrees
@@ -69,7 +70,7 @@ pub record IsSign (file : List ℕ) (first : Branch) : Type 0 where
 
 sign_from : {file : List ℕ} {first : Branch} (k : TokenKind) (sign : Form → Extent → Form)
     → (t : Token file k first.rule first.span.start first.span.end (trees_in first.children))
-    → ((before end last : ℕ) → Rattle.peg_metagrammar.specs.Spelled.node_spelled file (number_of k) before first.span.start end last t.piece.spells ≡ Sign sign ∷ [])
+    → ((before end last : ℕ) → Rattle.peg_metagrammar.specs.Denotation.node_spelled file (number_of k) before first.span.start end last t.piece.spells ≡ Sign sign ∷ [])
     → IsSign file first
 sign_from {file} {first} k sign t spells =
     record {
@@ -89,8 +90,8 @@ pub record IsPlainSign (file : List ℕ) (first : Branch) : Type 0 where
   pub fine : bad_counts file (tree_of_branch first) ≡ []
 
 plain_from : {file : List ℕ} {first : Branch} (k : TokenKind) (sign : Form → Extent → Form) → sign_form (number_of k) ≡ sign
-    → ((before end last : ℕ) (pieces : List Spelling) → Rattle.peg_metagrammar.specs.Spelled.node_spelled file (number_of k) before first.span.start end last pieces ≡ Sign sign ∷ [])
-    → ((place : ℕ) (pieces : List Spelling) → bad_count (number_of k) place pieces ≡ [])
+    → ((before end last : ℕ) (pieces : List Denotation) → Rattle.peg_metagrammar.specs.Denotation.node_spelled file (number_of k) before first.span.start end last pieces ≡ Sign sign ∷ [])
+    → ((position : ℕ) (pieces : List Denotation) → bad_count (number_of k) position pieces ≡ [])
     → Matches file (rule_of_kind k) first.span.start first.span.end (tree_of_branch first) → IsPlainSign file first
 unfolding sign_from
 plain_from {file} {first} k sign form spells fine m =
@@ -104,22 +105,22 @@ plain_from {file} {first} k sign form spells fine m =
 -- a count
 pub record IsCountSign (file : List ℕ) (first : Branch) : Type 0 where
   pub sign : IsSign file first
-  pub form : counted (count_spelled (drop first.span.start file)) ≡ sign.sign
+  pub form : counted_form (count_spelled (drop first.span.start file)) ≡ sign.sign
 
 count_from : {file : List ℕ} {first : Branch} → IsNode file (codes "COUNT") first → IsCountSign file first
 unfolding sign_from
 count_from {file} {first} m =
     let t = token file kind.Count first.rule first.span.start first.span.end (trees_in first.children) m in
     record {
-      sign = sign_from kind.Count (counted (bounds_spelled (numerals_in t.piece.spells))) t (λ before end last. refl);
-      form = ap (λ (found : Option Piece). counted (bounds_spelled (numerals_in (spells_of found)))) t.found;
+      sign = sign_from kind.Count (counted_form (bounds_spelled (numerals_in t.piece.spells))) t (λ before end last. refl);
+      form = ap (λ (found : Option PrefixMatch). counted_form (bounds_spelled (numerals_in (spells_of found)))) t.found;
     }
 
 -- ---- Prefix
 
 module _ (file : List ℕ) (node : Branch) (m : IsNode file (codes "Prefix") node) where
   prefix_opened : Opened file rule.prefix prefix_body node.rule node.span.start node.span.end (trees_in node.children)
-  prefix_opened = opened (codes "Prefix") prefix-meant.1 m
+  prefix_opened = opened (codes "Prefix") prefix-meaning_of.1 m
 
   prefix_shape : PrefixChildren file node.span.end node.span.start (trees_in node.children)
   prefix_shape = prefix_children prefix_opened.inside
@@ -137,8 +138,8 @@ module _ (file : List ℕ) (node : Branch) (m : IsNode file (codes "Prefix") nod
     pub record PrefixPlain : Type 0 where
       pub start : first.span.start ≡ node.span.start
       pub suffix : IsNode file (codes "Suffix") first
-      pub says : (before : ℕ) (f : Form) (last : ℕ) → Says file before (tree_of_branch first) f last
-          → Says file before (tree_of_branch node) f last
+      pub says : (before : ℕ) (f : Form) (last : ℕ) → Builds file before (tree_of_branch first) f last
+          → Builds file before (tree_of_branch node) f last
       pub nests : nesting (tree_of_branch node) ≡ nesting (tree_of_branch first)
       pub counts : bad_counts file (tree_of_branch node) ≡ bad_counts file (tree_of_branch first)
 
@@ -153,7 +154,7 @@ module _ (file : List ℕ) (node : Branch) (m : IsNode file (codes "Prefix") nod
               start = here.1;
               suffix = here.2;
               says = λ before f last says. node-passes file rule.prefix node.rule node.span.start node.span.end (trees_in node.children)
-                  prefix_opened.is refl (λ l. refl) (subst (λ t. Says file before t f last) (sym one) says);
+                  prefix_opened.is refl (λ l. refl) (subst (λ t. Builds file before t f last) (sym one) says);
               nests = node-nesting rule.prefix node.rule node.span.start node.span.end (trees_in node.children) prefix_opened.is refl
                   ∙ ap nesting one;
               counts = node-counts file rule.prefix node.rule node.span.start node.span.end (trees_in node.children) prefix_opened.is refl
@@ -181,18 +182,18 @@ module _ (file : List ℕ) (node : Branch) (m : IsNode file (codes "Prefix") nod
             absurd (apart here.0)
         by (PrefixChildren.and_before shape) =
             let here = subst (Then_is file (codes "AND") rule.and_sign (Then_is file (codes "Suffix") rule.suffix (Ends node.span.end)) node.span.start) is shape in
-            record { start = here.1; plain = plain_from kind.And form.And refl (λ before end last pieces. refl) (λ place pieces. refl) here.2; next = here.3 }
+            record { start = here.1; plain = plain_from kind.And form.And refl (λ before end last pieces. refl) (λ position pieces. refl) here.2; next = here.3 }
         by (PrefixChildren.not_before shape) =
             let here = subst (Then_is file (codes "NOT") rule.not_sign (Then_is file (codes "Suffix") rule.suffix (Ends node.span.end)) node.span.start) is shape in
-            record { start = here.1; plain = plain_from kind.Not form.Not refl (λ before end last pieces. refl) (λ place pieces. refl) here.2; next = here.3 }
+            record { start = here.1; plain = plain_from kind.Not form.Not refl (λ before end last pieces. refl) (λ position pieces. refl) here.2; next = here.3 }
 
-    module _ (signed : PrefixSigned) where
+    module _ (with_operator : PrefixSigned) where
       pub prefix_next_some : trees_in first.rest ≢ NoTrees
-      prefix_next_some = then_some _ _ _ _ _ _ signed.next
+      prefix_next_some = then_some _ _ _ _ _ _ with_operator.next
 
       module _ (second : Branch) (next_is : trees_in first.rest ≡ trees_from_branch second) where
         prefix_next : Then_is file (codes "Suffix") rule.suffix (Ends node.span.end) first.span.end (trees_from_branch second)
-        prefix_next = subst (Then_is file (codes "Suffix") rule.suffix (Ends node.span.end) first.span.end) next_is signed.next
+        prefix_next = subst (Then_is file (codes "Suffix") rule.suffix (Ends node.span.end) first.span.end) next_is with_operator.next
 
         pub prefix_suffix : IsNode file (codes "Suffix") second
         prefix_suffix = prefix_next.2
@@ -203,30 +204,30 @@ module _ (file : List ℕ) (node : Branch) (m : IsNode file (codes "Prefix") nod
         whole : trees_in node.children ≡ Tree first.rule first.span.start first.span.end (trees_in first.children) (tree_of_branch second)
         whole = is ∙ ap (Tree first.rule first.span.start first.span.end (trees_in first.children)) rest_is
 
-        pub prefix_says : (f : Form) (last : ℕ) → ((before : ℕ) → Says file before (tree_of_branch second) f last)
-            → (before : ℕ) → Says file before (tree_of_branch node) (sign_form first.rule f (between node.span.start last)) last
+        pub prefix_says : (f : Form) (last : ℕ) → ((before : ℕ) → Builds file before (tree_of_branch second) f last)
+            → (before : ℕ) → Builds file before (tree_of_branch node) (sign_form first.rule f (between node.span.start last)) last
         prefix_says f last says before =
-            subst (λ g. Says file before (tree_of_branch node) (g f (between node.span.start last)) last) (sym signed.plain.form)
-            (subst (λ t. Says file before (Tree node.rule node.span.start node.span.end t NoTrees) (signed.plain.sign.sign f (between node.span.start last)) last)
+            subst (λ g. Builds file before (tree_of_branch node) (g f (between node.span.start last)) last) (sym with_operator.plain.form)
+            (subst (λ t. Builds file before (Tree node.rule node.span.start node.span.end t NoTrees) (with_operator.plain.sign.sign f (between node.span.start last)) last)
             (sym whole)
-            (prefix-signed file before node.rule node.span.start node.span.end first.rule first.span.start first.span.end
-            (trees_in first.children) (tree_of_branch second) signed.plain.sign.sign signed.plain.sign.last f last prefix_opened.is
-            (signed.plain.sign.spells before) (signed.plain.sign.ends before) (says signed.plain.sign.last)))
+            (prefix-with_operator file before node.rule node.span.start node.span.end first.rule first.span.start first.span.end
+            (trees_in first.children) (tree_of_branch second) with_operator.plain.sign.sign with_operator.plain.sign.last f last prefix_opened.is
+            (with_operator.plain.sign.spells before) (with_operator.plain.sign.ends before) (says with_operator.plain.sign.last)))
 
         pub prefix_nests : nesting (tree_of_branch node) ≡ nesting (tree_of_branch second)
         prefix_nests =
             node-nesting rule.prefix node.rule node.span.start node.span.end (trees_in node.children) prefix_opened.is refl
             ∙ (ap nesting whole ∙ (nesting-first first.rule first.span.start first.span.end (trees_in first.children) (tree_of_branch second)
-            ∙ (ap (λ n. max n (nesting (tree_of_branch second))) signed.plain.sign.flat ∙ omega arith)))
+            ∙ (ap (λ n. max n (nesting (tree_of_branch second))) with_operator.plain.sign.flat ∙ omega arith)))
 
         pub prefix_counts : bad_counts file (tree_of_branch node) ≡ bad_counts file (tree_of_branch second)
         prefix_counts =
             node-counts file rule.prefix node.rule node.span.start node.span.end (trees_in node.children) prefix_opened.is refl
             ∙ (ap (bad_counts file) whole ∙ counts-behind file first.rule first.span.start first.span.end (trees_in first.children)
-            (tree_of_branch second) signed.plain.fine)
+            (tree_of_branch second) with_operator.plain.fine)
 
         pub prefix_order : (last : ℕ) → second.span.start ≤ last → node.span.start ≤ last
-        prefix_order last order = omega (arith, order, prefix_next.1, signed.start, token_fits)
+        prefix_order last order = omega (arith, order, prefix_next.1, with_operator.start, token_fits)
           where
             token_fits : first.span.start ≤ first.span.end
             token_fits = first.span.ordered
@@ -235,7 +236,7 @@ module _ (file : List ℕ) (node : Branch) (m : IsNode file (codes "Prefix") nod
 
 module _ (file : List ℕ) (node : Branch) (m : IsNode file (codes "Suffix") node) where
   suffix_opened : Opened file rule.suffix suffix_body node.rule node.span.start node.span.end (trees_in node.children)
-  suffix_opened = opened (codes "Suffix") suffix-meant.1 m
+  suffix_opened = opened (codes "Suffix") suffix-meaning_of.1 m
 
   suffix_shape : Then_is file (codes "Primary") rule.primary (SuffixRest file node.span.end) node.span.start (trees_in node.children)
   suffix_shape = suffix_children suffix_opened.inside
@@ -264,11 +265,11 @@ module _ (file : List ℕ) (node : Branch) (m : IsNode file (codes "Suffix") nod
 
     -- without an operator
     module _ (none : trees_in first.rest ≡ NoTrees) where
-      pub suffix_plain : (before : ℕ) (f : Form) (last : ℕ) → Says file before (tree_of_branch first) f last
-          → Says file before (tree_of_branch node) f last
+      pub suffix_plain : (before : ℕ) (f : Form) (last : ℕ) → Builds file before (tree_of_branch first) f last
+          → Builds file before (tree_of_branch node) f last
       suffix_plain before f last says =
           node-passes file rule.suffix node.rule node.span.start node.span.end (trees_in node.children) suffix_opened.is refl
-          (λ l. refl) (subst (λ t. Says file before t f last) (sym (one_child node first is none)) says)
+          (λ l. refl) (subst (λ t. Builds file before t f last) (sym (one_child node first is none)) says)
 
       pub suffix_plain_nests : nesting (tree_of_branch node) ≡ nesting (tree_of_branch first)
       suffix_plain_nests =
@@ -287,7 +288,7 @@ module _ (file : List ℕ) (node : Branch) (m : IsNode file (codes "Suffix") nod
         pub sign : IsSign file second
         pub start : second.span.start ≡ first.span.end
         pub plain : second.rule ≢ rule.count → (sign_form second.rule ≡ sign.sign) × (bad_counts file (tree_of_branch second) ≡ [])
-        pub counted : second.rule ≡ rule.count → IsNode file (codes "COUNT") second × (Rattle.peg_metagrammar.specs.Spelled.counted (count_spelled (drop second.span.start file)) ≡ sign.sign)
+        pub counted : second.rule ≡ rule.count → IsNode file (codes "COUNT") second × (Rattle.peg_metagrammar.specs.Denotation.counted_form (count_spelled (drop second.span.start file)) ≡ sign.sign)
 
       -- from the position of the token
       plain_suffix : (number : ℕ) → number ≢ rule.count → second.rule ≡ number → trees_in second.rest ≡ NoTrees
@@ -311,8 +312,8 @@ module _ (file : List ℕ) (node : Branch) (m : IsNode file (codes "Suffix") nod
       }
 
       from_plain : (k : TokenKind) (sign : Form → Extent → Form) → (number_of k ≢ rule.count) → sign_form (number_of k) ≡ sign
-          → ((place : ℕ) (pieces : List Spelling) → bad_count (number_of k) place pieces ≡ [])
-          → ((before end last : ℕ) (pieces : List Spelling) → Rattle.peg_metagrammar.specs.Spelled.node_spelled file (number_of k) before second.span.start end last pieces ≡ Sign sign ∷ [])
+          → ((position : ℕ) (pieces : List Denotation) → bad_count (number_of k) position pieces ≡ [])
+          → ((before end last : ℕ) (pieces : List Denotation) → Rattle.peg_metagrammar.specs.Denotation.node_spelled file (number_of k) before second.span.start end last pieces ≡ Sign sign ∷ [])
           → Then_is file (rule_of_kind k) (number_of k) (Ends node.span.end) first.span.end (trees_from_branch second) → SuffixSign
       from_plain k sign other form fine spells here =
           plain_suffix (number_of k) other here.0 here.3.1 here.1 (plain_from k sign form spells fine here.2)
@@ -321,13 +322,13 @@ module _ (file : List ℕ) (node : Branch) (m : IsNode file (codes "Suffix") nod
       from_count here = count_suffix here.0 here.3.1 here.1 here.2 (count_from here.2)
 
       from_question : Then_is file (codes "QUESTION") rule.question (Ends node.span.end) first.span.end (trees_from_branch second) → SuffixSign
-      from_question = from_plain kind.Question form.Optional (λ same. cc) refl (λ place pieces. refl) (λ before end last pieces. refl)
+      from_question = from_plain kind.Question form.Optional (λ same. cc) refl (λ position pieces. refl) (λ before end last pieces. refl)
 
       from_star : Then_is file (codes "STAR") rule.star (Ends node.span.end) first.span.end (trees_from_branch second) → SuffixSign
-      from_star = from_plain kind.Star form.Star (λ same. cc) refl (λ place pieces. refl) (λ before end last pieces. refl)
+      from_star = from_plain kind.Star form.Star (λ same. cc) refl (λ position pieces. refl) (λ before end last pieces. refl)
 
       from_plus : Then_is file (codes "PLUS") rule.plus (Ends node.span.end) first.span.end (trees_from_branch second) → SuffixSign
-      from_plus = from_plain kind.Plus form.Plus (λ same. cc) refl (λ place pieces. refl) (λ before end last pieces. refl)
+      from_plus = from_plain kind.Plus form.Plus (λ same. cc) refl (λ position pieces. refl) (λ before end last pieces. refl)
 
       moved : (name : List ℕ) (number : ℕ) → Then_is file name number (Ends node.span.end) first.span.end (trees_in first.rest)
           → Then_is file name number (Ends node.span.end) first.span.end (trees_from_branch second)
@@ -354,16 +355,16 @@ module _ (file : List ℕ) (node : Branch) (m : IsNode file (codes "Suffix") nod
           let order = suffix_sign.sign.order in
           omega (arith, order, suffix_sign.sign.last_is, suffix_sign.start, suffix_start, first.span.ordered)
 
-      pub suffix_says : (f : Form) (middle : ℕ) → ((before : ℕ) → Says file before (tree_of_branch first) f middle) → (before : ℕ)
-          → Says file before (tree_of_branch node)
+      pub suffix_says : (f : Form) (middle : ℕ) → ((before : ℕ) → Builds file before (tree_of_branch first) f middle) → (before : ℕ)
+          → Builds file before (tree_of_branch node)
           (suffix_sign.sign.sign f (between node.span.start (last_start second.span.start (trees_in second.children))))
           (last_start second.span.start (trees_in second.children))
       suffix_says f middle says before =
           let it = suffix_sign.sign in
-          subst (λ n. Says file before (tree_of_branch node) (it.sign f (between node.span.start n)) n) (sym it.last_is)
-          (subst (λ t. Says file before (Tree node.rule node.span.start node.span.end t NoTrees) (it.sign f (between node.span.start it.last)) it.last)
+          subst (λ n. Builds file before (tree_of_branch node) (it.sign f (between node.span.start n)) n) (sym it.last_is)
+          (subst (λ t. Builds file before (Tree node.rule node.span.start node.span.end t NoTrees) (it.sign f (between node.span.start it.last)) it.last)
           (sym suffix_whole)
-          (suffix-signed file before node.rule node.span.start node.span.end first.rule first.span.start first.span.end
+          (suffix-with_operator file before node.rule node.span.start node.span.end first.rule first.span.start first.span.end
           (trees_in first.children) (tree_of_branch second) it.sign middle f it.last suffix_opened.is (says before)
           (it.spells middle) (it.ends middle)))
 

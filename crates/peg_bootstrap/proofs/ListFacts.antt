@@ -8,13 +8,13 @@ use Rattle.peg_semantics.specs.Form.{Form}
 use Rattle.peg_metagrammar.specs.Figure.{sequence_body, expression_body}
 use Rattle.peg_metagrammar.specs.FigureRules as rule
 use Rattle.peg_metagrammar.specs.Nesting.{nesting}
-use Rattle.peg_metagrammar.specs.Spelled.{sequence_spelled, choice_spelled, bad_counts}
+use Rattle.peg_metagrammar.specs.Denotation.{sequence_spelled, choice_spelled, bad_counts}
 use Rattle.peg_bootstrap.specs.declared.fault.DefinitionsFault.{DefinitionsFault}
-use Rattle.peg_metagrammar.proofs.FigureNames.{expression-meant, sequence-meant}
-use Rattle.peg_lexer.proofs.PieceSizes.{blank-these}
+use Rattle.peg_metagrammar.proofs.FigureNames.{expression-meaning_of, sequence-meaning_of}
+use Rattle.peg_lexer.proofs.PieceSizes.{blank-literal_bytes}
 use Rattle.peg_lexer.specs.declared.token.TokenKind.TheVariants as kind
 use Rattle.peg_bootstrap.specs.FigureNodes.{IsNode, last_start, HasBadCount}
-use Rattle.peg_bootstrap.specs.SpellerSeen.{Says}
+use Rattle.peg_bootstrap.specs.AstBuilderCode.{Builds}
 use Rattle.peg_bootstrap.proofs.Facts.{then_some}
 use Rattle.peg_bootstrap.proofs.Loops.{SoFar, so_far-none, so_far-one, so_far-pass, so_far-all, so_far-deep, so_far-bad, bad-same}
 use Rattle.peg_bootstrap.proofs.NodeSpells.{Opened, opened, node-nesting, node-counts, sequence-says, expression-says}
@@ -27,7 +27,7 @@ pub same_walk : {file : List ℕ} {rest_is : ℕ → Trees → Type 0} {before s
     {l k : ℕ} {rest : Trees} → g ≡ f → k ≡ l → walks.Spelling file rest_is before start left nodes f m l rest
     → (0 < n → start ≤ k) → walks.Spelling file rest_is before start left nodes g n k rest
 same_walk {file} {before = before} {left = left} {nodes} {f = f} {g} {l = l} {k} {rest} e is it some = record {
-  place = it.place;
+  position = it.position;
   shape = it.shape;
   behind = it.behind;
   so_far = subst (λ n. SoFar file before left nodes g n rest) (sym is) (subst (λ h. SoFar file before left nodes h l rest) (sym e) it.so_far);
@@ -40,14 +40,14 @@ module _ (file : List ℕ) (node : Branch) (before left : ℕ) (behind : before 
 
   module _ (m : IsNode file (codes "Sequence") node) where
     sequence_opened : Opened file rule.sequence sequence_body node.rule node.span.start node.span.end (trees_in node.children)
-    sequence_opened = opened (codes "Sequence") sequence-meant.1 m
+    sequence_opened = opened (codes "Sequence") sequence-meaning_of.1 m
 
     abbrev Items : List Form → (count last : ℕ) → Trees → Type 0
     Items = walks.Spelling file (Prefixes file node.span.end) before node.span.start left (trees_in node.children)
 
     pub items_none : Items [] 0 before (trees_in node.children)
     items_none = record {
-      place = node.span.start;
+      position = node.span.start;
       shape = sequence_children sequence_opened.inside;
       behind = omega arith;
       so_far = so_far-none file before left (trees_in node.children);
@@ -57,8 +57,8 @@ module _ (file : List ℕ) (node : Branch) (before left : ℕ) (behind : before 
 
     module _ {list : List Form} {count last : ℕ} {rest : Trees} (walk : Items list count last rest) (item : Branch)
         (is : rest ≡ trees_from_branch item) where
-      item_here : Prefixes file node.span.end walk.place (trees_from_branch item)
-      item_here = subst (Prefixes file node.span.end walk.place) is walk.shape
+      item_here : Prefixes file node.span.end walk.position (trees_from_branch item)
+      item_here = subst (Prefixes file node.span.end walk.position) is walk.shape
 
       item_walk : SoFar file before left (trees_in node.children) list last (trees_from_branch item)
       item_walk = subst (SoFar file before left (trees_in node.children) list last) is walk.so_far
@@ -66,10 +66,10 @@ module _ (file : List ℕ) (node : Branch) (before left : ℕ) (behind : before 
       pub item_prefix : IsNode file (codes "Prefix") item
       item_prefix = item_here.2
 
-      pub items_one : (f : Form) (next count' : ℕ) → Says file last (tree_of_branch item) f next → nesting (tree_of_branch item) ≤ left
+      pub items_one : (f : Form) (next count' : ℕ) → Builds file last (tree_of_branch item) f next → nesting (tree_of_branch item) ≤ left
           → bad_counts file (tree_of_branch item) ≡ [] → item.span.start ≤ next → Items (list ++ f ∷ []) count' next (trees_in item.rest)
       items_one f next count' says within fine order = record {
-        place = item.span.end;
+        position = item.span.end;
         shape = item_here.3;
         behind = omega (arith, item_here.1, walk.behind, item.span.ordered);
         so_far = so_far-one item.rule item.span.start item.span.end (trees_in item.children) (trees_in item.rest) f next item_walk
@@ -92,7 +92,7 @@ module _ (file : List ℕ) (node : Branch) (before left : ℕ) (behind : before 
       items_walk : SoFar file before left (trees_in node.children) list last NoTrees
       items_walk = subst (SoFar file before left (trees_in node.children) list last) none walk.so_far
 
-      pub items_say : Says file before (tree_of_branch node) (sequence_spelled before (between node.span.start last) list) last
+      pub items_say : Builds file before (tree_of_branch node) (sequence_spelled before (between node.span.start last) list) last
       items_say =
           sequence-says file before node.rule node.span.start node.span.end (trees_in node.children) list last sequence_opened.is
           (so_far-all items_walk) items_walk.ends
@@ -100,7 +100,7 @@ module _ (file : List ℕ) (node : Branch) (before left : ℕ) (behind : before 
       pub items_nest : nesting (tree_of_branch node) ≤ left
       items_nest =
           subst (λ n. n ≤ left) (sym (node-nesting rule.sequence node.rule node.span.start node.span.end (trees_in node.children) sequence_opened.is refl))
-          (omega (arith, items_walk.most))
+          (omega (arith, items_walk.limit))
 
       pub items_fine : bad_counts file (tree_of_branch node) ≡ []
       items_fine =
@@ -111,7 +111,7 @@ module _ (file : List ℕ) (node : Branch) (before left : ℕ) (behind : before 
 
   module _ (m : IsNode file (codes "Expression") node) where
     expression_opened : Opened file rule.expression expression_body node.rule node.span.start node.span.end (trees_in node.children)
-    expression_opened = opened (codes "Expression") expression-meant.1 m
+    expression_opened = opened (codes "Expression") expression-meaning_of.1 m
 
     expression_shape : Then_is file (codes "Sequence") rule.sequence (Alternatives file node.span.end) node.span.start (trees_in node.children)
     expression_shape = expression_children expression_opened.inside
@@ -132,10 +132,10 @@ module _ (file : List ℕ) (node : Branch) (before left : ℕ) (behind : before 
       pub first_behind : before ≤ first.span.start
       first_behind = omega (arith, first_here.1, behind)
 
-      pub choices_one : (f : Form) (last : ℕ) → Says file before (tree_of_branch first) f last → nesting (tree_of_branch first) ≤ left
+      pub choices_one : (f : Form) (last : ℕ) → Builds file before (tree_of_branch first) f last → nesting (tree_of_branch first) ≤ left
           → bad_counts file (tree_of_branch first) ≡ [] → before ≤ last → Choices (f ∷ []) 0 last (trees_in first.rest)
       choices_one f last says within fine order = record {
-        place = first.span.end;
+        position = first.span.end;
         shape = first_here.3;
         behind = omega (arith, first_here.1, first.span.ordered);
         so_far = so_far-one first.rule first.span.start first.span.end (trees_in first.children) (trees_in first.rest) f last
@@ -155,15 +155,15 @@ module _ (file : List ℕ) (node : Branch) (before left : ℕ) (behind : before 
         (is : rest ≡ trees_from_branch slash) where
       pub slash_some : trees_in slash.rest ≢ NoTrees
       slash_some none =
-          subst (λ t. Alternatives file node.span.end walk.place (Tree slash.rule slash.span.start slash.span.end (trees_in slash.children) t)) none
-          (subst (Alternatives file node.span.end walk.place) is walk.shape)
+          subst (λ t. Alternatives file node.span.end walk.position (Tree slash.rule slash.span.start slash.span.end (trees_in slash.children) t)) none
+          (subst (Alternatives file node.span.end walk.position) is walk.shape)
 
       module _ (next : Branch) (next_is : trees_in slash.rest ≡ trees_from_branch next) where
-        pair_here : Alternatives file node.span.end walk.place
+        pair_here : Alternatives file node.span.end walk.position
             (Tree slash.rule slash.span.start slash.span.end (trees_in slash.children) (trees_from_branch next))
         pair_here =
-            subst (λ t. Alternatives file node.span.end walk.place (Tree slash.rule slash.span.start slash.span.end (trees_in slash.children) t)) next_is
-            (subst (Alternatives file node.span.end walk.place) is walk.shape)
+            subst (λ t. Alternatives file node.span.end walk.position (Tree slash.rule slash.span.start slash.span.end (trees_in slash.children) t)) next_is
+            (subst (Alternatives file node.span.end walk.position) is walk.shape)
 
         slash_token : Token file kind.Slash slash.rule slash.span.start slash.span.end (trees_in slash.children)
         slash_token = token file kind.Slash slash.rule slash.span.start slash.span.end (trees_in slash.children) pair_here.2
@@ -183,14 +183,14 @@ module _ (file : List ℕ) (node : Branch) (before left : ℕ) (behind : before 
             (last_start slash.span.start (trees_in slash.children))
             (subst (λ t. SoFar file before left (trees_in node.children) list last (Tree slash.rule slash.span.start slash.span.end (trees_in slash.children) t))
             next_is (subst (SoFar file before left (trees_in node.children) list last) is walk.so_far))
-            (slash_token.spells last ∙ (blank-these (codes "/")).blank (drop slash.span.start file) slash_token.piece slash_token.found)
+            (slash_token.spells last ∙ (blank-literal_bytes (codes "/")).blank (drop slash.span.start file) slash_token.piece slash_token.found)
             (slash_token.ends last ∙ sym slash_token.last) slash_token.flat slash_token.counts
 
-        pub choices_more : (f : Form) (stop count' : ℕ) → Says file (last_start slash.span.start (trees_in slash.children)) (tree_of_branch next) f stop
+        pub choices_more : (f : Form) (stop count' : ℕ) → Builds file (last_start slash.span.start (trees_in slash.children)) (tree_of_branch next) f stop
             → nesting (tree_of_branch next) ≤ left → bad_counts file (tree_of_branch next) ≡ [] → last_start slash.span.start (trees_in slash.children) ≤ stop
             → Choices (list ++ f ∷ []) count' stop (trees_in next.rest)
         choices_more f stop count' says within fine order = record {
-          place = next.span.end;
+          position = next.span.end;
           shape = pair_here.6;
           behind = omega (arith, pair_here.1, pair_here.4, walk.behind, slash.span.ordered, next.span.ordered);
           so_far = so_far-one next.rule next.span.start next.span.end (trees_in next.children) (trees_in next.rest) f stop slash_walk
@@ -213,7 +213,7 @@ module _ (file : List ℕ) (node : Branch) (before left : ℕ) (behind : before 
       choices_walk : SoFar file before left (trees_in node.children) list last NoTrees
       choices_walk = subst (SoFar file before left (trees_in node.children) list last) none walk.so_far
 
-      pub choices_say : Says file before (tree_of_branch node) (choice_spelled (between node.span.start last) list) last
+      pub choices_say : Builds file before (tree_of_branch node) (choice_spelled (between node.span.start last) list) last
       choices_say =
           expression-says file before node.rule node.span.start node.span.end (trees_in node.children) list last expression_opened.is
           (so_far-all choices_walk) choices_walk.ends
@@ -221,7 +221,7 @@ module _ (file : List ℕ) (node : Branch) (before left : ℕ) (behind : before 
       pub choices_nest : nesting (tree_of_branch node) ≤ left
       choices_nest =
           subst (λ n. n ≤ left) (sym (node-nesting rule.expression node.rule node.span.start node.span.end (trees_in node.children) expression_opened.is refl))
-          (omega (arith, choices_walk.most))
+          (omega (arith, choices_walk.limit))
 
       pub choices_fine : bad_counts file (tree_of_branch node) ≡ []
       choices_fine =

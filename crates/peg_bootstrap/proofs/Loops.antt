@@ -4,7 +4,7 @@ use Rattle.peg_tree.specs.Trees.{Trees, NoTrees, Tree}
 use Rattle.peg_semantics.specs.Form.{Form}
 use Rattle.peg_semantics.specs.Rules.{Rule}
 use Rattle.peg_metagrammar.specs.Nesting.{nesting}
-use Rattle.peg_metagrammar.specs.Spelled.{Expression, Definition, expressions_in, rules_in, text_end, node_spelled, spelled, bad_count, bad_counts}
+use Rattle.peg_metagrammar.specs.Denotation.{Expression, Definition, expressions_in, rules_denoted, text_end, node_spelled, spelled, bad_count, bad_counts}
 use Rattle.peg_bootstrap.specs.FigureNodes.{HasBadCount}
 use Rattle.peg_bootstrap.specs.declared.fault.DefinitionsFault.{DefinitionsFault}
 use Rattle.peg_bootstrap.specs.declared.fault.DefinitionsFault.TheVariants.{TooNested, BadCount, Memory}
@@ -50,10 +50,10 @@ pub record SoFar (file : List ℕ) (before left : ℕ) (nodes : Trees) (list : L
   pub ends : text_end before nodes ≡ text_end last rest
   pub counts : bad_counts file nodes ≡ bad_counts file rest
   pub less : nesting rest ≤ nesting nodes
-  pub most : nesting nodes ≤ max left (nesting rest)
+  pub limit : nesting nodes ≤ max left (nesting rest)
 
 pub so_far-none : (file : List ℕ) (before left : ℕ) (nodes : Trees) → SoFar file before left nodes [] before nodes
-so_far-none file before left nodes = record { spells = refl; ends = refl; counts = refl; less = omega arith; most = omega arith }
+so_far-none file before left nodes = record { spells = refl; ends = refl; counts = refl; less = omega arith; limit = omega arith }
 
 -- one more node that denotes an expression
 pub so_far-one : {file : List ℕ} {before left : ℕ} {nodes : Trees} {list : List Form} {last : ℕ} (r s e : ℕ) (c rest : Trees)
@@ -68,7 +68,7 @@ so_far-one {file} {list = list} {last} r s e c rest form next so_far spells ends
   ends = so_far.ends ∙ ap (λ n. text_end n rest) ends;
   counts = so_far.counts ∙ counts-behind file r s e c rest fine;
   less = omega (arith, so_far.less, nesting-first r s e c rest);
-  most = omega (arith, so_far.most, nesting-first r s e c rest, within);
+  limit = omega (arith, so_far.limit, nesting-first r s e c rest, within);
 }
 
 -- one more node that denotes nothing
@@ -83,7 +83,7 @@ so_far-pass {file} {list = list} {last} r s e c rest next so_far spells ends fla
   ends = so_far.ends ∙ ap (λ n. text_end n rest) ends;
   counts = so_far.counts ∙ counts-behind file r s e c rest fine;
   less = omega (arith, so_far.less, nesting-first r s e c rest);
-  most = omega (arith, so_far.most, nesting-first r s e c rest, flat);
+  limit = omega (arith, so_far.limit, nesting-first r s e c rest, flat);
 }
 
 -- all nodes
@@ -105,23 +105,23 @@ so_far-bad {file} {nodes = nodes} r s e c rest so_far = bad-more file (Tree r s 
 -- the same for definitions
 pub record RulesSoFar (file : List ℕ) (bound : ℕ) (nodes : Trees) (list : List Rule) (rest : Trees) : Type 0 where
   pub last : ℕ
-  pub spells : rules_in (spelled file 0 nodes) ≡ list ++ rules_in (spelled file last rest)
+  pub spells : rules_denoted (spelled file 0 nodes) ≡ list ++ rules_denoted (spelled file last rest)
   pub counts : bad_counts file nodes ≡ bad_counts file rest
   pub less : nesting rest ≤ nesting nodes
-  pub most : nesting nodes ≤ max bound (nesting rest)
+  pub limit : nesting nodes ≤ max bound (nesting rest)
 
-pub rules_so_far-one : {file : List ℕ} {most : ℕ} {nodes : Trees} {list : List Rule} (r s e : ℕ) (c rest : Trees) (rule : Rule)
-    → RulesSoFar file most nodes list (Tree r s e c rest)
+pub rules_so_far-one : {file : List ℕ} {limit : ℕ} {nodes : Trees} {list : List Rule} (r s e : ℕ) (c rest : Trees) (rule : Rule)
+    → RulesSoFar file limit nodes list (Tree r s e c rest)
     → ((before : ℕ) → spelled file before (Tree r s e c NoTrees) ≡ Definition rule ∷ [])
-    → nesting (Tree r s e c NoTrees) ≤ most → bad_counts file (Tree r s e c NoTrees) ≡ [] → RulesSoFar file most nodes (list ++ rule ∷ []) rest
+    → nesting (Tree r s e c NoTrees) ≤ limit → bad_counts file (Tree r s e c NoTrees) ≡ [] → RulesSoFar file limit nodes (list ++ rule ∷ []) rest
 rules_so_far-one {file} {list = list} r s e c rest rule so_far spells within fine =
     let next = text_end so_far.last (Tree r s e c NoTrees) in
     record {
       last = next;
-      spells = so_far.spells ∙ (ap (λ l. list ++ rules_in l) (spelled-first file so_far.last r s e c rest
+      spells = so_far.spells ∙ (ap (λ l. list ++ rules_denoted l) (spelled-first file so_far.last r s e c rest
           ∙ ap (λ l. l ++ spelled file next rest) (spells so_far.last))
-          ∙ sym (append_assoc list (rule ∷ []) (rules_in (spelled file next rest))));
+          ∙ sym (append_assoc list (rule ∷ []) (rules_denoted (spelled file next rest))));
       counts = so_far.counts ∙ counts-behind file r s e c rest fine;
       less = omega (arith, so_far.less, nesting-first r s e c rest);
-      most = omega (arith, so_far.most, nesting-first r s e c rest, within);
+      limit = omega (arith, so_far.limit, nesting-first r s e c rest, within);
     }

@@ -8,23 +8,24 @@ use Rattle.peg_semantics.specs.Form.{Form, Name}
 use Rattle.peg_metagrammar.specs.Figure.{primary_body}
 use Rattle.peg_metagrammar.specs.FigureRules as rule
 use Rattle.peg_metagrammar.specs.Nesting.{nesting, has_open}
-use Rattle.peg_metagrammar.specs.Spelled.{Spelling, Word, text_end, spelled, bad_count, bad_counts}
-use Rattle.peg_metagrammar.proofs.FigureNames.{primary-meant}
-use Rattle.peg_lexer.proofs.PieceSizes.{blank-these}
+use Rattle.peg_metagrammar.specs.Denotation.{Denotation, Word, text_end, spelled, bad_count, bad_counts}
+use Rattle.peg_metagrammar.proofs.FigureNames.{primary-meaning_of}
+use Rattle.peg_lexer.proofs.PieceSizes.{blank-literal_bytes}
 use Rattle.peg_lexer.specs.declared.token.TokenKind.{TokenKind}
 use Rattle.peg_lexer.specs.declared.token.TokenKind.TheVariants as kind
 use Rattle.peg_lexer.specs.Tokens.{rule_of_kind}
 use Rattle.peg_bootstrap.specs.FigureNodes.{IsNode, last_start}
-use Rattle.peg_bootstrap.specs.SpellerSeen.{Says}
+use Rattle.peg_bootstrap.specs.AstBuilderCode.{Builds}
 use Rattle.peg_bootstrap.proofs.Facts.{then_some, one_child}
 use Rattle.peg_bootstrap.proofs.Loops.{nesting-first, counts-first, counts-behind}
 use Rattle.peg_bootstrap.proofs.NodeSpells.{Opened, opened, node-passes, node-counts, primary-nesting, primary-name, primary-parentheses}
 use Rattle.peg_bootstrap.proofs.Shapes.{Ends, Then_is, PrimaryChildren, primary_children}
-use Rattle.peg_bootstrap.proofs.TokenNodes.{Token, token, number_of}
+use Rattle.peg_lexer.proofs.KindRules.{number_of}
+use Rattle.peg_bootstrap.proofs.TokenNodes.{Token, token}
 
 module _ (file : List ℕ) (node : Branch) (m : IsNode file (codes "Primary") node) where
   primary_opened : Opened file rule.primary primary_body node.rule node.span.start node.span.end (trees_in node.children)
-  primary_opened = opened (codes "Primary") primary-meant.1 m
+  primary_opened = opened (codes "Primary") primary-meaning_of.1 m
 
   primary_shape : PrimaryChildren file node.span.end node.span.start (trees_in node.children)
   primary_shape = primary_children primary_opened.inside
@@ -99,16 +100,16 @@ module _ (file : List ℕ) (node : Branch) (m : IsNode file (codes "Primary") no
         by (PrimaryChildren.class shape) = absurd (d (rule_from _ _ _ shape))
 
     module _ {k : TokenKind} (one : OneToken k) where
-      pub primary_says : (before : ℕ) (f : Form) (last : ℕ) → ((l : ℕ) → Rattle.peg_metagrammar.specs.Spelled.node_spelled file rule.primary before node.span.start node.span.end l
-          (Rattle.peg_metagrammar.specs.Spelled.Expression f ∷ []) ≡ Rattle.peg_metagrammar.specs.Spelled.Expression f ∷ [])
-          → Says file before (tree_of_branch first) f last → Says file before (tree_of_branch node) f last
+      pub primary_says : (before : ℕ) (f : Form) (last : ℕ) → ((l : ℕ) → Rattle.peg_metagrammar.specs.Denotation.node_spelled file rule.primary before node.span.start node.span.end l
+          (Rattle.peg_metagrammar.specs.Denotation.Expression f ∷ []) ≡ Rattle.peg_metagrammar.specs.Denotation.Expression f ∷ [])
+          → Builds file before (tree_of_branch first) f last → Builds file before (tree_of_branch node) f last
       primary_says before f last passes says =
           node-passes file rule.primary node.rule node.span.start node.span.end (trees_in node.children) primary_opened.is refl
-          passes (subst (λ t. Says file before t f last) (sym (one_child node first is one.none)) says)
+          passes (subst (λ t. Builds file before t f last) (sym (one_child node first is one.none)) says)
 
       pub primary_name_says : (before : ℕ) (name : List ℕ) (span : Extent) (last : ℕ)
           → spelled file before (tree_of_branch first) ≡ Word name span ∷ [] → text_end before (tree_of_branch first) ≡ last
-          → Says file before (tree_of_branch node) (Name name span) last
+          → Builds file before (tree_of_branch node) (Name name span) last
       primary_name_says before name span last pieces ends =
           primary-name file before node.rule node.span.start node.span.end (trees_in node.children) name span last primary_opened.is
           (ap (spelled file before) (one_child node first is one.none) ∙ pieces)
@@ -121,7 +122,7 @@ module _ (file : List ℕ) (node : Branch) (m : IsNode file (codes "Primary") no
           primary-nesting node.rule node.span.start node.span.end (trees_in node.children) false primary_opened.is
           (ap has_open child ∙ (t.opens ∙ apart)) ∙ ap (λ n. 0 + n) (ap nesting child ∙ t.flat)
 
-      pub primary_fine : ((place : ℕ) (pieces : List Spelling) → bad_count (number_of k) place pieces ≡ [])
+      pub primary_fine : ((position : ℕ) (pieces : List Denotation) → bad_count (number_of k) position pieces ≡ [])
           → bad_counts file (tree_of_branch node) ≡ []
       primary_fine fine =
           let t = token file k first.rule first.span.start first.span.end (trees_in first.children) one.match in
@@ -205,17 +206,17 @@ module _ (file : List ℕ) (node : Branch) (m : IsNode file (codes "Primary") no
               (closing_is ∙ ap (Tree closing.rule closing.span.start closing.span.end (trees_in closing.children)) closing_here.3.1))
 
           pub parenthesized_says : (f : Form) (last : ℕ)
-              → Says file (last_start opening.span.start (trees_in opening.children)) (tree_of_branch inside) f last → (before : ℕ)
-              → Says file before (tree_of_branch node) f (last_start closing.span.start (trees_in closing.children))
+              → Builds file (last_start opening.span.start (trees_in opening.children)) (tree_of_branch inside) f last → (before : ℕ)
+              → Builds file before (tree_of_branch node) f (last_start closing.span.start (trees_in closing.children))
           parenthesized_says f last says before =
               let opened_end = last_start opening.span.start (trees_in opening.children) in
-              subst (λ t. Says file before (Tree node.rule node.span.start node.span.end t NoTrees) f (last_start closing.span.start (trees_in closing.children))) (sym all_is)
+              subst (λ t. Builds file before (Tree node.rule node.span.start node.span.end t NoTrees) f (last_start closing.span.start (trees_in closing.children))) (sym all_is)
               (primary-parentheses file before node.rule node.span.start node.span.end opening.rule opening.span.start opening.span.end
               (trees_in opening.children) inside.rule inside.span.start inside.span.end (trees_in inside.children) (tree_of_branch closing)
               opened_end last (last_start closing.span.start (trees_in closing.children)) f primary_opened.is
-              (open_token.spells before ∙ (blank-these (codes "(")).blank (drop opening.span.start file) open_token.piece open_token.found)
+              (open_token.spells before ∙ (blank-literal_bytes (codes "(")).blank (drop opening.span.start file) open_token.piece open_token.found)
               (open_token.ends before ∙ sym open_token.last) says
-              (closing_token.spells last ∙ (blank-these (codes ")")).blank (drop closing.span.start file) closing_token.piece closing_token.found)
+              (closing_token.spells last ∙ (blank-literal_bytes (codes ")")).blank (drop closing.span.start file) closing_token.piece closing_token.found)
               (closing_token.ends last ∙ sym closing_token.last))
 
           pub inside_nests : nesting (tree_of_branch node) ≡ 1 + nesting (tree_of_branch inside)

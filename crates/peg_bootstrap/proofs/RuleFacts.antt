@@ -9,16 +9,16 @@ use Rattle.peg_semantics.specs.Rules.{Rule}
 use Rattle.peg_metagrammar.specs.Figure.{definition_body, grammar_body, end_of_file_body}
 use Rattle.peg_metagrammar.specs.FigureRules as rule
 use Rattle.peg_metagrammar.specs.Nesting.{nesting, max_open}
-use Rattle.peg_metagrammar.specs.Spelled.{Word, Definition, rules_in, text_end, spelled, rules_spelled, bad_counts}
+use Rattle.peg_metagrammar.specs.Denotation.{Word, Definition, rules_denoted, text_end, spelled, rules_spelled, bad_counts}
 use Rattle.peg_bootstrap.specs.declared.fault.DefinitionsFault.{DefinitionsFault}
-use Rattle.peg_metagrammar.proofs.FigureNames.{definition-meant, grammar-meant, end_of_file-meant}
-use Rattle.peg_lexer.proofs.PieceSizes.{blank-these}
+use Rattle.peg_metagrammar.proofs.FigureNames.{definition-meaning_of, grammar-meaning_of, end_of_file-meaning_of}
+use Rattle.peg_lexer.proofs.PieceSizes.{blank-literal_bytes}
 use Rattle.peg_lexer.proofs.SpacingRules.{finds-spacing}
 use Rattle.peg_lexer.specs.declared.token.TokenKind.TheVariants as kind
 use Rattle.peg_semantics.proofs.Derivations.{one_result}
 use Rattle.peg_bootstrap.specs.FigureNodes.{IsNode, last_start, HasBadCount}
 use Rattle.peg_bootstrap.specs.FigureTrees.{IsTreeOf}
-use Rattle.peg_bootstrap.specs.SpellerSeen.{Says}
+use Rattle.peg_bootstrap.specs.AstBuilderCode.{Builds}
 use Rattle.peg_bootstrap.proofs.Facts.{then_some}
 use Rattle.peg_bootstrap.proofs.Inversions.{Node, node_matched, derives, not_of}
 use Rattle.peg_bootstrap.proofs.Loops.{RulesSoFar, rules_so_far-one, spelled-first, nesting-first, counts-first, counts-behind, bad-more}
@@ -31,7 +31,7 @@ use Rattle.peg_bootstrap.proofs.Walks.{Defining}
 
 module _ (file : List ℕ) (node : Branch) (m : IsNode file (codes "Definition") node) where
   definition_opened : Opened file rule.definition definition_body node.rule node.span.start node.span.end (trees_in node.children)
-  definition_opened = opened (codes "Definition") definition-meant.1 m
+  definition_opened = opened (codes "Definition") definition-meaning_of.1 m
 
   abbrev Body : ℕ → Trees → Type 0
   Body = Then_is file (codes "Expression") rule.expression (Ends node.span.end)
@@ -88,14 +88,14 @@ module _ (file : List ℕ) (node : Branch) (m : IsNode file (codes "Definition")
         pub rule_says : (text : List ℕ) (span : Extent) (named last : ℕ) (f : Form)
             → ((before : ℕ) → spelled file before (tree_of_branch name) ≡ Word text span ∷ [])
             → ((before : ℕ) → text_end before (tree_of_branch name) ≡ named)
-            → Says file (last_start arrow.span.start (trees_in arrow.children)) (tree_of_branch body) f last → (before : ℕ)
+            → Builds file (last_start arrow.span.start (trees_in arrow.children)) (tree_of_branch body) f last → (before : ℕ)
             → spelled file before (tree_of_branch node) ≡ Definition (record { name = text; span = span; body = f }) ∷ []
-        rule_says text span named last f word ends says before =
+        rule_says text span named last f rule_name ends says before =
             subst (λ t. spelled file before (Tree node.rule node.span.start node.span.end t NoTrees) ≡ Definition (record { name = text; span = span; body = f }) ∷ []) (sym all_is)
             (definition-says file before node.rule node.span.start node.span.end name.rule name.span.start name.span.end (trees_in name.children)
             arrow.rule arrow.span.start arrow.span.end (trees_in arrow.children) (tree_of_branch body) text span named
-            (last_start arrow.span.start (trees_in arrow.children)) last f definition_opened.is (word before) (ends before)
-            (arrow_token.spells named ∙ (blank-these (codes "<-")).blank (drop arrow.span.start file) arrow_token.piece arrow_token.found)
+            (last_start arrow.span.start (trees_in arrow.children)) last f definition_opened.is (rule_name before) (ends before)
+            (arrow_token.spells named ∙ (blank-literal_bytes (codes "<-")).blank (drop arrow.span.start file) arrow_token.piece arrow_token.found)
             (arrow_token.ends named ∙ sym arrow_token.last) says)
 
         pub rule_nests : nesting (tree_of_branch node) ≡ nesting (tree_of_branch body)
@@ -121,13 +121,13 @@ module _ (file : List ℕ) (node : Branch) (m : IsNode file (codes "Definition")
 -- the tree of a file isn't empty
 pub tree_some : (file : List ℕ) (tree : Trees) → IsTreeOf file tree → tree ≢ NoTrees
 tree_some file tree m none =
-    let node = node_matched grammar-meant.1 m.1 in
+    let node = node_matched grammar-meaning_of.1 m.1 in
     let bad : NoTrees ≡ Tree rule.grammar 0 m.0 node.children NoTrees = sym none ∙ node.is in
     cc
 
 module _ (file : List ℕ) (tree : Trees) (m : IsTreeOf file tree) (root : Branch) (is : tree ≡ trees_from_branch root) where
   grammar_node : Node file (codes "Grammar") rule.grammar grammar_body 0 m.0 tree
-  grammar_node = node_matched grammar-meant.1 m.1
+  grammar_node = node_matched grammar-meaning_of.1 m.1
 
   grammar_same : grammar_node.children ≡ trees_in root.children
   grammar_same =
@@ -178,18 +178,18 @@ module _ (file : List ℕ) (tree : Trees) (m : IsTreeOf file tree) (root : Branc
           ap nesting whole_is ∙ (let sum : nesting (Tree rule.grammar 0 m.0 children NoTrees) ≡ nesting (trees_from_branch node) = omega (arith, nests, flat) in sum) in
           record {
             end = m.0;
-            place = gap.span.end;
+            position = gap.span.end;
             shape = inl (first_rule.0, first_rule.1, first_rule.2, first_rule.3);
             so_far = record {
               last = text_end 0 (tree_of_branch gap);
-              spells = ap (λ t. rules_in (spelled file 0 t)) whole_is ∙ (ap rules_in (append-nil (spelled file 0 children))
-                  ∙ ap rules_in (spelled-first file 0 gap.rule gap.span.start gap.span.end (trees_in gap.children) (trees_from_branch node)
+              spells = ap (λ t. rules_denoted (spelled file 0 t)) whole_is ∙ (ap rules_denoted (append-nil (spelled file 0 children))
+                  ∙ ap rules_denoted (spelled-first file 0 gap.rule gap.span.start gap.span.end (trees_in gap.children) (trees_from_branch node)
                   ∙ ap (λ l. l ++ spelled file (text_end 0 (tree_of_branch gap)) (trees_from_branch node)) (ap (spelled file 0) gap_same ∙ it.spells 0)));
               counts = ap (bad_counts file) whole_is ∙ (append-nil (bad_counts file children)
                   ∙ counts-behind file gap.rule gap.span.start gap.span.end (trees_in gap.children) (trees_from_branch node)
                   (ap (bad_counts file) gap_same ∙ it.fine));
               less = omega (arith, count);
-              most = omega (arith, count);
+              limit = omega (arith, count);
             };
           }
 
@@ -202,10 +202,10 @@ module _ (file : List ℕ) (tree : Trees) (list : List Rule) (node : Branch) (wa
       → bad_counts file (tree_of_branch node) ≡ [] → Defining file tree (list ++ more ∷ []) (trees_from_branch next)
   rules_one known next next_is more says within fine = by walk.shape
     where
-      by : Definitions file walk.end walk.place (trees_from_branch node) → Defining file tree (list ++ more ∷ []) (trees_from_branch next)
+      by : Definitions file walk.end walk.position (trees_from_branch node) → Defining file tree (list ++ more ∷ []) (trees_from_branch next)
       by (inl here) = record {
         end = walk.end;
-        place = node.span.end;
+        position = node.span.end;
         shape = subst (Definitions file walk.end node.span.end) next_is here.3;
         so_far = subst (RulesSoFar file max_open tree (list ++ more ∷ [])) next_is
             (rules_so_far-one node.rule node.span.start node.span.end (trees_in node.children) (trees_in node.rest) more walk.so_far says within fine);
@@ -221,10 +221,10 @@ module _ (file : List ℕ) (tree : Trees) (list : List Rule) (node : Branch) (wa
   unfolding end_of_file_body
   file_ends apart = by walk.shape
     where
-      by : Definitions file walk.end walk.place (trees_from_branch node) → FileEnds
+      by : Definitions file walk.end walk.position (trees_from_branch node) → FileEnds
       by (inl here) = absurd (apart here.0)
       by (inr here) =
-          let it = opened (codes "EndOfFile") end_of_file-meant.1 here.2 in
+          let it = opened (codes "EndOfFile") end_of_file-meaning_of.1 here.2 in
           let still = not_of it.inside node.span.end (trees_in node.children) refl in
           record {
             none = ap (λ t. Tree node.rule node.span.start node.span.end t (trees_in node.rest)) still.1
@@ -239,12 +239,12 @@ module _ (file : List ℕ) (tree : Trees) (list : List Rule) (node : Branch) (wa
 
   pub rules_all : node.rule ≢ rule.definition → list ≡ rules_spelled file tree
   rules_all apart =
-      sym (walk.so_far.spells ∙ (ap (λ t. list ++ rules_in (spelled file walk.so_far.last t)) (last_is apart) ∙ append-nil list))
+      sym (walk.so_far.spells ∙ (ap (λ t. list ++ rules_denoted (spelled file walk.so_far.last t)) (last_is apart) ∙ append-nil list))
 
   pub rules_nest : node.rule ≢ rule.definition → nesting tree ≤ max_open
   rules_nest apart =
       let flat : nesting (trees_from_branch node) ≡ 0 = ap nesting (last_is apart) in
-      omega (arith, walk.so_far.most, flat)
+      omega (arith, walk.so_far.limit, flat)
 
   -- the first count out of range in this definition is the first in the tree
   pub rule_bad : (fault : DefinitionsFault) → HasBadCount file (tree_of_branch node) fault → HasBadCount file tree fault

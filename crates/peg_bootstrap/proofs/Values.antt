@@ -7,23 +7,23 @@ use Rattle.peg_tree.specs.Trees.{Trees, NoTrees, Tree}
 use Rattle.peg_semantics.specs.Form as form
 use Rattle.peg_semantics.specs.Form.{Form}
 use Rattle.peg_metagrammar.specs.Ranges.{class_of}
-use Rattle.peg_metagrammar.specs.Spelled.{Expression, Word, bytes_in, ranges_in, part, spelled, text_end}
+use Rattle.peg_metagrammar.specs.Denotation.{Expression, Word, bytes_in, ranges_in, part, spelled, text_end}
 use Rattle.peg_lexer.specs.Lexical.{literal, class}
 use Rattle.peg_lexer.specs.LexicalCode.{spells_of}
-use Rattle.peg_lexer.specs.Pieces.{Piece}
+use Rattle.peg_lexer.specs.Matchers.{PrefixMatch}
 use Rattle.peg_lexer.specs.declared.token.TokenKind.TheVariants as kind
 use Rattle.peg_lexer.proofs.PieceLemmas.{from, from-drop}
 use Rattle.peg_lexer.proofs.TextRules.{identifier-fits}
 use Rattle.peg_lexer.proofs.TokenValues.{name-is_text}
 use Rattle.peg_bootstrap.specs.FigureNodes.{last_start}
-use Rattle.peg_bootstrap.specs.SpellerSeen.{Says}
+use Rattle.peg_bootstrap.specs.AstBuilderCode.{Builds}
 use Rattle.peg_bootstrap.proofs.TokenNodes.{Token}
 
 -- the same, with equal forms and equal ends
-pub says-same : {file : List ℕ} {before : ℕ} {tree : Trees} {f g : Form} {l m : ℕ} → g ≡ f → m ≡ l → Says file before tree f l
-    → Says file before tree g m
+pub says-same : {file : List ℕ} {before : ℕ} {tree : Trees} {f g : Form} {l m : ℕ} → g ≡ f → m ≡ l → Builds file before tree f l
+    → Builds file before tree g m
 says-same {file} {before} {tree} {g = g} {l = l} e is says =
-    subst (λ n. Says file before tree g n) (sym is) (subst (λ h. Says file before tree h l) (sym e) says)
+    subst (λ n. Builds file before tree g n) (sym is) (subst (λ h. Builds file before tree h l) (sym e) says)
 
 module _ (file : List ℕ) (rule start end : ℕ) (children : Trees) (at stop : ℕ) (at_is : at ≡ start)
     (stop_is : stop ≡ last_start start children) where
@@ -42,13 +42,13 @@ module _ (file : List ℕ) (rule start end : ℕ) (children : Trees) (at stop : 
   literal-found t = ap (λ n. literal (from n file)) at_is ∙ (ap literal (from-drop start file) ∙ t.found)
 
   pub literal-here : Token file kind.Literal rule start end children → IsTrue (is_some (literal (from at file)))
-  literal-here t = subst (λ (o : Option Piece). IsTrue (is_some o)) (sym (literal-found t)) refl
+  literal-here t = subst (λ (o : Option PrefixMatch). IsTrue (is_some o)) (sym (literal-found t)) refl
 
   pub literal-says : Token file kind.Literal rule start end children → (bytes : List ℕ)
       → bytes ≡ bytes_in (spells_of (literal (from at file))) → (before : ℕ)
-      → Says file before (Tree rule start end children NoTrees) (form.Literal bytes (between at stop)) stop
+      → Builds file before (Tree rule start end children NoTrees) (form.Literal bytes (between at stop)) stop
   literal-says t bytes are before =
-      let value : bytes ≡ bytes_in t.piece.spells = are ∙ ap (λ (o : Option Piece). bytes_in (spells_of o)) (literal-found t) in
+      let value : bytes ≡ bytes_in t.piece.spells = are ∙ ap (λ (o : Option PrefixMatch). bytes_in (spells_of o)) (literal-found t) in
       record {
         pieces = t.spells before ∙ (ap (λ b. Expression (form.Literal b (between start (start + t.piece.length))) ∷ []) (sym value)
             ∙ ap (λ s. Expression (form.Literal bytes s) ∷ []) (span_is t));
@@ -61,14 +61,14 @@ module _ (file : List ℕ) (rule start end : ℕ) (children : Trees) (at stop : 
   class-found t = ap (λ n. class (from n file)) at_is ∙ (ap class (from-drop start file) ∙ t.found)
 
   pub class-here : Token file kind.Class rule start end children → IsTrue (is_some (class (from at file)))
-  class-here t = subst (λ (o : Option Piece). IsTrue (is_some o)) (sym (class-found t)) refl
+  class-here t = subst (λ (o : Option PrefixMatch). IsTrue (is_some o)) (sym (class-found t)) refl
 
   pub class-says : Token file kind.Class rule start end children → (set : Bytes)
       → set ≡ class_of (ranges_in (spells_of (class (from at file)))) → (before : ℕ)
-      → Says file before (Tree rule start end children NoTrees) (form.Class set (between at stop)) stop
+      → Builds file before (Tree rule start end children NoTrees) (form.Class set (between at stop)) stop
   class-says t set are before =
       let value : set ≡ class_of (ranges_in t.piece.spells) =
-      are ∙ ap (λ (o : Option Piece). class_of (ranges_in (spells_of o))) (class-found t) in
+      are ∙ ap (λ (o : Option PrefixMatch). class_of (ranges_in (spells_of o))) (class-found t) in
       record {
         pieces = t.spells before ∙ (ap (λ b. Expression (form.Class b (between start (start + t.piece.length))) ∷ []) (sym value)
             ∙ ap (λ s. Expression (form.Class set s) ∷ []) (span_is t));
@@ -78,7 +78,7 @@ module _ (file : List ℕ) (rule start end : ℕ) (children : Trees) (at stop : 
   -- ---- dots
 
   pub dot-says : Token file kind.Dot rule start end children → (before : ℕ)
-      → Says file before (Tree rule start end children NoTrees) (form.Any (between at stop)) stop
+      → Builds file before (Tree rule start end children NoTrees) (form.Any (between at stop)) stop
   dot-says t before = record {
     pieces = t.spells before ∙ ap (λ s. Expression (form.Any s) ∷ []) (span_is t);
     ends = t.ends before ∙ end_is t;
@@ -101,9 +101,9 @@ module _ (file : List ℕ) (rule start end : ℕ) (children : Trees) (at stop : 
       let e = end_is t in
       omega (arith, fits, e, t.inside, length-drop start file)
 
-  pub name-word : (t : Token file kind.Ident rule start end children) → (text : List ℕ) → text ≡ take (stop - at) (drop at file)
+  pub name-rule_name : (t : Token file kind.Ident rule start end children) → (text : List ℕ) → text ≡ take (stop - at) (drop at file)
       → (before : ℕ) → spelled file before (Tree rule start end children NoTrees) ≡ Word text (between at stop) ∷ []
-  name-word t text is before =
+  name-rule_name t text is before =
       let e = end_is t in
       t.spells before ∙ (ap (λ n. Word (part file start n) (between start n) ∷ []) e
       ∙ (ap (λ n. Word (part file n stop) (between n stop) ∷ []) (sym at_is) ∙ ap (λ b. Word b (between at stop) ∷ []) (sym is)))

@@ -1,4 +1,4 @@
--- The loop invariants of `Speller`.
+-- The loop invariants of `AstBuilder`.
 use Rattle.std.proofs.Common.{ℕ, ◌<◌, ◌≤◌, List}
 use Rattle.peg_tree.specs.Trees.{Trees}
 use Rattle.peg_semantics.specs.Form.{Form}
@@ -10,9 +10,9 @@ use Rattle.peg_bootstrap.proofs.Shapes.{Definitions}
 -- the expressions of the nodes before the rest, from an offset on
 pub record Spelling (file : List ℕ) (rest_is : ℕ → Trees → Type 0) (before start left : ℕ) (nodes : Trees)
     (list : List Form) (count last : ℕ) (rest : Trees) : Type 0 where
-  pub place : ℕ
-  pub shape : rest_is place rest
-  pub behind : start ≤ place
+  pub position : ℕ
+  pub shape : rest_is position rest
+  pub behind : start ≤ position
   pub so_far : SoFar file before left nodes list last rest
   pub order : before ≤ last
   pub some : 0 < count → start ≤ last
@@ -20,6 +20,6 @@ pub record Spelling (file : List ℕ) (rest_is : ℕ → Trees → Type 0) (befo
 -- the definitions of the nodes before the rest, after which the file ends
 pub record Defining (file : List ℕ) (tree : Trees) (list : List Rule) (rest : Trees) : Type 0 where
   pub end : ℕ
-  pub place : ℕ
-  pub shape : Definitions file end place rest
+  pub position : ℕ
+  pub shape : Definitions file end position rest
   pub so_far : RulesSoFar file max_open tree list rest

@@ -14,10 +14,10 @@ use Rattle.peg_bootstrap.specs.declared.fault.DefinitionsFault.TheVariants.{TooN
 abbrev pub IsNode : List ℕ → (name : List ℕ) → Branch → Type 0
 IsNode file name node = Matches file name node.span.start node.span.end (tree_of_branch node)
 
--- the start of the last of the trees; `place` if there are none
-abbrev pub last_start : (place : ℕ) → Trees → ℕ
-last_start place NoTrees = place
-last_start place (Tree rule start end children rest) = last_start start rest
+-- the start of the last of the trees; `position` if there are none
+abbrev pub last_start : (position : ℕ) → Trees → ℕ
+last_start position NoTrees = position
+last_start position (Tree rule start end children rest) = last_start start rest
 
 -- the expression that the operator of this rule makes of another one
 abbrev pub sign_form : (rule : ℕ) → Form → Extent → Form

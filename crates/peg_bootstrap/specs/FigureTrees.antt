@@ -11,7 +11,7 @@ abbrev pub IsTreeOf : List ℕ → Trees → Type 0
 IsTreeOf file tree = (end : ℕ) × Matches file (codes "Grammar") 0 end tree
 
 -- a fault that names a count comes from a tree within the nesting limit, and names its first count that is out of range
-abbrev pub TellsBadCount : List ℕ → Trees → DefinitionsFault → Type 0
-TellsBadCount file tree TooNested = Unit {0}
-TellsBadCount file tree (BadCount at) = (nesting tree ≤ max_open) × IsFirstBadCount file tree at
-TellsBadCount file tree Memory = Unit {0}
+abbrev pub HasNestingOrBadCount : List ℕ → Trees → DefinitionsFault → Type 0
+HasNestingOrBadCount file tree TooNested = Unit {0}
+HasNestingOrBadCount file tree (BadCount at) = (nesting tree ≤ max_open) × IsFirstBadCount file tree at
+HasNestingOrBadCount file tree Memory = Unit {0}

@@ -1,11 +1,11 @@
 pub use Rattle.peg_bytes.specs.Extent
 pub use Rattle.peg_metagrammar.specs.Nesting
 pub use Rattle.peg_metagrammar.specs.Notation
-pub use Rattle.peg_metagrammar.specs.Spelled
+pub use Rattle.peg_metagrammar.specs.Denotation
 pub use Rattle.peg_semantics.specs.Form
 pub use Rattle.peg_grammar.specs.Written
 pub use Rattle.peg_tree.specs.Branches
 pub use Rattle.peg_tree.specs.Trees
 pub mod FigureNodes
 pub mod FigureTrees
-pub mod SpellerSeen
+pub mod AstBuilderCode

@@ -1,22 +1,20 @@
 //! The definitions that a metagrammar tree denotes.
 ghost use Rattle.std.specs.Prelude.{◌≡◌, ◌<◌, ◌≤◌, [], codes, IfOk, IfErr, OnOk, IsErrOf};
 ghost use Rattle.peg_metagrammar.specs.Nesting.{nesting, max_open};
-ghost use Rattle.peg_metagrammar.specs.Spelled.{bad_counts, rules_spelled};
+ghost use Rattle.peg_metagrammar.specs.Denotation.{bad_counts, rules_spelled};
 ghost use Rattle.peg_grammar.specs.Written.{rules_of};
 ghost use Rattle.peg_bootstrap.specs.FigureNodes.{IsNode, HasBadCount};
-ghost use Rattle.peg_bootstrap.specs.FigureTrees.{IsTreeOf, TellsBadCount};
+ghost use Rattle.peg_bootstrap.specs.FigureTrees.{IsTreeOf, HasNestingOrBadCount};
 ghost use Rattle.peg_tree.specs.Branches.{tree_of_branch};
 
+use crate::ast_builder::{AstBuilder, token_end};
 use crate::fault::DefinitionsFault;
 use crate::nesting::nests_within;
 use crate::rules::DEFINITION;
-use crate::speller::{Speller, token_end};
 use peg_grammar::Definition;
+use peg_metagrammar::MAX_OPEN;
 use peg_tree::{Branch, Tree};
 use std::alloc::Global;
-
-/// The maximum number of parentheses that may be open at once.
-pub const MAX_OPEN: usize = 200;
 
 /// Returns the definitions that a metagrammar tree of a file denotes, in order and with their spans. The tree must be
 /// the one that the metagrammar gives for the file from its first rule (Ford 2004, section 2.1). Takes time linear in
@@ -34,7 +32,7 @@ pub fn definitions_of(
     ensures within { OnOk result (nesting tree.now ≤ max_open) }
     ensures fine { OnOk result (bad_counts file.now tree.now ≡ []) }
     ensures deep { IsErrOf result DefinitionsFault.TooNested → max_open < nesting tree.now }
-    ensures bad { IfErr result (TellsBadCount file.now tree.now) }
+    ensures bad { IfErr result (HasNestingOrBadCount file.now tree.now) }
 {
     match definitions_before_count(alloc, tree, file) {
         Err(DefinitionsFault::BadCount { .. }) if !nests_within(&tree.forest(), MAX_OPEN) => {
@@ -57,25 +55,25 @@ fn definitions_before_count(
     ensures deep { IsErrOf result DefinitionsFault.TooNested → max_open < nesting tree.now }
     ensures bad { IfErr result (HasBadCount file.now tree.now) }
 {
-    let speller = Speller { alloc, file };
+    let builder = AstBuilder { alloc, file };
     let spacing = tree.forest().first().children.first();
     let mut definitions = Vec::new(alloc);
     let mut node = spacing.rest.first();
     'definitions: while node.rule == DEFINITION {
-        let definition = speller.definition(&node)?;
+        let definition = builder.definition(&node)?;
         definitions.push(definition)?;
         node = node.rest.first();
     }
     Ok(definitions)
 }
 
-impl<'a> Speller<'a> {
-    ghost use Rattle.peg_bootstrap.specs.SpellerSeen.{file_in, SpellsRule};
+impl<'a> AstBuilder<'a> {
+    ghost use Rattle.peg_bootstrap.specs.AstBuilderCode.{file_in, BuildsRule};
 
     // Definition: a name, an arrow and an expression.
     fn definition(&self, node: &Branch<'_>) -> Result<Definition, DefinitionsFault>
         requires { IsNode (file_in self.now) (codes "Definition") node.now }
-        ensures spells { IfOk result (SpellsRule (file_in self.now) (tree_of_branch node.now)) }
+        ensures spells { IfOk result (BuildsRule (file_in self.now) (tree_of_branch node.now)) }
         ensures within { OnOk result (nesting (tree_of_branch node.now) ≤ max_open) }
         ensures fine { OnOk result (bad_counts (file_in self.now) (tree_of_branch node.now) ≡ []) }
         ensures deep { IsErrOf result DefinitionsFault.TooNested → max_open < nesting (tree_of_branch node.now) }
@@ -83,11 +81,11 @@ impl<'a> Speller<'a> {
     {
         let name = node.children.first();
         let arrow = name.rest.first();
-        let word = self.word(&name)?;
+        let rule_name = self.rule_name(&name)?;
         let body = self.expression(token_end(&arrow), &arrow.rest.first(), MAX_OPEN)?;
         Ok(Definition {
-            name: word.name,
-            span: word.span,
+            name: rule_name.name,
+            span: rule_name.span,
             body: body.expression,
         })
     }

@@ -2,7 +2,7 @@
 ghost use Rattle.std.specs.Prelude.{◌≡◌, ◌≤◌, ◌<◌, ◌∷◌, ◌++◌, [], length, map, string_bytes, IfOk, OnOk};
 ghost use Rattle.peg_bytes.specs.ByteSet.{bytes_of};
 ghost use Rattle.peg_bytes.specs.Extent.{extent, between};
-ghost use Rattle.peg_metagrammar.specs.Spelled.{sequence_spelled, choice_spelled};
+ghost use Rattle.peg_metagrammar.specs.Denotation.{sequence_spelled, choice_spelled};
 ghost use Rattle.peg_semantics.specs.Form.{Name, Literal, Class, Any};
 ghost use Rattle.peg_grammar.specs.Written.{form_of};
 ghost use Rattle.peg_bootstrap.specs.FigureNodes.{sign_form};
@@ -14,7 +14,7 @@ use std::alloc::{AllocError, Global};
 
 /// An expression that a node denotes.
 #[derive(Debug, Drop)]
-pub(crate) struct Spelled {
+pub(crate) struct BuiltExpr {
     pub(crate) expression: Expr,
     /// The offset where the text of its last token ends. Without tokens, it is the end of the token before it.
     pub(crate) last: u32,
@@ -22,7 +22,7 @@ pub(crate) struct Spelled {
 
 /// A name, and its span.
 #[derive(Debug, Drop)]
-pub(crate) struct Word {
+pub(crate) struct RuleName {
     pub(crate) name: String,
     pub(crate) span: Span,
 }
@@ -35,14 +35,14 @@ pub(crate) struct Expressions {
     pub(crate) last: u32,
 }
 
-impl Word {
+impl RuleName {
     /// Returns the call of the rule with this name.
-    pub(crate) fn into_use(self) -> Spelled
+    pub(crate) fn into_use(self) -> BuiltExpr
         ensures form { form_of result.expression ≡ Name (string_bytes self.name) (extent self.span) }
         ensures last { result.last ≡ self.span.end }
     {
-        let Word { name, span } = self;
-        Spelled {
+        let RuleName { name, span } = self;
+        BuiltExpr {
             expression: Expr::Name { name, span },
             last: span.end,
         }
@@ -50,33 +50,33 @@ impl Word {
 }
 
 /// Returns a literal of these bytes.
-pub(crate) fn literal_of(bytes: Vec<u8>, span: Span) -> Spelled
+pub(crate) fn literal_of(bytes: Vec<u8>, span: Span) -> BuiltExpr
     ensures form { form_of result.expression ≡ Literal bytes.items (extent span) }
     ensures last { result.last ≡ span.end }
 {
-    Spelled {
+    BuiltExpr {
         expression: Expr::Literal { bytes, span },
         last: span.end,
     }
 }
 
 /// Returns a class of this set.
-pub(crate) fn class_of(set: ByteSet, span: Span) -> Spelled
+pub(crate) fn class_of(set: ByteSet, span: Span) -> BuiltExpr
     ensures form { form_of result.expression ≡ Class (bytes_of set) (extent span) }
     ensures last { result.last ≡ span.end }
 {
-    Spelled {
+    BuiltExpr {
         expression: Expr::Class { set, span },
         last: span.end,
     }
 }
 
 /// Returns a dot.
-pub(crate) fn any_of(span: Span) -> Spelled
+pub(crate) fn any_of(span: Span) -> BuiltExpr
     ensures form { form_of result.expression ≡ Any (extent span) }
     ensures last { result.last ≡ span.end }
 {
-    Spelled {
+    BuiltExpr {
         expression: Expr::Any { span },
         last: span.end,
     }
@@ -84,7 +84,12 @@ pub(crate) fn any_of(span: Span) -> Spelled
 
 /// Returns an expression with one of the operators from `AND` to `PLUS`, by its rule number. The only error is a failed
 /// allocation.
-pub(crate) fn signed(alloc: Global, sign: u32, part: Expr, span: Span) -> Result<Expr, AllocError>
+pub(crate) fn with_operator(
+    alloc: Global,
+    sign: u32,
+    part: Expr,
+    span: Span,
+) -> Result<Expr, AllocError>
     ensures { IfOk result (λ whole. form_of whole ≡ sign_form sign (form_of part) (extent span)) }
 {
     let part = Box::new(alloc, part)?;
@@ -110,7 +115,7 @@ impl Expressions {
     }
 
     /// Appends an expression. The only error is a failed allocation.
-    pub(crate) fn add(&mut self, part: Spelled) -> Result<(), AllocError>
+    pub(crate) fn add(&mut self, part: BuiltExpr) -> Result<(), AllocError>
         ensures list { OnOk result
             (map form_of self.new.list.items ≡ map form_of self.old.list.items ++ form_of part.expression ∷ []) }
         ensures last { OnOk result (self.new.last ≡ part.last) }
@@ -122,7 +127,7 @@ impl Expressions {
 
     /// Returns the sequence of these expressions, from the offset `start`. A single expression is itself. An empty
     /// sequence is at the end of the token before it.
-    pub(crate) fn into_sequence(self, before: u32, start: u32) -> Spelled
+    pub(crate) fn into_sequence(self, before: u32, start: u32) -> BuiltExpr
         requires { 1 < length self.list.items → start ≤ self.last }
         ensures form { form_of result.expression
             ≡ sequence_spelled before (between start self.last) (map form_of self.list.items) }
@@ -143,7 +148,7 @@ impl Expressions {
                 },
             }
         };
-        Spelled { expression, last }
+        BuiltExpr { expression, last }
     }
 
     /// Returns the choice of a first expression and these, from the offset `start`. Without these it is the first one
@@ -153,7 +158,7 @@ impl Expressions {
         alloc: Global,
         start: u32,
         first: Expr,
-    ) -> Result<Spelled, AllocError>
+    ) -> Result<BuiltExpr, AllocError>
         requires { 0 < length self.list.items → start ≤ self.last }
         ensures form { IfOk result (λ part. form_of part.expression
             ≡ choice_spelled (between start self.last) (form_of first ∷ map form_of self.list.items)) }
@@ -169,6 +174,6 @@ impl Expressions {
                 span: Span::new(start, last),
             }
         };
-        Ok(Spelled { expression, last })
+        Ok(BuiltExpr { expression, last })
     }
 }

@@ -3,7 +3,7 @@ use Rattle.std.proofs.Common.{◌≡◌, ℕ, ◌+◌, ◌<◌, ◌≤◌, List,
 use Rattle.std.specs.List.{sum_by}
 use Rattle.std.proofs.lemmas.Bool.{lt-ltb, le-ltb}
 use Rattle.std.proofs.lemmas.List.Sums.{sum_by-set}
-use Rattle.peg_check.specs.Steps.{one_unless}
+use Rattle.peg_check.specs.Fixpoint.{one_unless}
 
 -- a label is below the number of forms
 abbrev pub unlabelled : (count : ℕ) → List ℕ → ℕ

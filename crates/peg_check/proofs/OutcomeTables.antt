@@ -5,33 +5,33 @@ use Rattle.std.proofs.lemmas.Bool.{cases_eq, false≢true}
 use Rattle.std.proofs.lemmas.List.{get_or_default, get_or-set_other, get_or-set_same}
 use Rattle.std.proofs.lemmas.List.Sums.{sum_by-set}
 use Rattle.std.proofs.lemmas.Option.{slice_get-map, slice_get_within, get_or_from_slice_get}
-use Rattle.peg_semantics.specs.AbstractOutcomes.{Can, CanAll, cannot}
-use Rattle.peg_semantics.proofs.RoundsLemmas.{or_right, CanAll-refl, CanAll-trans, CanAll-cannot, CanAll-both, CanAll-either, CanAll-again, CanAll-not_ahead}
+use Rattle.peg_semantics.specs.AbstractOutcomes.{Can, CanAll, no_outcome}
+use Rattle.peg_semantics.proofs.RoundsLemmas.{or_right, CanAll-refl, CanAll-trans, CanAll-no_outcome, CanAll-seq_outcome, CanAll-choice_outcome, CanAll-star_outcome, CanAll-not_outcome}
 use Rattle.peg_core.specs.CoreForm.{CoreForm}
 use Rattle.peg_core.specs.CoreOutcomes.{core_can_in, core_can_table}
 use Rattle.peg_core.specs.Layout.{bodies_of, Desugared, form_at}
 use Rattle.peg_core.proofs.CoreRounds.{core_can_in-more}
 use Rattle.peg_check.specs.Cans.{can_of, can_at, nothing_known}
 use Rattle.peg_check.specs.Exact.{IsExact}
-use Rattle.peg_check.specs.Links.{link_at, link_can, LinkFits, IsLinkOf, AreLinked}
-use Rattle.peg_check.specs.Steps.{added_to, looked_at, one_unless, unknown_of, unknown_in}
+use Rattle.peg_check.specs.Dependencies.{dep_at, outcome_by, DepFits, IsDependencyOf, AreDependencies}
+use Rattle.peg_check.specs.Fixpoint.{union_of, updated_at, one_unless, unknown_of, unknown_in}
 use Rattle.peg_check.specs.declared.can.Can as code
-use Rattle.peg_check.specs.declared.link.Link.{Link}
-use Rattle.peg_check.specs.declared.link.Link.TheVariants as link
+use Rattle.peg_check.specs.declared.dependency.Dependency.{Dependency}
+use Rattle.peg_check.specs.declared.dependency.Dependency.TheVariants as dep
 
 -- ---- links
 
 -- if each form keeps its outcomes, so does a form that depends on them
 module _ (f g : ℕ → Can) (count : ℕ) (h : (k : ℕ) → k < count → CanAll (f k) (g k)) where
-  pub CanAll-link : (l : Link) → LinkFits count l → CanAll (link_can f l) (link_can g l)
-  CanAll-link (link.Known known) fits = CanAll-refl (can_of known)
-  CanAll-link (link.Same part) fits = h part fits
-  CanAll-link (link.Both first rest) fits =
-      CanAll-both (f first) (f rest) (g first) (g rest) (h first fits.0) (h rest fits.1)
-  CanAll-link (link.Either first rest) fits =
-      CanAll-either (f first) (f rest) (g first) (g rest) (h first fits.0) (h rest fits.1)
-  CanAll-link (link.Again part) fits = CanAll-again (f part) (g part) (h part fits)
-  CanAll-link (link.NotAhead part) fits = CanAll-not_ahead (f part) (g part) (h part fits)
+  pub CanAll-dep : (l : Dependency) → DepFits count l → CanAll (outcome_by f l) (outcome_by g l)
+  CanAll-dep (dep.Constant known) fits = CanAll-refl (can_of known)
+  CanAll-dep (dep.Alias part) fits = h part fits
+  CanAll-dep (dep.Seq first rest) fits =
+      CanAll-seq_outcome (f first) (f rest) (g first) (g rest) (h first fits.0) (h rest fits.1)
+  CanAll-dep (dep.Choice first rest) fits =
+      CanAll-choice_outcome (f first) (f rest) (g first) (g rest) (h first fits.0) (h rest fits.1)
+  CanAll-dep (dep.Star part) fits = CanAll-star_outcome (f part) (g part) (h part fits)
+  CanAll-dep (dep.Not part) fits = CanAll-not_outcome (f part) (g part) (h part fits)
 
 -- ---- added outcomes
 
@@ -45,14 +45,14 @@ or_both true b c h k e = h refl
 or_both false b c h k e = k e
 
 -- known outcomes stay known
-pub added-known : (known : code.Can) (can : Can) → CanAll (can_of known) (can_of (added_to known can))
+pub added-known : (known : code.Can) (can : Can) → CanAll (can_of known) (can_of (union_of known can))
 added-known known can = record {
   nothing = or_left known.nothing can.nothing;
   something = or_left known.something can.something;
   fails = or_left known.fails can.fails;
 }
 
-pub added-more : (known : code.Can) (can : Can) → CanAll can (can_of (added_to known can))
+pub added-more : (known : code.Can) (can : Can) → CanAll can (can_of (union_of known can))
 added-more known can = record {
   nothing = or_right known.nothing can.nothing;
   something = or_right known.something can.something;
@@ -60,7 +60,7 @@ added-more known can = record {
 }
 
 pub added-all : (known : code.Can) (can all : Can) → CanAll (can_of known) all → CanAll can all
-    → CanAll (can_of (added_to known can)) all
+    → CanAll (can_of (union_of known can)) all
 added-all known can all h k = record {
   nothing = or_both known.nothing can.nothing all.nothing h.nothing k.nothing;
   something = or_both known.something can.something all.something h.something k.something;
@@ -90,15 +90,15 @@ told_apart a b apart same =
     false≢true (apart ∙ (ap (λ (x : code.Can). beq x.nothing b.nothing && (beq x.something b.something && beq x.fails b.fails)) same ∙ all))
 
 -- if more outcomes are known, fewer are unknown
-pub unknown-added : (known : code.Can) (can : Can) → (added_to known can ≡ known → ⊥)
-    → unknown_of (added_to known can) < unknown_of known
+pub unknown-added : (known : code.Can) (can : Can) → (union_of known can ≡ known → ⊥)
+    → unknown_of (union_of known can) < unknown_of known
 unknown-added known can more =
     by (stays known.nothing can.nothing) (stays known.something can.something) (stays known.fails can.fails)
   where
     by : ((known.nothing || can.nothing) ≡ known.nothing) ⊎ (one_unless (known.nothing || can.nothing) < one_unless known.nothing)
         → ((known.something || can.something) ≡ known.something) ⊎ (one_unless (known.something || can.something) < one_unless known.something)
         → ((known.fails || can.fails) ≡ known.fails) ⊎ (one_unless (known.fails || can.fails) < one_unless known.fails)
-        → unknown_of (added_to known can) < unknown_of known
+        → unknown_of (union_of known can) < unknown_of known
     by (inl a) (inl b) (inl c) = absurd (more (λ i. record { nothing = a i; something = b i; fails = c i }))
     by (inr a) _ _ = omega (arith, falls known.something can.something, falls known.fails can.fails)
     by _ (inr b) _ = omega (arith, falls known.nothing can.nothing, falls known.fails can.fails)
@@ -106,27 +106,27 @@ unknown-added known can more =
 
 -- and so fewer are unknown for all forms
 pub unknown-looked : (cans : List code.Can) (number : ℕ) (can : Can) → number < length cans
-    → (added_to (get_or cans number nothing_known) can ≡ get_or cans number nothing_known → ⊥)
-    → unknown_in (set cans number (added_to (get_or cans number nothing_known) can)) < unknown_in cans
+    → (union_of (get_or cans number nothing_known) can ≡ get_or cans number nothing_known → ⊥)
+    → unknown_in (set cans number (union_of (get_or cans number nothing_known) can)) < unknown_in cans
 unknown-looked cans number can within more =
     let known = get_or cans number nothing_known in
-    omega (arith, unknown-added known can more, sum_by-set unknown_of cans number (added_to known can) nothing_known within)
+    omega (arith, unknown-added known can more, sum_by-set unknown_of cans number (union_of known can) nothing_known within)
 
 -- a link that was read is the link of its form
-pub linked_at : (core : Desugared) (links : List Link) (number : ℕ) (read : Link) → AreLinked core links
-    → length links ≡ length core.forms → number < length core.forms → read ≡ get_or links number read
-    → IsLinkOf core (form_at core.forms number) read
-linked_at core links number read linked counted within there =
-    subst (IsLinkOf core (form_at core.forms number)) (sym there) (linked number read (omega (arith, counted)))
+pub linked_at : (core : Desugared) (deps : List Dependency) (number : ℕ) (read : Dependency) → AreDependencies core deps
+    → length deps ≡ length core.forms → number < length core.forms → read ≡ get_or deps number read
+    → IsDependencyOf core (form_at core.forms number) read
+linked_at core deps number read linked counted within there =
+    subst (IsDependencyOf core (form_at core.forms number)) (sym there) (linked number read (omega (arith, counted)))
 
-pub link_at_read : (links : List Link) (number : ℕ) (read : Link) → number < length links → read ≡ get_or links number read
-    → read ≡ link_at links number
-link_at_read links number read within there =
-    there ∙ get_or_default links number read (link.Known nothing_known) within
+pub link_at_read : (deps : List Dependency) (number : ℕ) (read : Dependency) → number < length deps → read ≡ get_or deps number read
+    → read ≡ dep_at deps number
+link_at_read deps number read within there =
+    there ∙ get_or_default deps number read (dep.Constant nothing_known) within
 
 -- all outcomes that follow by the link are known
-abbrev pub IsClosed : List code.Can → Link → ℕ → Type 0
-IsClosed cans l k = CanAll (link_can (can_at cans) l) (can_at cans k)
+abbrev pub IsClosed : List code.Can → Dependency → ℕ → Type 0
+IsClosed cans l k = CanAll (outcome_by (can_at cans) l) (can_at cans k)
 
 -- ---- known outcomes hold
 
@@ -146,7 +146,7 @@ module _ (core : Desugared) where
   Holds-start cans none = (
     0,
     λ k within. subst (λ known. CanAll (can_of known) (core_can_in (bodies_of core) 0 (form_at core.forms k))) (sym (none k within))
-        (CanAll-cannot (core_can_in (bodies_of core) 0 (form_at core.forms k))),
+        (CanAll-no_outcome (core_can_in (bodies_of core) 0 (form_at core.forms k))),
   )
 
   -- a round applies the rules to the round before
@@ -155,70 +155,70 @@ module _ (core : Desugared) where
   unfolding core_can_in
   round-is n form = refl
 
-  no-round : (form : CoreForm) → core_can_in (bodies_of core) 0 form ≡ cannot
+  no-round : (form : CoreForm) → core_can_in (bodies_of core) 0 form ≡ no_outcome
   unfolding core_can_in
   no-round form = refl
 
   -- the outcomes of a link in a round are those of its form in the next
-  link-round : (n : ℕ) (form : CoreForm) (l : Link) → IsLinkOf core form l
-      → link_can (λ part. core_can_in (bodies_of core) n (form_at core.forms part)) l
+  dep-round : (n : ℕ) (form : CoreForm) (l : Dependency) → IsDependencyOf core form l
+      → outcome_by (λ part. core_can_in (bodies_of core) n (form_at core.forms part)) l
       ≡ core_can_in (bodies_of core) (suc n) form
-  link-round n form l linked = sym (round-is n form ∙ linked.tells (core_can_in (bodies_of core) n))
+  dep-round n form l linked = sym (round-is n form ∙ linked.agrees (core_can_in (bodies_of core) n))
 
   -- the outcomes of a link on known outcomes hold one round later
-  link-holds : (n : ℕ) (cans : List code.Can) (form : CoreForm) (l : Link) → HoldsIn n cans → IsLinkOf core form l
-      → CanAll (link_can (can_at cans) l) (core_can_in (bodies_of core) (suc n) form)
-  link-holds n cans form l holds linked =
-      subst (CanAll (link_can (can_at cans) l)) (link-round n form l linked)
-      (CanAll-link (can_at cans) (λ part. core_can_in (bodies_of core) n (form_at core.forms part)) (length core.forms) holds l linked.fits)
+  dep-holds : (n : ℕ) (cans : List code.Can) (form : CoreForm) (l : Dependency) → HoldsIn n cans → IsDependencyOf core form l
+      → CanAll (outcome_by (can_at cans) l) (core_can_in (bodies_of core) (suc n) form)
+  dep-holds n cans form l holds linked =
+      subst (CanAll (outcome_by (can_at cans) l)) (dep-round n form l linked)
+      (CanAll-dep (can_at cans) (λ part. core_can_in (bodies_of core) n (form_at core.forms part)) (length core.forms) holds l linked.fits)
 
-  pub Holds-looked : (cans : List code.Can) (number : ℕ) (l : Link) → number < length cans
-      → IsLinkOf core (form_at core.forms number) l → Holds cans → Holds (looked_at cans l number)
+  pub Holds-looked : (cans : List code.Can) (number : ℕ) (l : Dependency) → number < length cans
+      → IsDependencyOf core (form_at core.forms number) l → Holds cans → Holds (updated_at cans l number)
   Holds-looked cans number l within linked holds = (suc holds.0, λ k below. by k below (cases_eq k number))
     where
       by : (k : ℕ) → k < length core.forms → (k ≡ number) ⊎ (k ≡ number → ⊥)
-          → CanAll (can_at (looked_at cans l number) k) (core_can_in (bodies_of core) (suc holds.0) (form_at core.forms k))
+          → CanAll (can_at (updated_at cans l number) k) (core_can_in (bodies_of core) (suc holds.0) (form_at core.forms k))
       by k below (inl same) =
           let known = get_or cans number nothing_known in
-          let can = link_can (can_at cans) l in
+          let can = outcome_by (can_at cans) l in
           let round = λ (j : ℕ). core_can_in (bodies_of core) (suc holds.0) (form_at core.forms j) in
           let at_number : number < length core.forms = subst (λ j. j < length core.forms) same below in
-          let now : CanAll (can_at (looked_at cans l number) number) (round number) = subst (λ (v : code.Can). CanAll (can_of v) (round number)) (sym (get_or-set_same cans number (added_to known can) nothing_known within)) (added-all known can (round number) (CanAll-trans (can_of known) (core_can_in (bodies_of core) holds.0 (form_at core.forms number)) (round number) (holds.1 number at_number) (core_can_in-more (bodies_of core) holds.0 (form_at core.forms number))) (link-holds holds.0 cans (form_at core.forms number) l holds.1 linked)) in
-          subst (λ j. CanAll (can_at (looked_at cans l number) j) (round j)) (sym same) now
+          let now : CanAll (can_at (updated_at cans l number) number) (round number) = subst (λ (v : code.Can). CanAll (can_of v) (round number)) (sym (get_or-set_same cans number (union_of known can) nothing_known within)) (added-all known can (round number) (CanAll-trans (can_of known) (core_can_in (bodies_of core) holds.0 (form_at core.forms number)) (round number) (holds.1 number at_number) (core_can_in-more (bodies_of core) holds.0 (form_at core.forms number))) (dep-holds holds.0 cans (form_at core.forms number) l holds.1 linked)) in
+          subst (λ j. CanAll (can_at (updated_at cans l number) j) (round j)) (sym same) now
       by k below (inr other) =
           let known = get_or cans number nothing_known in
-          let can = link_can (can_at cans) l in
+          let can = outcome_by (can_at cans) l in
           let round = core_can_in (bodies_of core) (suc holds.0) (form_at core.forms k) in
           subst (λ (v : code.Can). CanAll (can_of v) round)
-          (sym (get_or-set_other cans number k (added_to known can) nothing_known other))
+          (sym (get_or-set_other cans number k (union_of known can) nothing_known other))
           (CanAll-trans (can_at cans k) (core_can_in (bodies_of core) holds.0 (form_at core.forms k)) round (holds.1 k below)
           (core_can_in-more (bodies_of core) holds.0 (form_at core.forms k)))
 
   -- ---- nothing more holds
 
-  abbrev pub AreClosed : List Link → List code.Can → Type 0
-  AreClosed links cans = (k : ℕ) → k < length core.forms → IsClosed cans (link_at links k) k
+  abbrev pub AreClosed : List Dependency → List code.Can → Type 0
+  AreClosed deps cans = (k : ℕ) → k < length core.forms → IsClosed cans (dep_at deps k) k
 
-  all-known : (links : List Link) (cans : List code.Can) → length links ≡ length core.forms → AreLinked core links
-      → AreClosed links cans → (n k : ℕ) → k < length core.forms
+  all-known : (deps : List Dependency) (cans : List code.Can) → length deps ≡ length core.forms → AreDependencies core deps
+      → AreClosed deps cans → (n k : ℕ) → k < length core.forms
       → CanAll (core_can_in (bodies_of core) n (form_at core.forms k)) (can_at cans k)
-  all-known links cans count linked closed zero k within =
-      subst (λ can. CanAll can (can_at cans k)) (sym (no-round (form_at core.forms k))) (CanAll-cannot (can_at cans k))
-  all-known links cans count linked closed (suc n) k within =
-      let l = link_at links k in
+  all-known deps cans count linked closed zero k within =
+      subst (λ can. CanAll can (can_at cans k)) (sym (no-round (form_at core.forms k))) (CanAll-no_outcome (can_at cans k))
+  all-known deps cans count linked closed (suc n) k within =
+      let l = dep_at deps k in
       let form = form_at core.forms k in
-      let is = linked k (link.Known nothing_known) (omega (arith, count)) in
+      let is = linked k (dep.Constant nothing_known) (omega (arith, count)) in
       let round = λ (part : ℕ). core_can_in (bodies_of core) n (form_at core.forms part) in
-      CanAll-trans (core_can_in (bodies_of core) (suc n) form) (link_can (can_at cans) l) (can_at cans k)
-      (subst (λ can. CanAll can (link_can (can_at cans) l)) (link-round n form l is)
-      (CanAll-link round (can_at cans) (length core.forms) (all-known links cans count linked closed n) l is.fits))
+      CanAll-trans (core_can_in (bodies_of core) (suc n) form) (outcome_by (can_at cans) l) (can_at cans k)
+      (subst (λ can. CanAll can (outcome_by (can_at cans) l)) (dep-round n form l is)
+      (CanAll-dep round (can_at cans) (length core.forms) (all-known deps cans count linked closed n) l is.fits))
       (closed k within)
 
   -- so the entries are exact
-  pub exact : (links : List Link) (cans : List code.Can) → length links ≡ length core.forms → length cans ≡ length core.forms
-      → AreLinked core links → AreClosed links cans → Holds cans → (k : ℕ) (can : Can)
+  pub exact : (deps : List Dependency) (cans : List code.Can) → length deps ≡ length core.forms → length cans ≡ length core.forms
+      → AreDependencies core deps → AreClosed deps cans → Holds cans → (k : ℕ) (can : Can)
       → slice_get (map can_of cans) k ≡ Some can → IsExact (bodies_of core) (form_at core.forms k) can
-  exact links cans count counted linked closed holds k can there =
+  exact deps cans count counted linked closed holds k can there =
       let seen : option_map can_of (slice_get cans k) ≡ Some can = sym (slice_get-map can_of cans k) ∙ there in
       by (slice_get cans k) refl seen
     where
@@ -230,6 +230,6 @@ module _ (core : Desugared) where
           let within : k < length core.forms = omega (arith, counted) in
           let entry : can_at cans k ≡ can = ap can_of (get_or_from_slice_get cans k known nothing_known is) ∙ (let same : can_of known ≡ can = cc in same) in
           let down = holds.1 k within in
-          let up = λ (n : ℕ). all-known links cans count linked closed n k within in
+          let up = λ (n : ℕ). all-known deps cans count linked closed n k within in
           let here : IsExact (bodies_of core) (form_at core.forms k) (can_at cans k) = record { nothing = (λ e. (holds.0, down.nothing e), λ s. (up s.0).nothing s.1); something = (λ e. (holds.0, down.something e), λ s. (up s.0).something s.1); fails = (λ e. (holds.0, down.fails e), λ s. (up s.0).fails s.1) } in
           subst (IsExact (bodies_of core) (form_at core.forms k)) entry here

@@ -4,47 +4,47 @@ use Rattle.std.proofs.lemmas.Bool.{cases_eq}
 use Rattle.std.proofs.lemmas.List.{get_or-set_other, get_or-set_same, length-set}
 use Rattle.peg_bytes.specs.Extent.{Extent}
 use Rattle.peg_core.specs.CoreForm.{CoreForm}
-use Rattle.peg_core.specs.CoreLoops.{StandsIn}
+use Rattle.peg_core.specs.CoreLoops.{IsSubformOf}
 use Rattle.peg_core.specs.CoreOutcomes.{BodyIs}
 use Rattle.peg_core.specs.Layout.{Desugared, form_at}
-use Rattle.peg_core.specs.CoreNodes.{NodeFits, Spells, shape}
+use Rattle.peg_core.specs.CoreNodes.{NodeFits, IsFormOfNode, shape}
 use Rattle.peg_core.specs.declared.node.Node.{Node}
 use Rattle.peg_core.specs.declared.node.Node.TheVariants as node
-use Rattle.peg_check.specs.Owners.{owner_of, IsOwned, NamesPart, NamesFit, handed_down, IsUnder, HasOwnedParts, AreOwnersUpTo, AreHandedDownFrom, AreOwners}
-use Rattle.peg_check.proofs.AskLemmas.{body-form}
+use Rattle.peg_check.specs.Owners.{owner_of, IsOwned, HasPart, PartsFit, owners_after, IsWithinRule, HasOwnedParts, AreOwnersUpTo, PartsAreOwnedFrom, AreOwners}
+use Rattle.peg_check.proofs.DepLemmas.{body-form}
 
 -- ---- the parts of a node
 
-pub NamesFit-node : (number rules terminals count : ℕ) (n : Node) → number < count → NodeFits number rules terminals n
-    → NamesFit count n
-NamesFit-node number rules terminals count node.Empty less fits = tt
-NamesFit-node number rules terminals count (node.Test set terminal) less fits = tt
-NamesFit-node number rules terminals count (node.Rule rule) less fits = tt
-NamesFit-node number rules terminals count (node.Seq first rest) less fits =
+pub PartsFit-node : (number rules terminals count : ℕ) (n : Node) → number < count → NodeFits number rules terminals n
+    → PartsFit count n
+PartsFit-node number rules terminals count node.Empty less fits = tt
+PartsFit-node number rules terminals count (node.Test set terminal) less fits = tt
+PartsFit-node number rules terminals count (node.Rule rule) less fits = tt
+PartsFit-node number rules terminals count (node.Seq first rest) less fits =
     let a : first < number = fits.0 in let b : rest < number = fits.1 in (omega arith, omega arith)
-NamesFit-node number rules terminals count (node.Choice first rest) less fits =
+PartsFit-node number rules terminals count (node.Choice first rest) less fits =
     let a : first < number = fits.0 in let b : rest < number = fits.1 in (omega arith, omega arith)
-NamesFit-node number rules terminals count (node.Star part) less fits = let a : part < number = fits in omega arith
-NamesFit-node number rules terminals count (node.Not part) less fits = let a : part < number = fits in omega arith
+PartsFit-node number rules terminals count (node.Star part) less fits = let a : part < number = fits in omega arith
+PartsFit-node number rules terminals count (node.Not part) less fits = let a : part < number = fits in omega arith
 
 -- a part of a part is a part of the form
-stands-part : (forms : List CoreForm) (origin : Extent) (n : Node) (part : ℕ) (form : CoreForm) → NamesPart n part
-    → StandsIn form (form_at forms part) → StandsIn form (shape forms origin n)
+stands-part : (forms : List CoreForm) (origin : Extent) (n : Node) (part : ℕ) (form : CoreForm) → HasPart n part
+    → IsSubformOf form (form_at forms part) → IsSubformOf form (shape forms origin n)
 stands-part forms origin node.Empty part form names stands = absurd names
 stands-part forms origin (node.Test set terminal) part form names stands = absurd names
 stands-part forms origin (node.Rule rule) part form names stands = absurd names
 stands-part forms origin (node.Seq first rest) part form (inl is) stands =
-    inr (inl (subst (λ p. StandsIn form (form_at forms p)) (sym is) stands))
+    inr (inl (subst (λ p. IsSubformOf form (form_at forms p)) (sym is) stands))
 stands-part forms origin (node.Seq first rest) part form (inr is) stands =
-    inr (inr (subst (λ p. StandsIn form (form_at forms p)) (sym is) stands))
+    inr (inr (subst (λ p. IsSubformOf form (form_at forms p)) (sym is) stands))
 stands-part forms origin (node.Choice first rest) part form (inl is) stands =
-    inr (inl (subst (λ p. StandsIn form (form_at forms p)) (sym is) stands))
+    inr (inl (subst (λ p. IsSubformOf form (form_at forms p)) (sym is) stands))
 stands-part forms origin (node.Choice first rest) part form (inr is) stands =
-    inr (inr (subst (λ p. StandsIn form (form_at forms p)) (sym is) stands))
+    inr (inr (subst (λ p. IsSubformOf form (form_at forms p)) (sym is) stands))
 stands-part forms origin (node.Star only) part form is stands =
-    inr (subst (λ p. StandsIn form (form_at forms p)) (sym is) stands)
+    inr (subst (λ p. IsSubformOf form (form_at forms p)) (sym is) stands)
 stands-part forms origin (node.Not only) part form is stands =
-    inr (subst (λ p. StandsIn form (form_at forms p)) (sym is) stands)
+    inr (subst (λ p. IsSubformOf form (form_at forms p)) (sym is) stands)
 
 -- ---- passing an owner down
 
@@ -83,8 +83,8 @@ one-write : (owners : List ℕ) (part owner k : ℕ) → (part ≡ k) ⊎ (owner
 one-write owners part owner k =
     elim (cases_eq k part) [ inl is ↦ inl (sym is) | inr other ↦ inr (get_or-set_other owners part k owner 0 other) ]
 
-pub named-handed : (owners : List ℕ) (n : Node) (owner part : ℕ) → NamesFit (length owners) n → NamesPart n part
-    → owner_of (handed_down owners n owner) part ≡ owner
+pub named-handed : (owners : List ℕ) (n : Node) (owner part : ℕ) → PartsFit (length owners) n → HasPart n part
+    → owner_of (owners_after owners n owner) part ≡ owner
 named-handed owners node.Empty owner part fits names = absurd names
 named-handed owners (node.Test s terminal) owner part fits names = absurd names
 named-handed owners (node.Rule rule) owner part fits names = absurd names
@@ -101,8 +101,8 @@ named-handed owners (node.Star only) owner part fits is =
 named-handed owners (node.Not only) owner part fits is =
     ap (owner_of (set owners only owner)) (sym is) ∙ get_or-set_same owners only owner 0 fits
 
-pub other-handed : (owners : List ℕ) (n : Node) (owner k : ℕ) → NamesFit (length owners) n
-    → NamesPart n k ⊎ (owner_of (handed_down owners n owner) k ≡ owner_of owners k)
+pub other-handed : (owners : List ℕ) (n : Node) (owner k : ℕ) → PartsFit (length owners) n
+    → HasPart n k ⊎ (owner_of (owners_after owners n owner) k ≡ owner_of owners k)
 other-handed owners node.Empty owner k fits = inr refl
 other-handed owners (node.Test s terminal) owner k fits = inr refl
 other-handed owners (node.Rule rule) owner k fits = inr refl
@@ -111,7 +111,7 @@ other-handed owners (node.Choice first rest) owner k fits = two-writes owners fi
 other-handed owners (node.Star only) owner k fits = one-write owners only owner k
 other-handed owners (node.Not only) owner k fits = one-write owners only owner k
 
-pub length-handed : (owners : List ℕ) (n : Node) (owner : ℕ) → length (handed_down owners n owner) ≡ length owners
+pub length-handed : (owners : List ℕ) (n : Node) (owner : ℕ) → length (owners_after owners n owner) ≡ length owners
 length-handed owners node.Empty owner = refl
 length-handed owners (node.Test s terminal) owner = refl
 length-handed owners (node.Rule rule) owner = refl
@@ -125,54 +125,54 @@ length-handed owners (node.Not only) owner = length-set owners only owner
 -- ---- one step down
 
 module _ (core : Desugared) (owners : List ℕ) (number : ℕ) (n : Node) (within : number < length core.forms)
-    (spells : Spells core.forms number n) (fits : NodeFits number (length core.bodies) (length core.spans) n)
+    (spells : IsFormOfNode core.forms number n) (fits : NodeFits number (length core.bodies) (length core.spans) n)
     (up_to : AreOwnersUpTo (length core.bodies) core owners) where
-  below : NamesFit (length owners) n
+  below : PartsFit (length owners) n
   below =
-      NamesFit-node number (length core.bodies) (length core.spans) (length owners) n (omega (arith, up_to.count)) fits
+      PartsFit-node number (length core.bodies) (length core.spans) (length owners) n (omega (arith, up_to.count)) fits
 
   module _ (owned : IsOwned core owners number) where
     new : List ℕ
-    new = handed_down owners n (owner_of owners number)
+    new = owners_after owners n (owner_of owners number)
 
-    named-owned : (part : ℕ) → NamesPart n part → IsOwned core (handed_down owners n (owner_of owners number)) part
+    named-owned : (part : ℕ) → HasPart n part → IsOwned core (owners_after owners n (owner_of owners number)) part
     named-owned part names =
         subst (λ o. o < length core.bodies) (sym (named-handed owners n (owner_of owners number) part below names)) owned
 
-    still-owned : (k : ℕ) → IsOwned core owners k → IsOwned core (handed_down owners n (owner_of owners number)) k
+    still-owned : (k : ℕ) → IsOwned core owners k → IsOwned core (owners_after owners n (owner_of owners number)) k
     still-owned k had =
         elim (other-handed owners n (owner_of owners number) k below) [ inl names ↦ named-owned k names | inr same ↦ subst (λ o. o < length core.bodies) (sym same) had ]
 
-    part-under : (part : ℕ) → NamesPart n part → IsUnder core part (owner_of owners number)
+    part-under : (part : ℕ) → HasPart n part → IsWithinRule core part (owner_of owners number)
     part-under part names form stands =
         up_to.under number within owned form
-        (subst (StandsIn form) (sym spells.1) (stands-part core.forms spells.0 n part form names stands))
+        (subst (IsSubformOf form) (sym spells.1) (stands-part core.forms spells.0 n part form names stands))
 
-    pub AreOwnersUpTo-handed : AreOwnersUpTo (length core.bodies) core (handed_down owners n (owner_of owners number))
+    pub AreOwnersUpTo-handed : AreOwnersUpTo (length core.bodies) core (owners_after owners n (owner_of owners number))
     AreOwnersUpTo-handed =
         record {
           count = length-handed owners n (owner_of owners number) ∙ up_to.count;
-          under = λ k inside had. elim (other-handed owners n (owner_of owners number) k below) [ inl names ↦ subst (IsUnder core k) (sym (named-handed owners n (owner_of owners number) k below names)) (part-under k names) | inr same ↦ subst (IsUnder core k) (sym same) (up_to.under k inside (subst (λ o. o < length core.bodies) same had)) ];
+          under = λ k inside had. elim (other-handed owners n (owner_of owners number) k below) [ inl names ↦ subst (IsWithinRule core k) (sym (named-handed owners n (owner_of owners number) k below names)) (part-under k names) | inr same ↦ subst (IsWithinRule core k) (sym same) (up_to.under k inside (subst (λ o. o < length core.bodies) same had)) ];
           bodies = λ rule body less there. ((up_to.bodies rule body less there).0, still-owned body (up_to.bodies rule body less there).1);
         }
 
-    here-handed : HasOwnedParts core (handed_down owners n (owner_of owners number)) number
+    here-handed : HasOwnedParts core (owners_after owners n (owner_of owners number)) number
     here-handed = record { node = n; spells = spells; fits = fits; owned = named-owned }
 
     parts-kept : (k : ℕ) → HasOwnedParts core owners k
-        → HasOwnedParts core (handed_down owners n (owner_of owners number)) k
+        → HasOwnedParts core (owners_after owners n (owner_of owners number)) k
     parts-kept k h =
         record { node = h.node; spells = h.spells; fits = h.fits; owned = λ part names. still-owned part (h.owned part names) }
 
-    pub AreHandedDownFrom-handed : AreHandedDownFrom (number + 1) core owners
-        → AreHandedDownFrom number core (handed_down owners n (owner_of owners number))
+    pub AreHandedDownFrom-handed : PartsAreOwnedFrom (number + 1) core owners
+        → PartsAreOwnedFrom number core (owners_after owners n (owner_of owners number))
     AreHandedDownFrom-handed later k from inside had = by (cases_eq k number)
       where
         not-before : (k ≡ number → ⊥) → IsOwned core owners k
         not-before other =
             elim (other-handed owners n (owner_of owners number) k below) [ inl names ↦ absurd (before k from names) | inr same ↦ subst (λ o. o < length core.bodies) same had ]
           where
-            less : (part : ℕ) (m : Node) → NodeFits number (length core.bodies) (length core.spans) m → NamesPart m part → part < number
+            less : (part : ℕ) (m : Node) → NodeFits number (length core.bodies) (length core.spans) m → HasPart m part → part < number
             less part node.Empty f names = absurd names
             less part (node.Test s terminal) f names = absurd names
             less part (node.Rule rule) f names = absurd names
@@ -183,17 +183,17 @@ module _ (core : Desugared) (owners : List ℕ) (number : ℕ) (n : Node) (withi
             less part (node.Star only) f is = subst (λ p. p < number) is f
             less part (node.Not only) f is = subst (λ p. p < number) is f
 
-            before : (part : ℕ) → number ≤ part → NamesPart n part → ⊥
+            before : (part : ℕ) → number ≤ part → HasPart n part → ⊥
             before part at_least names = let small : part < number = less part n fits names in omega arith
 
-        by : (k ≡ number) ⊎ (k ≡ number → ⊥) → HasOwnedParts core (handed_down owners n (owner_of owners number)) k
-        by (inl is) = subst (HasOwnedParts core (handed_down owners n (owner_of owners number))) (sym is) here-handed
+        by : (k ≡ number) ⊎ (k ≡ number → ⊥) → HasOwnedParts core (owners_after owners n (owner_of owners number)) k
+        by (inl is) = subst (HasOwnedParts core (owners_after owners n (owner_of owners number))) (sym is) here-handed
         by (inr other) = parts-kept k (later k (omega arith) inside (not-before other))
 
   -- a form without an owner passes nothing down
-  pub AreHandedDownFrom-none : (length core.bodies ≤ owner_of owners number) → AreHandedDownFrom (number + 1) core owners
-      → AreHandedDownFrom number core owners
-  AreHandedDownFrom-none past later k from inside had = by (cases_eq k number)
+  pub PartsAreOwnedFrom-none : (length core.bodies ≤ owner_of owners number) → PartsAreOwnedFrom (number + 1) core owners
+      → PartsAreOwnedFrom number core owners
+  PartsAreOwnedFrom-none past later k from inside had = by (cases_eq k number)
     where
       by : (k ≡ number) ⊎ (k ≡ number → ⊥) → HasOwnedParts core owners k
       by (inl is) =
@@ -209,7 +209,7 @@ module _ (core : Desugared) (owners : List ℕ) (rule body : ℕ) (there : slice
   AreOwnersUpTo-more up_to =
       record {
         count = length-set owners body rule ∙ up_to.count;
-        under = λ k within had. elim (cases_eq k body) [ inl is ↦ subst (λ j. IsUnder core j (owner_of (set owners body rule) j)) (sym is) (subst (IsUnder core body) (sym now) here) | inr other ↦ subst (IsUnder core k) (sym (same k other)) (up_to.under k within (subst (λ o. o < length core.bodies) (same k other) had)) ];
+        under = λ k within had. elim (cases_eq k body) [ inl is ↦ subst (λ j. IsWithinRule core j (owner_of (set owners body rule) j)) (sym is) (subst (IsWithinRule core body) (sym now) here) | inr other ↦ subst (IsWithinRule core k) (sym (same k other)) (up_to.under k within (subst (λ o. o < length core.bodies) (same k other) had)) ];
         bodies = λ r b before got. elim (cases_eq r rule) [ inl is ↦ last r b is got | inr other ↦ ((up_to.bodies r b (omega arith) got).0, owned b (up_to.bodies r b (omega arith) got).1) ];
       }
     where
@@ -219,8 +219,8 @@ module _ (core : Desugared) (owners : List ℕ) (rule body : ℕ) (there : slice
       same : (k : ℕ) → (k ≡ body → ⊥) → owner_of (set owners body rule) k ≡ owner_of owners k
       same k other = get_or-set_other owners body k rule 0 other
 
-      here : IsUnder core body rule
-      here form stands = subst (BodyIs (StandsIn form)) (sym (body-form core rule body there)) stands
+      here : IsWithinRule core body rule
+      here form stands = subst (BodyIs (IsSubformOf form)) (sym (body-form core rule body there)) stands
 
       owned-body : IsOwned core (set owners body rule) body
       owned-body = subst (λ o. o < length core.bodies) (sym now) less
@@ -246,8 +246,8 @@ module _ (core : Desugared) (owners : List ℕ) (all : AreOwners core owners) wh
   found-by : (form : CoreForm) (number : ℕ) → number < length core.forms → IsOwned core owners number
       → (origin : Extent) (n : Node) → form_at core.forms number ≡ shape core.forms origin n
       → NodeFits number (length core.bodies) (length core.spans) n
-      → ((part : ℕ) → NamesPart n part → part < number → StandsIn form (form_at core.forms part) → IsFound form)
-      → StandsIn form (shape core.forms origin n) → IsFound form
+      → ((part : ℕ) → HasPart n part → part < number → IsSubformOf form (form_at core.forms part) → IsFound form)
+      → IsSubformOf form (shape core.forms origin n) → IsFound form
   found-by form number within owned origin node.Empty is fits later stands = (number, within, owned, is ∙ sym stands)
   found-by form number within owned origin (node.Test s terminal) is fits later stands =
       (number, within, owned, is ∙ sym stands)
@@ -273,10 +273,10 @@ module _ (core : Desugared) (owners : List ℕ) (all : AreOwners core owners) wh
   found-by form number within owned origin (node.Not part) is fits later (inr stands) = later part refl fits stands
 
   pub found : (form : CoreForm) (bound number : ℕ) → number < bound → number < length core.forms
-      → IsOwned core owners number → StandsIn form (form_at core.forms number) → IsFound form
+      → IsOwned core owners number → IsSubformOf form (form_at core.forms number) → IsFound form
   found form zero number less within owned stands = absurd (omega arith)
   found form (suc bound) number less within owned stands =
-      let h = all.handed_down number (omega arith) within owned in
+      let h = all.parts_owned number (omega arith) within owned in
       found-by form number within owned h.spells.0 h.node h.spells.1 h.fits
       (λ part names before inside. found form bound part (omega arith) (omega arith) (h.owned part names) inside)
-      (subst (StandsIn form) h.spells.1 stands)
+      (subst (IsSubformOf form) h.spells.1 stands)

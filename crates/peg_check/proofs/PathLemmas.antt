@@ -6,23 +6,23 @@ use Rattle.std.proofs.lemmas.List.Kept.{AllPairs-cons}
 use Rattle.std.proofs.lemmas.List.Quantifiers.{all_pairs_push}
 use Rattle.std.proofs.lemmas.Option.{slice_get_within}
 use Rattle.peg_core.specs.CoreForm.{CoreForm}
-use Rattle.peg_core.specs.CoreLoops.{CoreMeets, CoreMeetsFirst, CoreMeetInTurn, IsCoreLeftCycle}
+use Rattle.peg_core.specs.CoreLoops.{CoreCanCallFirst, CoreLeftCalls, IsCoreChain, IsCoreLeftCycle}
 use Rattle.peg_core.specs.CoreOutcomes.{BodyIs}
 use Rattle.peg_check.specs.Paths.{IsPath, IsFrom}
 use Rattle.peg_check.specs.Verdicts.{AllDiffer, IsSimpleLeftCycle}
 
 module _ (bodies : List CoreForm) where
-  turn-push : (before : ℕ) (path : List ℕ) (rule next : ℕ) → CoreMeetInTurn bodies before (path ++ rule ∷ [])
-      → CoreMeetsFirst bodies rule next → CoreMeetInTurn bodies before ((path ++ rule ∷ []) ++ next ∷ [])
+  turn-push : (before : ℕ) (path : List ℕ) (rule next : ℕ) → IsCoreChain bodies before (path ++ rule ∷ [])
+      → CoreLeftCalls bodies rule next → IsCoreChain bodies before ((path ++ rule ∷ []) ++ next ∷ [])
   turn-push before [] rule next turn meets = (turn.0, (meets, tt))
   turn-push before (one ∷ path) rule next turn meets = (turn.0, turn-push one path rule next turn.1 meets)
 
-  pub IsPath-push : (path : List ℕ) (rule next : ℕ) → IsPath bodies (path ++ rule ∷ []) → CoreMeetsFirst bodies rule next
+  pub IsPath-push : (path : List ℕ) (rule next : ℕ) → IsPath bodies (path ++ rule ∷ []) → CoreLeftCalls bodies rule next
       → IsPath bodies ((path ++ rule ∷ []) ++ next ∷ [])
   IsPath-push [] rule next is meets = (meets, tt)
   IsPath-push (one ∷ path) rule next is meets = turn-push one path rule next is meets
 
-  tail-path : (rule : ℕ) (path : List ℕ) → CoreMeetInTurn bodies rule path → IsPath bodies path
+  tail-path : (rule : ℕ) (path : List ℕ) → IsCoreChain bodies rule path → IsPath bodies path
   tail-path rule [] turn = tt
   tail-path rule (next ∷ path) turn = turn.1
 
@@ -30,7 +30,7 @@ module _ (bodies : List CoreForm) where
       → IsCoreLeftCycle bodies (drop at path)
   cycle-at [] rule at is within there = absurd (omega arith)
   cycle-at (one ∷ path) rule zero is within there =
-      subst (λ r. CoreMeetInTurn bodies one (path ++ r ∷ [])) (sym there) is
+      subst (λ r. IsCoreChain bodies one (path ++ r ∷ [])) (sym there) is
   cycle-at (one ∷ path) rule (suc at) is within there =
       cycle-at path rule at (tail-path one (path ++ rule ∷ []) is) (omega arith) there
 
@@ -72,13 +72,13 @@ has-body bodies P rule is = by (slice_get bodies rule) refl is
     by (Some body) there some = slice_get_within bodies rule body there
 
 turn-bodies : (bodies : List CoreForm) (before last : ℕ) (rules : List ℕ)
-    → CoreMeetInTurn bodies before (rules ++ last ∷ []) → All (λ rule. rule < length bodies) (before ∷ rules)
+    → IsCoreChain bodies before (rules ++ last ∷ []) → All (λ rule. rule < length bodies) (before ∷ rules)
 turn-bodies bodies before last [] turn =
-    All-cons (λ rule. rule < length bodies) before [] (has-body bodies (λ body. CoreMeets bodies body last) before turn.0)
+    All-cons (λ rule. rule < length bodies) before [] (has-body bodies (λ body. CoreCanCallFirst bodies body last) before turn.0)
     (All-nil (λ rule. rule < length bodies))
 turn-bodies bodies before last (next ∷ rules) turn =
     All-cons (λ rule. rule < length bodies) before (next ∷ rules)
-    (has-body bodies (λ body. CoreMeets bodies body next) before turn.0) (turn-bodies bodies next last rules turn.1)
+    (has-body bodies (λ body. CoreCanCallFirst bodies body next) before turn.0) (turn-bodies bodies next last rules turn.1)
 
 pub cycle-bodies : (bodies : List CoreForm) (path : List ℕ) → IsCoreLeftCycle bodies path
     → All (λ rule. rule < length bodies) path

@@ -13,7 +13,7 @@ use Rattle.peg_semantics.specs.Loops.{IsEmptyLoop}
 use Rattle.peg_semantics.specs.Rules.{Rule}
 use Rattle.peg_semantics.specs.WellFormed.{IsWellFormedGrammar}
 use Rattle.peg_check.specs.Verdicts.{AreWellFormed, HasEmptyLoop, HasNoEmptyLoop, IsFaultOf, IsIllFormedBy}
-use Rattle.peg_check.specs.Verdicts.{TellsEmptyLoop, TellsLeftCycle}
+use Rattle.peg_check.specs.Verdicts.{NamesEmptyLoop, NamesLeftCycle}
 use Rattle.peg_check.specs.declared.fault.CheckFault.{CheckFault}
 use Rattle.peg_check.specs.declared.fault.CheckFault.TheVariants.{EmptyLoop, LeftRecursion, Memory}
 
@@ -22,21 +22,21 @@ use Rattle.peg_check.specs.declared.fault.CheckFault.TheVariants.{EmptyLoop, Lef
 module _ {A : Type 0} (core : Desugared) where
   pub empty_loop-where : (answer : Result A CheckFault) → OnOk answer (HasNoEmptyLoop core)
       → IfErr answer (IsFaultOf core) → (IsErrOf answer Memory → ⊥)
-      → (IsErrAnd answer TellsEmptyLoop ↔ HasEmptyLoop core)
-  empty_loop-where (Ok checked) none fault some = (λ tells. absurd tells, λ has. absurd (none has.0 has.1 has.2))
+      → (IsErrAnd answer NamesEmptyLoop ↔ HasEmptyLoop core)
+  empty_loop-where (Ok checked) none fault some = (λ agrees. absurd agrees, λ has. absurd (none has.0 has.1 has.2))
   empty_loop-where (Err (EmptyLoop rule span)) none fault some =
-      (λ tells. (rule, extent span, fault.0), λ has. tt)
+      (λ agrees. (rule, extent span, fault.0), λ has. tt)
   empty_loop-where (Err (LeftRecursion path)) none fault some =
-      (λ tells. absurd tells, λ has. absurd (fault.0 has.0 has.1 has.2))
+      (λ agrees. absurd agrees, λ has. absurd (fault.0 has.0 has.1 has.2))
   empty_loop-where (Err Memory) none fault some = absurd (some refl)
 
   pub left_cycle-where : (answer : Result A CheckFault) → OnOk answer (AreWellFormed core)
       → IfErr answer (IsFaultOf core) → (IsErrOf answer Memory → ⊥)
-      → (IsErrAnd answer TellsLeftCycle ↔ (HasNoEmptyLoop core × (AreWellFormed core → ⊥)))
-  left_cycle-where (Ok checked) all fault some = (λ tells. absurd tells, λ none. absurd (none.1 all))
+      → (IsErrAnd answer NamesLeftCycle ↔ (HasNoEmptyLoop core × (AreWellFormed core → ⊥)))
+  left_cycle-where (Ok checked) all fault some = (λ agrees. absurd agrees, λ none. absurd (none.1 all))
   left_cycle-where (Err (EmptyLoop rule span)) all fault some =
-      (λ tells. absurd tells, λ none. absurd (none.0 rule (extent span) fault.0))
-  left_cycle-where (Err (LeftRecursion path)) all fault some = (λ tells. (fault.0, fault.2), λ none. tt)
+      (λ agrees. absurd agrees, λ none. absurd (none.0 rule (extent span) fault.0))
+  left_cycle-where (Err (LeftRecursion path)) all fault some = (λ agrees. (fault.0, fault.2), λ none. tt)
   left_cycle-where (Err Memory) all fault some = absurd (some refl)
 
   pub accepted-where : (answer : Result A CheckFault) → OnOk answer (AreWellFormed core)

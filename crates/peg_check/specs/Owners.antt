@@ -1,10 +1,10 @@
 -- Describes code: the rule that a core form belongs to, by number. A number that is no rule's means no owner.
 use Rattle.std.specs.Prelude.{◌≡◌, ℕ, ◌<◌, ◌≤◌, ◌⊎◌, List, Some, length, slice_get, slice_index_or, slice_set}
 use Rattle.peg_core.specs.CoreForm.{CoreForm}
-use Rattle.peg_core.specs.CoreLoops.{StandsIn}
+use Rattle.peg_core.specs.CoreLoops.{IsSubformOf}
 use Rattle.peg_core.specs.CoreOutcomes.{BodyIs}
 use Rattle.peg_core.specs.Layout.{bodies_of, Desugared, form_at}
-use Rattle.peg_core.specs.CoreNodes.{NodeFits, Spells}
+use Rattle.peg_core.specs.CoreNodes.{NodeFits, IsFormOfNode}
 use Rattle.peg_core.specs.declared.node.Node.{Node}
 use Rattle.peg_core.specs.declared.node.Node.TheVariants as node
 
@@ -17,63 +17,63 @@ abbrev pub IsOwned : Desugared → List ℕ → ℕ → Type 0
 IsOwned core owners number = owner_of owners number < length core.bodies
 
 -- a node has the part with this number
-abbrev pub NamesPart : Node → ℕ → Type 0
-NamesPart node.Empty part = ⊥
-NamesPart (node.Test set terminal) part = ⊥
-NamesPart (node.Rule rule) part = ⊥
-NamesPart (node.Seq first rest) part = (first ≡ part) ⊎ (rest ≡ part)
-NamesPart (node.Choice first rest) part = (first ≡ part) ⊎ (rest ≡ part)
-NamesPart (node.Star only) part = only ≡ part
-NamesPart (node.Not only) part = only ≡ part
+abbrev pub HasPart : Node → ℕ → Type 0
+HasPart node.Empty part = ⊥
+HasPart (node.Test set terminal) part = ⊥
+HasPart (node.Rule rule) part = ⊥
+HasPart (node.Seq first rest) part = (first ≡ part) ⊎ (rest ≡ part)
+HasPart (node.Choice first rest) part = (first ≡ part) ⊎ (rest ≡ part)
+HasPart (node.Star only) part = only ≡ part
+HasPart (node.Not only) part = only ≡ part
 
 -- the parts of a node are below `count`
-abbrev pub NamesFit : (count : ℕ) → Node → Type 0
-NamesFit count node.Empty = Unit {0}
-NamesFit count (node.Test set terminal) = Unit {0}
-NamesFit count (node.Rule rule) = Unit {0}
-NamesFit count (node.Seq first rest) = (first < count) × (rest < count)
-NamesFit count (node.Choice first rest) = (first < count) × (rest < count)
-NamesFit count (node.Star part) = part < count
-NamesFit count (node.Not part) = part < count
+abbrev pub PartsFit : (count : ℕ) → Node → Type 0
+PartsFit count node.Empty = Unit {0}
+PartsFit count (node.Test set terminal) = Unit {0}
+PartsFit count (node.Rule rule) = Unit {0}
+PartsFit count (node.Seq first rest) = (first < count) × (rest < count)
+PartsFit count (node.Choice first rest) = (first < count) × (rest < count)
+PartsFit count (node.Star part) = part < count
+PartsFit count (node.Not part) = part < count
 
 -- the owners after the parts of a node got an owner
-abbrev pub handed_down : List ℕ → Node → (owner : ℕ) → List ℕ
-handed_down owners node.Empty owner = owners
-handed_down owners (node.Test set terminal) owner = owners
-handed_down owners (node.Rule rule) owner = owners
-handed_down owners (node.Seq first rest) owner = slice_set (slice_set owners first owner) rest owner
-handed_down owners (node.Choice first rest) owner = slice_set (slice_set owners first owner) rest owner
-handed_down owners (node.Star part) owner = slice_set owners part owner
-handed_down owners (node.Not part) owner = slice_set owners part owner
+abbrev pub owners_after : List ℕ → Node → (owner : ℕ) → List ℕ
+owners_after owners node.Empty owner = owners
+owners_after owners (node.Test set terminal) owner = owners
+owners_after owners (node.Rule rule) owner = owners
+owners_after owners (node.Seq first rest) owner = slice_set (slice_set owners first owner) rest owner
+owners_after owners (node.Choice first rest) owner = slice_set (slice_set owners first owner) rest owner
+owners_after owners (node.Star part) owner = slice_set owners part owner
+owners_after owners (node.Not part) owner = slice_set owners part owner
 
 -- all parts of a form are parts of the rule's body
-abbrev pub IsUnder : Desugared → (number rule : ℕ) → Type 0
-IsUnder core number rule =
-    (form : CoreForm) → StandsIn form (form_at core.forms number)
-    → BodyIs (StandsIn form) (slice_get (bodies_of core) rule)
+abbrev pub IsWithinRule : Desugared → (number rule : ℕ) → Type 0
+IsWithinRule core number rule =
+    (form : CoreForm) → IsSubformOf form (form_at core.forms number)
+    → BodyIs (IsSubformOf form) (slice_get (bodies_of core) rule)
 
 -- the form is the form of some node, and the parts of the node have owners
 pub record HasOwnedParts (core : Desugared) (owners : List ℕ) (number : ℕ) : Type 0 where
   pub node : Node
-  pub spells : Spells core.forms number node
+  pub spells : IsFormOfNode core.forms number node
   pub fits : NodeFits number (length core.bodies) (length core.spans) node
-  pub owned : (part : ℕ) → NamesPart node part → IsOwned core owners part
+  pub owned : (part : ℕ) → HasPart node part → IsOwned core owners part
 
 -- each form that has an owner is part of that rule's body, and the bodies of the first rules have owners
 pub record AreOwnersUpTo (rules : ℕ) (core : Desugared) (owners : List ℕ) : Type 0 where
   pub count : length owners ≡ length core.forms
   pub under : (number : ℕ) → number < length core.forms → IsOwned core owners number
-      → IsUnder core number (owner_of owners number)
+      → IsWithinRule core number (owner_of owners number)
   pub bodies : (rule body : ℕ) → rule < rules → slice_get core.bodies rule ≡ Some body
       → (body < length core.forms) × IsOwned core owners body
 
 -- the parts of owned forms have owners too, from a number on
-abbrev pub AreHandedDownFrom : (from : ℕ) → Desugared → List ℕ → Type 0
-AreHandedDownFrom from core owners =
+abbrev pub PartsAreOwnedFrom : (from : ℕ) → Desugared → List ℕ → Type 0
+PartsAreOwnedFrom from core owners =
     (number : ℕ) → from ≤ number → number < length core.forms → IsOwned core owners number
     → HasOwnedParts core owners number
 
 -- all parts of the bodies have owners, and are part of the bodies of these rules
 pub record AreOwners (core : Desugared) (owners : List ℕ) : Type 0 where
   pub up_to : AreOwnersUpTo (length core.bodies) core owners
-  pub handed_down : AreHandedDownFrom 0 core owners
+  pub parts_owned : PartsAreOwnedFrom 0 core owners

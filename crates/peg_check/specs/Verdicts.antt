@@ -47,16 +47,16 @@ IsFaultOf core (LeftRecursion path) =
 IsFaultOf core Memory = Unit {0}
 
 -- a fault names an empty loop
-abbrev pub TellsEmptyLoop : CheckFault → Type 0
-TellsEmptyLoop (EmptyLoop rule span) = Unit {0}
-TellsEmptyLoop (LeftRecursion path) = ⊥
-TellsEmptyLoop Memory = ⊥
+abbrev pub NamesEmptyLoop : CheckFault → Type 0
+NamesEmptyLoop (EmptyLoop rule span) = Unit {0}
+NamesEmptyLoop (LeftRecursion path) = ⊥
+NamesEmptyLoop Memory = ⊥
 
 -- a fault names a left cycle
-abbrev pub TellsLeftCycle : CheckFault → Type 0
-TellsLeftCycle (EmptyLoop rule span) = ⊥
-TellsLeftCycle (LeftRecursion path) = Unit {0}
-TellsLeftCycle Memory = ⊥
+abbrev pub NamesLeftCycle : CheckFault → Type 0
+NamesLeftCycle (EmptyLoop rule span) = ⊥
+NamesLeftCycle (LeftRecursion path) = Unit {0}
+NamesLeftCycle Memory = ⊥
 
 -- A fault is true of a grammar with these rules. Out of memory says nothing.
 abbrev pub IsIllFormedBy : List Rule → CheckFault → Type 0

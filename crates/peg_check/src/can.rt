@@ -1,8 +1,8 @@
 //! Ford's abstract outcomes, and how those of a form follow from those of its parts.
 ghost use Rattle.std.specs.Prelude.{◌≡◌};
-ghost use Rattle.peg_semantics.specs.AbstractOutcomes.{again, both, either, not_ahead, succeeds};
+ghost use Rattle.peg_semantics.specs.AbstractOutcomes.{star_outcome, seq_outcome, choice_outcome, not_outcome, succeeds};
 ghost use Rattle.peg_check.specs.Cans.{can_of};
-ghost use Rattle.peg_check.specs.Steps.{added_to};
+ghost use Rattle.peg_check.specs.Fixpoint.{union_of};
 
 /// The abstract outcomes of an expression (Ford 2004, section 3.5). It may succeed without consuming a byte (0),
 /// succeed and consume some (1), or fail (f).
@@ -23,7 +23,7 @@ impl Can {
 
     /// Returns the outcomes of a sequence.
     pub(crate) fn then(self, rest: Can) -> Can
-        ensures { can_of result ≡ both (can_of self) (can_of rest) }
+        ensures { can_of result ≡ seq_outcome (can_of self) (can_of rest) }
     {
         let succeed = self.succeeds() && rest.succeeds();
         Can {
@@ -35,7 +35,7 @@ impl Can {
 
     /// Returns the outcomes of a choice.
     pub(crate) fn or_else(self, rest: Can) -> Can
-        ensures { can_of result ≡ either (can_of self) (can_of rest) }
+        ensures { can_of result ≡ choice_outcome (can_of self) (can_of rest) }
     {
         Can {
             nothing: self.nothing || (self.fails && rest.nothing),
@@ -46,7 +46,7 @@ impl Can {
 
     /// Returns the outcomes of a star.
     pub(crate) fn again(self) -> Can
-        ensures { can_of result ≡ again (can_of self) }
+        ensures { can_of result ≡ star_outcome (can_of self) }
     {
         Can {
             nothing: self.fails,
@@ -57,7 +57,7 @@ impl Can {
 
     /// Returns the outcomes of a not-predicate.
     pub(crate) fn not_ahead(self) -> Can
-        ensures { can_of result ≡ not_ahead (can_of self) }
+        ensures { can_of result ≡ not_outcome (can_of self) }
     {
         Can {
             nothing: self.fails,
@@ -67,8 +67,8 @@ impl Can {
     }
 
     /// Returns the union of both.
-    pub(crate) fn joined(self, more: Can) -> Can
-        ensures { result ≡ added_to self (can_of more) }
+    pub(crate) fn union(self, more: Can) -> Can
+        ensures { result ≡ union_of self (can_of more) }
     {
         Can {
             nothing: self.nothing || more.nothing,

@@ -1,49 +1,57 @@
 //! The strongly connected components of the well-formedness dependencies (Kosaraju's algorithm).
 ghost use Rattle.std.specs.Prelude.{◌≡◌, ℕ, ◌<◌, ◌≤◌, ◌⊎◌, length, slice_index_or, IfOk, IfSome, OnOk, Some};
 ghost use Rattle.peg_core.specs.Layout.{max_forms};
-ghost use Rattle.peg_check.specs.Chains.{AreChains};
-ghost use Rattle.peg_check.specs.Links.{LinkFits};
-ghost use Rattle.peg_check.specs.declared.link.Link.{Link};
+ghost use Rattle.peg_check.specs.ReverseDeps.{AreChains};
+ghost use Rattle.peg_check.specs.Dependencies.{DepFits};
+ghost use Rattle.peg_check.specs.declared.dependency.Dependency.{Dependency};
 
 use crate::cycles::used_rule;
-use crate::link::Link;
-use crate::order::left_in_order;
-use crate::uses::{Uses, uses_of};
+use crate::dependency::Dependency;
+use crate::reverse_deps::{ReverseDeps, reverse_deps_of};
+use crate::search_order::postorder;
 use peg_core::Core;
 use std::alloc::{AllocError, Global};
 
 /// Returns the label of each form's component. The forms are visited in reverse postorder. All forms that depend on the
 /// visited one, directly or indirectly, and have no label yet are of its component. Takes time and memory linear in the
 /// number of forms.
-pub(crate) fn components_of(alloc: Global, asks: &[Link]) -> Result<Vec<u32>, AllocError>
-    requires few { length asks.now ≤ max_forms }
-    requires fit { (user : ℕ) (d : Link) → user < length asks.now
-        → LinkFits (length asks.now) (slice_index_or asks.now user d) }
-    ensures { IfOk result (λ labels. length labels.items ≡ length asks.now) }
+pub(crate) fn strongly_connected_components(
+    alloc: Global,
+    well_formedness: &[Dependency],
+) -> Result<Vec<u32>, AllocError>
+    requires few { length well_formedness.now ≤ max_forms }
+    requires fit { (dependent : ℕ) (d : Dependency) → dependent < length well_formedness.now
+        → DepFits (length well_formedness.now) (slice_index_or well_formedness.now dependent d) }
+    ensures { IfOk result (λ labels. length labels.items ≡ length well_formedness.now) }
 {
-    let uses = uses_of(alloc, asks)?;
-    let mut order = left_in_order(alloc, asks)?;
-    let mut labels = vec![in alloc; asks.len() as u32; asks.len()]?;
+    let reverse_deps = reverse_deps_of(alloc, well_formedness)?;
+    let mut order = postorder(alloc, well_formedness)?;
+    let mut labels = vec![in alloc; well_formedness.len() as u32; well_formedness.len()]?;
     'roots: while let Some(root) = order.pop() {
-        label_users(alloc, &uses, &mut labels, root)?;
+        label_reachable(alloc, &reverse_deps, &mut labels, root)?;
     }
     Ok(labels)
 }
 
 // Labels a form, and the forms that depend on it directly or indirectly, unless they have a label.
-fn label_users(alloc: Global, uses: &Uses, labels: &mut [u32], root: u32) -> Result<(), AllocError>
-    requires chains { AreChains (length labels.old) uses.now }
+fn label_reachable(
+    alloc: Global,
+    reverse_deps: &ReverseDeps,
+    labels: &mut [u32],
+    root: u32,
+) -> Result<(), AllocError>
+    requires chains { AreChains (length labels.old) reverse_deps.now }
     requires few { length labels.old ≤ max_forms }
     requires within { root < length labels.old }
     ensures { OnOk result (length labels.new ≡ length labels.old) }
 {
     let mut pending = vec![in alloc; root; 1]?;
-    'users: while let Some(number) = pending.pop() {
+    'dependents: while let Some(number) = pending.pop() {
         if (labels[number as usize] as usize) < labels.len() {
             continue;
         }
         labels[number as usize] = root;
-        uses.add_users(number, &mut pending)?;
+        reverse_deps.push_dependents(number, &mut pending)?;
     }
     Ok(())
 }
@@ -58,14 +66,14 @@ pub(crate) fn least_in_a_cycle(core: &Core, labels: &[u32]) -> Option<u32>
     for number in 0..core.len() {
         if let Some(rule) = used_rule(core, number) {
             if labels[number as usize] == labels[core.body(rule) as usize] {
-                least = Some(lesser(least, rule));
+                least = Some(min_rule(least, rule));
             }
         }
     }
     least
 }
 
-fn lesser(least: Option<u32>, rule: u32) -> u32
+fn min_rule(least: Option<u32>, rule: u32) -> u32
     ensures { (result ≡ rule) ⊎ (least ≡ Some result) }
 {
     match least {

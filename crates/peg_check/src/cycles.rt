@@ -1,15 +1,15 @@
 //! Left cycles: rules that left-call each other in a circle (Ford 2004, section 3.6).
 ghost use Rattle.std.specs.Prelude.{◌≡◌, ℕ, ◌<◌, ⊤, Contains, false, length, slice_get, Some, IfOk, MatchOption};
 ghost use Rattle.peg_core.specs.CoreForm.{Rule};
-ghost use Rattle.peg_core.specs.CoreLoops.{CoreMeets};
+ghost use Rattle.peg_core.specs.CoreLoops.{CoreCanCallFirst};
 ghost use Rattle.peg_core.specs.Layout.{bodies_of, form_at};
-ghost use Rattle.peg_check.specs.Asks.{AreAsked};
+ghost use Rattle.peg_check.specs.WellFormednessDeps.{AreWellFormednessDeps};
 ghost use Rattle.peg_check.specs.Paths.{IsFrom};
-ghost use Rattle.peg_check.specs.Settled.{is_marked, AreSettled};
+ghost use Rattle.peg_check.specs.Marks.{is_marked, AreSettled};
 ghost use Rattle.peg_check.specs.Verdicts.{IsSimpleLeftCycle};
 
-use crate::link::Link;
-use crate::settled::left_part;
+use crate::dependency::Dependency;
+use crate::marks::first_unmarked_dep;
 use peg_core::{Core, Node};
 use std::alloc::{AllocError, Global};
 
@@ -18,37 +18,37 @@ use std::alloc::{AllocError, Global};
 pub(crate) fn cycle_from(
     alloc: Global,
     core: &Core,
-    asks: &[Link],
+    well_formedness: &[Dependency],
     marks: &[bool],
     start: u32,
 ) -> Result<Vec<u32>, AllocError>
-    requires asked { AreAsked core.now asks.now }
-    requires settled { AreSettled asks.now marks.now }
-    requires count { length asks.now ≡ length core.now.forms }
+    requires checked_deps { AreWellFormednessDeps core.now well_formedness.now }
+    requires settled { AreSettled well_formedness.now marks.now }
+    requires count { length well_formedness.now ≡ length core.now.forms }
     requires within { start < length core.now.forms }
     requires left { is_marked marks.now start ≡ false }
     ensures { IfOk result (λ path. IsSimpleLeftCycle (bodies_of core.now) path.items) }
 {
     let mut seen = vec![in alloc; false; core.rules() as usize]?;
     let mut path = Vec::new(alloc);
-    let mut rule = met_first(core, asks, marks, start);
+    let mut rule = left_call(core, well_formedness, marks, start);
     'steps: while !seen[rule as usize] {
         seen[rule as usize] = true;
         path.push(rule)?;
-        rule = met_first(core, asks, marks, core.body(rule));
+        rule = left_call(core, well_formedness, marks, core.body(rule));
     }
     from_rule(alloc, &path, rule)
 }
 
 // A rule that an unsettled form left-calls, and whose body isn't settled either.
-fn met_first(core: &Core, asks: &[Link], marks: &[bool], form: u32) -> u32
-    requires asked { AreAsked core.now asks.now }
-    requires settled { AreSettled asks.now marks.now }
-    requires count { length asks.now ≡ length core.now.forms }
+fn left_call(core: &Core, well_formedness: &[Dependency], marks: &[bool], form: u32) -> u32
+    requires checked_deps { AreWellFormednessDeps core.now well_formedness.now }
+    requires settled { AreSettled well_formedness.now marks.now }
+    requires count { length well_formedness.now ≡ length core.now.forms }
     requires within { form < length core.now.forms }
     requires left { is_marked marks.now form ≡ false }
     ensures within { result < length core.now.bodies }
-    ensures met { CoreMeets (bodies_of core.now) (form_at core.now.forms form) result }
+    ensures met { CoreCanCallFirst (bodies_of core.now) (form_at core.now.forms form) result }
     ensures left { (body : ℕ) → slice_get core.now.bodies result ≡ Some body → is_marked marks.now body ≡ false }
 {
     let mut number = form;
@@ -56,7 +56,7 @@ fn met_first(core: &Core, asks: &[Link], marks: &[bool], form: u32) -> u32
         if let Some(rule) = used_rule(core, number) {
             return rule;
         }
-        match left_part(asks[number as usize], marks) {
+        match first_unmarked_dep(well_formedness[number as usize], marks) {
             Some(part) => number = part,
             None => unreachable!(),
         }

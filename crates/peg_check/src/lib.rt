@@ -1,22 +1,22 @@
 //! Checks grammars: computes the abstract outcomes of each core form, and whether all are well-formed, or why not.
 #![tactic(auto)]
 
-mod asks;
 mod can;
 mod components;
 mod cycles;
+mod dependency;
 mod fault;
-mod link;
+mod fixpoint;
+mod left_calling;
 mod loops;
-mod met;
-mod order;
+mod marks;
 mod owners;
-mod settled;
+mod reverse_deps;
+mod search_order;
 mod shortest;
-mod step;
 mod table;
-mod uses;
 mod verdict;
+mod well_formedness;
 
 pub use can::Can;
 pub use fault::CheckFault;

@@ -1,7 +1,7 @@
 //! Empty loops: stars and pluses whose part may succeed without consuming a byte (Ford 2004, section 3.6).
 ghost use Rattle.std.specs.Prelude.{◌≡◌, ◌<◌, ◌⊎◌, length, IfOk, MatchOption, Some};
 ghost use Rattle.peg_check.specs.Exact.{IsExactTable};
-ghost use Rattle.peg_check.specs.EmptyLoops.{HasNone, IsLoop, LoopsAt};
+ghost use Rattle.peg_check.specs.EmptyLoops.{IsLoopFree, IsLoop, IsLoopAt};
 ghost use Rattle.peg_check.specs.Owners.{AreOwners, IsOwned};
 
 use crate::Table;
@@ -25,13 +25,13 @@ pub(crate) fn empty_loop(
     table: &Table,
 ) -> Result<Option<Loop>, AllocError>
     requires { IsExactTable core.now table.now }
-    ensures { IfOk result (λ found. MatchOption found (HasNone core.now) (IsLoop core.now)) }
+    ensures { IfOk result (λ found. MatchOption found (IsLoopFree core.now) (IsLoop core.now)) }
 {
     let owners = owners_of(alloc, core)?;
     let mut found = None;
     for number in 0..core.len() {
         if let Some(next) = loop_at(core, table, &owners, number) {
-            found = Some(first_of(found, next));
+            found = Some(outermost_first(found, next));
         }
     }
     Ok(found)
@@ -42,7 +42,7 @@ fn loop_at(core: &Core, table: &Table, owners: &[u32], number: u32) -> Option<Lo
     requires table { IsExactTable core.now table.now }
     requires owners { AreOwners core.now owners.now }
     requires within { number < length core.now.forms }
-    ensures { MatchOption result (IsOwned core.now owners.now number → ¬ LoopsAt core.now number) (IsLoop core.now) }
+    ensures { MatchOption result (IsOwned core.now owners.now number → ¬ IsLoopAt core.now number) (IsLoop core.now) }
 {
     match core.node(number) {
         Node::Star(part) => {
@@ -62,7 +62,7 @@ fn loop_at(core: &Core, table: &Table, owners: &[u32], number: u32) -> Option<Lo
 
 // The loop that is written first. If both start at the same offset, the later one is the outer one, since parts have
 // smaller numbers than their whole.
-fn first_of(found: Option<Loop>, next: Loop) -> Loop
+fn outermost_first(found: Option<Loop>, next: Loop) -> Loop
     ensures { (result ≡ next) ⊎ (found ≡ Some result) }
 {
     match found {

@@ -1,6 +1,6 @@
 //! The rule that each core form belongs to.
 ghost use Rattle.std.specs.Prelude.{◌≡◌, length, IfOk};
-ghost use Rattle.peg_check.specs.Owners.{AreOwners, AreOwnersUpTo, NamesFit, handed_down};
+ghost use Rattle.peg_check.specs.Owners.{AreOwners, AreOwnersUpTo, PartsFit, owners_after};
 
 use peg_core::{Core, Node};
 use std::alloc::{AllocError, Global};
@@ -16,7 +16,7 @@ pub(crate) fn owners_of(alloc: Global, core: &Core) -> Result<Vec<u32>, AllocErr
         number -= 1;
         let owner = owners[number as usize];
         if owner < core.rules() {
-            hand_down(core.node(number), &mut owners, owner);
+            assign_owner_to_parts(core.node(number), &mut owners, owner);
         }
     }
     Ok(owners)
@@ -34,9 +34,9 @@ fn owners_of_bodies(alloc: Global, core: &Core) -> Result<Vec<u32>, AllocError>
 }
 
 // Gives the owner of a node to its parts.
-fn hand_down(node: Node, owners: &mut [u32], owner: u32)
-    requires { NamesFit (length owners.old) node }
-    ensures { owners.new ≡ handed_down owners.old node owner }
+fn assign_owner_to_parts(node: Node, owners: &mut [u32], owner: u32)
+    requires { PartsFit (length owners.old) node }
+    ensures { owners.new ≡ owners_after owners.old node owner }
 {
     match node {
         Node::Empty | Node::Test { .. } | Node::Rule(_) => {}

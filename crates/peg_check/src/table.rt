@@ -4,13 +4,13 @@ ghost use Rattle.peg_core.specs.CoreParts.{AreCoreFormsOf};
 ghost use Rattle.peg_core.specs.Layout.{max_forms};
 ghost use Rattle.peg_check.specs.Cans.{can_of};
 ghost use Rattle.peg_check.specs.Exact.{IsExactTable, cans_of};
-ghost use Rattle.peg_semantics.specs.RuleOutcomes.{AreOutcomes};
+ghost use Rattle.peg_semantics.specs.RuleOutcomes.{AreAbstractOutcomes};
 ghost use Rattle.peg_semantics.specs.Rules.{Rule};
 
 use crate::Can;
-use crate::link::links_of;
-use crate::step::look_again;
-use crate::uses::uses_of;
+use crate::dependency::dependencies_of;
+use crate::fixpoint::update;
+use crate::reverse_deps::reverse_deps_of;
 use peg_core::Core;
 use std::alloc::{AllocError, Global};
 use std::marker::Model;
@@ -68,19 +68,19 @@ pub fn table_of(alloc: Global, core: &Core) -> Result<Table, AllocError>
 
     // For the core forms of a grammar, the entries of the rules' bodies are the outcomes of the rules' expressions.
     ensures rules { IfOk result (λ table. (rules : List Rule) → AreCoreFormsOf rules core.now
-        → AreOutcomes rules (cans_of core.now.bodies table)) }
+        → AreAbstractOutcomes rules (cans_of core.now.bodies table)) }
 {
     let count = core.len();
-    let links = links_of(alloc, core)?;
-    let uses = uses_of(alloc, &links)?;
-    let mut entries = vec![in alloc; UNKNOWN; links.len()]?;
+    let deps = dependencies_of(alloc, core)?;
+    let reverse_deps = reverse_deps_of(alloc, &deps)?;
+    let mut entries = vec![in alloc; UNKNOWN; deps.len()]?;
     let mut pending = all_numbers(alloc, count)?;
     'looks: while let Some(number) = pending.pop() {
-        let more = look_again(links[number as usize], &mut entries, number);
+        let more = update(deps[number as usize], &mut entries, number);
         if !more {
             continue;
         }
-        uses.add_users(number, &mut pending)?;
+        reverse_deps.push_dependents(number, &mut pending)?;
     }
     Ok(Table { entries })
 }

@@ -3,24 +3,24 @@ ghost use Rattle.std.specs.Prelude.{◌≡◌, ◌↔◌, ℕ, ◌<◌, ◌≤�
 ghost use Rattle.std.specs.Prelude.{IfOk, IfErr, IsErrAnd, IsErrOf, IsOk, OnOk};
 ghost use Rattle.peg_core.specs.CoreParts.{AreCoreFormsOf};
 ghost use Rattle.peg_core.specs.Layout.{bodies_of, max_forms};
-ghost use Rattle.peg_check.specs.Asks.{AreAsked};
+ghost use Rattle.peg_check.specs.WellFormednessDeps.{AreWellFormednessDeps};
 ghost use Rattle.peg_check.specs.Exact.{IsExactTable};
-ghost use Rattle.peg_check.specs.Links.{LinkFits};
-ghost use Rattle.peg_check.specs.EmptyLoops.{NoneLoops};
+ghost use Rattle.peg_check.specs.Dependencies.{DepFits};
+ghost use Rattle.peg_check.specs.EmptyLoops.{HasNoLoop};
 ghost use Rattle.peg_check.specs.Verdicts.{AreWellFormed, AreWellFormedIn, HasEmptyLoop, HasNoEmptyLoop};
 ghost use Rattle.peg_check.specs.Verdicts.{HasNoLeftCycle, IsFaultOf, IsIllFormedBy, IsSimpleLeftCycle, NamesRules};
-ghost use Rattle.peg_check.specs.Verdicts.{TellsEmptyLoop, TellsLeftCycle};
-ghost use Rattle.peg_check.specs.declared.link.Link.{Link};
+ghost use Rattle.peg_check.specs.Verdicts.{NamesEmptyLoop, NamesLeftCycle};
+ghost use Rattle.peg_check.specs.declared.dependency.Dependency.{Dependency};
 ghost use Rattle.peg_semantics.specs.Rules.{Rule};
 ghost use Rattle.peg_semantics.specs.WellFormed.{IsWellFormedGrammar};
 
-use crate::asks::asks_of;
-use crate::components::{components_of, least_in_a_cycle};
+use crate::components::{least_in_a_cycle, strongly_connected_components};
 use crate::cycles::cycle_from;
-use crate::link::Link;
+use crate::dependency::Dependency;
 use crate::loops::{Loop, empty_loop};
-use crate::settled::{settled_of, unmarked};
+use crate::marks::{first_unmarked, well_formed_marks};
 use crate::shortest::shortest_cycle;
+use crate::well_formedness::well_formedness_deps;
 use crate::{CheckFault, Table, table_of};
 use peg_core::Core;
 use std::alloc::{AllocError, Global};
@@ -62,20 +62,20 @@ pub fn check(alloc: Global, core: Core) -> Result<Checked, CheckFault>
     ensures no_left_cycle { OnOk result (HasNoLeftCycle core) }
     ensures accepted_where { ¬ IsErrOf result CheckFault.Memory → (IsOk result ↔ AreWellFormed core) }
     ensures empty_loop_where { ¬ IsErrOf result CheckFault.Memory
-        → (IsErrAnd result TellsEmptyLoop ↔ HasEmptyLoop core) }
+        → (IsErrAnd result NamesEmptyLoop ↔ HasEmptyLoop core) }
     ensures left_cycle_where { ¬ IsErrOf result CheckFault.Memory
-        → (IsErrAnd result TellsLeftCycle ↔ (HasNoEmptyLoop core × ¬ AreWellFormed core)) }
+        → (IsErrAnd result NamesLeftCycle ↔ (HasNoEmptyLoop core × ¬ AreWellFormed core)) }
 
     // For the core forms of a grammar, the result is true of the grammar as written.
     ensures grammar { (rules : List Rule) → AreCoreFormsOf rules core → OnOk result (IsWellFormedGrammar rules) }
     ensures grammar_refused { (rules : List Rule) → AreCoreFormsOf rules core → IfErr result (IsIllFormedBy rules) }
 {
-    judge(alloc, &core)?;
+    check_core(alloc, &core)?;
     Ok(Checked { core })
 }
 
 // Succeeds if each core form is well-formed, and returns the reason otherwise.
-fn judge(alloc: Global, core: &Core) -> Result<(), CheckFault>
+fn check_core(alloc: Global, core: &Core) -> Result<(), CheckFault>
     ensures well_formed { OnOk result (AreWellFormedIn (length core.now.forms) core.now) }
     ensures refused { IfErr result (IsFaultOf core.now) }
     ensures named { IfErr result (NamesRules (length core.now.bodies)) }
@@ -94,18 +94,18 @@ fn judge(alloc: Global, core: &Core) -> Result<(), CheckFault>
 // A left cycle, unless all forms are well-formed.
 fn left_cycle(alloc: Global, core: &Core, table: &Table) -> Result<Option<Vec<u32>>, AllocError>
     requires table { IsExactTable core.now table.now }
-    requires loops { NoneLoops core.now }
+    requires loops { HasNoLoop core.now }
     ensures { IfOk result (λ found.
         MatchOption found (AreWellFormedIn (length core.now.forms) core.now)
         (λ path. IsSimpleLeftCycle (bodies_of core.now) path.items)) }
 {
-    let asks = asks_of(alloc, core, table)?;
-    let marks = settled_of(alloc, &asks)?;
-    match unmarked(&marks) {
+    let well_formedness = well_formedness_deps(alloc, core, table)?;
+    let marks = well_formed_marks(alloc, &well_formedness)?;
+    match first_unmarked(&marks) {
         None => Ok(None),
         Some(number) => {
-            let found = cycle_from(alloc, core, &asks, &marks, number)?;
-            match least_cycle(alloc, core, &asks)? {
+            let found = cycle_from(alloc, core, &well_formedness, &marks, number)?;
+            match least_cycle(alloc, core, &well_formedness)? {
                 Some(path) => Ok(Some(path)),
                 None => Ok(Some(found)),
             }
@@ -114,18 +114,22 @@ fn left_cycle(alloc: Global, core: &Core, table: &Table) -> Result<Option<Vec<u3
 }
 
 // The shortest left cycle from the smallest rule on one, if the search finds one.
-fn least_cycle(alloc: Global, core: &Core, asks: &[Link]) -> Result<Option<Vec<u32>>, AllocError>
-    requires asked { AreAsked core.now asks.now }
-    requires count { length asks.now ≡ length core.now.forms }
-    requires few { length asks.now ≤ max_forms }
-    requires fit { (user : ℕ) (d : Link) → user < length asks.now
-        → LinkFits (length asks.now) (slice_index_or asks.now user d) }
+fn least_cycle(
+    alloc: Global,
+    core: &Core,
+    well_formedness: &[Dependency],
+) -> Result<Option<Vec<u32>>, AllocError>
+    requires checked_deps { AreWellFormednessDeps core.now well_formedness.now }
+    requires count { length well_formedness.now ≡ length core.now.forms }
+    requires few { length well_formedness.now ≤ max_forms }
+    requires fit { (dependent : ℕ) (d : Dependency) → dependent < length well_formedness.now
+        → DepFits (length well_formedness.now) (slice_index_or well_formedness.now dependent d) }
     ensures { IfOk result (λ found.
         MatchOption found ⊤ (λ path. IsSimpleLeftCycle (bodies_of core.now) path.items)) }
 {
-    let labels = components_of(alloc, asks)?;
+    let labels = strongly_connected_components(alloc, well_formedness)?;
     match least_in_a_cycle(core, &labels) {
-        Some(rule) => shortest_cycle(alloc, core, asks, rule),
+        Some(rule) => shortest_cycle(alloc, core, well_formedness, rule),
         None => Ok(None),
     }
 }

@@ -12,4 +12,4 @@ IsAsking (Table g) = Unit {0}
 IsAsking (Check g) = Unit {0}
 IsAsking (Code g) = Unit {0}
 IsAsking (Parse g t start memo steps all rows) =
-    (memo ≤ 1000000) × IfSome steps (λ most. (1 ≤ most) × (most ≤ 1000000000000))
+    (memo ≤ 1000000) × IfSome steps (λ max_steps. (1 ≤ max_steps) × (max_steps ≤ 1000000000000))

@@ -133,7 +133,7 @@ Prints one line of JSON, and ends with a status:
 Example: pegtool parse grammar.peg text
 
 In a class, `-]` makes the bracket the end of a range: `[a-]` isn't closed, and
-goes on to the next bracket, over the rules between. Write `[-a]` for a dash or
+continues to the next bracket, over the rules between. Write `[-a]` for a dash or
 an a. Any byte may be written as `\\xHH`, by two hexadecimal digits, in quotes
 and in classes; of octal digits `\\277` is the last, and `\\377` is `\\37` and `7`.
 `e{2}` is `e` twice, `e{2,4}` two to four times: both numbers stand, 255 at most.";
@@ -192,7 +192,7 @@ StepLimit, which bounds its time. How many it takes depends on --memo too.
 Status: 0 matched; 1 failed, or partial under --all; 2 the grammar is refused; 3 a
 fault of the command line, or the start is no rule; 4 a file can't be opened or
 read, or the output can't be written; 5 out of memory; 6 there may be an answer,
-but it isn't told: TooDeep, the tree has more than 60 levels, ask with --rows;
+but it isn't printed: TooDeep, the tree has more than 60 levels, ask with --rows;
 TextTooLong; StepLimit, ask with a greater --steps or --memo.
 
 Example: pegtool parse grammar.peg text --start Value --all --rows";

@@ -137,11 +137,11 @@ fn memo_size(alloc: Global, matches: &ArgMatches<'_>) -> Result<u32, WordsFault>
 
 // The argument parser has checked the range; the tests here are for the contract.
 fn step_limit(alloc: Global, matches: &ArgMatches<'_>) -> Result<Option<u64>, WordsFault>
-    ensures { IfOk result (λ steps. IfSome steps (λ most. (1 ≤ most) × (most ≤ 1000000000000))) }
+    ensures { IfOk result (λ steps. IfSome steps (λ max_steps. (1 ≤ max_steps) × (max_steps ≤ 1000000000000))) }
 {
     match matches.get_one::<u64>("steps") {
         Some(0) => Err(internal_usage_error(alloc)),
-        Some(most) if most <= MAX_STEPS => Ok(Some(most)),
+        Some(max_steps) if max_steps <= MAX_STEPS => Ok(Some(max_steps)),
         Some(_) => Err(internal_usage_error(alloc)),
         None => Ok(None),
     }

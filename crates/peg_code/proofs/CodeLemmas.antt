@@ -3,7 +3,7 @@ use Rattle.std.proofs.Common.{◌≡◌, ℕ, ◌+◌, List, [], ◌∷◌, ◌+
 use Rattle.peg_core.specs.CoreForm.{CoreForm, Empty, Test, Rule, Seq, Choice, Star, Not}
 use Rattle.peg_code.specs.Code.{code_of, size}
 use Rattle.peg_code.specs.Instructions.{Instruction, Commit, FailTwice}
-use Rattle.peg_code.specs.Plans.{HaveSameCode}
+use Rattle.peg_code.specs.Sizes.{HaveSameCode}
 
 -- the length of a form's code is its size, wherever it starts
 pub length-code_of : (form : CoreForm) (pc : ℕ) → length (code_of form pc) ≡ size form

@@ -6,14 +6,14 @@ use Rattle.peg_core.specs.CoreForm.{CoreForm, Seq}
 use Rattle.peg_core.specs.Layout.{form_at}
 use Rattle.peg_code.specs.Code.{size}
 use Rattle.peg_code.specs.Compiled.{max_instructions}
-use Rattle.peg_code.specs.Plans.{ArePlansSoFar, counted, HaveSameCode, IsPlan, IsTight}
-use Rattle.peg_code.specs.declared.plans.Plan.{Plan}
+use Rattle.peg_code.specs.Sizes.{AreFormSizesSoFar, capped, HaveSameCode, IsFormSize, IsTight}
+use Rattle.peg_code.specs.declared.sizes.FormSize.{FormSize}
 use Rattle.peg_code.proofs.CodeLemmas.{same-first, same-rest, same-itself, same-through}
 
 -- a form that is emitted itself
-pub IsPlan-own : (forms : List CoreForm) (number count : ℕ) (plan : Plan) → plan.size ≡ counted count → plan.form ≡ number
-    → counted count ≡ counted (size (form_at forms number)) → IsTight (form_at forms number) → IsPlan forms number plan
-IsPlan-own forms number count plan counts itself right tight =
+pub IsFormSize-own : (forms : List CoreForm) (number count : ℕ) (form_size : FormSize) → form_size.size ≡ capped count → form_size.form ≡ number
+    → capped count ≡ capped (size (form_at forms number)) → IsTight (form_at forms number) → IsFormSize forms number form_size
+IsFormSize-own forms number count form_size counts itself right tight =
     record {
       counts = counts ∙ right;
       within = omega arith;
@@ -22,10 +22,10 @@ IsPlan-own forms number count plan counts itself right tight =
     }
 
 -- a form with the same code as one of its parts, which is emitted instead
-part-plan : (forms : List CoreForm) (number part : ℕ) (of_part plan : Plan)
-    → plan.size ≡ counted (size (form_at forms number)) → IsPlan forms part of_part → part < number
-    → HaveSameCode (form_at forms part) (form_at forms number) → plan.form ≡ of_part.form → IsPlan forms number plan
-part-plan forms number part of_part plan counts of below alike is =
+part-form_size : (forms : List CoreForm) (number part : ℕ) (of_part form_size : FormSize)
+    → form_size.size ≡ capped (size (form_at forms number)) → IsFormSize forms part of_part → part < number
+    → HaveSameCode (form_at forms part) (form_at forms number) → form_size.form ≡ of_part.form → IsFormSize forms number form_size
+part-form_size forms number part of_part form_size counts of below alike is =
     record {
       counts = counts;
       within = omega (arith, of.within, is);
@@ -33,25 +33,25 @@ part-plan forms number part of_part plan counts of below alike is =
       tight = subst (λ k. IsTight (form_at forms k)) (sym is) of.tight;
     }
 
-counted-sum : (a b x y : ℕ) → a ≡ counted x → b ≡ counted y → counted (a + b) ≡ counted (x + y)
-counted-sum a b x y p q = omega arith
+capped-sum : (a b x y : ℕ) → a ≡ capped x → b ≡ capped y → capped (a + b) ≡ capped (x + y)
+capped-sum a b x y p q = omega arith
 
-counted-none : (a x : ℕ) → a ≡ counted x → a ≡ 0 → x ≡ 0
-counted-none a x p q = omega arith
+capped-none : (a x : ℕ) → a ≡ capped x → a ≡ 0 → x ≡ 0
+capped-none a x p q = omega arith
 
-counted-some : (a x : ℕ) → a ≡ counted x → 0 < a → 0 < x
-counted-some a x p q = omega arith
+capped-some : (a x : ℕ) → a ≡ capped x → 0 < a → 0 < x
+capped-some a x p q = omega arith
 
 -- a sequence
-pub IsPlan-seq : (forms : List CoreForm) (number first rest : ℕ) (a b plan : Plan)
+pub IsFormSize-seq : (forms : List CoreForm) (number first rest : ℕ) (a b form_size : FormSize)
     → form_at forms number ≡ Seq (form_at forms first) (form_at forms rest)
-    → IsPlan forms first a → IsPlan forms rest b → first < number → rest < number
-    → plan.size ≡ counted (a.size + b.size)
-    → (a.size ≡ 0 → plan.form ≡ b.form)
-    → (0 < a.size → b.size ≡ 0 → plan.form ≡ a.form)
-    → (0 < a.size → 0 < b.size → plan.form ≡ number)
-    → IsPlan forms number plan
-IsPlan-seq forms number first rest a b plan is of_first of_rest below_first below_rest counts no_first no_rest full =
+    → IsFormSize forms first a → IsFormSize forms rest b → first < number → rest < number
+    → form_size.size ≡ capped (a.size + b.size)
+    → (a.size ≡ 0 → form_size.form ≡ b.form)
+    → (0 < a.size → b.size ≡ 0 → form_size.form ≡ a.form)
+    → (0 < a.size → 0 < b.size → form_size.form ≡ number)
+    → IsFormSize forms number form_size
+IsFormSize-seq forms number first rest a b form_size is of_first of_rest below_first below_rest counts no_first no_rest full =
     by (cases_lt 0 a.size) (cases_lt 0 b.size)
   where
     F : CoreForm
@@ -60,34 +60,34 @@ IsPlan-seq forms number first rest a b plan is of_first of_rest below_first belo
     R : CoreForm
     R = form_at forms rest
 
-    all : plan.size ≡ counted (size (form_at forms number))
-    all = counts ∙ (counted-sum a.size b.size (size (form_at forms first)) (size (form_at forms rest)) of_first.counts of_rest.counts ∙ ap (λ (form : CoreForm). counted (size form)) (sym is))
+    all : form_size.size ≡ capped (size (form_at forms number))
+    all = counts ∙ (capped-sum a.size b.size (size (form_at forms first)) (size (form_at forms rest)) of_first.counts of_rest.counts ∙ ap (λ (form : CoreForm). capped (size form)) (sym is))
 
     to : (form : CoreForm) → HaveSameCode form (Seq (form_at forms first) (form_at forms rest)) → HaveSameCode form (form_at forms number)
     to form alike = subst (HaveSameCode form) (sym is) alike
 
-    by : (0 < a.size) ⊎ (a.size ≤ 0) → (0 < b.size) ⊎ (b.size ≤ 0) → IsPlan forms number plan
+    by : (0 < a.size) ⊎ (a.size ≤ 0) → (0 < b.size) ⊎ (b.size ≤ 0) → IsFormSize forms number form_size
     by (inr none) _ =
         let zero_first : a.size ≡ 0 = omega arith in
-        part-plan forms number rest b plan all of_rest below_rest (to (form_at forms rest) (same-rest (form_at forms first) (form_at forms rest) (counted-none a.size (size (form_at forms first)) of_first.counts zero_first))) (no_first zero_first)
+        part-form_size forms number rest b form_size all of_rest below_rest (to (form_at forms rest) (same-rest (form_at forms first) (form_at forms rest) (capped-none a.size (size (form_at forms first)) of_first.counts zero_first))) (no_first zero_first)
     by (inl some) (inr none) =
         let zero_rest : b.size ≡ 0 = omega arith in
-        part-plan forms number first a plan all of_first below_first (to (form_at forms first) (same-first (form_at forms first) (form_at forms rest) (counted-none b.size (size (form_at forms rest)) of_rest.counts zero_rest))) (no_rest some zero_rest)
+        part-form_size forms number first a form_size all of_first below_first (to (form_at forms first) (same-first (form_at forms first) (form_at forms rest) (capped-none b.size (size (form_at forms rest)) of_rest.counts zero_rest))) (no_rest some zero_rest)
     by (inl some) (inl more) =
-        IsPlan-own forms number (a.size + b.size) plan counts (full some more) (sym counts ∙ all) (subst IsTight (sym is) (counted-some a.size (size (form_at forms first)) of_first.counts some, counted-some b.size (size (form_at forms rest)) of_rest.counts more))
+        IsFormSize-own forms number (a.size + b.size) form_size counts (full some more) (sym counts ∙ all) (subst IsTight (sym is) (capped-some a.size (size (form_at forms first)) of_first.counts some, capped-some b.size (size (form_at forms rest)) of_rest.counts more))
 
 -- one more form has a plan
-pub ArePlansSoFar-push : (forms : List CoreForm) (plans : List Plan) (plan : Plan) → ArePlansSoFar forms plans
-    → IsPlan forms (length plans) plan → ArePlansSoFar forms (plans ++ plan ∷ [])
-ArePlansSoFar-push forms plans plan are here k d within =
-    by (cases_lt k (length plans))
+pub AreFormSizesSoFar-push : (forms : List CoreForm) (form_sizes : List FormSize) (form_size : FormSize) → AreFormSizesSoFar forms form_sizes
+    → IsFormSize forms (length form_sizes) form_size → AreFormSizesSoFar forms (form_sizes ++ form_size ∷ [])
+AreFormSizesSoFar-push forms form_sizes form_size are here k d within =
+    by (cases_lt k (length form_sizes))
   where
-    by : (k < length plans) ⊎ (length plans ≤ k) → IsPlan forms k (get_or (plans ++ plan ∷ []) k d)
-    by (inl before) = subst (IsPlan forms k) (sym (get_or_append_left plans (plan ∷ []) d k before)) (are k d before)
+    by : (k < length form_sizes) ⊎ (length form_sizes ≤ k) → IsFormSize forms k (get_or (form_sizes ++ form_size ∷ []) k d)
+    by (inl before) = subst (IsFormSize forms k) (sym (get_or_append_left form_sizes (form_size ∷ []) d k before)) (are k d before)
     by (inr past) =
-        let last : length plans ≡ k = omega (arith, length-append plans (plan ∷ [])) in
-        subst (IsPlan forms k) (sym (get_or_at plans plan [] d k last)) (subst (λ n. IsPlan forms n plan) last here)
+        let last : length form_sizes ≡ k = omega (arith, length-append form_sizes (form_size ∷ [])) in
+        subst (IsFormSize forms k) (sym (get_or_at form_sizes form_size [] d k last)) (subst (λ n. IsFormSize forms n form_size) last here)
 
 -- a capped size within the limit is exact
-pub counted-few : (a x : ℕ) → a ≡ counted x → x ≤ max_instructions → a ≡ x
-counted-few a x p few = omega arith
+pub capped-few : (a x : ℕ) → a ≡ capped x → x ≤ max_instructions → a ≡ x
+capped-few a x p few = omega arith

@@ -5,15 +5,15 @@ use Rattle.std.proofs.lemmas.List.Elements.{All-push, All-weaker}
 use Rattle.peg_bytes.specs.ByteSet.{bytes_of}
 use Rattle.peg_bytes.specs.declared.byte_set.ByteSet.{ByteSet}
 use Rattle.peg_code.specs.Instructions.{Instruction, Test}
-use Rattle.peg_code.specs.Slots.{AddsSets, IsPacked, SlotFits, unpacked, unpacked_slot}
-use Rattle.peg_code.specs.declared.packed.Slot.{Slot}
-use Rattle.peg_code.specs.declared.packed.Slot.TheVariants as slot
-use Rattle.peg_code.specs.declared.packed.Packed.TheInside.{Inside}
+use Rattle.peg_code.specs.Slots.{AddsCodeSets, IsPackedCode, CodeSlotFits, unpacked_code, unpacked_instruction}
+use Rattle.peg_code.specs.declared.packed_code.Slot.{Slot}
+use Rattle.peg_code.specs.declared.packed_code.Slot.TheVariants as slot
+use Rattle.peg_code.specs.declared.packed_code.PackedCode.TheInside.{Inside}
 
 -- ---- more sets are appended
 
-slot-more : (sets more : List ByteSet) (s : Slot) → SlotFits (length sets) s
-    → unpacked_slot (sets ++ more) s ≡ unpacked_slot sets s
+slot-more : (sets more : List ByteSet) (s : Slot) → CodeSlotFits (length sets) s
+    → unpacked_instruction (sets ++ more) s ≡ unpacked_instruction sets s
 slot-more sets more (slot.Test set terminal) fits =
     ap (λ (b : ByteSet). Test (bytes_of b) terminal) (get_or_append_left sets more (record { words = [] }) set fits)
 slot-more sets more (slot.Call rule) fits = refl
@@ -23,13 +23,13 @@ slot-more sets more (slot.Commit target) fits = refl
 slot-more sets more slot.FailTwice fits = refl
 slot-more sets more slot.End fits = refl
 
-unpacked-more : (sets more : List ByteSet) (slots : List Slot) → All (SlotFits (length sets)) slots
-    → unpacked (sets ++ more) slots ≡ unpacked sets slots
+unpacked-more : (sets more : List ByteSet) (slots : List Slot) → All (CodeSlotFits (length sets)) slots
+    → unpacked_code (sets ++ more) slots ≡ unpacked_code sets slots
 unpacked-more sets more [] fit = refl
 unpacked-more sets more (s ∷ slots) fit =
     λ i. slot-more sets more s (fit zero s (omega arith)) i ∷ unpacked-more sets more slots (λ k d within. fit (suc k) d (omega arith)) i
 
-fits-more : (count now : ℕ) → count ≤ now → (s : Slot) → SlotFits count s → SlotFits now s
+fits-more : (count now : ℕ) → count ≤ now → (s : Slot) → CodeSlotFits count s → CodeSlotFits now s
 fits-more count now more (slot.Test set terminal) fits = omega arith
 fits-more count now more (slot.Call rule) fits = tt
 fits-more count now more slot.Ret fits = tt
@@ -40,23 +40,23 @@ fits-more count now more slot.End fits = tt
 
 -- ---- one more instruction
 
-module _ (old new : Inside) (s : Slot) (is : IsPacked old) (adds : AddsSets old.sets.items new.sets.items)
+module _ (old new : Inside) (s : Slot) (is : IsPackedCode old) (adds : AddsCodeSets old.sets.items new.sets.items)
     (put : new.slots.items ≡ old.slots.items ++ s ∷ []) where
   longer : length new.sets.items ≡ length old.sets.items + length adds.more
   longer = ap length adds.added ∙ length-append old.sets.items adds.more
 
-  pub IsPacked-push : SlotFits (length new.sets.items) s → IsPacked new
+  pub IsPacked-push : CodeSlotFits (length new.sets.items) s → IsPackedCode new
   IsPacked-push fits =
-      let P : Slot → Type 0 = SlotFits (length new.sets.items) in
+      let P : Slot → Type 0 = CodeSlotFits (length new.sets.items) in
       record {
-        fit = subst (All P) (sym put) (All-push P old.slots.items s (All-weaker (SlotFits (length old.sets.items)) P (fits-more (length old.sets.items) (length new.sets.items) (omega (arith, longer))) old.slots.items is.fit) fits);
+        fit = subst (All P) (sym put) (All-push P old.slots.items s (All-weaker (CodeSlotFits (length old.sets.items)) P (fits-more (length old.sets.items) (length new.sets.items) (omega (arith, longer))) old.slots.items is.fit) fits);
         few = omega (arith, longer, adds.few, is.few, ap length put, length-append old.slots.items (s ∷ []));
       }
 
-  pub unpacked-push : (i : Instruction) → unpacked_slot new.sets.items s ≡ i
-      → unpacked new.sets.items new.slots.items ≡ unpacked old.sets.items old.slots.items ++ i ∷ []
+  pub unpacked-push : (i : Instruction) → unpacked_instruction new.sets.items s ≡ i
+      → unpacked_code new.sets.items new.slots.items ≡ unpacked_code old.sets.items old.slots.items ++ i ∷ []
   unpacked-push i holds =
-      ap (unpacked new.sets.items) put
-      ∙ (map-append (unpacked_slot new.sets.items) old.slots.items (s ∷ [])
-      ∙ ((λ j. unpacked (adds.added j) old.slots.items ++ holds j ∷ [])
+      ap (unpacked_code new.sets.items) put
+      ∙ (map-append (unpacked_instruction new.sets.items) old.slots.items (s ∷ [])
+      ∙ ((λ j. unpacked_code (adds.added j) old.slots.items ++ holds j ∷ [])
       ∙ ap (λ (code : List Instruction). code ++ i ∷ []) (unpacked-more old.sets.items adds.more old.slots.items is.fit)))

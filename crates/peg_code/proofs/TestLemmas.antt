@@ -9,7 +9,7 @@ use Rattle.peg_core.specs.CoreForm as core
 use Rattle.peg_core.specs.Layout.{bodies_of, Desugared, form_at}
 use Rattle.peg_code.specs.Code.{code_of, program_code, rules_code, size}
 use Rattle.peg_code.specs.Instructions.{Instruction, Test, Call, Ret, Choice, Commit, FailTwice, End, TestFits}
-use Rattle.peg_code.specs.Plans.{TestsFit, TestsFitSoFar}
+use Rattle.peg_code.specs.Sizes.{TestsFit, TestsFitSoFar}
 
 -- an instruction of the code
 pub at-fits : (P : Instruction → Type 0) (code : List Instruction) (pc : ℕ) (i : Instruction) → All P code

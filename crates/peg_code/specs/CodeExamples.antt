@@ -8,8 +8,8 @@ abbrev pub nested_code : List Instruction
 nested_code = End ∷ Choice 5 ∷ Test (only 97) 0 ∷ Call 0 ∷ Commit 6 ∷ Test (only 98) 1 ∷ Ret ∷ []
 
 -- 'x'?   .+   ''*   &[]   !''   'x'* .   !'x' / [] 'x', one rule each
-abbrev pub signs_code : List Instruction
-signs_code =
+abbrev pub operators_code : List Instruction
+operators_code =
     End
     ∷ Choice 4 ∷ Test (only 120) 0 ∷ Commit 4 ∷ Ret
     ∷ Test all_bytes 1 ∷ Choice 9 ∷ Test all_bytes 1 ∷ Commit 6 ∷ Ret
@@ -20,5 +20,5 @@ signs_code =
     ∷ Choice 32 ∷ Choice 31 ∷ Test (only 120) 7 ∷ FailTwice ∷ Commit 34 ∷ Test [] 8 ∷ Test (only 120) 9 ∷ Ret
     ∷ []
 
-abbrev pub signs_entries : List ℕ
-signs_entries = 1 ∷ 5 ∷ 10 ∷ 13 ∷ 19 ∷ 22 ∷ 27 ∷ []
+abbrev pub operators_entries : List ℕ
+operators_entries = 1 ∷ 5 ∷ 10 ∷ 13 ∷ 19 ∷ 22 ∷ 27 ∷ []

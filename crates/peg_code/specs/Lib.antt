@@ -11,8 +11,8 @@ pub mod Compiled
 pub mod CompiledCode
 pub mod Instructions
 pub mod Instrs
-pub mod Ops
-pub mod Plans
+pub mod InstrRefs
+pub mod Sizes
 pub mod Programs
 pub mod Slots
 pub mod Tasks

@@ -3,44 +3,44 @@ use Rattle.std.specs.Prelude.{◌≡◌, ℕ, ◌<◌, ◌≤◌, All, List, [],
 use Rattle.peg_bytes.specs.ByteSet.{bytes_of}
 use Rattle.peg_bytes.specs.declared.byte_set.ByteSet.{ByteSet}
 use Rattle.peg_code.specs.Instructions.{Instruction, Test, Call, Ret, Choice, Commit, FailTwice, End}
-use Rattle.peg_code.specs.declared.packed.Slot.{Slot}
-use Rattle.peg_code.specs.declared.packed.Slot.TheVariants as slot
-use Rattle.peg_code.specs.declared.packed.Packed.TheInside.{Inside}
+use Rattle.peg_code.specs.declared.packed_code.Slot.{Slot}
+use Rattle.peg_code.specs.declared.packed_code.Slot.TheVariants as slot
+use Rattle.peg_code.specs.declared.packed_code.PackedCode.TheInside.{Inside}
 
 -- the set with a number, or the empty set if there is none
-abbrev pub set_at : List ByteSet → ℕ → ByteSet
-set_at sets number = slice_index_or sets number (record { words = [] })
+abbrev pub code_set_at : List ByteSet → ℕ → ByteSet
+code_set_at sets number = slice_index_or sets number (record { words = [] })
 
 -- the instruction of a slot with these sets
-abbrev pub unpacked_slot : List ByteSet → Slot → Instruction
-unpacked_slot sets (slot.Test set terminal) = Test (bytes_of (set_at sets set)) terminal
-unpacked_slot sets (slot.Call rule) = Call rule
-unpacked_slot sets slot.Ret = Ret
-unpacked_slot sets (slot.Choice target) = Choice target
-unpacked_slot sets (slot.Commit target) = Commit target
-unpacked_slot sets slot.FailTwice = FailTwice
-unpacked_slot sets slot.End = End
+abbrev pub unpacked_instruction : List ByteSet → Slot → Instruction
+unpacked_instruction sets (slot.Test set terminal) = Test (bytes_of (code_set_at sets set)) terminal
+unpacked_instruction sets (slot.Call rule) = Call rule
+unpacked_instruction sets slot.Ret = Ret
+unpacked_instruction sets (slot.Choice target) = Choice target
+unpacked_instruction sets (slot.Commit target) = Commit target
+unpacked_instruction sets slot.FailTwice = FailTwice
+unpacked_instruction sets slot.End = End
 
-abbrev pub unpacked : List ByteSet → List Slot → List Instruction
-unpacked sets slots = map (unpacked_slot sets) slots
+abbrev pub unpacked_code : List ByteSet → List Slot → List Instruction
+unpacked_code sets slots = map (unpacked_instruction sets) slots
 
 -- the set of a slot is one of the first `count`
-abbrev pub SlotFits : (count : ℕ) → Slot → Type 0
-SlotFits count (slot.Test set terminal) = set < count
-SlotFits count (slot.Call rule) = Unit {0}
-SlotFits count slot.Ret = Unit {0}
-SlotFits count (slot.Choice target) = Unit {0}
-SlotFits count (slot.Commit target) = Unit {0}
-SlotFits count slot.FailTwice = Unit {0}
-SlotFits count slot.End = Unit {0}
+abbrev pub CodeSlotFits : (count : ℕ) → Slot → Type 0
+CodeSlotFits count (slot.Test set terminal) = set < count
+CodeSlotFits count (slot.Call rule) = Unit {0}
+CodeSlotFits count slot.Ret = Unit {0}
+CodeSlotFits count (slot.Choice target) = Unit {0}
+CodeSlotFits count (slot.Commit target) = Unit {0}
+CodeSlotFits count slot.FailTwice = Unit {0}
+CodeSlotFits count slot.End = Unit {0}
 
 -- the set of each slot exists, and there are no more sets than slots
-pub record IsPacked (packed : Inside) : Type 0 where
-  pub fit : All (SlotFits (length packed.sets.items)) packed.slots.items
+pub record IsPackedCode (packed : Inside) : Type 0 where
+  pub fit : All (CodeSlotFits (length packed.sets.items)) packed.slots.items
   pub few : length packed.sets.items ≤ length packed.slots.items
 
 -- at most one set was appended
-pub record AddsSets (old new : List ByteSet) : Type 0 where
+pub record AddsCodeSets (old new : List ByteSet) : Type 0 where
   pub more : List ByteSet
   pub added : new ≡ old ++ more
   pub few : length more ≤ 1

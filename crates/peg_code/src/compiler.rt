@@ -3,11 +3,11 @@ ghost use Rattle.std.specs.Prelude.{◌≡◌, ◌↔◌, ◌+◌, ◌<◌, ◌�
 ghost use Rattle.peg_core.specs.Layout.{bodies_of};
 ghost use Rattle.peg_code.specs.Code.{entries_of, program_code};
 ghost use Rattle.peg_code.specs.Compiled.{compiled_of, IsTooLarge, max_instructions};
-ghost use Rattle.peg_code.specs.Plans.{ArePlans, counted};
+ghost use Rattle.peg_code.specs.Sizes.{AreFormSizes, capped};
 
-use crate::packed::Packed;
-use crate::plans::{Plan, plans_of};
-use crate::tasks::lay;
+use crate::packed_code::PackedCode;
+use crate::sizes::{FormSize, form_sizes_of};
+use crate::tasks::emit;
 use crate::{CodeFault, Instr, Program};
 use peg_check::Checked;
 use peg_core::Core;
@@ -31,23 +31,23 @@ pub fn compile(alloc: Global, checked: Checked) -> Result<Program, CodeFault>
     ensures too_large_where { ¬ IsErrOf result CodeFault.Memory
         → (IsErrOf result CodeFault.CodeTooLarge ↔ IsTooLarge checked.core) }
 {
-    let plans = plans_of(alloc, checked.core())?;
-    let count = count_of(checked.core(), &plans);
+    let form_sizes = form_sizes_of(alloc, checked.core())?;
+    let count = instruction_count(checked.core(), &form_sizes);
     if count > MAX_INSTRUCTIONS {
         return Err(CodeFault::CodeTooLarge);
     }
-    let Code { instrs, entries } = lay_rules(alloc, checked.core(), &plans, count)?;
+    let Code { instrs, entries } = emit_rules(alloc, checked.core(), &form_sizes, count)?;
     Ok(Program::new(checked, instrs, entries))
 }
 
 // The number of instructions of all rules, capped at one more than the limit.
-fn count_of(core: &Core, plans: &[Plan]) -> u32
-    requires plans { ArePlans core.now.forms plans.now }
-    ensures { result ≡ counted (length (program_code (bodies_of core.now))) }
+fn instruction_count(core: &Core, form_sizes: &[FormSize]) -> u32
+    requires form_sizes { AreFormSizes core.now.forms form_sizes.now }
+    ensures { result ≡ capped (length (program_code (bodies_of core.now))) }
 {
     let mut total = 1;
     for rule in 0..core.rules() {
-        let size = plans[core.body(rule) as usize].size;
+        let size = form_sizes[core.body(rule) as usize].size;
         total = (total + size + 1).min(MAX_INSTRUCTIONS + 1);
     }
     total
@@ -56,23 +56,28 @@ fn count_of(core: &Core, plans: &[Plan]) -> u32
 // The instructions, and the first instruction of each rule.
 #[derive(Drop)]
 struct Code {
-    instrs: Packed,
+    instrs: PackedCode,
     entries: Vec<u32>,
 }
 
 // Emits the code of the rules one after the other. Memory for `count` instructions is reserved first.
-fn lay_rules(alloc: Global, core: &Core, plans: &[Plan], count: u32) -> Result<Code, AllocError>
-    requires plans { ArePlans core.now.forms plans.now }
+fn emit_rules(
+    alloc: Global,
+    core: &Core,
+    form_sizes: &[FormSize],
+    count: u32,
+) -> Result<Code, AllocError>
+    requires form_sizes { AreFormSizes core.now.forms form_sizes.now }
     requires few { length (program_code (bodies_of core.now)) ≤ max_instructions }
     ensures code { IfOk result (λ code. code.instrs ≡ program_code (bodies_of core.now)) }
     ensures entries { IfOk result (λ code. code.entries.items ≡ entries_of (bodies_of core.now)) }
 {
-    let mut instrs = Packed::with_capacity(alloc, count as usize)?;
+    let mut instrs = PackedCode::with_capacity(alloc, count as usize)?;
     instrs.push(Instr::End)?;
     let mut entries = Vec::with_capacity(alloc, core.rules() as usize)?;
     for rule in 0..core.rules() {
         entries.push(instrs.len() as u32)?;
-        lay(alloc, core, plans, core.body(rule), &mut instrs)?;
+        emit(alloc, core, form_sizes, core.body(rule), &mut instrs)?;
         instrs.push(Instr::Ret)?;
     }
     Ok(Code { instrs, entries })

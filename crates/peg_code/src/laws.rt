@@ -1,9 +1,9 @@
 //! Laws of the code of core forms. Each function does nothing; its contract is the law.
 ghost use Rattle.std.specs.Prelude.{◌≡◌, ◌+◌, ◌<◌, [], ◌∷◌, length, List, Some, slice_get, ℕ};
-ghost use Rattle.peg_core.specs.CoreExamples.{nested_core, signs_core};
+ghost use Rattle.peg_core.specs.CoreExamples.{nested_core, operators_core};
 ghost use Rattle.peg_core.specs.CoreForm.{CoreForm};
 ghost use Rattle.peg_code.specs.Code.{code_of, entries_of, program_code, size};
-ghost use Rattle.peg_code.specs.CodeExamples.{nested_code, signs_code, signs_entries};
+ghost use Rattle.peg_code.specs.CodeExamples.{nested_code, operators_code, operators_entries};
 
 /// The length of a form's code is its size, wherever the code starts.
 pub fn the_code_of_a_form_has_its_size()
@@ -21,6 +21,6 @@ pub fn each_rule_has_an_entry()
 pub fn the_code_agrees_with_hand_worked_grammars()
     ensures nested { program_code nested_core ≡ nested_code }
     ensures nested_entries { entries_of nested_core ≡ 1 ∷ [] }
-    ensures signs { program_code signs_core ≡ signs_code }
-    ensures signs_entries { entries_of signs_core ≡ signs_entries }
+    ensures operators { program_code operators_core ≡ operators_code }
+    ensures operators_entries { entries_of operators_core ≡ operators_entries }
 {}

@@ -4,15 +4,15 @@
 mod compiler;
 mod fault;
 mod instr;
+mod instr_refs;
 pub mod laws;
-mod op;
-mod packed;
-mod plans;
+mod packed_code;
 mod program;
+mod sizes;
 mod tasks;
 
 pub use compiler::{MAX_INSTRUCTIONS, compile};
 pub use fault::CodeFault;
 pub use instr::Instr;
-pub use op::Op;
+pub use instr_refs::InstrRef;
 pub use program::Program;

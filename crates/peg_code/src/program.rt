@@ -8,10 +8,10 @@ ghost use Rattle.peg_code.specs.Code.{entries_of, program_code};
 ghost use Rattle.peg_code.specs.Compiled.{compiled_of, max_instructions};
 ghost use Rattle.peg_code.specs.Instrs.{instruction_of};
 ghost use Rattle.peg_code.specs.Instructions.{TestFits};
-ghost use Rattle.peg_code.specs.Ops.{instruction_of_op};
+ghost use Rattle.peg_code.specs.InstrRefs.{instruction_of_op};
 
-use crate::packed::Packed;
-use crate::{Instr, Op};
+use crate::packed_code::PackedCode;
+use crate::{Instr, InstrRef};
 use peg_bytes::Span;
 use peg_check::Checked;
 use peg_core::Core;
@@ -20,7 +20,7 @@ use std::marker::Model;
 /// The code of a well-formed grammar, and the core forms that it was compiled from.
 #[derive(Debug, Drop)]
 pub struct Program {
-    code: Packed,
+    code: PackedCode,
     entries: Vec<u32>,
     checked: Checked,
 }
@@ -42,7 +42,7 @@ impl Model for Program {
 
 impl Program {
     // Joins core forms and their code.
-    pub(crate) fn new(checked: Checked, code: Packed, entries: Vec<u32>) -> Program
+    pub(crate) fn new(checked: Checked, code: PackedCode, entries: Vec<u32>) -> Program
         requires code { code ≡ program_code (bodies_of checked.core) }
         requires entries { entries.items ≡ entries_of (bodies_of checked.core) }
         requires few { length code ≤ max_instructions }
@@ -79,16 +79,16 @@ impl Program {
         requires { pc < length self.now.code }
         ensures { slice_get self.now.code pc ≡ Some (instruction_of result) }
     {
-        self.op(pc).instr()
+        self.instr_ref(pc).instr()
     }
 
     /// Returns the instruction with a number, with its set borrowed from the program. Takes constant time.
-    pub fn op(&self, pc: u32) -> Op<'_>
+    pub fn instr_ref(&self, pc: u32) -> InstrRef<'_>
         requires { pc < length self.now.code }
         ensures instruction { slice_get self.now.code pc ≡ Some (instruction_of_op result) }
         ensures test { TestFits (length self.now.core.spans) (instruction_of_op result) }
     {
-        self.code.op(pc)
+        self.code.instr_ref(pc)
     }
 
     /// Returns the first instruction of a rule. Takes constant time.

@@ -1,7 +1,7 @@
 // The code of grammar files. The expected values were worked by hand.
 use peg_bytes::{ByteSet, Span};
 use peg_check::check;
-use peg_code::{Instr, Op, Program, compile};
+use peg_code::{Instr, InstrRef, Program, compile};
 use peg_core::desugar;
 use peg_grammar::Grammar;
 use peg_notation::read;
@@ -124,31 +124,31 @@ fn what_the_program_hands_out(rt: HostRuntime) -> Result<(), Fail> {
     let program = program_of(rt.alloc(), b"S <- 'a' S / !'b'+")?;
     let (first, second) = (ByteSet::single(b'a'), ByteSet::single(b'b'));
     let ops = [
-        Op::End,
-        Op::Choice(5),
-        Op::Test {
+        InstrRef::End,
+        InstrRef::Choice(5),
+        InstrRef::Test {
             set: &first,
             terminal: 0,
         },
-        Op::Call(0),
-        Op::Commit(11),
-        Op::Choice(11),
-        Op::Test {
+        InstrRef::Call(0),
+        InstrRef::Commit(11),
+        InstrRef::Choice(11),
+        InstrRef::Test {
             set: &second,
             terminal: 1,
         },
-        Op::Choice(10),
-        Op::Test {
+        InstrRef::Choice(10),
+        InstrRef::Test {
             set: &second,
             terminal: 1,
         },
-        Op::Commit(7),
-        Op::FailTwice,
-        Op::Ret,
+        InstrRef::Commit(7),
+        InstrRef::FailTwice,
+        InstrRef::Ret,
     ];
     assert_eq!(rt; program.len() as usize, ops.len());
     for pc in 0..program.len() {
-        assert_eq!(rt; program.op(pc), ops[pc as usize], "at {pc}");
+        assert_eq!(rt; program.instr_ref(pc), ops[pc as usize], "at {pc}");
     }
     Ok(())
 }

@@ -12,7 +12,7 @@ use Rattle.peg_bytes.specs.declared.byte_set.ByteSet.{ByteSet}
 use Rattle.peg_semantics.specs.Form.{Form, Forms, Literal, Class, Any, Name, Optional, Plus, Counted, And, End, Then, Reference, Count, terminals, counts_written, counts_written_by_all, form_weight, forms_weight, names_used, names_used_by_all}
 use Rattle.peg_semantics.specs.Form as written
 use Rattle.peg_semantics.specs.Grammar.{greatest_count, is_in_range}
-use Rattle.peg_semantics.specs.Rules.{is_defined, names, meant}
+use Rattle.peg_semantics.specs.Rules.{is_defined, names, meaning_of}
 use Rattle.peg_semantics.specs.Rules as grammar
 use Rattle.peg_semantics.specs.Terminals.{terminal_extents, terminal_extents_of_all}
 use Rattle.peg_semantics.specs.Numbers.{first_from}
@@ -20,10 +20,10 @@ use Rattle.peg_semantics.proofs.RulesLemmas.{terminals-weight, position-within, 
 use Rattle.peg_semantics.proofs.TerminalLemmas.{length-terminal_extents}
 use Rattle.peg_core.specs.CoreForm.{CoreForm, Test, Seq, Choice, Star, Not, all_in_order, one_of, tests_of, unfolded, core_form, core_forms, number_of}
 use Rattle.peg_core.specs.CoreParts.{sequences_of, choices_of, optional_forms, plus_forms, rounds_of, count_forms, and_forms, core_parts, core_parts_of_all, are_defined, are_in_range}
-use Rattle.peg_core.specs.Laid.{Lays, LaysAll, LaysForm, LaysForms}
+use Rattle.peg_core.specs.Appending.{Appends, AppendsAll, AppendsForm, AppendsForms}
 use Rattle.peg_core.specs.Layout.{Layout, form_at, max_forms_each}
-use Rattle.peg_core.proofs.LaidLemmas.{Lays-then, form_at-kept, forms-kept, all_within-grown, length-sequences_of}
-use Rattle.peg_core.proofs.Meanings.{number_of-meant}
+use Rattle.peg_core.proofs.LaidLemmas.{Appends-then, form_at-kept, forms-kept, all_within-grown, length-sequences_of}
+use Rattle.peg_core.proofs.Meanings.{number_of-meaning_of}
 use Rattle.peg_core.proofs.Sets.{bytes_of-all}
 
 -- ---- the number of core forms: at most `max_forms_each` for each part of the weight
@@ -111,26 +111,26 @@ module _ (rules : List grammar.Rule) where
 
   -- ---- the limit leaves enough for more forms
 
-  pub LaysForm-room : (e : Form) (old new : Layout) (number : ℕ) → LaysForm rules e old number new
+  pub AppendsForm-room : (e : Form) (old new : Layout) (number : ℕ) → AppendsForm rules e old number new
       → are_in_range (counts_written e) ≡ true
       → length new.forms + 1 ≤ length old.forms + max_forms_each * form_weight e
-  LaysForm-room e old new number lays ranged =
+  AppendsForm-room e old new number lays ranged =
       omega (arith, ap length lays.forms, length-append old.forms (core_parts rules (length old.spans) e), length-core_parts e (length old.spans) ranged)
 
-  pub LaysForm-spans : (e : Form) (old new : Layout) (number : ℕ) → LaysForm rules e old number new
+  pub AppendsForm-spans : (e : Form) (old new : Layout) (number : ℕ) → AppendsForm rules e old number new
       → length new.spans ≡ length old.spans + terminals e
-  LaysForm-spans e old new number lays =
+  AppendsForm-spans e old new number lays =
       ap length lays.spans
       ∙ (length-append old.spans (terminal_extents e) ∙ ap (λ n. length old.spans + n) (length-terminal_extents e))
 
-  pub LaysForm-few : (e : Form) (old new : Layout) (number : ℕ) → LaysForm rules e old number new
+  pub AppendsForm-few : (e : Form) (old new : Layout) (number : ℕ) → AppendsForm rules e old number new
       → length new.spans ≤ length old.spans + form_weight e
-  LaysForm-few e old new number lays = omega (arith, LaysForm-spans e old new number lays, terminals-weight e)
+  AppendsForm-few e old new number lays = omega (arith, AppendsForm-spans e old new number lays, terminals-weight e)
 
-  pub LaysForms-room : (items : Forms) (old new : Layout) (numbers : List ℕ) → LaysForms rules items old numbers new
+  pub AppendsForms-room : (items : Forms) (old new : Layout) (numbers : List ℕ) → AppendsForms rules items old numbers new
       → are_in_range (counts_written_by_all items) ≡ true
       → length new.forms + length numbers ≤ length old.forms + max_forms_each * forms_weight items
-  LaysForms-room items old new numbers lays ranged =
+  AppendsForms-room items old new numbers lays ranged =
       let t = length old.spans in
       let many : length numbers ≡ length (core_forms rules t items) = sym (length-map numbers (form_at new.forms)) ∙ ap length lays.each in
       omega (arith, many, ap length lays.forms, length-append old.forms (core_parts_of_all rules t items), length-core_parts_of_all items t ranged)
@@ -138,25 +138,25 @@ module _ (rules : List grammar.Rule) where
   -- ---- the whole from its parts
 
   -- an operator on a part
-  pub Lays-sign : (part : Form) (old mid new : Layout) (number last : ℕ) (more : CoreForm → List CoreForm)
-      (whole : CoreForm → CoreForm) → LaysForm rules part old number mid
-      → Lays mid (more (form_at mid.forms number)) [] (whole (form_at mid.forms number)) last new
-      → Lays old (core_parts rules (length old.spans) part ++ more (core_form rules (length old.spans) part)) (terminal_extents part) (whole (core_form rules (length old.spans) part)) last new
-  Lays-sign part old mid new number last more whole first then =
+  pub Appends-sign : (part : Form) (old mid new : Layout) (number last : ℕ) (more : CoreForm → List CoreForm)
+      (whole : CoreForm → CoreForm) → AppendsForm rules part old number mid
+      → Appends mid (more (form_at mid.forms number)) [] (whole (form_at mid.forms number)) last new
+      → Appends old (core_parts rules (length old.spans) part ++ more (core_form rules (length old.spans) part)) (terminal_extents part) (whole (core_form rules (length old.spans) part)) last new
+  Appends-sign part old mid new number last more whole first then =
       let t = length old.spans in
-      Lays-then old mid new (core_parts rules t part) (more (core_form rules t part)) (terminal_extents part)
+      Appends-then old mid new (core_parts rules t part) (more (core_form rules t part)) (terminal_extents part)
       (core_form rules t part) (whole (core_form rules t part)) number last first
-      (subst (λ form. Lays mid (more form) [] (whole form) last new) first.last then)
+      (subst (λ form. Appends mid (more form) [] (whole form) last new) first.last then)
 
   -- a sequence of items
-  pub Lays-sequence : (items : Forms) (span : Extent) (old mid new : Layout) (numbers : List ℕ) (last : ℕ)
-      → LaysForms rules items old numbers mid
-      → Lays mid (sequences_of (map (form_at mid.forms) numbers)) [] (all_in_order (map (form_at mid.forms) numbers)) last new
-      → LaysForm rules (written.Seq items span) old last new
-  Lays-sequence items span old mid new numbers last all then =
+  pub Appends-sequence : (items : Forms) (span : Extent) (old mid new : Layout) (numbers : List ℕ) (last : ℕ)
+      → AppendsForms rules items old numbers mid
+      → Appends mid (sequences_of (map (form_at mid.forms) numbers)) [] (all_in_order (map (form_at mid.forms) numbers)) last new
+      → AppendsForm rules (written.Seq items span) old last new
+  Appends-sequence items span old mid new numbers last all then =
       let t = length old.spans in
       let forms = core_forms rules t items in
-      let seq = subst (λ forms. Lays mid (sequences_of forms) [] (all_in_order forms) last new) all.each then in
+      let seq = subst (λ forms. Appends mid (sequences_of forms) [] (all_in_order forms) last new) all.each then in
       record {
         forms = seq.forms ∙ (ap (λ f. f ++ sequences_of forms) all.forms ∙ append_assoc old.forms (core_parts_of_all rules t items) (sequences_of forms));
         spans = seq.spans ∙ (append-nil mid.spans ∙ all.spans);
@@ -166,18 +166,18 @@ module _ (rules : List grammar.Rule) where
       }
 
   -- a choice of a first expression and others
-  pub Lays-choice : (first : Form) (rest : Forms) (span : Extent) (old mid later new : Layout) (number last : ℕ)
-      (numbers : List ℕ) → LaysForm rules first old number mid → LaysForms rules rest mid numbers later
-      → Lays later (choices_of (form_at later.forms number) (map (form_at later.forms) numbers)) []
+  pub Appends-choice : (first : Form) (rest : Forms) (span : Extent) (old mid later new : Layout) (number last : ℕ)
+      (numbers : List ℕ) → AppendsForm rules first old number mid → AppendsForms rules rest mid numbers later
+      → Appends later (choices_of (form_at later.forms number) (map (form_at later.forms) numbers)) []
       (one_of (form_at later.forms number) (map (form_at later.forms) numbers)) last new
-      → LaysForm rules (written.Choice first rest span) old last new
-  Lays-choice first rest span old mid later new number last numbers one all then =
+      → AppendsForm rules (written.Choice first rest span) old last new
+  Appends-choice first rest span old mid later new number last numbers one all then =
       let t = length old.spans in
       let next = t + terminals first in
-      let counted : length mid.spans ≡ next = LaysForm-spans first old mid number one in
-      let others = subst (λ n. LaysAll mid (core_parts_of_all rules n rest) (terminal_extents_of_all rest) (core_forms rules n rest) numbers later) counted all in
+      let counted : length mid.spans ≡ next = AppendsForm-spans first old mid number one in
+      let others = subst (λ n. AppendsAll mid (core_parts_of_all rules n rest) (terminal_extents_of_all rest) (core_forms rules n rest) numbers later) counted all in
       let kept : form_at later.forms number ≡ core_form rules t first = form_at-kept mid later (core_parts_of_all rules next rest) number others.forms one.within ∙ one.last in
-      let choice = subst (λ form. Lays later (choices_of form (core_forms rules next rest)) [] (one_of form (core_forms rules next rest)) last new) kept (subst (λ forms. Lays later (choices_of (form_at later.forms number) forms) [] (one_of (form_at later.forms number) forms) last new) others.each then) in
+      let choice = subst (λ form. Appends later (choices_of form (core_forms rules next rest)) [] (one_of form (core_forms rules next rest)) last new) kept (subst (λ forms. Appends later (choices_of (form_at later.forms number) forms) [] (one_of (form_at later.forms number) forms) last new) others.each then) in
       let parts = core_parts rules t first in
       let more = core_parts_of_all rules next rest in
       let choices = choices_of (core_form rules t first) (core_forms rules next rest) in
@@ -218,12 +218,12 @@ module _ (rules : List grammar.Rule) where
       }
 
   pub SoFar-more : (all : Forms) (old : Layout) (e : Form) (rest : Forms) (numbers : List ℕ) (now new : Layout) (number : ℕ)
-      → SoFar all old (Then e rest) numbers now → LaysForm rules e now number new
+      → SoFar all old (Then e rest) numbers now → AppendsForm rules e now number new
       → SoFar all old rest (numbers ++ number ∷ []) new
   SoFar-more all old e rest numbers now new number so_far lays =
       let t = length now.spans in
       let next = t + terminals e in
-      let counted : length new.spans ≡ next = LaysForm-spans e now new number lays in
+      let counted : length new.spans ≡ next = AppendsForm-spans e now new number lays in
       record {
         forms =
             ap (λ n. new.forms ++ core_parts_of_all rules n rest) counted
@@ -245,7 +245,7 @@ module _ (rules : List grammar.Rule) where
       }
 
   pub SoFar-end : (all : Forms) (old now : Layout) (numbers : List ℕ) → SoFar all old End numbers now
-      → LaysForms rules all old numbers now
+      → AppendsForms rules all old numbers now
   SoFar-end all old now numbers so_far =
       record {
         forms = sym (append-nil now.forms) ∙ so_far.forms;
@@ -301,8 +301,8 @@ pub number_of-position : (rules : List grammar.Rule) (name : List ℕ) (rule : �
 number_of-position rules name rule found =
     let some = some-at rules rule (position-within rules name rule found) in
     let first = get_or (first_from 0 rules) rule 0 in
-    let is : meant rules name ≡ Some (meaning (0 + rule) first some.0) = meant-position rules name rule found ∙ ap (option_map (meaning (0 + rule) first)) some.1 in
-    number_of-meant rules name (meaning (0 + rule) first some.0) is ∙ omega arith
+    let is : meaning_of rules name ≡ Some (meaning (0 + rule) first some.0) = meant-position rules name rule found ∙ ap (option_map (meaning (0 + rule) first)) some.1 in
+    number_of-meaning_of rules name (meaning (0 + rule) first some.0) is ∙ omega arith
 
 -- the set of all bytes
 pub full-is : (set : ByteSet) → ((other : ℕ) → has (bytes_of set) other ≡ nat_lt other 256) → bytes_of set ≡ all_bytes

@@ -3,7 +3,7 @@
 use Rattle.std.proofs.Common.{◌≡◌, ℕ, zero, suc, ◌<◌, ◌≤◌, inl, inr, List, [], ◌∷◌, ◌++◌, Option, None, Some, slice_get, refl, sym, subst, arith}
 use Rattle.peg_bytes.specs.Extent.{Extent}
 use Rattle.peg_core.specs.CoreForm.{CoreForm, Empty, Test, Rule, Seq, Choice, Star, Not}
-use Rattle.peg_core.specs.CoreLoops.{CoreMeets, CoreMeetsFirst, CoreMeetInTurn, IsCoreEmptyLoop, IsCoreLeftCycle, StandsIn, StandsInBody}
+use Rattle.peg_core.specs.CoreLoops.{CoreCanCallFirst, CoreLeftCalls, IsCoreChain, IsCoreEmptyLoop, IsCoreLeftCycle, IsSubformOf, IsSubformOfBody}
 use Rattle.peg_core.specs.CoreOutcomes.{CoreGivesNothing, BodyIs, IsCoreWellFormedIn, IsCoreWellFormed}
 use Rattle.peg_core.proofs.StandingLemmas.{stands-itself}
 
@@ -26,7 +26,7 @@ module _ (bodies : List CoreForm) where
   more-rounds n rule h = let less : h.0 < n = h.1 in (h.0, omega arith, h.2)
 
   -- a rule that a well-formed form left-calls is well-formed in fewer rounds
-  pub met-in-fewer : (n : ℕ) (form : CoreForm) (rule : ℕ) → IsCoreWellFormedIn bodies n form → CoreMeets bodies form rule
+  pub met-in-fewer : (n : ℕ) (form : CoreForm) (rule : ℕ) → IsCoreWellFormedIn bodies n form → CoreCanCallFirst bodies form rule
       → InFewer n rule
   unfolding IsCoreWellFormedIn
   met-in-fewer zero form rule is meets = absurd is
@@ -46,7 +46,7 @@ module _ (bodies : List CoreForm) where
   met-in-fewer (suc n) (Not part) rule is meets = more-rounds n rule (met-in-fewer n part rule is meets)
 
   body-met : (n rule : ℕ) (body : Option CoreForm) → BodyIs (IsCoreWellFormedIn bodies n) body
-      → BodyIs (λ form. CoreMeets bodies form rule) body → InFewer n rule
+      → BodyIs (λ form. CoreCanCallFirst bodies form rule) body → InFewer n rule
   body-met n rule None is meets = absurd is
   body-met n rule (Some body) is meets = met-in-fewer n body rule is meets
 
@@ -55,7 +55,7 @@ module _ (bodies : List CoreForm) where
 
   -- and so is the last rule of a path of left calls
   path-falls : (rules : List ℕ) (n before last : ℕ) → BodyIs (IsCoreWellFormedIn bodies n) (slice_get bodies before)
-      → CoreMeetInTurn bodies before (rules ++ last ∷ []) → InFewer n last
+      → IsCoreChain bodies before (rules ++ last ∷ []) → InFewer n last
   path-falls [] n before last is turn = body-met n last (slice_get bodies before) is turn.0
   path-falls (rule ∷ more) n before last is turn =
       let here = body-met n rule (slice_get bodies before) is turn.0 in
@@ -63,7 +63,7 @@ module _ (bodies : List CoreForm) where
 
   -- so rounds would decrease forever along a cycle
   pub no-cycle : (bound n rule : ℕ) (more : List ℕ) → n ≤ bound → BodyIs (IsCoreWellFormedIn bodies n) (slice_get bodies rule)
-      → CoreMeetInTurn bodies rule (more ++ rule ∷ []) → ⊥
+      → IsCoreChain bodies rule (more ++ rule ∷ []) → ⊥
   no-cycle zero n rule more few is turn =
       let here = path-falls more n rule rule is turn in
       let less : here.0 < n = here.1 in
@@ -74,30 +74,30 @@ module _ (bodies : List CoreForm) where
       no-cycle bound here.0 rule more (omega arith) here.2 turn
 
 -- the first rule of a cycle left-calls some rule
-pub some-turn : (bodies : List CoreForm) (rule : ℕ) (more : List ℕ) → CoreMeetInTurn bodies rule (more ++ rule ∷ [])
-    → (next : ℕ) × CoreMeetsFirst bodies rule next
+pub some-turn : (bodies : List CoreForm) (rule : ℕ) (more : List ℕ) → IsCoreChain bodies rule (more ++ rule ∷ [])
+    → (next : ℕ) × CoreLeftCalls bodies rule next
 some-turn bodies rule [] turn = (rule, turn.0)
 some-turn bodies rule (next ∷ more) turn = (next, turn.0)
 
 -- ---- the law
 
-module _ (bodies : List CoreForm) (all : (form : CoreForm) → StandsInBody bodies form → IsCoreWellFormed bodies form) where
+module _ (bodies : List CoreForm) (all : (form : CoreForm) → IsSubformOfBody bodies form → IsCoreWellFormed bodies form) where
   none-loops : (rule : ℕ) (origin : Extent) (body : Option CoreForm) → slice_get bodies rule ≡ body
-      → BodyIs (λ form. (part : CoreForm) × (StandsIn (Star part origin) form × CoreGivesNothing bodies part)) body → ⊥
+      → BodyIs (λ form. (part : CoreForm) × (IsSubformOf (Star part origin) form × CoreGivesNothing bodies part)) body → ⊥
   none-loops rule origin None is loops = loops
   none-loops rule origin (Some body) is loops =
       star-refuted bodies loops.0 origin loops.1.1
-      (all (Star loops.0 origin) (rule, subst (BodyIs (StandsIn (Star loops.0 origin))) (sym is) loops.1.0))
+      (all (Star loops.0 origin) (rule, subst (BodyIs (IsSubformOf (Star loops.0 origin))) (sym is) loops.1.0))
 
   pub no-empty-loop : (rule : ℕ) (origin : Extent) → IsCoreEmptyLoop bodies rule origin → ⊥
   no-empty-loop rule origin loops = none-loops rule origin (slice_get bodies rule) refl loops
 
   body-fine : (rule next : ℕ) (body : Option CoreForm) → slice_get bodies rule ≡ body
-      → BodyIs (λ form. CoreMeets bodies form next) body
+      → BodyIs (λ form. CoreCanCallFirst bodies form next) body
       → (n : ℕ) × BodyIs (IsCoreWellFormedIn bodies n) (slice_get bodies rule)
   body-fine rule next None is meets = absurd meets
   body-fine rule next (Some body) is meets =
-      let fine = all body (rule, subst (BodyIs (StandsIn body)) (sym is) (stands-itself body)) in
+      let fine = all body (rule, subst (BodyIs (IsSubformOf body)) (sym is) (stands-itself body)) in
       (fine.0, subst (BodyIs (IsCoreWellFormedIn bodies fine.0)) (sym is) fine.1)
 
   pub no-left-cycle : (path : List ℕ) → IsCoreLeftCycle bodies path → ⊥

@@ -4,9 +4,9 @@ use Rattle.std.proofs.Common.{sym, ap, ◌∙◌, subst, arith, append_assoc}
 use Rattle.std.proofs.lemmas.List.{get_or_at}
 use Rattle.peg_core.specs.CoreForm.{CoreForm, Empty, Seq, Choice, unfolded, count_form}
 use Rattle.peg_core.specs.CoreParts.{rounds_of, count_forms}
-use Rattle.peg_core.specs.Laid.{Lays}
+use Rattle.peg_core.specs.Appending.{Appends}
 use Rattle.peg_core.specs.Layout.{Layout, form_at}
-use Rattle.peg_core.proofs.LaidLemmas.{Lays-one, Lays-then, form_at-kept, pushed}
+use Rattle.peg_core.proofs.LaidLemmas.{Appends-one, Appends-then, form_at-kept, pushed}
 
 -- how many of the iterations from the innermost on must match
 abbrev pub needed : (min max done : ℕ) → ℕ
@@ -16,7 +16,7 @@ needed min max done = min - (max - done)
 abbrev pub LaysRounds : Layout → (part least most number : ℕ) → Layout → Type 0
 LaysRounds old part least most number new =
     let form = form_at old.forms part in
-    Lays old (Empty ∷ rounds_of form least most) [] (unfolded form least most) number new
+    Appends old (Empty ∷ rounds_of form least most) [] (unfolded form least most) number new
 
 module _ (old mid new : Layout) (part least most rest number : ℕ) (within : part < length old.forms)
     (so_far : LaysRounds old part least most rest mid)
@@ -29,13 +29,13 @@ module _ (old mid new : Layout) (part least most rest number : ℕ) (within : pa
   round = Seq form (unfolded form least most)
 
   -- the part, and then the iterations so far
-  one-more : Lays old (Empty ∷ (rounds_of form least most ++ round ∷ [])) [] round number new
+  one-more : Appends old (Empty ∷ (rounds_of form least most ++ round ∷ [])) [] round number new
   one-more =
       let before = Empty ∷ rounds_of form least most in
       let is : Seq (form_at mid.forms part) (form_at mid.forms rest) ≡ round =
       λ i. Seq (form_at-kept old mid before part so_far.forms within i) (so_far.last i) in
-      Lays-then old mid new before (round ∷ []) [] (unfolded form least most) round rest number so_far
-      (Lays-one mid new round number (put ∙ ap (pushed mid) is) last)
+      Appends-then old mid new before (round ∷ []) [] (unfolded form least most) round rest number so_far
+      (Appends-one mid new round number (put ∙ ap (pushed mid) is) last)
 
   -- one more iteration that must match
   pub needed-more : LaysRounds old part (suc least) (suc most) number new
@@ -58,13 +58,13 @@ optional-more old mid later new part most rest round nothing number within first
     ∙ get_or_at old.forms Empty (before ++ some ∷ []) Empty nothing (sym first) in
     let is : Choice (form_at later.forms round) (form_at later.forms nothing) ≡ whole =
     λ i. Choice (one.last i) (empty i) in
-    let both = Lays-then old later new (Empty ∷ (before ++ some ∷ [])) (whole ∷ []) [] some whole round number one
-    (Lays-one later new whole number (more ∙ ap (pushed later) is) end) in
-    subst (λ forms. Lays old (Empty ∷ forms) [] whole number new) (append_assoc before (some ∷ []) (whole ∷ [])) both
+    let both = Appends-then old later new (Empty ∷ (before ++ some ∷ [])) (whole ∷ []) [] some whole round number one
+    (Appends-one later new whole number (more ∙ ap (pushed later) is) end) in
+    subst (λ forms. Appends old (Empty ∷ forms) [] whole number new) (append_assoc before (some ∷ []) (whole ∷ [])) both
 
 -- the iterations are those of a count, if there is one
 pub rounds-count : (form : CoreForm) (old new : Layout) (min max number : ℕ) → 0 < max
-    → Lays old (Empty ∷ rounds_of form min max) [] (unfolded form min max) number new
-    → Lays old (count_forms form min max) [] (count_form form min max) number new
+    → Appends old (Empty ∷ rounds_of form min max) [] (unfolded form min max) number new
+    → Appends old (count_forms form min max) [] (count_form form min max) number new
 rounds-count form old new min zero number some lays = absurd (omega (arith, some))
 rounds-count form old new min (suc max) number some lays = lays

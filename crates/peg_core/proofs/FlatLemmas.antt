@@ -7,38 +7,38 @@ use Rattle.peg_bytes.specs.Extent.{Extent, extent}
 use Rattle.peg_core.specs.CoreForm.{CoreForm, Empty, Seq, Choice, Star, Not}
 use Rattle.peg_core.specs.Layout.{form_at}
 use Rattle.peg_core.specs.CoreNodes.{shape, NodeFits, IsStarFrom}
-use Rattle.peg_core.specs.FlatForms.{added, forms_of, AllFit}
-use Rattle.peg_core.specs.Spelled.{AreOfNodes}
+use Rattle.peg_core.specs.BuilderForms.{after_push, forms_of, AllFit}
+use Rattle.peg_core.specs.FormsOfNodes.{AreFormsOfNodes}
 use Rattle.peg_core.specs.declared.node.Node.{Node}
 use Rattle.peg_core.specs.declared.node.Node.TheVariants as node
-use Rattle.peg_core.specs.declared.node.NodeAndOrigin.{NodeAndOrigin}
+use Rattle.peg_core.specs.declared.node.Entry.{Entry}
 
 -- the form of a node among others
-abbrev formed : List CoreForm → NodeAndOrigin → CoreForm
+abbrev formed : List CoreForm → Entry → CoreForm
 formed forms part = shape forms (extent part.origin) part.node
 
-length-added : (forms : List CoreForm) (part : NodeAndOrigin) → length (added forms part) ≡ length forms + 1
-length-added forms part = length-append forms (formed forms part ∷ [])
+length-after_push : (forms : List CoreForm) (part : Entry) → length (after_push forms part) ≡ length forms + 1
+length-after_push forms part = length-append forms (formed forms part ∷ [])
 
-length-fold_added : (start : List CoreForm) (parts : List NodeAndOrigin)
-    → length (fold added start parts) ≡ length start + length parts
+length-fold_added : (start : List CoreForm) (parts : List Entry)
+    → length (fold after_push start parts) ≡ length start + length parts
 length-fold_added start [] = omega arith
-length-fold_added start (p ∷ ps) = omega (arith, length-fold_added (added start p) ps, length-added start p)
+length-fold_added start (p ∷ ps) = omega (arith, length-fold_added (after_push start p) ps, length-after_push start p)
 
 -- there are as many forms as nodes
-pub length-forms_of : (parts : List NodeAndOrigin) → length (forms_of parts) ≡ length parts
+pub length-forms_of : (parts : List Entry) → length (forms_of parts) ≡ length parts
 length-forms_of parts = omega (arith, length-fold_added [] parts)
 
 -- one more node is one more form
-pub forms_of-push : (parts : List NodeAndOrigin) (part : NodeAndOrigin) → forms_of (parts ++ part ∷ []) ≡ added (forms_of parts) part
-forms_of-push parts part = fold-append added [] parts (part ∷ [])
+pub forms_of-push : (parts : List Entry) (part : Entry) → forms_of (parts ++ part ∷ []) ≡ after_push (forms_of parts) part
+forms_of-push parts part = fold-append after_push [] parts (part ∷ [])
 
 -- the forms so far keep their numbers
-kept : (start : List CoreForm) (parts : List NodeAndOrigin) (k : ℕ) → k < length start
-    → form_at (fold added start parts) k ≡ form_at start k
+kept : (start : List CoreForm) (parts : List Entry) (k : ℕ) → k < length start
+    → form_at (fold after_push start parts) k ≡ form_at start k
 kept start [] k within = refl
 kept start (p ∷ ps) k within =
-    kept (added start p) ps k (omega (arith, length-added start p))
+    kept (after_push start p) ps k (omega (arith, length-after_push start p))
     ∙ get_or_append_left start (formed start p ∷ []) Empty k within
 
 -- the form of a node depends only on forms with smaller numbers
@@ -56,31 +56,31 @@ shape-same a b origin number rules terminals (node.Star part) fits same = λ i. 
 shape-same a b origin number rules terminals (node.Not part) fits same = λ i. Not (same part fits i)
 
 -- each node fits at its number, where `first` is the number of the first one
-abbrev FitFrom : (first rules terminals : ℕ) → List NodeAndOrigin → Type 0
+abbrev FitFrom : (first rules terminals : ℕ) → List Entry → Type 0
 FitFrom first rules terminals parts =
-    (k : ℕ) (d : NodeAndOrigin) → k < length parts → NodeFits (first + k) rules terminals (get_or parts k d).node
+    (k : ℕ) (d : Entry) → k < length parts → NodeFits (first + k) rules terminals (get_or parts k d).node
 
-formed_at : (start : List CoreForm) (parts : List NodeAndOrigin) (rules terminals k : ℕ) (d : NodeAndOrigin)
+formed_at : (start : List CoreForm) (parts : List Entry) (rules terminals k : ℕ) (d : Entry)
     → FitFrom (length start) rules terminals parts → k < length parts
-    → form_at (fold added start parts) (length start + k) ≡ formed (fold added start parts) (get_or parts k d)
+    → form_at (fold after_push start parts) (length start + k) ≡ formed (fold after_push start parts) (get_or parts k d)
 formed_at start [] rules terminals k d fit within = absurd (omega arith)
 formed_at start (p ∷ ps) rules terminals zero d fit within =
     let here : NodeFits (length start) rules terminals p.node = subst (λ n. NodeFits n rules terminals p.node) (omega arith) (fit 0 d within) in
     let number : length start + 0 ≡ length start = omega arith in
-    let longer : length start < length (added start p) = omega (arith, length-added start p) in
-    ap (form_at (fold added start (p ∷ ps))) number
-    ∙ (kept (added start p) ps (length start) longer
+    let longer : length start < length (after_push start p) = omega (arith, length-after_push start p) in
+    ap (form_at (fold after_push start (p ∷ ps))) number
+    ∙ (kept (after_push start p) ps (length start) longer
     ∙ (get_or_at start (formed start p) [] Empty (length start) refl
-    ∙ shape-same start (fold added start (p ∷ ps)) (extent p.origin) (length start) rules terminals p.node here
+    ∙ shape-same start (fold after_push start (p ∷ ps)) (extent p.origin) (length start) rules terminals p.node here
     (λ k below. sym (kept start (p ∷ ps) k below))))
 formed_at start (p ∷ ps) rules terminals (suc k) d fit within =
-    let number : length start + suc k ≡ length (added start p) + k = omega (arith, length-added start p) in
-    let later : FitFrom (length (added start p)) rules terminals ps = λ j e h. let same : length start + suc j ≡ length (added start p) + j = omega (arith, length-added start p) in subst (λ n. NodeFits n rules terminals (get_or ps j e).node) same (fit (suc j) e (omega arith)) in
-    ap (form_at (fold added start (p ∷ ps))) number
-    ∙ formed_at (added start p) ps rules terminals k d later (omega arith)
+    let number : length start + suc k ≡ length (after_push start p) + k = omega (arith, length-after_push start p) in
+    let later : FitFrom (length (after_push start p)) rules terminals ps = λ j e h. let same : length start + suc j ≡ length (after_push start p) + j = omega (arith, length-after_push start p) in subst (λ n. NodeFits n rules terminals (get_or ps j e).node) same (fit (suc j) e (omega arith)) in
+    ap (form_at (fold after_push start (p ∷ ps))) number
+    ∙ formed_at (after_push start p) ps rules terminals k d later (omega arith)
 
 -- the form with a number is the form of its node
-pub form_at-node : (parts : List NodeAndOrigin) (rules terminals number : ℕ) (part : NodeAndOrigin) → AllFit rules terminals parts
+pub form_at-node : (parts : List Entry) (rules terminals number : ℕ) (part : Entry) → AllFit rules terminals parts
     → number < length parts → part ≡ get_or parts number part
     → form_at (forms_of parts) number ≡ shape (forms_of parts) (extent part.origin) part.node
 form_at-node parts rules terminals number part fit within there =
@@ -90,29 +90,29 @@ form_at-node parts rules terminals number part fit within there =
     ∙ (formed_at [] parts rules terminals number part from_zero within ∙ ap (formed (forms_of parts)) (sym there))
 
 -- a node fits if it is one of several that do
-pub fits-at : (parts : List NodeAndOrigin) (rules terminals number : ℕ) (part : NodeAndOrigin) → AllFit rules terminals parts
+pub fits-at : (parts : List Entry) (rules terminals number : ℕ) (part : Entry) → AllFit rules terminals parts
     → number < length parts → part ≡ get_or parts number part → NodeFits number rules terminals part.node
 fits-at parts rules terminals number part fit within there =
-    subst (λ (p : NodeAndOrigin). NodeFits number rules terminals p.node) (sym there) (fit number part within)
+    subst (λ (p : Entry). NodeFits number rules terminals p.node) (sym there) (fit number part within)
 
 -- each number below the number of nodes has a node
-node-there : (parts : List NodeAndOrigin) (number : ℕ) → number < length parts
-    → (part : NodeAndOrigin) × (part ≡ get_or parts number part)
+node-there : (parts : List Entry) (number : ℕ) → number < length parts
+    → (part : Entry) × (part ≡ get_or parts number part)
 node-there [] number within = absurd (omega (arith, within))
 node-there (p ∷ ps) zero within = (p, refl)
 node-there (p ∷ ps) (suc k) within = node-there ps k (omega (arith, within))
 
 -- a node with a number, by a property of it
-pub part-at : {A : Type 0} (told : NodeAndOrigin → A) (parts : List NodeAndOrigin) (number : ℕ) (a : A)
+pub part-at : {A : Type 0} (told : Entry → A) (parts : List Entry) (number : ℕ) (a : A)
     → number < length parts → option_map told (slice_get parts number) ≡ Some a
-    → (part : NodeAndOrigin) × ((part ≡ get_or parts number part) × (told part ≡ a))
+    → (part : Entry) × ((part ≡ get_or parts number part) × (told part ≡ a))
 part-at told [] number a within is = absurd (omega (arith, within))
 part-at told (p ∷ ps) zero a within is = let same : told p ≡ a = cc in (p, (refl, same))
 part-at told (p ∷ ps) (suc k) a within is = part-at told ps k a (omega (arith, within)) is
 
 -- so each form is the form of a node that fits at its number
-pub forms_of-nodes : (parts : List NodeAndOrigin) (rules terminals : ℕ) → AllFit rules terminals parts
-    → AreOfNodes (forms_of parts) rules terminals
+pub forms_of-nodes : (parts : List Entry) (rules terminals : ℕ) → AllFit rules terminals parts
+    → AreFormsOfNodes (forms_of parts) rules terminals
 forms_of-nodes parts rules terminals fit number within =
     let few : number < length parts = omega (arith, within, length-forms_of parts) in
     let part = node-there parts number few in (
@@ -132,22 +132,22 @@ fits-more number rules terminals more (node.Choice first rest) h fits = fits
 fits-more number rules terminals more (node.Star part) h fits = fits
 fits-more number rules terminals more (node.Not part) h fits = fits
 
-pub AllFit-more : (rules terminals more : ℕ) (parts : List NodeAndOrigin) → terminals ≤ more → AllFit rules terminals parts
+pub AllFit-more : (rules terminals more : ℕ) (parts : List Entry) → terminals ≤ more → AllFit rules terminals parts
     → AllFit rules more parts
 AllFit-more rules terminals more parts h fit k d within =
     fits-more k rules terminals more (get_or parts k d).node h (fit k d within)
 
 -- one more node that fits
-pub AllFit-push : (rules terminals : ℕ) (parts : List NodeAndOrigin) (part : NodeAndOrigin) → AllFit rules terminals parts
+pub AllFit-push : (rules terminals : ℕ) (parts : List Entry) (part : Entry) → AllFit rules terminals parts
     → NodeFits (length parts) rules terminals part.node → AllFit rules terminals (parts ++ part ∷ [])
 AllFit-push rules terminals parts part fit here k d within =
     by (cases_lt k (length parts))
   where
     by : (k < length parts) ⊎ (length parts ≤ k) → NodeFits k rules terminals (get_or (parts ++ part ∷ []) k d).node
-    by (inl before) = subst (λ (p : NodeAndOrigin). NodeFits k rules terminals p.node) (sym (get_or_append_left parts (part ∷ []) d k before)) (fit k d before)
+    by (inl before) = subst (λ (p : Entry). NodeFits k rules terminals p.node) (sym (get_or_append_left parts (part ∷ []) d k before)) (fit k d before)
     by (inr past) =
         let last : length parts ≡ k = omega (arith, length-append parts (part ∷ [])) in
-        subst (λ (p : NodeAndOrigin). NodeFits k rules terminals p.node) (sym (get_or_at parts part [] d k last))
+        subst (λ (p : Entry). NodeFits k rules terminals p.node) (sym (get_or_at parts part [] d k last))
         (subst (λ n. NodeFits n rules terminals part.node) last here)
 
 -- the form of a star is the form of its node

@@ -8,7 +8,7 @@ use Rattle.peg_bytes.specs.Extent.{Extent}
 use Rattle.peg_core.specs.CoreForm.{CoreForm, Empty, Test, Rule, Seq, Choice, Star, Not}
 use Rattle.peg_core.specs.CoreNodes.{NodeFits, shape}
 use Rattle.peg_core.specs.Layout.{Desugared, bodies_of, form_at}
-use Rattle.peg_core.specs.Spelled.{AreOfNodes}
+use Rattle.peg_core.specs.FormsOfNodes.{AreFormsOfNodes}
 use Rattle.peg_core.specs.declared.node.Node.{Node}
 use Rattle.peg_core.specs.declared.node.Node.TheVariants as node
 
@@ -47,7 +47,7 @@ shape-among forms origin number rules terminals (node.Not part) within fits =
     below-among forms number part within fits
 
 -- so the parts of a form among these are among them
-pub parts-among : (forms : List CoreForm) (rules terminals : ℕ) → AreOfNodes forms rules terminals → (form : CoreForm)
+pub parts-among : (forms : List CoreForm) (rules terminals : ℕ) → AreFormsOfNodes forms rules terminals → (form : CoreForm)
     → IsAmong forms form → PartsAre (IsAmong forms) form
 parts-among forms rules terminals spelled form among =
     let spells = spelled among.0 among.1 in

@@ -6,7 +6,7 @@ use Rattle.peg_bytes.specs.ByteSet.{only}
 use Rattle.peg_bytes.specs.Extent.{Extent}
 use Rattle.peg_core.specs.CoreForm.{CoreForm, Empty, Test, Seq, Choice, in_order, all_in_order, one_of, tests_of}
 use Rattle.peg_core.specs.CoreParts.{sequences_of, choices_of}
-use Rattle.peg_core.specs.Laid.{Lays, LaysAll}
+use Rattle.peg_core.specs.Appending.{Appends, AppendsAll}
 use Rattle.peg_core.specs.Layout.{Layout, form_at}
 
 -- forms keep their numbers when others are appended
@@ -25,9 +25,9 @@ abbrev pub pushed : Layout → CoreForm → Layout
 pushed old form = record old { forms = old.forms ++ form ∷ [] }
 
 -- one form was appended
-pub Lays-one : (old new : Layout) (form : CoreForm) (number : ℕ) → new ≡ pushed old form → number ≡ length old.forms
-    → Lays old (form ∷ []) [] form number new
-Lays-one old new form number put last =
+pub Appends-one : (old new : Layout) (form : CoreForm) (number : ℕ) → new ≡ pushed old form → number ≡ length old.forms
+    → Appends old (form ∷ []) [] form number new
+Appends-one old new form number put last =
     let forms : new.forms ≡ old.forms ++ form ∷ [] = ap (λ (l : Layout). l.forms) put in
     record {
       forms = forms;
@@ -38,10 +38,10 @@ Lays-one old new form number put last =
     }
 
 -- one step after the other
-pub Lays-then : (old mid new : Layout) (parts more : List CoreForm) (extents : List Extent) (part form : CoreForm)
-    (number last : ℕ) → Lays old parts extents part number mid → Lays mid more [] form last new
-    → Lays old (parts ++ more) extents form last new
-Lays-then old mid new parts more extents part form number last first then =
+pub Appends-then : (old mid new : Layout) (parts more : List CoreForm) (extents : List Extent) (part form : CoreForm)
+    (number last : ℕ) → Appends old parts extents part number mid → Appends mid more [] form last new
+    → Appends old (parts ++ more) extents form last new
+Appends-then old mid new parts more extents part form number last first then =
     record {
       forms = then.forms ∙ (ap (λ forms. forms ++ more) first.forms ∙ append_assoc old.forms parts more);
       spans = then.spans ∙ (append-nil mid.spans ∙ first.spans);
@@ -51,19 +51,19 @@ Lays-then old mid new parts more extents part form number last first then =
     }
 
 -- two forms were appended, the second after the first
-pub Lays-two : (old mid new : Layout) (first second : CoreForm) (number last : ℕ) → Lays old (first ∷ []) [] first number mid
-    → new ≡ pushed mid second → last ≡ length mid.forms → Lays old (first ∷ second ∷ []) [] second last new
-Lays-two old mid new first second number last one put at =
-    Lays-then old mid new (first ∷ []) (second ∷ []) [] first second number last one (Lays-one mid new second last put at)
+pub Appends-two : (old mid new : Layout) (first second : CoreForm) (number last : ℕ) → Appends old (first ∷ []) [] first number mid
+    → new ≡ pushed mid second → last ≡ length mid.forms → Appends old (first ∷ second ∷ []) [] second last new
+Appends-two old mid new first second number last one put at =
+    Appends-then old mid new (first ∷ []) (second ∷ []) [] first second number last one (Appends-one mid new second last put at)
 
 pub if_ok : {A E : Type 0} (P Q : A → Type 0) (r : Result A E) → ((x : A) → P x → Q x) → IfOk r P → IfOk r Q
 if_ok P Q (Ok x) to h = to x h
 if_ok P Q (Err e) to h = h
 
 -- no form was appended
-pub Lays-none : (old : Layout) (form : CoreForm) (number : ℕ) → number < length old.forms
-    → form_at old.forms number ≡ form → Lays old [] [] form number old
-Lays-none old form number within last =
+pub Appends-none : (old : Layout) (form : CoreForm) (number : ℕ) → number < length old.forms
+    → form_at old.forms number ≡ form → Appends old [] [] form number old
+Appends-none old form number within last =
     record {
       forms = sym (append-nil old.forms);
       spans = sym (append-nil old.spans);
@@ -73,8 +73,8 @@ Lays-none old form number within last =
     }
 
 -- nothing was appended
-pub LaysAll-none : (old : Layout) → LaysAll old [] [] [] [] old
-LaysAll-none old =
+pub AppendsAll-none : (old : Layout) → AppendsAll old [] [] [] [] old
+AppendsAll-none old =
     record {
       forms = sym (append-nil old.forms);
       spans = sym (append-nil old.spans);
@@ -100,13 +100,13 @@ all_within-grown old new parts grown numbers within =
     (λ number h. within-grown old new parts number grown h) numbers within
 
 -- one more form, with its number
-pub LaysAll-push : (old mid new : Layout) (parts some : List CoreForm) (extents : List Extent) (numbers : List ℕ)
-    (form : CoreForm) (number : ℕ) → LaysAll old parts extents some numbers mid → new ≡ pushed mid form
+pub AppendsAll-push : (old mid new : Layout) (parts some : List CoreForm) (extents : List Extent) (numbers : List ℕ)
+    (form : CoreForm) (number : ℕ) → AppendsAll old parts extents some numbers mid → new ≡ pushed mid form
     → number ≡ length mid.forms
-    → LaysAll old (parts ++ form ∷ []) extents (some ++ form ∷ []) (numbers ++ number ∷ []) new
-LaysAll-push old mid new parts some extents numbers form number all put at =
+    → AppendsAll old (parts ++ form ∷ []) extents (some ++ form ∷ []) (numbers ++ number ∷ []) new
+AppendsAll-push old mid new parts some extents numbers form number all put at =
     let forms : new.forms ≡ mid.forms ++ form ∷ [] = ap (λ (l : Layout). l.forms) put in
-    let one = Lays-one mid new form number put at in
+    let one = Appends-one mid new form number put at in
     record {
       forms = forms ∙ (ap (λ forms. forms ++ form ∷ []) all.forms ∙ append_assoc old.forms parts (form ∷ []));
       spans = ap (λ (l : Layout). l.spans) put ∙ all.spans;
@@ -180,32 +180,32 @@ module _ (old mid new : Layout) (at : ℕ) (numbers : List ℕ) (rest number : �
   unfolding first
   unfolded = forms_from-more old at numbers (omega arith)
 
-  pub sequence-more : Lays old (sequences_of later) [] (all_in_order later) rest mid
+  pub sequence-more : Appends old (sequences_of later) [] (all_in_order later) rest mid
       → new ≡ pushed mid (Seq (form_at mid.forms (get_or numbers at 0)) (form_at mid.forms rest)) → number ≡ length mid.forms
-      → Lays old (sequences_of (forms_from old at numbers)) [] (all_in_order (forms_from old at numbers)) number new
+      → Appends old (sequences_of (forms_from old at numbers)) [] (all_in_order (forms_from old at numbers)) number new
   unfolding first
   sequence-more so_far put last =
       let a = form_at old.forms first in
       let is : Seq (form_at mid.forms first) (form_at mid.forms rest) ≡ Seq a (all_in_order later) = λ i. Seq (form_at-kept old mid (sequences_of later) first so_far.forms first-within i) (so_far.last i) in
-      let one = Lays-one mid new (Seq a (all_in_order later)) number (put ∙ ap (pushed mid) is) last in
-      let both = Lays-then old mid new (sequences_of later) (Seq a (all_in_order later) ∷ []) [] (all_in_order later) (Seq a (all_in_order later)) rest number so_far one in
-      subst (λ forms. Lays old (sequences_of forms) [] (all_in_order forms) number new) (sym unfolded)
-      (subst (λ parts. Lays old parts [] (all_in_order (a ∷ later)) number new) (sym (sequences_of-more a later later-some))
-      (subst (λ form. Lays old (sequences_of later ++ Seq a (all_in_order later) ∷ []) [] form number new)
+      let one = Appends-one mid new (Seq a (all_in_order later)) number (put ∙ ap (pushed mid) is) last in
+      let both = Appends-then old mid new (sequences_of later) (Seq a (all_in_order later) ∷ []) [] (all_in_order later) (Seq a (all_in_order later)) rest number so_far one in
+      subst (λ forms. Appends old (sequences_of forms) [] (all_in_order forms) number new) (sym unfolded)
+      (subst (λ parts. Appends old parts [] (all_in_order (a ∷ later)) number new) (sym (sequences_of-more a later later-some))
+      (subst (λ form. Appends old (sequences_of later ++ Seq a (all_in_order later) ∷ []) [] form number new)
       (sym (all_in_order-more a later later-some)) both))
 
-  pub choice-more : Lays old (choices_in later) [] (any_of later) rest mid
+  pub choice-more : Appends old (choices_in later) [] (any_of later) rest mid
       → new ≡ pushed mid (Choice (form_at mid.forms (get_or numbers at 0)) (form_at mid.forms rest)) → number ≡ length mid.forms
-      → Lays old (choices_in (forms_from old at numbers)) [] (any_of (forms_from old at numbers)) number new
+      → Appends old (choices_in (forms_from old at numbers)) [] (any_of (forms_from old at numbers)) number new
   unfolding first
   choice-more so_far put last =
       let a = form_at old.forms first in
       let is : Choice (form_at mid.forms first) (form_at mid.forms rest) ≡ Choice a (any_of later) = λ i. Choice (form_at-kept old mid (choices_in later) first so_far.forms first-within i) (so_far.last i) in
-      let one = Lays-one mid new (Choice a (any_of later)) number (put ∙ ap (pushed mid) is) last in
-      let both = Lays-then old mid new (choices_in later) (Choice a (any_of later) ∷ []) [] (any_of later) (Choice a (any_of later)) rest number so_far one in
-      subst (λ forms. Lays old (choices_in forms) [] (any_of forms) number new) (sym unfolded)
-      (subst (λ parts. Lays old parts [] (any_of (a ∷ later)) number new) (sym (choices_in-more a later later-some))
-      (subst (λ form. Lays old (choices_in later ++ Choice a (any_of later) ∷ []) [] form number new)
+      let one = Appends-one mid new (Choice a (any_of later)) number (put ∙ ap (pushed mid) is) last in
+      let both = Appends-then old mid new (choices_in later) (Choice a (any_of later) ∷ []) [] (any_of later) (Choice a (any_of later)) rest number so_far one in
+      subst (λ forms. Appends old (choices_in forms) [] (any_of forms) number new) (sym unfolded)
+      (subst (λ parts. Appends old parts [] (any_of (a ∷ later)) number new) (sym (choices_in-more a later later-some))
+      (subst (λ form. Appends old (choices_in later ++ Choice a (any_of later) ∷ []) [] form number new)
       (sym (any_of-more a later later-some)) both))
 
 -- the last form alone
@@ -217,19 +217,19 @@ forms_from-last old at numbers last =
 
 pub sequence-last : (old : Layout) (at : ℕ) (numbers : List ℕ) → at + 1 ≡ length numbers
     → All (λ n. n < length old.forms) numbers
-    → Lays old (sequences_of (forms_from old at numbers)) [] (all_in_order (forms_from old at numbers)) (get_or numbers at 0) old
+    → Appends old (sequences_of (forms_from old at numbers)) [] (all_in_order (forms_from old at numbers)) (get_or numbers at 0) old
 sequence-last old at numbers last all =
     let number = get_or numbers at 0 in
-    subst (λ forms. Lays old (sequences_of forms) [] (all_in_order forms) number old) (sym (forms_from-last old at numbers last))
-    (Lays-none old (form_at old.forms number) number (all at 0 (omega arith)) refl)
+    subst (λ forms. Appends old (sequences_of forms) [] (all_in_order forms) number old) (sym (forms_from-last old at numbers last))
+    (Appends-none old (form_at old.forms number) number (all at 0 (omega arith)) refl)
 
 pub choice-last : (old : Layout) (at : ℕ) (numbers : List ℕ) → at + 1 ≡ length numbers
     → All (λ n. n < length old.forms) numbers
-    → Lays old (choices_in (forms_from old at numbers)) [] (any_of (forms_from old at numbers)) (get_or numbers at 0) old
+    → Appends old (choices_in (forms_from old at numbers)) [] (any_of (forms_from old at numbers)) (get_or numbers at 0) old
 choice-last old at numbers last all =
     let number = get_or numbers at 0 in
-    subst (λ forms. Lays old (choices_in forms) [] (any_of forms) number old) (sym (forms_from-last old at numbers last))
-    (Lays-none old (form_at old.forms number) number (all at 0 (omega arith)) refl)
+    subst (λ forms. Appends old (choices_in forms) [] (any_of forms) number old) (sym (forms_from-last old at numbers last))
+    (Appends-none old (form_at old.forms number) number (all at 0 (omega arith)) refl)
 
 -- the number of forms that a sequence adds
 pub length-sequences_of : (forms : List CoreForm) → length (sequences_of forms) ≤ length forms + 1
@@ -251,19 +251,19 @@ if_pushed P (Err e) mid new form last put to = tt
 -- a choice with a first form in front
 pub choice-first : (old mid new : Layout) (first : ℕ) (others : List ℕ) (rest number : ℕ) → 0 < length others
     → first < length old.forms
-    → Lays old (choices_in (map (form_at old.forms) others)) [] (any_of (map (form_at old.forms) others)) rest mid
+    → Appends old (choices_in (map (form_at old.forms) others)) [] (any_of (map (form_at old.forms) others)) rest mid
     → new ≡ pushed mid (Choice (form_at mid.forms first) (form_at mid.forms rest)) → number ≡ length mid.forms
-    → Lays old (choices_of (form_at old.forms first) (map (form_at old.forms) others)) []
+    → Appends old (choices_of (form_at old.forms first) (map (form_at old.forms) others)) []
     (one_of (form_at old.forms first) (map (form_at old.forms) others)) number new
 choice-first old mid new first others rest number some within so_far put last =
     let a = form_at old.forms first in
     let later = map (form_at old.forms) others in
     let is : Choice (form_at mid.forms first) (form_at mid.forms rest) ≡ Choice a (any_of later) = λ i. Choice (form_at-kept old mid (choices_in later) first so_far.forms within i) (so_far.last i) in
-    let one = Lays-one mid new (Choice a (any_of later)) number (put ∙ ap (pushed mid) is) last in
-    let both = Lays-then old mid new (choices_in later) (Choice a (any_of later) ∷ []) [] (any_of later) (Choice a (any_of later)) rest number so_far one in
+    let one = Appends-one mid new (Choice a (any_of later)) number (put ∙ ap (pushed mid) is) last in
+    let both = Appends-then old mid new (choices_in later) (Choice a (any_of later) ∷ []) [] (any_of later) (Choice a (any_of later)) rest number so_far one in
     let many : 0 < length later = omega (arith, length-map others (form_at old.forms)) in
-    subst (λ parts. Lays old parts [] (one_of a later) number new) (sym (choices_in-more a later many))
-    (subst (λ form. Lays old (choices_in later ++ Choice a (any_of later) ∷ []) [] form number new)
+    subst (λ parts. Appends old parts [] (one_of a later) number new) (sym (choices_in-more a later many))
+    (subst (λ form. Appends old (choices_in later ++ Choice a (any_of later) ∷ []) [] form number new)
     (sym (any_of-more a later many)) both)
 
 -- the tests of one more byte

@@ -2,7 +2,7 @@
 use Rattle.std.proofs.Common.{◌≡◌, ℕ, suc, ◌+◌, Bool, true, false, if◌then◌else◌, List, [], ◌∷◌, length, None, Some, option_map, unwrap_or, slice_get, bytes_eq, refl, sym, ap, ◌∙◌, zero-add, arith}
 use Rattle.std.proofs.lemmas.Option.{slice_get_past}
 use Rattle.peg_semantics.specs.Form.{terminals}
-use Rattle.peg_semantics.specs.Rules.{Rule, Meaning, meant_from, meant}
+use Rattle.peg_semantics.specs.Rules.{Rule, Meaning, meaning_from, meaning_of}
 use Rattle.peg_core.specs.CoreForm.{core_form, core_bodies_from, core_bodies, number_of}
 
 -- a name denotes the rule with this number after the first, and the core form of its body is at this index
@@ -10,19 +10,19 @@ abbrev StandsAt : List Rule → (rule terminal : ℕ) → List Rule → Meaning 
 StandsAt rules rule terminal some m =
     (i : ℕ) × (m.rule ≡ i + rule) × (slice_get (core_bodies_from rules terminal some) i ≡ Some (core_form rules m.terminal m.body))
 
-meant_from-stands : (rules : List Rule) (rule terminal : ℕ) (some : List Rule) (name : List ℕ) (m : Meaning)
-    → meant_from rule terminal some name ≡ Some m → StandsAt rules rule terminal some m
-meant_from-stands rules rule terminal [] name m is = cc
-meant_from-stands rules rule terminal (r ∷ rs) name m is =
-    by (bytes_eq name r.name) (meant_from-stands rules (rule + 1) (terminal + terminals r.body) rs name m) is
+meaning_from-stands : (rules : List Rule) (rule terminal : ℕ) (some : List Rule) (name : List ℕ) (m : Meaning)
+    → meaning_from rule terminal some name ≡ Some m → StandsAt rules rule terminal some m
+meaning_from-stands rules rule terminal [] name m is = cc
+meaning_from-stands rules rule terminal (r ∷ rs) name m is =
+    by (bytes_eq name r.name) (meaning_from-stands rules (rule + 1) (terminal + terminals r.body) rs name m) is
   where
     first : Meaning
     first = record { rule = rule; terminal = terminal; body = r.body }
 
     by : (b : Bool)
-        → (meant_from (rule + 1) (terminal + terminals r.body) rs name ≡ Some m
+        → (meaning_from (rule + 1) (terminal + terminals r.body) rs name ≡ Some m
         → StandsAt rules (rule + 1) (terminal + terminals r.body) rs m)
-        → (if b then Some first else meant_from (rule + 1) (terminal + terminals r.body) rs name) ≡ Some m
+        → (if b then Some first else meaning_from (rule + 1) (terminal + terminals r.body) rs name) ≡ Some m
         → StandsAt rules rule terminal (r ∷ rs) m
     by true later found =
         let same : first ≡ m = cc in (
@@ -44,20 +44,20 @@ pub length-core_bodies : (rules : List Rule) → length (core_bodies rules) ≡ 
 length-core_bodies rules = length-core_bodies_from rules 0 rules
 
 -- the number of a name that denotes a rule is the rule's
-pub number_of-meant : (rules : List Rule) (name : List ℕ) (m : Meaning) → meant rules name ≡ Some m
+pub number_of-meaning_of : (rules : List Rule) (name : List ℕ) (m : Meaning) → meaning_of rules name ≡ Some m
     → number_of rules name ≡ m.rule
-number_of-meant rules name m is = ap (λ o. unwrap_or (option_map (λ (m : Meaning). m.rule) o) (length rules)) is
+number_of-meaning_of rules name m is = ap (λ o. unwrap_or (option_map (λ (m : Meaning). m.rule) o) (length rules)) is
 
 -- and the core form of the rule's body is at this index
-pub body-meant : (rules : List Rule) (name : List ℕ) (m : Meaning) → meant rules name ≡ Some m
+pub body-meaning_of : (rules : List Rule) (name : List ℕ) (m : Meaning) → meaning_of rules name ≡ Some m
     → slice_get (core_bodies rules) (number_of rules name) ≡ Some (core_form rules m.terminal m.body)
-body-meant rules name m is =
-    let stands = meant_from-stands rules 0 0 rules name m is in
-    let number : number_of rules name ≡ stands.0 = number_of-meant rules name m is ∙ omega (arith, stands.1) in
+body-meaning_of rules name m is =
+    let stands = meaning_from-stands rules 0 0 rules name m is in
+    let number : number_of rules name ≡ stands.0 = number_of-meaning_of rules name m is ∙ omega (arith, stands.1) in
     ap (slice_get (core_bodies rules)) number ∙ stands.2
 
 -- a name that denotes no rule has the number of rules as its number
-pub body-unmeant : (rules : List Rule) (name : List ℕ) → meant rules name ≡ None
+pub body-unmeant : (rules : List Rule) (name : List ℕ) → meaning_of rules name ≡ None
     → slice_get (core_bodies rules) (number_of rules name) ≡ None
 body-unmeant rules name is =
     let number : number_of rules name ≡ length rules = ap (λ o. unwrap_or (option_map (λ (m : Meaning). m.rule) o) (length rules)) is in

@@ -3,7 +3,7 @@
 use Rattle.std.proofs.Common.{◌≡◌, ◌≢◌, ℕ, zero, suc, ◌+◌, Option, None, Some, refl, sym, ap, ◌∙◌, subst, option_map, option_and_then, append-nil, zero-add, suc-add, add_comm}
 use Rattle.peg_tree.specs.Trees.{Trees, NoTrees}
 use Rattle.peg_tree.specs.TreesCode.{followed_by-none}
-use Rattle.peg_semantics.specs.Record.{Recognition, Failed, Matched, Record, after_both, behind, followed, then_at, replaced, or_else, repeated, matched_at, if_matched, if_failed, with_result, take_times}
+use Rattle.peg_semantics.specs.Record.{Recognition, Failed, Matched, Record, after_both, prepend_trees, then_result, then_at, choice_result, or_else, star_result, matched_at, if_matched, if_failed, with_result, recognize_repeat}
 use Rattle.peg_semantics.proofs.RecordLemmas.{Extends}
 use Rattle.peg_semantics.proofs.ResultSteps.{rounds_cases, some_case}
 
@@ -74,34 +74,34 @@ module _ (p : Record) (f : ℕ → Option Record) (g : ℕ → ℕ → Option Re
       let meet = both_in_some f (λ n. g n end) p q grows also from (h q refl) in
       (meet.0, meet.1, ap (option_map F) meet.2 ∙ e)
 
-  followed-in_some : (x : Recognition) → p.result ≡ x → (next : ℕ → Option Record) (r : Record)
+  then_result-in_some : (x : Recognition) → p.result ≡ x → (next : ℕ → Option Record) (r : Record)
       → ((end : ℕ) → Grows (λ n. g n end)) → ((end : ℕ) → IsReached (next end) (λ n. g n end))
-      → followed x p next ≡ Some r → InSome (λ n. then_at (f n) (λ end. g n end)) r
-  followed-in_some Failed is next r also h e =
-      (from.0, ap (λ o. then_at o (λ end. g from.0 end)) from.1 ∙ (ap (λ x. followed x p (λ end. g from.0 end)) is ∙ e))
-  followed-in_some (Matched end trees) is next r also h e =
-      let F : Record → Record = λ more. after_both p more (behind trees more.result) in
+      → then_result x p next ≡ Some r → InSome (λ n. then_at (f n) (λ end. g n end)) r
+  then_result-in_some Failed is next r also h e =
+      (from.0, ap (λ o. then_at o (λ end. g from.0 end)) from.1 ∙ (ap (λ x. then_result x p (λ end. g from.0 end)) is ∙ e))
+  then_result-in_some (Matched end trees) is next r also h e =
+      let F : Record → Record = λ more. after_both p more (prepend_trees trees more.result) in
       let meet = after_match F end r (next end) (also end) (h end) e in (
         meet.0,
         ap (λ o. then_at o (λ end. g meet.0 end)) meet.1
-            ∙ (ap (λ x. followed x p (λ end. g meet.0 end)) is ∙ meet.2),
+            ∙ (ap (λ x. then_result x p (λ end. g meet.0 end)) is ∙ meet.2),
       )
 
-  repeated-in_some : (x : Recognition) → p.result ≡ x → (place : ℕ) (next : ℕ → Option Record) (r : Record)
+  star_result-in_some : (x : Recognition) → p.result ≡ x → (position : ℕ) (next : ℕ → Option Record) (r : Record)
       → ((end : ℕ) → Grows (λ n. g n end)) → ((end : ℕ) → IsReached (next end) (λ n. g n end))
-      → repeated x place p next ≡ Some r
-      → InSome (λ n. option_and_then (λ (round : Record). repeated round.result place round (λ end. g n end)) (f n)) r
-  repeated-in_some Failed is place next r also h e = (
+      → star_result x position p next ≡ Some r
+      → InSome (λ n. option_and_then (λ (round : Record). star_result round.result position round (λ end. g n end)) (f n)) r
+  star_result-in_some Failed is position next r also h e = (
     from.0,
-    ap (λ o. option_and_then (λ (round : Record). repeated round.result place round (λ end. g from.0 end)) o) from.1
-        ∙ (ap (λ x. repeated x place p (λ end. g from.0 end)) is ∙ e),
+    ap (λ o. option_and_then (λ (round : Record). star_result round.result position round (λ end. g from.0 end)) o) from.1
+        ∙ (ap (λ x. star_result x position p (λ end. g from.0 end)) is ∙ e),
   )
-  repeated-in_some (Matched end trees) is place next r also h e =
-      let F : Record → Record = λ more. after_both p more (behind trees more.result) in
+  star_result-in_some (Matched end trees) is position next r also h e =
+      let F : Record → Record = λ more. after_both p more (prepend_trees trees more.result) in
       let meet = after_match F end r (next end) (also end) (h end) e in (
         meet.0,
-        ap (λ o. option_and_then (λ (round : Record). repeated round.result place round (λ end. g meet.0 end)) o) meet.1
-            ∙ (ap (λ x. repeated x place p (λ end. g meet.0 end)) is ∙ meet.2),
+        ap (λ o. option_and_then (λ (round : Record). star_result round.result position round (λ end. g meet.0 end)) o) meet.1
+            ∙ (ap (λ x. star_result x position p (λ end. g meet.0 end)) is ∙ meet.2),
       )
 
 pub IsReached-then_at : (o : Option Record) (next : ℕ → Option Record) (f : ℕ → Option Record) (g : ℕ → ℕ → Option Record)
@@ -109,116 +109,116 @@ pub IsReached-then_at : (o : Option Record) (next : ℕ → Option Record) (f : 
     → IsReached (then_at o next) (λ n. then_at (f n) (λ end. g n end))
 IsReached-then_at None next f g grows also h k r e = cc
 IsReached-then_at (Some p) next f g grows also h k r e =
-    followed-in_some p f g grows (h p refl) p.result refl next r also k e
+    then_result-in_some p f g grows (h p refl) p.result refl next r also k e
 
-pub IsReached-rounds : (o : Option Record) (place : ℕ) (next : ℕ → Option Record) (f : ℕ → Option Record)
+pub IsReached-rounds : (o : Option Record) (position : ℕ) (next : ℕ → Option Record) (f : ℕ → Option Record)
     (g : ℕ → ℕ → Option Record) → Grows f → ((end : ℕ) → Grows (λ n. g n end)) → IsReached o f
     → ((end : ℕ) → IsReached (next end) (λ n. g n end))
-    → IsReached (option_and_then (λ (round : Record). repeated round.result place round next) o)
-    (λ n. option_and_then (λ (round : Record). repeated round.result place round (λ end. g n end)) (f n))
-IsReached-rounds None place next f g grows also h k r e = cc
-IsReached-rounds (Some p) place next f g grows also h k r e =
-    repeated-in_some p f g grows (h p refl) p.result refl place next r also k e
+    → IsReached (option_and_then (λ (round : Record). star_result round.result position round next) o)
+    (λ n. option_and_then (λ (round : Record). star_result round.result position round (λ end. g n end)) (f n))
+IsReached-rounds None position next f g grows also h k r e = cc
+IsReached-rounds (Some p) position next f g grows also h k r e =
+    star_result-in_some p f g grows (h p refl) p.result refl position next r also k e
 
 -- ---- one or else the other
 
-replaced-in_some : (p : Record) (x : Recognition) → p.result ≡ x → (other : Option Record) (f g : ℕ → Option Record)
-    (r : Record) → Grows f → Grows g → InSome f p → IsReached other g → replaced x p other ≡ Some r
+choice_result-in_some : (p : Record) (x : Recognition) → p.result ≡ x → (other : Option Record) (f g : ℕ → Option Record)
+    (r : Record) → Grows f → Grows g → InSome f p → IsReached other g → choice_result x p other ≡ Some r
     → InSome (λ n. or_else (f n) (g n)) r
-replaced-in_some p Failed is other f g r grows also from h e =
+choice_result-in_some p Failed is other f g r grows also from h e =
     let F : Record → Record = λ more. after_both p more more.result in
     let meet = after_match p f (λ n end. g n) grows from F 0 r other also h e in
-    (meet.0, ap (λ o. or_else o (g meet.0)) meet.1 ∙ (ap (λ x. replaced x p (g meet.0)) is ∙ meet.2))
-replaced-in_some p (Matched end trees) is other f g r grows also from h e =
-    (from.0, ap (λ o. or_else o (g from.0)) from.1 ∙ (ap (λ x. replaced x p (g from.0)) is ∙ e))
+    (meet.0, ap (λ o. or_else o (g meet.0)) meet.1 ∙ (ap (λ x. choice_result x p (g meet.0)) is ∙ meet.2))
+choice_result-in_some p (Matched end trees) is other f g r grows also from h e =
+    (from.0, ap (λ o. or_else o (g from.0)) from.1 ∙ (ap (λ x. choice_result x p (g from.0)) is ∙ e))
 
 pub IsReached-or_else : (o other : Option Record) (f g : ℕ → Option Record) → Grows f → Grows g → IsReached o f
     → IsReached other g → IsReached (or_else o other) (λ n. or_else (f n) (g n))
 IsReached-or_else None other f g grows also h k r e = cc
 IsReached-or_else (Some p) other f g grows also h k r e =
-    replaced-in_some p p.result refl other f g r grows also (h p refl) k e
+    choice_result-in_some p p.result refl other f g r grows also (h p refl) k e
 
 -- ---- combinators with the empty expression
 
 -- a part and then nothing is the part
-behind-matched_at : (p : Record) (x : Recognition) → p.result ≡ x
-    → followed x p (λ end. Some (matched_at end)) ≡ Some p
-behind-matched_at p Failed is = refl
-behind-matched_at p (Matched end trees) is =
+prepend_trees-matched_at : (p : Record) (x : Recognition) → p.result ≡ x
+    → then_result x p (λ end. Some (matched_at end)) ≡ Some p
+prepend_trees-matched_at p Failed is = refl
+prepend_trees-matched_at p (Matched end trees) is =
     λ i. Some (record {
       result = ((λ j. Matched end (followed_by-none trees j)) ∙ sym is) i;
       tests = append-nil p.tests i;
-      uses = append-nil p.uses i;
+      calls = append-nil p.calls i;
     })
 
 pub then_at-nothing : (o : Option Record) → then_at o (λ end. Some (matched_at end)) ≡ o
 then_at-nothing None = refl
-then_at-nothing (Some p) = behind-matched_at p p.result refl
+then_at-nothing (Some p) = prepend_trees-matched_at p p.result refl
 
 -- nothing and then a part is the part
-behind-none : (x : Recognition) → behind NoTrees x ≡ x
+behind-none : (x : Recognition) → prepend_trees NoTrees x ≡ x
 behind-none Failed = refl
 behind-none (Matched end trees) = refl
 
-pub after_both-nothing : (end : ℕ) (p : Record) → after_both (matched_at end) p (behind NoTrees p.result) ≡ p
-after_both-nothing end p = λ i. record { result = behind-none p.result i; tests = p.tests; uses = p.uses }
+pub after_both-nothing : (end : ℕ) (p : Record) → after_both (matched_at end) p (prepend_trees NoTrees p.result) ≡ p
+after_both-nothing end p = λ i. record { result = behind-none p.result i; tests = p.tests; calls = p.calls }
 
 -- ---- a part at most n times is the part and the rest, or else nothing
 
 -- a match after another is a match
-behind-matches : (trees : Trees) (x : Recognition) → x ≢ Failed → behind trees x ≢ Failed
-behind-matches trees Failed matches is = matches refl
-behind-matches trees (Matched end more) matches is = cc
+prepend_trees-matches : (trees : Trees) (x : Recognition) → x ≢ Failed → prepend_trees trees x ≢ Failed
+prepend_trees-matches trees Failed matches is = matches refl
+prepend_trees-matches trees (Matched end more) matches is = cc
 
 -- a part at most n times never fails
-times-match : (take : ℕ → Option Record) (max place : ℕ) (r : Record) → take_times take zero max place ≡ Some r
+times-match : (take : ℕ → Option Record) (max position : ℕ) (r : Record) → recognize_repeat take zero max position ≡ Some r
     → r.result ≢ Failed
-times-match take zero place r is = some_case (λ x. x ≢ Failed) (matched_at place) r (λ bad. cc) is
-times-match take (suc max) place r is =
-    rounds_cases (λ x. x ≢ Failed) (take place) place (λ end. take_times take zero max end) r (λ part e f bad. cc)
-    (λ part more end trees e f g. behind-matches trees more.result (times-match take max end more g)) is
+times-match take zero position r is = some_case (λ x. x ≢ Failed) (matched_at position) r (λ bad. cc) is
+times-match take (suc max) position r is =
+    rounds_cases (λ x. x ≢ Failed) (take position) position (λ end. recognize_repeat take zero max end) r (λ part e f bad. cc)
+    (λ part more end trees e f g. prepend_trees-matches trees more.result (times-match take max end more g)) is
 
 -- so an iteration that matched is kept
-round-stands : (x : Recognition) → x ≢ Failed → (r : Record) (other : Option Record) → replaced x r other ≡ Some r
+round-stands : (x : Recognition) → x ≢ Failed → (r : Record) (other : Option Record) → choice_result x r other ≡ Some r
 round-stands Failed matches r other = absurd (matches refl)
 round-stands (Matched end trees) matches r other = refl
 
-pub rounds-times : (take : ℕ → Option Record) (max place : ℕ) (tried : Option Record)
-    → option_and_then (λ (round : Record). repeated round.result place round (λ end. take_times take zero max end)) tried
-    ≡ or_else (then_at tried (λ end. take_times take zero max end)) (Some (matched_at place))
-rounds-times take max place None = refl
-rounds-times take max place (Some round) = by round.result refl
+pub rounds-times : (take : ℕ → Option Record) (max position : ℕ) (tried : Option Record)
+    → option_and_then (λ (round : Record). star_result round.result position round (λ end. recognize_repeat take zero max end)) tried
+    ≡ or_else (then_at tried (λ end. recognize_repeat take zero max end)) (Some (matched_at position))
+rounds-times take max position None = refl
+rounds-times take max position (Some round) = by round.result refl
   where
     next : ℕ → Option Record
-    next end = take_times take zero max end
+    next end = recognize_repeat take zero max end
 
     matched : (end : ℕ) (trees : Trees) (o : Option Record) → next end ≡ o
-        → option_map (λ more. after_both round more (behind trees more.result)) o
-        ≡ or_else (option_map (λ more. after_both round more (behind trees more.result)) o) (Some (matched_at place))
+        → option_map (λ more. after_both round more (prepend_trees trees more.result)) o
+        ≡ or_else (option_map (λ more. after_both round more (prepend_trees trees more.result)) o) (Some (matched_at position))
     matched end trees None is = refl
     matched end trees (Some more) is =
-        let both = after_both round more (behind trees more.result) in
+        let both = after_both round more (prepend_trees trees more.result) in
         sym
-        (round-stands both.result (behind-matches trees more.result (times-match take max end more is)) both
-        (Some (matched_at place)))
+        (round-stands both.result (prepend_trees-matches trees more.result (times-match take max end more is)) both
+        (Some (matched_at position)))
 
     by : (x : Recognition) → round.result ≡ x
-        → repeated x place round next ≡ or_else (followed x round next) (Some (matched_at place))
-    by Failed is = ap (λ x. replaced x round (Some (matched_at place))) (sym is)
+        → star_result x position round next ≡ or_else (then_result x round next) (Some (matched_at position))
+    by Failed is = ap (λ x. choice_result x round (Some (matched_at position))) (sym is)
     by (Matched end trees) is = matched end trees (next end) refl
 
 -- the predicate of a predicate
 abbrev pub unless : ℕ → Record → Record
-unless place r = with_result r (if_failed r.result place)
+unless position r = with_result r (if_failed r.result position)
 
 abbrev pub provided : ℕ → Record → Record
-provided place r = with_result r (if_matched r.result place)
+provided position r = with_result r (if_matched r.result position)
 
-unless-result : (place : ℕ) (x : Recognition) → if_failed (if_failed x place) place ≡ if_matched x place
-unless-result place Failed = refl
-unless-result place (Matched end trees) = refl
+unless-result : (position : ℕ) (x : Recognition) → if_failed (if_failed x position) position ≡ if_matched x position
+unless-result position Failed = refl
+unless-result position (Matched end trees) = refl
 
-pub unless-unless : (place : ℕ) (o : Option Record)
-    → option_map (unless place) (option_map (unless place) o) ≡ option_map (provided place) o
-unless-unless place None = refl
-unless-unless place (Some r) = λ i. Some (with_result r (unless-result place r.result i))
+pub unless-unless : (position : ℕ) (o : Option Record)
+    → option_map (unless position) (option_map (unless position) o) ≡ option_map (provided position) o
+unless-unless position None = refl
+unless-unless position (Some r) = λ i. Some (with_result r (unless-result position r.result i))

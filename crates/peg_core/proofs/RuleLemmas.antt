@@ -6,14 +6,14 @@ use Rattle.std.proofs.lemmas.List.Elements.{All-nil, All-push}
 use Rattle.std.proofs.lemmas.List.Sums.{sum_by-cons}
 use Rattle.peg_semantics.specs.Form.{Form, Reference, counts_written, terminals, form_weight}
 use Rattle.peg_semantics.specs.Grammar.{IsGrammar, is_in_range}
-use Rattle.peg_semantics.specs.Rules.{Rule, counts, uses, is_defined, weight_of}
+use Rattle.peg_semantics.specs.Rules.{Rule, counts, references, is_defined, weight_of}
 use Rattle.peg_semantics.specs.Terminals.{terminal_extents, extents_of_terminals}
 use Rattle.peg_semantics.proofs.GrammarLemmas.{searches_from_IsGrammar}
 use Rattle.peg_core.specs.CoreForm.{core_form, core_bodies_from, core_bodies}
 use Rattle.peg_core.specs.CoreParts.{core_parts, core_parts_from, all_core_parts, are_defined, are_in_range}
-use Rattle.peg_core.specs.Laid.{LaysForm}
+use Rattle.peg_core.specs.Appending.{AppendsForm}
 use Rattle.peg_core.specs.Layout.{Layout, form_at, max_forms_each}
-use Rattle.peg_core.proofs.AddLemmas.{LaysForm-spans, length-core_parts, are_in_range-left, are_in_range-right}
+use Rattle.peg_core.proofs.AddLemmas.{AppendsForm-spans, length-core_parts, are_in_range-left, are_in_range-right}
 use Rattle.peg_core.proofs.LaidLemmas.{forms-kept, all_within-grown}
 
 -- the weight of the rules' expressions
@@ -43,9 +43,9 @@ all_pass {X} p (r ∷ rs) none = by (p r) refl none (all_pass p rs)
     by false is none later = cc
 
 -- a grammar defines all names that it uses
-pub grammar-defined : (rules : List Rule) → IsGrammar rules → are_defined rules (uses rules) ≡ true
+pub grammar-defined : (rules : List Rule) → IsGrammar rules → are_defined rules (references rules) ≡ true
 grammar-defined rules grammar =
-    all_pass (λ (r : Reference). is_defined rules r.name) (uses rules) (searches_from_IsGrammar rules grammar).2
+    all_pass (λ (r : Reference). is_defined rules r.name) (references rules) (searches_from_IsGrammar rules grammar).2
 
 -- and its counts are in range
 pub grammar-ranged : (rules : List Rule) → IsGrammar rules → are_in_range (counts rules) ≡ true
@@ -87,13 +87,13 @@ module _ (rules : List Rule) where
       }
 
   pub RulesSoFar-more : (rule : Rule) (rest : List Rule) (bodies : List ℕ) (now new : Layout) (body : ℕ)
-      → RulesSoFar (rule ∷ rest) bodies now → LaysForm rules rule.body now body new
+      → RulesSoFar (rule ∷ rest) bodies now → AppendsForm rules rule.body now body new
       → RulesSoFar rest (bodies ++ body ∷ []) new
   RulesSoFar-more rule rest bodies now new body so_far lays =
       let e = rule.body in
       let t = length now.spans in
       let next = t + terminals e in
-      let counted : length new.spans ≡ next = LaysForm-spans rules e now new body lays in
+      let counted : length new.spans ≡ next = AppendsForm-spans rules e now new body lays in
       record {
         forms =
             ap (λ n. new.forms ++ core_parts_from rules n rest) counted

@@ -6,11 +6,11 @@ use Rattle.std.proofs.lemmas.List.Elements.{All-push, All-weaker}
 use Rattle.peg_bytes.specs.declared.byte_set.ByteSet.{ByteSet}
 use Rattle.peg_core.specs.Slots.{AddsSets, IsPacked, ItemFits, SlotFits, unpacked, unpacked_item, unpacked_slot}
 use Rattle.peg_core.specs.declared.node.Node.TheVariants.{Test}
-use Rattle.peg_core.specs.declared.node.NodeAndOrigin.{NodeAndOrigin}
+use Rattle.peg_core.specs.declared.node.Entry.{Entry}
 use Rattle.peg_core.specs.declared.packed.Slot.{Slot}
 use Rattle.peg_core.specs.declared.packed.Slot.TheVariants as slot
-use Rattle.peg_core.specs.declared.packed.SlotAndOrigin.{SlotAndOrigin}
-use Rattle.peg_core.specs.declared.packed.Nodes.TheInside.{Inside}
+use Rattle.peg_core.specs.declared.packed.PackedEntry.{PackedEntry}
+use Rattle.peg_core.specs.declared.packed.PackedNodes.TheInside.{Inside}
 
 -- ---- more sets are appended
 
@@ -25,12 +25,12 @@ slot-more sets more (slot.Choice first rest) fits = refl
 slot-more sets more (slot.Star part) fits = refl
 slot-more sets more (slot.Not part) fits = refl
 
-item-more : (sets more : List ByteSet) (item : SlotAndOrigin) → ItemFits (length sets) item
+item-more : (sets more : List ByteSet) (item : PackedEntry) → ItemFits (length sets) item
     → unpacked_item (sets ++ more) item ≡ unpacked_item sets item
 item-more sets more item fits =
     λ i. record { node = slot-more sets more item.slot fits i; origin = item.origin }
 
-unpacked-more : (sets more : List ByteSet) (items : List SlotAndOrigin) → All (ItemFits (length sets)) items
+unpacked-more : (sets more : List ByteSet) (items : List PackedEntry) → All (ItemFits (length sets)) items
     → unpacked (sets ++ more) items ≡ unpacked sets items
 unpacked-more sets more [] fit = refl
 unpacked-more sets more (item ∷ items) fit =
@@ -49,28 +49,28 @@ fits-more count now more (slot.Not part) fits = tt
 
 -- ---- one more node
 
-module _ (old new : Inside) (item : SlotAndOrigin) (is : IsPacked old) (adds : AddsSets old.sets.items new.sets.items)
+module _ (old new : Inside) (item : PackedEntry) (is : IsPacked old) (adds : AddsSets old.sets.items new.sets.items)
     (put : new.slots.items ≡ old.slots.items ++ item ∷ []) where
   longer : length new.sets.items ≡ length old.sets.items + length adds.more
   longer = ap length adds.added ∙ length-append old.sets.items adds.more
 
   pub IsPacked-push : ItemFits (length new.sets.items) item → IsPacked new
   IsPacked-push fits =
-      let Was : SlotAndOrigin → Type 0 = ItemFits (length old.sets.items) in
-      let P : SlotAndOrigin → Type 0 = ItemFits (length new.sets.items) in
+      let Was : PackedEntry → Type 0 = ItemFits (length old.sets.items) in
+      let P : PackedEntry → Type 0 = ItemFits (length new.sets.items) in
       let more : length old.sets.items ≤ length new.sets.items = omega (arith, longer) in
-      let wider = λ (i : SlotAndOrigin). fits-more (length old.sets.items) (length new.sets.items) more i.slot in
+      let wider = λ (i : PackedEntry). fits-more (length old.sets.items) (length new.sets.items) more i.slot in
       let kept : All P old.slots.items = All-weaker Was P wider old.slots.items is.fit in
       record {
         fit = subst (All P) (sym put) (All-push P old.slots.items item kept fits);
         few = omega (arith, longer, adds.few, is.few, ap length put, length-append old.slots.items (item ∷ []));
       }
 
-  pub unpacked-push : (next : NodeAndOrigin) → unpacked_item new.sets.items item ≡ next
+  pub unpacked-push : (next : Entry) → unpacked_item new.sets.items item ≡ next
       → unpacked new.sets.items new.slots.items ≡ unpacked old.sets.items old.slots.items ++ next ∷ []
   unpacked-push next holds =
       let same = unpacked-more old.sets.items adds.more old.slots.items is.fit in
       ap (unpacked new.sets.items) put
       ∙ (map-append (unpacked_item new.sets.items) old.slots.items (item ∷ [])
       ∙ ((λ j. unpacked (adds.added j) old.slots.items ++ holds j ∷ [])
-      ∙ ap (λ (nodes : List NodeAndOrigin). nodes ++ next ∷ []) same))
+      ∙ ap (λ (nodes : List Entry). nodes ++ next ∷ []) same))

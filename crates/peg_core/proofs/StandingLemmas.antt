@@ -5,10 +5,10 @@ use Rattle.peg_semantics.specs.Form.{Form, Forms, End, Then, terminals}
 use Rattle.peg_semantics.specs.Form as written
 use Rattle.peg_semantics.specs.Rules.{Rule as WrittenRule}
 use Rattle.peg_core.specs.CoreForm.{CoreForm, Empty, Test, Rule, Seq, Choice, Star, Not, in_order, all_in_order, one_of, tests_of, unfolded, count_form, core_form, core_forms, core_bodies, core_bodies_from}
-use Rattle.peg_core.specs.CoreLoops.{StandsIn, StandsInBody}
+use Rattle.peg_core.specs.CoreLoops.{IsSubformOf, IsSubformOfBody}
 use Rattle.peg_core.specs.CoreParts.{sequences_from, sequences_of, choices_of, rounds_of, count_forms, core_parts, core_parts_of_all, core_parts_from, all_core_parts}
 
-pub stands-itself : (form : CoreForm) → StandsIn form form
+pub stands-itself : (form : CoreForm) → IsSubformOf form form
 stands-itself Empty = refl
 stands-itself (Test set terminal) = refl
 stands-itself (Rule rule) = refl
@@ -20,7 +20,7 @@ stands-itself (Not part) = inl refl
 -- a form is part of one of these
 abbrev StandsInAny : List CoreForm → CoreForm → Type 0
 StandsInAny [] form = ⊥
-StandsInAny (whole ∷ more) form = StandsIn form whole ⊎ StandsInAny more form
+StandsInAny (whole ∷ more) form = IsSubformOf form whole ⊎ StandsInAny more form
 
 -- one form alone
 one-stands : (P : CoreForm → Type 0) (form : CoreForm) → P form → All P (form ∷ [])
@@ -35,82 +35,82 @@ each-stands (form ∷ more) =
 -- ---- in sequences and choices
 
 in-order : (first : CoreForm) (rest : List CoreForm) (form : CoreForm) → StandsInAny (first ∷ rest) form
-    → StandsIn form (in_order first rest)
+    → IsSubformOf form (in_order first rest)
 in-order first [] form (inl here) = here
 in-order first [] form (inr none) = absurd none
 in-order first (next ∷ rest) form (inl here) = inr (inl here)
 in-order first (next ∷ rest) form (inr later) = inr (inr (in-order next rest form later))
 
-in-all_in_order : (forms : List CoreForm) (form : CoreForm) → StandsInAny forms form → StandsIn form (all_in_order forms)
+in-all_in_order : (forms : List CoreForm) (form : CoreForm) → StandsInAny forms form → IsSubformOf form (all_in_order forms)
 in-all_in_order [] form none = absurd none
 in-all_in_order (first ∷ rest) form any = in-order first rest form any
 
 in-one_of : (first : CoreForm) (rest : List CoreForm) (form : CoreForm) → StandsInAny (first ∷ rest) form
-    → StandsIn form (one_of first rest)
+    → IsSubformOf form (one_of first rest)
 in-one_of first [] form (inl here) = here
 in-one_of first [] form (inr none) = absurd none
 in-one_of first (next ∷ rest) form (inl here) = inr (inl here)
 in-one_of first (next ∷ rest) form (inr later) = inr (inr (in-one_of next rest form later))
 
 sequences_from-stand : (first : CoreForm) (rest : List CoreForm)
-    → All (λ form. StandsIn form (in_order first rest)) (sequences_from first rest)
-sequences_from-stand first [] = All-nil (λ form. StandsIn form first)
+    → All (λ form. IsSubformOf form (in_order first rest)) (sequences_from first rest)
+sequences_from-stand first [] = All-nil (λ form. IsSubformOf form first)
 sequences_from-stand first (next ∷ rest) =
-    let P = λ (form : CoreForm). StandsIn form (in_order first (next ∷ rest)) in
+    let P = λ (form : CoreForm). IsSubformOf form (in_order first (next ∷ rest)) in
     All-append P (sequences_from next rest) (in_order first (next ∷ rest) ∷ [])
-    (All-weaker (λ form. StandsIn form (in_order next rest)) P (λ form h. inr (inr h)) (sequences_from next rest) (sequences_from-stand next rest))
+    (All-weaker (λ form. IsSubformOf form (in_order next rest)) P (λ form h. inr (inr h)) (sequences_from next rest) (sequences_from-stand next rest))
     (one-stands P (in_order first (next ∷ rest)) (inl refl))
 
-sequences_of-stand : (forms : List CoreForm) → All (λ form. StandsIn form (all_in_order forms)) (sequences_of forms)
-sequences_of-stand [] = one-stands (λ form. StandsIn form Empty) Empty refl
+sequences_of-stand : (forms : List CoreForm) → All (λ form. IsSubformOf form (all_in_order forms)) (sequences_of forms)
+sequences_of-stand [] = one-stands (λ form. IsSubformOf form Empty) Empty refl
 sequences_of-stand (first ∷ rest) = sequences_from-stand first rest
 
 choices_of-stand : (first : CoreForm) (rest : List CoreForm)
-    → All (λ form. StandsIn form (one_of first rest)) (choices_of first rest)
-choices_of-stand first [] = All-nil (λ form. StandsIn form first)
+    → All (λ form. IsSubformOf form (one_of first rest)) (choices_of first rest)
+choices_of-stand first [] = All-nil (λ form. IsSubformOf form first)
 choices_of-stand first (next ∷ rest) =
-    let P = λ (form : CoreForm). StandsIn form (one_of first (next ∷ rest)) in
+    let P = λ (form : CoreForm). IsSubformOf form (one_of first (next ∷ rest)) in
     All-append P (choices_of next rest) (one_of first (next ∷ rest) ∷ [])
-    (All-weaker (λ form. StandsIn form (one_of next rest)) P (λ form h. inr (inr h)) (choices_of next rest) (choices_of-stand next rest))
+    (All-weaker (λ form. IsSubformOf form (one_of next rest)) P (λ form h. inr (inr h)) (choices_of next rest) (choices_of-stand next rest))
     (one-stands P (one_of first (next ∷ rest)) (inl refl))
 
 -- ---- in counts
 
-in-count : (part : CoreForm) (min max : ℕ) (form : CoreForm) → StandsIn form part → StandsIn form (count_form part min max)
+in-count : (part : CoreForm) (min max : ℕ) (form : CoreForm) → IsSubformOf form part → IsSubformOf form (count_form part min max)
 in-count part min zero form h = inr (inr h)
 in-count part zero (suc max) form h = inr (inl (inr (inl h)))
 in-count part (suc min) (suc max) form h = inr (inl h)
 
-empty-in : (part : CoreForm) (min max : ℕ) → StandsIn Empty (unfolded part min max)
+empty-in : (part : CoreForm) (min max : ℕ) → IsSubformOf Empty (unfolded part min max)
 empty-in part min zero = refl
 empty-in part zero (suc max) = inr (inr refl)
 empty-in part (suc min) (suc max) = inr (inr (empty-in part min max))
 
 rounds_of-stand : (part : CoreForm) (min max : ℕ)
-    → All (λ form. StandsIn form (unfolded part min max)) (rounds_of part min max)
-rounds_of-stand part min zero = All-nil (λ form. StandsIn form Empty)
+    → All (λ form. IsSubformOf form (unfolded part min max)) (rounds_of part min max)
+rounds_of-stand part min zero = All-nil (λ form. IsSubformOf form Empty)
 rounds_of-stand part zero (suc max) =
     let inner = unfolded part zero max in
     let whole = unfolded part zero (suc max) in
-    let P = λ (form : CoreForm). StandsIn form whole in
+    let P = λ (form : CoreForm). IsSubformOf form whole in
     All-append P (rounds_of part zero max) (Seq part inner ∷ whole ∷ [])
-    (All-weaker (λ form. StandsIn form inner) P (λ form h. inr (inl (inr (inr h)))) (rounds_of part zero max) (rounds_of-stand part zero max))
+    (All-weaker (λ form. IsSubformOf form inner) P (λ form h. inr (inl (inr (inr h)))) (rounds_of part zero max) (rounds_of-stand part zero max))
     (All-cons P (Seq part inner) (whole ∷ []) (inr (inl (inl refl))) (one-stands P whole (inl refl)))
 rounds_of-stand part (suc min) (suc max) =
     let inner = unfolded part min max in
     let whole = unfolded part (suc min) (suc max) in
-    let P = λ (form : CoreForm). StandsIn form whole in
+    let P = λ (form : CoreForm). IsSubformOf form whole in
     All-append P (rounds_of part min max) (whole ∷ [])
-    (All-weaker (λ form. StandsIn form inner) P (λ form h. inr (inr h)) (rounds_of part min max) (rounds_of-stand part min max))
+    (All-weaker (λ form. IsSubformOf form inner) P (λ form h. inr (inr h)) (rounds_of part min max) (rounds_of-stand part min max))
     (one-stands P whole (inl refl))
 
 count_forms-stand : (part : CoreForm) (min max : ℕ)
-    → All (λ form. StandsIn form (count_form part min max)) (count_forms part min max)
+    → All (λ form. IsSubformOf form (count_form part min max)) (count_forms part min max)
 count_forms-stand part min zero =
-    let P = λ (form : CoreForm). StandsIn form (Choice Empty part) in
+    let P = λ (form : CoreForm). IsSubformOf form (Choice Empty part) in
     All-cons P Empty (Choice Empty part ∷ []) (inr (inl refl)) (one-stands P (Choice Empty part) (inl refl))
 count_forms-stand part min (suc max) =
-    All-cons (λ form. StandsIn form (unfolded part min (suc max))) Empty (rounds_of part min (suc max))
+    All-cons (λ form. IsSubformOf form (unfolded part min (suc max))) Empty (rounds_of part min (suc max))
     (empty-in part min (suc max)) (rounds_of-stand part min (suc max))
 
 -- ---- of an expression, and of all rules
@@ -118,74 +118,74 @@ count_forms-stand part min (suc max) =
 module _ (rules : List WrittenRule) where
   mutual
     pub parts-stand : (terminal : ℕ) (e : Form)
-        → All (λ form. StandsIn form (core_form rules terminal e)) (core_parts rules terminal e)
+        → All (λ form. IsSubformOf form (core_form rules terminal e)) (core_parts rules terminal e)
     parts-stand terminal (written.Literal bytes span) =
         let tests = tests_of terminal bytes in
-        let P = λ (form : CoreForm). StandsIn form (all_in_order tests) in
+        let P = λ (form : CoreForm). IsSubformOf form (all_in_order tests) in
         All-append P tests (sequences_of tests)
         (All-weaker (StandsInAny tests) P (in-all_in_order tests) tests (each-stands tests)) (sequences_of-stand tests)
     parts-stand terminal (written.Class set span) =
-        one-stands (λ form. StandsIn form (core_form rules terminal (written.Class set span)))
+        one-stands (λ form. IsSubformOf form (core_form rules terminal (written.Class set span)))
         (core_form rules terminal (written.Class set span)) refl
     parts-stand terminal (written.Any span) =
-        one-stands (λ form. StandsIn form (core_form rules terminal (written.Any span)))
+        one-stands (λ form. IsSubformOf form (core_form rules terminal (written.Any span)))
         (core_form rules terminal (written.Any span)) refl
     parts-stand terminal (written.Name name span) =
-        one-stands (λ form. StandsIn form (core_form rules terminal (written.Name name span)))
+        one-stands (λ form. IsSubformOf form (core_form rules terminal (written.Name name span)))
         (core_form rules terminal (written.Name name span)) refl
     parts-stand terminal (written.Seq items span) =
         let forms = core_forms rules terminal items in
-        let P = λ (form : CoreForm). StandsIn form (all_in_order forms) in
+        let P = λ (form : CoreForm). IsSubformOf form (all_in_order forms) in
         All-append P (core_parts_of_all rules terminal items) (sequences_of forms)
         (All-weaker (StandsInAny forms) P (in-all_in_order forms) (core_parts_of_all rules terminal items) (all-parts-stand terminal items))
         (sequences_of-stand forms)
     parts-stand terminal (written.Choice first rest span) =
         let one = core_form rules terminal first in
         let others = core_forms rules (terminal + terminals first) rest in
-        let P = λ (form : CoreForm). StandsIn form (one_of one others) in
+        let P = λ (form : CoreForm). IsSubformOf form (one_of one others) in
         All-append P (core_parts rules terminal first ++ core_parts_of_all rules (terminal + terminals first) rest)
         (choices_of one others)
         (All-append P (core_parts rules terminal first) (core_parts_of_all rules (terminal + terminals first) rest)
-        (All-weaker (λ form. StandsIn form one) P (λ form h. in-one_of one others form (inl h)) (core_parts rules terminal first) (parts-stand terminal first))
+        (All-weaker (λ form. IsSubformOf form one) P (λ form h. in-one_of one others form (inl h)) (core_parts rules terminal first) (parts-stand terminal first))
         (All-weaker (StandsInAny others) P (λ form h. in-one_of one others form (inr h)) (core_parts_of_all rules (terminal + terminals first) rest) (all-parts-stand (terminal + terminals first) rest)))
         (choices_of-stand one others)
     parts-stand terminal (written.Optional part span) =
         let one = core_form rules terminal part in
-        let P = λ (form : CoreForm). StandsIn form (Choice one Empty) in
+        let P = λ (form : CoreForm). IsSubformOf form (Choice one Empty) in
         All-append P (core_parts rules terminal part) (Empty ∷ Choice one Empty ∷ [])
-        (All-weaker (λ form. StandsIn form one) P (λ form h. inr (inl h)) (core_parts rules terminal part) (parts-stand terminal part))
+        (All-weaker (λ form. IsSubformOf form one) P (λ form h. inr (inl h)) (core_parts rules terminal part) (parts-stand terminal part))
         (All-cons P Empty (Choice one Empty ∷ []) (inr (inr refl)) (one-stands P (Choice one Empty) (inl refl)))
     parts-stand terminal (written.Star part span) =
         let one = core_form rules terminal part in
         let whole = core_form rules terminal (written.Star part span) in
-        let P = λ (form : CoreForm). StandsIn form whole in
+        let P = λ (form : CoreForm). IsSubformOf form whole in
         All-append P (core_parts rules terminal part) (whole ∷ [])
-        (All-weaker (λ form. StandsIn form one) P (λ form h. inr h) (core_parts rules terminal part) (parts-stand terminal part))
+        (All-weaker (λ form. IsSubformOf form one) P (λ form h. inr h) (core_parts rules terminal part) (parts-stand terminal part))
         (one-stands P whole (inl refl))
     parts-stand terminal (written.Plus part span) =
         let one = core_form rules terminal part in
         let again = core_form rules terminal (written.Star part span) in
-        let P = λ (form : CoreForm). StandsIn form (Seq one again) in
+        let P = λ (form : CoreForm). IsSubformOf form (Seq one again) in
         All-append P (core_parts rules terminal part) (again ∷ Seq one again ∷ [])
-        (All-weaker (λ form. StandsIn form one) P (λ form h. inr (inl h)) (core_parts rules terminal part) (parts-stand terminal part))
+        (All-weaker (λ form. IsSubformOf form one) P (λ form h. inr (inl h)) (core_parts rules terminal part) (parts-stand terminal part))
         (All-cons P again (Seq one again ∷ []) (inr (inr (inl refl))) (one-stands P (Seq one again) (inl refl)))
     parts-stand terminal (written.Counted part min max span) =
         let one = core_form rules terminal part in
-        let P = λ (form : CoreForm). StandsIn form (count_form one min max) in
+        let P = λ (form : CoreForm). IsSubformOf form (count_form one min max) in
         All-append P (core_parts rules terminal part) (count_forms one min max)
-        (All-weaker (λ form. StandsIn form one) P (λ form h. in-count one min max form h) (core_parts rules terminal part) (parts-stand terminal part))
+        (All-weaker (λ form. IsSubformOf form one) P (λ form h. in-count one min max form h) (core_parts rules terminal part) (parts-stand terminal part))
         (count_forms-stand one min max)
     parts-stand terminal (written.And part span) =
         let one = core_form rules terminal part in
-        let P = λ (form : CoreForm). StandsIn form (Not (Not one)) in
+        let P = λ (form : CoreForm). IsSubformOf form (Not (Not one)) in
         All-append P (core_parts rules terminal part) (Not one ∷ Not (Not one) ∷ [])
-        (All-weaker (λ form. StandsIn form one) P (λ form h. inr (inr h)) (core_parts rules terminal part) (parts-stand terminal part))
+        (All-weaker (λ form. IsSubformOf form one) P (λ form h. inr (inr h)) (core_parts rules terminal part) (parts-stand terminal part))
         (All-cons P (Not one) (Not (Not one) ∷ []) (inr (inl refl)) (one-stands P (Not (Not one)) (inl refl)))
     parts-stand terminal (written.Not part span) =
         let one = core_form rules terminal part in
-        let P = λ (form : CoreForm). StandsIn form (Not one) in
+        let P = λ (form : CoreForm). IsSubformOf form (Not one) in
         All-append P (core_parts rules terminal part) (Not one ∷ [])
-        (All-weaker (λ form. StandsIn form one) P (λ form h. inr h) (core_parts rules terminal part) (parts-stand terminal part))
+        (All-weaker (λ form. IsSubformOf form one) P (λ form h. inr h) (core_parts rules terminal part) (parts-stand terminal part))
         (one-stands P (Not one) (inl refl))
 
     all-parts-stand : (terminal : ℕ) (items : Forms)
@@ -196,7 +196,7 @@ module _ (rules : List WrittenRule) where
         let others = core_forms rules (terminal + terminals e) rest in
         let P = StandsInAny (one ∷ others) in
         All-append P (core_parts rules terminal e) (core_parts_of_all rules (terminal + terminals e) rest)
-        (All-weaker (λ form. StandsIn form one) P (λ form h. inl h) (core_parts rules terminal e) (parts-stand terminal e))
+        (All-weaker (λ form. IsSubformOf form one) P (λ form h. inl h) (core_parts rules terminal e) (parts-stand terminal e))
         (All-weaker (StandsInAny others) P (λ form h. inr h) (core_parts_of_all rules (terminal + terminals e) rest) (all-parts-stand (terminal + terminals e) rest))
 
   rules-stand : (terminal : ℕ) (some : List WrittenRule)
@@ -207,16 +207,16 @@ module _ (rules : List WrittenRule) where
       let others = core_bodies_from rules next more in
       let P = StandsInAny (core_form rules terminal rule.body ∷ others) in
       All-append P (core_parts rules terminal rule.body) (core_parts_from rules next more)
-      (All-weaker (λ form. StandsIn form (core_form rules terminal rule.body)) P (λ form h. inl h) (core_parts rules terminal rule.body) (parts-stand terminal rule.body))
+      (All-weaker (λ form. IsSubformOf form (core_form rules terminal rule.body)) P (λ form h. inl h) (core_parts rules terminal rule.body) (parts-stand terminal rule.body))
       (All-weaker (StandsInAny others) P (λ form h. inr h) (core_parts_from rules next more) (rules-stand next more))
 
 -- by the number of the rule
-numbered : (bodies : List CoreForm) (form : CoreForm) → StandsInAny bodies form → StandsInBody bodies form
+numbered : (bodies : List CoreForm) (form : CoreForm) → StandsInAny bodies form → IsSubformOfBody bodies form
 numbered [] form none = absurd none
 numbered (body ∷ more) form (inl here) = (0, here)
 numbered (body ∷ more) form (inr later) = let rest = numbered more form later in (suc rest.0, rest.1)
 
-pub all-stand : (rules : List WrittenRule) → All (StandsInBody (core_bodies rules)) (all_core_parts rules)
+pub all-stand : (rules : List WrittenRule) → All (IsSubformOfBody (core_bodies rules)) (all_core_parts rules)
 all-stand rules =
-    All-weaker (StandsInAny (core_bodies rules)) (StandsInBody (core_bodies rules)) (numbered (core_bodies rules))
+    All-weaker (StandsInAny (core_bodies rules)) (IsSubformOfBody (core_bodies rules)) (numbered (core_bodies rules))
     (all_core_parts rules) (rules-stand rules 0 rules)

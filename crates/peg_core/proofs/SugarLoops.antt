@@ -6,13 +6,13 @@ use Rattle.std.proofs.lemmas.List.Elements.{Contains-append_right, Contains-push
 use Rattle.peg_bytes.specs.Extent.{Extent}
 use Rattle.peg_semantics.specs.Form.{Form, Forms, Literal, Class, Any, Name, Optional, Plus, Counted, And, End, Then, terminals}
 use Rattle.peg_semantics.specs.Form as written_form
-use Rattle.peg_semantics.specs.Loops.{WritesLoop, IsEmptyLoop}
+use Rattle.peg_semantics.specs.Loops.{HasLoopOver, IsEmptyLoop}
 use Rattle.peg_semantics.specs.Rules as grammar
 use Rattle.peg_semantics.specs.WellFormed.{below, below_all, subexpressions}
 use Rattle.peg_core.specs.CoreForm.{CoreForm, Empty, Test, Rule, Seq, Choice, Star, Not, in_order, all_in_order, one_of}
 use Rattle.peg_core.specs.CoreForm.{tests_of, unfolded, count_form}
 use Rattle.peg_core.specs.CoreForm.{core_form, core_forms, core_bodies}
-use Rattle.peg_core.specs.CoreLoops.{StandsIn, IsCoreEmptyLoop}
+use Rattle.peg_core.specs.CoreLoops.{IsSubformOf, IsCoreEmptyLoop}
 use Rattle.peg_core.specs.CoreOutcomes.{CoreGivesNothing, BodyIs}
 use Rattle.peg_core.specs.CoreParts.{core_parts}
 use Rattle.peg_core.specs.Subexpressions.{Numbered, numbered_in}
@@ -24,12 +24,12 @@ use Rattle.peg_core.proofs.SugarOutcomes.{GivesNothing-to_core, GivesNothing-fro
 -- ---- the star of a written loop is part of the core form
 
 -- the last part of a form is part of each form that contains the form
-stands-last : (first last whole : CoreForm) → StandsIn (Seq first last) whole → StandsIn last whole
+stands-last : (first last whole : CoreForm) → IsSubformOf (Seq first last) whole → IsSubformOf last whole
 stands-last first last Empty is = cc
 stands-last first last (Test set terminal) is = cc
 stands-last first last (Rule rule) is = cc
 stands-last first last (Seq a b) (inl is) =
-    let same : last ≡ b = cc in inr (inr (subst (StandsIn last) same (stands-itself last)))
+    let same : last ≡ b = cc in inr (inr (subst (IsSubformOf last) same (stands-itself last)))
 stands-last first last (Seq a b) (inr (inl in_first)) = inr (inl (stands-last first last a in_first))
 stands-last first last (Seq a b) (inr (inr in_rest)) = inr (inr (stands-last first last b in_rest))
 stands-last first last (Choice a b) (inl is) = cc
@@ -43,7 +43,7 @@ stands-last first last (Not part) (inr in_part) = inr (stands-last first last pa
 module _ (rules : List grammar.Rule) where
   -- the core form of an expression is part of this one
   abbrev Standing : CoreForm → Form → Type 0
-  Standing whole e = (terminal : ℕ) × StandsIn (core_form rules terminal e) whole
+  Standing whole e = (terminal : ℕ) × IsSubformOf (core_form rules terminal e) whole
 
   subexpressions-standing : (e : Form) (terminal : ℕ) → All (Standing (core_form rules terminal e)) (subexpressions e)
   subexpressions-standing e terminal =
@@ -55,11 +55,11 @@ module _ (rules : List grammar.Rule) where
       (All-weaker (Stands rules parts) (λ (n : Numbered). Standing whole n.form)
       (λ n there.
       let form = core_form rules n.terminal n.form in
-      (n.terminal, All-contains (λ form. StandsIn form whole) parts form (parts-stand rules terminal e) there))
+      (n.terminal, All-contains (λ form. IsSubformOf form whole) parts form (parts-stand rules terminal e) there))
       numbered (stand rules e terminal)))
 
-  loop-standing : (e : Form) (terminal : ℕ) (part : Form) (span : Extent) → WritesLoop (subexpressions e) part span
-      → (t : ℕ) × StandsIn (Star (core_form rules t part) span) (core_form rules terminal e)
+  loop-standing : (e : Form) (terminal : ℕ) (part : Form) (span : Extent) → HasLoopOver (subexpressions e) part span
+      → (t : ℕ) × IsSubformOf (Star (core_form rules t part) span) (core_form rules terminal e)
   loop-standing e terminal part span (inl star) =
       All-contains (Standing (core_form rules terminal e)) (subexpressions e) (written_form.Star part span)
       (subexpressions-standing e terminal) star
@@ -79,20 +79,20 @@ module _ (part : CoreForm) (origin : Extent) where
   -- the star is part of one of these
   abbrev InSome : List CoreForm → Type 0
   InSome [] = ⊥
-  InSome (form ∷ forms) = StandsIn star form ⊎ InSome forms
+  InSome (form ∷ forms) = IsSubformOf star form ⊎ InSome forms
 
-  in_order-some : (first : CoreForm) (rest : List CoreForm) → StandsIn star (in_order first rest)
+  in_order-some : (first : CoreForm) (rest : List CoreForm) → IsSubformOf star (in_order first rest)
       → InSome (first ∷ rest)
   in_order-some first [] stands = inl stands
   in_order-some first (next ∷ rest) (inl is) = cc
   in_order-some first (next ∷ rest) (inr (inl here)) = inl here
   in_order-some first (next ∷ rest) (inr (inr there)) = inr (in_order-some next rest there)
 
-  all_in_order-some : (forms : List CoreForm) → StandsIn star (all_in_order forms) → InSome forms
+  all_in_order-some : (forms : List CoreForm) → IsSubformOf star (all_in_order forms) → InSome forms
   all_in_order-some [] is = cc
   all_in_order-some (first ∷ rest) stands = in_order-some first rest stands
 
-  one_of-some : (first : CoreForm) (rest : List CoreForm) → StandsIn star (one_of first rest) → InSome (first ∷ rest)
+  one_of-some : (first : CoreForm) (rest : List CoreForm) → IsSubformOf star (one_of first rest) → InSome (first ∷ rest)
   one_of-some first [] stands = inl stands
   one_of-some first (next ∷ rest) (inl is) = cc
   one_of-some first (next ∷ rest) (inr (inl here)) = inl here
@@ -104,7 +104,7 @@ module _ (part : CoreForm) (origin : Extent) where
   not-test terminal (b ∷ bs) (inr there) = not-test terminal bs there
 
   -- a star in a count is part of the count's part
-  unfolded-part : (round : CoreForm) (min max : ℕ) → StandsIn star (unfolded round min max) → StandsIn star round
+  unfolded-part : (round : CoreForm) (min max : ℕ) → IsSubformOf star (unfolded round min max) → IsSubformOf star round
   unfolded-part round min zero is = cc
   unfolded-part round zero (suc max) (inl is) = cc
   unfolded-part round zero (suc max) (inr (inl (inl is))) = cc
@@ -115,7 +115,7 @@ module _ (part : CoreForm) (origin : Extent) where
   unfolded-part round (suc min) (suc max) (inr (inl here)) = here
   unfolded-part round (suc min) (suc max) (inr (inr there)) = unfolded-part round min max there
 
-  count-part : (round : CoreForm) (min max : ℕ) → StandsIn star (count_form round min max) → StandsIn star round
+  count-part : (round : CoreForm) (min max : ℕ) → IsSubformOf star (count_form round min max) → IsSubformOf star round
   count-part round min zero (inl is) = cc
   count-part round min zero (inr (inl is)) = cc
   count-part round min zero (inr (inr here)) = here
@@ -124,7 +124,7 @@ module _ (part : CoreForm) (origin : Extent) where
   module _ (rules : List grammar.Rule) where
     -- the star is that of a loop among these expressions
     abbrev ComesOf : List Form → Type 0
-    ComesOf some = (e : Form) × (terminal : ℕ) × (part ≡ core_form rules terminal e) × WritesLoop some e origin
+    ComesOf some = (e : Form) × (terminal : ℕ) × (part ≡ core_form rules terminal e) × HasLoopOver some e origin
 
     comes-left : (some more : List Form) → ComesOf some → ComesOf (some ++ more)
     comes-left some more (e, terminal, is, inl there) =
@@ -163,7 +163,7 @@ module _ (part : CoreForm) (origin : Extent) where
         (e, terminal, cc, inr there)
 
     mutual
-      star-comes : (e : Form) (terminal : ℕ) → StandsIn star (core_form rules terminal e) → ComesOf (subexpressions e)
+      star-comes : (e : Form) (terminal : ℕ) → IsSubformOf star (core_form rules terminal e) → ComesOf (subexpressions e)
       star-comes (Literal bytes span) terminal stands =
           absurd (not-test terminal bytes (all_in_order-some (tests_of terminal bytes) stands))
       star-comes (Class set span) terminal is = cc
@@ -215,7 +215,7 @@ module _ (part : CoreForm) (origin : Extent) where
 module _ (rules : List grammar.Rule) (span : Extent) where
   -- a star in a body, written at this span, whose part can succeed without consuming a byte
   abbrev HasLoop : CoreForm → Type 0
-  HasLoop body = (part : CoreForm) × (StandsIn (Star part span) body × CoreGivesNothing (core_bodies rules) part)
+  HasLoop body = (part : CoreForm) × (IsSubformOf (Star part span) body × CoreGivesNothing (core_bodies rules) part)
 
   loop-at : (number : ℕ) (rule : Option grammar.Rule) (body : Option CoreForm) → BodyAt rules rule body
       → slice_get rules number ≡ rule → IsEmptyLoop rules number span → BodyIs HasLoop body
@@ -224,7 +224,7 @@ module _ (rules : List grammar.Rule) (span : Extent) where
   loop-at number rule body (inr some) at loop =
       let is : Some some.0 ≡ Some loop.rule = sym (at ∙ some.2) ∙ loop.numbered in
       let same : loop.rule ≡ some.0 = cc in
-      let Writes : grammar.Rule → Type 0 = λ r. WritesLoop (subexpressions r.body) loop.part span in
+      let Writes : grammar.Rule → Type 0 = λ r. HasLoopOver (subexpressions r.body) loop.part span in
       let written = subst Writes same loop.written in
       let there = loop-standing rules some.0.body some.1 loop.part span written in
       subst (BodyIs HasLoop) (sym some.3) (

@@ -6,13 +6,13 @@ use Rattle.std.proofs.lemmas.Option.{slice_get_within}
 use Rattle.peg_semantics.specs.AbstractOutcomes.{GivesNothing}
 use Rattle.peg_semantics.specs.Form.{Form, Forms, Literal, Class, Any, Name, Optional, Plus, Counted, And, End, Then, terminals}
 use Rattle.peg_semantics.specs.Form as written_form
-use Rattle.peg_semantics.specs.Loops.{Reaches, ItemsReach, SomeReaches, MeetsFirst, MeetInTurn, IsLeftCycle}
-use Rattle.peg_semantics.specs.Rules.{Meaning, meant}
+use Rattle.peg_semantics.specs.Loops.{CanCallFirst, ItemsCanCallFirst, SomeCanCallFirst, LeftCalls, IsChain, IsLeftCycle}
+use Rattle.peg_semantics.specs.Rules.{Meaning, meaning_of}
 use Rattle.peg_semantics.specs.Rules as grammar
 use Rattle.peg_bytes.specs.ByteSet.{only}
 use Rattle.peg_core.specs.CoreForm.{CoreForm, Test, in_order, all_in_order, one_of, tests_of, unfolded, count_form, number_of}
 use Rattle.peg_core.specs.CoreForm.{core_form, core_forms, core_bodies_from, core_bodies}
-use Rattle.peg_core.specs.CoreLoops.{CoreMeets, CoreMeetsFirst, CoreMeetInTurn, IsCoreLeftCycle}
+use Rattle.peg_core.specs.CoreLoops.{CoreCanCallFirst, CoreLeftCalls, IsCoreChain, IsCoreLeftCycle}
 use Rattle.peg_core.specs.CoreOutcomes.{CoreGivesNothing, BodyIs}
 use Rattle.peg_core.proofs.SugarOutcomes.{GivesNothing-to_core, GivesNothing-from_core}
 
@@ -21,34 +21,34 @@ use Rattle.peg_core.proofs.SugarOutcomes.{GivesNothing-to_core, GivesNothing-fro
 module _ (bodies : List CoreForm) (rule : ℕ) where
   -- A sequence left-calls a rule if its first form does, or if that has outcome 0 and the others do.
   order-to : (first : CoreForm) (rest : List CoreForm)
-      → CoreMeets bodies first rule ⊎ (CoreGivesNothing bodies first × CoreMeets bodies (all_in_order rest) rule)
-      → CoreMeets bodies (in_order first rest) rule
+      → CoreCanCallFirst bodies first rule ⊎ (CoreGivesNothing bodies first × CoreCanCallFirst bodies (all_in_order rest) rule)
+      → CoreCanCallFirst bodies (in_order first rest) rule
   order-to first [] meets = elim meets [ inl here ↦ here | inr there ↦ absurd there.1 ]
   order-to first (next ∷ rest) meets = meets
 
-  order-from : (first : CoreForm) (rest : List CoreForm) → CoreMeets bodies (in_order first rest) rule
-      → CoreMeets bodies first rule ⊎ (CoreGivesNothing bodies first × CoreMeets bodies (all_in_order rest) rule)
+  order-from : (first : CoreForm) (rest : List CoreForm) → CoreCanCallFirst bodies (in_order first rest) rule
+      → CoreCanCallFirst bodies first rule ⊎ (CoreGivesNothing bodies first × CoreCanCallFirst bodies (all_in_order rest) rule)
   order-from first [] meets = inl meets
   order-from first (next ∷ rest) meets = meets
 
   -- one of these left-calls the rule
   abbrev SomeMeet : List CoreForm → Type 0
   SomeMeet [] = ⊥
-  SomeMeet (form ∷ forms) = CoreMeets bodies form rule ⊎ SomeMeet forms
+  SomeMeet (form ∷ forms) = CoreCanCallFirst bodies form rule ⊎ SomeMeet forms
 
   one-to : (first : CoreForm) (rest : List CoreForm) → SomeMeet (first ∷ rest)
-      → CoreMeets bodies (one_of first rest) rule
+      → CoreCanCallFirst bodies (one_of first rest) rule
   one-to first [] meets = elim meets [ inl here ↦ here | inr there ↦ absurd there ]
   one-to first (next ∷ rest) meets = elim meets [ inl here ↦ inl here | inr there ↦ inr (one-to next rest there) ]
 
-  one-from : (first : CoreForm) (rest : List CoreForm) → CoreMeets bodies (one_of first rest) rule
+  one-from : (first : CoreForm) (rest : List CoreForm) → CoreCanCallFirst bodies (one_of first rest) rule
       → SomeMeet (first ∷ rest)
   one-from first [] meets = inl meets
   one-from first (next ∷ rest) meets =
       elim meets [ inl here ↦ inl here | inr there ↦ inr (one-from next rest there) ]
 
   -- a literal left-calls no rule
-  tests-meet : (terminal : ℕ) (bytes : List ℕ) → CoreMeets bodies (all_in_order (tests_of terminal bytes)) rule → ⊥
+  tests-meet : (terminal : ℕ) (bytes : List ℕ) → CoreCanCallFirst bodies (all_in_order (tests_of terminal bytes)) rule → ⊥
   tests-meet terminal [] meets = meets
   tests-meet terminal (b ∷ bs) meets =
       elim (order-from (Test (only b) terminal) (tests_of terminal bs) meets) [
@@ -57,13 +57,13 @@ module _ (bodies : List CoreForm) (rule : ℕ) where
       ]
 
   -- a count left-calls the rules that its part does
-  count-to : (part : CoreForm) (min max : ℕ) → CoreMeets bodies part rule → CoreMeets bodies (count_form part min max) rule
+  count-to : (part : CoreForm) (min max : ℕ) → CoreCanCallFirst bodies part rule → CoreCanCallFirst bodies (count_form part min max) rule
   count-to part min zero meets = inr meets
   count-to part zero (suc max) meets = inl (inl meets)
   count-to part (suc min) (suc max) meets = inl meets
 
-  unfolded-from : (part : CoreForm) (min max : ℕ) → CoreMeets bodies (unfolded part min max) rule
-      → CoreMeets bodies part rule
+  unfolded-from : (part : CoreForm) (min max : ℕ) → CoreCanCallFirst bodies (unfolded part min max) rule
+      → CoreCanCallFirst bodies part rule
   unfolded-from part min zero meets = absurd meets
   unfolded-from part zero (suc max) meets =
       elim meets [
@@ -73,8 +73,8 @@ module _ (bodies : List CoreForm) (rule : ℕ) where
   unfolded-from part (suc min) (suc max) meets =
       elim meets [ inl here ↦ here | inr there ↦ unfolded-from part min max there.1 ]
 
-  count-from : (part : CoreForm) (min max : ℕ) → CoreMeets bodies (count_form part min max) rule
-      → CoreMeets bodies part rule
+  count-from : (part : CoreForm) (min max : ℕ) → CoreCanCallFirst bodies (count_form part min max) rule
+      → CoreCanCallFirst bodies part rule
   count-from part min zero meets = elim meets [ inl nothing ↦ absurd nothing | inr here ↦ here ]
   count-from part min (suc max) meets = unfolded-from part min (suc max) meets
 
@@ -92,8 +92,8 @@ module _ (rules : List grammar.Rule) where
     number = number_of rules name
 
     mutual
-      reached-met : (e : Form) (terminal : ℕ) → Reaches Idles e name
-          → CoreMeets bodies (core_form rules terminal e) number
+      reached-met : (e : Form) (terminal : ℕ) → CanCallFirst Idles e name
+          → CoreCanCallFirst bodies (core_form rules terminal e) number
       reached-met (Literal bytes span) terminal reached = absurd reached
       reached-met (Class set span) terminal reached = reached
       reached-met (Any span) terminal reached = reached
@@ -113,8 +113,8 @@ module _ (rules : List grammar.Rule) where
       reached-met (And part span) terminal reached = reached-met part terminal reached
       reached-met (written_form.Not part span) terminal reached = reached-met part terminal reached
 
-      items-met : (items : Forms) (terminal : ℕ) → ItemsReach Idles items name
-          → CoreMeets bodies (all_in_order (core_forms rules terminal items)) number
+      items-met : (items : Forms) (terminal : ℕ) → ItemsCanCallFirst Idles items name
+          → CoreCanCallFirst bodies (all_in_order (core_forms rules terminal items)) number
       items-met End terminal reached = reached
       items-met (Then e rest) terminal reached =
           let later = terminal + terminals e in
@@ -123,7 +123,7 @@ module _ (rules : List grammar.Rule) where
             | inr there ↦ inr (GivesNothing-to_core rules e terminal there.0, items-met rest later there.1)
           ])
 
-      some-met : (items : Forms) (terminal : ℕ) → SomeReaches Idles items name
+      some-met : (items : Forms) (terminal : ℕ) → SomeCanCallFirst Idles items name
           → SomeMeet bodies number (core_forms rules terminal items)
       some-met End terminal reached = reached
       some-met (Then e rest) terminal reached =
@@ -142,8 +142,8 @@ module _ (rules : List grammar.Rule) where
     also Reached More more by = (by.0, more by.0 by.1, by.2)
 
     mutual
-      met-reached : (e : Form) (terminal : ℕ) → CoreMeets bodies (core_form rules terminal e) rule
-          → ReachedBy (Reaches Idles e)
+      met-reached : (e : Form) (terminal : ℕ) → CoreCanCallFirst bodies (core_form rules terminal e) rule
+          → ReachedBy (CanCallFirst Idles e)
       met-reached (Literal bytes span) terminal meets = absurd (tests-meet bodies rule terminal bytes meets)
       met-reached (Class set span) terminal meets = absurd meets
       met-reached (Any span) terminal meets = absurd meets
@@ -154,8 +154,8 @@ module _ (rules : List grammar.Rule) where
           let e : Form = written_form.Choice first rest span in
           elim (one-from bodies rule (core_form rules terminal first) (core_forms rules later rest) meets) [
             | inl here ↦
-                also (Reaches Idles first) (Reaches Idles e) (λ name h. inl h) (met-reached first terminal here)
-            | inr there ↦ also (SomeReaches Idles rest) (Reaches Idles e) (λ name h. inr h) (met-some rest later there)
+                also (CanCallFirst Idles first) (CanCallFirst Idles e) (λ name h. inl h) (met-reached first terminal here)
+            | inr there ↦ also (SomeCanCallFirst Idles rest) (CanCallFirst Idles e) (λ name h. inr h) (met-some rest later there)
           ]
       met-reached (Optional part span) terminal meets =
           elim meets [ inl here ↦ met-reached part terminal here | inr there ↦ absurd there ]
@@ -168,30 +168,30 @@ module _ (rules : List grammar.Rule) where
       met-reached (written_form.Not part span) terminal meets = met-reached part terminal meets
 
       met-items : (items : Forms) (terminal : ℕ)
-          → CoreMeets bodies (all_in_order (core_forms rules terminal items)) rule
-          → ReachedBy (ItemsReach Idles items)
+          → CoreCanCallFirst bodies (all_in_order (core_forms rules terminal items)) rule
+          → ReachedBy (ItemsCanCallFirst Idles items)
       met-items End terminal meets = absurd meets
       met-items (Then e rest) terminal meets =
           let later = terminal + terminals e in
           elim (order-from bodies rule (core_form rules terminal e) (core_forms rules later rest) meets) [
             | inl here ↦
-                also (Reaches Idles e) (ItemsReach Idles (Then e rest)) (λ name h. inl h) (met-reached e terminal here)
+                also (CanCallFirst Idles e) (ItemsCanCallFirst Idles (Then e rest)) (λ name h. inl h) (met-reached e terminal here)
             | inr there ↦
                 let idle = GivesNothing-from_core rules e terminal there.0 in
                 let behind = met-items rest later there.1 in
-                also (ItemsReach Idles rest) (ItemsReach Idles (Then e rest)) (λ name h. inr (idle, h)) behind
+                also (ItemsCanCallFirst Idles rest) (ItemsCanCallFirst Idles (Then e rest)) (λ name h. inr (idle, h)) behind
           ]
 
       met-some : (items : Forms) (terminal : ℕ) → SomeMeet bodies rule (core_forms rules terminal items)
-          → ReachedBy (SomeReaches Idles items)
+          → ReachedBy (SomeCanCallFirst Idles items)
       met-some End terminal meets = absurd meets
       met-some (Then e rest) terminal meets =
           elim meets [
             | inl here ↦
-                also (Reaches Idles e) (SomeReaches Idles (Then e rest)) (λ name h. inl h) (met-reached e terminal here)
+                also (CanCallFirst Idles e) (SomeCanCallFirst Idles (Then e rest)) (λ name h. inl h) (met-reached e terminal here)
             | inr there ↦
                 let behind = met-some rest (terminal + terminals e) there in
-                also (SomeReaches Idles rest) (SomeReaches Idles (Then e rest)) (λ name h. inr h) behind
+                also (SomeCanCallFirst Idles rest) (SomeCanCallFirst Idles (Then e rest)) (λ name h. inr h) behind
           ]
 
 -- ---- a rule and its body have the same number
@@ -215,46 +215,46 @@ body-at rules i = body_from-at rules 0 rules i
 
 module _ (rules : List grammar.Rule) where
   -- the number of a name that denotes a rule is the rule's
-  number-means : (name : List ℕ) (rule : ℕ) → option_map (λ (m : Meaning). m.rule) (meant rules name) ≡ Some rule
+  number-means : (name : List ℕ) (rule : ℕ) → option_map (λ (m : Meaning). m.rule) (meaning_of rules name) ≡ Some rule
       → number_of rules name ≡ rule
   number-means name rule means = ap (λ o. unwrap_or o (length rules)) means
 
   means-number : (name : List ℕ) (rule : ℕ) → rule < length rules → number_of rules name ≡ rule
-      → option_map (λ (m : Meaning). m.rule) (meant rules name) ≡ Some rule
-  means-number name rule within is = by (option_map (λ (m : Meaning). m.rule) (meant rules name)) is
+      → option_map (λ (m : Meaning). m.rule) (meaning_of rules name) ≡ Some rule
+  means-number name rule within is = by (option_map (λ (m : Meaning). m.rule) (meaning_of rules name)) is
     where
       by : (o : Option ℕ) → unwrap_or o (length rules) ≡ rule → o ≡ Some rule
       by None same = absurd (omega (arith, within, same))
       by (Some n) same = ap Some same
 
   met_first-at : (first second : ℕ) (rule : Option grammar.Rule) (body : Option CoreForm) → BodyAt rules rule body
-      → slice_get rules first ≡ rule → MeetsFirst rules first second
-      → BodyIs (λ form. CoreMeets (core_bodies rules) form second) body
+      → slice_get rules first ≡ rule → LeftCalls rules first second
+      → BodyIs (λ form. CoreCanCallFirst (core_bodies rules) form second) body
   met_first-at first second rule body (inl none) at meets =
       let bad : None ≡ Some meets.rule = sym (at ∙ none.0) ∙ meets.numbered in cc
   met_first-at first second rule body (inr some) at meets =
       let is : Some some.0 ≡ Some meets.rule = sym (at ∙ some.2) ∙ meets.numbered in
       let same : meets.rule ≡ some.0 = cc in
-      let FromRule : grammar.Rule → Type 0 = λ r. Reaches (GivesNothing rules) r.body meets.name in
+      let FromRule : grammar.Rule → Type 0 = λ r. CanCallFirst (GivesNothing rules) r.body meets.name in
       let reached = subst FromRule same meets.reached in
       let met = reached-met rules meets.name some.0.body some.1 reached in
       let number = number-means meets.name second meets.means in
-      subst (BodyIs (λ form. CoreMeets (core_bodies rules) form second)) (sym some.3)
-      (subst (CoreMeets (core_bodies rules) (core_form rules some.1 some.0.body)) number met)
+      subst (BodyIs (λ form. CoreCanCallFirst (core_bodies rules) form second)) (sym some.3)
+      (subst (CoreCanCallFirst (core_bodies rules) (core_form rules some.1 some.0.body)) number met)
 
-  pub MeetsFirst-to_core : (first second : ℕ) → MeetsFirst rules first second
-      → CoreMeetsFirst (core_bodies rules) first second
-  MeetsFirst-to_core first second meets =
+  pub LeftCalls-to_core : (first second : ℕ) → LeftCalls rules first second
+      → CoreLeftCalls (core_bodies rules) first second
+  LeftCalls-to_core first second meets =
       met_first-at first second (slice_get rules first) (slice_get (core_bodies rules) first) (body-at rules first) refl
       meets
 
   meets_first-at : (first second : ℕ) (rule : Option grammar.Rule) (body : Option CoreForm) → BodyAt rules rule body
       → slice_get rules first ≡ rule → second < length rules
-      → BodyIs (λ form. CoreMeets (core_bodies rules) form second) body → MeetsFirst rules first second
+      → BodyIs (λ form. CoreCanCallFirst (core_bodies rules) form second) body → LeftCalls rules first second
   meets_first-at first second rule body (inl none) at within meets =
-      absurd (subst (BodyIs (λ form. CoreMeets (core_bodies rules) form second)) none.1 meets)
+      absurd (subst (BodyIs (λ form. CoreCanCallFirst (core_bodies rules) form second)) none.1 meets)
   meets_first-at first second rule body (inr some) at within meets =
-      let met = subst (BodyIs (λ form. CoreMeets (core_bodies rules) form second)) some.3 meets in
+      let met = subst (BodyIs (λ form. CoreCanCallFirst (core_bodies rules) form second)) some.3 meets in
       let reached = met-reached rules second some.0.body some.1 met in
       record {
         rule = some.0;
@@ -264,18 +264,18 @@ module _ (rules : List grammar.Rule) where
         means = means-number reached.0 second within reached.2;
       }
 
-  pub MeetsFirst-from_core : (first second : ℕ) → second < length rules
-      → CoreMeetsFirst (core_bodies rules) first second → MeetsFirst rules first second
-  MeetsFirst-from_core first second within meets =
+  pub LeftCalls-from_core : (first second : ℕ) → second < length rules
+      → CoreLeftCalls (core_bodies rules) first second → LeftCalls rules first second
+  LeftCalls-from_core first second within meets =
       meets_first-at first second (slice_get rules first) (slice_get (core_bodies rules) first) (body-at rules first)
       refl within meets
 
   -- ---- and the left cycles are the same
 
-  in_turn-to_core : (before : ℕ) (path : List ℕ) → MeetInTurn (MeetsFirst rules) before path
-      → CoreMeetInTurn (core_bodies rules) before path
+  in_turn-to_core : (before : ℕ) (path : List ℕ) → IsChain (LeftCalls rules) before path
+      → IsCoreChain (core_bodies rules) before path
   in_turn-to_core before [] meet = tt
-  in_turn-to_core before (next ∷ more) meet = (MeetsFirst-to_core before next meet.0, in_turn-to_core next more meet.1)
+  in_turn-to_core before (next ∷ more) meet = (LeftCalls-to_core before next meet.0, in_turn-to_core next more meet.1)
 
   pub IsLeftCycle-to_core : (path : List ℕ) → IsLeftCycle rules path → IsCoreLeftCycle (core_bodies rules) path
   IsLeftCycle-to_core [] cycle = cycle
@@ -283,28 +283,28 @@ module _ (rules : List grammar.Rule) where
 
   -- a rule that left-calls another is one of the rules
   meeting-at : (first second : ℕ) (rule : Option grammar.Rule) (body : Option CoreForm) → BodyAt rules rule body
-      → slice_get rules first ≡ rule → BodyIs (λ form. CoreMeets (core_bodies rules) form second) body
+      → slice_get rules first ≡ rule → BodyIs (λ form. CoreCanCallFirst (core_bodies rules) form second) body
       → first < length rules
   meeting-at first second rule body (inl none) at meets =
-      absurd (subst (BodyIs (λ form. CoreMeets (core_bodies rules) form second)) none.1 meets)
+      absurd (subst (BodyIs (λ form. CoreCanCallFirst (core_bodies rules) form second)) none.1 meets)
   meeting-at first second rule body (inr some) at meets = slice_get_within rules first some.0 (at ∙ some.2)
 
-  meeting-within : (first second : ℕ) → CoreMeetsFirst (core_bodies rules) first second → first < length rules
+  meeting-within : (first second : ℕ) → CoreLeftCalls (core_bodies rules) first second → first < length rules
   meeting-within first second meets =
       meeting-at first second (slice_get rules first) (slice_get (core_bodies rules) first) (body-at rules first) refl
       meets
 
-  first-within : (before : ℕ) (path : List ℕ) (last : ℕ) → CoreMeetInTurn (core_bodies rules) before (path ++ last ∷ [])
+  first-within : (before : ℕ) (path : List ℕ) (last : ℕ) → IsCoreChain (core_bodies rules) before (path ++ last ∷ [])
       → before < length rules
   first-within before [] last meet = meeting-within before last meet.0
   first-within before (next ∷ more) last meet = meeting-within before next meet.0
 
   in_turn-from_core : (before : ℕ) (path : List ℕ) (last : ℕ) → last < length rules
-      → CoreMeetInTurn (core_bodies rules) before (path ++ last ∷ [])
-      → MeetInTurn (MeetsFirst rules) before (path ++ last ∷ [])
-  in_turn-from_core before [] last within meet = (MeetsFirst-from_core before last within meet.0, tt)
+      → IsCoreChain (core_bodies rules) before (path ++ last ∷ [])
+      → IsChain (LeftCalls rules) before (path ++ last ∷ [])
+  in_turn-from_core before [] last within meet = (LeftCalls-from_core before last within meet.0, tt)
   in_turn-from_core before (next ∷ more) last within meet = (
-    MeetsFirst-from_core before next (first-within next more last meet.1) meet.0,
+    LeftCalls-from_core before next (first-within next more last meet.1) meet.0,
     in_turn-from_core next more last within meet.1,
   )
 

@@ -2,16 +2,16 @@
 use Rattle.std.proofs.Common.{◌≡◌, ℕ, zero, suc, ◌+◌, Bool, true, false, List, [], ◌∷◌, Option, None, Some, refl, sym, ap, subst, slice_get, zero-add, suc-add, add_comm}
 use Rattle.peg_bytes.specs.ByteSet.{only, all_bytes}
 use Rattle.peg_bytes.specs.Extent.{Extent}
-use Rattle.peg_semantics.specs.AbstractOutcomes.{Can, CanAll, cannot, only_nothing, something_or_fails, can_of_set, both, either, or_nothing, again, once_and_again, times, ahead, not_ahead, judge_items, judge_first, judge_meaning, can_table, can_in, GivesNothing, GivesSomething, CanFail}
+use Rattle.peg_semantics.specs.AbstractOutcomes.{Can, CanAll, no_outcome, always_empty, consumes_or_fails, can_of_set, seq_outcome, choice_outcome, optional_outcome, star_outcome, plus_outcome, repeat_outcome, and_outcome, not_outcome, outcome_of_items, outcome_of_choice, outcome_of_meaning, can_table, can_in, GivesNothing, GivesSomething, CanFail}
 use Rattle.peg_semantics.specs.Form.{Form, Forms, Literal, Class, Any, Name, Optional, Plus, Counted, And, End, Then, terminals}
 use Rattle.peg_semantics.specs.Form as written_form
-use Rattle.peg_semantics.specs.Rules.{Meaning, meant}
+use Rattle.peg_semantics.specs.Rules.{Meaning, meaning_of}
 use Rattle.peg_semantics.specs.Rules as grammar
-use Rattle.peg_semantics.proofs.RoundsLemmas.{CanAll-refl, CanAll-trans, CanAll-cannot, CanAll-both, CanAll-either, CanAll-again, CanAll-times, CanAll-not_ahead, CanAll-items, CanAll-first, can_in-more}
+use Rattle.peg_semantics.proofs.RoundsLemmas.{CanAll-refl, CanAll-trans, CanAll-no_outcome, CanAll-seq_outcome, CanAll-choice_outcome, CanAll-star_outcome, CanAll-repeat_outcome, CanAll-not_outcome, CanAll-items, CanAll-first, can_in-more}
 use Rattle.peg_core.specs.CoreForm.{CoreForm, Empty, Test, Rule, Seq, Choice, Star, Not, in_order, all_in_order, one_of, tests_of, unfolded, count_form, number_of, core_form, core_forms, core_bodies}
-use Rattle.peg_core.specs.CoreOutcomes.{judge_body, core_can_table, core_can_in, CoreGivesNothing, CoreGivesSomething, CoreCanFail}
+use Rattle.peg_core.specs.CoreOutcomes.{outcome_of_body, core_can_table, core_can_in, CoreGivesNothing, CoreGivesSomething, CoreCanFail}
 use Rattle.peg_core.proofs.CoreRounds.{core_can_in-more}
-use Rattle.peg_core.proofs.Meanings.{body-meant, body-unmeant}
+use Rattle.peg_core.proofs.Meanings.{body-meaning_of, body-unmeant}
 use Rattle.peg_core.proofs.Sets.{has_some-only, has_some-all_bytes}
 
 -- ---- desugaring and outcomes
@@ -20,62 +20,62 @@ use Rattle.peg_core.proofs.Sets.{has_some-only, has_some-all_bytes}
 abbrev can : (nothing something fails : Bool) → Can
 can nothing something fails = record { nothing = nothing; something = something; fails = fails }
 
-both-nothing_of : (x y z : Bool) → both (can x y z) only_nothing ≡ can x y z
-both-nothing_of true true true = refl
-both-nothing_of true true false = refl
-both-nothing_of true false true = refl
-both-nothing_of true false false = refl
-both-nothing_of false true true = refl
-both-nothing_of false true false = refl
-both-nothing_of false false true = refl
-both-nothing_of false false false = refl
+seq_outcome-nothing_of : (x y z : Bool) → seq_outcome (can x y z) always_empty ≡ can x y z
+seq_outcome-nothing_of true true true = refl
+seq_outcome-nothing_of true true false = refl
+seq_outcome-nothing_of true false true = refl
+seq_outcome-nothing_of true false false = refl
+seq_outcome-nothing_of false true true = refl
+seq_outcome-nothing_of false true false = refl
+seq_outcome-nothing_of false false true = refl
+seq_outcome-nothing_of false false false = refl
 
-or_nothing-either_of : (x y z : Bool) → or_nothing (can x y z) ≡ either (can x y z) only_nothing
-or_nothing-either_of true true true = refl
-or_nothing-either_of true true false = refl
-or_nothing-either_of true false true = refl
-or_nothing-either_of true false false = refl
-or_nothing-either_of false true true = refl
-or_nothing-either_of false true false = refl
-or_nothing-either_of false false true = refl
-or_nothing-either_of false false false = refl
+optional_outcome-either_of : (x y z : Bool) → optional_outcome (can x y z) ≡ choice_outcome (can x y z) always_empty
+optional_outcome-either_of true true true = refl
+optional_outcome-either_of true true false = refl
+optional_outcome-either_of true false true = refl
+optional_outcome-either_of true false false = refl
+optional_outcome-either_of false true true = refl
+optional_outcome-either_of false true false = refl
+optional_outcome-either_of false false true = refl
+optional_outcome-either_of false false false = refl
 
-once_and_again-both_of : (x y z : Bool) → once_and_again (can x y z) ≡ both (can x y z) (again (can x y z))
-once_and_again-both_of true true true = refl
-once_and_again-both_of true true false = refl
-once_and_again-both_of true false true = refl
-once_and_again-both_of true false false = refl
-once_and_again-both_of false true true = refl
-once_and_again-both_of false true false = refl
-once_and_again-both_of false false true = refl
-once_and_again-both_of false false false = refl
+plus_outcome-both_of : (x y z : Bool) → plus_outcome (can x y z) ≡ seq_outcome (can x y z) (star_outcome (can x y z))
+plus_outcome-both_of true true true = refl
+plus_outcome-both_of true true false = refl
+plus_outcome-both_of true false true = refl
+plus_outcome-both_of true false false = refl
+plus_outcome-both_of false true true = refl
+plus_outcome-both_of false true false = refl
+plus_outcome-both_of false false true = refl
+plus_outcome-both_of false false false = refl
 
-ahead-not_of : (x y z : Bool) → ahead (can x y z) ≡ not_ahead (not_ahead (can x y z))
-ahead-not_of true true true = refl
-ahead-not_of true true false = refl
-ahead-not_of true false true = refl
-ahead-not_of true false false = refl
-ahead-not_of false true true = refl
-ahead-not_of false true false = refl
-ahead-not_of false false true = refl
-ahead-not_of false false false = refl
+and_outcome-not_of : (x y z : Bool) → and_outcome (can x y z) ≡ not_outcome (not_outcome (can x y z))
+and_outcome-not_of true true true = refl
+and_outcome-not_of true true false = refl
+and_outcome-not_of true false true = refl
+and_outcome-not_of true false false = refl
+and_outcome-not_of false true true = refl
+and_outcome-not_of false true false = refl
+and_outcome-not_of false false true = refl
+and_outcome-not_of false false false = refl
 
 -- a part and then nothing is the part
-both-nothing : (a : Can) → both a only_nothing ≡ a
-both-nothing a = both-nothing_of a.nothing a.something a.fails
+seq_outcome-nothing : (a : Can) → seq_outcome a always_empty ≡ a
+seq_outcome-nothing a = seq_outcome-nothing_of a.nothing a.something a.fails
 
 -- `e?` is `e / ''`, `e+` is `e e*`, `&e` is `!(!e)`
-or_nothing-either : (a : Can) → or_nothing a ≡ either a only_nothing
-or_nothing-either a = or_nothing-either_of a.nothing a.something a.fails
+optional_outcome-choice_outcome : (a : Can) → optional_outcome a ≡ choice_outcome a always_empty
+optional_outcome-choice_outcome a = optional_outcome-either_of a.nothing a.something a.fails
 
-once_and_again-both : (a : Can) → once_and_again a ≡ both a (again a)
-once_and_again-both a = once_and_again-both_of a.nothing a.something a.fails
+plus_outcome-seq_outcome : (a : Can) → plus_outcome a ≡ seq_outcome a (star_outcome a)
+plus_outcome-seq_outcome a = plus_outcome-both_of a.nothing a.something a.fails
 
-ahead-not : (a : Can) → ahead a ≡ not_ahead (not_ahead a)
-ahead-not a = ahead-not_of a.nothing a.something a.fails
+and_outcome-not : (a : Can) → and_outcome a ≡ not_outcome (not_outcome a)
+and_outcome-not a = and_outcome-not_of a.nothing a.something a.fails
 
 -- a set with some byte is a terminal that may match
-can_of_some : (some : Bool) → some ≡ true → something_or_fails ≡ can false some true
+can_of_some : (some : Bool) → some ≡ true → consumes_or_fails ≡ can false some true
 can_of_some some is = ap (λ b. can false b true) (sym is)
 
 -- ---- outcomes in some round
@@ -108,8 +108,8 @@ Shows-same a f g same h = (h.0, subst (CanAll a) (same h.0) h.1)
 Shows-constant : (a : Can) → Shows a (λ n. a)
 Shows-constant a = (0, CanAll-refl a)
 
-Shows-cannot : (f : ℕ → Can) → Shows cannot f
-Shows-cannot f = (0, CanAll-cannot (f 0))
+Shows-no_outcome : (f : ℕ → Can) → Shows no_outcome f
+Shows-no_outcome f = (0, CanAll-no_outcome (f 0))
 
 -- one rule with two parts
 module _ (a b : Can) (f g : ℕ → Can) (grows : Grows f) (also : Grows g) (h : Shows a f) (k : Shows b g) where
@@ -121,11 +121,11 @@ module _ (a b : Can) (f g : ℕ → Can) (grows : Grows f) (also : Grows g) (h :
       subst (λ n. CanAll b (g n)) (add_comm h.0 k.0)
       (CanAll-trans b (g k.0) (g (h.0 + k.0)) k.1 (grown g also h.0 k.0))
 
-  Shows-both : Shows (both a b) (λ n. both (f n) (g n))
-  Shows-both = (k.0 + h.0, CanAll-both a b (f (k.0 + h.0)) (g (k.0 + h.0)) first_later second_later)
+  Shows-seq_outcome : Shows (seq_outcome a b) (λ n. seq_outcome (f n) (g n))
+  Shows-seq_outcome = (k.0 + h.0, CanAll-seq_outcome a b (f (k.0 + h.0)) (g (k.0 + h.0)) first_later second_later)
 
-  Shows-either : Shows (either a b) (λ n. either (f n) (g n))
-  Shows-either = (k.0 + h.0, CanAll-either a b (f (k.0 + h.0)) (g (k.0 + h.0)) first_later second_later)
+  Shows-choice_outcome : Shows (choice_outcome a b) (λ n. choice_outcome (f n) (g n))
+  Shows-choice_outcome = (k.0 + h.0, CanAll-choice_outcome a b (f (k.0 + h.0)) (g (k.0 + h.0)) first_later second_later)
 
 module _ (rules : List grammar.Rule) where
   abbrev bodies : List CoreForm
@@ -146,9 +146,9 @@ module _ (rules : List grammar.Rule) where
 
   -- ---- the outcomes of core forms, from those of their parts
 
-  core-Empty : Shows only_nothing (core Empty)
+  core-Empty : Shows always_empty (core Empty)
   unfolding core_can_in
-  core-Empty = Shows-shift only_nothing (core Empty) (Shows-constant only_nothing)
+  core-Empty = Shows-shift always_empty (core Empty) (Shows-constant always_empty)
 
   core-Test : (set : List Bool) (terminal : ℕ) → Shows (can_of_set set) (core (Test set terminal))
   unfolding core_can_in
@@ -159,61 +159,61 @@ module _ (rules : List grammar.Rule) where
   unfolding core_can_in
   core-Rule rule body a is h =
       Shows-shift a (core (Rule rule))
-      (Shows-same a (core body) (λ n. judge_body (core_can_in bodies n) (slice_get bodies rule))
-      (λ n. sym (ap (judge_body (core_can_in bodies n)) is)) h)
+      (Shows-same a (core body) (λ n. outcome_of_body (core_can_in bodies n) (slice_get bodies rule))
+      (λ n. sym (ap (outcome_of_body (core_can_in bodies n)) is)) h)
 
   core-Seq : (first rest : CoreForm) (a b : Can) → Shows a (core first) → Shows b (core rest)
-      → Shows (both a b) (core (Seq first rest))
+      → Shows (seq_outcome a b) (core (Seq first rest))
   unfolding core_can_in
   core-Seq first rest a b h k =
-      Shows-shift (both a b) (core (Seq first rest))
-      (Shows-both a b (core first) (core rest) (core-grows first) (core-grows rest) h k)
+      Shows-shift (seq_outcome a b) (core (Seq first rest))
+      (Shows-seq_outcome a b (core first) (core rest) (core-grows first) (core-grows rest) h k)
 
   core-Choice : (first rest : CoreForm) (a b : Can) → Shows a (core first) → Shows b (core rest)
-      → Shows (either a b) (core (Choice first rest))
+      → Shows (choice_outcome a b) (core (Choice first rest))
   unfolding core_can_in
   core-Choice first rest a b h k =
-      Shows-shift (either a b) (core (Choice first rest))
-      (Shows-either a b (core first) (core rest) (core-grows first) (core-grows rest) h k)
+      Shows-shift (choice_outcome a b) (core (Choice first rest))
+      (Shows-choice_outcome a b (core first) (core rest) (core-grows first) (core-grows rest) h k)
 
   core-Star : (part : CoreForm) (origin : Extent) (a : Can) → Shows a (core part)
-      → Shows (again a) (core (Star part origin))
+      → Shows (star_outcome a) (core (Star part origin))
   unfolding core_can_in
   core-Star part origin a h =
-      Shows-shift (again a) (core (Star part origin)) (h.0, CanAll-again a (core part h.0) h.1)
+      Shows-shift (star_outcome a) (core (Star part origin)) (h.0, CanAll-star_outcome a (core part h.0) h.1)
 
-  core-Not : (part : CoreForm) (a : Can) → Shows a (core part) → Shows (not_ahead a) (core (Not part))
+  core-Not : (part : CoreForm) (a : Can) → Shows a (core part) → Shows (not_outcome a) (core (Not part))
   unfolding core_can_in
-  core-Not part a h = Shows-shift (not_ahead a) (core (Not part)) (h.0, CanAll-not_ahead a (core part h.0) h.1)
+  core-Not part a h = Shows-shift (not_outcome a) (core (Not part)) (h.0, CanAll-not_outcome a (core part h.0) h.1)
 
   -- a count, iteration by iteration
   core-unfolded : (part : CoreForm) (a : Can) → Shows a (core part) → (min max : ℕ)
-      → Shows (times a min max) (core (unfolded part min max))
+      → Shows (repeat_outcome a min max) (core (unfolded part min max))
   core-unfolded part a h min zero = core-Empty
   core-unfolded part a h zero (suc max) =
       let inner = unfolded part zero max in
-      let round = both a (times a zero max) in
-      Shows-from (or_nothing round) (either round only_nothing) (core (Choice (Seq part inner) Empty)) (or_nothing-either round)
-      (core-Choice (Seq part inner) Empty round only_nothing
-      (core-Seq part inner a (times a zero max) h (core-unfolded part a h zero max)) core-Empty)
+      let round = seq_outcome a (repeat_outcome a zero max) in
+      Shows-from (optional_outcome round) (choice_outcome round always_empty) (core (Choice (Seq part inner) Empty)) (optional_outcome-choice_outcome round)
+      (core-Choice (Seq part inner) Empty round always_empty
+      (core-Seq part inner a (repeat_outcome a zero max) h (core-unfolded part a h zero max)) core-Empty)
   core-unfolded part a h (suc min) (suc max) =
-      core-Seq part (unfolded part min max) a (times a min max) h (core-unfolded part a h min max)
+      core-Seq part (unfolded part min max) a (repeat_outcome a min max) h (core-unfolded part a h min max)
 
   core-count : (part : CoreForm) (a : Can) → Shows a (core part) → (min max : ℕ)
-      → Shows (times a min max) (core (count_form part min max))
-  core-count part a h min zero = core-Choice Empty part only_nothing a core-Empty h
+      → Shows (repeat_outcome a min max) (core (count_form part min max))
+  core-count part a h min zero = core-Choice Empty part always_empty a core-Empty h
   core-count part a h min (suc max) = core-unfolded part a h min (suc max)
 
   -- the tests of a literal
   to_tests : (b : ℕ) (bs : List ℕ) (terminal : ℕ)
-      → Shows something_or_fails (core (in_order (Test (only b) terminal) (tests_of terminal bs)))
+      → Shows consumes_or_fails (core (in_order (Test (only b) terminal) (tests_of terminal bs)))
   to_tests b [] terminal =
-      Shows-from something_or_fails (can_of_set (only b)) (core (Test (only b) terminal))
+      Shows-from consumes_or_fails (can_of_set (only b)) (core (Test (only b) terminal))
       (can_of_some _ (has_some-only b)) (core-Test (only b) terminal)
   to_tests b (c ∷ bs) terminal =
-      core-Seq (Test (only b) terminal) (in_order (Test (only c) terminal) (tests_of terminal bs)) something_or_fails
-      something_or_fails
-      (Shows-from something_or_fails (can_of_set (only b)) (core (Test (only b) terminal))
+      core-Seq (Test (only b) terminal) (in_order (Test (only c) terminal) (tests_of terminal bs)) consumes_or_fails
+      consumes_or_fails
+      (Shows-from consumes_or_fails (can_of_set (only b)) (core (Test (only b) terminal))
       (can_of_some _ (has_some-only b)) (core-Test (only b) terminal))
       (to_tests c bs terminal)
 
@@ -224,32 +224,32 @@ module _ (rules : List grammar.Rule) where
 
   module _ (n : ℕ) (h : ToCore n) where
     to_items : (items : Forms) (terminal : ℕ)
-        → Shows (judge_items (can_in rules n) items) (core (all_in_order (core_forms rules terminal items)))
+        → Shows (outcome_of_items (can_in rules n) items) (core (all_in_order (core_forms rules terminal items)))
     to_items End terminal = core-Empty
     to_items (Then e End) terminal =
-        Shows-from (both (can_in rules n e) only_nothing) (can_in rules n e) (core (core_form rules terminal e))
-        (both-nothing (can_in rules n e)) (h e terminal)
+        Shows-from (seq_outcome (can_in rules n e) always_empty) (can_in rules n e) (core (core_form rules terminal e))
+        (seq_outcome-nothing (can_in rules n e)) (h e terminal)
     to_items (Then e (Then f rest)) terminal =
         core-Seq (core_form rules terminal e) (all_in_order (core_forms rules (terminal + terminals e) (Then f rest)))
-        (can_in rules n e) (judge_items (can_in rules n) (Then f rest)) (h e terminal)
+        (can_in rules n e) (outcome_of_items (can_in rules n) (Then f rest)) (h e terminal)
         (to_items (Then f rest) (terminal + terminals e))
 
     to_first : (e : Form) (rest : Forms) (terminal : ℕ)
-        → Shows (judge_first (can_in rules n) e rest)
+        → Shows (outcome_of_choice (can_in rules n) e rest)
         (core (one_of (core_form rules terminal e) (core_forms rules (terminal + terminals e) rest)))
     to_first e End terminal = h e terminal
     to_first e (Then next rest) terminal =
         let later = terminal + terminals e in
         core-Choice (core_form rules terminal e)
         (one_of (core_form rules later next) (core_forms rules (later + terminals next) rest)) (can_in rules n e)
-        (judge_first (can_in rules n) next rest) (h e terminal) (to_first next rest later)
+        (outcome_of_choice (can_in rules n) next rest) (h e terminal) (to_first next rest later)
 
-    to_meaning : (name : List ℕ) (meaning : Option Meaning) → meant rules name ≡ meaning
-        → Shows (judge_meaning (can_in rules n) meaning) (core (Rule (number_of rules name)))
-    to_meaning name None is = Shows-cannot (core (Rule (number_of rules name)))
+    to_meaning : (name : List ℕ) (meaning : Option Meaning) → meaning_of rules name ≡ meaning
+        → Shows (outcome_of_meaning (can_in rules n) meaning) (core (Rule (number_of rules name)))
+    to_meaning name None is = Shows-no_outcome (core (Rule (number_of rules name)))
     to_meaning name (Some m) is =
         core-Rule (number_of rules name) (core_form rules m.terminal m.body) (can_in rules n m.body)
-        (body-meant rules name m is) (h m.body m.terminal)
+        (body-meaning_of rules name m is) (h m.body m.terminal)
 
     to_core-table : (e : Form) (terminal : ℕ)
         → Shows (can_table rules (can_in rules n) e) (core (core_form rules terminal e))
@@ -257,36 +257,36 @@ module _ (rules : List grammar.Rule) where
     to_core-table (Literal (b ∷ bs) span) terminal = to_tests b bs terminal
     to_core-table (Class set span) terminal = core-Test set terminal
     to_core-table (Any span) terminal =
-        Shows-from something_or_fails (can_of_set all_bytes) (core (Test all_bytes terminal))
+        Shows-from consumes_or_fails (can_of_set all_bytes) (core (Test all_bytes terminal))
         (can_of_some _ has_some-all_bytes) (core-Test all_bytes terminal)
-    to_core-table (Name name span) terminal = to_meaning name (meant rules name) refl
+    to_core-table (Name name span) terminal = to_meaning name (meaning_of rules name) refl
     to_core-table (written_form.Seq items span) terminal = to_items items terminal
     to_core-table (written_form.Choice first rest span) terminal = to_first first rest terminal
     to_core-table (Optional part span) terminal =
         let a = can_in rules n part in
-        Shows-from (or_nothing a) (either a only_nothing) (core (Choice (core_form rules terminal part) Empty))
-        (or_nothing-either a)
-        (core-Choice (core_form rules terminal part) Empty a only_nothing (h part terminal) core-Empty)
+        Shows-from (optional_outcome a) (choice_outcome a always_empty) (core (Choice (core_form rules terminal part) Empty))
+        (optional_outcome-choice_outcome a)
+        (core-Choice (core_form rules terminal part) Empty a always_empty (h part terminal) core-Empty)
     to_core-table (written_form.Star part span) terminal =
         core-Star (core_form rules terminal part) span (can_in rules n part) (h part terminal)
     to_core-table (Plus part span) terminal =
         let a = can_in rules n part in
         let form = core_form rules terminal part in
-        Shows-from (once_and_again a) (both a (again a)) (core (Seq form (Star form span))) (once_and_again-both a)
-        (core-Seq form (Star form span) a (again a) (h part terminal) (core-Star form span a (h part terminal)))
+        Shows-from (plus_outcome a) (seq_outcome a (star_outcome a)) (core (Seq form (Star form span))) (plus_outcome-seq_outcome a)
+        (core-Seq form (Star form span) a (star_outcome a) (h part terminal) (core-Star form span a (h part terminal)))
     to_core-table (Counted part min max span) terminal =
         core-count (core_form rules terminal part) (can_in rules n part) (h part terminal) min max
     to_core-table (And part span) terminal =
         let a = can_in rules n part in
         let form = core_form rules terminal part in
-        Shows-from (ahead a) (not_ahead (not_ahead a)) (core (Not (Not form))) (ahead-not a)
-        (core-Not (Not form) (not_ahead a) (core-Not form a (h part terminal)))
+        Shows-from (and_outcome a) (not_outcome (not_outcome a)) (core (Not (Not form))) (and_outcome-not a)
+        (core-Not (Not form) (not_outcome a) (core-Not form a (h part terminal)))
     to_core-table (written_form.Not part span) terminal =
         core-Not (core_form rules terminal part) (can_in rules n part) (h part terminal)
 
   pub to_core : (n : ℕ) → ToCore n
   unfolding can_in
-  to_core zero = λ e terminal. Shows-cannot (core (core_form rules terminal e))
+  to_core zero = λ e terminal. Shows-no_outcome (core (core_form rules terminal e))
   to_core (suc n) = λ e terminal. to_core-table n (to_core n) e terminal
 
   -- ---- from a core form to the written expression
@@ -307,31 +307,31 @@ module _ (rules : List grammar.Rule) where
   abbrev tabled : ℕ → CoreForm → Can
   tabled n form = core_can_table bodies (core_can_in bodies n) form
 
-  from_empty : (n : ℕ) → Shows (core Empty n) (λ m. only_nothing)
+  from_empty : (n : ℕ) → Shows (core Empty n) (λ m. always_empty)
   unfolding core_can_in
-  from_empty zero = Shows-cannot (λ m. only_nothing)
-  from_empty (suc n) = Shows-constant only_nothing
+  from_empty zero = Shows-no_outcome (λ m. always_empty)
+  from_empty (suc n) = Shows-constant always_empty
 
   from_test : (n : ℕ) (set : List Bool) (terminal : ℕ) → Shows (core (Test set terminal) n) (λ m. can_of_set set)
   unfolding core_can_in
-  from_test zero set terminal = Shows-cannot (λ m. can_of_set set)
+  from_test zero set terminal = Shows-no_outcome (λ m. can_of_set set)
   from_test (suc n) set terminal = Shows-constant (can_of_set set)
 
-  one_test : (n b terminal : ℕ) → Shows (core (Test (only b) terminal) n) (λ m. something_or_fails)
+  one_test : (n b terminal : ℕ) → Shows (core (Test (only b) terminal) n) (λ m. consumes_or_fails)
   one_test n b terminal =
-      Shows-same (core (Test (only b) terminal) n) (λ m. can_of_set (only b)) (λ m. something_or_fails)
+      Shows-same (core (Test (only b) terminal) n) (λ m. can_of_set (only b)) (λ m. consumes_or_fails)
       (λ m. sym (can_of_some _ (has_some-only b))) (from_test n (only b) terminal)
 
   -- all tests of a literal, in any number of rounds
   from_tests : (n b : ℕ) (bs : List ℕ) (terminal : ℕ)
-      → Shows (core (in_order (Test (only b) terminal) (tests_of terminal bs)) n) (λ m. something_or_fails)
+      → Shows (core (in_order (Test (only b) terminal) (tests_of terminal bs)) n) (λ m. consumes_or_fails)
   unfolding core_can_in
-  from_tests zero b bs terminal = Shows-cannot (λ m. something_or_fails)
+  from_tests zero b bs terminal = Shows-no_outcome (λ m. consumes_or_fails)
   from_tests (suc n) b [] terminal = one_test (suc n) b terminal
   from_tests (suc n) b (c ∷ bs) terminal =
       let rest = in_order (Test (only c) terminal) (tests_of terminal bs) in
-      Shows-both (core (Test (only b) terminal) n) (core rest n) (λ m. something_or_fails) (λ m. something_or_fails)
-      (λ m. CanAll-refl something_or_fails) (λ m. CanAll-refl something_or_fails) (one_test n b terminal)
+      Shows-seq_outcome (core (Test (only b) terminal) n) (core rest n) (λ m. consumes_or_fails) (λ m. consumes_or_fails)
+      (λ m. CanAll-refl consumes_or_fails) (λ m. CanAll-refl consumes_or_fails) (one_test n b terminal)
       (from_tests n c bs terminal)
 
   -- what one round of a part shows, its outcomes in fewer rounds show too
@@ -340,43 +340,43 @@ module _ (rules : List grammar.Rule) where
 
   -- a count, iteration by iteration, in any number of rounds
   from_unfolded : (part : CoreForm) (f : ℕ → Can) → Grows f → (min max n : ℕ) → Shows (core part n) f
-      → Shows (core (unfolded part min max) n) (λ m. times (f m) min max)
+      → Shows (core (unfolded part min max) n) (λ m. repeat_outcome (f m) min max)
   unfolding core_can_in
   from_unfolded part f grows min zero n h = from_empty n
-  from_unfolded part f grows zero (suc max) zero h = Shows-cannot (λ m. times (f m) zero (suc max))
-  from_unfolded part f grows zero (suc max) (suc zero) h = Shows-cannot (λ m. times (f m) zero (suc max))
+  from_unfolded part f grows zero (suc max) zero h = Shows-no_outcome (λ m. repeat_outcome (f m) zero (suc max))
+  from_unfolded part f grows zero (suc max) (suc zero) h = Shows-no_outcome (λ m. repeat_outcome (f m) zero (suc max))
   from_unfolded part f grows zero (suc max) (suc (suc n)) h =
       let a = core part n in
       let b = core (unfolded part zero max) n in
       let k = sooner part f n (sooner part f (suc n) h) in
-      let round = λ (m : ℕ). both (f m) (times (f m) zero max) in
+      let round = λ (m : ℕ). seq_outcome (f m) (repeat_outcome (f m) zero max) in
       let inner = from_unfolded part f grows zero max n k in
-      Shows-same (either (both a b) only_nothing) (λ m. either (round m) only_nothing) (λ m. or_nothing (round m))
-      (λ m. sym (or_nothing-either (round m)))
-      (Shows-either (both a b) only_nothing round (λ m. only_nothing)
-      (λ m. CanAll-both (f m) (times (f m) zero max) (f (suc m)) (times (f (suc m)) zero max) (grows m)
-      (CanAll-times (f m) (f (suc m)) (grows m) zero max)) (λ m. CanAll-refl only_nothing)
-      (Shows-both a b f (λ m. times (f m) zero max) grows (λ m. CanAll-times (f m) (f (suc m)) (grows m) zero max) k inner)
-      (Shows-constant only_nothing))
-  from_unfolded part f grows (suc min) (suc max) zero h = Shows-cannot (λ m. times (f m) (suc min) (suc max))
+      Shows-same (choice_outcome (seq_outcome a b) always_empty) (λ m. choice_outcome (round m) always_empty) (λ m. optional_outcome (round m))
+      (λ m. sym (optional_outcome-choice_outcome (round m)))
+      (Shows-choice_outcome (seq_outcome a b) always_empty round (λ m. always_empty)
+      (λ m. CanAll-seq_outcome (f m) (repeat_outcome (f m) zero max) (f (suc m)) (repeat_outcome (f (suc m)) zero max) (grows m)
+      (CanAll-repeat_outcome (f m) (f (suc m)) (grows m) zero max)) (λ m. CanAll-refl always_empty)
+      (Shows-seq_outcome a b f (λ m. repeat_outcome (f m) zero max) grows (λ m. CanAll-repeat_outcome (f m) (f (suc m)) (grows m) zero max) k inner)
+      (Shows-constant always_empty))
+  from_unfolded part f grows (suc min) (suc max) zero h = Shows-no_outcome (λ m. repeat_outcome (f m) (suc min) (suc max))
   from_unfolded part f grows (suc min) (suc max) (suc n) h =
       let k = sooner part f n h in
-      Shows-both (core part n) (core (unfolded part min max) n) f (λ m. times (f m) min max) grows
-      (λ m. CanAll-times (f m) (f (suc m)) (grows m) min max) k (from_unfolded part f grows min max n k)
+      Shows-seq_outcome (core part n) (core (unfolded part min max) n) f (λ m. repeat_outcome (f m) min max) grows
+      (λ m. CanAll-repeat_outcome (f m) (f (suc m)) (grows m) min max) k (from_unfolded part f grows min max n k)
 
   from_count : (part : CoreForm) (f : ℕ → Can) → Grows f → (min max n : ℕ) → Shows (tabled n part) f
-      → Shows (tabled n (count_form part min max)) (λ m. times (f m) min max)
+      → Shows (tabled n (count_form part min max)) (λ m. repeat_outcome (f m) min max)
   unfolding core_can_in
-  from_count part f grows min zero zero h = Shows-cannot (λ m. only_nothing)
-  from_count part f grows min zero (suc n) h = Shows-constant only_nothing
+  from_count part f grows min zero zero h = Shows-no_outcome (λ m. always_empty)
+  from_count part f grows min zero (suc n) h = Shows-constant always_empty
   from_count part f grows min (suc max) n h = from_unfolded part f grows min (suc max) (suc n) h
 
   -- items and alternatives of written expressions, by rounds
   abbrev items_in : Forms → ℕ → Can
-  items_in items n = judge_items (can_in rules n) items
+  items_in items n = outcome_of_items (can_in rules n) items
 
   abbrev first_in : Form → Forms → ℕ → Can
-  first_in e rest n = judge_first (can_in rules n) e rest
+  first_in e rest n = outcome_of_choice (can_in rules n) e rest
 
   items-grow : (items : Forms) → Grows (items_in items)
   items-grow items n = CanAll-items (can_in rules n) (can_in rules (suc n)) (can_in-more rules n) items
@@ -391,27 +391,27 @@ module _ (rules : List grammar.Rule) where
     from_first e next rest span terminal =
         let later = terminal + terminals e in
         let others : Form = written_form.Choice next rest span in
-        Shows-either (core (core_form rules terminal e) n) (core (core_form rules later others) n) (written e)
+        Shows-choice_outcome (core (core_form rules terminal e) n) (core (core_form rules later others) n) (written e)
         (first_in next rest) (written-grows e) (first-grows next rest) (h e terminal)
         (unshown others (core (core_form rules later others) n) (h others later))
 
-    from_meaning : (name : List ℕ) (span : Extent) (terminal : ℕ) (meaning : Option Meaning) → meant rules name ≡ meaning
+    from_meaning : (name : List ℕ) (span : Extent) (terminal : ℕ) (meaning : Option Meaning) → meaning_of rules name ≡ meaning
         → Shows (tabled n (Rule (number_of rules name))) (written (Name name span))
     from_meaning name span terminal None is =
-        Shows-from (tabled n (Rule (number_of rules name))) cannot (written (Name name span))
-        (ap (judge_body (core_can_in bodies n)) (body-unmeant rules name is)) (Shows-cannot (written (Name name span)))
+        Shows-from (tabled n (Rule (number_of rules name))) no_outcome (written (Name name span))
+        (ap (outcome_of_body (core_can_in bodies n)) (body-unmeant rules name is)) (Shows-no_outcome (written (Name name span)))
     from_meaning name span terminal (Some m) is =
         let form = core_form rules m.terminal m.body in
         Shows-from (tabled n (Rule (number_of rules name))) (core form n) (written (Name name span))
-        (ap (judge_body (core_can_in bodies n)) (body-meant rules name m is))
+        (ap (outcome_of_body (core_can_in bodies n)) (body-meaning_of rules name m is))
         (shown (Name name span) (core form n)
-        (Shows-same (core form n) (written m.body) (λ k. judge_meaning (can_in rules k) (meant rules name))
-        (λ k. sym (ap (judge_meaning (can_in rules k)) is)) (h m.body m.terminal)))
+        (Shows-same (core form n) (written m.body) (λ k. outcome_of_meaning (can_in rules k) (meaning_of rules name))
+        (λ k. sym (ap (outcome_of_meaning (can_in rules k)) is)) (h m.body m.terminal)))
 
     from_literal : (bs : List ℕ) (span : Extent) (terminal : ℕ)
         → Shows (tabled n (all_in_order (tests_of terminal bs))) (written (Literal bs span))
     unfolding core_can_in
-    from_literal [] span terminal = shown (Literal [] span) only_nothing (Shows-constant only_nothing)
+    from_literal [] span terminal = shown (Literal [] span) always_empty (Shows-constant always_empty)
     from_literal (b ∷ bs) span terminal =
         shown (Literal (b ∷ bs) span) (tabled n (all_in_order (tests_of terminal (b ∷ bs))))
         (from_tests (suc n) b bs terminal)
@@ -423,9 +423,9 @@ module _ (rules : List grammar.Rule) where
           shown (Class set span) (can_of_set set) (Shows-constant (can_of_set set))
       from_core-table (Any span) terminal =
           shown (Any span) (can_of_set all_bytes)
-          (Shows-same (can_of_set all_bytes) (λ m. can_of_set all_bytes) (λ m. something_or_fails)
+          (Shows-same (can_of_set all_bytes) (λ m. can_of_set all_bytes) (λ m. consumes_or_fails)
           (λ m. sym (can_of_some _ has_some-all_bytes)) (Shows-constant (can_of_set all_bytes)))
-      from_core-table (Name name span) terminal = from_meaning name span terminal (meant rules name) refl
+      from_core-table (Name name span) terminal = from_meaning name span terminal (meaning_of rules name) refl
       from_core-table (written_form.Seq items span) terminal =
           shown (written_form.Seq items span) (tabled n (all_in_order (core_forms rules terminal items)))
           (from_items items span terminal)
@@ -437,24 +437,24 @@ module _ (rules : List grammar.Rule) where
           shown e (tabled n (core_form rules terminal e)) (from_first first next rest span terminal)
       from_core-table (Optional part span) terminal =
           let a = core (core_form rules terminal part) n in
-          shown (Optional part span) (either a (core Empty n))
-          (Shows-same (either a (core Empty n)) (λ m. either (written part m) only_nothing) (λ m. or_nothing (written part m))
-          (λ m. sym (or_nothing-either (written part m)))
-          (Shows-either a (core Empty n) (written part) (λ m. only_nothing) (written-grows part)
-          (λ m. CanAll-refl only_nothing) (h part terminal) (from_empty n)))
+          shown (Optional part span) (choice_outcome a (core Empty n))
+          (Shows-same (choice_outcome a (core Empty n)) (λ m. choice_outcome (written part m) always_empty) (λ m. optional_outcome (written part m))
+          (λ m. sym (optional_outcome-choice_outcome (written part m)))
+          (Shows-choice_outcome a (core Empty n) (written part) (λ m. always_empty) (written-grows part)
+          (λ m. CanAll-refl always_empty) (h part terminal) (from_empty n)))
       from_core-table (written_form.Star part span) terminal =
           let a = core (core_form rules terminal part) n in
           let k = h part terminal in
-          shown (written_form.Star part span) (again a) (k.0, CanAll-again a (written part k.0) k.1)
+          shown (written_form.Star part span) (star_outcome a) (k.0, CanAll-star_outcome a (written part k.0) k.1)
       from_core-table (Plus part span) terminal =
           let star : Form = written_form.Star part span in
           let a = core (core_form rules terminal part) n in
           let b = core (core_form rules terminal star) n in
-          shown (Plus part span) (both a b)
-          (Shows-same (both a b) (λ m. both (written part m) (again (written part m))) (λ m. once_and_again (written part m))
-          (λ m. sym (once_and_again-both (written part m)))
-          (Shows-both a b (written part) (λ m. again (written part m)) (written-grows part)
-          (λ m. CanAll-again (written part m) (written part (suc m)) (written-grows part m)) (h part terminal)
+          shown (Plus part span) (seq_outcome a b)
+          (Shows-same (seq_outcome a b) (λ m. seq_outcome (written part m) (star_outcome (written part m))) (λ m. plus_outcome (written part m))
+          (λ m. sym (plus_outcome-seq_outcome (written part m)))
+          (Shows-seq_outcome a b (written part) (λ m. star_outcome (written part m)) (written-grows part)
+          (λ m. CanAll-star_outcome (written part m) (written part (suc m)) (written-grows part m)) (h part terminal)
           (unshown star b (h star terminal))))
       from_core-table (Counted part min max span) terminal =
           let form = core_form rules terminal part in
@@ -464,31 +464,31 @@ module _ (rules : List grammar.Rule) where
           let not : Form = written_form.Not part span in
           let b = core (core_form rules terminal not) n in
           let k = unshown not b (h not terminal) in
-          shown (And part span) (not_ahead b)
-          (Shows-same (not_ahead b) (λ m. not_ahead (not_ahead (written part m))) (λ m. ahead (written part m))
-          (λ m. sym (ahead-not (written part m))) (k.0, CanAll-not_ahead b (not_ahead (written part k.0)) k.1))
+          shown (And part span) (not_outcome b)
+          (Shows-same (not_outcome b) (λ m. not_outcome (not_outcome (written part m))) (λ m. and_outcome (written part m))
+          (λ m. sym (and_outcome-not (written part m))) (k.0, CanAll-not_outcome b (not_outcome (written part k.0)) k.1))
       from_core-table (written_form.Not part span) terminal =
           let a = core (core_form rules terminal part) n in
           let k = h part terminal in
-          shown (written_form.Not part span) (not_ahead a) (k.0, CanAll-not_ahead a (written part k.0) k.1)
+          shown (written_form.Not part span) (not_outcome a) (k.0, CanAll-not_outcome a (written part k.0) k.1)
 
       from_items : (items : Forms) (span : Extent) (terminal : ℕ)
           → Shows (tabled n (all_in_order (core_forms rules terminal items))) (items_in items)
-      from_items End span terminal = Shows-constant only_nothing
+      from_items End span terminal = Shows-constant always_empty
       from_items (Then e End) span terminal =
           let a = tabled n (core_form rules terminal e) in
-          Shows-same a (written e) (items_in (Then e End)) (λ m. sym (both-nothing (written e m)))
+          Shows-same a (written e) (items_in (Then e End)) (λ m. sym (seq_outcome-nothing (written e m)))
           (from_core-table e terminal)
       from_items (Then e (Then f rest)) span terminal =
           let later = terminal + terminals e in
           let items : Form = written_form.Seq (Then f rest) span in
-          Shows-both (core (core_form rules terminal e) n) (core (core_form rules later items) n) (written e)
+          Shows-seq_outcome (core (core_form rules terminal e) n) (core (core_form rules later items) n) (written e)
           (items_in (Then f rest)) (written-grows e) (items-grow (Then f rest)) (h e terminal)
           (unshown items (core (core_form rules later items) n) (h items later))
 
   pub from_core : (n : ℕ) → FromCore n
   unfolding core_can_in
-  from_core zero = λ e terminal. Shows-cannot (written e)
+  from_core zero = λ e terminal. Shows-no_outcome (written e)
   from_core (suc n) = λ e terminal. from_core-table n (from_core n) e terminal
 
 -- the outcomes of a written expression are those of its core form

@@ -5,14 +5,14 @@ use Rattle.peg_bytes.specs.Extent.{Extent}
 use Rattle.peg_semantics.specs.AbstractOutcomes.{GivesNothing}
 use Rattle.peg_semantics.specs.Form.{Form, Forms, Literal, Class, Any, Name, Optional, Plus, Counted, And, End, Then, terminals}
 use Rattle.peg_semantics.specs.Form as written_form
-use Rattle.peg_semantics.specs.Rules.{Meaning, meant}
+use Rattle.peg_semantics.specs.Rules.{Meaning, meaning_of}
 use Rattle.peg_semantics.specs.Rules as grammar
 use Rattle.peg_semantics.specs.WellFormed.{ItemsAre, AllAre, MeaningIs, RepeatsWell, WellFormedTable, IsWellFormedIn, IsWellFormed}
 use Rattle.peg_semantics.proofs.RoundsLemmas.{ItemsAre-more, AllAre-more, IsWellFormedIn-more}
 use Rattle.peg_core.specs.CoreForm.{CoreForm, Empty, Test, Rule, Seq, Choice, Star, Not, in_order, all_in_order, one_of, tests_of, unfolded, count_form, number_of, core_form, core_forms, core_bodies}
 use Rattle.peg_core.specs.CoreOutcomes.{CoreGivesNothing, BodyIs, CoreWellFormedTable, IsCoreWellFormedIn, IsCoreWellFormed}
 use Rattle.peg_core.proofs.CoreRounds.{IsCoreWellFormedIn-more}
-use Rattle.peg_core.proofs.Meanings.{body-meant, body-unmeant}
+use Rattle.peg_core.proofs.Meanings.{body-meaning_of, body-unmeant}
 use Rattle.peg_core.proofs.SugarOutcomes.{GivesNothing-to_core, GivesNothing-from_core}
 
 -- a property by rounds, which stays in later rounds
@@ -179,11 +179,11 @@ module _ (rules : List grammar.Rule) where
         (one_of (core_form rules later next) (core_forms rules (later + terminals next) rest)) (Is e)
         (Is next × AllAre Is rest) (h e terminal) (to_first next rest later)
 
-    to_meaning : (name : List ℕ) (meaning : Option Meaning) → meant rules name ≡ meaning
+    to_meaning : (name : List ℕ) (meaning : Option Meaning) → meaning_of rules name ≡ meaning
         → Follows (MeaningIs Is meaning) (core (Rule (number_of rules name)))
     to_meaning name None is = Follows-absurd (core (Rule (number_of rules name)))
     to_meaning name (Some m) is =
-        core-Rule (number_of rules name) (core_form rules m.terminal m.body) (Is m.body) (body-meant rules name m is)
+        core-Rule (number_of rules name) (core_form rules m.terminal m.body) (Is m.body) (body-meaning_of rules name m is)
         (h m.body m.terminal)
 
     to_star : (part : Form) (span : Extent) (terminal : ℕ)
@@ -196,7 +196,7 @@ module _ (rules : List grammar.Rule) where
     to_core-table (Literal bs span) terminal = to_literal (Unit {0}) bs terminal
     to_core-table (Class set span) terminal = core-Test (Unit {0}) set terminal
     to_core-table (Any span) terminal = core-Test (Unit {0}) all_bytes terminal
-    to_core-table (Name name span) terminal = to_meaning name (meant rules name) refl
+    to_core-table (Name name span) terminal = to_meaning name (meaning_of rules name) refl
     to_core-table (written_form.Seq items span) terminal = to_items items terminal
     to_core-table (written_form.Choice first rest span) terminal = to_first first rest terminal
     to_core-table (Optional part span) terminal =
@@ -285,7 +285,7 @@ module _ (rules : List grammar.Rule) where
         Follows-both P Q (written e) (all_in next rest) (written-grows e) (all-grow next rest) (h e terminal)
         (unshown others Q (h others later))
 
-    from_meaning : (name : List ℕ) (span : Extent) (terminal : ℕ) (meaning : Option Meaning) → meant rules name ≡ meaning
+    from_meaning : (name : List ℕ) (span : Extent) (terminal : ℕ) (meaning : Option Meaning) → meaning_of rules name ≡ meaning
         → Follows (tabled n (Rule (number_of rules name))) (written (Name name span))
     from_meaning name span terminal None is =
         Follows-from (tabled n (Rule (number_of rules name))) ⊥ (written (Name name span))
@@ -294,9 +294,9 @@ module _ (rules : List grammar.Rule) where
     from_meaning name span terminal (Some m) is =
         let P = core (core_form rules m.terminal m.body) n in
         Follows-from (tabled n (Rule (number_of rules name))) P (written (Name name span))
-        (subst (BodyIs (IsCoreWellFormedIn bodies n)) (body-meant rules name m is))
+        (subst (BodyIs (IsCoreWellFormedIn bodies n)) (body-meaning_of rules name m is))
         (shown (Name name span) P
-        (Follows-to P (written m.body) (λ k. MeaningIs (IsWellFormedIn rules k) (meant rules name))
+        (Follows-to P (written m.body) (λ k. MeaningIs (IsWellFormedIn rules k) (meaning_of rules name))
         (λ k. subst (MeaningIs (IsWellFormedIn rules k)) (sym is)) (h m.body m.terminal)))
 
     mutual
@@ -305,7 +305,7 @@ module _ (rules : List grammar.Rule) where
           shown (Literal bs span) (tabled n (all_in_order (tests_of terminal bs))) (0, λ is. tt)
       from_core-table (Class set span) terminal = shown (Class set span) (Unit {0}) (0, λ is. tt)
       from_core-table (Any span) terminal = shown (Any span) (Unit {0}) (0, λ is. tt)
-      from_core-table (Name name span) terminal = from_meaning name span terminal (meant rules name) refl
+      from_core-table (Name name span) terminal = from_meaning name span terminal (meaning_of rules name) refl
       from_core-table (written_form.Seq items span) terminal =
           shown (written_form.Seq items span) (tabled n (all_in_order (core_forms rules terminal items)))
           (from_items items span terminal)

@@ -70,18 +70,18 @@ forms_from-items_of (Star part origin) items =
 forms_from-items_of (Not part) items = ap (λ forms. with_one forms Not) (forms_from-items_of part items)
 
 -- the first form, or the empty form if there is none
-abbrev first_of : List CoreForm → CoreForm
-first_of [] = Empty
-first_of (form ∷ forms) = form
+abbrev first_form : List CoreForm → CoreForm
+first_form [] = Empty
+first_form (form ∷ forms) = form
 
-pub first_of-items_of : (form : CoreForm) → first_of (forms_from (items_of form)) ≡ form
-first_of-items_of form =
-    ap (λ items. first_of (forms_from items)) (sym (append-nil (items_of form)))
-    ∙ ap first_of (forms_from-items_of form [])
+pub first_form-items_of : (form : CoreForm) → first_form (forms_from (items_of form)) ≡ form
+first_form-items_of form =
+    ap (λ items. first_form (forms_from items)) (sym (append-nil (items_of form)))
+    ∙ ap first_form (forms_from-items_of form [])
 
 abbrev pub form_code : Coded CoreForm
 form_code =
-    code_by (List FormItem) (coded_list item_code) items_of (λ items. first_of (forms_from items)) first_of-items_of
+    code_by (List FormItem) (coded_list item_code) items_of (λ items. first_form (forms_from items)) first_form-items_of
 
 abbrev pub extent_code : Coded Extent
 extent_code =

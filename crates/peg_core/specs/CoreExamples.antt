@@ -11,8 +11,8 @@ abbrev pub nested_core : List CoreForm
 nested_core = Choice (Seq (Test (only 97) 0) (Rule 0)) (Test (only 98) 1) ∷ []
 
 -- 'x'?   .+   ''*   &[]   !''   'x'* .   !'x' / [] 'x', one rule each
-abbrev pub signs_core : List CoreForm
-signs_core =
+abbrev pub operators_core : List CoreForm
+operators_core =
     Choice (Test (only 120) 0) Empty
     ∷ Seq (Test all_bytes 1) (Star (Test all_bytes 1) (between 0 2))
     ∷ Star Empty (between 0 3)

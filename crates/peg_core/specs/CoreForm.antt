@@ -4,7 +4,7 @@ use Rattle.peg_bytes.specs.ByteSet.{Bytes, only, all_bytes}
 use Rattle.peg_bytes.specs.Extent.{Extent}
 use Rattle.peg_semantics.specs.Form.{Form, Forms, End, Then, terminals}
 use Rattle.peg_semantics.specs.Form as written
-use Rattle.peg_semantics.specs.Rules.{Meaning, meant}
+use Rattle.peg_semantics.specs.Rules.{Meaning, meaning_of}
 use Rattle.peg_semantics.specs.Rules as grammar
 
 -- The empty expression, a test of a byte, a rule by its number, a sequence, a choice, a star, and a not-predicate. A
@@ -51,7 +51,7 @@ count_form part min (suc max) = unfolded part min (suc max)
 
 -- the number of the rule that a name denotes; the number of rules if it denotes none
 abbrev pub number_of : List grammar.Rule → List ℕ → ℕ
-number_of rules name = unwrap_or (option_map (λ (m : Meaning). m.rule) (meant rules name)) (length rules)
+number_of rules name = unwrap_or (option_map (λ (m : Meaning). m.rule) (meaning_of rules name)) (length rules)
 
 -- The core form of an expression whose first terminal has this number. `e?` is `e / ''`, `e+` is `e e*`, and `&e` is
 -- `!(!e)`. A count is unfolded, a literal is the sequence of its bytes, and a class or `.` is one test of a byte.

@@ -29,8 +29,8 @@ NodeFits number rules terminals (node.Star part) = part < number
 NodeFits number rules terminals (node.Not part) = part < number
 
 -- the form with a number is the form of the node
-abbrev pub Spells : List CoreForm → ℕ → Node → Type 0
-Spells forms number node = (origin : Extent) × (form_at forms number ≡ shape forms origin node)
+abbrev pub IsFormOfNode : List CoreForm → ℕ → Node → Type 0
+IsFormOfNode forms number node = (origin : Extent) × (form_at forms number ≡ shape forms origin node)
 
 -- the form with a number is a star written at this span
 abbrev pub IsStarFrom : List CoreForm → ℕ → Extent → Type 0

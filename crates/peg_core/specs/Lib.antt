@@ -19,11 +19,11 @@ pub mod CoreOutcomes
 pub mod CoreParts
 pub mod CoreRecord
 pub mod Cores
-pub mod FlatForms
-pub mod Laid
+pub mod BuilderForms
+pub mod Appending
 pub mod Layout
 pub mod CoreNodes
 pub mod RecordDepth
 pub mod Slots
-pub mod Spelled
+pub mod FormsOfNodes
 pub mod Subexpressions

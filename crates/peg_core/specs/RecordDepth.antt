@@ -12,11 +12,11 @@ max_rounds rounds text = (1 + length text) * (1 + rounds)
 -- each form has a record in n at each position of a text
 abbrev pub FormsHaveRecords : Desugared → List ℕ → (n : ℕ) → Type 0
 FormsHaveRecords core text n =
-    (number place : ℕ) → number < length core.forms → place ≤ length text
-    → core_record_in (bodies_of core) text n (form_at core.forms number) place ≢ None
+    (number position : ℕ) → number < length core.forms → position ≤ length text
+    → core_record_in (bodies_of core) text n (form_at core.forms number) position ≢ None
 
 -- each call of a rule has a record in n at each position of a text
-abbrev pub UsesHaveRecords : Desugared → List ℕ → (n : ℕ) → Type 0
-UsesHaveRecords core text n =
-    (rule place : ℕ) → rule < length core.bodies → place ≤ length text
-    → core_record_in (bodies_of core) text n (Rule rule) place ≢ None
+abbrev pub CallsHaveRecords : Desugared → List ℕ → (n : ℕ) → Type 0
+CallsHaveRecords core text n =
+    (rule position : ℕ) → rule < length core.bodies → position ≤ length text
+    → core_record_in (bodies_of core) text n (Rule rule) position ≢ None

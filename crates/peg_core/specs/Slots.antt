@@ -3,11 +3,11 @@ use Rattle.std.specs.Prelude.{◌≡◌, ℕ, ◌<◌, ◌≤◌, All, List, [],
 use Rattle.peg_bytes.specs.declared.byte_set.ByteSet.{ByteSet}
 use Rattle.peg_core.specs.declared.node.Node.{Node}
 use Rattle.peg_core.specs.declared.node.Node.TheVariants.{Empty, Test, Rule, Seq, Choice, Star, Not}
-use Rattle.peg_core.specs.declared.node.NodeAndOrigin.{NodeAndOrigin}
+use Rattle.peg_core.specs.declared.node.Entry.{Entry}
 use Rattle.peg_core.specs.declared.packed.Slot.{Slot}
 use Rattle.peg_core.specs.declared.packed.Slot.TheVariants as slot
-use Rattle.peg_core.specs.declared.packed.SlotAndOrigin.{SlotAndOrigin}
-use Rattle.peg_core.specs.declared.packed.Nodes.TheInside.{Inside}
+use Rattle.peg_core.specs.declared.packed.PackedEntry.{PackedEntry}
+use Rattle.peg_core.specs.declared.packed.PackedNodes.TheInside.{Inside}
 
 -- the set with a number, or the empty set if there is none
 abbrev pub set_at : List ByteSet → ℕ → ByteSet
@@ -24,10 +24,10 @@ unpacked_slot sets (slot.Star part) = Star part
 unpacked_slot sets (slot.Not part) = Not part
 
 -- the node of an item, with its span
-abbrev pub unpacked_item : List ByteSet → SlotAndOrigin → NodeAndOrigin
+abbrev pub unpacked_item : List ByteSet → PackedEntry → Entry
 unpacked_item sets item = record { node = unpacked_slot sets item.slot; origin = item.origin }
 
-abbrev pub unpacked : List ByteSet → List SlotAndOrigin → List NodeAndOrigin
+abbrev pub unpacked : List ByteSet → List PackedEntry → List Entry
 unpacked sets items = map (unpacked_item sets) items
 
 -- the set of a slot is one of the first `count`
@@ -40,7 +40,7 @@ SlotFits count (slot.Choice first rest) = Unit {0}
 SlotFits count (slot.Star part) = Unit {0}
 SlotFits count (slot.Not part) = Unit {0}
 
-abbrev pub ItemFits : (count : ℕ) → SlotAndOrigin → Type 0
+abbrev pub ItemFits : (count : ℕ) → PackedEntry → Type 0
 ItemFits count item = SlotFits count item.slot
 
 -- the set of each slot exists, and there are no more sets than slots

@@ -1,16 +1,16 @@
 //! Desugars a grammar into Ford's core forms, which have the same meaning.
 #![tactic(auto)]
 
-mod cores;
-mod flat;
+mod builder;
+mod core_forms;
+mod desugaring;
 pub mod laws;
-mod nest;
 mod node;
+mod operators;
 mod packed;
 pub mod record_laws;
-mod signs;
-mod sugar;
+mod sequences;
 
-pub use cores::Core;
+pub use core_forms::Core;
+pub use desugaring::desugar;
 pub use node::Node;
-pub use sugar::desugar;

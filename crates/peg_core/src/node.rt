@@ -22,7 +22,7 @@ pub enum Node {
 
 /// A node, and the span of the written star or plus of a star. Other nodes have no meaningful span.
 #[derive(Clone, Copy, Debug)]
-pub(crate) struct NodeAndOrigin {
+pub(crate) struct Entry {
     pub(crate) node: Node,
     pub(crate) origin: Span,
 }

@@ -4,7 +4,7 @@ ghost use Rattle.std.specs.Prelude.{IfOk, OnErr, OnOk, Some};
 ghost use Rattle.peg_core.specs.Layout.{max_forms};
 ghost use Rattle.peg_core.specs.Slots.{AddsSets, SlotFits, unpacked_slot};
 
-use crate::node::{Node, NodeAndOrigin};
+use crate::node::{Entry, Node};
 use peg_bytes::{ByteSet, Span};
 use std::alloc::{AllocError, Global};
 use std::marker::Model;
@@ -23,25 +23,25 @@ pub(crate) enum Slot {
 
 /// A slot, and the span of the written star or plus of a star.
 #[derive(Clone, Copy, Debug)]
-pub(crate) struct SlotAndOrigin {
+pub(crate) struct PackedEntry {
     slot: Slot,
     origin: Span,
 }
 
-const _: () = prove!(size_of::<SlotAndOrigin>() == 20);
+const _: () = prove!(size_of::<PackedEntry>() == 20);
 
 /// Nodes, with their sets in a separate list. A set that equals the last one of the list isn't stored again.
 #[derive(Debug, Drop)]
-pub(crate) struct Nodes {
-    slots: Vec<SlotAndOrigin>,
+pub(crate) struct PackedNodes {
+    slots: Vec<PackedEntry>,
     sets: Vec<ByteSet>,
 }
 
-impl Model for Nodes {
+impl Model for PackedNodes {
     ghost use Rattle.std.specs.Prelude.{List};
-    ghost use Rattle.peg_core.specs.declared.node.NodeAndOrigin.{NodeAndOrigin};
+    ghost use Rattle.peg_core.specs.declared.node.Entry.{Entry};
 
-    ghost Value = { List NodeAndOrigin };
+    ghost Value = { List Entry };
 
     ghost use Rattle.peg_core.specs.Slots.{unpacked, IsPacked};
 
@@ -50,12 +50,12 @@ impl Model for Nodes {
     ghost invariant = { IsPacked };
 }
 
-impl Nodes {
+impl PackedNodes {
     /// Returns an empty list.
-    pub(crate) fn new(alloc: Global) -> Nodes
+    pub(crate) fn new(alloc: Global) -> PackedNodes
         ensures { result ≡ [] }
     {
-        Nodes {
+        PackedNodes {
             slots: Vec::new(alloc),
             sets: Vec::new(alloc),
         }
@@ -69,7 +69,7 @@ impl Nodes {
     }
 
     /// Appends a node. The only error is a failed allocation, which leaves the list as it was.
-    pub(crate) fn push(&mut self, next: NodeAndOrigin) -> Result<(), AllocError>
+    pub(crate) fn push(&mut self, next: Entry) -> Result<(), AllocError>
         requires { length self.old < max_forms }
         ensures added { OnOk result (self.new ≡ self.old ++ next ∷ []) }
         ensures unchanged { OnErr result (self.new ≡ self.old) }
@@ -77,7 +77,7 @@ impl Nodes {
         // Reserves the slot first, so that a failed allocation leaves no set without its node.
         self.slots.reserve(1)?;
         let slot = slot_of(&mut self.sets, next.node)?;
-        self.slots.push(SlotAndOrigin {
+        self.slots.push(PackedEntry {
             slot,
             origin: next.origin,
         })?;

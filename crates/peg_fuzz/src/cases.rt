@@ -39,16 +39,16 @@ struct Case {
 
 // The offset that a refusal starts with, if it has one.
 fn place_in(line: &[u8]) -> u32 {
-    let mut place = 0u32;
+    let mut position = 0u32;
     for byte in line.iter().skip(b"{\"at\":".len()) {
         if !byte.is_ascii_digit() {
-            return place;
+            return position;
         }
-        place = place
+        position = position
             .saturating_mul(10)
             .saturating_add(u32::from(byte.saturating_sub(b'0')));
     }
-    place
+    position
 }
 
 // Whether the file has a count with numbers out of range at this offset.
@@ -96,7 +96,7 @@ impl Case {
         println!(rt; "  text {text:?}")?;
         let (line, wanted_status) = (wanted.text.as_str(), wanted.status);
         println!(rt; "  wanted, status {wanted_status}: {line:?}")?;
-        println!(rt; "  told, status {status}: {bytes:?}")
+        println!(rt; "  got, status {status}: {bytes:?}")
     }
 
     // Checks that the tool rejects a file with the same line for `check` and for `parse`.
@@ -144,10 +144,10 @@ impl Case {
 
     // A file that the metagrammar doesn't match: a syntax error, or a count out of range before it.
     fn unmatched(&self, rt: &impl Print, alloc: Global, counts: &mut Counts) -> io::Result<()> {
-        let told = run_on(alloc, &self.file, b"", &Command::Check).bytes;
-        let at = place_in(&told);
+        let bytes = run_on(alloc, &self.file, b"", &Command::Check).bytes;
+        let at = place_in(&bytes);
         let miscounted = unread_line(alloc, &self.file, at, "BadCount")?;
-        if told.as_slice() == miscounted.text.as_bytes() && is_bad_count(&self.file, at) {
+        if bytes.as_slice() == miscounted.text.as_bytes() && is_bad_count(&self.file, at) {
             return self.miscounted(rt, alloc, at, counts);
         }
         self.unread(rt, alloc, "Syntax", counts)

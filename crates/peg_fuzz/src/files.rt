@@ -83,11 +83,11 @@ impl Rules {
         if chance.one_in(200) {
             return chance.below(9);
         }
-        let behind = self.count - self.current - 1;
-        if behind == 0 || chance.one_in(4) {
+        let later = self.count - self.current - 1;
+        if later == 0 || chance.one_in(4) {
             return chance.below(self.count);
         }
-        self.current + 1 + chance.below(behind)
+        self.current + 1 + chance.below(later)
     }
 }
 

@@ -66,9 +66,9 @@ pub(crate) fn terminals_of(alloc: Global, grammar: &Grammar) -> Result<Vec<Span>
 // The line and the column of an offset.
 fn place_of(file: &[u8], at: u32) -> (u32, u32) {
     let (mut line, mut column) = (1u32, 1u32);
-    for (place, byte) in file.iter().enumerate().take(at as usize) {
-        let behind = file.get(place.saturating_add(1)).copied();
-        if *byte == b'\n' || (*byte == b'\r' && behind != Some(b'\n')) {
+    for (position, byte) in file.iter().enumerate().take(at as usize) {
+        let next = file.get(position.saturating_add(1)).copied();
+        if *byte == b'\n' || (*byte == b'\r' && next != Some(b'\n')) {
             line = line.saturating_add(1);
             column = 1;
         } else {

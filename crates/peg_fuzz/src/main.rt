@@ -35,7 +35,7 @@ fn number<R: Env + AllocGlobal>(rt: &R, at: usize) -> io::Result<Option<u64>> {
 }
 
 // Runs cases from a number on, and returns whether all lines were as expected.
-fn hunt<R: Print + AllocGlobal>(rt: &R, seed: u64, first: u64, count: u64) -> io::Result<bool> {
+fn fuzz<R: Print + AllocGlobal>(rt: &R, seed: u64, first: u64, count: u64) -> io::Result<bool> {
     let mut counts = Counts::default();
     for case in 0..count {
         run_case(rt, rt.alloc(), seed, first.wrapping_add(case), &mut counts)?;
@@ -56,7 +56,7 @@ fn compare(rt: &HostRuntime, grammar: &str, text: &str) -> io::Result<bool> {
 
 fn run(rt: &HostRuntime) -> io::Result<bool> {
     match (number(rt, 1)?, number(rt, 2)?) {
-        (Some(seed), Some(count)) => hunt(rt, seed, number(rt, 3)?.unwrap_or(0), count),
+        (Some(seed), Some(count)) => fuzz(rt, seed, number(rt, 3)?.unwrap_or(0), count),
         _ => run_files(rt),
     }
 }

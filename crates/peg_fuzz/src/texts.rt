@@ -158,8 +158,8 @@ pub(crate) fn repeat_byte(chance: &mut Rng, text: &mut Vec<u8>) -> Result<(), Al
     let at = chance.below(text.len());
     let byte = text[at];
     for _ in 0..chance.below(MOST_TIMES) {
-        let place = at.min(text.len());
-        text.insert(place, byte)?;
+        let position = at.min(text.len());
+        text.insert(position, byte)?;
     }
     Ok(())
 }

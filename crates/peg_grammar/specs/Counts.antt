@@ -4,5 +4,5 @@ use Rattle.peg_semantics.specs.Form as form
 use Rattle.peg_grammar.specs.declared.counts.Count.{Count}
 
 -- the count as written
-abbrev pub count_of : Count → form.Count
-count_of count = record { min = count.min; max = count.max; span = extent count.span }
+abbrev pub count_seen : Count → form.Count
+count_seen count = record { min = count.min; max = count.max; span = extent count.span }

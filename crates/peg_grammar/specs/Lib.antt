@@ -17,7 +17,7 @@ pub mod GrammarRules
 pub mod Limits
 pub mod Names
 pub mod Outcomes
-pub mod Plain
+pub mod Evaluator
 pub mod Refusal
 pub mod Seen
 pub mod Written

@@ -20,5 +20,5 @@ Answers tried outcome =
     × IsFurthest r.tests outcome.far outcome.expected.items
 
 -- the outcome of a grammar on a text from a start rule: that of Ford's record, in some depth
-abbrev pub IsOutcome : List Rule → List ℕ → List ℕ → Outcome → Type 0
-IsOutcome rules text start outcome = (n : ℕ) × Answers (start_record rules text n start) outcome
+abbrev pub IsParseOutcome : List Rule → List ℕ → List ℕ → Outcome → Type 0
+IsParseOutcome rules text start outcome = (n : ℕ) × Answers (start_record rules text n start) outcome

@@ -8,16 +8,16 @@ use Rattle.peg_grammar.specs.declared.fault.GrammarFault.TheVariants.{NoRule, Du
 use Rattle.peg_grammar.specs.declared.fault.GrammarFault.TheVariants.{BadCount, Memory}
 
 -- Whether a fault is true of rules. A failed allocation is possible for any rules.
-abbrev pub Refuses : List Rule → GrammarFault → Type 0
-Refuses rules NoRule = rules ≡ []
-Refuses rules (Duplicate name span) =
+abbrev pub IsRefusedBy : List Rule → GrammarFault → Type 0
+IsRefusedBy rules NoRule = rules ≡ []
+IsRefusedBy rules (Duplicate name span) =
     first_duplicate rules ≡ Some (record { name = string_bytes name; span = extent span })
-Refuses rules (Undefined name span) =
+IsRefusedBy rules (Undefined name span) =
     (first_duplicate rules ≡ None)
     × (first_undefined rules ≡ Some (record { name = string_bytes name; span = extent span }))
-Refuses rules (BadCount span) =
+IsRefusedBy rules (BadCount span) =
     (first_duplicate rules ≡ None)
     × (first_undefined rules ≡ None)
     × (option_map (λ count. count.span) (first_bad_count rules) ≡ Some (extent span))
-Refuses rules TooManyParts = IsGrammar rules × (max_parts < weight_of rules)
-Refuses rules Memory = Unit {0}
+IsRefusedBy rules TooManyParts = IsGrammar rules × (max_parts < weight_of rules)
+IsRefusedBy rules Memory = Unit {0}

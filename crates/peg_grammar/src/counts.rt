@@ -3,7 +3,7 @@ ghost use Rattle.std.specs.Prelude.{◌≡◌, ℕ, find, map, not, option_map};
 ghost use Rattle.peg_bytes.specs.Extent.{Extent};
 ghost use Rattle.peg_semantics.specs.Form.{Count as Written, counts_written, counts_written_by_all, forms};
 ghost use Rattle.peg_semantics.specs.Grammar.{first_bad_count as the_first, is_in_range};
-ghost use Rattle.peg_grammar.specs.Counts.{count_of};
+ghost use Rattle.peg_grammar.specs.Counts.{count_seen};
 ghost use Rattle.peg_grammar.specs.Written.{form_of, rules_of};
 
 use crate::{Definition, Expr};
@@ -20,11 +20,11 @@ pub(crate) struct Count {
 impl Count {
     ghost use Rattle.std.specs.Prelude.{◌≡◌};
     ghost use Rattle.peg_semantics.specs.Grammar.{is_in_range};
-    ghost use Rattle.peg_grammar.specs.Counts.{count_of};
+    ghost use Rattle.peg_grammar.specs.Counts.{count_seen};
 
     // Whether `min` is at most `max`, and `max` is at least 1.
     fn is_in_range(self) -> bool
-        ensures { result ≡ is_in_range (count_of self) }
+        ensures { result ≡ is_in_range (count_seen self) }
     {
         self.min <= self.max && self.max >= 1
     }
@@ -32,7 +32,7 @@ impl Count {
 
 // Finds the first count that is out of range, an expression before its parts.
 pub(crate) fn first_bad_count(definitions: &[Definition]) -> Option<Count>
-    ensures { option_map count_of result ≡ the_first (rules_of definitions.now) }
+    ensures { option_map count_seen result ≡ the_first (rules_of definitions.now) }
 {
     for definition in definitions {
         if let Some(bad) = bad_count_in(&definition.body) {
@@ -44,7 +44,7 @@ pub(crate) fn first_bad_count(definitions: &[Definition]) -> Option<Count>
 
 #[cycle(bad_count)]
 fn bad_count_in(expression: &Expr) -> Option<Count>
-    ensures { option_map count_of result
+    ensures { option_map count_seen result
         ≡ find (λ (count : Written). not (is_in_range count)) (counts_written (form_of expression.now)) }
 {
     match expression {
@@ -80,7 +80,7 @@ fn bad_count_in(expression: &Expr) -> Option<Count>
 
 #[cycle(bad_count)]
 fn bad_count_among(items: &[Expr]) -> Option<Count>
-    ensures { option_map count_of result
+    ensures { option_map count_seen result
         ≡ find (λ (count : Written). not (is_in_range count))
         (counts_written_by_all (forms (map form_of items.now))) }
 {

@@ -8,37 +8,37 @@ use std::alloc::{AllocError, AllocFailed, Global};
 
 /// Whether an expression matched, and the end of the match.
 #[derive(Clone, Copy, Debug, PartialEq, Eq)]
-pub(crate) enum Verdict {
+pub(crate) enum MatchResult {
     EndsAt { end: u32 },
     Fails,
 }
 
 /// Why an evaluation stopped early.
 #[derive(Clone, Copy, Debug, PartialEq, Eq)]
-pub(crate) enum Stop {
+pub(crate) enum Abort {
     AtDepth,
     OutOfMemory,
 }
 
-impl From<AllocError> for Stop {
+impl From<AllocError> for Abort {
     ghost use Rattle.std.specs.Prelude.{◌≡◌};
-    ghost use Rattle.peg_grammar.specs.declared.found.Stop.TheVariants.{OutOfMemory};
+    ghost use Rattle.peg_grammar.specs.declared.found.Abort.TheVariants.{OutOfMemory};
 
     ghost from_gives = { λ _ stop. stop ≡ OutOfMemory };
 
-    fn from(_error: AllocError) -> Stop {
-        Stop::OutOfMemory
+    fn from(_error: AllocError) -> Abort {
+        Abort::OutOfMemory
     }
 }
 
-impl<T: Drop> From<AllocFailed<T>> for Stop {
+impl<T: Drop> From<AllocFailed<T>> for Abort {
     ghost use Rattle.std.specs.Prelude.{◌≡◌};
-    ghost use Rattle.peg_grammar.specs.declared.found.Stop.TheVariants.{OutOfMemory};
+    ghost use Rattle.peg_grammar.specs.declared.found.Abort.TheVariants.{OutOfMemory};
 
     ghost from_gives = { λ _ stop. stop ≡ OutOfMemory };
 
-    fn from(_error: AllocFailed<T>) -> Stop {
-        Stop::OutOfMemory
+    fn from(_error: AllocFailed<T>) -> Abort {
+        Abort::OutOfMemory
     }
 }
 
@@ -60,18 +60,18 @@ pub(crate) struct Found {
 impl Furthest {
     ghost use Rattle.std.specs.Prelude.{◌≡◌, OnOk};
     ghost use Rattle.peg_grammar.specs.Found.{furthest_in};
-    ghost use Rattle.peg_semantics.specs.FurthestPass.{noted};
+    ghost use Rattle.peg_semantics.specs.FurthestPass.{note_test};
     ghost use Rattle.peg_semantics.specs.Record.{test_of};
 
     /// Records that the test of a terminal failed at a position.
-    pub(crate) fn note(&mut self, terminal: u32, place: u32) -> Result<(), AllocError>
-        ensures { OnOk result (furthest_in self.new ≡ noted (furthest_in self.old) (test_of terminal place)) }
+    pub(crate) fn note(&mut self, terminal: u32, position: u32) -> Result<(), AllocError>
+        ensures { OnOk result (furthest_in self.new ≡ note_test (furthest_in self.old) (test_of terminal position)) }
     {
-        if place < self.far {
+        if position < self.far {
             return Ok(());
         }
-        if self.far < place {
-            self.far = place;
+        if self.far < position {
+            self.far = position;
             self.expected.clear();
             self.expected.push(terminal)?;
             return Ok(());

@@ -3,7 +3,7 @@ ghost use Rattle.std.specs.Prelude.{◌≡◌, ◌≤◌, ◌<◌, length, posit
 ghost use Rattle.std.specs.Prelude.{option_map};
 ghost use Rattle.peg_semantics.specs.Grammar.{IsGrammar, max_parts};
 ghost use Rattle.peg_grammar.specs.Names.{names_in};
-ghost use Rattle.peg_grammar.specs.Refusal.{Refuses};
+ghost use Rattle.peg_grammar.specs.Refusal.{IsRefusedBy};
 ghost use Rattle.peg_semantics.specs.Rules.{names as names_of, name_of, weight_of};
 ghost use Rattle.peg_grammar.specs.Written.{form_of, rules_of};
 
@@ -36,7 +36,7 @@ impl Grammar {
         ensures rules { IfOk result (λ g. rules_in g ≡ rules_of definitions.items) }
         ensures grammar { OnOk result (IsGrammar (rules_of definitions.items)) }
         ensures light { OnOk result (weight_of (rules_of definitions.items) ≤ max_parts) }
-        ensures refused { IfErr result (Refuses (rules_of definitions.items)) }
+        ensures refused { IfErr result (IsRefusedBy (rules_of definitions.items)) }
     {
         let names = checked_names(alloc, &definitions)?;
         if weight(&definitions) > MAX_PARTS {

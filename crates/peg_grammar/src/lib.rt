@@ -2,6 +2,7 @@
 #![tactic(auto)]
 
 mod counts;
+mod evaluator;
 mod expr;
 mod fault;
 mod found;
@@ -9,15 +10,14 @@ mod grammar;
 mod name_key;
 mod names;
 mod names_of_grammar;
-mod numbers;
-mod plain;
-mod total;
+mod terminals;
+mod total_evaluator;
 mod weights;
 
+pub use evaluator::{MAX_TEXT_BYTES, PlainFault, plain_match};
 pub use expr::{Definition, Expr};
 pub use fault::GrammarFault;
 pub use grammar::{Grammar, MAX_PARTS};
 pub use peg_semantics::laws;
-pub use plain::{MAX_TEXT_BYTES, PlainFault, plain_match};
-pub use total::{TotalFault, plain_total};
+pub use total_evaluator::{TotalFault, plain_total};
 pub use weights::weight;

@@ -6,8 +6,8 @@ ghost use Rattle.peg_semantics.specs.Form.{forms, names_used, names_used_by_all}
 ghost use Rattle.peg_semantics.specs.Grammar.{IsGrammar, first_duplicate};
 ghost use Rattle.peg_semantics.specs.Grammar.{is_unknown};
 ghost use Rattle.peg_grammar.specs.Names.{names_in, reference_of};
-ghost use Rattle.peg_grammar.specs.Refusal.{Refuses};
-ghost use Rattle.peg_semantics.specs.Rules.{names as names_of, uses};
+ghost use Rattle.peg_grammar.specs.Refusal.{IsRefusedBy};
+ghost use Rattle.peg_semantics.specs.Rules.{names as names_of, references};
 ghost use Rattle.peg_grammar.specs.Written.{form_of, rules_of};
 
 use crate::counts::first_bad_count;
@@ -24,7 +24,7 @@ pub(crate) fn checked_names(
 ) -> Result<IndexSet<String, NameKey>, GrammarFault>
     ensures all { IfOk result (λ set. names_in set ≡ names_of (rules_of definitions.now)) }
     ensures grammar { OnOk result (IsGrammar (rules_of definitions.now)) }
-    ensures refused { IfErr result (Refuses (rules_of definitions.now)) }
+    ensures refused { IfErr result (IsRefusedBy (rules_of definitions.now)) }
 {
     if definitions.is_empty() {
         return Err(GrammarFault::NoRule);
@@ -47,7 +47,7 @@ fn distinct_names(
 ) -> Result<IndexSet<String, NameKey>, GrammarFault>
     ensures all { IfOk result (λ set. names_in set ≡ names_of (rules_of definitions.now)) }
     ensures distinct { OnOk result (first_duplicate (rules_of definitions.now) ≡ None) }
-    ensures refused { IfErr result (Refuses (rules_of definitions.now)) }
+    ensures refused { IfErr result (IsRefusedBy (rules_of definitions.now)) }
 {
     let mut names = IndexSet::with_hasher(alloc, NameKey::of(definitions));
     for definition in definitions {
@@ -93,7 +93,7 @@ fn first_unknown<'a>(
     definitions: &'a [Definition],
 ) -> Option<(&'a str, Span)>
     ensures { option_map reference_of result
-        ≡ find (is_unknown (names_in names.now)) (uses (rules_of definitions.now)) }
+        ≡ find (is_unknown (names_in names.now)) (references (rules_of definitions.now)) }
 {
     for definition in definitions {
         if let Some(unknown) = unknown_in(names, &definition.body) {

@@ -5,18 +5,18 @@ use Rattle.std.proofs.lemmas.Bool.{and_parts, eqb-true, cases_lt, cases_order, c
 use Rattle.peg_io.specs.Split.{line_starts_at, is_separator_at, NoneBefore, IsFirstSeparator, HasNoSeparator, IsSplit, at_separator, without_separator}
 
 -- a separator ends in byte 10
-separator_end : (input : List ℕ) (place : ℕ) → is_separator_at input place ≡ true
-    → slice_index input (place + 2) ≡ 10
-separator_end input place here = eqb-true (slice_index input (place + 2)) 10 (and_parts _ _ here).1
+separator_end : (input : List ℕ) (position : ℕ) → is_separator_at input position ≡ true
+    → slice_index input (position + 2) ≡ 10
+separator_end input position here = eqb-true (slice_index input (position + 2)) 10 (and_parts _ _ here).1
 
 -- the three bytes of a separator are within the input
-pub separator_within : (input : List ℕ) (place : ℕ) → is_separator_at input place ≡ true
-    → place + 2 < length input
-separator_within input place here =
-    let end = separator_end input place here in
-    elim (cases_lt (place + 2) (length input)) [
+pub separator_within : (input : List ℕ) (position : ℕ) → is_separator_at input position ≡ true
+    → position + 2 < length input
+separator_within input position here =
+    let end = separator_end input position here in
+    elim (cases_lt (position + 2) (length input)) [
       | inl within ↦ within
-      | inr past ↦ absurd (omega (arith, get_or_past input (place + 2) 0 past))
+      | inr past ↦ absurd (omega (arith, get_or_past input (position + 2) 0 past))
     ]
 
 -- an input has at most one first separator
@@ -34,7 +34,7 @@ pub IsSplit-same : (input before after before' after' : List ℕ) → IsSplit in
     → IsSplit input before' after' → (before ≡ before') × (after ≡ after')
 IsSplit-same input before after before' after' (at_separator one first b a) (at_separator other second b' a') =
     let same = first_separator_same input one other first second in
-    (b ∙ ap (λ place. take place input) same ∙ sym b', a ∙ ap (λ place. drop (place + 3) input) same ∙ sym a')
+    (b ∙ ap (λ position. take position input) same ∙ sym b', a ∙ ap (λ position. drop (position + 3) input) same ∙ sym a')
 IsSplit-same input before after before' after' (at_separator one first b a) (without_separator none b' a') =
     absurd (both_ways _ (none one) first.here)
 IsSplit-same input before after before' after' (without_separator none b a) (at_separator other second b' a') =
@@ -43,46 +43,46 @@ IsSplit-same input before after before' after' (without_separator none b a) (wit
     (b ∙ sym b', a ∙ sym a')
 
 -- either there is a first separator, or there is none before the bound
-first_below : (input : List ℕ) (bound : ℕ) → ((place : ℕ) × IsFirstSeparator input place) ⊎ NoneBefore input bound
-first_below input zero = inr (λ place below. absurd (omega arith))
+first_below : (input : List ℕ) (bound : ℕ) → ((position : ℕ) × IsFirstSeparator input position) ⊎ NoneBefore input bound
+first_below input zero = inr (λ position below. absurd (omega arith))
 first_below input (suc bound) =
     elim (first_below input bound) [
       | inl found ↦ inl found
       | inr none ↦ elim (cases_Bool (is_separator_at input bound)) [
         | inl here ↦ inl (bound, record { here = here; first = none })
-        | inr missing ↦ inr (λ place below. elim (cases_lt place bound) [
-          | inl less ↦ none place less
-          | inr most ↦ let same : place ≡ bound = omega arith in ap (is_separator_at input) same ∙ missing
+        | inr missing ↦ inr (λ position below. elim (cases_lt position bound) [
+          | inl less ↦ none position less
+          | inr limit ↦ let same : position ≡ bound = omega arith in ap (is_separator_at input) same ∙ missing
         ])
       ]
     ]
 
 -- an input has a first separator or no separator
-first_or_none : (input : List ℕ) → ((place : ℕ) × IsFirstSeparator input place) ⊎ HasNoSeparator input
+first_or_none : (input : List ℕ) → ((position : ℕ) × IsFirstSeparator input position) ⊎ HasNoSeparator input
 first_or_none input =
     elim (first_below input (length input)) [
       | inl found ↦ inl found
-      | inr none ↦ inr (λ place. elim (cases_Bool (is_separator_at input place)) [
-        | inl here ↦ none place (omega (arith, separator_within input place here))
+      | inr none ↦ inr (λ position. elim (cases_Bool (is_separator_at input position)) [
+        | inl here ↦ none position (omega (arith, separator_within input position here))
         | inr missing ↦ missing
       ])
     ]
 
 -- within a prefix, whether a line starts at an offset depends on the prefix alone
-line_starts_at-front : (front rest : List ℕ) (place : ℕ) → place ≤ length front
-    → line_starts_at (front ++ rest) place ≡ line_starts_at front place
+line_starts_at-front : (front rest : List ℕ) (position : ℕ) → position ≤ length front
+    → line_starts_at (front ++ rest) position ≡ line_starts_at front position
 line_starts_at-front front rest zero within = refl
 line_starts_at-front front rest (suc before) within =
     ap (λ byte. byte == 10) (get_or_append_left front rest 0 before (omega arith))
 
 -- whether a separator starts at an offset depends only on a prefix that contains its three bytes
-pub is_separator_at-front : (front rest : List ℕ) (place : ℕ) → place + 2 < length front
-    → is_separator_at (front ++ rest) place ≡ is_separator_at front place
-is_separator_at-front front rest place within =
-    let start = line_starts_at-front front rest place (omega arith) in
-    let one = get_or_append_left front rest 0 place (omega arith) in
-    let two = get_or_append_left front rest 0 (place + 1) (omega arith) in
-    let three = get_or_append_left front rest 0 (place + 2) within in
+pub is_separator_at-front : (front rest : List ℕ) (position : ℕ) → position + 2 < length front
+    → is_separator_at (front ++ rest) position ≡ is_separator_at front position
+is_separator_at-front front rest position within =
+    let start = line_starts_at-front front rest position (omega arith) in
+    let one = get_or_append_left front rest 0 position (omega arith) in
+    let two = get_or_append_left front rest 0 (position + 1) (omega arith) in
+    let three = get_or_append_left front rest 0 (position + 2) within in
     rw (start, one, two, three)
 
 -- What the split of a prefix says about the split of the whole input. A separator in the prefix is also that of the
@@ -98,20 +98,20 @@ pub data TellsSplit (front rest before after before' after' : List ℕ) : Type 0
 pub front_split : (front rest before after : List ℕ) → IsSplit front before after
     → (before' : List ℕ) × (after' : List ℕ) × IsSplit (front ++ rest) before' after'
     × TellsSplit front rest before after before' after'
-front_split front rest before after (at_separator place found b a) =
-    let within = separator_within front place found.here in
-    let here = is_separator_at-front front rest place within ∙ found.here in
-    let first : NoneBefore (front ++ rest) place = λ earlier less.
+front_split front rest before after (at_separator position found b a) =
+    let within = separator_within front position found.here in
+    let here = is_separator_at-front front rest position within ∙ found.here in
+    let first : NoneBefore (front ++ rest) position = λ earlier less.
     is_separator_at-front front rest earlier (omega arith) ∙ found.first earlier less in
-    let fits : place ≤ length front = omega arith in
-    let fits_end : place + 3 ≤ length front = omega arith in
-    let before_length : length before ≡ place = ap length b ∙ length-take-le place front fits in
-    let after_length : length after ≡ length front - (place + 3) = ap length a ∙ length-drop (place + 3) front in (
-      take place (front ++ rest),
-      drop (place + 3) (front ++ rest),
-      at_separator place (record { here = here; first = first }) refl refl,
-      separator_in_front (take-append-le place front rest fits ∙ sym b)
-          (drop-append-le (place + 3) front rest fits_end ∙ ap (λ bytes. bytes ++ rest) (sym a)) (omega arith),
+    let fits : position ≤ length front = omega arith in
+    let fits_end : position + 3 ≤ length front = omega arith in
+    let before_length : length before ≡ position = ap length b ∙ length-take-le position front fits in
+    let after_length : length after ≡ length front - (position + 3) = ap length a ∙ length-drop (position + 3) front in (
+      take position (front ++ rest),
+      drop (position + 3) (front ++ rest),
+      at_separator position (record { here = here; first = first }) refl refl,
+      separator_in_front (take-append-le position front rest fits ∙ sym b)
+          (drop-append-le (position + 3) front rest fits_end ∙ ap (λ bytes. bytes ++ rest) (sym a)) (omega arith),
     )
 front_split front rest before after (without_separator none b a) =
     elim (first_or_none (front ++ rest)) [
@@ -124,28 +124,28 @@ front_split front rest before after (without_separator none b a) =
       )
     ]
   where
-    further : (place : ℕ) → IsFirstSeparator (front ++ rest) place → (before' : List ℕ) × (after' : List ℕ)
+    further : (position : ℕ) → IsFirstSeparator (front ++ rest) position → (before' : List ℕ) × (after' : List ℕ)
         × IsSplit (front ++ rest) before' after' × TellsSplit front rest before after before' after'
-    further place found =
-        let within = separator_within (front ++ rest) place found.here in
-        let all_before : length (take place (front ++ rest)) ≡ place =
-        length-take-le place (front ++ rest) (omega arith) in
-        let long : length front ≤ place + 2 = elim (cases_lt (place + 2) (length front)) [
-          | inl less ↦ let seen = is_separator_at-front front rest place less in
-              absurd (both_ways _ (none place) (sym seen ∙ found.here))
-          | inr most ↦ most
+    further position found =
+        let within = separator_within (front ++ rest) position found.here in
+        let all_before : length (take position (front ++ rest)) ≡ position =
+        length-take-le position (front ++ rest) (omega arith) in
+        let long : length front ≤ position + 2 = elim (cases_lt (position + 2) (length front)) [
+          | inl less ↦ let seen = is_separator_at-front front rest position less in
+              absurd (both_ways _ (none position) (sym seen ∙ found.here))
+          | inr limit ↦ limit
         ] in (
-          take place (front ++ rest),
-          drop (place + 3) (front ++ rest),
-          at_separator place found refl refl,
+          take position (front ++ rest),
+          drop (position + 3) (front ++ rest),
+          at_separator position found refl refl,
           separator_further b a (omega arith),
         )
 
--- the same for the first `most` bytes of an input, as a bounded read returns them
-pub first_bytes_split : (input : List ℕ) (most : ℕ) (before after : List ℕ) → IsSplit (take most input) before after
+-- the same for the first `limit` bytes of an input, as a bounded read returns them
+pub first_bytes_split : (input : List ℕ) (limit : ℕ) (before after : List ℕ) → IsSplit (take limit input) before after
     → (before' : List ℕ) × (after' : List ℕ) × IsSplit input before' after'
-    × TellsSplit (take most input) (drop most input) before after before' after'
-first_bytes_split input most before after part =
-    let whole = front_split (take most input) (drop most input) before after part in
-    let all = subst (λ (bytes : List ℕ). IsSplit bytes whole.0 whole.1) (take-append-drop most input) whole.2 in
+    × TellsSplit (take limit input) (drop limit input) before after before' after'
+first_bytes_split input limit before after part =
+    let whole = front_split (take limit input) (drop limit input) before after part in
+    let all = subst (λ (bytes : List ℕ). IsSplit bytes whole.0 whole.1) (take-append-drop limit input) whole.2 in
     (whole.0, whole.1, all, whole.3)

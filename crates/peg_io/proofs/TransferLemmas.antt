@@ -13,20 +13,20 @@ pub Appends-take_more : (a b c : Option (List ℕ)) (bytes : List ℕ) (at n : �
 Appends-take_more a b c bytes at n first more =
     subst (Appends a c) (sym (take-add at n bytes)) (Appends-trans a b c _ _ first more)
 
--- if the bytes read so far and a new piece are within the limit, at most `most` bytes are consumed
-pub ConsumesAtMost-more : (a b c : Option (List ℕ)) (held piece : List ℕ) (most : ℕ) → Consumes a b held
-    → Consumes b c piece → length held + length piece ≤ most → ConsumesAtMost a c most
-ConsumesAtMost-more a b c held piece most first more few =
+-- if the bytes read so far and a new piece are within the limit, at most `limit` bytes are consumed
+pub ConsumesAtMost-more : (a b c : Option (List ℕ)) (held piece : List ℕ) (limit : ℕ) → Consumes a b held
+    → Consumes b c piece → length held + length piece ≤ limit → ConsumesAtMost a c limit
+ConsumesAtMost-more a b c held piece limit first more few =
     (held ++ piece, omega (arith, length-append held piece), Consumes-trans a b c held piece first more)
 
--- a read of up to `most` bytes that stops earlier only at the end returns the first `most` bytes
-pub held_is_take : (left : List ℕ) (new : Option (List ℕ)) (held : List ℕ) (most : ℕ) → Consumes (Some left) new held
-    → length held ≤ most → (length held < most → IsAtEnd new) → held ≡ take most left
-held_is_take left None held most consumed within end = absurd consumed
-held_is_take left (Some rest) held most consumed within end =
-    elim (cases_lt (length held) most) [
+-- a read of up to `limit` bytes that stops earlier only at the end returns the first `limit` bytes
+pub held_is_take : (left : List ℕ) (new : Option (List ℕ)) (held : List ℕ) (limit : ℕ) → Consumes (Some left) new held
+    → length held ≤ limit → (length held < limit → IsAtEnd new) → held ≡ take limit left
+held_is_take left None held limit consumed within end = absurd consumed
+held_is_take left (Some rest) held limit consumed within end =
+    elim (cases_lt (length held) limit) [
       | inl less ↦
           let all : left ≡ held = consumed ∙ ap (λ bytes. held ++ bytes) (end less) ∙ append-nil held in
-          sym all ∙ sym (take_all most left (omega (arith, ap length all)))
-      | inr full ↦ sym (ap (take most) consumed ∙ take_at held rest most (omega arith))
+          sym all ∙ sym (take_all limit left (omega (arith, ap length all)))
+      | inr full ↦ sym (ap (take limit) consumed ∙ take_at held rest limit (omega arith))
     ]

@@ -8,7 +8,7 @@ pub fn split(input: &[u8]) -> (&[u8], &[u8])
     ensures { IsSplit input.now result.0.now result.1.now }
 {
     match find_separator(input) {
-        Some(place) => (&input[..place], &input[place + 3..]),
+        Some(position) => (&input[..position], &input[position + 3..]),
         None => (input, &input[input.len()..]),
     }
 }
@@ -17,21 +17,21 @@ pub fn split(input: &[u8]) -> (&[u8], &[u8])
 fn find_separator(input: &[u8]) -> Option<usize>
     ensures { MatchOption result (HasNoSeparator input.now) (IsFirstSeparator input.now) }
 {
-    for place in 0..input.len() {
-        if is_separator_at(input, place) {
-            return Some(place);
+    for position in 0..input.len() {
+        if is_separator_at(input, position) {
+            return Some(position);
         }
     }
     None
 }
 
-// Whether a separator line starts at offset `place`.
-fn is_separator_at(input: &[u8], place: usize) -> bool
-    requires { place < length input.now }
-    ensures { result ≡ is_separator_at input.now place }
+// Whether a separator line starts at offset `position`.
+fn is_separator_at(input: &[u8], position: usize) -> bool
+    requires { position < length input.now }
+    ensures { result ≡ is_separator_at input.now position }
 {
-    if place > 0 && input[place - 1] != b'\n' {
+    if position > 0 && input[position - 1] != b'\n' {
         return false;
     }
-    matches!(&input[place..], [b'%', b'%', b'\n', ..])
+    matches!(&input[position..], [b'%', b'%', b'\n', ..])
 }

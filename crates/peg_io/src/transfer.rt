@@ -32,29 +32,29 @@ impl From<AllocError> for ReadFault {
     }
 }
 
-/// Reads until the end of the source or until `most` bytes are read, and never requests more. A result shorter than
-/// `most` means that the source is at its end. Returns `Device` exactly if a read fails, and `Memory` if an allocation
+/// Reads until the end of the source or until `limit` bytes are read, and never requests more. A result shorter than
+/// `limit` means that the source is at its end. Returns `Device` exactly if a read fails, and `Memory` if an allocation
 /// fails. Linear in the bytes read, plus a buffer of 64 KiB.
 pub fn read_up_to<G: Source>(
     alloc: Global,
     input: &mut G,
-    most: usize,
+    limit: usize,
 ) -> Result<Vec<u8>, ReadFault>
     requires { G.failed input.old ≡ false }
     ensures bytes { IfOk result (λ held. Consumes (G.left input.old) (G.left input.new) held.items) }
-    ensures most { IfOk result (λ held. vec_len held ≤ most) }
-    ensures end { IfOk result (λ held. vec_len held < most → IsAtEnd (G.left input.new)) }
+    ensures limit { IfOk result (λ held. vec_len held ≤ limit) }
+    ensures end { IfOk result (λ held. vec_len held < limit → IsAtEnd (G.left input.new)) }
     ensures not_failed { OnOk result (G.failed input.new ≡ false) }
 
-    // On an error, too, at most `most` bytes have been taken from the source.
-    ensures consumed { ConsumesAtMost (G.left input.old) (G.left input.new) most }
+    // On an error, too, at most `limit` bytes have been taken from the source.
+    ensures consumed { ConsumesAtMost (G.left input.old) (G.left input.new) limit }
     ensures device { IsErrOf result ReadFault.Device ↔ (G.failed input.new ≡ true) }
 {
     let mut held = Vec::new(alloc);
     let mut buffer = zeros(alloc, PIECE)?;
     let piece = buffer.as_mut_slice();
-    'reads: while held.len() < most {
-        let room = piece.len().min(most - held.len());
+    'reads: while held.len() < limit {
+        let room = piece.len().min(limit - held.len());
         let count = match input.read(&mut piece[..room]) {
             Ok(0) => return Ok(held),
             Ok(count) => count,

@@ -19,12 +19,12 @@ use Rattle.peg_json.specs.Reply.{extent_data, failed_data, matched_data, tree_me
 pub place_at : (rules : List Rule) (terminals : List ℕ) (i : ℕ) (place : Extent) → i < length terminals
     → slice_get (extents_of_terminals rules) (get_or terminals i 0) ≡ Some place
     → get_or (map extent_data (extents_at rules terminals)) i (extent_data place) ≡ extent_data place
-place_at rules terminals i place inside told =
+place_at rules terminals i place inside reported =
     let extents = extents_of_terminals rules in
     let chosen = λ (terminal : ℕ). slice_index_or extents terminal (between 0 0) in
     get_or-map extent_data (map chosen terminals) i place (extent_data place) (omega (arith, length-map terminals chosen))
     ∙ ap extent_data (get_or-map chosen terminals i 0 place inside
-    ∙ get_or_from_slice_get extents (get_or terminals i 0) place (between 0 0) told)
+    ∙ get_or_from_slice_get extents (get_or terminals i 0) place (between 0 0) reported)
 
 -- there is one span for each terminal
 pub length-places : (rules : List Rule) (terminals : List ℕ)

@@ -3,7 +3,7 @@ use Rattle.std.proofs.Common.{◌≡◌, inl, inr, ℕ, ◌<◌, ◌≤◌, Bool
 use Rattle.std.proofs.Common.{refl, sym, ap, ◌∙◌, subst, if◌then◌else◌}
 use Rattle.std.proofs.lemmas.Bool.{cases_lt}
 use Rattle.peg_semantics.specs.Furthest.{IsFurthest}
-use Rattle.peg_grammar.specs.Outcomes.{IsOutcome, parsed_of}
+use Rattle.peg_grammar.specs.Outcomes.{IsParseOutcome, parsed_of}
 use Rattle.peg_semantics.specs.Record.{Record}
 use Rattle.peg_semantics.specs.Rules.{Rule, is_defined}
 use Rattle.peg_tree.specs.Trees.{levels}
@@ -12,7 +12,7 @@ use Rattle.peg_tree.specs.declared.outcome.Parsed.{Parsed}
 use Rattle.peg_tree.specs.declared.outcome.Parsed.TheVariants as parsed
 use Rattle.peg_parser.specs.Cause.{TooDeep, NoSuchStart}
 use Rattle.peg_grammar.specs.Limits.{max_text_bytes}
-use Rattle.peg_semantics.specs.Starts.{Recognizes, start_of}
+use Rattle.peg_semantics.specs.Starts.{Recognizes, start_name}
 use Rattle.peg_json.specs.Parses.{ParsesTo, PrintsOutcome, IsDeep, extents_at}
 use Rattle.peg_tree.specs.Json.{max_levels}
 use Rattle.peg_json.specs.Parses.{result_reply, no_such_start, failed, too_many_levels, matched}
@@ -24,7 +24,7 @@ record Parse (rules : List Rule) (text : List ℕ) (start : Option (List ℕ)) (
     : Type 0 where
   within : length text ≤ max_text_bytes
   from : List ℕ
-  starts : start_of rules start ≡ Some from
+  starts : start_name rules start ≡ Some from
   recognized : Recognizes rules text from r
   furthest : IsFurthest r.tests far expected
 
@@ -54,8 +54,8 @@ result-parses rules text start steps all rows r far expected (parsed.Matched end
 
 pub prints-parses : (rules : List Rule) (text : List ℕ) (start : Option (List ℕ)) (steps : Option ℕ) (all rows : Bool)
     (outcome : Outcome)
-    → length text ≤ max_text_bytes → (from : List ℕ) → start_of rules start ≡ Some from
-    → IsOutcome rules text from outcome → (reply : Reply)
+    → length text ≤ max_text_bytes → (from : List ℕ) → start_name rules start ≡ Some from
+    → IsParseOutcome rules text from outcome → (reply : Reply)
     → PrintsOutcome rules outcome (length text) all rows reply → ParsesTo rules text start steps all rows reply
 prints-parses rules text start steps all rows outcome within from starts is reply prints = by prints
   where
@@ -84,13 +84,13 @@ prints-parses rules text start steps all rows outcome within from starts is repl
 -- the name of a start that no rule has
 pub missing-parses : (rules : List Rule) (text : List ℕ) (start : Option (List ℕ)) (steps : Option ℕ) (all rows : Bool)
     (name : List ℕ)
-    → length text ≤ max_text_bytes → start ≡ Some name → start_of rules start ≡ None
+    → length text ≤ max_text_bytes → start ≡ Some name → start_name rules start ≡ None
     → ParsesTo rules text start steps all rows (Refused (NoSuchStart name))
 missing-parses rules text start steps all rows name within named none =
     no_such_start name within named (by (is_defined rules name) refl)
   where
-    missing : start_of rules (Some name) ≡ None
-    missing = sym (ap (start_of rules) named) ∙ none
+    missing : start_name rules (Some name) ≡ None
+    missing = sym (ap (start_name rules) named) ∙ none
 
     by : (known : Bool) → is_defined rules name ≡ known → is_defined rules name ≡ false
     by true is =
@@ -100,20 +100,20 @@ missing-parses rules text start steps all rows name within named none =
 
 pub outcome-parses : (rules : List Rule) (text : List ℕ) (start : Option (List ℕ)) (steps : Option ℕ) (all rows : Bool)
     (outcome : Outcome)
-    → length text ≤ max_text_bytes → (start_of rules start ≡ None → ⊥)
-    → IfSome (start_of rules start) (λ from. IsOutcome rules text from outcome) → (reply : Reply)
+    → length text ≤ max_text_bytes → (start_name rules start ≡ None → ⊥)
+    → IfSome (start_name rules start) (λ from. IsParseOutcome rules text from outcome) → (reply : Reply)
     → PrintsOutcome rules outcome (length text) all rows reply → ParsesTo rules text start steps all rows reply
 outcome-parses rules text start steps all rows outcome within some is reply prints =
-    by (start_of rules start) refl some is
+    by (start_name rules start) refl some is
   where
-    by : (found : Option (List ℕ)) → start_of rules start ≡ found → (found ≡ None → ⊥)
-        → IfSome found (λ from. IsOutcome rules text from outcome) → ParsesTo rules text start steps all rows reply
+    by : (found : Option (List ℕ)) → start_name rules start ≡ found → (found ≡ None → ⊥)
+        → IfSome found (λ from. IsParseOutcome rules text from outcome) → ParsesTo rules text start steps all rows reply
     by None there some is = absurd (some refl)
     by (Some from) there some is =
         prints-parses rules text start steps all rows outcome within from there is reply prints
 
 -- if the start is no rule, a name was given
-pub start-given : (rules : List Rule) (start : Option (List ℕ)) → start_of rules start ≡ None
+pub start-given : (rules : List Rule) (start : Option (List ℕ)) → start_name rules start ≡ None
     → (name : List ℕ) × (start ≡ Some name)
 start-given rules None none = cc
 start-given rules (Some name) none = (name, refl)

@@ -7,29 +7,29 @@ use Rattle.peg_tree.specs.declared.outcome.Outcome.{Outcome}
 use Rattle.peg_json.specs.Lines.{IsLineOf, IsReply, line_bytes, line_text}
 use Rattle.peg_json.specs.Parses.{PrintsOutcome, outcome_reply}
 use Rattle.peg_json.specs.Reply.{Reply, printed, status_of}
-use Rattle.peg_json.specs.Statuses.{code_of}
+use Rattle.peg_json.specs.Statuses.{status_code}
 use Rattle.peg_json.specs.declared.line.Line.{Line}
 use Rattle.peg_json.specs.declared.status.Status.{Status}
 
 -- the line and the exit status of one reply
 pub text-reply : (line : Line) (file text : List ℕ) (status : Status) (reply : Reply) → line_text line ≡ text
-    → line.status ≡ status → text ≡ compact_text (printed file reply) → code_of status ≡ status_of reply
-    → IsReply file reply (line_bytes line) (code_of line.status)
+    → line.status ≡ status → text ≡ compact_text (printed file reply) → status_code status ≡ status_of reply
+    → IsReply file reply (line_bytes line) (status_code line.status)
 text-reply line file text status reply is ends of_reply same =
-    (ap (λ (l : List ℕ). l ++ 10 ∷ []) (is ∙ of_reply), ap code_of ends ∙ same)
+    (ap (λ (l : List ℕ). l ++ 10 ∷ []) (is ∙ of_reply), ap status_code ends ∙ same)
 
 -- the line of a reply is the line of some reply of its kind
 pub reply-kind : (result : Result Line AllocError) (file : List ℕ) (Kind : Reply → Type 0) (reply : Reply)
-    → IfOk result (λ line. IsReply file reply (line_bytes line) (code_of line.status)) → Kind reply
-    → IfOk result (λ line. IsLineOf file Kind (line_bytes line) (code_of line.status))
+    → IfOk result (λ line. IsReply file reply (line_bytes line) (status_code line.status)) → Kind reply
+    → IfOk result (λ line. IsLineOf file Kind (line_bytes line) (status_code line.status))
 reply-kind (Ok line) file Kind reply is kind = (reply, kind, is.0, is.1)
 reply-kind (Err why) file Kind reply is kind = tt
 
 -- the line of a reply of one kind is one of another kind that includes it
 pub kind-weaker : (result : Result Line AllocError) (file : List ℕ) (Kind More : Reply → Type 0)
     → ((reply : Reply) → Kind reply → More reply)
-    → IfOk result (λ line. IsLineOf file Kind (line_bytes line) (code_of line.status))
-    → IfOk result (λ line. IsLineOf file More (line_bytes line) (code_of line.status))
+    → IfOk result (λ line. IsLineOf file Kind (line_bytes line) (status_code line.status))
+    → IfOk result (λ line. IsLineOf file More (line_bytes line) (status_code line.status))
 kind-weaker (Ok line) file Kind More more is = (is.0, more is.0 is.1, is.2, is.3)
 kind-weaker (Err why) file Kind More more is = tt
 
@@ -37,8 +37,8 @@ kind-weaker (Err why) file Kind More more is = tt
 pub outcome-line : (result : Result Line AllocError) (file : List ℕ) (rules : List Rule) (outcome : Outcome) (len : ℕ)
     (all : Bool) (status : Status)
     → IfOk result (λ line. line_text line ≡ compact_text (printed file (outcome_reply rules outcome len all true)))
-    → IfOk result (λ line. line.status ≡ status) → code_of status ≡ status_of (outcome_reply rules outcome len all true)
-    → IfOk result (λ line. IsLineOf file (PrintsOutcome rules outcome len all true) (line_bytes line) (code_of line.status))
+    → IfOk result (λ line. line.status ≡ status) → status_code status ≡ status_of (outcome_reply rules outcome len all true)
+    → IfOk result (λ line. IsLineOf file (PrintsOutcome rules outcome len all true) (line_bytes line) (status_code line.status))
 outcome-line (Ok line) file rules outcome len all status is ends same =
     let reply = outcome_reply rules outcome len all true in
     reply-kind (Ok line) file (PrintsOutcome rules outcome len all true) reply

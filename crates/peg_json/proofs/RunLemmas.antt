@@ -3,16 +3,16 @@ use Rattle.std.proofs.Common.{◌≡◌, ℕ, ◌+◌, ◌<◌, Bool, true, fals
 use Rattle.std.proofs.lemmas.Bool.{cond-true, cond-false, eq-eqb, ne_eqb}
 use Rattle.std.proofs.lemmas.List.{drop_more, map_push, reverse-append}
 use Rattle.peg_bytes.specs.ByteSet.{Bytes}
-use Rattle.peg_json.specs.ByteRuns.{IsApart, run_of}
+use Rattle.peg_json.specs.ByteRuns.{IsApart, byte_run_of}
 use Rattle.peg_json.specs.CodeText.{run_between, runs_from, with_byte}
 use Rattle.peg_json.specs.CodeText as text
 use Rattle.peg_json.specs.declared.byte_runs.ByteRun.{ByteRun}
 
 -- pushing a run puts it first in the reversed list
 pub pushed : (old new : List ByteRun) (run : ByteRun) → new ≡ old ++ run ∷ []
-    → reverse (map run_of new) ≡ run_of run ∷ reverse (map run_of old)
+    → reverse (map byte_run_of new) ≡ byte_run_of run ∷ reverse (map byte_run_of old)
 pushed old new run is =
-    ap (λ l. reverse (map run_of l)) is ∙ ap reverse (map_push run_of old run) ∙ reverse-append (map run_of old) (run_of run ∷ [])
+    ap (λ l. reverse (map byte_run_of l)) is ∙ ap reverse (map_push byte_run_of old run) ∙ reverse-append (map byte_run_of old) (byte_run_of run ∷ [])
 
 -- a byte extends a run that starts at the next byte
 pub joined : (byte : ℕ) (run : text.ByteRun) (runs : List text.ByteRun) → run.first ≡ byte + 1

@@ -4,8 +4,8 @@ use Rattle.peg_json.specs.CodeText.{run_between}
 use Rattle.peg_json.specs.CodeText as text
 use Rattle.peg_json.specs.declared.byte_runs.ByteRun.{ByteRun}
 
-abbrev pub run_of : ByteRun → text.ByteRun
-run_of run = run_between run.first run.last
+abbrev pub byte_run_of : ByteRun → text.ByteRun
+byte_run_of run = run_between run.first run.last
 
 -- the first run, if there is one, doesn't start at the byte after this one
 abbrev pub IsApart : ℕ → List text.ByteRun → Type 0

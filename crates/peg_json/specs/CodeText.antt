@@ -33,7 +33,7 @@ runs_data set = array (items_of (map run_data (runs_from 0 set)))
 
 -- the JSON of an instruction: its name, and its operands
 abbrev pub named_data : (name : List ℕ) → Items → Data
-named_data name behind = array (item (string name) behind)
+named_data name arguments = array (item (string name) arguments)
 
 abbrev pub numbered : ℕ → Items
 numbered n = item (number (unsigned n)) no_items

@@ -1,12 +1,12 @@
 -- Lines and exit statuses of replies.
 use Rattle.std.specs.Prelude.{◌≡◌, ℕ, ◌-◌, List, [], ◌∷◌, ◌++◌, Option, None, Some, drop, length, string_bytes, take}
-use Rattle.peg_tree.specs.RowsLeft.{text_left}
-use Rattle.peg_tree.specs.declared.rows_text.RowsText.{RowsText}
+use Rattle.peg_tree.specs.FlatTreeLeft.{text_left}
+use Rattle.peg_tree.specs.declared.flat_tree_writer.FlatTreeWriter.{FlatTreeWriter}
 use Rattle.peg_json.specs.Reply.{Reply, printed_line, status_of}
 use Rattle.peg_json.specs.declared.line.Line.{Line}
 
 -- a text with its nodes: they are inserted in the list at its end, before the closing bracket and brace
-abbrev pub with_rows : (text : List ℕ) → Option RowsText → List ℕ
+abbrev pub with_rows : (text : List ℕ) → Option FlatTreeWriter → List ℕ
 with_rows text None = text
 with_rows text (Some rows) = take (length text - 2) text ++ (text_left rows ++ drop (length text - 2) text)
 

@@ -15,7 +15,7 @@ use Rattle.peg_tree.specs.declared.outcome.Parsed.TheVariants as parsed
 use Rattle.peg_parser.specs.Cause.{NoSuchStart, StepLimit, TooDeep, TextTooLong}
 use Rattle.peg_parser.specs.StepLimits.{TakesMoreSteps}
 use Rattle.peg_grammar.specs.Limits.{max_text_bytes}
-use Rattle.peg_semantics.specs.Starts.{Recognizes, start_of}
+use Rattle.peg_semantics.specs.Starts.{Recognizes, start_name}
 use Rattle.peg_json.specs.Reply.{Reply, Refused, Failed, Matched}
 
 -- the spans in the grammar file of the terminals with these numbers
@@ -35,14 +35,14 @@ pub data ParsesTo (rules : List Rule) (text : List ℕ) (start : Option (List �
   too_many_steps : length text ≤ max_text_bytes → TakesMoreSteps rules text start steps
       → ParsesTo rules text start steps all rows (Refused StepLimit)
   failed : {from : List ℕ} {r : Record} {far : ℕ} {terminals : List ℕ} → length text ≤ max_text_bytes
-      → start_of rules start ≡ Some from → Recognizes rules text from r → r.result ≡ recognition.Failed
+      → start_name rules start ≡ Some from → Recognizes rules text from r → r.result ≡ recognition.Failed
       → IsFurthest r.tests far terminals
       → ParsesTo rules text start steps all rows (Failed far (extents_at rules terminals))
   too_many_levels : {from : List ℕ} {r : Record} {end : ℕ} {tree : Trees} → length text ≤ max_text_bytes
-      → start_of rules start ≡ Some from → Recognizes rules text from r → r.result ≡ recognition.Matched end tree
+      → start_name rules start ≡ Some from → Recognizes rules text from r → r.result ≡ recognition.Matched end tree
       → rows ≡ false → max_levels < levels tree → ParsesTo rules text start steps all rows (Refused TooDeep)
   matched : {from : List ℕ} {r : Record} {end far : ℕ} {terminals : List ℕ} {tree : Trees}
-      → length text ≤ max_text_bytes → start_of rules start ≡ Some from → Recognizes rules text from r
+      → length text ≤ max_text_bytes → start_name rules start ≡ Some from → Recognizes rules text from r
       → r.result ≡ recognition.Matched end tree → (rows ≡ false → levels tree ≤ max_levels)
       → IsFurthest r.tests far terminals
       → ParsesTo rules text start steps all rows

@@ -4,11 +4,11 @@ use Rattle.peg_json.specs.declared.status.Status.{Status}
 use Rattle.peg_json.specs.declared.status.Status.TheVariants.{Done, Failed, Refused, Usage, File, Memory, Limit}
 
 -- the number of an exit status
-abbrev pub code_of : Status → ℕ
-code_of Done = 0
-code_of Failed = 1
-code_of Refused = 2
-code_of Usage = 3
-code_of File = 4
-code_of Memory = 5
-code_of Limit = 6
+abbrev pub status_code : Status → ℕ
+status_code Done = 0
+status_code Failed = 1
+status_code Refused = 2
+status_code Usage = 3
+status_code File = 4
+status_code Memory = 5
+status_code Limit = 6

@@ -3,29 +3,29 @@ ghost use Rattle.std.specs.Prelude.{◌≡◌, Bool, OnOk};
 ghost use Rattle.serde_json.specs.Data.{array, no_items};
 ghost use Rattle.serde_json.specs.Events.{SendsValue};
 ghost use Rattle.peg_json.specs.Reply.{failed_data, match_word};
-ghost use Rattle.peg_json.specs.Sending.{SendsMatch, places_of};
+ghost use Rattle.peg_json.specs.Sending.{SendsMatch, spans_of};
 
-use crate::places::Places;
-use peg_tree::send_member;
+use crate::expected_spans::ExpectedSpans;
+use peg_tree::serialize_member;
 use serde::{Described, Serialize, Serializer};
 
 // A parse that failed, with its furthest failure.
 #[derive(Drop)]
 pub(crate) struct Failure<'a> {
     pub far: u32,
-    pub expected: Places<'a>,
+    pub expected: ExpectedSpans<'a>,
 }
 
 impl Described for Failure<'_> {
-    ghost writes = { λ failure. SendsValue (failed_data failure.far (places_of failure.expected)) };
+    ghost writes = { λ failure. SendsValue (failed_data failure.far (spans_of failure.expected)) };
 }
 
 impl Serialize for Failure<'_> {
     fn serialize<S: Serializer>(&self, out: &mut S) -> Result<(), S::Error> {
         out.begin_map(Some(3))?;
-        send_member("expected", &self.expected, out)?;
-        send_member("far", &self.far, out)?;
-        send_member("result", &"failed", out)?;
+        serialize_member("expected", &self.expected, out)?;
+        serialize_member("far", &self.far, out)?;
+        serialize_member("result", &"failed", out)?;
         out.end_map()
     }
 }
@@ -37,18 +37,18 @@ pub(crate) struct Summary<'a> {
     pub partial: bool,
     pub end: u32,
     pub far: u32,
-    pub expected: Places<'a>,
+    pub expected: ExpectedSpans<'a>,
 }
 
 // An empty list.
 #[derive(Clone, Copy)]
-pub(crate) struct NoRows;
+pub(crate) struct EmptyList;
 
-impl Described for NoRows {
+impl Described for EmptyList {
     ghost writes = { λ _. SendsValue (array no_items) };
 }
 
-impl Serialize for NoRows {
+impl Serialize for EmptyList {
     fn serialize<S: Serializer>(&self, out: &mut S) -> Result<(), S::Error> {
         out.begin_seq(Some(0))?;
         out.end_seq()
@@ -64,18 +64,18 @@ pub(crate) struct Match<'a, T> {
 }
 
 impl<T: Described> Described for Match<'_, T> {
-    ghost writes = { λ told. SendsMatch told.summary.partial told.summary.end told.summary.far
-        (places_of told.summary.expected) told.key.now (T.writes told.tree) };
+    ghost writes = { λ value. SendsMatch value.summary.partial value.summary.end value.summary.far
+        (spans_of value.summary.expected) value.key.now (T.writes value.tree) };
 }
 
 impl<T: Serialize> Serialize for Match<'_, T> {
     fn serialize<S: Serializer>(&self, out: &mut S) -> Result<(), S::Error> {
         out.begin_map(Some(5))?;
-        send_member("consumed", &self.summary.end, out)?;
-        send_member("expected", &self.summary.expected, out)?;
-        send_member("far", &self.summary.far, out)?;
-        send_member("result", &match_word(self.summary.partial), out)?;
-        send_member(self.key, &self.tree, out)?;
+        serialize_member("consumed", &self.summary.end, out)?;
+        serialize_member("expected", &self.summary.expected, out)?;
+        serialize_member("far", &self.summary.far, out)?;
+        serialize_member("result", &match_word(self.summary.partial), out)?;
+        serialize_member(self.key, &self.tree, out)?;
         out.end_map()
     }
 }

@@ -8,18 +8,18 @@ ghost use Rattle.peg_parser.specs.Parser.{parser_rules};
 ghost use Rattle.peg_parser.specs.Fits.{Fits};
 ghost use Rattle.peg_json.specs.Parses.{IsDeep, outcome_reply};
 ghost use Rattle.peg_json.specs.Reply.{failed_data, matched_data, printed, status_of, tree_member};
-ghost use Rattle.peg_json.specs.Sending.{places_of};
-ghost use Rattle.peg_json.specs.Statuses.{code_of};
+ghost use Rattle.peg_json.specs.Sending.{spans_of};
+ghost use Rattle.peg_json.specs.Statuses.{status_code};
 ghost use Rattle.peg_json.specs.TreeForms.{is_rows};
 
 use crate::answer_object::{Failure, Match, Summary};
-use crate::places::Places;
+use crate::expected_spans::ExpectedSpans;
 use crate::status::Status;
 use crate::text::text_of;
 use crate::tree_form::TreeForm;
 use peg_grammar::Grammar;
 use peg_parser::{Answer, Parser};
-use peg_tree::{JsonFault, MAX_LEVELS, NestedTree, Parsed, Tree, TreeRows};
+use peg_tree::{FlatTree, JsonFault, MAX_LEVELS, NestedTree, Parsed, Tree};
 use std::alloc::{AllocError, Global};
 
 /// Returns an answer as one line of JSON without its line end. With `all`, a match of less than the text's `text_len`
@@ -40,7 +40,14 @@ pub fn answer_json(
         ≡ compact_text (printed file (outcome_reply (parser_rules parser.now) answer.now.outcome text_len all rows))) }
     ensures too_deep { (result ≡ Err JsonFault.TooDeep) ↔ ((rows ≡ false) × IsDeep answer.now.outcome.result) }
 {
-    answer_text(alloc, parser, answer, text_len, all, TreeForm::of(rows))
+    answer_text(
+        alloc,
+        parser,
+        answer,
+        text_len,
+        all,
+        TreeForm::from_rows(rows),
+    )
 }
 
 /// Returns an answer as JSON, with the tree in this form.
@@ -59,7 +66,7 @@ pub(crate) fn answer_text(
         ↔ ((is_rows form ≡ false) × IsDeep answer.now.outcome.result) }
 {
     let outcome = &answer.outcome;
-    let expected = Places::new(parser, &outcome.expected);
+    let expected = ExpectedSpans::new(parser, &outcome.expected);
     match &outcome.result {
         Parsed::Failed => Ok(failed_text(alloc, outcome.far, expected)?),
         Parsed::Matched { tree, .. } if form == TreeForm::Nested && tree.depth() > MAX_LEVELS => {
@@ -82,9 +89,9 @@ pub(crate) fn answer_text(
 pub(crate) fn failed_text(
     alloc: Global,
     far: u32,
-    expected: Places<'_>,
+    expected: ExpectedSpans<'_>,
 ) -> Result<String, AllocError>
-    ensures { IfOk result (λ text. string_bytes text ≡ compact_text (failed_data far (places_of expected.entry))) }
+    ensures { IfOk result (λ text. string_bytes text ≡ compact_text (failed_data far (spans_of expected.entry))) }
 {
     text_of(alloc, &Failure { far, expected })
 }
@@ -99,7 +106,7 @@ fn matched_text(
 ) -> Result<String, AllocError>
     requires { RulesBelow (length (rules_in grammar.now)) tree.now }
     ensures { IfOk result (λ text. string_bytes text ≡ compact_text
-        (matched_data summary.entry.partial summary.entry.end summary.entry.far (places_of summary.entry.expected)
+        (matched_data summary.entry.partial summary.entry.end summary.entry.far (spans_of summary.entry.expected)
         (tree_member (is_rows form) (names (rules_in grammar.now)) tree.now))) }
 {
     match form {
@@ -108,7 +115,7 @@ fn matched_text(
             &Match {
                 summary,
                 key: "rows",
-                tree: TreeRows::new(alloc, tree, grammar),
+                tree: FlatTree::new(alloc, tree, grammar),
             },
         ),
         TreeForm::Nested => text_of(
@@ -125,7 +132,7 @@ fn matched_text(
 /// Returns the exit status of an answer.
 pub(crate) fn answer_status(answer: &Answer, text_len: u32, all: bool) -> Status
     ensures { (rules : List Rule) (rows : Bool) →
-        code_of result ≡ status_of (outcome_reply rules answer.now.outcome text_len all rows) }
+        status_code result ≡ status_of (outcome_reply rules answer.now.outcome text_len all rows) }
 {
     match &answer.outcome.result {
         Parsed::Failed => Status::Failed,

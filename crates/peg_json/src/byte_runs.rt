@@ -1,7 +1,7 @@
 //! The maximal runs of consecutive bytes of a set.
 ghost use Rattle.std.specs.Prelude.{◌≡◌, ◌+◌, ◌∷◌, IfNone, IfOk, IfSome, OnOk, map, reverse};
 ghost use Rattle.peg_bytes.specs.ByteSet.{bytes_of};
-ghost use Rattle.peg_json.specs.ByteRuns.{IsApart, run_of};
+ghost use Rattle.peg_json.specs.ByteRuns.{IsApart, byte_run_of};
 ghost use Rattle.peg_json.specs.CodeText.{runs_from, with_byte};
 
 use peg_bytes::ByteSet;
@@ -16,7 +16,7 @@ pub(crate) struct ByteRun {
 
 // The maximal runs of consecutive bytes of a set, in descending order.
 pub(crate) fn runs_of(alloc: Global, set: &ByteSet) -> Result<Vec<ByteRun>, AllocError>
-    ensures { IfOk result (λ runs. reverse (map run_of runs.items) ≡ runs_from 0 (bytes_of set.now)) }
+    ensures { IfOk result (λ runs. reverse (map byte_run_of runs.items) ≡ runs_from 0 (bytes_of set.now)) }
 {
     let mut runs = Vec::new(alloc);
     for above in 0..256u32 {
@@ -30,10 +30,11 @@ pub(crate) fn runs_of(alloc: Global, set: &ByteSet) -> Result<Vec<ByteRun>, Allo
 
 // Adds a byte below all runs. It extends the newest run if that starts at the next byte.
 fn add_byte(runs: &mut Vec<ByteRun>, byte: u8) -> Result<(), AllocError>
-    ensures { OnOk result (reverse (map run_of runs.new.items) ≡ with_byte byte (reverse (map run_of runs.old.items))) }
+    ensures { OnOk result (reverse (map byte_run_of runs.new.items) ≡ with_byte byte (reverse
+        (map byte_run_of runs.old.items))) }
 {
     let first = byte;
-    match pop_behind(runs, byte) {
+    match pop_last_before(runs, byte) {
         Some(ByteRun { last, .. }) => runs.push(ByteRun { first, last })?,
         None => runs.push(ByteRun { first, last: byte })?,
     }
@@ -41,11 +42,12 @@ fn add_byte(runs: &mut Vec<ByteRun>, byte: u8) -> Result<(), AllocError>
 }
 
 // Pops the newest run if it starts at the byte after this one.
-fn pop_behind(runs: &mut Vec<ByteRun>, byte: u8) -> Option<ByteRun>
-    ensures some { IfSome result (λ run. reverse (map run_of runs.old.items) ≡ run_of run ∷ reverse (map run_of runs.new.items)) }
-    ensures behind { IfSome result (λ run. run.first ≡ byte + 1) }
+fn pop_last_before(runs: &mut Vec<ByteRun>, byte: u8) -> Option<ByteRun>
+    ensures some { IfSome result (λ run. reverse (map byte_run_of runs.old.items) ≡ byte_run_of run ∷ reverse
+        (map byte_run_of runs.new.items)) }
+    ensures adjacent { IfSome result (λ run. run.first ≡ byte + 1) }
     ensures same { IfNone result (runs.new.items ≡ runs.old.items) }
-    ensures none { IfNone result (IsApart byte (reverse (map run_of runs.old.items))) }
+    ensures none { IfNone result (IsApart byte (reverse (map byte_run_of runs.old.items))) }
 {
     match runs.last() {
         Some(run) if u16::from(run.first) == u16::from(byte) + 1 => runs.pop(),

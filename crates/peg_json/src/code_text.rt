@@ -6,7 +6,7 @@ ghost use Rattle.serde_json.specs.View.{items_of};
 ghost use Rattle.serde_json.specs.Written.{compact_text};
 ghost use Rattle.peg_bytes.specs.ByteSet.{bytes_of};
 ghost use Rattle.peg_code.specs.Instrs.{instruction_of};
-ghost use Rattle.peg_json.specs.ByteRuns.{run_of};
+ghost use Rattle.peg_json.specs.ByteRuns.{byte_run_of};
 ghost use Rattle.peg_json.specs.CodeText.{code_data, instruction_data, named_data, number_data, numbered, run_data};
 ghost use Rattle.peg_json.specs.CodeText.{runs_data, test_data};
 
@@ -34,34 +34,38 @@ struct CodeObject<'a> {
 }
 
 impl Described for CodeObject<'_> {
-    ghost writes = { λ told. SendsValue (code_data told.program.now.code told.program.now.entries) };
+    ghost writes = { λ value. SendsValue (code_data value.program.now.code value.program.now.entries) };
 }
 
 impl Serialize for CodeObject<'_> {
     fn serialize<S: Serializer>(&self, out: &mut S) -> Result<(), S::Error> {
         out.begin_map(Some(2))?;
         out.key("code")?;
-        send_code(self.alloc, self.program, out)?;
+        serialize_code(self.alloc, self.program, out)?;
         out.key("entries")?;
-        send_entries(self.program, out)?;
+        serialize_entries(self.program, out)?;
         out.end_map()
     }
 }
 
 // Serializes the instructions, in order.
-fn send_code<S: Serializer>(alloc: Global, program: &Program, out: &mut S) -> Result<(), S::Error>
+fn serialize_code<S: Serializer>(
+    alloc: Global,
+    program: &Program,
+    out: &mut S,
+) -> Result<(), S::Error>
     ensures { OnOk result (SendsValue (array (items_of (map instruction_data program.now.code)))
         (S.written out.old) (S.written out.new)) }
 {
     out.begin_seq(Some(program.len() as usize))?;
     for pc in 0..program.len() {
-        send_instruction(alloc, program.instr(pc), out)?;
+        serialize_instruction(alloc, program.instr(pc), out)?;
     }
     out.end_seq()
 }
 
 // Serializes the entry of each rule.
-fn send_entries<S: Serializer>(program: &Program, out: &mut S) -> Result<(), S::Error>
+fn serialize_entries<S: Serializer>(program: &Program, out: &mut S) -> Result<(), S::Error>
     ensures { OnOk result (SendsValue (array (items_of (map number_data program.now.entries)))
         (S.written out.old) (S.written out.new)) }
 {
@@ -72,7 +76,7 @@ fn send_entries<S: Serializer>(program: &Program, out: &mut S) -> Result<(), S::
     out.end_seq()
 }
 
-fn send_instruction<S: Serializer>(
+fn serialize_instruction<S: Serializer>(
     alloc: Global,
     instruction: Instr,
     out: &mut S,
@@ -81,18 +85,18 @@ fn send_instruction<S: Serializer>(
         (S.written out.old) (S.written out.new)) }
 {
     match instruction {
-        Instr::Test { set, terminal } => send_test(alloc, &set, terminal, out),
-        Instr::Call(rule) => send_numbered("call", rule, out),
-        Instr::Ret => send_named("ret", out),
-        Instr::Choice(target) => send_numbered("choice", target, out),
-        Instr::Commit(target) => send_numbered("commit", target, out),
-        Instr::FailTwice => send_named("failtwice", out),
-        Instr::End => send_named("end", out),
+        Instr::Test { set, terminal } => serialize_test(alloc, &set, terminal, out),
+        Instr::Call(rule) => serialize_numbered("call", rule, out),
+        Instr::Ret => serialize_named("ret", out),
+        Instr::Choice(target) => serialize_numbered("choice", target, out),
+        Instr::Commit(target) => serialize_numbered("commit", target, out),
+        Instr::FailTwice => serialize_named("failtwice", out),
+        Instr::End => serialize_named("end", out),
     }
 }
 
 // Serializes an instruction without operands.
-fn send_named<S: Serializer>(name: &str, out: &mut S) -> Result<(), S::Error>
+fn serialize_named<S: Serializer>(name: &str, out: &mut S) -> Result<(), S::Error>
     ensures { OnOk result (SendsValue (named_data name.now no_items) (S.written out.old) (S.written out.new)) }
 {
     out.begin_seq(Some(1))?;
@@ -101,7 +105,7 @@ fn send_named<S: Serializer>(name: &str, out: &mut S) -> Result<(), S::Error>
 }
 
 // Serializes an instruction with one number.
-fn send_numbered<S: Serializer>(name: &str, number: u32, out: &mut S) -> Result<(), S::Error>
+fn serialize_numbered<S: Serializer>(name: &str, number: u32, out: &mut S) -> Result<(), S::Error>
     ensures { OnOk result (SendsValue (named_data name.now (numbered number)) (S.written out.old) (S.written out.new)) }
 {
     out.begin_seq(Some(2))?;
@@ -111,7 +115,7 @@ fn send_numbered<S: Serializer>(name: &str, number: u32, out: &mut S) -> Result<
 }
 
 // Serializes a terminal test.
-fn send_test<S: Serializer>(
+fn serialize_test<S: Serializer>(
     alloc: Global,
     set: &ByteSet,
     terminal: u32,
@@ -122,37 +126,37 @@ fn send_test<S: Serializer>(
     out.begin_seq(Some(3))?;
     out.str("test")?;
     terminal.serialize(out)?;
-    send_runs(alloc, set, out)?;
+    serialize_runs(alloc, set, out)?;
     out.end_seq()
 }
 
 // Serializes the runs of a set, in ascending order.
-fn send_runs<S: Serializer>(alloc: Global, set: &ByteSet, out: &mut S) -> Result<(), S::Error>
+fn serialize_runs<S: Serializer>(alloc: Global, set: &ByteSet, out: &mut S) -> Result<(), S::Error>
     ensures { OnOk result (SendsValue (runs_data (bytes_of set.now)) (S.written out.old) (S.written out.new)) }
 {
     match runs_of(alloc, set) {
-        Ok(runs) => send_backwards(&runs, out),
+        Ok(runs) => serialize_backwards(&runs, out),
         Err(_) => Err(out.custom("out of memory")),
     }
 }
 
 // Serializes runs from the last to the first.
-fn send_backwards<S: Serializer>(runs: &[ByteRun], out: &mut S) -> Result<(), S::Error>
-    ensures { OnOk result (SendsValue (array (items_of (map run_data (reverse (map run_of runs.now)))))
+fn serialize_backwards<S: Serializer>(runs: &[ByteRun], out: &mut S) -> Result<(), S::Error>
+    ensures { OnOk result (SendsValue (array (items_of (map run_data (reverse (map byte_run_of runs.now)))))
         (S.written out.old) (S.written out.new)) }
 {
     out.begin_seq(Some(runs.len()))?;
     for sent in 0..runs.len() {
         let at = runs.len() - 1 - sent;
         let run = runs[at];
-        send_run(run, out)?;
+        serialize_run(run, out)?;
     }
     out.end_seq()
 }
 
 // Serializes a run as the pair of its first and last byte.
-fn send_run<S: Serializer>(run: ByteRun, out: &mut S) -> Result<(), S::Error>
-    ensures { OnOk result (SendsValue (run_data (run_of run)) (S.written out.old) (S.written out.new)) }
+fn serialize_run<S: Serializer>(run: ByteRun, out: &mut S) -> Result<(), S::Error>
+    ensures { OnOk result (SendsValue (run_data (byte_run_of run)) (S.written out.old) (S.written out.new)) }
 {
     out.begin_seq(Some(2))?;
     run.first.serialize(out)?;

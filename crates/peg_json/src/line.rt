@@ -1,6 +1,6 @@
 //! The line of a reply, and its exit status.
 use crate::status::Status;
-use peg_tree::RowsText;
+use peg_tree::FlatTreeWriter;
 
 /// The line of a reply, and its exit status.
 #[derive(Debug, Drop)]
@@ -8,7 +8,7 @@ pub struct Line {
     /// One line of JSON without its line end, byte 10. If there are `rows`, its last member is an empty list.
     pub text: String,
     /// The content of that list, to be inserted before the last two bytes of the text.
-    pub rows: Option<RowsText>,
+    pub rows: Option<FlatTreeWriter>,
     pub status: Status,
 }
 
@@ -28,7 +28,7 @@ impl Line {
     }
 
     // A line with rows, inserted in its last list.
-    pub(crate) fn with_rows(text: String, rows: RowsText, status: Status) -> Line
+    pub(crate) fn with_rows(text: String, rows: FlatTreeWriter, status: Status) -> Line
         ensures { (line_text result ≡ with_rows (string_bytes text) (Some rows)) × (result.status ≡ status) }
     {
         Line {

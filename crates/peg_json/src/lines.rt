@@ -7,7 +7,7 @@ ghost use Rattle.peg_check.specs.Cans.{can_of};
 ghost use Rattle.peg_semantics.specs.Rules.{names};
 ghost use Rattle.peg_grammar.specs.GrammarRules.{rules_in};
 ghost use Rattle.peg_parser.specs.Cause.{Cause, NoSuchStart, StepLimit, TextTooLong};
-ghost use Rattle.peg_parser.specs.Faults.{IsTellable, StartsIn, cause_told};
+ghost use Rattle.peg_parser.specs.Faults.{IsTrueRefusal, StartsIn, cause_of};
 ghost use Rattle.peg_parser.specs.Fits.{Fits};
 ghost use Rattle.peg_parser.specs.Parser.{parser_rules};
 ghost use Rattle.peg_json.specs.CauseText.{cause_status};
@@ -15,7 +15,7 @@ ghost use Rattle.peg_json.specs.FaultCauses.{FaultNames, fault_cause};
 ghost use Rattle.peg_json.specs.Lines.{IsLineOf, IsReply, line_bytes};
 ghost use Rattle.peg_json.specs.Parses.{PrintsOutcome};
 ghost use Rattle.peg_json.specs.Reply.{Accepted, Coded, Refused, Tabled, accepted_data};
-ghost use Rattle.peg_json.specs.Statuses.{code_of};
+ghost use Rattle.peg_json.specs.Statuses.{status_code};
 ghost use Rattle.peg_json.specs.TreeForms.{is_rows};
 ghost use Rattle.peg_check.specs.Exact.{cans_of};
 
@@ -39,10 +39,10 @@ use std::alloc::{AllocError, Global};
 /// Returns the line of a rejected grammar file. The refusal must not be `Memory`.
 pub fn refused_line(alloc: Global, file: &[u8], refusal: &Refusal) -> Result<Line, AllocError>
     requires short { length file.now ≤ max_offset }
-    requires tellable { IsTellable (length file.now) refusal.now }
-    requires told { refusal.now ≢ Refusal.Memory }
-    ensures { IfOk result (λ line. (cause : Cause) × (cause_told refusal.now ≡ Some cause)
-        × IsReply file.now (Refused cause) (line_bytes line) (code_of line.status)) }
+    requires tellable { IsTrueRefusal (length file.now) refusal.now }
+    requires has_cause { refusal.now ≢ Refusal.Memory }
+    ensures { IfOk result (λ line. (cause : Cause) × (cause_of refusal.now ≡ Some cause)
+        × IsReply file.now (Refused cause) (line_bytes line) (status_code line.status)) }
 {
     let names = refusal.names(alloc)?;
     fault_line(alloc, &Fault::Refused(refusal), file, &names)
@@ -55,12 +55,12 @@ pub(crate) fn fault_line(
     file: &[u8],
     names: &[&str],
 ) -> Result<Line, AllocError>
-    requires told { is_some (fault_cause (map (λ name. name.now) names.now) fault.now) ≡ true }
+    requires has_cause { is_some (fault_cause (map (λ name. name.now) names.now) fault.now) ≡ true }
     requires short { length file.now ≤ max_offset }
     requires places { IfSome (fault_cause (map (λ name. name.now) names.now) fault.now) (StartsIn (length file.now)) }
     requires rules { FaultNames (length names.now) fault.now }
     ensures { IfOk result (λ line. IfSome (fault_cause (map (λ name. name.now) names.now) fault.now) (λ cause.
-        IsReply file.now (Refused cause) (line_bytes line) (code_of line.status))) }
+        IsReply file.now (Refused cause) (line_bytes line) (status_code line.status))) }
 {
     Ok(Line::new(refusal_json(alloc, fault, file, names)?, fault.status()))
 }
@@ -76,7 +76,7 @@ pub fn table_line(
     requires entries { length table.now ≡ length core.now.forms }
     ensures { (file : List ℕ) → IfOk result (λ line.
         IsReply file (Tabled (names (rules_in grammar.now)) (cans_of core.now.bodies table.now))
-        (line_bytes line) (code_of line.status)) }
+        (line_bytes line) (status_code line.status)) }
 {
     Ok(Line::new(table_json(alloc, grammar, core, table)?, Status::Done))
 }
@@ -84,7 +84,7 @@ pub fn table_line(
 /// Returns the line of a program's code.
 pub fn code_line(alloc: Global, program: &Program) -> Result<Line, AllocError>
     ensures { (file : List ℕ) → IfOk result (λ line.
-        IsReply file (Coded program.now.code program.now.entries) (line_bytes line) (code_of line.status)) }
+        IsReply file (Coded program.now.code program.now.entries) (line_bytes line) (status_code line.status)) }
 {
     Ok(Line::new(code_json(alloc, program)?, Status::Done))
 }
@@ -92,7 +92,7 @@ pub fn code_line(alloc: Global, program: &Program) -> Result<Line, AllocError>
 /// Returns the line of an accepted grammar with this many rules.
 pub fn accepted_line(alloc: Global, rules: u32) -> Result<Line, AllocError>
     ensures { (file : List ℕ) → IfOk result (λ line.
-        IsReply file (Accepted rules) (line_bytes line) (code_of line.status)) }
+        IsReply file (Accepted rules) (line_bytes line) (status_code line.status)) }
 {
     let value = accepted_value(alloc, rules)?;
     Ok(Line::new(value.to_string(alloc)?, Status::Done))
@@ -117,7 +117,7 @@ pub fn answer_line(
     requires { Fits (parser_rules parser.now) answer.now.outcome }
     ensures { (file : List ℕ) → IfOk result (λ line. IsLineOf file
         (PrintsOutcome (parser_rules parser.now) answer.now.outcome text_len all (is_rows form))
-        (line_bytes line) (code_of line.status)) }
+        (line_bytes line) (status_code line.status)) }
 {
     let status = answer_status(answer, text_len, all);
     match answer_text(alloc, parser, answer, text_len, all, form) {
@@ -130,7 +130,7 @@ pub fn answer_line(
 /// Returns the line that reports that no rule has the name of the start.
 pub fn no_start_line(alloc: Global, name: &str) -> Result<Line, AllocError>
     ensures { (file : List ℕ) → IfOk result (λ line.
-        IsReply file (Refused (NoSuchStart name.now)) (line_bytes line) (code_of line.status)) }
+        IsReply file (Refused (NoSuchStart name.now)) (line_bytes line) (status_code line.status)) }
 {
     fault_line(alloc, &Fault::NoSuchStart(name), &[], &[])
 }
@@ -138,7 +138,7 @@ pub fn no_start_line(alloc: Global, name: &str) -> Result<Line, AllocError>
 /// Returns the line that reports that a text is too long.
 pub fn long_text_line(alloc: Global) -> Result<Line, AllocError>
     ensures { (file : List ℕ) → IfOk result (λ line.
-        IsReply file (Refused TextTooLong) (line_bytes line) (code_of line.status)) }
+        IsReply file (Refused TextTooLong) (line_bytes line) (status_code line.status)) }
 {
     fault_line(alloc, &Fault::TextTooLong, &[], &[])
 }
@@ -146,7 +146,7 @@ pub fn long_text_line(alloc: Global) -> Result<Line, AllocError>
 /// Returns the line that reports that a parse exceeds its step limit.
 pub fn step_limit_line(alloc: Global) -> Result<Line, AllocError>
     ensures { (file : List ℕ) → IfOk result (λ line.
-        IsReply file (Refused StepLimit) (line_bytes line) (code_of line.status)) }
+        IsReply file (Refused StepLimit) (line_bytes line) (status_code line.status)) }
 {
     fault_line(alloc, &Fault::StepLimit, &[], &[])
 }
@@ -155,7 +155,7 @@ impl<'a> Fault<'a> {
     // The exit status of a fault.
     fn status(&self) -> Status
         ensures { (names : List (List ℕ)) →
-            IfSome (fault_cause names self.now) (λ cause. code_of result ≡ cause_status cause) }
+            IfSome (fault_cause names self.now) (λ cause. status_code result ≡ cause_status cause) }
     {
         match self {
             Fault::Refused(_) => Status::Refused,

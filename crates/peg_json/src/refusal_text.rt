@@ -23,7 +23,7 @@ use peg_check::CheckFault;
 use peg_grammar::GrammarFault;
 use peg_notation::NotationFault;
 use peg_parser::Refusal;
-use peg_tree::send_member;
+use peg_tree::serialize_member;
 use serde::{Described, Serialize, Serializer};
 use serde_json::{Value, json};
 use std::alloc::{AllocError, Global};
@@ -38,7 +38,7 @@ pub fn refusal_json(
     file: &[u8],
     names: &[&str],
 ) -> Result<String, AllocError>
-    requires told { is_some (fault_cause (map (λ name. name.now) names.now) fault.now) ≡ true }
+    requires has_cause { is_some (fault_cause (map (λ name. name.now) names.now) fault.now) ≡ true }
     requires short { length file.now ≤ max_offset }
     requires places { IfSome (fault_cause (map (λ name. name.now) names.now) fault.now) (StartsIn (length file.now)) }
     requires rules { FaultNames (length names.now) fault.now }
@@ -48,9 +48,9 @@ pub fn refusal_json(
     match fault {
         Fault::Refused(refusal) => refusal_text(alloc, refusal, file, names),
         Fault::NoSuchStart(name) => start_text(alloc, name),
-        Fault::StepLimit => bare_text(alloc, "StepLimit"),
-        Fault::TooDeep => bare_text(alloc, "TooDeep"),
-        Fault::TextTooLong => bare_text(alloc, "TextTooLong"),
+        Fault::StepLimit => refusal_only_text(alloc, "StepLimit"),
+        Fault::TooDeep => refusal_only_text(alloc, "TooDeep"),
+        Fault::TextTooLong => refusal_only_text(alloc, "TextTooLong"),
     }
 }
 
@@ -61,7 +61,7 @@ fn refusal_text(
     file: &[u8],
     names: &[&str],
 ) -> Result<String, AllocError>
-    requires told { is_some (refusal_cause (map (λ name. name.now) names.now) refusal.now) ≡ true }
+    requires has_cause { is_some (refusal_cause (map (λ name. name.now) names.now) refusal.now) ≡ true }
     requires short { length file.now ≤ max_offset }
     requires places { IfSome (refusal_cause (map (λ name. name.now) names.now) refusal.now)
         (StartsIn (length file.now)) }
@@ -73,46 +73,46 @@ fn refusal_text(
         Refusal::Notation(fault) => notation_text(alloc, fault, file),
         Refusal::Grammar(fault) => grammar_text(alloc, fault, file),
         Refusal::NotWellFormed(fault, _) => check_text(alloc, fault, file, names),
-        Refusal::CodeTooLarge => bare_text(alloc, "CodeTooLarge"),
+        Refusal::CodeTooLarge => refusal_only_text(alloc, "CodeTooLarge"),
         Refusal::Memory => unreachable!(),
     }
 }
 
 // The JSON of a file that isn't in the notation, or that exceeds a limit of it.
 fn notation_text(alloc: Global, fault: &NotationFault, file: &[u8]) -> Result<String, AllocError>
-    requires told { is_some (notation_cause fault.now) ≡ true }
+    requires has_cause { is_some (notation_cause fault.now) ≡ true }
     requires short { length file.now ≤ max_offset }
     requires places { IfSome (notation_cause fault.now) (StartsIn (length file.now)) }
     ensures { IfOk result (λ text. IfSome (notation_cause fault.now)
         (λ cause. string_bytes text ≡ compact_text (cause_data file.now cause))) }
 {
     match fault {
-        NotationFault::FileTooLong => bare_text(alloc, "FileTooLong"),
-        NotationFault::Syntax { at } => place_text(alloc, "Syntax", file, *at),
-        NotationFault::TooNested { at } => place_text(alloc, "TooNested", file, *at),
-        NotationFault::BadCount { at } => place_text(alloc, "BadCount", file, *at),
+        NotationFault::FileTooLong => refusal_only_text(alloc, "FileTooLong"),
+        NotationFault::Syntax { at } => offset_text(alloc, "Syntax", file, *at),
+        NotationFault::TooNested { at } => offset_text(alloc, "TooNested", file, *at),
+        NotationFault::BadCount { at } => offset_text(alloc, "BadCount", file, *at),
         NotationFault::Memory => unreachable!(),
     }
 }
 
 // The JSON of definitions that aren't a grammar.
 fn grammar_text(alloc: Global, fault: &GrammarFault, file: &[u8]) -> Result<String, AllocError>
-    requires told { is_some (grammar_cause fault.now) ≡ true }
+    requires has_cause { is_some (grammar_cause fault.now) ≡ true }
     requires short { length file.now ≤ max_offset }
     requires places { IfSome (grammar_cause fault.now) (StartsIn (length file.now)) }
     ensures { IfOk result (λ text. IfSome (grammar_cause fault.now)
         (λ cause. string_bytes text ≡ compact_text (cause_data file.now cause))) }
 {
     match fault {
-        GrammarFault::NoRule => bare_text(alloc, "NoRule"),
+        GrammarFault::NoRule => refusal_only_text(alloc, "NoRule"),
         GrammarFault::Duplicate { name, span } => {
             name_text(alloc, "Duplicate", file, name.as_str(), *span)
         }
         GrammarFault::Undefined { name, span } => {
             name_text(alloc, "Undefined", file, name.as_str(), *span)
         }
-        GrammarFault::BadCount { span } => place_text(alloc, "BadCount", file, span.start),
-        GrammarFault::TooManyParts => bare_text(alloc, "TooManyParts"),
+        GrammarFault::BadCount { span } => offset_text(alloc, "BadCount", file, span.start),
+        GrammarFault::TooManyParts => refusal_only_text(alloc, "TooManyParts"),
         GrammarFault::Memory => unreachable!(),
     }
 }
@@ -124,7 +124,7 @@ fn check_text(
     file: &[u8],
     names: &[&str],
 ) -> Result<String, AllocError>
-    requires told { is_some (check_cause (map (λ name. name.now) names.now) fault.now) ≡ true }
+    requires has_cause { is_some (check_cause (map (λ name. name.now) names.now) fault.now) ≡ true }
     requires short { length file.now ≤ max_offset }
     requires places { IfSome (check_cause (map (λ name. name.now) names.now) fault.now) (StartsIn (length file.now)) }
     requires rules { NamesRules (length names.now) fault.now }
@@ -141,7 +141,7 @@ fn check_text(
 }
 
 // The JSON of a value without floats.
-fn told(alloc: Global, value: Value) -> Result<String, AllocError>
+fn json_text(alloc: Global, value: Value) -> Result<String, AllocError>
     ensures { (printed : Data) → view value ≡ printed → has_float printed ≡ false
         → IfOk result (λ text. string_bytes text ≡ compact_text printed) }
 {
@@ -149,28 +149,28 @@ fn told(alloc: Global, value: Value) -> Result<String, AllocError>
 }
 
 // The JSON of a refusal without details.
-fn bare_text(alloc: Global, refusal: &str) -> Result<String, AllocError>
+fn refusal_only_text(alloc: Global, refusal: &str) -> Result<String, AllocError>
     ensures { IfOk result (λ text. string_bytes text ≡ compact_text (bare_data refusal.now)) }
 {
-    told(alloc, bare_value(alloc, refusal)?)
+    json_text(alloc, refusal_only_value(alloc, refusal)?)
 }
 
-fn bare_value(alloc: Global, refusal: &str) -> Result<Value, AllocError>
+fn refusal_only_value(alloc: Global, refusal: &str) -> Result<Value, AllocError>
     ensures { IfOk result (λ value. view value ≡ bare_data refusal.now) }
 {
     json!(in alloc; {"refusal": refusal})
 }
 
 // The JSON of a refusal at an offset of the file.
-fn place_text(alloc: Global, refusal: &str, file: &[u8], at: u32) -> Result<String, AllocError>
+fn offset_text(alloc: Global, refusal: &str, file: &[u8], at: u32) -> Result<String, AllocError>
     requires short { length file.now ≤ max_offset }
     requires inside { at ≤ length file.now }
     ensures { IfOk result (λ text. string_bytes text ≡ compact_text (place_data file.now refusal.now at)) }
 {
-    told(alloc, place_value(alloc, refusal, file, at)?)
+    json_text(alloc, offset_value(alloc, refusal, file, at)?)
 }
 
-fn place_value(alloc: Global, refusal: &str, file: &[u8], at: u32) -> Result<Value, AllocError>
+fn offset_value(alloc: Global, refusal: &str, file: &[u8], at: u32) -> Result<Value, AllocError>
     requires short { length file.now ≤ max_offset }
     requires inside { at ≤ length file.now }
     ensures { IfOk result (λ value. view value ≡ place_data file.now refusal.now at) }
@@ -192,7 +192,7 @@ fn name_text(
     ensures { IfOk result (λ text. string_bytes text
         ≡ compact_text (name_data file.now refusal.now (reference name.now (extent span)))) }
 {
-    told(alloc, name_value(alloc, refusal, file, name, span)?)
+    json_text(alloc, name_value(alloc, refusal, file, name, span)?)
 }
 
 fn name_value(
@@ -221,9 +221,10 @@ fn name_value(
 fn loop_text(alloc: Global, file: &[u8], rule: &str, span: Span) -> Result<String, AllocError>
     requires short { length file.now ≤ max_offset }
     requires inside { span.start ≤ length file.now }
-    ensures { IfOk result (λ text. string_bytes text ≡ compact_text (loop_data file.now (reference rule.now (extent span)))) }
+    ensures { IfOk result (λ text. string_bytes text ≡ compact_text (loop_data file.now (reference rule.now
+        (extent span)))) }
 {
-    told(alloc, loop_value(alloc, file, rule, span)?)
+    json_text(alloc, loop_value(alloc, file, rule, span)?)
 }
 
 fn loop_value(alloc: Global, file: &[u8], rule: &str, span: Span) -> Result<Value, AllocError>
@@ -268,14 +269,14 @@ impl Serialize for LeftCycle<'_> {
     fn serialize<S: Serializer>(&self, out: &mut S) -> Result<(), S::Error> {
         out.begin_map(Some(2))?;
         out.key("path")?;
-        send_names(self.path, self.names, out)?;
-        send_member("refusal", &"LeftRecursion", out)?;
+        serialize_names(self.path, self.names, out)?;
+        serialize_member("refusal", &"LeftRecursion", out)?;
         out.end_map()
     }
 }
 
 // Serializes the names of the rules with these numbers.
-fn send_names<S: Serializer>(path: &[u32], names: &[&str], out: &mut S) -> Result<(), S::Error>
+fn serialize_names<S: Serializer>(path: &[u32], names: &[&str], out: &mut S) -> Result<(), S::Error>
     requires { All (λ rule. rule < length names.now) path.now }
     ensures { OnOk result (SendsValue
         (array (items_of (map string (map (name_at (map (λ name. name.now) names.now)) path.now))))
@@ -283,13 +284,13 @@ fn send_names<S: Serializer>(path: &[u32], names: &[&str], out: &mut S) -> Resul
 {
     out.begin_seq(Some(path.len()))?;
     for rule in path {
-        send_name(*rule, names, out)?;
+        serialize_name(*rule, names, out)?;
     }
     out.end_seq()
 }
 
 // Serializes the name of the rule with this number.
-fn send_name<S: Serializer>(rule: u32, names: &[&str], out: &mut S) -> Result<(), S::Error>
+fn serialize_name<S: Serializer>(rule: u32, names: &[&str], out: &mut S) -> Result<(), S::Error>
     requires { rule < length names.now }
     ensures { OnOk result (SendsValue (string (name_at (map (λ name. name.now) names.now) rule))
         (S.written out.old) (S.written out.new)) }
@@ -301,7 +302,7 @@ fn send_name<S: Serializer>(rule: u32, names: &[&str], out: &mut S) -> Result<()
 fn start_text(alloc: Global, name: &str) -> Result<String, AllocError>
     ensures { IfOk result (λ text. string_bytes text ≡ compact_text (start_data name.now)) }
 {
-    told(alloc, start_value(alloc, name)?)
+    json_text(alloc, start_value(alloc, name)?)
 }
 
 fn start_value(alloc: Global, name: &str) -> Result<Value, AllocError>

@@ -8,16 +8,16 @@ ghost use Rattle.peg_parser.specs.Parser.{parser_rules};
 ghost use Rattle.peg_json.specs.Lines.{IsLineOf, line_bytes, line_text};
 ghost use Rattle.peg_json.specs.Parses.{PrintsOutcome, extents_at, outcome_reply};
 ghost use Rattle.peg_json.specs.Reply.{failed_data, matched_data, printed};
-ghost use Rattle.peg_json.specs.Statuses.{code_of};
+ghost use Rattle.peg_json.specs.Statuses.{status_code};
 
-use crate::answer_object::{Match, NoRows, Summary};
+use crate::answer_object::{EmptyList, Match, Summary};
 use crate::answer_text::{answer_status, failed_text};
+use crate::expected_spans::ExpectedSpans;
 use crate::line::Line;
-use crate::places::Places;
 use crate::status::Status;
 use crate::text::text_of;
 use peg_parser::{Answer, Parser};
-use peg_tree::{Outcome, Parsed, RowsText};
+use peg_tree::{FlatTreeWriter, Outcome, Parsed};
 use std::alloc::{AllocError, Global};
 
 /// Returns the line of an answer whose tree is a list of its nodes in preorder. The nodes are formatted piece by piece
@@ -32,7 +32,7 @@ pub fn rows_line(
     requires { Fits (parser_rules parser.now) answer.outcome }
     ensures { (file : List ℕ) → IfOk result (λ line. IsLineOf file
         (PrintsOutcome (parser_rules parser.now) answer.outcome text_len all true)
-        (line_bytes line) (code_of line.status)) }
+        (line_bytes line) (status_code line.status)) }
 {
     let status = answer_status(&answer, text_len, all);
     outcome_line(alloc, parser, answer.outcome, text_len, all, status)
@@ -62,7 +62,7 @@ fn outcome_line(
         Parsed::Matched { end, tree } => {
             let partial = is_partial(all, end, text_len);
             let text = empty_text(alloc, parser, partial, end, far, &expected)?;
-            let rows = RowsText::new(alloc, tree, parser.grammar())?;
+            let rows = FlatTreeWriter::new(alloc, tree, parser.grammar())?;
             Ok(Line::with_rows(text, rows, status))
         }
     }
@@ -86,7 +86,7 @@ fn failure(
     ensures { IfOk result (λ text. string_bytes text
         ≡ compact_text (failed_data far (extents_at (parser_rules parser.now) terminals.now))) }
 {
-    failed_text(alloc, far, Places::new(parser, terminals))
+    failed_text(alloc, far, ExpectedSpans::new(parser, terminals))
 }
 
 // The JSON of a match with an empty list of nodes.
@@ -103,7 +103,7 @@ fn empty_text(
         (matched_data partial end far (extents_at (parser_rules parser.now) terminals.now)
         (member (codes "rows") (array no_items) no_members))) }
 {
-    let expected = Places::new(parser, terminals);
+    let expected = ExpectedSpans::new(parser, terminals);
     let summary = Summary {
         partial,
         end,
@@ -115,7 +115,7 @@ fn empty_text(
         &Match {
             summary,
             key: "rows",
-            tree: NoRows,
+            tree: EmptyList,
         },
     )
 }

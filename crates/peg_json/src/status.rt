@@ -21,11 +21,11 @@ pub enum Status {
 }
 
 impl Status {
-    ghost use Rattle.peg_json.specs.Statuses.{code_of};
+    ghost use Rattle.peg_json.specs.Statuses.{status_code};
 
     /// Returns the exit status as a number, 0 to 6.
     pub fn code(self) -> u8
-        ensures { result ≡ code_of self }
+        ensures { result ≡ status_code self }
     {
         match self {
             Status::Done => 0,

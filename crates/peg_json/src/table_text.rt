@@ -14,7 +14,7 @@ use crate::text::text_of;
 use peg_check::{Can, Table};
 use peg_core::Core;
 use peg_grammar::Grammar;
-use peg_tree::send_member;
+use peg_tree::serialize_member;
 use serde::{Described, Serialize, Serializer};
 use std::alloc::{AllocError, Global};
 
@@ -54,21 +54,21 @@ struct TableObject<'a> {
 }
 
 impl Described for TableObject<'_> {
-    ghost writes = { λ told. SendsValue (table_data (names (rules_in told.grammar.now))
-        (cans_of told.core.now.bodies told.table.now)) };
+    ghost writes = { λ value. SendsValue (table_data (names (rules_in value.grammar.now))
+        (cans_of value.core.now.bodies value.table.now)) };
 }
 
 impl Serialize for TableObject<'_> {
     fn serialize<S: Serializer>(&self, out: &mut S) -> Result<(), S::Error> {
         out.begin_map(Some(1))?;
         out.key("table")?;
-        send_entries(self.grammar, self.core, self.table, out)?;
+        serialize_entries(self.grammar, self.core, self.table, out)?;
         out.end_map()
     }
 }
 
 // Serializes the entries, in order.
-fn send_entries<S: Serializer>(
+fn serialize_entries<S: Serializer>(
     grammar: &Grammar,
     core: &Core,
     table: &Table,
@@ -83,19 +83,19 @@ fn send_entries<S: Serializer>(
     out.begin_seq(Some(grammar.rules() as usize))?;
     for rule in 0..grammar.rules() {
         let can = table.of(core.body(rule));
-        send_entry(grammar.rule_name(rule), can, out)?;
+        serialize_entry(grammar.rule_name(rule), can, out)?;
     }
     out.end_seq()
 }
 
 // Serializes the name of a rule and what its expression can do.
-fn send_entry<S: Serializer>(rule: &str, can: Can, out: &mut S) -> Result<(), S::Error>
+fn serialize_entry<S: Serializer>(rule: &str, can: Can, out: &mut S) -> Result<(), S::Error>
     ensures { OnOk result (SendsValue (entry_data rule.now (can_of can)) (S.written out.old) (S.written out.new)) }
 {
     out.begin_map(Some(4))?;
-    send_member("fails", &can.fails, out)?;
-    send_member("nothing", &can.nothing, out)?;
-    send_member("rule", &rule, out)?;
-    send_member("something", &can.something, out)?;
+    serialize_member("fails", &can.fails, out)?;
+    serialize_member("nothing", &can.nothing, out)?;
+    serialize_member("rule", &rule, out)?;
+    serialize_member("something", &can.something, out)?;
     out.end_map()
 }

@@ -7,10 +7,10 @@ use serde::Serialize;
 use std::alloc::{AllocError, Global};
 
 // Serializes a value to JSON, into one allocation that grows. Only an allocation can fail.
-pub(crate) fn text_of<T: Serialize>(alloc: Global, told: &T) -> Result<String, AllocError>
-    ensures { IfOk result (λ text. (log : Log) × T.writes told.now (Some []) log × IsTextOf log (string_bytes text)) }
+pub(crate) fn text_of<T: Serialize>(alloc: Global, value: &T) -> Result<String, AllocError>
+    ensures { IfOk result (λ text. (log : Log) × T.writes value.now (Some []) log × IsTextOf log (string_bytes text)) }
 {
-    match serde_json::to_string(alloc, told) {
+    match serde_json::to_string(alloc, value) {
         Ok(text) => Ok(text),
         Err(_) => Err(AllocError),
     }

@@ -14,7 +14,7 @@ impl TreeForm {
     ghost use Rattle.peg_json.specs.TreeForms.{is_rows};
 
     /// Returns `Rows` if `rows` is set, otherwise `Nested`.
-    pub fn of(rows: bool) -> TreeForm
+    pub fn from_rows(rows: bool) -> TreeForm
         ensures { is_rows result ≡ rows }
     {
         if rows {

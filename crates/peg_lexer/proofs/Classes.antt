@@ -5,7 +5,7 @@ use Rattle.std.proofs.lemmas.Bool.Decides.{nat_tests}
 use Rattle.std.proofs.lemmas.List.{get_or_past}
 use Rattle.std.proofs.lemmas.List.FromFn.{length-map-range_with_len, get_or-map-range_with_len}
 use Rattle.peg_bytes.specs.ByteSet.{has}
-use Rattle.peg_lexer.specs.Lexical.{begins_name, is_sign, is_hexadecimal, is_quote}
+use Rattle.peg_lexer.specs.Lexical.{begins_name, is_simple_escape, is_hexadecimal, is_quote}
 use Rattle.peg_metagrammar.specs.Ranges.{Range, range, holds, in_ranges, class_of}
 
 -- all ranges are ranges of bytes
@@ -67,7 +67,7 @@ has_hexadecimal byte =
     ∙ ap (λ t. holds byte (range 48 57) || (holds byte (range 97 102) || t)) (last_range (range 65 70) byte)
 
 pub has_sign : (byte : ℕ) → has (class_of (range 110 110 ∷ range 114 114 ∷ range 116 116 ∷ range 39 39 ∷ range 34 34 ∷
-    range 91 91 ∷ range 93 93 ∷ range 92 92 ∷ [])) byte ≡ is_sign byte
+    range 91 91 ∷ range 93 93 ∷ range 92 92 ∷ [])) byte ≡ is_simple_escape byte
 has_sign byte =
     has-class_of (range 110 110 ∷ range 114 114 ∷ range 116 116 ∷ range 39 39 ∷ range 34 34 ∷ range 91 91 ∷
     range 93 93 ∷

@@ -3,20 +3,20 @@ use Rattle.std.proofs.Common.{◌≡◌, ℕ, ◌+◌, ◌<◌, Bool, true, fals
 use Rattle.std.proofs.Common.{Option, None, Some, option_map, option_and_then, nat_eq, append-nil, refl, sym, ap, ◌∙◌, arith}
 use Rattle.std.proofs.lemmas.List.{drop-drop}
 use Rattle.std.specs.List.{starts_with}
-use Rattle.peg_lexer.specs.Lexical.{is_digit, digit, digits, number, second_number, behind_number, count}
-use Rattle.peg_lexer.specs.LexicalCode.{told, bounds_told, NumbersSeen, numbers_found, CountSeen, count_found}
-use Rattle.peg_lexer.specs.Pieces.{Piece, plain, both, these, or_piece, many, many_behind}
-use Rattle.peg_metagrammar.specs.Spelled.{Spelling, Byte, Bytes, Numeral, Word, Sign, Expression, Definition, decimal, numerals_in, Bounds, bounds, bounds_spelled}
+use Rattle.peg_lexer.specs.Lexical.{is_digit, digit, digits, number, second_number, after_number, count}
+use Rattle.peg_lexer.specs.LexicalCode.{saturated_number, saturated_bounds, NumbersView, numbers_found, CountView, count_found}
+use Rattle.peg_lexer.specs.Matchers.{PrefixMatch, plain, concat_matches, literal_bytes, or_piece, many, many_after}
+use Rattle.peg_metagrammar.specs.Denotation.{Denotation, Byte, Bytes, Numeral, Word, Sign, Expression, Definition, decimal, numerals_in, Bounds, bounds, bounds_spelled}
 use Rattle.peg_lexer.proofs.PieceLemmas.{from, from-drop}
 
 -- ---- numbers
 
-abbrev pub numbers_seen : List ℕ → ℕ → NumbersSeen
+abbrev pub numbers_seen : List ℕ → ℕ → NumbersView
 numbers_seen numbers length = record { numbers = numbers; length = length }
 
 -- if no digit comes next, there is no number
 digits-none : (rest : List ℕ) → (many digit rest).length ≡ 0 → digits rest ≡ None
-unfolding many_behind
+unfolding many_after
 digits-none [] none = refl
 digits-none (byte ∷ rest) none = by (is_digit byte) refl
   where
@@ -28,7 +28,7 @@ digits-none (byte ∷ rest) none = by (is_digit byte) refl
 
 -- the digits of a number are all digits that come next
 digits-some : (rest : List ℕ) → 0 < (many digit rest).length → digits rest ≡ Some (many digit rest)
-unfolding many_behind
+unfolding many_after
 digits-some [] some = absurd (omega arith)
 digits-some (byte ∷ rest) some = by (is_digit byte) refl
   where
@@ -42,7 +42,7 @@ pub number-none : (rest : List ℕ) → (many digit rest).length ≡ 0 → None 
 unfolding number
 number-none rest none = rw (digits-none rest none) refl
 
-pub number-some : (rest : List ℕ) (n value : ℕ) → n ≡ (many digit rest).length → 0 < n → value ≡ told (decimal (take n rest))
+pub number-some : (rest : List ℕ) (n value : ℕ) → n ≡ (many digit rest).length → 0 < n → value ≡ saturated_number (decimal (take n rest))
     → Some (numbers_seen (value ∷ []) n) ≡ option_map numbers_found (number rest)
 unfolding number
 number-some rest n value size some is =
@@ -52,30 +52,30 @@ number-some rest n value size some is =
 -- ---- the rest of a count after its first number
 
 -- a match followed by the closing brace
-closed : (y : Piece) (m : ℕ) (numbers : List ℕ) → numbers_seen numbers m ≡ numbers_found y
-    → Some (numbers_found (both y (plain 1))) ≡ Some (numbers_seen numbers (m + 1))
+closed : (y : PrefixMatch) (m : ℕ) (numbers : List ℕ) → numbers_seen numbers m ≡ numbers_found y
+    → Some (numbers_found (concat_matches y (plain 1))) ≡ Some (numbers_seen numbers (m + 1))
 closed y m numbers same =
-    ap (λ (l : List Spelling). Some (numbers_seen (map told (numerals_in l)) (y.length + 1))) (append-nil y.spells)
-    ∙ ap (λ (seen : NumbersSeen). Some (numbers_seen seen.numbers (seen.length + 1))) (sym same)
+    ap (λ (l : List Denotation). Some (numbers_seen (map saturated_number (numerals_in l)) (y.length + 1))) (append-nil y.spells)
+    ∙ ap (λ (seen : NumbersView). Some (numbers_seen seen.numbers (seen.length + 1))) (sym same)
 
 abbrev pub brace_at : ℕ → List ℕ → Bool
 brace_at at rest = starts_with nat_eq (drop at rest) (codes "}")
 
 module _ (r : List ℕ) where
-  abbrev pub behind : Option Piece → Option NumbersSeen
-  behind x = option_map numbers_found (option_and_then (λ (y : Piece).
-      option_map (both y) (these (codes "}") (drop y.length r))) (or_piece x (Some (plain 0))))
+  abbrev pub behind : Option PrefixMatch → Option NumbersView
+  behind x = option_map numbers_found (option_and_then (λ (y : PrefixMatch).
+      option_map (concat_matches y) (literal_bytes (codes "}") (drop y.length r))) (or_piece x (Some (plain 0))))
 
-  brace_behind : (m : ℕ) (numbers : List ℕ) (t : Bool) → brace_at m r ≡ t → (y : Piece)
+  brace_behind : (m : ℕ) (numbers : List ℕ) (t : Bool) → brace_at m r ≡ t → (y : PrefixMatch)
       → numbers_seen numbers m ≡ numbers_found y → brace_at y.length r ≡ t
   brace_behind m numbers t brace y same =
-      ap (λ (seen : NumbersSeen). brace_at seen.length r) (sym same) ∙ brace
+      ap (λ (seen : NumbersView). brace_at seen.length r) (sym same) ∙ brace
 
   pub behind-two : (m second : ℕ) → Some (numbers_seen (second ∷ []) m) ≡ option_map numbers_found (second_number r)
-      → brace_at m r ≡ true → Some (numbers_seen (second ∷ []) (m + 1)) ≡ option_map numbers_found (behind_number r)
+      → brace_at m r ≡ true → Some (numbers_seen (second ∷ []) (m + 1)) ≡ option_map numbers_found (after_number r)
   behind-two m second found brace = sym (by (second_number r) found)
     where
-      by : (x : Option Piece) → Some (numbers_seen (second ∷ []) m) ≡ option_map numbers_found x
+      by : (x : Option PrefixMatch) → Some (numbers_seen (second ∷ []) m) ≡ option_map numbers_found x
           → behind x ≡ Some (numbers_seen (second ∷ []) (m + 1))
       by None found = cc
       by (Some y) found =
@@ -83,38 +83,38 @@ module _ (r : List ℕ) where
           rw (brace_behind m (second ∷ []) true brace y same) (closed y m (second ∷ []) same)
 
   pub behind-one : None ≡ option_map numbers_found (second_number r) → brace_at 0 r ≡ true
-      → Some (numbers_seen [] 1) ≡ option_map numbers_found (behind_number r)
+      → Some (numbers_seen [] 1) ≡ option_map numbers_found (after_number r)
   behind-one none brace = sym (by (second_number r) none)
     where
-      by : (x : Option Piece) → None ≡ option_map numbers_found x → behind x ≡ Some (numbers_seen [] 1)
+      by : (x : Option PrefixMatch) → None ≡ option_map numbers_found x → behind x ≡ Some (numbers_seen [] 1)
       by None found = rw brace refl
       by (Some y) found = cc
 
   pub behind-unclosed : (m second : ℕ) → Some (numbers_seen (second ∷ []) m) ≡ option_map numbers_found (second_number r)
-      → brace_at m r ≡ false → None ≡ option_map numbers_found (behind_number r)
+      → brace_at m r ≡ false → None ≡ option_map numbers_found (after_number r)
   behind-unclosed m second found brace = sym (by (second_number r) found)
     where
-      by : (x : Option Piece) → Some (numbers_seen (second ∷ []) m) ≡ option_map numbers_found x → behind x ≡ None
+      by : (x : Option PrefixMatch) → Some (numbers_seen (second ∷ []) m) ≡ option_map numbers_found x → behind x ≡ None
       by None found = cc
       by (Some y) found =
           let same : numbers_seen (second ∷ []) m ≡ numbers_found y = cc in
           rw (brace_behind m (second ∷ []) false brace y same) refl
 
   pub behind-none : None ≡ option_map numbers_found (second_number r) → brace_at 0 r ≡ false
-      → None ≡ option_map numbers_found (behind_number r)
+      → None ≡ option_map numbers_found (after_number r)
   behind-none none brace = sym (by (second_number r) none)
     where
-      by : (x : Option Piece) → None ≡ option_map numbers_found x → behind x ≡ None
+      by : (x : Option PrefixMatch) → None ≡ option_map numbers_found x → behind x ≡ None
       by None found = rw brace refl
       by (Some y) found = cc
 
 -- ---- what the code reads from an index on
 
-pub number-from : (rest : List ℕ) (at : ℕ) (x : Option NumbersSeen) → x ≡ option_map numbers_found (number (from at rest))
+pub number-from : (rest : List ℕ) (at : ℕ) (x : Option NumbersView) → x ≡ option_map numbers_found (number (from at rest))
     → x ≡ option_map numbers_found (number (drop at rest))
 number-from rest at x is = is ∙ ap (λ r. option_map numbers_found (number r)) (from-drop at rest)
 
-pub second-from : (rest : List ℕ) (at : ℕ) (x : Option NumbersSeen)
+pub second-from : (rest : List ℕ) (at : ℕ) (x : Option NumbersView)
     → x ≡ option_map numbers_found (second_number (from at rest))
     → x ≡ option_map numbers_found (second_number (drop at rest))
 second-from rest at x is = is ∙ ap (λ r. option_map numbers_found (second_number r)) (from-drop at rest)
@@ -127,7 +127,7 @@ brace-from rest at m end t ends is =
 
 -- ---- counts
 
-numerals_in-append : (a b : List Spelling) → numerals_in (a ++ b) ≡ numerals_in a ++ numerals_in b
+numerals_in-append : (a b : List Denotation) → numerals_in (a ++ b) ≡ numerals_in a ++ numerals_in b
 numerals_in-append [] b = refl
 numerals_in-append (Byte byte ∷ a) b = numerals_in-append a b
 numerals_in-append (Bytes bytes ∷ a) b = numerals_in-append a b
@@ -142,79 +142,79 @@ abbrev pub bounds_from : ℕ → List ℕ → Bounds
 bounds_from first [] = bounds first first
 bounds_from first (second ∷ more) = bounds first second
 
-bounds-told : (numbers others : List ℕ) (value : ℕ) (more : List ℕ) → value ∷ [] ≡ map told numbers → more ≡ map told others
-    → bounds_from value more ≡ bounds_told (bounds_spelled (numbers ++ others))
-bounds-told [] others value more same also = cc
-bounds-told (number ∷ other ∷ rest) others value more same also = cc
-bounds-told (number ∷ []) [] value more same also =
-    let is : value ≡ told number = cc in ap (bounds_from value) also ∙ ap (λ n. bounds n n) is
-bounds-told (number ∷ []) (other ∷ rest) value more same also =
-    let is : value ≡ told number = cc in ap (bounds_from value) also ∙ ap (λ n. bounds n (told other)) is
+bounds-saturated_number : (numbers others : List ℕ) (value : ℕ) (more : List ℕ) → value ∷ [] ≡ map saturated_number numbers → more ≡ map saturated_number others
+    → bounds_from value more ≡ saturated_bounds (bounds_spelled (numbers ++ others))
+bounds-saturated_number [] others value more same also = cc
+bounds-saturated_number (number ∷ other ∷ rest) others value more same also = cc
+bounds-saturated_number (number ∷ []) [] value more same also =
+    let is : value ≡ saturated_number number = cc in ap (bounds_from value) also ∙ ap (λ n. bounds n n) is
+bounds-saturated_number (number ∷ []) (other ∷ rest) value more same also =
+    let is : value ≡ saturated_number number = cc in ap (bounds_from value) also ∙ ap (λ n. bounds n (saturated_number other)) is
 
-abbrev pub seen_count : Bounds → ℕ → CountSeen
+abbrev pub seen_count : Bounds → ℕ → CountView
 seen_count bounds length = record { bounds = bounds; length = length }
 
 module _ (rest : List ℕ) where
-  abbrev inner : Option Piece → Option Piece
-  inner x = option_and_then (λ (x : Piece). option_map (both x) (behind_number (drop x.length (drop 1 rest)))) x
+  abbrev inner : Option PrefixMatch → Option PrefixMatch
+  inner x = option_and_then (λ (x : PrefixMatch). option_map (concat_matches x) (after_number (drop x.length (drop 1 rest)))) x
 
-  abbrev whole : Option Piece → Option CountSeen
-  whole x = option_map count_found (option_map (both (plain 1)) x)
+  abbrev whole : Option PrefixMatch → Option CountView
+  whole x = option_map count_found (option_map (concat_matches (plain 1)) x)
 
-  at_behind : (n value : ℕ) (x : Piece) → numbers_seen (value ∷ []) n ≡ numbers_found x
+  at_behind : (n value : ℕ) (x : PrefixMatch) → numbers_seen (value ∷ []) n ≡ numbers_found x
       → drop x.length (drop 1 rest) ≡ drop (1 + n) rest
   at_behind n value x same =
-      drop-drop x.length 1 rest ∙ ap (λ (seen : NumbersSeen). drop (1 + seen.length) rest) (sym same)
+      drop-drop x.length 1 rest ∙ ap (λ (seen : NumbersView). drop (1 + seen.length) rest) (sym same)
 
   pub count-some : (n m value : ℕ) (more : List ℕ) → starts_with nat_eq rest (codes "{") ≡ true
       → Some (numbers_seen (value ∷ []) n) ≡ option_map numbers_found (number (drop 1 rest))
-      → Some (numbers_seen more m) ≡ option_map numbers_found (behind_number (drop (1 + n) rest))
+      → Some (numbers_seen more m) ≡ option_map numbers_found (after_number (drop (1 + n) rest))
       → Some (seen_count (bounds_from value more) (1 + n + m)) ≡ option_map count_found (count rest)
   unfolding count
   count-some n m value more opens first next = rw opens (sym (by (number (drop 1 rest)) first))
     where
-      joined : (x y : Piece) → numbers_seen (value ∷ []) n ≡ numbers_found x → numbers_seen more m ≡ numbers_found y
-          → Some (count_found (both (plain 1) (both x y))) ≡ Some (seen_count (bounds_from value more) (1 + n + m))
+      joined : (x y : PrefixMatch) → numbers_seen (value ∷ []) n ≡ numbers_found x → numbers_seen more m ≡ numbers_found y
+          → Some (count_found (concat_matches (plain 1) (concat_matches x y))) ≡ Some (seen_count (bounds_from value more) (1 + n + m))
       joined x y same also =
           let size : 1 + (x.length + y.length) ≡ 1 + n + m =
-          omega (arith, ap (λ (s : NumbersSeen). s.length) same, ap (λ (s : NumbersSeen). s.length) also) in
-          let told_so : bounds_from value more ≡ bounds_told (bounds_spelled (numerals_in (x.spells ++ y.spells))) =
-          bounds-told (numerals_in x.spells) (numerals_in y.spells) value more (ap (λ (s : NumbersSeen). s.numbers) same)
-          (ap (λ (s : NumbersSeen). s.numbers) also)
-          ∙ ap (λ (l : List ℕ). bounds_told (bounds_spelled l)) (sym (numerals_in-append x.spells y.spells)) in
-          ap (λ l. Some (seen_count (bounds_told (bounds_spelled (numerals_in (x.spells ++ y.spells)))) l)) size
+          omega (arith, ap (λ (s : NumbersView). s.length) same, ap (λ (s : NumbersView). s.length) also) in
+          let told_so : bounds_from value more ≡ saturated_bounds (bounds_spelled (numerals_in (x.spells ++ y.spells))) =
+          bounds-saturated_number (numerals_in x.spells) (numerals_in y.spells) value more (ap (λ (s : NumbersView). s.numbers) same)
+          (ap (λ (s : NumbersView). s.numbers) also)
+          ∙ ap (λ (l : List ℕ). saturated_bounds (bounds_spelled l)) (sym (numerals_in-append x.spells y.spells)) in
+          ap (λ l. Some (seen_count (saturated_bounds (bounds_spelled (numerals_in (x.spells ++ y.spells)))) l)) size
           ∙ ap (λ (b : Bounds). Some (seen_count b (1 + n + m))) (sym told_so)
 
-      by : (x : Option Piece) → Some (numbers_seen (value ∷ []) n) ≡ option_map numbers_found x
+      by : (x : Option PrefixMatch) → Some (numbers_seen (value ∷ []) n) ≡ option_map numbers_found x
           → whole (inner x) ≡ Some (seen_count (bounds_from value more) (1 + n + m))
       by None found = cc
       by (Some x) found =
           let same : numbers_seen (value ∷ []) n ≡ numbers_found x = cc in
-          later x same (behind_number (drop x.length (drop 1 rest)))
-          (next ∙ ap (λ r. option_map numbers_found (behind_number r)) (sym (at_behind n value x same)))
+          later x same (after_number (drop x.length (drop 1 rest)))
+          (next ∙ ap (λ r. option_map numbers_found (after_number r)) (sym (at_behind n value x same)))
         where
-          later : (x : Piece) → numbers_seen (value ∷ []) n ≡ numbers_found x → (y : Option Piece)
+          later : (x : PrefixMatch) → numbers_seen (value ∷ []) n ≡ numbers_found x → (y : Option PrefixMatch)
               → Some (numbers_seen more m) ≡ option_map numbers_found y
-              → whole (option_map (both x) y) ≡ Some (seen_count (bounds_from value more) (1 + n + m))
+              → whole (option_map (concat_matches x) y) ≡ Some (seen_count (bounds_from value more) (1 + n + m))
           later x same None found = cc
           later x same (Some y) found =
               let also : numbers_seen more m ≡ numbers_found y = cc in joined x y same also
 
   pub count-none : (n value : ℕ) → starts_with nat_eq rest (codes "{") ≡ true
       → Some (numbers_seen (value ∷ []) n) ≡ option_map numbers_found (number (drop 1 rest))
-      → None ≡ option_map numbers_found (behind_number (drop (1 + n) rest)) → None ≡ option_map count_found (count rest)
+      → None ≡ option_map numbers_found (after_number (drop (1 + n) rest)) → None ≡ option_map count_found (count rest)
   unfolding count
   count-none n value opens first next = rw opens (sym (by (number (drop 1 rest)) first))
     where
-      by : (x : Option Piece) → Some (numbers_seen (value ∷ []) n) ≡ option_map numbers_found x → whole (inner x) ≡ None
+      by : (x : Option PrefixMatch) → Some (numbers_seen (value ∷ []) n) ≡ option_map numbers_found x → whole (inner x) ≡ None
       by None found = cc
       by (Some x) found =
           let same : numbers_seen (value ∷ []) n ≡ numbers_found x = cc in
-          later x (behind_number (drop x.length (drop 1 rest)))
-          (next ∙ ap (λ r. option_map numbers_found (behind_number r)) (sym (at_behind n value x same)))
+          later x (after_number (drop x.length (drop 1 rest)))
+          (next ∙ ap (λ r. option_map numbers_found (after_number r)) (sym (at_behind n value x same)))
         where
-          later : (x : Piece) → (y : Option Piece) → None ≡ option_map numbers_found y
-              → whole (option_map (both x) y) ≡ None
+          later : (x : PrefixMatch) → (y : Option PrefixMatch) → None ≡ option_map numbers_found y
+              → whole (option_map (concat_matches x) y) ≡ None
           later x None found = refl
           later x (Some y) found = cc
 
@@ -223,7 +223,7 @@ module _ (rest : List ℕ) where
   unfolding count
   count-empty opens none = rw opens (sym (by (number (drop 1 rest)) none))
     where
-      by : (x : Option Piece) → None ≡ option_map numbers_found x → whole (inner x) ≡ None
+      by : (x : Option PrefixMatch) → None ≡ option_map numbers_found x → whole (inner x) ≡ None
       by None found = refl
       by (Some x) found = cc
 

@@ -7,11 +7,11 @@ use Rattle.peg_semantics.specs.Form.{Name}
 use Rattle.peg_semantics.specs.Record.{Failed, Matched}
 use Rattle.peg_semantics.proofs.Derivations.{Derives, recorded}
 use Rattle.peg_metagrammar.specs.Figure.{figure}
-use Rattle.peg_lexer.specs.Lexical.{begins_name, identifier, literal, quoted, class, count, text_of, kind_of, Found, token_of, spacing}
-use Rattle.peg_lexer.specs.LexicalCode.{Seen, seen_found, token_seen}
-use Rattle.peg_metagrammar.specs.Notation.{Matches, Fails}
-use Rattle.peg_lexer.specs.Pieces.{Piece, these}
-use Rattle.peg_lexer.specs.Tokens.{rule_of_kind, Lexeme, IsLexeme, Lexemes, Begins, IsLexingFault}
+use Rattle.peg_lexer.specs.Lexical.{begins_name, identifier, literal, quoted, class, count, matcher_of, kind_of, ScannedToken, token_of, spacing}
+use Rattle.peg_lexer.specs.LexicalCode.{TokenView, view_of_token, token_view}
+use Rattle.peg_metagrammar.specs.Notation.{Matches, FailsAt}
+use Rattle.peg_lexer.specs.Matchers.{PrefixMatch, literal_bytes}
+use Rattle.peg_lexer.specs.Tokens.{rule_of_kind, Lexeme, IsLexeme, Lexemes, IsTokenized, IsLexingFault}
 use Rattle.peg_lexer.specs.declared.token.TokenKind.{TokenKind}
 use Rattle.peg_lexer.specs.declared.token.TokenKind.TheVariants.{Ident, Literal, Class, Arrow, Slash, And, Not, Question, Star, Plus, Count, Open, Close, Dot}
 use Rattle.peg_lexer.proofs.PieceLemmas.{from, from-drop}
@@ -25,7 +25,7 @@ pub matches : {file name : List ℕ} {p end : ℕ} {trees : Trees}
     → Derives figure file (Name name (between 0 0)) p (Matched end trees) → Matches file name p end trees
 matches d = let known = recorded d 0 in (known.found, (known.depth, known.is), known.result_is)
 
-pub fails : {file name : List ℕ} {p : ℕ} → Derives figure file (Name name (between 0 0)) p Failed → Fails file name p
+pub fails : {file name : List ℕ} {p : ℕ} → Derives figure file (Name name (between 0 0)) p Failed → FailsAt file name p
 fails d = let known = recorded d 0 in (known.found, (known.depth, known.is), known.result_is)
 
 -- ---- each kind
@@ -34,13 +34,13 @@ fails d = let known = recorded d 0 in (known.found, (known.depth, known.is), kno
 abbrev pub lexeme_at : TokenKind → (p size : ℕ) → Lexeme
 lexeme_at kind p size = record { kind = kind; text = between p (p + size) }
 
-lexeme_found : {file : List ℕ} {number : ℕ} {p : ℕ} {piece : Piece} (kind : TokenKind)
+lexeme_found : {file : List ℕ} {number : ℕ} {p : ℕ} {piece : PrefixMatch} (kind : TokenKind)
     → FindsToken file number (rule_of_kind kind) (between 0 0) p piece
     → IsLexeme file p (behind_text file p piece.length) (lexeme_at kind p piece.length)
 lexeme_found {file} {number} {p} {piece} kind it =
     (it.trees, matches it.derives, ap (between p) (sym (it.ends p)))
 
-pub kind_matches : (file : List ℕ) (kind : TokenKind) (p : ℕ) (piece : Piece) → text_of kind (drop p file) ≡ Some piece
+pub kind_matches : (file : List ℕ) (kind : TokenKind) (p : ℕ) (piece : PrefixMatch) → matcher_of kind (drop p file) ≡ Some piece
     → IsLexeme file p (behind_text file p piece.length) (lexeme_at kind p piece.length)
 kind_matches file Ident p piece found = lexeme_found Ident
     ((rules.takes-identifier file).some (between 0 0) p piece found)
@@ -62,8 +62,8 @@ kind_matches file Open p piece found = lexeme_found Open ((rules.takes-open_sign
 kind_matches file Close p piece found = lexeme_found Close ((rules.takes-close file).some (between 0 0) p piece found)
 kind_matches file Dot p piece found = lexeme_found Dot ((rules.takes-dot file).some (between 0 0) p piece found)
 
-pub kind_fails : (file : List ℕ) (kind : TokenKind) (p : ℕ) → text_of kind (drop p file) ≡ None
-    → Fails file (rule_of_kind kind) p
+pub kind_fails : (file : List ℕ) (kind : TokenKind) (p : ℕ) → matcher_of kind (drop p file) ≡ None
+    → FailsAt file (rule_of_kind kind) p
 kind_fails file Ident p none = fails ((rules.takes-identifier file).none (between 0 0) p none)
 kind_fails file Literal p none = fails ((rules.takes-literal file).none (between 0 0) p none)
 kind_fails file Class p none = fails ((rules.takes-class_token file).none (between 0 0) p none)
@@ -83,16 +83,16 @@ kind_fails file Dot p none = fails ((rules.takes-dot file).none (between 0 0) p 
 
 -- either the next byte is the operator's first byte, or the operator does not match
 sign_apart : (sign : ℕ) (more : List ℕ) (byte : ℕ) (rest : List ℕ)
-    → (sign ≡ byte) ⊎ (these (sign ∷ more) (byte ∷ rest) ≡ None)
+    → (sign ≡ byte) ⊎ (literal_bytes (sign ∷ more) (byte ∷ rest) ≡ None)
 sign_apart sign more byte rest = by (sign == byte) refl
   where
-    by : (t : Bool) → (sign == byte) ≡ t → (sign ≡ byte) ⊎ (these (sign ∷ more) (byte ∷ rest) ≡ None)
+    by : (t : Bool) → (sign == byte) ≡ t → (sign ≡ byte) ⊎ (literal_bytes (sign ∷ more) (byte ∷ rest) ≡ None)
     by true is = inl (eqb-true sign byte is)
     by false is = inr (rw is refl)
 
 -- the kind of an operator, if the next byte is its first byte
 of_sign : (kind : TokenKind) (sign : ℕ) (more : List ℕ) (byte : ℕ) (rest : List ℕ) → kind_of sign ≡ Some kind
-    → (kind_of byte ≡ Some kind) ⊎ (these (sign ∷ more) (byte ∷ rest) ≡ None)
+    → (kind_of byte ≡ Some kind) ⊎ (literal_bytes (sign ∷ more) (byte ∷ rest) ≡ None)
 of_sign kind sign more byte rest is =
     elim (sign_apart sign more byte rest) [
       | inl same ↦ inl (subst (λ b. kind_of b ≡ Some kind) same is)
@@ -100,17 +100,17 @@ of_sign kind sign more byte rest is =
     ]
 
 pub kinds_apart : (kind : TokenKind) (byte : ℕ) (rest : List ℕ)
-    → (kind_of byte ≡ Some kind) ⊎ (text_of kind (byte ∷ rest) ≡ None)
+    → (kind_of byte ≡ Some kind) ⊎ (matcher_of kind (byte ∷ rest) ≡ None)
 unfolding kind_of identifier literal quoted class count
 kinds_apart Ident byte rest = by (begins_name byte) refl
   where
-    by : (t : Bool) → begins_name byte ≡ t → (kind_of byte ≡ Some Ident) ⊎ (text_of Ident (byte ∷ rest) ≡ None)
+    by : (t : Bool) → begins_name byte ≡ t → (kind_of byte ≡ Some Ident) ⊎ (matcher_of Ident (byte ∷ rest) ≡ None)
     by true is = inl (rw is refl)
     by false is = inr (rw is refl)
 kinds_apart Literal byte rest = by (byte == 39) (byte == 34) refl refl
   where
     by : (t u : Bool) → (byte == 39) ≡ t → (byte == 34) ≡ u
-        → (kind_of byte ≡ Some Literal) ⊎ (text_of Literal (byte ∷ rest) ≡ None)
+        → (kind_of byte ≡ Some Literal) ⊎ (matcher_of Literal (byte ∷ rest) ≡ None)
     by true u is other = inl (subst (λ b. kind_of b ≡ Some Literal) (sym (eqb-true byte 39 is)) refl)
     by false true is other = inl (subst (λ b. kind_of b ≡ Some Literal) (sym (eqb-true byte 34 other)) refl)
     by false false is other = inr (rw (is, other) refl)
@@ -131,48 +131,48 @@ kinds_apart Dot byte rest = of_sign Dot 46 [] byte rest refl
 
 -- ---- the token at the start of the remaining bytes
 
-abbrev pub seen_at : TokenKind → ℕ → Seen
+abbrev pub seen_at : TokenKind → ℕ → TokenView
 seen_at kind size = record { kind = kind; length = size }
 
-abbrev found_of : TokenKind → Piece → Found
+abbrev found_of : TokenKind → PrefixMatch → ScannedToken
 found_of kind text = record { kind = kind; text = text }
 
 -- the code's result for a token, and the token of the definitions
-token_found : (rest : List ℕ) (kind : TokenKind) (size : ℕ) → token_seen rest ≡ Some (seen_at kind size)
-    → (piece : Piece) × (text_of kind rest ≡ Some piece) × (piece.length ≡ size)
+token_found : (rest : List ℕ) (kind : TokenKind) (size : ℕ) → token_view rest ≡ Some (seen_at kind size)
+    → (piece : PrefixMatch) × (matcher_of kind rest ≡ Some piece) × (piece.length ≡ size)
 token_found [] kind size seen = cc
 token_found (byte ∷ rest) kind size seen = by (kind_of byte) seen
   where
-    by : (k : Option TokenKind) → option_map seen_found (option_and_then (λ kind. token_of kind (byte ∷ rest)) k)
-        ≡ Some (seen_at kind size) → (piece : Piece) × (text_of kind (byte ∷ rest) ≡ Some piece) × (piece.length ≡ size)
+    by : (k : Option TokenKind) → option_map view_of_token (option_and_then (λ kind. token_of kind (byte ∷ rest)) k)
+        ≡ Some (seen_at kind size) → (piece : PrefixMatch) × (matcher_of kind (byte ∷ rest) ≡ Some piece) × (piece.length ≡ size)
     by None seen = cc
-    by (Some k) seen = later (text_of k (byte ∷ rest)) refl seen
+    by (Some k) seen = later (matcher_of k (byte ∷ rest)) refl seen
       where
-        later : (text : Option Piece) → text_of k (byte ∷ rest) ≡ text
-            → option_map seen_found (option_map (found_of k) text) ≡ Some (seen_at kind size) → (piece : Piece)
-            × (text_of kind (byte ∷ rest) ≡ Some piece) × (piece.length ≡ size)
+        later : (text : Option PrefixMatch) → matcher_of k (byte ∷ rest) ≡ text
+            → option_map view_of_token (option_map (found_of k) text) ≡ Some (seen_at kind size) → (piece : PrefixMatch)
+            × (matcher_of kind (byte ∷ rest) ≡ Some piece) × (piece.length ≡ size)
         later None is seen = cc
         later (Some piece) is seen =
             let same : seen_at k piece.length ≡ seen_at kind size = cc in (
               piece,
-              subst (λ other. text_of other (byte ∷ rest) ≡ Some piece) (ap (λ (s : Seen). s.kind) same) is,
+              subst (λ other. matcher_of other (byte ∷ rest) ≡ Some piece) (ap (λ (s : TokenView). s.kind) same) is,
               ap
-                  (λ (s : Seen). s.length) same,
+                  (λ (s : TokenView). s.length) same,
             )
 
 -- if the code finds no token, no kind of token matches
-token_missing : (byte : ℕ) (rest : List ℕ) → token_seen (byte ∷ rest) ≡ None → (kind : TokenKind)
-    → text_of kind (byte ∷ rest) ≡ None
+token_missing : (byte : ℕ) (rest : List ℕ) → token_view (byte ∷ rest) ≡ None → (kind : TokenKind)
+    → matcher_of kind (byte ∷ rest) ≡ None
 token_missing byte rest seen kind =
     elim (kinds_apart kind byte rest) [ inl is ↦ no_text is | inr none ↦ none ]
   where
-    gone : (text : Option Piece) → option_map seen_found (option_map (found_of kind) text) ≡ None → text ≡ None
+    gone : (text : Option PrefixMatch) → option_map view_of_token (option_map (found_of kind) text) ≡ None → text ≡ None
     gone None e = refl
     gone (Some piece) e = cc
 
-    no_text : kind_of byte ≡ Some kind → text_of kind (byte ∷ rest) ≡ None
+    no_text : kind_of byte ≡ Some kind → matcher_of kind (byte ∷ rest) ≡ None
     no_text is =
-        gone (text_of kind (byte ∷ rest)) (ap (λ k. option_map seen_found
+        gone (matcher_of kind (byte ∷ rest)) (ap (λ k. option_map view_of_token
         (option_and_then (λ kind. token_of kind (byte ∷
         rest)) k)) (sym is) ∙ seen)
 
@@ -184,19 +184,19 @@ one_more lexeme Lexemes.none last = Lexemes.one last Lexemes.none
 one_more lexeme (Lexemes.one first more) last = Lexemes.one first (one_more lexeme more last)
 
 -- the first spacing
-pub lex-start : (file : List ℕ) → Begins file [] (spacing file).length
+pub lex-start : (file : List ℕ) → IsTokenized file [] (spacing file).length
 lex-start file =
     let gap = finds-spacing file (between 0 0) 0 in
     let here : 0 + (spacing (drop 0 file)).length ≡ (spacing file).length = omega arith in
-    subst (λ end. Begins file [] end) here
+    subst (λ end. IsTokenized file [] end) here
     (0 + (spacing (drop 0 file)).length, gap.trees, matches gap.derives, Lexemes.none)
 
 -- one more token, and the spacing after it
-pub lex-more : (file : List ℕ) (lexemes : List Lexeme) (at : ℕ) (kind : TokenKind) (size : ℕ) → Begins file lexemes at
-    → token_seen (from at file) ≡ Some (seen_at kind size)
-    → Begins file (lexemes ++ lexeme_at kind at size ∷ []) (at + size + (spacing (from (at + size) file)).length)
+pub lex-more : (file : List ℕ) (lexemes : List Lexeme) (at : ℕ) (kind : TokenKind) (size : ℕ) → IsTokenized file lexemes at
+    → token_view (from at file) ≡ Some (seen_at kind size)
+    → IsTokenized file (lexemes ++ lexeme_at kind at size ∷ []) (at + size + (spacing (from (at + size) file)).length)
 lex-more file lexemes at kind size begun seen =
-    let it = token_found (drop at file) kind size (ap token_seen (sym (from-drop at file)) ∙ seen) in
+    let it = token_found (drop at file) kind size (ap token_view (sym (from-drop at file)) ∙ seen) in
     let known : IsLexeme file at (behind_text file at it.0.length)
     (lexeme_at kind at it.0.length) = kind_matches file kind at it.0 it.1 in
     let sized : IsLexeme file at (behind_text file at size) (lexeme_at kind at size) = subst
@@ -207,15 +207,15 @@ lex-more file lexemes at kind size begun seen =
     (begun.0, begun.1, begun.2, one_more (lexeme_at kind at size) begun.3 coded)
 
 -- if no token is found before the end, the file has a lexing fault
-pub lex-fault : (file : List ℕ) (lexemes : List Lexeme) (at : ℕ) → Begins file lexemes at → at < length file
-    → token_seen (from at file) ≡ None → IsLexingFault file at
+pub lex-fault : (file : List ℕ) (lexemes : List Lexeme) (at : ℕ) → IsTokenized file lexemes at → at < length file
+    → token_view (from at file) ≡ None → IsLexingFault file at
 lex-fault file lexemes at begun before seen =
     let front : drop at file ≡ get_or file at 0 ∷ drop (suc at) file = drop-cons file at 0 before in
-    let gone : token_seen (get_or file at 0 ∷ drop (suc at) file) ≡ None = ap token_seen (sym front)
-    ∙ (ap token_seen (sym (from-drop at file)) ∙ seen) in (
+    let gone : token_view (get_or file at 0 ∷ drop (suc at) file) ≡ None = ap token_view (sym front)
+    ∙ (ap token_view (sym (from-drop at file)) ∙ seen) in (
       lexemes,
       begun,
       before,
       λ kind. kind_fails file kind at
-          (ap (text_of kind) front ∙ token_missing (get_or file at 0) (drop (suc at) file) gone kind),
+          (ap (matcher_of kind) front ∙ token_missing (get_or file at 0) (drop (suc at) file) gone kind),
     )

@@ -1,6 +1,7 @@
 mod Classes
 mod CountTexts
 pub mod Escapes
+pub mod KindRules
 pub mod Lexemes
 pub mod OneLexing
 pub mod PieceLemmas

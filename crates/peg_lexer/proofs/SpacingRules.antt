@@ -8,25 +8,25 @@ use Rattle.peg_semantics.specs.Form.{Name}
 use Rattle.peg_metagrammar.specs.Figure.{figure, end_of_line_body, space_body, comment_body, spacing_body}
 use Rattle.peg_metagrammar.specs.FigureRules as rule
 use Rattle.peg_lexer.specs.Lexical.{end_of_line, space, comment, in_comment, space_or_comment, spacing}
-use Rattle.peg_lexer.specs.Pieces.{Piece, followed, star, unless, many}
-use Rattle.peg_metagrammar.specs.Spelled.{spelled, text_end, bad_counts}
+use Rattle.peg_lexer.specs.Matchers.{PrefixMatch, seq_matcher, star, not_followed, many}
+use Rattle.peg_metagrammar.specs.Denotation.{spelled, text_end, bad_counts}
 use Rattle.peg_metagrammar.specs.Nesting.{nesting}
-use Rattle.peg_metagrammar.proofs.FigureNames.{end_of_line-meant, space-meant, comment-meant, spacing-meant}
-use Rattle.peg_lexer.proofs.PieceSizes.{Fits, HasBytes, is_long, fits-these, has-these, fits-one, has-one, fits-followed, has-first, has-next, fits-either, has-either, fits-unless, fits-star, IsBlank, blank-these, blank-one, blank-followed, blank-either, blank-unless, blank-many, blank-star}
-use Rattle.peg_lexer.proofs.Takes.{Takes, IsLong, Nodes, takes-these, takes-any, takes-then, takes-last, takes-seq, takes-only, takes-or, takes-choice, takes-not, takes-star, takes-name}
+use Rattle.peg_metagrammar.proofs.FigureNames.{end_of_line-meaning_of, space-meaning_of, comment-meaning_of, spacing-meaning_of}
+use Rattle.peg_lexer.proofs.PieceSizes.{Fits, HasBytes, is_long, fits-literal_bytes, has-literal_bytes, fits-one, has-one, fits-seq_matcher, has-first, has-next, fits-or_matcher, has-or_matcher, fits-not_followed, fits-star, IsBlank, blank-literal_bytes, blank-one, blank-seq_matcher, blank-or_matcher, blank-not_followed, blank-many, blank-star}
+use Rattle.peg_lexer.proofs.Takes.{Takes, IsLong, Nodes, takes-literal_bytes, takes-any, takes-then, takes-last, takes-seq, takes-only, takes-or, takes-choice, takes-not, takes-star, takes-name}
 
 -- ---- EndOfLine
 
 pub end_of_line-fits : Fits end_of_line
 unfolding end_of_line
 end_of_line-fits =
-    fits-either (fits-these (codes "\r\n")) (fits-either (fits-these (codes "\n")) (fits-these (codes "\r")))
+    fits-or_matcher (fits-literal_bytes (codes "\r\n")) (fits-or_matcher (fits-literal_bytes (codes "\n")) (fits-literal_bytes (codes "\r")))
 
 pub end_of_line-some : HasBytes end_of_line
 unfolding end_of_line
 end_of_line-some =
-    has-either (has-these (codes "\r\n") (lit< tt)) (has-either (has-these (codes "\n") (lit< tt))
-    (has-these (codes "\r") (lit< tt)))
+    has-or_matcher (has-literal_bytes (codes "\r\n") (lit< tt)) (has-or_matcher (has-literal_bytes (codes "\n") (lit< tt))
+    (has-literal_bytes (codes "\r") (lit< tt)))
 
 end_of_line-nodes : Nodes rule.end_of_line (λ text inner. inner)
 end_of_line-nodes = record { spells = λ file before start end last inner. refl; no_spacing = refl; no_primary = refl; no_count = refl }
@@ -35,20 +35,20 @@ pub takes-end_of_line : (file : List ℕ) (start end : ℕ)
     → Takes file (Name (codes "EndOfLine") (between start end)) end_of_line
 unfolding end_of_line end_of_line_body
 takes-end_of_line file start end =
-    takes-name (between start end) _ end_of_line-meant.1 end_of_line-nodes
-    (takes-choice _ (takes-or (takes-these file _ _) (takes-or (takes-these file _ _)
-    (takes-only (takes-these file _ _)))))
+    takes-name (between start end) _ end_of_line-meaning_of.1 end_of_line-nodes
+    (takes-choice _ (takes-or (takes-literal_bytes file _ _) (takes-or (takes-literal_bytes file _ _)
+    (takes-only (takes-literal_bytes file _ _)))))
 
 -- ---- Space
 
 pub space-fits : Fits space
 unfolding space
-space-fits = fits-either (fits-these (codes " ")) (fits-either (fits-these (codes "\t")) end_of_line-fits)
+space-fits = fits-or_matcher (fits-literal_bytes (codes " ")) (fits-or_matcher (fits-literal_bytes (codes "\t")) end_of_line-fits)
 
 pub space-some : HasBytes space
 unfolding space
 space-some =
-    has-either (has-these (codes " ") (lit< tt)) (has-either (has-these (codes "\t") (lit< tt)) end_of_line-some)
+    has-or_matcher (has-literal_bytes (codes " ") (lit< tt)) (has-or_matcher (has-literal_bytes (codes "\t") (lit< tt)) end_of_line-some)
 
 space-nodes : Nodes rule.space (λ text inner. inner)
 space-nodes = record { spells = λ file before start end last inner. refl; no_spacing = refl; no_primary = refl; no_count = refl }
@@ -56,25 +56,25 @@ space-nodes = record { spells = λ file before start end last inner. refl; no_sp
 pub takes-space : (file : List ℕ) (start end : ℕ) → Takes file (Name (codes "Space") (between start end)) space
 unfolding space space_body
 takes-space file start end =
-    takes-name (between start end) _ space-meant.1 space-nodes
-    (takes-choice _ (takes-or (takes-these file _ _) (takes-or (takes-these file _ _)
+    takes-name (between start end) _ space-meaning_of.1 space-nodes
+    (takes-choice _ (takes-or (takes-literal_bytes file _ _) (takes-or (takes-literal_bytes file _ _)
     (takes-only (takes-end_of_line file _ _)))))
 
 -- ---- Comment
 
 pub in_comment-long : IsLong in_comment
 in_comment-long =
-    is_long (has-next (unless end_of_line) (has-one (λ byte. true)))
-    (fits-followed (fits-unless end_of_line) (fits-one (λ byte. true)))
+    is_long (has-next (not_followed end_of_line) (has-one (λ byte. true)))
+    (fits-seq_matcher (fits-not_followed end_of_line) (fits-one (λ byte. true)))
 
 pub comment-fits : Fits comment
 unfolding comment
 comment-fits =
-    fits-followed (fits-these (codes "#")) (fits-followed (fits-star in_comment-long) end_of_line-fits)
+    fits-seq_matcher (fits-literal_bytes (codes "#")) (fits-seq_matcher (fits-star in_comment-long) end_of_line-fits)
 
 pub comment-some : HasBytes comment
 unfolding comment
-comment-some = has-first (followed (star in_comment) end_of_line) (has-these (codes "#") (lit< tt))
+comment-some = has-first (seq_matcher (star in_comment) end_of_line) (has-literal_bytes (codes "#") (lit< tt))
 
 comment-nodes : Nodes rule.comment (λ text inner. inner)
 comment-nodes = record { spells = λ file before start end last inner. refl; no_spacing = refl; no_primary = refl; no_count = refl }
@@ -82,8 +82,8 @@ comment-nodes = record { spells = λ file before start end last inner. refl; no_
 pub takes-comment : (file : List ℕ) (start end : ℕ) → Takes file (Name (codes "Comment") (between start end)) comment
 unfolding comment comment_body
 takes-comment file start end =
-    takes-name (between start end) _ comment-meant.1 comment-nodes
-    (takes-seq _ (takes-then (takes-these file _ _)
+    takes-name (between start end) _ comment-meaning_of.1 comment-nodes
+    (takes-seq _ (takes-then (takes-literal_bytes file _ _)
     (takes-then (takes-star _ (takes-seq _ (takes-then (takes-not _ (takes-end_of_line file _ _))
     (takes-last (takes-any file _)))) in_comment-long)
     (takes-last (takes-end_of_line file _ _)))))
@@ -91,28 +91,28 @@ takes-comment file start end =
 -- ---- what Spacing repeats
 
 pub space_or_comment-long : IsLong space_or_comment
-space_or_comment-long = is_long (has-either space-some comment-some) (fits-either space-fits comment-fits)
+space_or_comment-long = is_long (has-or_matcher space-some comment-some) (fits-or_matcher space-fits comment-fits)
 
 end_of_line-blank : IsBlank end_of_line
 unfolding end_of_line
 end_of_line-blank =
-    blank-either (blank-these (codes "\r\n")) (blank-either (blank-these (codes "\n")) (blank-these (codes "\r")))
+    blank-or_matcher (blank-literal_bytes (codes "\r\n")) (blank-or_matcher (blank-literal_bytes (codes "\n")) (blank-literal_bytes (codes "\r")))
 
 space-blank : IsBlank space
 unfolding space
-space-blank = blank-either (blank-these (codes " ")) (blank-either (blank-these (codes "\t")) end_of_line-blank)
+space-blank = blank-or_matcher (blank-literal_bytes (codes " ")) (blank-or_matcher (blank-literal_bytes (codes "\t")) end_of_line-blank)
 
 in_comment-blank : IsBlank in_comment
-in_comment-blank = blank-followed (blank-unless end_of_line) (blank-one (λ byte. true))
+in_comment-blank = blank-seq_matcher (blank-not_followed end_of_line) (blank-one (λ byte. true))
 
 comment-blank : IsBlank comment
 unfolding comment
 comment-blank =
-    blank-followed (blank-these (codes "#"))
-    (blank-followed (blank-star in_comment-long in_comment-blank) end_of_line-blank)
+    blank-seq_matcher (blank-literal_bytes (codes "#"))
+    (blank-seq_matcher (blank-star in_comment-long in_comment-blank) end_of_line-blank)
 
 pub space_or_comment-blank : IsBlank space_or_comment
-space_or_comment-blank = blank-either space-blank comment-blank
+space_or_comment-blank = blank-or_matcher space-blank comment-blank
 
 -- ---- Spacing
 
@@ -131,11 +131,11 @@ finds-spacing file span p =
     let inside : Takes file spacing_body (star space_or_comment) = takes-star _
     (takes-choice _ (takes-or (takes-space file _ _)
     (takes-only (takes-comment file _ _)))) space_or_comment-long in
-    let blanks : Piece = many space_or_comment (drop p file) in
+    let blanks : PrefixMatch = many space_or_comment (drop p file) in
     let it = inside.some p blanks refl in
     record {
       trees = Tree rule.spacing p (p + blanks.length) it.trees NoTrees;
-      derives = Derives.name_matched spacing-meant.1 it.derives refl;
+      derives = Derives.name_matched spacing-meaning_of.1 it.derives refl;
       spells = λ before.
           append-nil (spelled file before it.trees) ∙ (it.spelled.spells before
           ∙ blank-many space_or_comment-long space_or_comment-blank (length (drop p file)) (drop p file) (omega arith)

@@ -6,50 +6,50 @@ use Rattle.peg_bytes.specs.Extent.{Extent}
 use Rattle.peg_tree.specs.Trees.{Trees, NoTrees, Tree, followed_by}
 use Rattle.peg_semantics.specs.Form.{Form, Forms, Name, Seq, Choice, End, Then}
 use Rattle.peg_semantics.specs.Record.{Failed, Matched}
-use Rattle.peg_semantics.specs.Rules.{Meaning, meant}
+use Rattle.peg_semantics.specs.Rules.{Meaning, meaning_of}
 use Rattle.peg_semantics.proofs.Derivations.{Derives, DerivesItems, DerivesFirst}
 use Rattle.peg_metagrammar.specs.Figure.{figure}
 use Rattle.peg_metagrammar.specs.FigureRules as rule
 use Rattle.peg_lexer.specs.Lexical.{spacing}
-use Rattle.peg_lexer.specs.Pieces.{Piece, Finding, both, followed, or_piece, either}
-use Rattle.peg_metagrammar.specs.Spelled.{Spelling, text_end, node_spelled, spelled, bad_count, bad_counts}
+use Rattle.peg_lexer.specs.Matchers.{PrefixMatch, Matcher, concat_matches, seq_matcher, or_piece, or_matcher}
+use Rattle.peg_metagrammar.specs.Denotation.{Denotation, text_end, node_spelled, spelled, bad_count, bad_counts}
 use Rattle.peg_metagrammar.specs.Nesting.{nesting, has_open}
 use Rattle.peg_lexer.proofs.SpacingRules.{FindsSpacing, finds-spacing}
-use Rattle.peg_lexer.proofs.Takes.{Takes, SpellsAs, spelled-followed, text_end-followed, nesting-followed, bad_counts-followed}
+use Rattle.peg_lexer.proofs.Takes.{Takes, SpellsAs, spelled-seq_matcher, text_end-seq_matcher, nesting-seq_matcher, bad_counts-seq_matcher}
 
 -- the end of the spacing after a text of `size` bytes
 abbrev pub behind_text : List ℕ → (p size : ℕ) → ℕ
 behind_text file p size = p + size + (spacing (drop (p + size) file)).length
 
 -- trees that denote these parts, with a text that ends at `last`
-pub record Spells (file : List ℕ) (trees : Trees) (pieces : List Spelling) (last : ℕ) : Type 0 where
+pub record Spells (file : List ℕ) (trees : Trees) (pieces : List Denotation) (last : ℕ) : Type 0 where
   pub spells : (before : ℕ) → spelled file before trees ≡ pieces
   pub ends : (before : ℕ) → text_end before trees ≡ last
   pub flat : nesting trees ≡ 0
   pub fine : bad_counts file trees ≡ []
 
 -- items of which the last is Spacing
-pub record FindsItems (file : List ℕ) (items : Forms) (p : ℕ) (piece : Piece) : Type 0 where
+pub record FindsItems (file : List ℕ) (items : Forms) (p : ℕ) (piece : PrefixMatch) : Type 0 where
   pub trees : Trees
   pub derives : DerivesItems figure file items p (Matched (behind_text file p piece.length) trees)
   pub spelled : Spells file trees piece.spells (p + piece.length)
 
-pub record TakesItems (file : List ℕ) (items : Forms) (find : Finding) : Type 0 where
+pub record TakesItems (file : List ℕ) (items : Forms) (find : Matcher) : Type 0 where
   pub none : (p : ℕ) → find (drop p file) ≡ None → DerivesItems figure file items p Failed
-  pub some : (p : ℕ) (piece : Piece) → find (drop p file) ≡ Some piece → FindsItems file items p piece
+  pub some : (p : ℕ) (piece : PrefixMatch) → find (drop p file) ≡ Some piece → FindsItems file items p piece
 
 -- an expression of such items
-pub record FindsText (file : List ℕ) (e : Form) (p : ℕ) (piece : Piece) : Type 0 where
+pub record FindsText (file : List ℕ) (e : Form) (p : ℕ) (piece : PrefixMatch) : Type 0 where
   pub trees : Trees
   pub derives : Derives figure file e p (Matched (behind_text file p piece.length) trees)
   pub spelled : Spells file trees piece.spells (p + piece.length)
 
-pub record TakesText (file : List ℕ) (e : Form) (find : Finding) : Type 0 where
+pub record TakesText (file : List ℕ) (e : Form) (find : Matcher) : Type 0 where
   pub none : (p : ℕ) → find (drop p file) ≡ None → Derives figure file e p Failed
-  pub some : (p : ℕ) (piece : Piece) → find (drop p file) ≡ Some piece → FindsText file e p piece
+  pub some : (p : ℕ) (piece : PrefixMatch) → find (drop p file) ≡ Some piece → FindsText file e p piece
 
 -- spacing after the last item
-pub text-last : {file : List ℕ} {e : Form} {find : Finding} (span : Extent) → Takes file e find
+pub text-last : {file : List ℕ} {e : Form} {find : Matcher} (span : Extent) → Takes file e find
     → TakesItems file (Then e (Then (Name (codes "Spacing") span) End)) find
 text-last {file} {e} {find} span a = record {
   none = λ p none. DerivesItems.items_failed (a.none p none);
@@ -62,31 +62,31 @@ text-last {file} {e} {find} span a = record {
             (DerivesItems.items_then gap.derives DerivesItems.items_none refl) refl;
         spelled = record {
           spells = λ before.
-              spelled-followed file before it.trees (followed_by gap.trees NoTrees)
-              ∙ (ap (λ (more : List Spelling). spelled file before it.trees ++ more)
-              (spelled-followed file (text_end before it.trees) gap.trees NoTrees
+              spelled-seq_matcher file before it.trees (followed_by gap.trees NoTrees)
+              ∙ (ap (λ (more : List Denotation). spelled file before it.trees ++ more)
+              (spelled-seq_matcher file (text_end before it.trees) gap.trees NoTrees
               ∙ (append-nil (spelled file (text_end before it.trees) gap.trees)
               ∙ gap.spells (text_end before it.trees)))
               ∙ (append-nil (spelled file before it.trees) ∙ it.spelled.spells before));
           ends = λ before.
-              text_end-followed before it.trees (followed_by gap.trees NoTrees)
-              ∙ (text_end-followed (text_end before it.trees) gap.trees NoTrees ∙ gap.ends (text_end before it.trees));
+              text_end-seq_matcher before it.trees (followed_by gap.trees NoTrees)
+              ∙ (text_end-seq_matcher (text_end before it.trees) gap.trees NoTrees ∙ gap.ends (text_end before it.trees));
           flat =
-              nesting-followed it.trees (followed_by gap.trees NoTrees)
+              nesting-seq_matcher it.trees (followed_by gap.trees NoTrees)
               ∙ (ap (λ n. max n (nesting (followed_by gap.trees NoTrees))) it.spelled.flat
-              ∙ ap (λ n. max 0 n) (nesting-followed gap.trees NoTrees ∙ ap (λ n. max n 0) gap.flat));
+              ∙ ap (λ n. max 0 n) (nesting-seq_matcher gap.trees NoTrees ∙ ap (λ n. max n 0) gap.flat));
           fine =
-              bad_counts-followed file it.trees (followed_by gap.trees NoTrees)
+              bad_counts-seq_matcher file it.trees (followed_by gap.trees NoTrees)
               ∙ (ap (λ (l : List ℕ). l ++ bad_counts file (followed_by gap.trees NoTrees)) it.spelled.fine
-              ∙ (bad_counts-followed file gap.trees NoTrees ∙ ap (λ (l : List ℕ). l ++ []) gap.fine));
+              ∙ (bad_counts-seq_matcher file gap.trees NoTrees ∙ ap (λ (l : List ℕ). l ++ []) gap.fine));
         };
       };
 }
 
 -- a text after a match
-both_items : {file : List ℕ} {e : Form} {rest : Forms} {p : ℕ} (first next : Piece)
+both_items : {file : List ℕ} {e : Form} {rest : Forms} {p : ℕ} (first next : PrefixMatch)
     → Rattle.peg_lexer.proofs.Takes.Finds file e p first → FindsItems file rest (p + first.length) next
-    → FindsItems file (Then e rest) p (both first next)
+    → FindsItems file (Then e rest) p (concat_matches first next)
 both_items {file} {e} {rest} {p} first next a b =
     let assoc : p + first.length + next.length ≡ p +
     (first.length + next.length) = add_assoc p first.length next.length in
@@ -97,58 +97,58 @@ both_items {file} {e} {rest} {p} first next a b =
           (DerivesItems.items_then a.derives b.derives refl);
       spelled = record {
         spells = λ before.
-            spelled-followed file before a.trees b.trees
-            ∙ (ap (λ (more : List Spelling). spelled file before a.trees ++ more)
+            spelled-seq_matcher file before a.trees b.trees
+            ∙ (ap (λ (more : List Denotation). spelled file before a.trees ++ more)
             (b.spelled.spells (text_end before a.trees))
-            ∙ ap (λ (pieces : List Spelling). pieces ++ next.spells) (a.spelled.spells before));
+            ∙ ap (λ (pieces : List Denotation). pieces ++ next.spells) (a.spelled.spells before));
         ends = λ before.
-            text_end-followed before a.trees b.trees ∙ (b.spelled.ends (text_end before a.trees) ∙ assoc);
+            text_end-seq_matcher before a.trees b.trees ∙ (b.spelled.ends (text_end before a.trees) ∙ assoc);
         flat =
-            nesting-followed a.trees b.trees
+            nesting-seq_matcher a.trees b.trees
             ∙ (ap (λ n. max n (nesting b.trees)) a.spelled.flat ∙ ap (λ n. max 0 n) b.spelled.flat);
         fine =
-            bad_counts-followed file a.trees b.trees
+            bad_counts-seq_matcher file a.trees b.trees
             ∙ (ap (λ (l : List ℕ). l ++ bad_counts file b.trees) a.spelled.fine ∙ b.spelled.fine);
       };
     }
 
-pub text-then : {file : List ℕ} {e : Form} {rest : Forms} {first next : Finding} → Takes file e first
-    → TakesItems file rest next → TakesItems file (Then e rest) (followed first next)
+pub text-then : {file : List ℕ} {e : Form} {rest : Forms} {first next : Matcher} → Takes file e first
+    → TakesItems file rest next → TakesItems file (Then e rest) (seq_matcher first next)
 text-then {file} {e} {rest} {first} {next} a b = record {
   none = λ p none. fails p (first (drop p file)) refl none;
   some = λ p piece found. matches p (first (drop p file)) refl piece found;
 }
   where
-    behind_it : (p : ℕ) (x : Piece) → next (drop x.length (drop p file)) ≡ next (drop (p + x.length) file)
+    behind_it : (p : ℕ) (x : PrefixMatch) → next (drop x.length (drop p file)) ≡ next (drop (p + x.length) file)
     behind_it p x = ap next (drop-drop x.length p file)
 
-    fails : (p : ℕ) (found : Option Piece) → first (drop p file) ≡ found
-        → option_and_then (λ (x : Piece). option_map (both x) (next (drop x.length (drop p file)))) found ≡ None
+    fails : (p : ℕ) (found : Option PrefixMatch) → first (drop p file) ≡ found
+        → option_and_then (λ (x : PrefixMatch). option_map (concat_matches x) (next (drop x.length (drop p file)))) found ≡ None
         → DerivesItems figure file (Then e rest) p Failed
     fails p None is none = DerivesItems.items_failed (a.none p is)
     fails p (Some x) is none = later (next (drop x.length (drop p file))) refl none
       where
-        later : (more : Option Piece) → next (drop x.length (drop p file)) ≡ more → option_map (both x) more ≡ None
+        later : (more : Option PrefixMatch) → next (drop x.length (drop p file)) ≡ more → option_map (concat_matches x) more ≡ None
             → DerivesItems figure file (Then e rest) p Failed
         later None gone is_none = DerivesItems.items_then ((a.some p x is).derives)
             (b.none (p + x.length) (sym (behind_it p x) ∙ gone)) refl
         later (Some y) there is_none = cc
 
-    matches : (p : ℕ) (found : Option Piece) → first (drop p file) ≡ found → (piece : Piece)
-        → option_and_then (λ (x : Piece). option_map (both x) (next (drop x.length (drop p file)))) found ≡ Some piece
+    matches : (p : ℕ) (found : Option PrefixMatch) → first (drop p file) ≡ found → (piece : PrefixMatch)
+        → option_and_then (λ (x : PrefixMatch). option_map (concat_matches x) (next (drop x.length (drop p file)))) found ≡ Some piece
         → FindsItems file (Then e rest) p piece
     matches p None is piece found = cc
     matches p (Some x) is piece found = later (next (drop x.length (drop p file))) refl found
       where
-        later : (more : Option Piece) → next (drop x.length (drop p file)) ≡ more → option_map (both x) more
+        later : (more : Option PrefixMatch) → next (drop x.length (drop p file)) ≡ more → option_map (concat_matches x) more
             ≡ Some piece → FindsItems file (Then e rest) p piece
         later None gone is_piece = cc
         later (Some y) there is_piece =
-            let same : both x y ≡ piece = cc in
-            subst (λ (z : Piece). FindsItems file (Then e rest) p z) same
+            let same : concat_matches x y ≡ piece = cc in
+            subst (λ (z : PrefixMatch). FindsItems file (Then e rest) p z) same
             (both_items x y (a.some p x is) (b.some (p + x.length) y (sym (behind_it p x) ∙ there)))
 
-pub text-seq : {file : List ℕ} {items : Forms} {find : Finding} (span : Extent) → TakesItems file items find
+pub text-seq : {file : List ℕ} {items : Forms} {find : Matcher} (span : Extent) → TakesItems file items find
     → TakesText file (Seq items span) find
 text-seq span a = record {
   none = λ p none. Derives.sequence (a.none p none);
@@ -158,20 +158,20 @@ text-seq span a = record {
 }
 
 -- one of two texts
-pub text-either : {file : List ℕ} {e f : Form} {first other : Finding} (span : Extent) → TakesText file e first
-    → TakesText file f other → TakesText file (Choice e (Then f End) span) (either first other)
-text-either {file} {e} {f} {first} {other} span a b = record {
+pub text-or_matcher : {file : List ℕ} {e f : Form} {first other : Matcher} (span : Extent) → TakesText file e first
+    → TakesText file f other → TakesText file (Choice e (Then f End) span) (or_matcher first other)
+text-or_matcher {file} {e} {f} {first} {other} span a b = record {
   none = λ p none. fails p (first (drop p file)) refl none;
   some = λ p piece found. matches p piece (first (drop p file)) refl found;
 }
   where
-    fails : (p : ℕ) (x : Option Piece) → first (drop p file) ≡ x → or_piece x (other (drop p file)) ≡ None
+    fails : (p : ℕ) (x : Option PrefixMatch) → first (drop p file) ≡ x → or_piece x (other (drop p file)) ≡ None
         → Derives figure file (Choice e (Then f End) span) p Failed
     fails p None is gone = Derives.choice (DerivesFirst.alternative_failed (a.none p is)
         (DerivesFirst.alternative_last (b.none p gone)))
     fails p (Some x) is gone = cc
 
-    matches : (p : ℕ) (piece : Piece) (x : Option Piece) → first (drop p file) ≡ x → or_piece x (other (drop p file))
+    matches : (p : ℕ) (piece : PrefixMatch) (x : Option PrefixMatch) → first (drop p file) ≡ x → or_piece x (other (drop p file))
         ≡ Some piece → FindsText file (Choice e (Then f End) span) p piece
     matches p piece None is there =
         let it = b.some p piece there in
@@ -199,7 +199,7 @@ or_false false = refl
 
 -- a token rule at an offset: its tree, the end of its text, and what it denotes
 pub record FindsToken (file : List ℕ) (number : ℕ) (used : List ℕ) (span : Extent) (p : ℕ)
-    (piece : Piece) : Type 0 where
+    (piece : PrefixMatch) : Type 0 where
   pub trees : Trees
   pub derives : Derives figure file (Name used span) p (Matched (behind_text file p piece.length) trees)
   pub ends : (before : ℕ) → text_end before trees ≡ p + piece.length
@@ -209,12 +209,12 @@ pub record FindsToken (file : List ℕ) (number : ℕ) (used : List ℕ) (span :
   pub opens : has_open trees ≡ (number == rule.open_sign)
   pub counts : bad_counts file trees ≡ bad_count number p piece.spells
 
-pub record TakesToken (file : List ℕ) (number : ℕ) (used : List ℕ) (find : Finding) : Type 0 where
+pub record TakesToken (file : List ℕ) (number : ℕ) (used : List ℕ) (find : Matcher) : Type 0 where
   pub none : (span : Extent) (p : ℕ) → find (drop p file) ≡ None → Derives figure file (Name used span) p Failed
-  pub some : (span : Extent) (p : ℕ) (piece : Piece) → find (drop p file) ≡ Some piece
+  pub some : (span : Extent) (p : ℕ) (piece : PrefixMatch) → find (drop p file) ≡ Some piece
       → FindsToken file number used span p piece
 
-pub takes-token : {file used : List ℕ} {find : Finding} (m : Meaning) → meant figure used ≡ Some m
+pub takes-token : {file used : List ℕ} {find : Matcher} (m : Meaning) → meaning_of figure used ≡ Some m
     → (m.rule == rule.spacing) ≡ false → (m.rule == rule.primary) ≡ false → TakesText file m.body find
     → TakesToken file m.rule used find
 takes-token {file} {used} {find} m known no_spacing no_primary a = record {
@@ -238,7 +238,7 @@ takes-token {file} {used} {find} m known no_spacing no_primary a = record {
             ∙ ap (λ n. max (0 + n) 0) it.spelled.flat;
         opens = or_false (m.rule == rule.open_sign);
         counts =
-            ap (λ (inner : List Spelling). bad_count m.rule p inner ++ (bad_counts file it.trees ++ []))
+            ap (λ (inner : List Denotation). bad_count m.rule p inner ++ (bad_counts file it.trees ++ []))
             (it.spelled.spells p)
             ∙ (ap (λ (l : List ℕ). bad_count m.rule p piece.spells ++ (l ++ [])) it.spelled.fine
             ∙ append-nil (bad_count m.rule p piece.spells));

@@ -3,9 +3,9 @@ pub use Rattle.peg_bytes.specs.Extent
 pub use Rattle.peg_metagrammar.specs.Notation
 pub use Rattle.peg_metagrammar.specs.Ranges
 pub use Rattle.peg_metagrammar.specs.RangesCode
-pub use Rattle.peg_metagrammar.specs.Spelled
+pub use Rattle.peg_metagrammar.specs.Denotation
 pub use Rattle.peg_tree.specs.Trees
 pub mod Lexical
 pub mod LexicalCode
-pub mod Pieces
+pub mod Matchers
 pub mod Tokens

@@ -3,8 +3,8 @@
 use Rattle.std.specs.Prelude.{◌≡◌, ℕ, ◌<◌, ◌≤◌, List, [], ◌∷◌, map, length, codes, Result, Ok, Err}
 use Rattle.peg_bytes.specs.Extent.{Extent, between, extent}
 use Rattle.peg_tree.specs.Trees.{Trees}
-use Rattle.peg_metagrammar.specs.Notation.{Matches, Fails, max_file_bytes}
-use Rattle.peg_metagrammar.specs.Spelled.{text_end}
+use Rattle.peg_metagrammar.specs.Notation.{Matches, FailsAt, max_file_bytes}
+use Rattle.peg_metagrammar.specs.Denotation.{text_end}
 use Rattle.std.specs.declared.alloc.Global.{Global}
 use Rattle.std.specs.declared.vec.Vec.{Vec}
 use Rattle.peg_lexer.specs.declared.fault.LexFault.{LexFault}
@@ -40,32 +40,32 @@ pub record Lexeme : Type 0 where
 abbrev pub lexeme_of : Token → Lexeme
 lexeme_of token = record { kind = token.kind; text = extent token.span }
 
--- a token of this kind starts at `place`, and its spacing ends at `end`
-abbrev pub IsLexeme : List ℕ → (place end : ℕ) → Lexeme → Type 0
-IsLexeme file place end lexeme =
-    (trees : Trees) × Matches file (rule_of_kind lexeme.kind) place end trees
-    × (lexeme.text ≡ between place (text_end place trees))
+-- a token of this kind starts at `position`, and its spacing ends at `end`
+abbrev pub IsLexeme : List ℕ → (position end : ℕ) → Lexeme → Type 0
+IsLexeme file position end lexeme =
+    (trees : Trees) × Matches file (rule_of_kind lexeme.kind) position end trees
+    × (lexeme.text ≡ between position (text_end position trees))
 
 -- the tokens are consecutive from one offset to another
 pub data Lexemes (file : List ℕ) : ℕ → List Lexeme → ℕ → Type 0 where
-  none : {place : ℕ} → Lexemes file place [] place
-  one : {place mid end : ℕ} {lexeme : Lexeme} {more : List Lexeme} → IsLexeme file place mid lexeme
-      → Lexemes file mid more end → Lexemes file place (lexeme ∷ more) end
+  none : {position : ℕ} → Lexemes file position [] position
+  one : {position mid end : ℕ} {lexeme : Lexeme} {more : List Lexeme} → IsLexeme file position mid lexeme
+      → Lexemes file mid more end → Lexemes file position (lexeme ∷ more) end
 
 -- the file starts with spacing and then these tokens, up to offset `end`
-abbrev pub Begins : List ℕ → List Lexeme → (end : ℕ) → Type 0
-Begins file lexemes end =
+abbrev pub IsTokenized : List ℕ → List Lexeme → (end : ℕ) → Type 0
+IsTokenized file lexemes end =
     (start : ℕ) × (trees : Trees) × Matches file (codes "Spacing") 0 start trees × Lexemes file start lexemes end
 
 -- the tokens of a file
 abbrev pub IsTokens : List ℕ → List Lexeme → Type 0
-IsTokens file lexemes = Begins file lexemes (length file)
+IsTokens file lexemes = IsTokenized file lexemes (length file)
 
 -- The lexing fault of a file: after some tokens the file continues, and no token rule matches.
 abbrev pub IsLexingFault : List ℕ → (at : ℕ) → Type 0
 IsLexingFault file at =
-    (lexemes : List Lexeme) × Begins file lexemes at × (at < length file)
-    × ((kind : TokenKind) → Fails file (rule_of_kind kind) at)
+    (lexemes : List Lexeme) × IsTokenized file lexemes at × (at < length file)
+    × ((kind : TokenKind) → FailsAt file (rule_of_kind kind) at)
 
 -- The result of lexing: the tokens, or the lexing fault, or that the file is too long. A failed allocation says nothing
 -- about the file.

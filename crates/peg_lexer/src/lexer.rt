@@ -2,7 +2,7 @@
 ghost use Rattle.peg_lexer.specs.Tokens.{Lexes};
 
 use crate::fault::LexFault;
-use crate::front::token;
+use crate::scan::token;
 use crate::spacing::spacing;
 use crate::token::Token;
 use peg_bytes::Span;

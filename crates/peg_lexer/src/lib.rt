@@ -4,16 +4,16 @@
 
 mod counts;
 mod fault;
-mod front;
 pub mod laws;
 mod lexer;
+mod scan;
+mod scan_literals;
 mod spacing;
-mod text;
 mod token;
-mod values;
+mod token_values;
 
 pub use counts::{Bounds, count_bounds};
 pub use fault::LexFault;
 pub use lexer::{MAX_FILE_BYTES, lex};
 pub use token::{Token, TokenKind};
-pub use values::{class_bytes, literal_bytes, name_text};
+pub use token_values::{class_of_token, literal_bytes, name_text};

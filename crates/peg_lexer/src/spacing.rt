@@ -1,7 +1,7 @@
 //! Spacing: blanks, line ends and comments (Ford 2004, section 2.1).
 ghost use Rattle.std.specs.Prelude.{◌≡◌, ◌<◌, ◌≤◌, length, IfSome};
 ghost use Rattle.peg_lexer.specs.Lexical.{end_of_line, space, comment, in_comment, space_or_comment, spacing};
-ghost use Rattle.peg_lexer.specs.Pieces.{length_of, many};
+ghost use Rattle.peg_lexer.specs.Matchers.{match_length, many};
 
 /// Returns the length of the spacing at the start of `rest`. Linear in that length.
 #[tactic(auto, unfolding(crate::specs::Lexical::spacing))]
@@ -18,7 +18,7 @@ pub(crate) fn spacing(rest: &[u8]) -> usize
 
 // The length of a blank, line end or comment.
 fn space_or_comment(rest: &[u8]) -> Option<usize>
-    ensures value { result ≡ length_of (space_or_comment rest.now) }
+    ensures value { result ≡ match_length (space_or_comment rest.now) }
     ensures some { IfSome result (λ n. 0 < n) }
     ensures fits { IfSome result (λ n. n ≤ length rest.now) }
 {
@@ -31,7 +31,7 @@ fn space_or_comment(rest: &[u8]) -> Option<usize>
 // The length of a comment: from `#` up to and including the next line end.
 #[tactic(auto, unfolding(crate::specs::Lexical::comment))]
 fn comment(rest: &[u8]) -> Option<usize>
-    ensures value { result ≡ length_of (comment rest.now) }
+    ensures value { result ≡ match_length (comment rest.now) }
     ensures some { IfSome result (λ n. 0 < n) }
     ensures fits { IfSome result (λ n. n ≤ length rest.now) }
 {
@@ -58,7 +58,7 @@ fn line_text(rest: &[u8]) -> usize
 
 // One byte, unless a line end or the end of the file comes next.
 fn byte_of_line(rest: &[u8]) -> Option<usize>
-    ensures value { result ≡ length_of (in_comment rest.now) }
+    ensures value { result ≡ match_length (in_comment rest.now) }
     ensures some { IfSome result (λ n. 0 < n) }
     ensures fits { IfSome result (λ n. n ≤ length rest.now) }
 {
@@ -71,7 +71,7 @@ fn byte_of_line(rest: &[u8]) -> Option<usize>
 // The length of a blank or line end.
 #[tactic(auto, unfolding(crate::specs::Lexical::space))]
 fn space(rest: &[u8]) -> Option<usize>
-    ensures value { result ≡ length_of (space rest.now) }
+    ensures value { result ≡ match_length (space rest.now) }
     ensures some { IfSome result (λ n. 0 < n) }
     ensures fits { IfSome result (λ n. n ≤ length rest.now) }
 {
@@ -87,7 +87,7 @@ fn space(rest: &[u8]) -> Option<usize>
 // The length of a line end: CR LF, LF or CR.
 #[tactic(auto, unfolding(crate::specs::Lexical::end_of_line))]
 fn end_of_line(rest: &[u8]) -> Option<usize>
-    ensures value { result ≡ length_of (end_of_line rest.now) }
+    ensures value { result ≡ match_length (end_of_line rest.now) }
     ensures some { IfSome result (λ n. 0 < n) }
     ensures fits { IfSome result (λ n. n ≤ length rest.now) }
 {

@@ -24,10 +24,10 @@ pub same_furthest : (tests others : List Test) (far : ℕ) (expected : List ℕ)
 same_furthest tests others far expected same is = record {
   greatest = λ k d within.
       let there = (same (get_or others k d)).1 (k, within, nearest others k (get_or others k d) d within) in
-      subst (λ (test : Test). test.place ≤ far) there.2 (is.greatest there.0 (get_or others k d) there.1);
+      subst (λ (test : Test). test.position ≤ far) there.2 (is.greatest there.0 (get_or others k d) there.1);
   exactly = λ terminal. (
-    (λ has. (same (record { place = far; terminal = terminal })).0 ((is.exactly terminal).0 has)),
-    (λ has. (is.exactly terminal).1 ((same (record { place = far; terminal = terminal })).1 has)),
+    (λ has. (same (record { position = far; terminal = terminal })).0 ((is.exactly terminal).0 has)),
+    (λ has. (is.exactly terminal).1 ((same (record { position = far; terminal = terminal })).1 has)),
   );
   ascending = is.ascending;
   reached = λ some none. is.reached

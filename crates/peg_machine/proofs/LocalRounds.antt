@@ -6,71 +6,71 @@ use Rattle.peg_tree.specs.Rows.{Row, rows_of}
 use Rattle.peg_semantics.specs.Record.{Recognition, Failed, Matched, Record, byte_at}
 use Rattle.peg_semantics.proofs.RecordLemmas.{Extends, Extends-refl, Extends-none, Extends-map, Extends-and_then}
 use Rattle.peg_code.specs.Instructions.{Instruction, Test, Call, Ret, Choice, Commit, FailTwice, End}
-use Rattle.peg_machine.specs.Local.{Setting, Way, way_to, Work, only_steps, work_of, both, Finish, finished, GaveUp}
-use Rattle.peg_machine.specs.Local.{Returned, working, Next, fall_back, goes_on, answered, step_of, local}
+use Rattle.peg_machine.specs.Local.{BodyContext, SavedChoice, saved_choice, Effects, only_steps, effects_of, then_effects, BodyResult, body_result, BodyFailed}
+use Rattle.peg_machine.specs.Local.{Returned, with_effects, Continuation, backtrack, continue_after, after_answer, step_of, run_local}
 
 -- a result that extends another one does so with work added before both
-Extends-working : (work : Work) (later more : Option Finish) → Extends later more
-    → Extends (working work later) (working work more)
-Extends-working work later more h =
-    Extends-map (λ (finish : Finish). finished finish.ending (both work finish.work)) later more h
+Extends-with_effects : (work : Effects) (later more : Option BodyResult) → Extends later more
+    → Extends (with_effects work later) (with_effects work more)
+Extends-with_effects work later more h =
+    Extends-map (λ (finish : BodyResult). body_result finish.ending (then_effects work finish.work)) later more h
 
-module _ (setting : Setting) (next more : Next)
-    (h : (pc place : ℕ) (rows : List Row) (ways : List Way) → Extends (next pc place rows ways) (more pc place rows ways)) where
-  Extends-fall_back : (ways : List Way) → Extends (fall_back next ways) (fall_back more ways)
-  Extends-fall_back [] = Extends-refl (Some (finished GaveUp (only_steps 0)))
-  Extends-fall_back (way ∷ ways) = h way.pc way.place way.rows ways
+module _ (body_context : BodyContext) (next more : Continuation)
+    (h : (pc position : ℕ) (rows : List Row) (choice_points : List SavedChoice) → Extends (next pc position rows choice_points) (more pc position rows choice_points)) where
+  Extends-backtrack : (choice_points : List SavedChoice) → Extends (backtrack next choice_points) (backtrack more choice_points)
+  Extends-backtrack [] = Extends-refl (Some (body_result BodyFailed (only_steps 0)))
+  Extends-backtrack (choice_point ∷ choice_points) = h choice_point.pc choice_point.position choice_point.rows choice_points
 
-  Extends-goes_on : (result : Recognition) (pc : ℕ) (rows : List Row) (ways : List Way)
-      → Extends (goes_on next result pc rows ways) (goes_on more result pc rows ways)
-  Extends-goes_on Failed pc rows ways = Extends-fall_back ways
-  Extends-goes_on (Matched end trees) pc rows ways = h pc end (rows ++ rows_of trees) ways
+  Extends-continue_after : (result : Recognition) (pc : ℕ) (rows : List Row) (choice_points : List SavedChoice)
+      → Extends (continue_after next result pc rows choice_points) (continue_after more result pc rows choice_points)
+  Extends-continue_after Failed pc rows choice_points = Extends-backtrack choice_points
+  Extends-continue_after (Matched end trees) pc rows choice_points = h pc end (rows ++ rows_of trees) choice_points
 
-  Extends-answered : (r : Record) (steps pc : ℕ) (rows : List Row) (ways : List Way)
-      → Extends (answered r steps next pc rows ways) (answered r steps more pc rows ways)
-  Extends-answered r steps pc rows ways =
-      Extends-working (work_of r steps) (goes_on next r.result pc rows ways) (goes_on more r.result pc rows ways)
-      (Extends-goes_on r.result pc rows ways)
+  Extends-after_answer : (r : Record) (steps pc : ℕ) (rows : List Row) (choice_points : List SavedChoice)
+      → Extends (after_answer r steps next pc rows choice_points) (after_answer r steps more pc rows choice_points)
+  Extends-after_answer r steps pc rows choice_points =
+      Extends-with_effects (effects_of r steps) (continue_after next r.result pc rows choice_points) (continue_after more r.result pc rows choice_points)
+      (Extends-continue_after r.result pc rows choice_points)
 
-  Extends-step_of : (instruction : Option Instruction) (pc place : ℕ) (rows : List Row) (ways : List Way)
-      → Extends (step_of setting next instruction pc place rows ways) (step_of setting more instruction pc place rows ways)
-  Extends-step_of None pc place rows ways = Extends-none None
-  Extends-step_of (Some (Test set terminal)) pc place rows ways =
-      Extends-answered (byte_at (has set) terminal place (drop place setting.text)) 1 (pc + 1) rows ways
-  Extends-step_of (Some (Call rule)) pc place rows ways =
+  Extends-step_of : (instruction : Option Instruction) (pc position : ℕ) (rows : List Row) (choice_points : List SavedChoice)
+      → Extends (step_of body_context next instruction pc position rows choice_points) (step_of body_context more instruction pc position rows choice_points)
+  Extends-step_of None pc position rows choice_points = Extends-none None
+  Extends-step_of (Some (Test set terminal)) pc position rows choice_points =
+      Extends-after_answer (byte_at (has set) terminal position (drop position body_context.text)) 1 (pc + 1) rows choice_points
+  Extends-step_of (Some (Call rule)) pc position rows choice_points =
       Extends-and_then
-      (λ (r : Record). answered r (setting.costs rule place) next (pc + 1) rows ways)
-      (λ (r : Record). answered r (setting.costs rule place) more (pc + 1) rows ways)
-      (setting.uses rule place) (setting.uses rule place)
-      (λ r. Extends-answered r (setting.costs rule place) (pc + 1) rows ways)
-      (Extends-refl (setting.uses rule place))
-  Extends-step_of (Some Ret) pc place rows [] = Extends-refl (Some (finished (Returned place rows) (only_steps 1)))
-  Extends-step_of (Some Ret) pc place rows (way ∷ ways) = Extends-none None
-  Extends-step_of (Some (Choice target)) pc place rows ways =
-      Extends-working (only_steps 1) (next (pc + 1) place rows (way_to target place rows ∷ ways))
-      (more (pc + 1) place rows (way_to target place rows ∷ ways))
-      (h (pc + 1) place rows (way_to target place rows ∷ ways))
-  Extends-step_of (Some (Commit target)) pc place rows [] = Extends-none None
-  Extends-step_of (Some (Commit target)) pc place rows (way ∷ ways) =
-      Extends-working (only_steps 1) (next target place rows ways) (more target place rows ways) (h target place rows ways)
-  Extends-step_of (Some FailTwice) pc place rows [] = Extends-none None
-  Extends-step_of (Some FailTwice) pc place rows (way ∷ ways) =
-      Extends-working (only_steps 1) (fall_back next ways) (fall_back more ways) (Extends-fall_back ways)
-  Extends-step_of (Some End) pc place rows ways = Extends-none None
+      (λ (r : Record). after_answer r (body_context.costs rule position) next (pc + 1) rows choice_points)
+      (λ (r : Record). after_answer r (body_context.costs rule position) more (pc + 1) rows choice_points)
+      (body_context.calls rule position) (body_context.calls rule position)
+      (λ r. Extends-after_answer r (body_context.costs rule position) (pc + 1) rows choice_points)
+      (Extends-refl (body_context.calls rule position))
+  Extends-step_of (Some Ret) pc position rows [] = Extends-refl (Some (body_result (Returned position rows) (only_steps 1)))
+  Extends-step_of (Some Ret) pc position rows (choice_point ∷ choice_points) = Extends-none None
+  Extends-step_of (Some (Choice target)) pc position rows choice_points =
+      Extends-with_effects (only_steps 1) (next (pc + 1) position rows (saved_choice target position rows ∷ choice_points))
+      (more (pc + 1) position rows (saved_choice target position rows ∷ choice_points))
+      (h (pc + 1) position rows (saved_choice target position rows ∷ choice_points))
+  Extends-step_of (Some (Commit target)) pc position rows [] = Extends-none None
+  Extends-step_of (Some (Commit target)) pc position rows (choice_point ∷ choice_points) =
+      Extends-with_effects (only_steps 1) (next target position rows choice_points) (more target position rows choice_points) (h target position rows choice_points)
+  Extends-step_of (Some FailTwice) pc position rows [] = Extends-none None
+  Extends-step_of (Some FailTwice) pc position rows (choice_point ∷ choice_points) =
+      Extends-with_effects (only_steps 1) (backtrack next choice_points) (backtrack more choice_points) (Extends-backtrack choice_points)
+  Extends-step_of (Some End) pc position rows choice_points = Extends-none None
 
 -- the result of a body in n rounds is its result in n + 1 rounds
-pub local-more : (setting : Setting) (n pc place : ℕ) (rows : List Row) (ways : List Way)
-    → Extends (local setting n pc place rows ways) (local setting (suc n) pc place rows ways)
-unfolding local
-local-more setting zero pc place rows ways = Extends-none (local setting (suc zero) pc place rows ways)
-local-more setting (suc n) pc place rows ways =
-    Extends-step_of setting (local setting n) (local setting (suc n)) (local-more setting n) (slice_get setting.code pc)
-    pc place rows ways
+pub run_local-more : (body_context : BodyContext) (n pc position : ℕ) (rows : List Row) (choice_points : List SavedChoice)
+    → Extends (run_local body_context n pc position rows choice_points) (run_local body_context (suc n) pc position rows choice_points)
+unfolding run_local
+run_local-more body_context zero pc position rows choice_points = Extends-none (run_local body_context (suc zero) pc position rows choice_points)
+run_local-more body_context (suc n) pc position rows choice_points =
+    Extends-step_of body_context (run_local body_context n) (run_local body_context (suc n)) (run_local-more body_context n) (slice_get body_context.code pc)
+    pc position rows choice_points
 
 -- and in each greater number of rounds
-pub local-later : (setting : Setting) (more n pc place : ℕ) (rows : List Row) (ways : List Way)
-    → Extends (local setting n pc place rows ways) (local setting (more + n) pc place rows ways)
-local-later setting zero n pc place rows ways finish h = rw zero-add h
-local-later setting (suc more) n pc place rows ways finish h =
+pub run_local-later : (body_context : BodyContext) (more n pc position : ℕ) (rows : List Row) (choice_points : List SavedChoice)
+    → Extends (run_local body_context n pc position rows choice_points) (run_local body_context (more + n) pc position rows choice_points)
+run_local-later body_context zero n pc position rows choice_points finish h = rw zero-add h
+run_local-later body_context (suc more) n pc position rows choice_points finish h =
     rw suc-add
-    (local-more setting (more + n) pc place rows ways finish (local-later setting more n pc place rows ways finish h))
+    (run_local-more body_context (more + n) pc position rows choice_points finish (run_local-later body_context more n pc position rows choice_points finish h))

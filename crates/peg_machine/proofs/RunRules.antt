@@ -5,188 +5,188 @@ use Rattle.std.proofs.Common.{refl, sym, ◌∙◌, ap, arith, append-nil, zero-
 use Rattle.peg_bytes.specs.ByteSet.{Bytes, has}
 use Rattle.peg_tree.specs.Rows.{Row, rows_of}
 use Rattle.peg_tree.specs.Trees.{Trees}
-use Rattle.peg_semantics.specs.Record.{Recognition, Failed, Matched, Record, matched_at, after_both, byte_at, behind}
+use Rattle.peg_semantics.specs.Record.{Recognition, Failed, Matched, Record, matched_at, after_both, byte_at, prepend_trees}
 use Rattle.peg_semantics.specs.Record.{with_result}
 use Rattle.peg_code.specs.Instructions.{Instruction, Test, Call, Ret, Choice, Commit, FailTwice}
-use Rattle.peg_machine.specs.Local.{Setting, Way, way_to, Work, only_steps, work_of, both, GaveUp, Returned, finished}
-use Rattle.peg_machine.specs.Local.{working, Next, fall_back, goes_on, answered, step_of, local}
-use Rattle.peg_machine.specs.Runs.{Runs, Ends, ending_of}
-use Rattle.peg_machine.proofs.WorkLemmas.{same_work, working-nothing, working-both, both-steps, goes_on-behind}
+use Rattle.peg_machine.specs.Local.{BodyContext, SavedChoice, saved_choice, Effects, only_steps, effects_of, then_effects, BodyFailed, Returned, body_result}
+use Rattle.peg_machine.specs.Local.{with_effects, Continuation, backtrack, continue_after, after_answer, step_of, run_local}
+use Rattle.peg_machine.specs.Runs.{RunsAsRecord, EndsAsRecord, ending_of}
+use Rattle.peg_machine.proofs.WorkLemmas.{same_work, with_effects-nothing, with_effects-then_effects, then_effects-steps, continue_after-prepend_trees}
 
 one-more : (n : ℕ) → 1 + n ≡ suc n
 one-more n = omega arith
 
-module _ (setting : Setting) where
+module _ (body_context : BodyContext) where
   -- ---- single instructions
 
   -- one round executes the current instruction
-  round : (instruction : Instruction) (left pc place : ℕ) (rows : List Row) (ways : List Way)
-      → slice_get setting.code pc ≡ Some instruction
-      → local setting (suc left) pc place rows ways
-      ≡ step_of setting (local setting left) (Some instruction) pc place rows ways
-  unfolding local
-  round instruction left pc place rows ways is =
-      ap (λ (i : Option Instruction). step_of setting (local setting left) i pc place rows ways) is
+  round : (instruction : Instruction) (left pc position : ℕ) (rows : List Row) (choice_points : List SavedChoice)
+      → slice_get body_context.code pc ≡ Some instruction
+      → run_local body_context (suc left) pc position rows choice_points
+      ≡ step_of body_context (run_local body_context left) (Some instruction) pc position rows choice_points
+  unfolding run_local
+  round instruction left pc position rows choice_points is =
+      ap (λ (i : Option Instruction). step_of body_context (run_local body_context left) i pc position rows choice_points) is
 
   -- the result of a part, if that is known
-  answer : (r : Record) (result : Recognition) (steps : ℕ) (next : Next) (pc : ℕ) (rows : List Row) (ways : List Way)
+  answer : (r : Record) (result : Recognition) (steps : ℕ) (next : Continuation) (pc : ℕ) (rows : List Row) (choice_points : List SavedChoice)
       → r.result ≡ result
-      → answered r steps next pc rows ways ≡ working (work_of r steps) (goes_on next result pc rows ways)
-  answer r result steps next pc rows ways is =
-      ap (λ (x : Recognition). working (work_of r steps) (goes_on next x pc rows ways)) is
+      → after_answer r steps next pc rows choice_points ≡ with_effects (effects_of r steps) (continue_after next result pc rows choice_points)
+  answer r result steps next pc rows choice_points is =
+      ap (λ (x : Recognition). with_effects (effects_of r steps) (continue_after next x pc rows choice_points)) is
 
   -- ---- the rules
 
   -- no code does nothing
-  pub nothing_runs : (pc place : ℕ) → Runs setting pc pc place (matched_at place) 0
-  nothing_runs pc place = record {
+  pub nothing_runs : (pc position : ℕ) → RunsAsRecord body_context pc pc position (matched_at position) 0
+  nothing_runs pc position = record {
     rounds = 0;
-    runs = λ left rows ways.
-        ap (λ (k : ℕ). local setting k pc place rows ways) (zero-add left)
-        ∙ ap (λ (all : List Row). local setting left pc place all ways) (sym (append-nil rows))
-        ∙ sym (working-nothing (local setting left pc place (rows ++ []) ways));
+    runs = λ left rows choice_points.
+        ap (λ (k : ℕ). run_local body_context k pc position rows choice_points) (zero-add left)
+        ∙ ap (λ (all : List Row). run_local body_context left pc position all choice_points) (sym (append-nil rows))
+        ∙ sym (with_effects-nothing (run_local body_context left pc position (rows ++ []) choice_points));
   }
 
   -- a terminal test
-  pub test_runs : (pc place terminal : ℕ) (set : Bytes) → slice_get setting.code pc ≡ Some (Test set terminal)
-      → Runs setting pc (pc + 1) place (byte_at (has set) terminal place (drop place setting.text)) 1
-  test_runs pc place terminal set is = record {
+  pub test_runs : (pc position terminal : ℕ) (set : Bytes) → slice_get body_context.code pc ≡ Some (Test set terminal)
+      → RunsAsRecord body_context pc (pc + 1) position (byte_at (has set) terminal position (drop position body_context.text)) 1
+  test_runs pc position terminal set is = record {
     rounds = 1;
-    runs = λ left rows ways.
-        ap (λ (k : ℕ). local setting k pc place rows ways) (one-more left)
-        ∙ round (Test set terminal) left pc place rows ways is;
+    runs = λ left rows choice_points.
+        ap (λ (k : ℕ). run_local body_context k pc position rows choice_points) (one-more left)
+        ∙ round (Test set terminal) left pc position rows choice_points is;
   }
 
   -- a call whose record is known
-  pub call_runs : (pc place rule : ℕ) (r : Record) → slice_get setting.code pc ≡ Some (Call rule)
-      → setting.uses rule place ≡ Some r → Runs setting pc (pc + 1) place r (setting.costs rule place)
-  call_runs pc place rule r is known = record {
+  pub call_runs : (pc position rule : ℕ) (r : Record) → slice_get body_context.code pc ≡ Some (Call rule)
+      → body_context.calls rule position ≡ Some r → RunsAsRecord body_context pc (pc + 1) position r (body_context.costs rule position)
+  call_runs pc position rule r is known = record {
     rounds = 1;
-    runs = λ left rows ways.
-        ap (λ (k : ℕ). local setting k pc place rows ways) (one-more left)
-        ∙ round (Call rule) left pc place rows ways is
-        ∙ ap (option_and_then (λ (r : Record). answered r (setting.costs rule place) (local setting left) (pc + 1) rows ways)) known;
+    runs = λ left rows choice_points.
+        ap (λ (k : ℕ). run_local body_context k pc position rows choice_points) (one-more left)
+        ∙ round (Call rule) left pc position rows choice_points is
+        ∙ ap (option_and_then (λ (r : Record). after_answer r (body_context.costs rule position) (run_local body_context left) (pc + 1) rows choice_points)) known;
   }
 
   -- a failed run fails wherever it would have continued
-  pub failing_runs : {from to place steps : ℕ} {r : Record} (elsewhere : ℕ) → Runs setting from to place r steps
-      → r.result ≡ Failed → Runs setting from elsewhere place r steps
-  failing_runs {from} {to} {place} {steps} {r} elsewhere part failed = record {
+  pub failing_runs : {from to position steps : ℕ} {r : Record} (elsewhere : ℕ) → RunsAsRecord body_context from to position r steps
+      → r.result ≡ Failed → RunsAsRecord body_context from elsewhere position r steps
+  failing_runs {from} {to} {position} {steps} {r} elsewhere part failed = record {
     rounds = part.rounds;
-    runs = λ left rows ways.
-        part.runs left rows ways
-        ∙ answer r Failed steps (local setting left) to rows ways failed
-        ∙ sym (answer r Failed steps (local setting left) elsewhere rows ways failed);
+    runs = λ left rows choice_points.
+        part.runs left rows choice_points
+        ∙ answer r Failed steps (run_local body_context left) to rows choice_points failed
+        ∙ sym (answer r Failed steps (run_local body_context left) elsewhere rows choice_points failed);
   }
 
   -- a part that matched, followed by the code after it
-  pub runs_then : {from middle to place end steps more_steps : ℕ} {r more : Record} {trees : Trees}
-      → Runs setting from middle place r steps → r.result ≡ Matched end trees → Runs setting middle to end more more_steps
-      → Runs setting from to place (after_both r more (behind trees more.result)) (steps + more_steps)
-  runs_then {from} {middle} {to} {place} {end} {steps} {more_steps} {r} {more} {trees} part matched rest = record {
+  pub runs_then : {from middle to position end steps more_steps : ℕ} {r more : Record} {trees : Trees}
+      → RunsAsRecord body_context from middle position r steps → r.result ≡ Matched end trees → RunsAsRecord body_context middle to end more more_steps
+      → RunsAsRecord body_context from to position (after_both r more (prepend_trees trees more.result)) (steps + more_steps)
+  runs_then {from} {middle} {to} {position} {end} {steps} {more_steps} {r} {more} {trees} part matched rest = record {
     rounds = part.rounds + rest.rounds;
-    runs = λ left rows ways.
-        ap (λ (k : ℕ). local setting k from place rows ways) (add_assoc part.rounds rest.rounds left)
-        ∙ part.runs (rest.rounds + left) rows ways
-        ∙ answer r (Matched end trees) steps (local setting (rest.rounds + left)) middle rows ways matched
-        ∙ ap (working (work_of r steps)) (rest.runs left (rows ++ rows_of trees) ways)
-        ∙ working-both (work_of r steps) (work_of more more_steps) (goes_on (local setting left) more.result to (rows ++ rows_of trees) ways)
-        ∙ ap (working (both (work_of r steps) (work_of more more_steps)))
-        (goes_on-behind (local setting left) trees more.result to rows ways);
+    runs = λ left rows choice_points.
+        ap (λ (k : ℕ). run_local body_context k from position rows choice_points) (add_assoc part.rounds rest.rounds left)
+        ∙ part.runs (rest.rounds + left) rows choice_points
+        ∙ answer r (Matched end trees) steps (run_local body_context (rest.rounds + left)) middle rows choice_points matched
+        ∙ ap (with_effects (effects_of r steps)) (rest.runs left (rows ++ rows_of trees) choice_points)
+        ∙ with_effects-then_effects (effects_of r steps) (effects_of more more_steps) (continue_after (run_local body_context left) more.result to (rows ++ rows_of trees) choice_points)
+        ∙ ap (with_effects (then_effects (effects_of r steps) (effects_of more more_steps)))
+        (continue_after-prepend_trees (run_local body_context left) trees more.result to rows choice_points);
   }
 
   -- a part with a choice point, followed by the instruction at `middle`
-  module _ (pc : ℕ) {middle target place steps : ℕ} {r : Record} (leaves : slice_get setting.code pc ≡ Some (Choice target))
-      (part : Runs setting (pc + 1) middle place r steps) where
+  module _ (pc : ℕ) {middle target position steps : ℕ} {r : Record} (leaves : slice_get body_context.code pc ≡ Some (Choice target))
+      (part : RunsAsRecord body_context (pc + 1) middle position r steps) where
     -- the choice point is pushed, and the part runs
-    tried : (left : ℕ) (rows : List Row) (ways : List Way)
-        → local setting (suc part.rounds + left) pc place rows ways
-        ≡ working (only_steps 1) (answered r steps (local setting left) middle rows (way_to target place rows ∷ ways))
-    tried left rows ways =
-        ap (λ (k : ℕ). local setting k pc place rows ways) (suc-add part.rounds left)
-        ∙ round (Choice target) (part.rounds + left) pc place rows ways leaves
-        ∙ ap (working (only_steps 1)) (part.runs left rows (way_to target place rows ∷ ways))
+    tried : (left : ℕ) (rows : List Row) (choice_points : List SavedChoice)
+        → run_local body_context (suc part.rounds + left) pc position rows choice_points
+        ≡ with_effects (only_steps 1) (after_answer r steps (run_local body_context left) middle rows (saved_choice target position rows ∷ choice_points))
+    tried left rows choice_points =
+        ap (λ (k : ℕ). run_local body_context k pc position rows choice_points) (suc-add part.rounds left)
+        ∙ round (Choice target) (part.rounds + left) pc position rows choice_points leaves
+        ∙ ap (with_effects (only_steps 1)) (part.runs left rows (saved_choice target position rows ∷ choice_points))
 
     -- the part failed: the run resumes at the choice point's target
-    pub falls_back : {to more_steps : ℕ} {more : Record} → r.result ≡ Failed → Runs setting target to place more more_steps
-        → Runs setting pc to place (after_both r more more.result) (1 + (steps + more_steps))
+    pub falls_back : {to more_steps : ℕ} {more : Record} → r.result ≡ Failed → RunsAsRecord body_context target to position more more_steps
+        → RunsAsRecord body_context pc to position (after_both r more more.result) (1 + (steps + more_steps))
     falls_back {to} {more_steps} {more} failed other = record {
       rounds = suc part.rounds + other.rounds;
-      runs = λ left rows ways.
-          ap (λ (k : ℕ). local setting k pc place rows ways) (add_assoc (suc part.rounds) other.rounds left)
-          ∙ tried (other.rounds + left) rows ways
-          ∙ ap (working (only_steps 1))
-          (answer r Failed steps (local setting (other.rounds + left)) middle rows (way_to target place rows ∷ ways) failed
-          ∙ ap (working (work_of r steps)) (other.runs left rows ways)
-          ∙ working-both (work_of r steps) (work_of more more_steps) (goes_on (local setting left) more.result to rows ways))
-          ∙ working-both (only_steps 1) (both (work_of r steps) (work_of more more_steps))
-          (goes_on (local setting left) more.result to rows ways);
+      runs = λ left rows choice_points.
+          ap (λ (k : ℕ). run_local body_context k pc position rows choice_points) (add_assoc (suc part.rounds) other.rounds left)
+          ∙ tried (other.rounds + left) rows choice_points
+          ∙ ap (with_effects (only_steps 1))
+          (answer r Failed steps (run_local body_context (other.rounds + left)) middle rows (saved_choice target position rows ∷ choice_points) failed
+          ∙ ap (with_effects (effects_of r steps)) (other.runs left rows choice_points)
+          ∙ with_effects-then_effects (effects_of r steps) (effects_of more more_steps) (continue_after (run_local body_context left) more.result to rows choice_points))
+          ∙ with_effects-then_effects (only_steps 1) (then_effects (effects_of r steps) (effects_of more more_steps))
+          (continue_after (run_local body_context left) more.result to rows choice_points);
     }
 
     -- the part matched: the choice point is popped, and the run continues at the target of the commit
     pub commits : {end to : ℕ} {trees : Trees} → r.result ≡ Matched end trees
-        → slice_get setting.code middle ≡ Some (Commit to) → Runs setting pc to place r (1 + (steps + 1))
+        → slice_get body_context.code middle ≡ Some (Commit to) → RunsAsRecord body_context pc to position r (1 + (steps + 1))
     commits {end} {to} {trees} matched commit = record {
       rounds = suc part.rounds + 1;
-      runs = λ left rows ways.
-          ap (λ (k : ℕ). local setting k pc place rows ways) (add_assoc (suc part.rounds) 1 left)
-          ∙ ap (λ (k : ℕ). local setting (suc part.rounds + k) pc place rows ways) (one-more left)
-          ∙ tried (suc left) rows ways
-          ∙ ap (working (only_steps 1))
-          (answer r (Matched end trees) steps (local setting (suc left)) middle rows (way_to target place rows ∷ ways) matched
-          ∙ ap (working (work_of r steps))
-          (round (Commit to) left middle end (rows ++ rows_of trees) (way_to target place rows ∷ ways) commit)
-          ∙ working-both (work_of r steps) (only_steps 1) (local setting left to end (rows ++ rows_of trees) ways)
-          ∙ ap (λ (w : Work). working w (local setting left to end (rows ++ rows_of trees) ways)) (both-steps (work_of r steps) 1))
-          ∙ working-both (only_steps 1) (work_of r (steps + 1)) (local setting left to end (rows ++ rows_of trees) ways)
-          ∙ sym (answer r (Matched end trees) (1 + (steps + 1)) (local setting left) to rows ways matched);
+      runs = λ left rows choice_points.
+          ap (λ (k : ℕ). run_local body_context k pc position rows choice_points) (add_assoc (suc part.rounds) 1 left)
+          ∙ ap (λ (k : ℕ). run_local body_context (suc part.rounds + k) pc position rows choice_points) (one-more left)
+          ∙ tried (suc left) rows choice_points
+          ∙ ap (with_effects (only_steps 1))
+          (answer r (Matched end trees) steps (run_local body_context (suc left)) middle rows (saved_choice target position rows ∷ choice_points) matched
+          ∙ ap (with_effects (effects_of r steps))
+          (round (Commit to) left middle end (rows ++ rows_of trees) (saved_choice target position rows ∷ choice_points) commit)
+          ∙ with_effects-then_effects (effects_of r steps) (only_steps 1) (run_local body_context left to end (rows ++ rows_of trees) choice_points)
+          ∙ ap (λ (w : Effects). with_effects w (run_local body_context left to end (rows ++ rows_of trees) choice_points)) (then_effects-steps (effects_of r steps) 1))
+          ∙ with_effects-then_effects (only_steps 1) (effects_of r (steps + 1)) (run_local body_context left to end (rows ++ rows_of trees) choice_points)
+          ∙ sym (answer r (Matched end trees) (1 + (steps + 1)) (run_local body_context left) to rows choice_points matched);
     }
 
     -- the part of a not-predicate matched: the choice point is popped, and the run fails
     pub fails_twice : {end : ℕ} {trees : Trees} (to : ℕ) → r.result ≡ Matched end trees
-        → slice_get setting.code middle ≡ Some FailTwice
-        → Runs setting pc to place (with_result r Failed) (1 + (steps + 1))
+        → slice_get body_context.code middle ≡ Some FailTwice
+        → RunsAsRecord body_context pc to position (with_result r Failed) (1 + (steps + 1))
     fails_twice {end} {trees} to matched twice = record {
       rounds = suc part.rounds + 1;
-      runs = λ left rows ways.
-          ap (λ (k : ℕ). local setting k pc place rows ways) (add_assoc (suc part.rounds) 1 left)
-          ∙ ap (λ (k : ℕ). local setting (suc part.rounds + k) pc place rows ways) (one-more left)
-          ∙ tried (suc left) rows ways
-          ∙ ap (working (only_steps 1))
-          (answer r (Matched end trees) steps (local setting (suc left)) middle rows (way_to target place rows ∷ ways) matched
-          ∙ ap (working (work_of r steps))
-          (round FailTwice left middle end (rows ++ rows_of trees) (way_to target place rows ∷ ways) twice)
-          ∙ working-both (work_of r steps) (only_steps 1) (fall_back (local setting left) ways)
-          ∙ ap (λ (w : Work). working w (fall_back (local setting left) ways)) (both-steps (work_of r steps) 1))
-          ∙ working-both (only_steps 1) (work_of r (steps + 1)) (fall_back (local setting left) ways);
+      runs = λ left rows choice_points.
+          ap (λ (k : ℕ). run_local body_context k pc position rows choice_points) (add_assoc (suc part.rounds) 1 left)
+          ∙ ap (λ (k : ℕ). run_local body_context (suc part.rounds + k) pc position rows choice_points) (one-more left)
+          ∙ tried (suc left) rows choice_points
+          ∙ ap (with_effects (only_steps 1))
+          (answer r (Matched end trees) steps (run_local body_context (suc left)) middle rows (saved_choice target position rows ∷ choice_points) matched
+          ∙ ap (with_effects (effects_of r steps))
+          (round FailTwice left middle end (rows ++ rows_of trees) (saved_choice target position rows ∷ choice_points) twice)
+          ∙ with_effects-then_effects (effects_of r steps) (only_steps 1) (backtrack (run_local body_context left) choice_points)
+          ∙ ap (λ (w : Effects). with_effects w (backtrack (run_local body_context left) choice_points)) (then_effects-steps (effects_of r steps) 1))
+          ∙ with_effects-then_effects (only_steps 1) (effects_of r (steps + 1)) (backtrack (run_local body_context left) choice_points);
     }
 
   -- ---- a body
 
   -- a body that failed
-  pub body_gives_up : {entry to place steps : ℕ} {r : Record} → Runs setting entry to place r steps
-      → r.result ≡ Failed → Ends setting entry place r steps
-  body_gives_up {entry} {to} {place} {steps} {r} part failed = record {
+  pub body_gives_up : {entry to position steps : ℕ} {r : Record} → RunsAsRecord body_context entry to position r steps
+      → r.result ≡ Failed → EndsAsRecord body_context entry position r steps
+  body_gives_up {entry} {to} {position} {steps} {r} part failed = record {
     rounds = part.rounds;
     ends = λ left before.
         part.runs left before []
-        ∙ answer r Failed steps (local setting left) to before [] failed
-        ∙ ap (λ (w : Work). Some (finished GaveUp w))
-        (both-steps (work_of r steps) 0 ∙ same_work {tests = r.tests} {uses = r.uses} refl refl (add-zero steps))
-        ∙ ap (λ (x : Recognition). Some (finished (ending_of before x) (work_of r steps))) (sym failed);
+        ∙ answer r Failed steps (run_local body_context left) to before [] failed
+        ∙ ap (λ (w : Effects). Some (body_result BodyFailed w))
+        (then_effects-steps (effects_of r steps) 0 ∙ same_work {tests = r.tests} {calls = r.calls} refl refl (add-zero steps))
+        ∙ ap (λ (x : Recognition). Some (body_result (ending_of before x) (effects_of r steps))) (sym failed);
   }
 
   -- a body that matched, followed by `Ret`
-  pub body_returns : {entry to place end steps : ℕ} {r : Record} {trees : Trees} → Runs setting entry to place r steps
-      → r.result ≡ Matched end trees → slice_get setting.code to ≡ Some Ret → Ends setting entry place r (steps + 1)
-  body_returns {entry} {to} {place} {end} {steps} {r} {trees} part matched returns = record {
+  pub body_returns : {entry to position end steps : ℕ} {r : Record} {trees : Trees} → RunsAsRecord body_context entry to position r steps
+      → r.result ≡ Matched end trees → slice_get body_context.code to ≡ Some Ret → EndsAsRecord body_context entry position r (steps + 1)
+  body_returns {entry} {to} {position} {end} {steps} {r} {trees} part matched returns = record {
     rounds = part.rounds + 1;
     ends = λ left before.
-        ap (λ (k : ℕ). local setting k entry place before []) (add_assoc part.rounds 1 left)
-        ∙ ap (λ (k : ℕ). local setting (part.rounds + k) entry place before []) (one-more left)
+        ap (λ (k : ℕ). run_local body_context k entry position before []) (add_assoc part.rounds 1 left)
+        ∙ ap (λ (k : ℕ). run_local body_context (part.rounds + k) entry position before []) (one-more left)
         ∙ part.runs (suc left) before []
-        ∙ answer r (Matched end trees) steps (local setting (suc left)) to before [] matched
-        ∙ ap (working (work_of r steps)) (round Ret left to end (before ++ rows_of trees) [] returns)
-        ∙ ap (λ (w : Work). Some (finished (Returned end (before ++ rows_of trees)) w)) (both-steps (work_of r steps) 1)
-        ∙ ap (λ (x : Recognition). Some (finished (ending_of before x) (work_of r (steps + 1)))) (sym matched);
+        ∙ answer r (Matched end trees) steps (run_local body_context (suc left)) to before [] matched
+        ∙ ap (with_effects (effects_of r steps)) (round Ret left to end (before ++ rows_of trees) [] returns)
+        ∙ ap (λ (w : Effects). Some (body_result (Returned end (before ++ rows_of trees)) w)) (then_effects-steps (effects_of r steps) 1)
+        ∙ ap (λ (x : Recognition). Some (body_result (ending_of before x) (effects_of r (steps + 1)))) (sym matched);
   }

@@ -7,13 +7,13 @@ pub(crate) enum Entry {
     Frame {
         rule: u32,
         start: u32,
-        back: u32,
+        return_pc: u32,
         rows: usize,
     },
     /// A choice point: the instruction and the position to resume at on failure. The nodes are truncated to `rows`.
-    Way {
+    ChoicePoint {
         pc: u32,
-        place: u32,
+        position: u32,
         rows: usize,
     },
 }

@@ -2,40 +2,40 @@
 //!
 //! Its definitions, in reading order:
 //!
-//! - `Stands`: where the code of a form is.
+//! - `CodeLayout`: where the code of a form is.
 //! - `Steps`: how many steps a form takes.
 //! - `Local` and `Runs`: the machine local to one rule's body, and what code does in it.
-//! - `OpenRows`, `Running` and `Begins`: the result that each active call expects.
-//! - `Noted` and `Underway`: the invariant of a run.
+//! - `OpenRows`, `Running` and `Starts`: the result that each active call expects.
+//! - `Noted` and `PartialRuns`: the invariant of a run.
 //! - `Accounts`: the steps of a run in terms of own steps and plain steps.
 //! - `Packrat`: why no rule body runs twice at the same position.
-//! - `Remembered` and `Going`: the invariant of a memo, and of a run with a memo.
-//! - `Entries`, `Stamps` and `Moments`: the stack and the failed tests in memory, and the invariant on them.
-//! - `CoreOutcome` and `Shown`: what a run has to answer and to trace.
+//! - `MemoInvariant` and `RunInvariant`: the invariant of a memo, and of a run with a memo.
+//! - `Entries`, `FailurePositions` and `MachineStates`: the stack and the failed tests in memory, and the invariant on them.
+//! - `CoreOutcome` and `Traced`: what a run has to answer and to trace.
 //! - `Machine` and `Watched`: the views of the types of the code.
 #![tactic(auto)]
 
 pub mod account_laws;
 mod answer;
 mod entry;
-pub mod entry_laws;
-pub mod event_laws;
+mod failure_positions;
 mod fault;
-pub mod going_laws;
 mod input;
 pub mod laws;
-mod leaps;
 mod machine;
+pub mod memo_laws;
 pub mod one_byte_laws;
 pub mod packrat_laws;
 mod rounds;
 pub mod run_laws;
 mod running;
-mod stamps;
+mod shortcut_steps;
+pub mod stack_laws;
+pub mod step_laws;
 mod steps;
 mod watch;
 
 pub use answer::Answer;
 pub use fault::RunFault;
-pub use running::{run, run_by};
+pub use running::{run, run_with_shortcuts};
 pub use watch::{ListWatch, NoWatch, Watch};

@@ -5,148 +5,181 @@ ghost use Rattle.std.specs.Prelude.{None, Option, Some};
 ghost use Rattle.peg_code.specs.Instructions.{Call, Commit, End, FailTwice, Ret};
 ghost use Rattle.peg_core.specs.CoreForm.{CoreForm, Rule};
 ghost use Rattle.peg_core.specs.CoreRecord.{IsCoreRecord};
-ghost use Rattle.peg_semantics.specs.Record.{Failed, Matched, Record, Test, Use};
-ghost use Rattle.peg_machine.specs.Local.{both, fall_back, local, only_steps, step_of, working, work_of};
-ghost use Rattle.peg_machine.specs.Local.{Finish, Next, Way, Work};
+ghost use Rattle.peg_semantics.specs.Record.{Failed, Matched, Record, Test, RuleCall};
+ghost use Rattle.peg_machine.specs.Local.{then_effects, backtrack, run_local, only_steps, step_of, with_effects, effects_of};
+ghost use Rattle.peg_machine.specs.Local.{BodyResult, Continuation, SavedChoice, Effects};
 ghost use Rattle.peg_machine.specs.Noted.{IsNoted, TaskNoted};
-ghost use Rattle.peg_machine.specs.Running.{begun, resumed, setting_of, start_of};
-ghost use Rattle.peg_machine.specs.OpenRows.{close_row, closed, opened};
-ghost use Rattle.peg_machine.specs.Running.{steps_of_call, steps_to_come, worked};
-ghost use Rattle.peg_machine.specs.Running.{AllWait, Failing, Falling, Frame, GoingOn, Job, Keeps, Promise};
-ghost use Rattle.peg_machine.specs.Begins.{CallBegins};
-ghost use Rattle.peg_machine.specs.Running.{Promised, Running, Task};
-ghost use Rattle.peg_machine.specs.Begins.{RunBegins};
-ghost use Rattle.peg_machine.specs.Stands.{Enters};
+ghost use Rattle.peg_machine.specs.Running.{new_task, resume_task, body_context_of, oldest_call};
+ghost use Rattle.peg_machine.specs.OpenRows.{close_row, rows_after_match, opened};
+ghost use Rattle.peg_machine.specs.Running.{steps_of_call, steps_to_come, with_done};
+ghost use Rattle.peg_machine.specs.Running.{AreSuspended, IsBacktrackingTask, IsBacktracking, Frame, IsContinuing, RunContext, IsExpectedBy, Expectation};
+ghost use Rattle.peg_machine.specs.Starts.{CallStart};
+ghost use Rattle.peg_machine.specs.Running.{RunsAsExpected, IsRunningTask, CallTask};
+ghost use Rattle.peg_machine.specs.Starts.{RunStart};
+ghost use Rattle.peg_machine.specs.CodeLayout.{EntriesAreLaidOut};
 ghost use Rattle.peg_tree.specs.Rows.{Row, rows_of};
 ghost use Rattle.peg_tree.specs.Trees.{Trees};
 
 /// A run from a call whose body has a record is expected to compute this record.
-pub fn a_run_begins_as_promised()
-    ensures { (job : Job) (entries : List ℕ) → Enters job.code entries job.bodies → (pair : Use) (body : CoreForm)
-        (r : Record) → slice_get job.bodies pair.rule ≡ Some body → IsCoreRecord job.bodies job.text body pair.place r
-        → RunBegins job entries pair r }
+pub fn a_run_starts_as_expected()
+    ensures { (context : RunContext) (entries : List ℕ) → EntriesAreLaidOut context.code entries context.bodies
+        → (pair : RuleCall) (body : CoreForm)
+        (r : Record) → slice_get context.bodies pair.rule ≡ Some body
+        → IsCoreRecord context.bodies context.text body pair.position r
+        → RunStart context entries pair r }
 {}
 
 /// The work of an instruction comes first in the work expected, and the rest remains. This holds for an instruction
 /// whose effect doesn't depend on what follows. It also holds for several rounds whose effect doesn't depend on the
 /// rounds left.
 pub fn a_step_consumes_promised_work()
-    ensures step { (job : Job) (pc place : ℕ) (rows : List Row) (task : Task) → Running job pc place rows task
-        → (work : Work) (later : Next → Option Finish)
-        → ((next : Next) → step_of (setting_of job task.rounds) next (slice_get job.code pc) pc place rows task.ways
-        ≡ working work (later next))
-        → (rest : Work) × (task.to_come ≡ both work rest)
-        × Keeps job (worked task work rest) (λ n. later (local (setting_of job task.rounds) n)) }
-    ensures rounds { (job : Job) (pc place : ℕ) (rows : List Row) (task : Task) → Running job pc place rows task
-        → (k : ℕ) (work : Work) (later : ℕ → Option Finish)
-        → ((left : ℕ) → local (setting_of job task.rounds) (k + left) pc place rows task.ways
-        ≡ working work (later left))
-        → (rest : Work) × (task.to_come ≡ both work rest) × Keeps job (worked task work rest) later }
+    ensures step { (context : RunContext) (pc position : ℕ) (rows : List Row) (task : CallTask)
+        → IsRunningTask context pc position rows task
+        → (work : Effects) (later : Continuation → Option BodyResult)
+        → ((next : Continuation)
+        → step_of (body_context_of context task.rounds) next
+        (slice_get context.code pc) pc position rows task.choice_points
+        ≡ with_effects work (later next))
+        → (rest : Effects) × (task.to_come ≡ then_effects work rest)
+        × IsExpectedBy context (with_done task work rest) (λ n. later (run_local
+        (body_context_of context task.rounds) n)) }
+    ensures rounds { (context : RunContext) (pc position : ℕ) (rows : List Row) (task : CallTask)
+        → IsRunningTask context pc position rows task
+        → (k : ℕ) (work : Effects) (later : ℕ → Option BodyResult)
+        → ((left : ℕ) → run_local (body_context_of context task.rounds) (k + left) pc position rows task.choice_points
+        ≡ with_effects work (later left))
+        → (rest : Effects) × (task.to_come ≡ then_effects work rest)
+        × IsExpectedBy context (with_done task work rest) later }
 {}
 
 /// A run is never stuck: there is an instruction, which isn't `End`. A choice point that is to be popped is on the
 /// stack.
 pub fn a_run_is_never_stuck()
-    ensures there { (job : Job) (pc place : ℕ) (rows : List Row) (task : Task) → Running job pc place rows task
-        → slice_get job.code pc ≢ None }
-    ensures no_end { (job : Job) (pc place : ℕ) (rows : List Row) (task : Task) → Running job pc place rows task
-        → slice_get job.code pc ≢ Some End }
-    ensures commits { (job : Job) (pc place : ℕ) (rows : List Row) (task : Task) → Running job pc place rows task
-        → (target : ℕ) → slice_get job.code pc ≡ Some (Commit target)
-        → (way : Way) × (ways : List Way) × (rest : Work) × (task.ways ≡ way ∷ ways)
-        × (task.to_come ≡ both (only_steps 1) rest)
-        × Running job target place rows (record (worked task (only_steps 1) rest) { ways = ways }) }
-    ensures fails_twice { (job : Job) (pc place : ℕ) (rows : List Row) (task : Task) → Running job pc place rows task
-        → slice_get job.code pc ≡ Some FailTwice
-        → (way : Way) × (ways : List Way) × (rest : Work) × (task.ways ≡ way ∷ ways)
-        × (task.to_come ≡ both (only_steps 1) rest)
-        × Failing job (record (worked task (only_steps 1) rest) { ways = ways }) }
+    ensures there { (context : RunContext) (pc position : ℕ) (rows : List Row) (task : CallTask)
+        → IsRunningTask context pc position rows task
+        → slice_get context.code pc ≢ None }
+    ensures no_end { (context : RunContext) (pc position : ℕ) (rows : List Row) (task : CallTask)
+        → IsRunningTask context pc position rows task
+        → slice_get context.code pc ≢ Some End }
+    ensures commits { (context : RunContext) (pc position : ℕ) (rows : List Row) (task : CallTask)
+        → IsRunningTask context pc position rows task
+        → (target : ℕ) → slice_get context.code pc ≡ Some (Commit target)
+        → (choice_point : SavedChoice) × (choice_points : List SavedChoice) × (rest : Effects)
+        × (task.choice_points ≡ choice_point ∷ choice_points)
+        × (task.to_come ≡ then_effects (only_steps 1) rest)
+        × IsRunningTask context target position rows (record (with_done task
+        (only_steps 1) rest) { choice_points = choice_points }) }
+    ensures fails_twice { (context : RunContext) (pc position : ℕ) (rows : List Row) (task : CallTask)
+        → IsRunningTask context pc position rows task
+        → slice_get context.code pc ≡ Some FailTwice
+        → (choice_point : SavedChoice) × (choice_points : List SavedChoice) × (rest : Effects)
+        × (task.choice_points ≡ choice_point ∷ choice_points)
+        × (task.to_come ≡ then_effects (only_steps 1) rest)
+        × IsBacktrackingTask context (record (with_done task (only_steps 1) rest) { choice_points = choice_points }) }
 {}
 
 /// A call whose record is known, as from a memo, is answered by it. Any other call runs its body while its caller
 /// waits.
-pub fn a_call_is_answered_or_begins()
-    ensures answered { (job : Job) (pc place : ℕ) (rows : List Row) (task : Task) (rule : ℕ) (r : Record)
-        → Running job pc place rows task → slice_get job.code pc ≡ Some (Call rule)
-        → IsCoreRecord job.bodies job.text (Rule rule) place r
-        → (rest : Work) × (task.to_come ≡ both (work_of r ((setting_of job task.rounds).costs rule place)) rest)
-        × GoingOn job r.result (pc + 1) rows
-        (worked task (work_of r ((setting_of job task.rounds).costs rule place)) rest) }
-    ensures begins { (job : Job) (entries : List ℕ) → Enters job.code entries job.bodies → (pc : ℕ) (rows : List Row)
-        (task : Task) (older : List Task) (pair : Use) → Promised job pc pair.place rows task older
-        → slice_get job.code pc ≡ Some (Call pair.rule) → CallBegins job entries pc rows task older pair }
-    ensures counts { (job : Job) (entries : List ℕ) (pc : ℕ) (rows : List Row) (task : Task) (older : List Task)
-        (pair : Use) (begins : CallBegins job entries pc rows task older pair)
-        → steps_of_call job.counted begins.steps
-        + steps_to_come (begun pair (pc + 1) rows begins.rounds (work_of begins.answer begins.steps)
+pub fn a_call_is_answered_or_starts()
+    ensures answered { (context : RunContext) (pc position : ℕ) (rows : List Row) (task : CallTask) (rule : ℕ)
+        (r : Record)
+        → IsRunningTask context pc position rows task → slice_get context.code pc ≡ Some (Call rule)
+        → IsCoreRecord context.bodies context.text (Rule rule) position r
+        → (rest : Effects) × (task.to_come ≡ then_effects (effects_of r
+        ((body_context_of context task.rounds).costs rule position)) rest)
+        × IsContinuing context r.result (pc + 1) rows
+        (with_done task (effects_of r ((body_context_of context task.rounds).costs rule position)) rest) }
+    ensures begins { (context : RunContext) (entries : List ℕ)
+        → EntriesAreLaidOut context.code entries context.bodies → (pc : ℕ) (rows : List Row)
+        (task : CallTask) (older : List CallTask) (pair : RuleCall)
+        → RunsAsExpected context pc pair.position rows task older
+        → slice_get context.code pc ≡ Some (Call pair.rule) → CallStart context entries pc rows task older pair }
+    ensures counts { (context : RunContext) (entries : List ℕ) (pc : ℕ) (rows : List Row) (task : CallTask)
+        (older : List CallTask)
+        (pair : RuleCall) (begins : CallStart context entries pc rows task older pair)
+        → steps_of_call context.counted begins.steps
+        + steps_to_come (new_task pair (pc + 1) rows begins.rounds (effects_of begins.answer begins.steps)
         ∷ record task { to_come = begins.rest } ∷ older)
         ≡ begins.steps + steps_to_come (task ∷ older) }
 {}
 
 /// At the end of its rule a call returns to its caller with its node closed. The start returns to instruction 0.
-pub fn a_use_returns_with_its_tree()
-    ensures returns { (job : Job) (pc place : ℕ) (rows : List Row) (task caller : Task) (older : List Task)
-        (promised : Promised job pc place rows task (caller ∷ older)) → slice_get job.code pc ≡ Some Ret
-        → (trees : Trees) × (task.ways ≡ []) × (task.to_come ≡ only_steps 1)
+pub fn a_call_returns_with_its_tree()
+    ensures returns { (context : RunContext) (pc position : ℕ) (rows : List Row) (task caller : CallTask)
+        (older : List CallTask)
+        (as_expected : RunsAsExpected context pc position rows task (caller ∷ older))
+        → slice_get context.code pc ≡ Some Ret
+        → (trees : Trees) × (task.choice_points ≡ []) × (task.to_come ≡ only_steps 1)
         × (opened task.frame.before task.frame.pair ++ rows_of trees ≡ rows)
-        × (promised.0.answer.result ≡ Matched place trees)
-        × Promised job task.frame.back place (closed task.frame.before task.frame.pair place trees)
-        (resumed job caller task.frame.pair promised.0.answer) older }
-    ensures start { (job : Job) (pc place : ℕ) (rows : List Row) (task : Task)
-        (promised : Promised job pc place rows task []) → slice_get job.code pc ≡ Some Ret
-        → (trees : Trees) × (task.ways ≡ []) × (task.to_come ≡ only_steps 1) × (task.frame.back ≡ 0)
+        × (as_expected.0.answer.result ≡ Matched position trees)
+        × RunsAsExpected context task.frame.return_pc position
+        (rows_after_match task.frame.before task.frame.pair position trees)
+        (resume_task context caller task.frame.pair as_expected.0.answer) older }
+    ensures start { (context : RunContext) (pc position : ℕ) (rows : List Row) (task : CallTask)
+        (as_expected : RunsAsExpected context pc position rows task []) → slice_get context.code pc ≡ Some Ret
+        → (trees : Trees) × (task.choice_points ≡ []) × (task.to_come ≡ only_steps 1) × (task.frame.return_pc ≡ 0)
         × (task.frame.before ≡ []) × (opened task.frame.before task.frame.pair ++ rows_of trees ≡ rows)
-        × (promised.0.answer.result ≡ Matched place trees) }
-    ensures row { (before : List Row) (pair : Use) (end : ℕ) (trees : Trees)
-        → close_row (length before) (opened before pair ++ rows_of trees) pair end ≡ closed before pair end trees }
+        × (as_expected.0.answer.result ≡ Matched position trees) }
+    ensures row { (before : List Row) (pair : RuleCall) (end : ℕ) (trees : Trees)
+        → close_row (length before) (opened before pair ++ rows_of trees) pair end
+        ≡ rows_after_match before pair end trees }
 {}
 
 /// A task that fails resumes at its newest choice point. Without one its record is failed, and its caller fails too.
-pub fn a_use_falls_back_or_through()
-    ensures way { (job : Job) (task : Task) (way : Way) (ways : List Way) → task.ways ≡ way ∷ ways → Failing job task
-        → Running job way.pc way.place way.rows (record task { ways = ways }) }
-    ensures gives_up { (job : Job) (task : Task) (fails : Failing job task) → task.ways ≡ []
+pub fn a_call_backtracks_or_fails()
+    ensures choice_point { (context : RunContext) (task : CallTask) (choice_point : SavedChoice)
+        (choice_points : List SavedChoice) → task.choice_points ≡ choice_point ∷ choice_points
+        → IsBacktrackingTask context task
+        → IsRunningTask context choice_point.pc choice_point.position choice_point.rows
+        (record task { choice_points = choice_points }) }
+    ensures gives_up { (context : RunContext) (task : CallTask) (fails : IsBacktrackingTask context task)
+        → task.choice_points ≡ []
         → (fails.answer.result ≡ Failed) × (task.to_come ≡ only_steps 0) }
-    ensures through { (job : Job) (task caller : Task) (older : List Task)
-        (falling : Falling job task (caller ∷ older)) → task.ways ≡ []
-        → Falling job (resumed job caller task.frame.pair falling.0.answer) older }
+    ensures enters_calls { (context : RunContext) (task caller : CallTask) (older : List CallTask)
+        (falling : IsBacktracking context task (caller ∷ older)) → task.choice_points ≡ []
+        → IsBacktracking context (resume_task context caller task.frame.pair falling.0.answer) older }
 {}
 
 /// The failed tests and the calls of each active call's record are among those of the start's record.
 pub fn each_task_is_part_of_the_start()
-    ensures { (job : Job) (n : ℕ) (called : Frame) (done to_come : Work) (later : ℕ → Option Finish)
-        (older : List Task) (promise : Promise job n called.pair called.before done to_come later)
-        → AllWait job n called older
-        → (body : CoreForm) × (all : Record) × (slice_get job.bodies (start_of called.pair older).rule ≡ Some body)
-        × IsCoreRecord job.bodies job.text body (start_of called.pair older).place all
+    ensures { (context : RunContext) (n : ℕ) (called : Frame) (done to_come : Effects) (later : ℕ → Option BodyResult)
+        (older : List CallTask) (promise : Expectation context n called.pair called.before done to_come later)
+        → AreSuspended context n called older
+        → (body : CoreForm) × (all : Record)
+        × (slice_get context.bodies (oldest_call called.pair older).rule ≡ Some body)
+        × IsCoreRecord context.bodies context.text body (oldest_call called.pair older).position all
         × ((test : Test) → Contains promise.answer.tests test → Contains all.tests test)
-        × ((pair : Use) → Contains (called.pair ∷ promise.answer.uses) pair
-        → Contains (start_of called.pair older ∷ all.uses) pair) }
+        × ((pair : RuleCall) → Contains (called.pair ∷ promise.answer.calls) pair
+        → Contains (oldest_call called.pair older ∷ all.calls) pair) }
 {}
 
 /// No call is active twice: no waiting task has the pair of a newer one.
-pub fn no_use_is_under_way_twice()
-    ensures { (job : Job) (n m : ℕ) (pair : Use) (before : List Row) (done to_come : Work)
-        (later : ℕ → Option Finish) (called : Frame) (older : List Task)
-        → Promise job n pair before done to_come later → n ≤ m → AllWait job m called older
-        → All (λ (task : Task). task.frame.pair ≢ pair) older }
+pub fn no_call_is_active_twice()
+    ensures { (context : RunContext) (n m : ℕ) (pair : RuleCall) (before : List Row) (done to_come : Effects)
+        (later : ℕ → Option BodyResult) (called : Frame) (older : List CallTask)
+        → Expectation context n pair before done to_come later → n ≤ m → AreSuspended context m called older
+        → All (λ (task : CallTask). task.frame.pair ≢ pair) older }
 {}
 
 /// The work of a task stays noted: at its start, after more work, at its end, and then in its caller.
-pub fn what_is_done_is_noted()
-    ensures begins { (tests : List Test) (uses : List Use) (pair : Use) (back : ℕ) (before : List Row) (rounds : ℕ)
-        (to_come : Work) → Contains uses pair → TaskNoted tests uses (begun pair back before rounds to_come) }
-    ensures does { (tests : List Test) (uses : List Use) (task : Task) (work rest : Work)
-        → TaskNoted tests uses task → IsNoted tests uses work → TaskNoted tests uses (worked task work rest) }
-    ensures ends { (tests : List Test) (uses : List Use) (job : Job) (n : ℕ) (pair : Use) (before : List Row)
-        (done : Work) (later : ℕ → Option Finish) (steps : ℕ)
-        (promise : Promise job n pair before done (only_steps steps) later) → IsNoted tests uses done
-        → IsNoted tests uses (work_of promise.answer promise.steps) }
-    ensures is_back { (tests : List Test) (uses : List Use) (job : Job) (task : Task) (pair : Use) (r : Record)
-        (steps : ℕ) → TaskNoted tests uses task → Contains uses pair → IsNoted tests uses (work_of r steps)
-        → TaskNoted tests uses (resumed job task pair r) }
-    ensures stays { (tests : List Test) (uses : List Use) (more_tests : List Test) (more_uses : List Use)
+pub fn done_work_is_noted()
+    ensures begins { (tests : List Test) (calls : List RuleCall) (pair : RuleCall) (return_pc : ℕ)
+        (before : List Row) (rounds : ℕ)
+        (to_come : Effects) → Contains calls pair
+        → TaskNoted tests calls (new_task pair return_pc before rounds to_come) }
+    ensures does { (tests : List Test) (calls : List RuleCall) (task : CallTask) (work rest : Effects)
+        → TaskNoted tests calls task → IsNoted tests calls work → TaskNoted tests calls (with_done task work rest) }
+    ensures ends { (tests : List Test) (calls : List RuleCall) (context : RunContext) (n : ℕ) (pair : RuleCall)
+        (before : List Row)
+        (done : Effects) (later : ℕ → Option BodyResult) (steps : ℕ)
+        (promise : Expectation context n pair before done (only_steps steps) later) → IsNoted tests calls done
+        → IsNoted tests calls (effects_of promise.answer promise.steps) }
+    ensures is_back { (tests : List Test) (calls : List RuleCall) (context : RunContext) (task : CallTask)
+        (pair : RuleCall) (r : Record)
+        (steps : ℕ) → TaskNoted tests calls task → Contains calls pair → IsNoted tests calls (effects_of r steps)
+        → TaskNoted tests calls (resume_task context task pair r) }
+    ensures stays { (tests : List Test) (calls : List RuleCall) (more_tests : List Test) (more_uses : List RuleCall)
         → ((test : Test) → Contains tests test → Contains more_tests test)
-        → ((pair : Use) → Contains uses pair → Contains more_uses pair)
-        → (task : Task) → TaskNoted tests uses task → TaskNoted more_tests more_uses task }
+        → ((pair : RuleCall) → Contains calls pair → Contains more_uses pair)
+        → (task : CallTask) → TaskNoted tests calls task → TaskNoted more_tests more_uses task }
 {}

@@ -1,7 +1,7 @@
 //! Tracers: receivers of the rule calls of a run.
 ghost use Rattle.std.specs.Prelude.{◌≡◌, ◌∷◌, ◌++◌, [], map, false, true, Bool, IsTrue, List, OnErr, OnOk};
-ghost use Rattle.peg_semantics.specs.Record.{Use};
-ghost use Rattle.peg_machine.specs.Watched.{use_at, use_of};
+ghost use Rattle.peg_semantics.specs.Record.{RuleCall};
+ghost use Rattle.peg_machine.specs.Watched.{call_at, call_of};
 
 use std::alloc::{AllocError, Global};
 use std::marker::Model;
@@ -13,19 +13,19 @@ pub trait Watch {
     ghost records: { Bool };
 
     // the calls traced so far
-    ghost shown: { Self → List Use };
+    ghost traced: { Self → List RuleCall };
 
     /// Returns whether the tracer is active. An inactive tracer isn't called for every body.
-    fn looks(&self) -> bool
+    fn is_active(&self) -> bool
         ensures { ¬ IsTrue result → records ≡ false }
     {
         true
     }
 
     /// Records that the body of a rule runs from a position. An `Err` leaves the calls recorded so far.
-    fn begin(&mut self, rule: u32, place: u32) -> Result<(), AllocError>
-        ensures ok { OnOk result (IsTrue records → shown self.new ≡ shown self.old ++ use_at rule place ∷ []) }
-        ensures err { OnErr result (IsTrue records → shown self.new ≡ shown self.old) };
+    fn begin(&mut self, rule: u32, position: u32) -> Result<(), AllocError>
+        ensures ok { OnOk result (IsTrue records → traced self.new ≡ traced self.old ++ call_at rule position ∷ []) }
+        ensures err { OnErr result (IsTrue records → traced self.new ≡ traced self.old) };
 }
 
 /// A tracer that ignores all calls.
@@ -35,9 +35,9 @@ pub struct NoWatch;
 impl Watch for NoWatch {
     ghost records = { false };
 
-    ghost shown = { λ _. [] };
+    ghost traced = { λ _. [] };
 
-    fn looks(&self) -> bool {
+    fn is_active(&self) -> bool {
         false
     }
 
@@ -54,12 +54,12 @@ pub struct ListWatch {
 
 impl Model for ListWatch {
     ghost use Rattle.std.specs.Prelude.{map, List};
-    ghost use Rattle.peg_semantics.specs.Record.{Use};
-    ghost use Rattle.peg_machine.specs.Watched.{use_of};
+    ghost use Rattle.peg_semantics.specs.Record.{RuleCall};
+    ghost use Rattle.peg_machine.specs.Watched.{call_of};
 
-    ghost Value = { List Use };
+    ghost Value = { List RuleCall };
 
-    ghost view = { λ watch. map use_of watch.pairs.items };
+    ghost view = { λ watch. map call_of watch.pairs.items };
 }
 
 impl ListWatch {
@@ -74,7 +74,7 @@ impl ListWatch {
 
     /// Returns the rule numbers and the start positions of the calls, in order.
     pub fn pairs(&self) -> &[(u32, u32)]
-        ensures { map use_of result.now ≡ self.now }
+        ensures { map call_of result.now ≡ self.now }
     {
         &self.pairs
     }
@@ -83,10 +83,10 @@ impl ListWatch {
 impl Watch for ListWatch {
     ghost records = { true };
 
-    ghost shown = { λ watch. watch };
+    ghost traced = { λ watch. watch };
 
-    fn begin(&mut self, rule: u32, place: u32) -> Result<(), AllocError> {
-        self.pairs.push((rule, place))?;
+    fn begin(&mut self, rule: u32, position: u32) -> Result<(), AllocError> {
+        self.pairs.push((rule, position))?;
         Ok(())
     }
 }

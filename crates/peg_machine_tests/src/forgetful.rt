@@ -1,6 +1,6 @@
 //! A memo that evicts all its entries from time to time.
 ghost use Rattle.std.specs.Prelude.{◌≡◌, [], false, IfOk};
-ghost use Rattle.peg_memo.specs.Held.{held_in};
+ghost use Rattle.peg_memo.specs.MemoMap.{entries_in};
 
 use peg_memo::{Found, Keep, LruMemo};
 use std::alloc::{AllocError, Global};
@@ -29,28 +29,28 @@ impl EvictingMemo {
 }
 
 impl Keep for EvictingMemo {
-    ghost held = { λ it. held_in it.memo.pairs };
+    ghost entries = { λ it. entries_in it.memo.pairs };
 
-    ghost room = { λ _. 0 };
+    ghost capacity = { λ _. 0 };
 
-    ghost refused = { λ _. false };
+    ghost allocation_failed = { λ _. false };
 
     fn is_empty(&self) -> bool {
         Keep::is_empty(&self.memo)
     }
 
-    fn touch(&mut self, rule: u32, place: u32) {
-        Keep::touch(&mut self.memo, rule, place);
+    fn touch(&mut self, rule: u32, position: u32) {
+        Keep::touch(&mut self.memo, rule, position);
     }
 
-    fn find(&self, rule: u32, place: u32) -> Option<Found<'_>> {
-        Keep::find(&self.memo, rule, place)
+    fn find(&self, rule: u32, position: u32) -> Option<Found<'_>> {
+        Keep::find(&self.memo, rule, position)
     }
 
-    fn keep(&mut self, rule: u32, place: u32, found: Found<'_>) -> bool {
+    fn keep(&mut self, rule: u32, position: u32, found: Found<'_>) -> bool {
         self.offered = self.offered.saturating_add(1);
         if self.offered % 3 != 0 {
-            return Keep::keep(&mut self.memo, rule, place, found);
+            return Keep::keep(&mut self.memo, rule, position, found);
         }
         if let Ok(memo) = LruMemo::new(self.alloc, CAPACITY) {
             self.memo = memo;

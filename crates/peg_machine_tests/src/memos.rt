@@ -76,8 +76,8 @@ fn a_memo_of_one_result_saves_six_steps(rt: HostRuntime) -> Result<(), Fail> {
     let nodes = &[(0, 0, 4, 1), (0, 1, 2, 0)];
     let case = matched(text, 4, 3, &[2], nodes);
     assert_outcome(&rt, alloc, &answer.outcome, case)?;
-    let refused = run_with(alloc, &program, text, 0, 1, &mut NoWatch, Some(18));
-    assert!(rt; matches!(refused, Err(RunFault::StepLimit)));
+    let allocation_failed = run_with(alloc, &program, text, 0, 1, &mut NoWatch, Some(18));
+    assert!(rt; matches!(allocation_failed, Err(RunFault::StepLimit)));
     Ok(())
 }
 
@@ -151,8 +151,8 @@ fn assert_nested(
     assert_alike(rt, &selecting.outcome, &answer.outcome, "parentheses");
     assert_eq!(rt; selecting.steps, *steps);
     let fewer = Some(steps.saturating_sub(1));
-    let refused = run_with(alloc, program, text, 0, capacity, &mut NoWatch, fewer);
-    assert!(rt; matches!(refused, Err(RunFault::StepLimit)));
+    let allocation_failed = run_with(alloc, program, text, 0, capacity, &mut NoWatch, fewer);
+    assert!(rt; matches!(allocation_failed, Err(RunFault::StepLimit)));
     Ok(())
 }
 

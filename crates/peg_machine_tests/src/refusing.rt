@@ -1,6 +1,6 @@
 //! A memo that stores all but one result, and a tracer that fails at one pair.
 ghost use Rattle.std.specs.Prelude.{◌≡◌, ◌<◌, [], false, true, length, IfOk};
-ghost use Rattle.peg_memo.specs.Held.{held_in};
+ghost use Rattle.peg_memo.specs.MemoMap.{entries_in};
 
 use crate::memos::parentheses;
 use crate::outcomes::assert_alike;
@@ -37,27 +37,27 @@ impl AllBut {
 }
 
 impl Keep for AllBut {
-    ghost held = { λ it. held_in it.memo.pairs };
+    ghost entries = { λ it. entries_in it.memo.pairs };
 
-    ghost room = { λ _. 0 };
+    ghost capacity = { λ _. 0 };
 
-    ghost refused = { λ _. false };
+    ghost allocation_failed = { λ _. false };
 
     fn is_empty(&self) -> bool {
         Keep::is_empty(&self.memo)
     }
 
-    fn touch(&mut self, rule: u32, place: u32) {
-        Keep::touch(&mut self.memo, rule, place);
+    fn touch(&mut self, rule: u32, position: u32) {
+        Keep::touch(&mut self.memo, rule, position);
     }
 
-    fn find(&self, rule: u32, place: u32) -> Option<Found<'_>> {
-        Keep::find(&self.memo, rule, place)
+    fn find(&self, rule: u32, position: u32) -> Option<Found<'_>> {
+        Keep::find(&self.memo, rule, position)
     }
 
-    fn keep(&mut self, rule: u32, place: u32, found: Found<'_>) -> bool {
+    fn keep(&mut self, rule: u32, position: u32, found: Found<'_>) -> bool {
         self.offered = self.offered.saturating_add(1);
-        self.offered != self.number && Keep::keep(&mut self.memo, rule, place, found)
+        self.offered != self.number && Keep::keep(&mut self.memo, rule, position, found)
     }
 }
 
@@ -71,11 +71,11 @@ struct First {
 impl Watch for First {
     ghost records = { true };
 
-    ghost shown = { λ watch. watch.list };
+    ghost traced = { λ watch. watch.list };
 
-    fn begin(&mut self, rule: u32, place: u32) -> Result<(), AllocError> {
+    fn begin(&mut self, rule: u32, position: u32) -> Result<(), AllocError> {
         if self.list.pairs().len() < self.most {
-            Watch::begin(&mut self.list, rule, place)
+            Watch::begin(&mut self.list, rule, position)
         } else {
             Err(AllocError)
         }
@@ -124,8 +124,8 @@ fn a_result_that_is_refused_changes_no_answer(rt: HostRuntime) -> Result<(), Fai
     assert!(rt; program.rules() > 0);
     let text = b"(a)y";
     let plain = run_plain(alloc, &program, text, None)?;
-    let refused = assert_all_but(&rt, alloc, text, &plain)?;
-    assert_eq!(rt; refused, 2);
+    let allocation_failed = assert_all_but(&rt, alloc, text, &plain)?;
+    assert_eq!(rt; allocation_failed, 2);
     Ok(())
 }
 
@@ -137,8 +137,8 @@ fn a_watch_that_refuses_ends_the_run(rt: HostRuntime) -> Result<(), Fail> {
     assert!(rt; program.rules() > 0);
     let list = ListWatch::new(alloc);
     let mut watch = First { list, most: 2 };
-    let refused = run_from(alloc, &program, b"(a)y", 0, &mut watch, None);
-    assert!(rt; matches!(refused, Err(RunFault::Memory)));
+    let allocation_failed = run_from(alloc, &program, b"(a)y", 0, &mut watch, None);
+    assert!(rt; matches!(allocation_failed, Err(RunFault::Memory)));
     assert_eq!(rt; watch.list.pairs(), [(0, 0), (0, 1)].as_slice());
     let list = ListWatch::new(alloc);
     let mut watch = First { list, most: 3 };
@@ -165,8 +165,8 @@ fn assert_parentheses(rt: &impl Abort, alloc: Global, count: u32) -> Result<(), 
             assert_eq!(rt; tree.len(), count as usize + 1);
         }
     }
-    let refused = assert_all_but(rt, alloc, &text, &answer)?;
-    assert_eq!(rt; refused, count + 1);
+    let allocation_failed = assert_all_but(rt, alloc, &text, &answer)?;
+    assert_eq!(rt; allocation_failed, count + 1);
     Ok(())
 }
 

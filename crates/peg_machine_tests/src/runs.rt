@@ -3,7 +3,7 @@ ghost use Rattle.std.specs.Prelude.{◌≡◌, ◌<◌, ◌≤◌, length};
 
 use crate::forgetful::EvictingMemo;
 use peg_code::Program;
-use peg_machine::{Answer, NoWatch, RunFault, Watch, run, run_by};
+use peg_machine::{Answer, NoWatch, RunFault, Watch, run, run_with_shortcuts};
 use peg_memo::{LruMemo, NoMemo};
 use peg_memo_policy::{RerunCosts, SelectiveMemo};
 use peg_shortcut::Shortcuts;
@@ -21,8 +21,8 @@ pub(crate) fn run_from<W: Watch>(
 ) -> Result<Answer, RunFault>
     requires { start < length program.now.core.bodies }
 {
-    let mut shortcuts = Shortcuts::new(alloc, program, usize::MAX, !watch.looks());
-    run_by(
+    let mut shortcuts = Shortcuts::new(alloc, program, usize::MAX, !watch.is_active());
+    run_with_shortcuts(
         alloc,
         &mut shortcuts,
         program,
@@ -46,7 +46,7 @@ pub(crate) fn run_looked_at<W: Watch>(
     requires rule { 0 < length program.now.core.bodies }
     ensures { shortcuts.new.program.now ≡ shortcuts.old.program.now }
 {
-    run_by(alloc, shortcuts, program, text, 0, &mut NoMemo, watch, None)
+    run_with_shortcuts(alloc, shortcuts, program, text, 0, &mut NoMemo, watch, None)
 }
 
 /// Runs without a memo or a tracer, from the first rule, with a table of shortcuts.
@@ -74,7 +74,7 @@ pub(crate) fn run_step_by_step(
     requires { start < length program.now.core.bodies }
 {
     let mut none = Shortcuts::new(alloc, program, 0, true);
-    run_by(
+    run_with_shortcuts(
         alloc,
         &mut none,
         program,
@@ -113,7 +113,7 @@ pub(crate) fn run_with<W: Watch>(
 {
     let mut memo = LruMemo::new(alloc, capacity)?;
     let mut shortcuts = Shortcuts::new(alloc, program, usize::MAX, false);
-    run_by(
+    run_with_shortcuts(
         alloc,
         &mut shortcuts,
         program,

@@ -39,9 +39,7 @@ fn text_for_calls(alloc: Global) -> Result<Vec<u8>, AllocError> {
 }
 
 fn is_found(shortcuts: &Shortcuts<'_>, pc: u32, byte: u8) -> bool {
-    shortcuts
-        .numbered(shortcuts.known(pc, byte), pc, byte)
-        .is_some()
+    shortcuts.get(shortcuts.cell(pc, byte), pc, byte).is_some()
 }
 
 // Checks that a run with a table has the outcome and the steps of a run without shortcuts.
@@ -114,8 +112,10 @@ fn a_table_that_finds_late_changes_no_answer(rt: HostRuntime) -> Result<(), Fail
     let alloc = rt.alloc();
     let program = program_of(alloc, b"S <- (A / '(' S ')')* A <- [a-c]+ ';' / !'x' [u-z]")?;
     assert!(rt; program.rules() > 0);
-    for meetings in 0..12 {
-        let mut shortcuts = Shortcuts::new(alloc, &program, usize::MAX, true).after(meetings);
+    for threshold in 0..12 {
+        let mut shortcuts = Shortcuts::new(alloc, &program, usize::MAX, true).with_threshold(
+            threshold,
+        );
         assert_same_by(&rt, alloc, &mut shortcuts, &program, b"abc;(u(cc;)yb;)(x)")?;
         assert_same_by(&rt, alloc, &mut shortcuts, &program, b"a;((ww)bc;")?;
     }

@@ -22,7 +22,7 @@ const GRAMMARS: usize = 400;
 struct Evaluator<'a> {
     grammar: &'a Grammar,
     text: &'a [u8],
-    uses: Vec<(u32, u32)>,
+    calls: Vec<(u32, u32)>,
     gave_up: bool,
 }
 
@@ -33,12 +33,12 @@ impl Evaluator<'_> {
     }
 
     // The position after the next byte, if that is in a set.
-    fn behind_byte(&self, set: &ByteSet, place: u32) -> Option<u32> {
-        match self.text.get(place as usize) {
+    fn behind_byte(&self, set: &ByteSet, position: u32) -> Option<u32> {
+        match self.text.get(position as usize) {
             None => None,
             Some(byte) => {
                 if set.contains(*byte) {
-                    Some(place.saturating_add(1))
+                    Some(position.saturating_add(1))
                 } else {
                     None
                 }
@@ -47,8 +47,8 @@ impl Evaluator<'_> {
     }
 
     // The position after a literal, if the text has it here.
-    fn behind_literal(&self, bytes: &[u8], place: u32) -> Option<u32> {
-        let mut end = place;
+    fn behind_literal(&self, bytes: &[u8], position: u32) -> Option<u32> {
+        let mut end = position;
         for byte in bytes {
             if self.text.get(end as usize) != Some(byte) {
                 return None;
@@ -60,38 +60,38 @@ impl Evaluator<'_> {
 
     // The end of an expression that matches at a position.
     #[cycle(end_of)]
-    fn end_of(&mut self, expr: &Expr, place: u32, depth: u32) -> Option<u32> {
+    fn end_of(&mut self, expr: &Expr, position: u32, depth: u32) -> Option<u32> {
         if depth == 0 {
             return self.give_up();
         }
         match expr {
-            Expr::Literal { bytes, .. } => self.behind_literal(bytes, place),
-            Expr::Class { set, .. } => self.behind_byte(set, place),
-            Expr::Any { .. } => self.behind_byte(&ByteSet::full(), place),
-            Expr::Name { name, .. } => self.end_of_use(name, place, depth - 1),
-            Expr::Seq { items, .. } => self.end_of_all(items, place, depth - 1),
-            Expr::Choice { first, rest, .. } => self.end_of_any(first, rest, place, depth - 1),
-            Expr::Star { part, .. } => self.end_of_rounds(part, place, depth - 1),
-            Expr::Plus { part, .. } => self.end_of_some_rounds(part, place, depth - 1),
+            Expr::Literal { bytes, .. } => self.behind_literal(bytes, position),
+            Expr::Class { set, .. } => self.behind_byte(set, position),
+            Expr::Any { .. } => self.behind_byte(&ByteSet::full(), position),
+            Expr::Name { name, .. } => self.end_of_use(name, position, depth - 1),
+            Expr::Seq { items, .. } => self.end_of_all(items, position, depth - 1),
+            Expr::Choice { first, rest, .. } => self.end_of_any(first, rest, position, depth - 1),
+            Expr::Star { part, .. } => self.end_of_rounds(part, position, depth - 1),
+            Expr::Plus { part, .. } => self.end_of_some_rounds(part, position, depth - 1),
             Expr::Optional { part, .. } => Some(
-                self.end_of(part, place, depth - 1).unwrap_or(place),
+                self.end_of(part, position, depth - 1).unwrap_or(position),
             ),
             Expr::Counted { part, min, max, .. } => {
-                self.end_of_count(part, *min, *max, place, depth - 1)
+                self.end_of_count(part, *min, *max, position, depth - 1)
             }
-            Expr::And { part, .. } => self.place_if(part, true, place, depth - 1),
-            Expr::Not { part, .. } => self.place_if(part, false, place, depth - 1),
+            Expr::And { part, .. } => self.place_if(part, true, position, depth - 1),
+            Expr::Not { part, .. } => self.place_if(part, false, position, depth - 1),
         }
     }
 
     // The position itself, if a part matches, or if it fails.
     #[cycle(end_of)]
-    fn place_if(&mut self, part: &Expr, matches: bool, place: u32, depth: u32) -> Option<u32> {
+    fn place_if(&mut self, part: &Expr, matches: bool, position: u32, depth: u32) -> Option<u32> {
         if depth == 0 {
             return self.give_up();
         }
-        if self.end_of(part, place, depth - 1).is_some() == matches {
-            return Some(place);
+        if self.end_of(part, position, depth - 1).is_some() == matches {
+            return Some(position);
         }
         None
     }
@@ -103,13 +103,13 @@ impl Evaluator<'_> {
         part: &Expr,
         min: u8,
         max: u8,
-        place: u32,
+        position: u32,
         depth: u32,
     ) -> Option<u32> {
         if depth == 0 {
             return self.give_up();
         }
-        let mut end = place;
+        let mut end = position;
         for done in 0..max {
             match self.end_of(part, end, depth - 1) {
                 Some(next) => end = next,
@@ -122,26 +122,26 @@ impl Evaluator<'_> {
 
     // A call of a rule, which is recorded.
     #[cycle(end_of)]
-    fn end_of_use(&mut self, name: &str, place: u32, depth: u32) -> Option<u32> {
+    fn end_of_use(&mut self, name: &str, position: u32, depth: u32) -> Option<u32> {
         let grammar = self.grammar;
         match grammar.rule_number(name) {
             None => self.give_up(),
             Some(rule) => {
-                if depth == 0 || self.uses.push((rule, place)).is_err() {
+                if depth == 0 || self.calls.push((rule, position)).is_err() {
                     return self.give_up();
                 }
-                self.end_of(grammar.body(rule), place, depth - 1)
+                self.end_of(grammar.body(rule), position, depth - 1)
             }
         }
     }
 
     // All items, one after the other.
     #[cycle(end_of)]
-    fn end_of_all(&mut self, items: &[Expr], place: u32, depth: u32) -> Option<u32> {
+    fn end_of_all(&mut self, items: &[Expr], position: u32, depth: u32) -> Option<u32> {
         if depth == 0 {
             return self.give_up();
         }
-        let mut end = place;
+        let mut end = position;
         for item in items {
             match self.end_of(item, end, depth - 1) {
                 Some(next) => end = next,
@@ -153,27 +153,33 @@ impl Evaluator<'_> {
 
     // The first alternative that matches.
     #[cycle(end_of)]
-    fn end_of_any(&mut self, first: &Expr, rest: &[Expr], place: u32, depth: u32) -> Option<u32> {
+    fn end_of_any(
+        &mut self,
+        first: &Expr,
+        rest: &[Expr],
+        position: u32,
+        depth: u32,
+    ) -> Option<u32> {
         if depth == 0 {
             return self.give_up();
         }
-        let mut end = self.end_of(first, place, depth - 1);
+        let mut end = self.end_of(first, position, depth - 1);
         for alternative in rest {
             if end.is_some() {
                 return end;
             }
-            end = self.end_of(alternative, place, depth - 1);
+            end = self.end_of(alternative, position, depth - 1);
         }
         end
     }
 
     // A part at least once, until it fails.
     #[cycle(end_of)]
-    fn end_of_some_rounds(&mut self, part: &Expr, place: u32, depth: u32) -> Option<u32> {
+    fn end_of_some_rounds(&mut self, part: &Expr, position: u32, depth: u32) -> Option<u32> {
         if depth == 0 {
             return self.give_up();
         }
-        match self.end_of(part, place, depth - 1) {
+        match self.end_of(part, position, depth - 1) {
             None => None,
             Some(end) => self.end_of_rounds(part, end, depth - 1),
         }
@@ -181,11 +187,11 @@ impl Evaluator<'_> {
 
     // A part any number of times, until it fails.
     #[cycle(end_of)]
-    fn end_of_rounds(&mut self, part: &Expr, place: u32, depth: u32) -> Option<u32> {
+    fn end_of_rounds(&mut self, part: &Expr, position: u32, depth: u32) -> Option<u32> {
         if depth == 0 {
             return self.give_up();
         }
-        let mut end = place;
+        let mut end = position;
         for _ in 0..=self.text.len() {
             match self.end_of(part, end, depth - 1) {
                 Some(next) => end = next,
@@ -207,13 +213,13 @@ fn uses_of(
     let mut evaluator = Evaluator {
         grammar: &pair.grammar,
         text,
-        uses: vec![in alloc; (0, 0)]?,
+        calls: vec![in alloc; (0, 0)]?,
         gave_up: false,
     };
     let _end = evaluator.end_of(pair.grammar.body(0), 0, DEPTH);
     assert!(rt; !evaluator.gave_up);
-    let Evaluator { uses, .. } = evaluator;
-    Ok(uses)
+    let Evaluator { calls, .. } = evaluator;
+    Ok(calls)
 }
 
 // Without a memo a tracer gets each call as often as it occurs; with a memo of full capacity it gets none twice.
@@ -225,11 +231,11 @@ fn assert_uses(rt: &impl Abort, alloc: Global, pair: &Pair, text: &[u8]) -> Resu
     assert_eq!(rt; plain.pairs(), wanted.as_slice(), "on {text:?}");
     let mut once = ListWatch::new(alloc);
     run_with(alloc, &pair.program, text, 0, 4096, &mut once, None)?;
-    for shown in once.pairs() {
-        assert!(rt; wanted.contains(shown), "on {text:?}");
+    for traced in once.pairs() {
+        assert!(rt; wanted.contains(traced), "on {text:?}");
     }
     for used in &wanted {
-        let times = once.pairs().iter().filter(|shown| *shown == used).count();
+        let times = once.pairs().iter().filter(|traced| *traced == used).count();
         assert_eq!(rt; times, 1, "on {text:?}");
     }
     Ok(())

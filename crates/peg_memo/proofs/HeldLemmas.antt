@@ -7,61 +7,61 @@ use Rattle.std.specs.Cmp.{tied_itself, ranked}
 use Rattle.std.specs.FinMap as map
 use Rattle.std.specs.FinMap.Entries.{below_all, is_sorted}
 use Rattle.std.specs.Ordering.{nat_cmp, eq_by_cmp, ordering_then}
-use Rattle.peg_memo.specs.Held.{Held}
-use Rattle.peg_memo.specs.Kept.{Kept, KeptFailure}
-use Rattle.peg_memo.specs.Use.{Use, use_cmp}
-use Rattle.peg_memo.proofs.Uses.{use_cmp-IsTotalOrder, use_cmp-IsAntisymmetric}
+use Rattle.peg_memo.specs.MemoMap.{MemoMap}
+use Rattle.peg_memo.specs.StoredResult.{StoredResult, StoredFailure}
+use Rattle.peg_memo.specs.MemoKey.{MemoKey, key_cmp}
+use Rattle.peg_memo.proofs.KeyOrder.{key_cmp-IsTotalOrder, key_cmp-IsAntisymmetric}
 
 -- the order makes a call equal to itself
-tied : (a b : Use) → a ≡ b → eq_by_cmp use_cmp a b ≡ true
-tied a b same = subst (λ c. eq_by_cmp use_cmp a c ≡ true) same (ap is_eq (tied_itself use_cmp-IsTotalOrder a))
+tied : (a b : MemoKey) → a ≡ b → eq_by_cmp key_cmp a b ≡ true
+tied a b same = subst (λ c. eq_by_cmp key_cmp a c ≡ true) same (ap is_eq (tied_itself key_cmp-IsTotalOrder a))
 
 -- and different from each other call
-untied : (a b : Use) → a ≢ b → eq_by_cmp use_cmp a b ≡ false
-untied a b differ = false_from_ne_true _ (λ is. differ (tells_apart use_cmp-IsAntisymmetric a b is))
+untied : (a b : MemoKey) → a ≢ b → eq_by_cmp key_cmp a b ≡ false
+untied a b differ = false_from_ne_true _ (λ is. differ (tells_apart key_cmp-IsAntisymmetric a b is))
 
 -- two calls are the same, or they differ
-pub same_or_other : (a b : Use) → (a ≡ b) ⊎ (a ≢ b)
+pub same_or_other : (a b : MemoKey) → (a ≡ b) ⊎ (a ≢ b)
 same_or_other a b =
-    ⊎_elim (λ is. inl (tells_apart use_cmp-IsAntisymmetric a b is))
-    (λ is. inr (λ same. let answer = tied a b same in cc)) (cases_Bool (eq_by_cmp use_cmp a b))
+    ⊎_elim (λ is. inl (tells_apart key_cmp-IsAntisymmetric a b is))
+    (λ is. inr (λ same. let answer = tied a b same in cc)) (cases_Bool (eq_by_cmp key_cmp a b))
 
 -- an inserted result is found
-pub get_inserted : (held : Held) (asked : Use) (kept : Kept)
-    → map.get (map.insert held asked kept) asked ≡ Some kept
-get_inserted held asked kept =
-    map.get-insert use_cmp-IsTotalOrder held asked kept asked
-    ∙ cond-true _ (Some kept) (map.get held asked) (tied asked asked refl)
+pub get_inserted : (stored : MemoMap) (asked : MemoKey) (kept : StoredResult)
+    → map.get (map.insert stored asked kept) asked ≡ Some kept
+get_inserted stored asked kept =
+    map.get-insert key_cmp-IsTotalOrder stored asked kept asked
+    ∙ cond-true _ (Some kept) (map.get stored asked) (tied asked asked refl)
 
 -- the entries of other calls are the same as before
-pub get_other : (held : Held) (asked other : Use) (kept : Kept) → other ≢ asked
-    → map.get (map.insert held asked kept) other ≡ map.get held other
-get_other held asked other kept differs =
-    map.get-insert use_cmp-IsTotalOrder held asked kept other
-    ∙ cond-false _ (Some kept) (map.get held other) (untied other asked differs)
+pub get_other : (stored : MemoMap) (asked other : MemoKey) (kept : StoredResult) → other ≢ asked
+    → map.get (map.insert stored asked kept) other ≡ map.get stored other
+get_other stored asked other kept differs =
+    map.get-insert key_cmp-IsTotalOrder stored asked kept other
+    ∙ cond-false _ (Some kept) (map.get stored other) (untied other asked differs)
 
 -- the result that is found for an inserted call is the inserted one
-found_there : (held : Held) (asked other : Use) (kept found : Kept) → other ≡ asked
-    → map.get (map.insert held asked kept) other ≡ Some found → found ≡ kept
-found_there held asked other kept found same is =
-    let there = get_inserted held asked kept in
-    let here = ap (map.get (map.insert held asked kept)) same in
+found_there : (stored : MemoMap) (asked other : MemoKey) (kept found : StoredResult) → other ≡ asked
+    → map.get (map.insert stored asked kept) other ≡ Some found → found ≡ kept
+found_there stored asked other kept found same is =
+    let there = get_inserted stored asked kept in
+    let here = ap (map.get (map.insert stored asked kept)) same in
     cc
 
 -- each entry was inserted, or was there before
-pub found_after : (held : Held) (asked other : Use) (kept found : Kept)
-    → map.get (map.insert held asked kept) other ≡ Some found
-    → ((other ≡ asked) × (found ≡ kept)) ⊎ (map.get held other ≡ Some found)
-found_after held asked other kept found is =
+pub found_after : (stored : MemoMap) (asked other : MemoKey) (kept found : StoredResult)
+    → map.get (map.insert stored asked kept) other ≡ Some found
+    → ((other ≡ asked) × (found ≡ kept)) ⊎ (map.get stored other ≡ Some found)
+found_after stored asked other kept found is =
     ⊎_elim
-    (λ same. inl (same, found_there held asked other kept found same is))
-    (λ differs. inr (sym (get_other held asked other kept differs) ∙ is))
+    (λ same. inl (same, found_there stored asked other kept found same is))
+    (λ differs. inr (sym (get_other stored asked other kept differs) ∙ is))
     (same_or_other other asked)
 
 -- an empty map has no entries
-pub none_in_empty : (held : Held) (asked : Use) → map.len held ≡ 0 → map.get held asked ≡ None
-none_in_empty held asked none =
-    ap (λ m. map.get m asked) (map.empty_of_len held none) ∙ map.get-empty use_cmp asked
+pub none_in_empty : (stored : MemoMap) (asked : MemoKey) → map.len stored ≡ 0 → map.get stored asked ≡ None
+none_in_empty stored asked none =
+    ap (λ m. map.get m asked) (map.empty_of_len stored none) ∙ map.get-empty key_cmp asked
 
 -- an option is Some or None
 some_or_none : {A : Type 0} (o : Option A) → IsTrue (is_some o) ⊎ (o ≡ None)
@@ -74,18 +74,18 @@ what_is_some None is = cc
 what_is_some (Some x) is = (x, refl)
 
 -- a call has an entry, or none is found
-pub contains_or_not : (held : Held) (asked : Use) → IsTrue (map.contains_key held asked) ⊎ (map.get held asked ≡ None)
-contains_or_not held asked = some_or_none (map.get held asked)
+pub contains_or_not : (stored : MemoMap) (asked : MemoKey) → IsTrue (map.contains_key stored asked) ⊎ (map.get stored asked ≡ None)
+contains_or_not stored asked = some_or_none (map.get stored asked)
 
 -- the entry of a call that has one
-pub contained : (held : Held) (asked : Use) → IsTrue (map.contains_key held asked)
-    → (kept : Kept) × (map.get held asked ≡ Some kept)
-contained held asked is = what_is_some (map.get held asked) is
+pub contained : (stored : MemoMap) (asked : MemoKey) → IsTrue (map.contains_key stored asked)
+    → (kept : StoredResult) × (map.get stored asked ≡ Some kept)
+contained stored asked is = what_is_some (map.get stored asked) is
 
 -- a call with a result has an entry
-pub contains_found : (held : Held) (asked : Use) (kept : Kept) → map.get held asked ≡ Some kept
-    → IsTrue (map.contains_key held asked)
-contains_found held asked kept found = ap is_some found
+pub contains_found : (stored : MemoMap) (asked : MemoKey) (kept : StoredResult) → map.get stored asked ≡ Some kept
+    → IsTrue (map.contains_key stored asked)
+contains_found stored asked kept found = ap is_some found
 
 -- ---- the number of entries
 
@@ -108,64 +108,64 @@ is_true true holds = refl
 is_true false holds = absurd holds
 
 -- a call below each pair is below each call found among them
-below_found : (first other : Use) (kept : Kept) (pairs : List (Use × Kept)) → below_all use_cmp first pairs ≡ true
-    → map.find use_cmp other pairs ≡ Some kept → use_cmp first other ≡ Less
+below_found : (first other : MemoKey) (kept : StoredResult) (pairs : List (MemoKey × StoredResult)) → below_all key_cmp first pairs ≡ true
+    → map.find key_cmp other pairs ≡ Some kept → key_cmp first other ≡ Less
 below_found first other kept [] below found = cc
 below_found first other kept (pair ∷ pairs) below found =
-    let parts = and_parts (is_lt (use_cmp first pair.0)) (below_all use_cmp first pairs) below in
+    let parts = and_parts (is_lt (key_cmp first pair.0)) (below_all key_cmp first pairs) below in
     ⊎_elim
-    (λ is. ap (use_cmp first) (tells_apart use_cmp-IsAntisymmetric other pair.0 is)
-    ∙ is_less (use_cmp first pair.0) parts.0)
+    (λ is. ap (key_cmp first) (tells_apart key_cmp-IsAntisymmetric other pair.0 is)
+    ∙ is_less (key_cmp first pair.0) parts.0)
     (λ is. below_found first other kept pairs parts.1
-    (sym (cond-false _ (Some pair.1) (map.find use_cmp other pairs) is) ∙ found))
-    (cases_Bool (eq_by_cmp use_cmp other pair.0))
+    (sym (cond-false _ (Some pair.1) (map.find key_cmp other pairs) is) ∙ found))
+    (cases_Bool (eq_by_cmp key_cmp other pair.0))
 
 -- the first pair is found
-found_first : (pair : Use × Kept) (pairs : List (Use × Kept))
-    → map.find use_cmp pair.0 (pair ∷ pairs) ≡ Some pair.1
-found_first pair pairs = cond-true _ (Some pair.1) (map.find use_cmp pair.0 pairs) (tied pair.0 pair.0 refl)
+found_first : (pair : MemoKey × StoredResult) (pairs : List (MemoKey × StoredResult))
+    → map.find key_cmp pair.0 (pair ∷ pairs) ≡ Some pair.1
+found_first pair pairs = cond-true _ (Some pair.1) (map.find key_cmp pair.0 pairs) (tied pair.0 pair.0 refl)
 
 -- a call that is found is still found with one more pair in front
-found_later : (pair : Use × Kept) (pairs : List (Use × Kept)) (other : Use) (kept : Kept)
-    → map.find use_cmp other pairs ≡ Some kept
-    → (seen : Kept) × (map.find use_cmp other (pair ∷ pairs) ≡ Some seen)
+found_later : (pair : MemoKey × StoredResult) (pairs : List (MemoKey × StoredResult)) (other : MemoKey) (kept : StoredResult)
+    → map.find key_cmp other pairs ≡ Some kept
+    → (seen : StoredResult) × (map.find key_cmp other (pair ∷ pairs) ≡ Some seen)
 found_later pair pairs other kept found =
     ⊎_elim
-    (λ is. (pair.1, cond-true _ (Some pair.1) (map.find use_cmp other pairs) is))
-    (λ is. (kept, cond-false _ (Some pair.1) (map.find use_cmp other pairs) is ∙ found))
-    (cases_Bool (eq_by_cmp use_cmp other pair.0))
+    (λ is. (pair.1, cond-true _ (Some pair.1) (map.find key_cmp other pairs) is))
+    (λ is. (kept, cond-false _ (Some pair.1) (map.find key_cmp other pairs) is ∙ found))
+    (cases_Bool (eq_by_cmp key_cmp other pair.0))
 
 module _ (rules places : ℕ) where
   -- a call of one of the rules at one of the positions
-  abbrev IsWithin : Use → Type 0
+  abbrev IsWithin : MemoKey → Type 0
   IsWithin asked = (asked.0 < rules) × (asked.1 < places)
 
   -- each call that is found among the pairs is one of these
-  abbrev AreWithin : List (Use × Kept) → Type 0
-  AreWithin pairs = (other : Use) (kept : Kept) → map.find use_cmp other pairs ≡ Some kept → IsWithin other
+  abbrev AreWithin : List (MemoKey × StoredResult) → Type 0
+  AreWithin pairs = (other : MemoKey) (kept : StoredResult) → map.find key_cmp other pairs ≡ Some kept → IsWithin other
 
   -- the number of a call, counted rule by rule
-  abbrev number : Use → ℕ
+  abbrev number : MemoKey → ℕ
   number asked = asked.0 * places + asked.1
 
   -- each number is below the number of all calls
-  number-lt : (asked : Use) → IsWithin asked → number asked < rules * places
+  number-lt : (asked : MemoKey) → IsWithin asked → number asked < rules * places
   number-lt asked within =
       let low = mul-add-lt asked.0 places asked.1 rules within.0 within.1 in
       omega (arith, mul_comm rules places)
 
   -- a call of a smaller rule has the smaller number
-  rule-rises : (a b : Use) → a.1 < places → a.0 < b.0 → number a < number b
+  rule-rises : (a b : MemoKey) → a.1 < places → a.0 < b.0 → number a < number b
   rule-rises a b within lower =
       let row = mul-add-lt a.0 places a.1 b.0 lower within in
       omega (arith, mul_comm b.0 places)
 
   -- and so has a call of the same rule at a smaller position
-  place-rises : (a b : Use) → a.0 ≡ b.0 → a.1 < b.1 → number a < number b
+  place-rises : (a b : MemoKey) → a.0 ≡ b.0 → a.1 < b.1 → number a < number b
   place-rises a b same lower = omega (arith, ap (λ n. n * places) same)
 
   -- a call that is less than another has the smaller number
-  number-rises : (a b : Use) → a.1 < places → use_cmp a b ≡ Less → number a < number b
+  number-rises : (a b : MemoKey) → a.1 < places → key_cmp a b ≡ Less → number a < number b
   number-rises a b within less =
       ⊎_elim
       (λ is. rule-rises a b within (ranked a.0 b.0 Less (sym is)))
@@ -173,13 +173,13 @@ module _ (rules places : ℕ) where
       (less_parts (nat_cmp a.0 b.0) (nat_cmp a.1 b.1) less)
 
   -- sorted pairs are at most as many as the numbers from the least of theirs on
-  length-pairs : (low : ℕ) (pairs : List (Use × Kept)) → low ≤ rules * places → is_sorted use_cmp pairs ≡ true
+  length-pairs : (low : ℕ) (pairs : List (MemoKey × StoredResult)) → low ≤ rules * places → is_sorted key_cmp pairs ≡ true
       → AreWithin pairs
-      → ((other : Use) (kept : Kept) → map.find use_cmp other pairs ≡ Some kept → low ≤ number other)
+      → ((other : MemoKey) (kept : StoredResult) → map.find key_cmp other pairs ≡ Some kept → low ≤ number other)
       → low + length pairs ≤ rules * places
   length-pairs low [] fits sorted within above = omega arith
   length-pairs low (pair ∷ pairs) fits sorted within above =
-      let parts = and_parts (below_all use_cmp pair.0 pairs) (is_sorted use_cmp pairs) sorted in
+      let parts = and_parts (below_all key_cmp pair.0 pairs) (is_sorted key_cmp pairs) sorted in
       let first : IsWithin pair.0 = within pair.0 pair.1 (found_first pair pairs) in
       let from : low ≤ number pair.0 = above pair.0 pair.1 (found_first pair pairs) in
       let rest : suc (number pair.0) + length pairs ≤ rules * places =
@@ -190,27 +190,27 @@ module _ (rules places : ℕ) where
       omega arith
 
   -- there are at most as many entries as calls
-  len-le : (held : Held)
-      → ((other : Use) (kept : Kept) → map.get held other ≡ Some kept → IsWithin other)
-      → map.len held ≤ rules * places
-  len-le held within =
-      let counted : 0 + length (map.entries held) ≤ rules * places =
-      length-pairs 0 (map.entries held) zero-le (is_true _ (map.entries_sorted held))
-      (λ other kept found. within other kept (map.get-entries held other ∙ found)) (λ other kept found. zero-le) in
-      omega (arith, map.len-entries held)
+  len-le : (stored : MemoMap)
+      → ((other : MemoKey) (kept : StoredResult) → map.get stored other ≡ Some kept → IsWithin other)
+      → map.len stored ≤ rules * places
+  len-le stored within =
+      let counted : 0 + length (map.entries stored) ≤ rules * places =
+      length-pairs 0 (map.entries stored) zero-le (is_true _ (map.entries_sorted stored))
+      (λ other kept found. within other kept (map.get-entries stored other ∙ found)) (λ other kept found. zero-le) in
+      omega (arith, map.len-entries stored)
 
 -- if one of the calls has no entry, there are fewer entries than calls
-pub fewer_are_held : (held : Held) (rules places : ℕ) (asked : Use)
-    → ((other : Use) (kept : Kept) → map.get held other ≡ Some kept → (other.0 < rules) × (other.1 < places))
-    → asked.0 < rules → asked.1 < places → map.get held asked ≡ None → map.len held < rules * places
-fewer_are_held held rules places asked within rule place missed =
-    let one_more = map.insert held asked KeptFailure in
+pub fewer_are_held : (stored : MemoMap) (rules places : ℕ) (asked : MemoKey)
+    → ((other : MemoKey) (kept : StoredResult) → map.get stored other ≡ Some kept → (other.0 < rules) × (other.1 < places))
+    → asked.0 < rules → asked.1 < places → map.get stored asked ≡ None → map.len stored < rules * places
+fewer_are_held stored rules places asked within rule position missed =
+    let one_more = map.insert stored asked StoredFailure in
     let most : map.len one_more ≤ rules * places =
     len-le rules places one_more
     (λ other kept found.
-    ⊎_elim (λ put. subst (IsWithin rules places) (sym put.0) (rule, place)) (λ before. within other kept before)
-    (found_after held asked other KeptFailure kept found)) in
-    let counted : map.len one_more ≡ map.len held + 1 =
-    map.len-insert use_cmp-IsTotalOrder held asked KeptFailure
-    ∙ cond-false _ (map.len held) (map.len held + 1) (ap is_some missed) in
+    ⊎_elim (λ put. subst (IsWithin rules places) (sym put.0) (rule, position)) (λ before. within other kept before)
+    (found_after stored asked other StoredFailure kept found)) in
+    let counted : map.len one_more ≡ map.len stored + 1 =
+    map.len-insert key_cmp-IsTotalOrder stored asked StoredFailure
+    ∙ cond-false _ (map.len stored) (map.len stored + 1) (ap is_some missed) in
     omega arith

@@ -2,4 +2,4 @@ mod AfterKeep
 pub mod HeldLemmas
 mod HeldPairs
 mod Mapped
-pub mod Uses
+pub mod KeyOrder

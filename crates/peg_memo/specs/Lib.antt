@@ -1,5 +1,5 @@
-pub mod Held
-pub mod Kept
+pub mod MemoMap
+pub mod StoredResult
 pub mod Memo
 pub mod Stored
-pub mod Use
+pub mod MemoKey

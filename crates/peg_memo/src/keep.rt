@@ -2,8 +2,8 @@
 ghost use Rattle.std.specs.Prelude.{◌≡◌, ◌<◌, ◌⊎◌, ◌↔◌, ℕ, Bool, false, Some, option_map};
 ghost use Rattle.std.specs.Prelude.{if◌then◌else◌, IfSome, IsTrue};
 ghost use Rattle.std.specs.FinMap as map;
-ghost use Rattle.peg_memo.specs.Held.{Held, IsPartOf};
-ghost use Rattle.peg_memo.specs.Kept.{kept_of};
+ghost use Rattle.peg_memo.specs.MemoMap.{MemoMap, IsPartOf};
+ghost use Rattle.peg_memo.specs.StoredResult.{stored_of};
 
 use crate::Found;
 
@@ -11,47 +11,51 @@ use crate::Found;
 /// it may evict entries if it is full or an allocation has failed. A memo without capacity may evict entries in either.
 pub trait Keep {
     // the entries
-    ghost held: { Self → Held };
+    ghost entries: { Self → MemoMap };
 
     // how many entries the memo holds before it may evict one, unless an allocation fails; it never changes
-    ghost room: { Self → ℕ };
+    ghost capacity: { Self → ℕ };
 
     // whether an allocation has failed; it never becomes false again
-    ghost refused: { Self → Bool };
+    ghost allocation_failed: { Self → Bool };
 
     /// Returns whether the memo has no entries.
     fn is_empty(&self) -> bool
-        ensures { IsTrue result ↔ (map.len (held self.now) ≡ 0) };
+        ensures { IsTrue result ↔ (map.len (entries self.now) ≡ 0) };
 
     /// Returns whether the memo may ever store a result. It returns false only for a memo without capacity. For such a
     /// memo the machine may omit lookups and stores.
-    fn keeps(&self) -> bool
-        ensures { ¬ IsTrue result → room self.now ≡ 0 }
+    fn may_store(&self) -> bool
+        ensures { ¬ IsTrue result → capacity self.now ≡ 0 }
     {
         true
     }
 
     /// Marks the entry of a rule at a position as used, if there is one.
-    fn touch(&mut self, rule: u32, place: u32)
-        ensures part { IsPartOf (held self.new) (held self.old) }
-        ensures same { 0 < room self.old → held self.new ≡ held self.old }
-        ensures room { room self.new ≡ room self.old }
-        ensures refused { IsTrue (refused self.old) → IsTrue (refused self.new) };
+    fn touch(&mut self, rule: u32, position: u32)
+        ensures part { IsPartOf (entries self.new) (entries self.old) }
+        ensures same { 0 < capacity self.old → entries self.new ≡ entries self.old }
+        ensures capacity { capacity self.new ≡ capacity self.old }
+        ensures allocation_failed { IsTrue (allocation_failed self.old) → IsTrue (allocation_failed self.new) };
 
     /// Returns the entry of a rule at a position, or `None`. A memo with capacity finds every entry that it has.
-    fn find(&self, rule: u32, place: u32) -> Option<Found<'_>>
-        ensures held { IfSome result (λ found. map.get (held self.now) (rule, place) ≡ Some (kept_of found)) }
-        ensures all { 0 < room self.now → option_map kept_of result ≡ map.get (held self.now) (rule, place) };
+    fn find(&self, rule: u32, position: u32) -> Option<Found<'_>>
+        ensures entries { IfSome result (λ found. map.get (entries self.now) (rule, position) ≡ Some
+            (stored_of found)) }
+        ensures all { 0 < capacity self.now
+            → option_map stored_of result ≡ map.get (entries self.now) (rule, position) };
 
     /// Stores the result of a rule at a position, and replaces an entry that they have. Returns whether the result is
     /// stored now.
-    fn keep(&mut self, rule: u32, place: u32, found: Found<'_>) -> bool
-        ensures part { IsPartOf (held self.new)
-            (if result then map.insert (held self.old) (rule, place) (kept_of found.entry) else held self.old) }
-        ensures kept { IsTrue result → map.get (held self.new) (rule, place) ≡ Some (kept_of found.entry) }
-        ensures all { 0 < room self.old → refused self.new ≡ false
-            → (map.len (held self.old) < room self.old) ⊎ IsTrue (map.contains_key (held self.old) (rule, place))
-            → held self.new ≡ map.insert (held self.old) (rule, place) (kept_of found.entry) }
-        ensures room { room self.new ≡ room self.old }
-        ensures refused { IsTrue (refused self.old) → IsTrue (refused self.new) };
+    fn keep(&mut self, rule: u32, position: u32, found: Found<'_>) -> bool
+        ensures part { IsPartOf (entries self.new)
+            (if result then map.insert (entries self.old) (rule, position)
+            (stored_of found.entry) else entries self.old) }
+        ensures kept { IsTrue result → map.get (entries self.new) (rule, position) ≡ Some (stored_of found.entry) }
+        ensures all { 0 < capacity self.old → allocation_failed self.new ≡ false
+            → (map.len (entries self.old) < capacity self.old)
+            ⊎ IsTrue (map.contains_key (entries self.old) (rule, position))
+            → entries self.new ≡ map.insert (entries self.old) (rule, position) (stored_of found.entry) }
+        ensures capacity { capacity self.new ≡ capacity self.old }
+        ensures allocation_failed { IsTrue (allocation_failed self.old) → IsTrue (allocation_failed self.new) };
 }

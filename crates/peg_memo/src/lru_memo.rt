@@ -4,13 +4,13 @@ ghost use Rattle.std.specs.Prelude.{IfOk, OnOk, OnErr, IsTrue};
 ghost use Rattle.std.specs.List.{IsDistinct};
 ghost use Rattle.std.specs.Map.{keys_of, lookup};
 ghost use Rattle.lru.specs.LruCache.{last_entry, lru_cache, promoted, put_entries};
-ghost use Rattle.peg_memo.specs.Held.{held_in, IsPartOf};
-ghost use Rattle.peg_memo.specs.Kept.{kept_of, row_count};
+ghost use Rattle.peg_memo.specs.MemoMap.{entries_in, IsPartOf};
+ghost use Rattle.peg_memo.specs.StoredResult.{stored_of, stored_node_count};
 ghost use Rattle.peg_memo.specs.Memo.{memo, after_keep};
 ghost use Rattle.peg_memo.specs.Stored.{pairs_in};
-ghost use Rattle.peg_memo.specs.Use.{use_eq};
+ghost use Rattle.peg_memo.specs.MemoKey.{key_eq};
 
-use crate::stored::{Stored, lent, rows_in, store};
+use crate::stored::{Stored, as_found, node_count, to_stored};
 use crate::{Found, Keep};
 use lru::LruCache;
 use std::alloc::{AllocError, Global};
@@ -26,7 +26,7 @@ type Results = LruCache<(u32, u32), Stored>;
 pub struct LruMemo {
     alloc: Global,
     cache: Results,
-    refused: bool,
+    allocation_failed: bool,
 }
 
 impl Model for LruMemo {
@@ -35,7 +35,7 @@ impl Model for LruMemo {
 
     ghost Value = { Memo };
 
-    ghost view = { λ it. memo (pairs_in it.cache.entries) it.cache.cap it.refused };
+    ghost view = { λ it. memo (pairs_in it.cache.entries) it.cache.cap it.allocation_failed };
 }
 
 impl LruMemo {
@@ -48,7 +48,7 @@ impl LruMemo {
         Ok(LruMemo {
             alloc,
             cache: LruCache::sparse(alloc, most)?,
-            refused: false,
+            allocation_failed: false,
         })
     }
 
@@ -60,45 +60,45 @@ impl LruMemo {
     }
 
     /// Moves the entry of a rule at a position to the front, if there is one.
-    pub fn touch(&mut self, rule: u32, place: u32)
+    pub fn touch(&mut self, rule: u32, position: u32)
         ensures { self.new
-            ≡ memo (promoted (use_eq (rule, place)) self.old.pairs) self.old.capacity self.old.refused }
+            ≡ memo (promoted (key_eq (rule, position)) self.old.pairs) self.old.capacity self.old.allocation_failed }
     {
-        self.cache.promote(&(rule, place));
+        self.cache.promote(&(rule, position));
     }
 
     /// Returns the entry of a rule at a position, if there is one. The order of the entries doesn't change.
-    pub fn find(&self, rule: u32, place: u32) -> Option<Found<'_>>
-        ensures { option_map kept_of result ≡ lookup (use_eq (rule, place)) self.now.pairs }
+    pub fn find(&self, rule: u32, position: u32) -> Option<Found<'_>>
+        ensures { option_map stored_of result ≡ lookup (key_eq (rule, position)) self.now.pairs }
     {
-        let kept = self.cache.peek(&(rule, place))?;
-        Some(lent(kept))
+        let kept = self.cache.peek(&(rule, position))?;
+        Some(as_found(kept))
     }
 
     /// Stores the result of a rule at a position as the first entry, and replaces an entry that they have. A full memo
     /// evicts its last entry for a new one. Returns false if an allocation fails; then no entry changes.
-    pub fn keep(&mut self, rule: u32, place: u32, found: Found<'_>) -> bool
-        ensures memo { self.new ≡ after_keep result self.old (rule, place) (kept_of found.entry) }
-        ensures distinct { IsDistinct use_eq (keys_of self.old.pairs) }
+    pub fn keep(&mut self, rule: u32, position: u32, found: Found<'_>) -> bool
+        ensures memo { self.new ≡ after_keep result self.old (rule, position) (stored_of found.entry) }
+        ensures distinct { IsDistinct key_eq (keys_of self.old.pairs) }
     {
         // Called for its contract only: no two entries have the same rule and position.
         let _ = self.cache.len();
-        let kept = put(self.alloc, &mut self.cache, (rule, place), found).is_ok();
+        let kept = put(self.alloc, &mut self.cache, (rule, position), found).is_ok();
         if !kept {
-            self.refused = true;
+            self.allocation_failed = true;
         }
         kept
     }
 
     /// Evicts the last entry and returns the number of its nodes, or `None` if the memo is empty.
-    pub fn drop_last(&mut self) -> Option<usize>
+    pub fn evict_lru(&mut self) -> Option<usize>
         ensures memo { self.new
-            ≡ memo (take (length self.old.pairs - 1) self.old.pairs) self.old.capacity self.old.refused }
-        ensures rows { result ≡ option_map (λ pair. row_count pair.1) (last_entry self.old.pairs) }
-        ensures part { IsPartOf (held_in self.new.pairs) (held_in self.old.pairs) }
+            ≡ memo (take (length self.old.pairs - 1) self.old.pairs) self.old.capacity self.old.allocation_failed }
+        ensures rows { result ≡ option_map (λ pair. stored_node_count pair.1) (last_entry self.old.pairs) }
+        ensures part { IsPartOf (entries_in self.new.pairs) (entries_in self.old.pairs) }
     {
         let (_, stored) = self.cache.pop_lru()?;
-        Some(rows_in(&stored))
+        Some(node_count(&stored))
     }
 }
 
@@ -110,42 +110,42 @@ fn put(
     found: Found<'_>,
 ) -> Result<(), AllocError>
     ensures ok { OnOk result (pairs_in cache.new.entries
-        ≡ put_entries use_eq (lru_cache (pairs_in cache.old.entries) cache.old.cap) asked (kept_of found.entry)) }
+        ≡ put_entries key_eq (lru_cache (pairs_in cache.old.entries) cache.old.cap) asked (stored_of found.entry)) }
     ensures err { OnErr result (cache.new ≡ cache.old) }
     ensures capacity { cache.new.cap ≡ cache.old.cap }
 {
-    let stored = store(alloc, found)?;
+    let stored = to_stored(alloc, found)?;
     cache.put(asked, stored)?;
     Ok(())
 }
 
 impl Keep for LruMemo {
-    ghost held = { λ it. held_in it.pairs };
+    ghost entries = { λ it. entries_in it.pairs };
 
-    ghost room = { λ it. it.capacity };
+    ghost capacity = { λ it. it.capacity };
 
-    ghost refused = { λ it. it.refused };
+    ghost allocation_failed = { λ it. it.allocation_failed };
 
     fn is_empty(&self) -> bool {
         LruMemo::is_empty(self)
     }
 
-    fn touch(&mut self, rule: u32, place: u32)
+    fn touch(&mut self, rule: u32, position: u32)
         ensures front { self.new
-            ≡ memo (promoted (use_eq (rule, place)) self.old.pairs) self.old.capacity self.old.refused }
-        ensures part { IsPartOf (held_in self.new.pairs) (held_in self.old.pairs) }
-        ensures same { 0 < self.old.capacity → held_in self.new.pairs ≡ held_in self.old.pairs }
-        ensures room { self.new.capacity ≡ self.old.capacity }
-        ensures refused { IsTrue self.old.refused → IsTrue self.new.refused }
+            ≡ memo (promoted (key_eq (rule, position)) self.old.pairs) self.old.capacity self.old.allocation_failed }
+        ensures part { IsPartOf (entries_in self.new.pairs) (entries_in self.old.pairs) }
+        ensures same { 0 < self.old.capacity → entries_in self.new.pairs ≡ entries_in self.old.pairs }
+        ensures capacity { self.new.capacity ≡ self.old.capacity }
+        ensures allocation_failed { IsTrue self.old.allocation_failed → IsTrue self.new.allocation_failed }
     {
-        LruMemo::touch(self, rule, place);
+        LruMemo::touch(self, rule, position);
     }
 
-    fn find(&self, rule: u32, place: u32) -> Option<Found<'_>> {
-        LruMemo::find(self, rule, place)
+    fn find(&self, rule: u32, position: u32) -> Option<Found<'_>> {
+        LruMemo::find(self, rule, position)
     }
 
-    fn keep(&mut self, rule: u32, place: u32, found: Found<'_>) -> bool {
-        LruMemo::keep(self, rule, place, found)
+    fn keep(&mut self, rule: u32, position: u32, found: Found<'_>) -> bool {
+        LruMemo::keep(self, rule, position, found)
     }
 }

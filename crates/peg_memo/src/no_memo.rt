@@ -9,17 +9,17 @@ use crate::{Found, Keep};
 pub struct NoMemo;
 
 impl Keep for NoMemo {
-    ghost held = { λ _. map.empty };
+    ghost entries = { λ _. map.empty };
 
-    ghost room = { λ _. 0 };
+    ghost capacity = { λ _. 0 };
 
-    ghost refused = { λ _. false };
+    ghost allocation_failed = { λ _. false };
 
     fn is_empty(&self) -> bool {
         true
     }
 
-    fn keeps(&self) -> bool {
+    fn may_store(&self) -> bool {
         false
     }
 

@@ -1,7 +1,7 @@
 //! A result as a memo stores it.
 ghost use Rattle.std.specs.Prelude.{◌≡◌, IfOk};
-ghost use Rattle.peg_memo.specs.Kept.{kept_of, row_count};
-ghost use Rattle.peg_memo.specs.Stored.{kept_in};
+ghost use Rattle.peg_memo.specs.StoredResult.{stored_of, stored_node_count};
+ghost use Rattle.peg_memo.specs.Stored.{stored_in};
 
 use crate::Found;
 use peg_tree::TreeNode;
@@ -15,8 +15,8 @@ pub enum Stored {
 }
 
 // Copies a result with its nodes. The only error is a failed allocation.
-pub fn store(alloc: Global, found: Found<'_>) -> Result<Stored, AllocError>
-    ensures { IfOk result (λ stored. kept_in stored ≡ kept_of found.entry) }
+pub fn to_stored(alloc: Global, found: Found<'_>) -> Result<Stored, AllocError>
+    ensures { IfOk result (λ stored. stored_in stored ≡ stored_of found.entry) }
 {
     match found {
         Found::Failed => Ok(Stored::Failed),
@@ -28,8 +28,8 @@ pub fn store(alloc: Global, found: Found<'_>) -> Result<Stored, AllocError>
 }
 
 // Returns the result with its nodes borrowed.
-pub fn lent(stored: &Stored) -> Found<'_>
-    ensures { kept_of result ≡ kept_in stored.now }
+pub fn as_found(stored: &Stored) -> Found<'_>
+    ensures { stored_of result ≡ stored_in stored.now }
 {
     match stored {
         Stored::Failed => Found::Failed,
@@ -41,8 +41,8 @@ pub fn lent(stored: &Stored) -> Found<'_>
 }
 
 // Returns the number of nodes of a stored result.
-pub fn rows_in(stored: &Stored) -> usize
-    ensures { result ≡ row_count (kept_in stored.now) }
+pub fn node_count(stored: &Stored) -> usize
+    ensures { result ≡ stored_node_count (stored_in stored.now) }
 {
     match stored {
         Stored::Failed => 0,

@@ -2,17 +2,17 @@
 use Rattle.std.proofs.Common.{Bool, true, false, sym, ap, ◌∙◌, ⊎_elim}
 use Rattle.std.specs.Bool.{if◌then◌else◌}
 use Rattle.std.specs.FinMap as map
-use Rattle.peg_memo.specs.Held.{Held, IsPartOf}
-use Rattle.peg_memo.specs.Kept.{Kept}
-use Rattle.peg_memo.specs.Use.{Use}
+use Rattle.peg_memo.specs.MemoMap.{MemoMap, IsPartOf}
+use Rattle.peg_memo.specs.StoredResult.{StoredResult}
+use Rattle.peg_memo.specs.MemoKey.{MemoKey}
 use Rattle.peg_memo.proofs.HeldLemmas.{get_inserted, get_other, same_or_other}
 
 -- `IsPartOf` is transitive
-pub IsPartOf-trans : (part middle whole : Held) → IsPartOf part middle → IsPartOf middle whole → IsPartOf part whole
+pub IsPartOf-trans : (part middle whole : MemoMap) → IsPartOf part middle → IsPartOf middle whole → IsPartOf part whole
 IsPartOf-trans part middle whole below above asked stored found = above asked stored (below asked stored found)
 
 -- a part and the whole with the same result stored: the one is still a part of the other
-pub IsPartOf-insert : (part whole : Held) (asked : Use) (stored : Kept) → IsPartOf part whole
+pub IsPartOf-insert : (part whole : MemoMap) (asked : MemoKey) (stored : StoredResult) → IsPartOf part whole
     → IsPartOf (map.insert part asked stored) (map.insert whole asked stored)
 IsPartOf-insert part whole asked stored is other seen found =
     ⊎_elim
@@ -26,7 +26,7 @@ IsPartOf-insert part whole asked stored is other seen found =
     (same_or_other other asked)
 
 -- the entries after `keep`, if those before it are part of the old ones
-pub IsPartOf-stored : (old middle new : Held) (asked : Use) (stored : Kept) (done : Bool) → IsPartOf middle old
+pub IsPartOf-stored : (old middle new : MemoMap) (asked : MemoKey) (stored : StoredResult) (done : Bool) → IsPartOf middle old
     → IsPartOf new (if done then map.insert middle asked stored else middle)
     → IsPartOf new (if done then map.insert old asked stored else old)
 IsPartOf-stored old middle new asked stored true part after =

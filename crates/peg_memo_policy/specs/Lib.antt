@@ -1,5 +1,5 @@
-pub use Rattle.peg_memo.specs.Held
-pub use Rattle.peg_memo.specs.Kept
+pub use Rattle.peg_memo.specs.MemoMap
+pub use Rattle.peg_memo.specs.StoredResult
 pub mod RerunCost
 pub mod RerunCosts
 pub mod SelectiveMemo

@@ -46,6 +46,19 @@ const SMALL_WORK_PER_NODE: u64 = 16;
 // A rule in debt stores one in `SAMPLE_PERIOD` of its small results, and fewer of those with more nodes.
 const SAMPLE_PERIOD: u64 = 128;
 
+/// Whether the result of a call is stored.
+#[derive(Clone, Copy, Debug, PartialEq, Eq)]
+pub enum Decision {
+    /// It isn't stored: its work doesn't pay for an entry.
+    Decline,
+    /// It is stored.
+    Store,
+    /// It isn't stored: it is small, of a rule in debt, and not part of the sample.
+    Skip,
+    /// It is stored as a sample of the small results of a rule in debt.
+    Sample,
+}
+
 // The account of a rule.
 #[derive(Clone, Copy)]
 struct RuleAccount {
@@ -97,13 +110,13 @@ impl<'a> Policy<'a> {
     }
 
     /// Returns whether the memo must be searched for a call. If not, this call counts as the start of its body.
-    pub fn should_look_up(&mut self, rule: u32, place: u32) -> bool {
+    pub fn should_look_up(&mut self, rule: u32, position: u32) -> bool {
         match self.accounts.get(rule as usize) {
             Some(account) if account.trivial => {
                 self.credit = self.credit.saturating_add(WORK_PER_CALL);
                 false
             }
-            Some(_) if self.recent.has(rule, place) => true,
+            Some(_) if self.recent.has(rule, position) => true,
             Some(_) => {
                 self.begin();
                 false
@@ -140,8 +153,8 @@ impl<'a> Policy<'a> {
     }
 
     /// Records a hit: the memo returned the result of a rule at a position.
-    pub fn note_found(&mut self, rule: u32, place: u32, size: Size) {
-        self.recent.note_found(rule, place);
+    pub fn note_found(&mut self, rule: u32, position: u32, size: Size) {
+        self.recent.note_found(rule, position);
         self.credit = self.credit.saturating_add(size.rows.saturating_mul(2));
         if let Some(account) = self.accounts.get_mut(rule as usize) {
             let saved = size.rows.saturating_mul(4).saturating_add(size.bytes);
@@ -153,40 +166,61 @@ impl<'a> Policy<'a> {
         }
     }
 
-    /// Returns whether the result of a body that has ended should be stored. The result of the first call of the start
-    /// rule is not, since nothing looks it up. Nor is the result of a body whose start could not be recorded.
-    pub fn should_store(&mut self, rule: u32, place: u32, size: Size) -> bool {
-        let Some(account) = self.accounts.get_mut(rule as usize) else {
-            return false;
-        };
-        if account.trivial {
-            return false;
+    /// Ends a call whose body has ended. Returns the work since the body began, or `None` if it isn't known: for a
+    /// trivial rule, for the first call of the start rule, which nothing looks up, and for a body whose start could
+    /// not be recorded.
+    pub fn end_call(&mut self, rule: u32) -> Option<u64> {
+        if self.accounts.get(rule as usize)?.trivial {
+            return None;
         }
         if self.untracked > 0 {
             self.untracked = self.untracked.saturating_sub(1);
-            return false;
+            return None;
         }
-        let Some(began) = end_newest_call(&mut self.open) else {
-            return false;
+        let began = end_newest_call(&mut self.open)?;
+        Some(self.credit.saturating_sub(began))
+    }
+
+    /// Decides whether the result of a call that took this work is stored.
+    pub fn decide(&self, rule: u32, position: u32, size: Size, work: u64) -> Decision {
+        let Some(account) = self.accounts.get(rule as usize) else {
+            return Decision::Decline;
         };
-        let work = self.credit.saturating_sub(began);
         if work < account.price_of(size.rows) {
-            return false;
+            return Decision::Decline;
         }
         if account.balance >= DEBT_THRESHOLD || !is_small(size, work) {
-            return true;
+            return Decision::Store;
         }
-        let again = if size.failed {
-            is_cheap_failure(self.costs, rule, self.text, place)
+        let is_cheap = if size.failed {
+            is_cheap_failure(self.costs, rule, self.text, position)
         } else {
             account.linear_on_success
         };
-        !(again && account.is_not_sampled(size.rows))
+        match (is_cheap, account.is_next_sample(size.rows)) {
+            (false, _) => Decision::Store,
+            (true, true) => Decision::Sample,
+            (true, false) => Decision::Skip,
+        }
+    }
+
+    /// Records that a small result of a rule in debt was skipped.
+    pub fn note_skipped(&mut self, rule: u32) {
+        if let Some(account) = self.accounts.get_mut(rule as usize) {
+            account.skipped = account.skipped.saturating_add(1);
+        }
+    }
+
+    /// Records that a small result of a rule in debt is stored as a sample.
+    pub fn note_sampled(&mut self, rule: u32) {
+        if let Some(account) = self.accounts.get_mut(rule as usize) {
+            account.skipped = 0;
+        }
     }
 
     /// Records that a result was stored.
-    pub fn note_stored(&mut self, rule: u32, place: u32, size: Size) {
-        self.recent.note_stored(rule, place);
+    pub fn note_stored(&mut self, rule: u32, position: u32, size: Size) {
+        self.recent.note_stored(rule, position);
         self.credit = self.credit.saturating_sub(size.rows);
         if let Some(account) = self.accounts.get_mut(rule as usize) {
             let price = size.rows.saturating_add(STORE_COST);
@@ -205,15 +239,10 @@ impl RuleAccount {
         }
     }
 
-    // Whether a small result is not part of the sample.
-    fn is_not_sampled(&mut self, rows: u64) -> bool {
+    // Whether the next small result is part of the sample.
+    fn is_next_sample(&self, rows: u64) -> bool {
         let period = SAMPLE_PERIOD.saturating_add(rows.saturating_mul(SAMPLE_PERIOD / 16));
-        self.skipped = self.skipped.saturating_add(1);
-        if u64::from(self.skipped) < period {
-            return true;
-        }
-        self.skipped = 0;
-        false
+        u64::from(self.skipped).saturating_add(1) >= period
     }
 }
 
@@ -231,14 +260,14 @@ fn end_newest_call(open: &mut Vec<CallRun>) -> Option<u64> {
 
 // Whether a result is small: its work, and the bytes that were read for it, are cheap to repeat.
 fn is_small(size: Size, work: u64) -> bool {
-    let most = SMALL_WORK.saturating_add(size.rows.saturating_mul(SMALL_WORK_PER_NODE));
-    work.saturating_add(size.bytes) < most
+    let limit = SMALL_WORK.saturating_add(size.rows.saturating_mul(SMALL_WORK_PER_NODE));
+    work.saturating_add(size.bytes) < limit
 }
 
 // Whether a rule that fails at a position of a text does little work of its own.
-fn is_cheap_failure(costs: &RerunCosts, rule: u32, text: &[u8], place: u32) -> bool {
+fn is_cheap_failure(costs: &RerunCosts, rule: u32, text: &[u8], position: u32) -> bool {
     match costs.rules().get(rule as usize) {
-        Some(cost) => cost.is_cheap_failure(text.get(place as usize).copied()),
+        Some(cost) => cost.is_cheap_failure(text.get(position as usize).copied()),
         None => false,
     }
 }

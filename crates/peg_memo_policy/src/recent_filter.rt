@@ -32,7 +32,7 @@ pub struct RecentFilter {
     mask: u64,
     // The number of results stored in the newer generation, and its limit.
     stored: u32,
-    most: u32,
+    limit: u32,
 }
 
 impl RecentFilter {
@@ -48,13 +48,13 @@ impl RecentFilter {
             words: vec![in alloc; none; count as usize]?,
             mask: count.saturating_sub(1),
             stored: 0,
-            most: capacity,
+            limit: capacity,
         })
     }
 
     /// Returns whether the result of a rule at a position may be stored. It returns false only for a result that isn't.
-    pub fn has(&self, rule: u32, place: u32) -> bool {
-        let bit = self.bit(rule, place);
+    pub fn has(&self, rule: u32, position: u32) -> bool {
+        let bit = self.bit(rule, position);
         match self.words.get(bit.word) {
             Some(flags) => (flags.newer | flags.older) & bit.flag != 0,
             None => false,
@@ -62,21 +62,21 @@ impl RecentFilter {
     }
 
     /// Records that the result of a rule at a position was found.
-    pub fn note_found(&mut self, rule: u32, place: u32) {
-        let bit = self.bit(rule, place);
+    pub fn note_found(&mut self, rule: u32, position: u32) {
+        let bit = self.bit(rule, position);
         if let Some(flags) = self.words.get_mut(bit.word) {
             flags.newer |= bit.flag;
         }
     }
 
     /// Records that the result of a rule at a position was stored.
-    pub fn note_stored(&mut self, rule: u32, place: u32) {
-        if self.stored >= self.most {
+    pub fn note_stored(&mut self, rule: u32, position: u32) {
+        if self.stored >= self.limit {
             self.stored = 0;
             self.rotate();
         }
         self.stored = self.stored.saturating_add(1);
-        self.note_found(rule, place);
+        self.note_found(rule, position);
     }
 
     // Makes the newer generation the older one.
@@ -90,8 +90,8 @@ impl RecentFilter {
     }
 
     // The position of a call's flag. The high bits of a product depend on all bits of the rule and the position.
-    fn bit(&self, rule: u32, place: u32) -> Bit {
-        let asked = (u64::from(rule) << 32) | u64::from(place);
+    fn bit(&self, rule: u32, position: u32) -> Bit {
+        let asked = (u64::from(rule) << 32) | u64::from(position);
         let mixed = asked.wrapping_mul(0x9E37_79B9_7F4A_7C15) >> 40;
         Bit {
             word: ((mixed >> 6) & self.mask) as usize,

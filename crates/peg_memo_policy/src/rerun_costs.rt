@@ -8,7 +8,7 @@ ghost use Rattle.std.specs.Prelude.{◌≡◌, length, IfOk};
 
 use crate::RerunCost;
 use peg_bytes::ByteSet;
-use peg_code::{Op, Program};
+use peg_code::{InstrRef, Program};
 use std::alloc::{AllocError, Global};
 
 // The number of instructions that are cheap to run again.
@@ -120,14 +120,14 @@ impl Walk<'_> {
 
     // The next instruction in the order of the code, where a call continues with the code of the called rule.
     fn next_in_layout(&mut self, pc: u32) -> Result<Next, AllocError> {
-        Ok(match self.op(pc) {
-            Op::Call(rule) => {
+        Ok(match self.instr_ref(pc) {
+            InstrRef::Call(rule) => {
                 self.ways.push(Return::AfterCall(pc.saturating_add(1)))?;
                 Next::At(self.entry(rule))
             }
-            Op::Commit(target) if target <= pc => Next::Unknown,
-            Op::End => Next::Unknown,
-            Op::Ret => match self.ways.pop() {
+            InstrRef::Commit(target) if target <= pc => Next::Unknown,
+            InstrRef::End => Next::Unknown,
+            InstrRef::Ret => match self.ways.pop() {
                 Some(Return::AfterCall(next)) => Next::At(next),
                 _ => Next::Ended,
             },
@@ -143,7 +143,7 @@ impl Walk<'_> {
         let mut taken = ByteSet::empty();
         let mut pc = self.entry(rule);
         for _ in 0..MAX_TRIVIAL_STEPS {
-            if let Op::Test { set, .. } = self.op(pc) {
+            if let InstrRef::Test { set, .. } = self.instr_ref(pc) {
                 taken = taken.union(set);
             }
             match self.next_if_all_tests_fail(pc)? {
@@ -157,29 +157,29 @@ impl Walk<'_> {
 
     // The instruction that runs next if each test fails.
     fn next_if_all_tests_fail(&mut self, pc: u32) -> Result<Next, AllocError> {
-        Ok(match self.op(pc) {
-            Op::Test { .. } => self.fail(),
-            Op::Call(rule) => {
+        Ok(match self.instr_ref(pc) {
+            InstrRef::Test { .. } => self.fail(),
+            InstrRef::Call(rule) => {
                 self.ways.push(Return::AfterCall(pc.saturating_add(1)))?;
                 Next::At(self.entry(rule))
             }
-            Op::Choice(target) => {
+            InstrRef::Choice(target) => {
                 self.ways.push(Return::ChoicePoint(target))?;
                 Next::At(pc.saturating_add(1))
             }
-            Op::Commit(target) => {
+            InstrRef::Commit(target) => {
                 self.ways.pop();
                 Next::At(target)
             }
-            Op::FailTwice => {
+            InstrRef::FailTwice => {
                 self.ways.pop();
                 self.fail()
             }
-            Op::Ret => match self.ways.pop() {
+            InstrRef::Ret => match self.ways.pop() {
                 Some(Return::AfterCall(next)) => Next::At(next),
                 _ => Next::Ended,
             },
-            Op::End => Next::Unknown,
+            InstrRef::End => Next::Unknown,
         })
     }
 
@@ -224,9 +224,9 @@ impl Walk<'_> {
         let mut ways = self.open_choices_at(from, star);
         let mut pc = self.exit(star);
         for _ in 0..MAX_BODY_SIZE {
-            match self.op(pc) {
-                Op::Ret => return StarEffect::Committed,
-                Op::Commit(target) => {
+            match self.instr_ref(pc) {
+                InstrRef::Ret => return StarEffect::Committed,
+                InstrRef::Commit(target) => {
                     ways = ways.saturating_sub(1);
                     pc = if target < pc {
                         self.exit(target)
@@ -243,9 +243,9 @@ impl Walk<'_> {
 
     // Whether a star starts at an instruction: a choice whose alternative comes after a commit that jumps back to it.
     fn is_star(&self, pc: u32) -> bool {
-        match self.op(pc) {
-            Op::Choice(target) =>
-                matches!(self.op(target.saturating_sub(1)), Op::Commit(back) if back == pc),
+        match self.instr_ref(pc) {
+            InstrRef::Choice(target) =>
+                matches!(self.instr_ref(target.saturating_sub(1)), InstrRef::Commit(back) if back == pc),
             _ => false,
         }
     }
@@ -254,10 +254,10 @@ impl Walk<'_> {
     fn calls_each_time(&self, star: u32) -> bool {
         let mut pc = star.saturating_add(1);
         for _ in 0..MAX_BODY_SIZE {
-            pc = match self.op(pc) {
-                Op::Test { .. } => pc.saturating_add(1),
-                Op::Choice(target) if self.is_not(target) => target,
-                Op::Call(_) => return true,
+            pc = match self.instr_ref(pc) {
+                InstrRef::Test { .. } => pc.saturating_add(1),
+                InstrRef::Choice(target) if self.is_not(target) => target,
+                InstrRef::Call(_) => return true,
                 _ => return false,
             };
         }
@@ -266,7 +266,10 @@ impl Walk<'_> {
 
     // Whether a not-predicate ends before an instruction.
     fn is_not(&self, target: u32) -> bool {
-        matches!(self.op(target.saturating_sub(1)), Op::FailTwice)
+        matches!(
+            self.instr_ref(target.saturating_sub(1)),
+            InstrRef::FailTwice
+        )
     }
 
     // The number of choice points of a body that are open at an instruction.
@@ -282,18 +285,18 @@ impl Walk<'_> {
 
     // The target of a `Choice`; 0 for other instructions.
     fn exit(&self, pc: u32) -> u32 {
-        match self.op(pc) {
-            Op::Choice(target) => target,
+        match self.instr_ref(pc) {
+            InstrRef::Choice(target) => target,
             _ => 0,
         }
     }
 
     // The instruction with a number; `End` if there is none.
-    fn op(&self, pc: u32) -> Op<'_> {
+    fn instr_ref(&self, pc: u32) -> InstrRef<'_> {
         if pc < self.program.len() {
-            self.program.op(pc)
+            self.program.instr_ref(pc)
         } else {
-            Op::End
+            InstrRef::End
         }
     }
 

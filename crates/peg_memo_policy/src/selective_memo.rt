@@ -1,11 +1,11 @@
 //! A memo that stores only results that are worth their cost.
 ghost use Rattle.std.specs.Prelude.{◌≡◌, ◌≤◌, ◌↔◌, if◌then◌else◌, IfOk, IsTrue, Some};
 ghost use Rattle.std.specs.FinMap as map;
-ghost use Rattle.peg_memo.specs.Held.{held_in, IsPartOf};
-ghost use Rattle.peg_memo.specs.Kept.{kept_of};
+ghost use Rattle.peg_memo.specs.MemoMap.{entries_in, IsPartOf};
+ghost use Rattle.peg_memo.specs.StoredResult.{stored_of};
 
 use crate::RerunCosts;
-use crate::policy::Policy;
+use crate::policy::{Decision, Policy};
 use crate::size::{Size, size_of};
 use peg_memo::{Found, Keep, LruMemo};
 use std::alloc::{AllocError, Global};
@@ -27,13 +27,13 @@ pub struct SelectiveMemo<'a> {
     hit: bool,
     capacity: u32,
     // The number of entries, the number of their nodes, and the limit of the latter.
-    held: u32,
+    entry_count: u32,
     rows: u64,
     node_limit: u64,
 }
 
 impl<'a> SelectiveMemo<'a> {
-    ghost use Rattle.peg_memo_policy.specs.SelectiveMemo.{held_by};
+    ghost use Rattle.peg_memo_policy.specs.SelectiveMemo.{entries_by};
 
     /// Returns an empty memo for a run over a text of the program with these costs. The only error is a failed
     /// allocation.
@@ -44,47 +44,49 @@ impl<'a> SelectiveMemo<'a> {
         text: &'a [u8],
     ) -> Result<SelectiveMemo<'a>, AllocError>
         requires { 1 ≤ capacity }
-        ensures { IfOk result (λ it. held_by it ≡ map.empty) }
+        ensures { IfOk result (λ it. entries_by it ≡ map.empty) }
     {
         Ok(SelectiveMemo {
             memo: LruMemo::new(alloc, capacity)?,
             policy: Policy::new(alloc, capacity, costs, text)?,
             hit: false,
             capacity,
-            held: 0,
+            entry_count: 0,
             rows: 0,
             node_limit: MIN_NODE_LIMIT,
         })
     }
 
     // Returns whether a rule at a position has an entry, and marks the entry as used.
-    fn lookup_and_touch(&mut self, rule: u32, place: u32) -> bool
-        ensures part { IsPartOf (held_by self.new) (held_by self.old) }
-        ensures refused { IsTrue self.old.memo.refused → IsTrue self.new.memo.refused }
+    fn lookup_and_touch(&mut self, rule: u32, position: u32) -> bool
+        ensures part { IsPartOf (entries_by self.new) (entries_by self.old) }
+        ensures allocation_failed { IsTrue self.old.memo.allocation_failed → IsTrue self.new.memo.allocation_failed }
     {
-        let size = match Keep::find(&self.memo, rule, place) {
-            Some(found) => size_of(found, place),
+        let size = match Keep::find(&self.memo, rule, position) {
+            Some(found) => size_of(found, position),
             None => return false,
         };
-        Keep::touch(&mut self.memo, rule, place);
-        self.policy.note_found(rule, place, size);
+        Keep::touch(&mut self.memo, rule, position);
+        self.policy.note_found(rule, position, size);
         true
     }
 
     // Evicts entries until another one with this number of nodes is within the limits.
     fn evict_until_fits(&mut self, rows: u64)
-        ensures part { IsPartOf (held_by self.new) (held_by self.old) }
-        ensures refused { self.new.memo.refused ≡ self.old.memo.refused }
+        ensures part { IsPartOf (entries_by self.new) (entries_by self.old) }
+        ensures allocation_failed { self.new.memo.allocation_failed ≡ self.old.memo.allocation_failed }
     {
         self.node_limit = self.node_limit.max(rows.saturating_mul(4));
-        while self.held >= self.capacity || self.rows.saturating_add(rows) > self.node_limit {
-            match self.memo.drop_last() {
+        while self.entry_count >= self.capacity
+            || self.rows.saturating_add(rows) > self.node_limit
+        {
+            match self.memo.evict_lru() {
                 Some(dropped) => {
-                    self.held = self.held.saturating_sub(1);
+                    self.entry_count = self.entry_count.saturating_sub(1);
                     self.rows = self.rows.saturating_sub(dropped as u64);
                 }
                 None => {
-                    self.held = 0;
+                    self.entry_count = 0;
                     self.rows = 0;
                     return;
                 }
@@ -94,59 +96,74 @@ impl<'a> SelectiveMemo<'a> {
 }
 
 impl SelectiveMemo<'_> {
-    ghost use Rattle.peg_memo_policy.specs.SelectiveMemo.{held_by};
+    ghost use Rattle.peg_memo_policy.specs.SelectiveMemo.{entries_by};
 
     // Stores a result, and evicts others for it. Returns whether it is stored now. It isn't inlined, since most results
     // are declined.
     #[inline(never)]
-    fn store(&mut self, rule: u32, place: u32, found: Found<'_>, size: Size) -> bool
-        ensures part { IsPartOf (held_by self.new)
-            (if result then map.insert (held_by self.old) (rule, place) (kept_of found.entry) else held_by self.old) }
-        ensures stored { IsTrue result → map.get (held_by self.new) (rule, place) ≡ Some (kept_of found.entry) }
-        ensures refused { IsTrue self.old.memo.refused → IsTrue self.new.memo.refused }
+    fn store(&mut self, rule: u32, position: u32, found: Found<'_>, size: Size) -> bool
+        ensures part { IsPartOf (entries_by self.new)
+            (if result then map.insert (entries_by self.old) (rule, position)
+            (stored_of found.entry) else entries_by self.old) }
+        ensures stored { IsTrue result → map.get (entries_by self.new) (rule, position) ≡ Some (stored_of found.entry) }
+        ensures allocation_failed { IsTrue self.old.memo.allocation_failed → IsTrue self.new.memo.allocation_failed }
     {
         self.evict_until_fits(size.rows);
-        let stored = Keep::keep(&mut self.memo, rule, place, found);
+        let stored = Keep::keep(&mut self.memo, rule, position, found);
         if stored {
-            self.held = self.held.saturating_add(1);
+            self.entry_count = self.entry_count.saturating_add(1);
             self.rows = self.rows.saturating_add(size.rows);
-            self.policy.note_stored(rule, place, size);
+            self.policy.note_stored(rule, position, size);
         }
         stored
     }
 }
 
 impl Keep for SelectiveMemo<'_> {
-    ghost held = { λ it. held_in it.memo.pairs };
+    ghost entries = { λ it. entries_in it.memo.pairs };
 
-    ghost room = { λ _. 0 };
+    ghost capacity = { λ _. 0 };
 
-    ghost refused = { λ it. it.memo.refused };
+    ghost allocation_failed = { λ it. it.memo.allocation_failed };
 
     fn is_empty(&self) -> bool {
         Keep::is_empty(&self.memo)
     }
 
-    fn touch(&mut self, rule: u32, place: u32) {
+    fn touch(&mut self, rule: u32, position: u32) {
         self.hit = false;
-        if self.policy.should_look_up(rule, place) {
-            self.hit = self.lookup_and_touch(rule, place);
+        if self.policy.should_look_up(rule, position) {
+            self.hit = self.lookup_and_touch(rule, position);
             if !self.hit {
                 self.policy.begin();
             }
         }
     }
 
-    fn find(&self, rule: u32, place: u32) -> Option<Found<'_>> {
+    fn find(&self, rule: u32, position: u32) -> Option<Found<'_>> {
         if self.hit {
-            Keep::find(&self.memo, rule, place)
+            Keep::find(&self.memo, rule, position)
         } else {
             None
         }
     }
 
-    fn keep(&mut self, rule: u32, place: u32, found: Found<'_>) -> bool {
-        let size = size_of(found, place);
-        self.policy.should_store(rule, place, size) && self.store(rule, place, found, size)
+    fn keep(&mut self, rule: u32, position: u32, found: Found<'_>) -> bool {
+        let size = size_of(found, position);
+        let Some(work) = self.policy.end_call(rule) else {
+            return false;
+        };
+        match self.policy.decide(rule, position, size, work) {
+            Decision::Decline => false,
+            Decision::Store => self.store(rule, position, found, size),
+            Decision::Skip => {
+                self.policy.note_skipped(rule);
+                false
+            }
+            Decision::Sample => {
+                self.policy.note_sampled(rule);
+                self.store(rule, position, found, size)
+            }
+        }
     }
 }

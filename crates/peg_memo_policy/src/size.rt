@@ -12,7 +12,7 @@ pub struct Size {
 }
 
 /// Returns the size of a result of a call at a position. Takes constant time.
-pub fn size_of(found: Found<'_>, place: u32) -> Size {
+pub fn size_of(found: Found<'_>, position: u32) -> Size {
     match found {
         Found::Failed => Size {
             rows: 0,
@@ -21,7 +21,7 @@ pub fn size_of(found: Found<'_>, place: u32) -> Size {
         },
         Found::Done { end, nodes } => Size {
             rows: nodes.len() as u64,
-            bytes: u64::from(end.saturating_sub(place)),
+            bytes: u64::from(end.saturating_sub(position)),
             failed: false,
         },
     }

@@ -26,21 +26,21 @@ fn node(rule: u32, start: u32, end: u32, size: u64) -> TreeNode
 }
 
 // Looks up a rule at a position, as a call does. Returns whether there is no entry.
-fn begins<K: Keep>(memo: &mut K, rule: u32, place: u32) -> bool {
-    memo.touch(rule, place);
-    memo.find(rule, place).is_none()
+fn begins<K: Keep>(memo: &mut K, rule: u32, position: u32) -> bool {
+    memo.touch(rule, position);
+    memo.find(rule, position).is_none()
 }
 
 // Calls a rule that fails at a position. Returns whether its result is stored.
-fn fails<K: Keep>(memo: &mut K, rule: u32, place: u32) -> bool {
-    begins(memo, rule, place) && memo.keep(rule, place, Found::Failed)
+fn fails<K: Keep>(memo: &mut K, rule: u32, position: u32) -> bool {
+    begins(memo, rule, position) && memo.keep(rule, position, Found::Failed)
 }
 
 // Calls a rule that fails at a number of positions. Returns how many of the results are stored.
 fn kept_failures<K: Keep>(memo: &mut K, rule: u32, places: u32) -> u32 {
     let mut kept: u32 = 0;
-    for place in 0..places {
-        if fails(memo, rule, place) {
+    for position in 0..places {
+        if fails(memo, rule, position) {
             kept = kept.saturating_add(1);
         }
     }
@@ -174,10 +174,10 @@ fn a_rule_whose_results_are_found_is_in_no_debt(rt: HostRuntime) -> Result<(), F
     let costs = costs_of(rt.alloc())?;
     let mut memo = SelectiveMemo::new(rt.alloc(), 16, &costs, b"")?;
     let mut found: u32 = 0;
-    for place in 0..1000 {
-        if fails(&mut memo, 1, place)
-            && !begins(&mut memo, 1, place)
-            && !begins(&mut memo, 1, place)
+    for position in 0..1000 {
+        if fails(&mut memo, 1, position)
+            && !begins(&mut memo, 1, position)
+            && !begins(&mut memo, 1, position)
         {
             found = found.saturating_add(1);
         }

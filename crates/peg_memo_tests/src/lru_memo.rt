@@ -22,8 +22,8 @@ fn rows() -> [TreeNode; 2] {
 }
 
 // Whether the memo has a failure of a rule at a position.
-fn fails<K: Keep>(memo: &K, rule: u32, place: u32) -> bool {
-    matches!(memo.find(rule, place), Some(Found::Failed))
+fn fails<K: Keep>(memo: &K, rule: u32, position: u32) -> bool {
+    matches!(memo.find(rule, position), Some(Found::Failed))
 }
 
 #[test]
@@ -135,20 +135,20 @@ fn the_last_result_can_be_dropped(rt: HostRuntime) -> Result<(), Fail> {
     assert!(rt; memo.keep(1, 2, found));
     assert!(rt; memo.keep(1, 3, Found::Failed));
     memo.touch(1, 2);
-    assert_eq!(rt; memo.drop_last(), Some(0));
+    assert_eq!(rt; memo.evict_lru(), Some(0));
     assert!(rt; memo.find(1, 3).is_none());
     assert!(rt; memo.find(1, 2).is_some());
-    assert_eq!(rt; memo.drop_last(), Some(2));
+    assert_eq!(rt; memo.evict_lru(), Some(2));
     assert!(rt; memo.is_empty());
-    assert_eq!(rt; memo.drop_last(), None);
+    assert_eq!(rt; memo.evict_lru(), None);
     Ok(())
 }
 
 #[test]
 fn what_is_found_is_what_was_kept(rt: HostRuntime) -> Result<(), Fail> {
     let mut memo = LruMemo::new(rt.alloc(), 4)?;
-    for place in 0..20 {
-        let (kept, found) = keep_and_find(&mut memo, 0, place);
+    for position in 0..20 {
+        let (kept, found) = keep_and_find(&mut memo, 0, position);
         assert_eq!(rt; kept, found);
     }
     Ok(())

@@ -9,10 +9,10 @@ use Rattle.peg_semantics.specs.Grammar.{CountsAreInRange, is_in_range}
 use Rattle.peg_semantics.specs.Rules.{Rule, counts}
 use Rattle.peg_metagrammar.specs.FigureRules as figure
 use Rattle.peg_metagrammar.specs.Notation.{IsReading}
-use Rattle.peg_metagrammar.specs.Spelled.{Spelling, Byte, Bytes, Numeral, Word, Sign, Expression, Definition, Bounds}
-use Rattle.peg_metagrammar.specs.Spelled.{numerals_in, expressions_in, rules_in, bounds_spelled, counted, primary_spelled, signed, sequence_spelled}
-use Rattle.peg_metagrammar.specs.Spelled.{choice_spelled, definition_spelled, text_end, node_spellings, node_spelled, spelled, rules_spelled}
-use Rattle.peg_metagrammar.specs.Spelled.{bounds_in_range, bad_count, bad_counts}
+use Rattle.peg_metagrammar.specs.Denotation.{Denotation, Byte, Bytes, Numeral, Word, Sign, Expression, Definition, Bounds}
+use Rattle.peg_metagrammar.specs.Denotation.{numerals_in, expressions_in, rules_denoted, bounds_spelled, counted_form, primary_spelled, signed, sequence_spelled}
+use Rattle.peg_metagrammar.specs.Denotation.{choice_spelled, definition_spelled, text_end, node_spellings, node_spelled, spelled, rules_spelled}
+use Rattle.peg_metagrammar.specs.Denotation.{bounds_in_range, bad_count, bad_counts}
 
 -- ---- parts whose counts are in range
 
@@ -22,7 +22,7 @@ IsGood count = is_in_range count ≡ true
 abbrev Within : Form → Type 0
 Within form = All IsGood (counts_written form)
 
-abbrev GoodPiece : Spelling → Type 0
+abbrev GoodPiece : Denotation → Type 0
 GoodPiece (Byte byte) = Unit {0}
 GoodPiece (Bytes bytes) = Unit {0}
 GoodPiece (Numeral value) = Unit {0}
@@ -31,11 +31,11 @@ GoodPiece (Sign sign) = (form : Form) (span : Extent) → Within form → Within
 GoodPiece (Expression form) = Within form
 GoodPiece (Definition rule) = Within rule.body
 
-abbrev Good : List Spelling → Type 0
+abbrev Good : List Denotation → Type 0
 Good [] = Unit {0}
 Good (piece ∷ pieces) = GoodPiece piece × Good pieces
 
-Good-append : (first more : List Spelling) → Good first → Good more → Good (first ++ more)
+Good-append : (first more : List Denotation) → Good first → Good more → Good (first ++ more)
 Good-append [] more good rest = rest
 Good-append (piece ∷ pieces) more good rest = (good.0, Good-append pieces more good.1 rest)
 
@@ -43,7 +43,7 @@ abbrev AllWithin : List Form → Type 0
 AllWithin [] = Unit {0}
 AllWithin (form ∷ more) = Within form × AllWithin more
 
-expressions-good : (pieces : List Spelling) → Good pieces → AllWithin (expressions_in pieces)
+expressions-good : (pieces : List Denotation) → Good pieces → AllWithin (expressions_in pieces)
 expressions-good [] good = tt
 expressions-good (Byte b ∷ pieces) good = expressions-good pieces good.1
 expressions-good (Bytes r ∷ pieces) good = expressions-good pieces good.1
@@ -70,7 +70,7 @@ choice-good span (first ∷ second ∷ more) good =
     All-append IsGood (counts_written first) (counts_written_by_all (forms (second ∷ more))) good.0
     (by_all (second ∷ more) good.1)
 
-signed-good : (span : Extent) (pieces : List Spelling) → Good pieces → Good (signed span pieces)
+signed-good : (span : Extent) (pieces : List Denotation) → Good pieces → Good (signed span pieces)
 signed-good span [] good = good
 signed-good span (Byte b ∷ pieces) good = good
 signed-good span (Bytes r ∷ pieces) good = good
@@ -96,7 +96,7 @@ signed-good span (Sign g ∷ Definition d ∷ pieces) good = good
 signed-good span (Sign m ∷ Expression f ∷ []) good = (good.0 f span good.1.0, tt)
 signed-good span (Sign m ∷ Expression f ∷ next ∷ pieces) good = good
 
-primary-good : (pieces : List Spelling) → Good pieces → Good (primary_spelled pieces)
+primary-good : (pieces : List Denotation) → Good pieces → Good (primary_spelled pieces)
 primary-good [] good = good
 primary-good (Byte b ∷ pieces) good = good
 primary-good (Bytes r ∷ pieces) good = good
@@ -107,7 +107,7 @@ primary-good (Definition d ∷ pieces) good = good
 primary-good (Word n s ∷ []) good = (All-nil IsGood, tt)
 primary-good (Word n s ∷ next ∷ pieces) good = good
 
-definition-good : (pieces : List Spelling) → Good pieces → Good (definition_spelled pieces)
+definition-good : (pieces : List Denotation) → Good pieces → Good (definition_spelled pieces)
 definition-good [] good = good
 definition-good (Byte b ∷ pieces) good = good
 definition-good (Bytes r ∷ pieces) good = good
@@ -128,19 +128,19 @@ definition-good (Word n s ∷ Expression f ∷ next ∷ pieces) good = good
 -- ---- what a node denotes, by the number of its rule
 
 -- lists numbered from `number` on, of which the one with number `rule` is good
-abbrev GoodFrom : (rule number : ℕ) → List (List Spelling) → Type 0
+abbrev GoodFrom : (rule number : ℕ) → List (List Denotation) → Type 0
 GoodFrom rule number [] = Unit {0}
 GoodFrom rule number (list ∷ lists) = (rule ≡ number → Good list) × GoodFrom rule (number + 1) lists
 
-chosen-good : (rule number place : ℕ) (lists : List (List Spelling)) (inner : List Spelling) → rule ≡ number + place
-    → GoodFrom rule number lists → Good inner → Good (unwrap_or (slice_get lists place) inner)
-chosen-good rule number place [] inner is good rest = rest
+chosen-good : (rule number position : ℕ) (lists : List (List Denotation)) (inner : List Denotation) → rule ≡ number + position
+    → GoodFrom rule number lists → Good inner → Good (unwrap_or (slice_get lists position) inner)
+chosen-good rule number position [] inner is good rest = rest
 chosen-good rule number zero (list ∷ lists) inner is good rest = good.0 (omega (arith, is))
-chosen-good rule number (suc place) (list ∷ lists) inner is good rest =
-    chosen-good rule (number + 1) place lists inner (omega (arith, is)) good.1 rest
+chosen-good rule number (suc position) (list ∷ lists) inner is good rest =
+    chosen-good rule (number + 1) position lists inner (omega (arith, is)) good.1 rest
 
 -- a count with bounds in range leaves the counts of its expression in range
-count-good : (b : Bounds) → bounds_in_range b ≡ true → Good (Sign (counted b) ∷ [])
+count-good : (b : Bounds) → bounds_in_range b ≡ true → Good (Sign (counted_form b) ∷ [])
 count-good b is = (
   λ form span good. All-cons IsGood (record { min = b.min; max = b.max; span = span }) (counts_written form) is good,
   tt,
@@ -150,7 +150,7 @@ sign-good : (sign : Form → Extent → Form) → ((form : Form) (span : Extent)
     → Good (Sign sign ∷ [])
 sign-good sign same = ((λ form span good. subst (All IsGood) (sym (same form span)) good), tt)
 
-node-good : (file : List ℕ) (rule before start end last : ℕ) (inner : List Spelling) → Good inner
+node-good : (file : List ℕ) (rule before start end last : ℕ) (inner : List Denotation) → Good inner
     → (rule ≡ figure.count → bounds_in_range (bounds_spelled (numerals_in inner)) ≡ true)
     → Good (node_spelled file rule before start end last inner)
 node-good file rule before start end last inner good in_range =
@@ -251,7 +251,7 @@ node-good file rule before start end last inner good in_range =
 
 -- ---- the numbers that trees denote do not depend on the token before them
 
-definition-numerals : (pieces : List Spelling) → numerals_in (definition_spelled pieces) ≡ numerals_in pieces
+definition-numerals : (pieces : List Denotation) → numerals_in (definition_spelled pieces) ≡ numerals_in pieces
 definition-numerals [] = refl
 definition-numerals (Byte b ∷ pieces) = refl
 definition-numerals (Bytes r ∷ pieces) = refl
@@ -269,7 +269,7 @@ definition-numerals (Word n s ∷ Definition d ∷ pieces) = refl
 definition-numerals (Word n s ∷ Expression f ∷ []) = refl
 definition-numerals (Word n s ∷ Expression f ∷ next ∷ pieces) = refl
 
-primary-numerals : (pieces : List Spelling) → numerals_in (primary_spelled pieces) ≡ numerals_in pieces
+primary-numerals : (pieces : List Denotation) → numerals_in (primary_spelled pieces) ≡ numerals_in pieces
 primary-numerals [] = refl
 primary-numerals (Byte b ∷ pieces) = refl
 primary-numerals (Bytes r ∷ pieces) = refl
@@ -280,7 +280,7 @@ primary-numerals (Definition d ∷ pieces) = refl
 primary-numerals (Word n s ∷ []) = refl
 primary-numerals (Word n s ∷ next ∷ pieces) = refl
 
-signed-numerals : (span : Extent) (pieces : List Spelling) → numerals_in (signed span pieces) ≡ numerals_in pieces
+signed-numerals : (span : Extent) (pieces : List Denotation) → numerals_in (signed span pieces) ≡ numerals_in pieces
 signed-numerals span [] = refl
 signed-numerals span (Byte b ∷ pieces) = refl
 signed-numerals span (Bytes r ∷ pieces) = refl
@@ -306,7 +306,7 @@ signed-numerals span (Sign g ∷ Definition d ∷ pieces) = refl
 signed-numerals span (Sign m ∷ Expression f ∷ []) = refl
 signed-numerals span (Sign m ∷ Expression f ∷ next ∷ pieces) = refl
 
-numerals-append : (first more : List Spelling) → numerals_in (first ++ more) ≡ numerals_in first ++ numerals_in more
+numerals-append : (first more : List Denotation) → numerals_in (first ++ more) ≡ numerals_in first ++ numerals_in more
 numerals-append [] more = refl
 numerals-append (Byte b ∷ pieces) more = numerals-append pieces more
 numerals-append (Bytes r ∷ pieces) more = numerals-append pieces more
@@ -317,22 +317,22 @@ numerals-append (Expression f ∷ pieces) more = numerals-append pieces more
 numerals-append (Definition d ∷ pieces) more = numerals-append pieces more
 
 -- lists with the same numerals, one by one
-abbrev SameNumerals : (first other : List (List Spelling)) → Type 0
+abbrev SameNumerals : (first other : List (List Denotation)) → Type 0
 SameNumerals [] [] = Unit {0}
 SameNumerals [] (b ∷ bs) = ⊥
 SameNumerals (a ∷ more) [] = ⊥
 SameNumerals (a ∷ more) (b ∷ bs) = (numerals_in a ≡ numerals_in b) × SameNumerals more bs
 
-chosen-numerals : (place : ℕ) (first other : List (List Spelling)) (a b : List Spelling) → SameNumerals first other
+chosen-numerals : (position : ℕ) (first other : List (List Denotation)) (a b : List Denotation) → SameNumerals first other
     → numerals_in a ≡ numerals_in b
-    → numerals_in (unwrap_or (slice_get first place) a) ≡ numerals_in (unwrap_or (slice_get other place) b)
-chosen-numerals place [] [] a b same rest = rest
-chosen-numerals place [] (d ∷ ds) a b same rest = absurd same
-chosen-numerals place (c ∷ cs) [] a b same rest = absurd same
+    → numerals_in (unwrap_or (slice_get first position) a) ≡ numerals_in (unwrap_or (slice_get other position) b)
+chosen-numerals position [] [] a b same rest = rest
+chosen-numerals position [] (d ∷ ds) a b same rest = absurd same
+chosen-numerals position (c ∷ cs) [] a b same rest = absurd same
 chosen-numerals zero (c ∷ cs) (d ∷ ds) a b same rest = same.0
-chosen-numerals (suc place) (c ∷ cs) (d ∷ ds) a b same rest = chosen-numerals place cs ds a b same.1 rest
+chosen-numerals (suc position) (c ∷ cs) (d ∷ ds) a b same rest = chosen-numerals position cs ds a b same.1 rest
 
-node-numerals : (file : List ℕ) (rule start end before other last last_other : ℕ) (a b : List Spelling)
+node-numerals : (file : List ℕ) (rule start end before other last last_other : ℕ) (a b : List Denotation)
     → numerals_in a ≡ numerals_in b
     → numerals_in (node_spelled file rule before start end last a)
     ≡ numerals_in (node_spelled file rule other start end last_other b)
@@ -459,7 +459,7 @@ not_bad : (start : ℕ) (in_range : Bool) → (if not in_range then start ∷ []
 not_bad start true is = refl
 not_bad start false is = cc
 
-count-in_range : (start : ℕ) (inner : List Spelling) → bad_count figure.count start inner ≡ []
+count-in_range : (start : ℕ) (inner : List Denotation) → bad_count figure.count start inner ≡ []
     → bounds_in_range (bounds_spelled (numerals_in inner)) ≡ true
 count-in_range start inner is = not_bad start (bounds_in_range (bounds_spelled (numerals_in inner))) is
 
@@ -481,7 +481,7 @@ spelled-good file before (Tree rule start end children rest) none =
     ∙ count-in_range start (spelled file start children) bad))
     (spelled-good file (text_end before (Tree rule start end children NoTrees)) rest (none-more inside behind more))
 
-rules-good : (pieces : List Spelling) → Good pieces → CountsAreInRange (rules_in pieces)
+rules-good : (pieces : List Denotation) → Good pieces → CountsAreInRange (rules_denoted pieces)
 rules-good [] good = All-nil IsGood
 rules-good (Byte b ∷ pieces) good = rules-good pieces good.1
 rules-good (Bytes r ∷ pieces) good = rules-good pieces good.1
@@ -490,7 +490,7 @@ rules-good (Word n s ∷ pieces) good = rules-good pieces good.1
 rules-good (Sign m ∷ pieces) good = rules-good pieces good.1
 rules-good (Expression f ∷ pieces) good = rules-good pieces good.1
 rules-good (Definition d ∷ pieces) good =
-    All-append IsGood (counts_written d.body) (counts (rules_in pieces)) good.0 (rules-good pieces good.1)
+    All-append IsGood (counts_written d.body) (counts (rules_denoted pieces)) good.0 (rules-good pieces good.1)
 
 pub IsReading-in_range : (file : List ℕ) (rules : List Rule) → IsReading file rules → CountsAreInRange rules
 IsReading-in_range file rules reads =

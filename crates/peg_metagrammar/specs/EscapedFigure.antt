@@ -8,7 +8,7 @@ use Rattle.peg_semantics.specs.Record.{Record, Matched, IsRecord}
 use Rattle.peg_semantics.specs.Rules.{Rule}
 use Rattle.peg_metagrammar.specs.Figure.{figure}
 use Rattle.peg_metagrammar.specs.FigureRules as figure
-use Rattle.peg_metagrammar.specs.Spelled.{rules_spelled}
+use Rattle.peg_metagrammar.specs.Denotation.{rules_spelled}
 
 -- Suffix <- Primary (QUESTION / STAR / PLUS)?
 unfoldable pub escaped_suffix : Form

@@ -16,4 +16,4 @@ pub mod Nesting
 pub mod Notation
 pub mod Ranges
 pub mod RangesCode
-pub mod Spelled
+pub mod Denotation

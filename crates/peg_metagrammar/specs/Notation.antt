@@ -7,20 +7,21 @@ use Rattle.peg_semantics.specs.Form.{Name}
 use Rattle.peg_semantics.specs.Record.{Record, Failed, Matched, IsRecord}
 use Rattle.peg_semantics.specs.Rules.{Rule}
 use Rattle.peg_metagrammar.specs.Figure.{figure}
-use Rattle.peg_metagrammar.specs.Spelled.{bad_counts, rules_spelled}
+use Rattle.peg_metagrammar.specs.Denotation.{bad_counts, rules_spelled}
 
 -- the maximum length of a grammar file, in bytes
 abbrev pub max_file_bytes : ℕ
 max_file_bytes = 1048576
 
--- the metagrammar's rule of this name matches the file from `place` to `end` and leaves these trees
-abbrev pub Matches : List ℕ → (name : List ℕ) → (place end : ℕ) → Trees → Type 0
-Matches file name place end trees =
-    (r : Record) × (IsRecord figure file (Name name (between 0 0)) 0 place r) × (r.result ≡ Matched end trees)
+-- the metagrammar's rule of this name matches the file from `position` to `end` and leaves these trees
+abbrev pub Matches : List ℕ → (name : List ℕ) → (position end : ℕ) → Trees → Type 0
+Matches file name position end trees =
+    (r : Record) × (IsRecord figure file (Name name (between 0 0)) 0 position r) × (r.result ≡ Matched end trees)
 
--- the metagrammar's rule of this name fails at offset `place` of the file
-abbrev pub Fails : List ℕ → (name : List ℕ) → (place : ℕ) → Type 0
-Fails file name place = (r : Record) × (IsRecord figure file (Name name (between 0 0)) 0 place r) × (r.result ≡ Failed)
+-- the metagrammar's rule of this name fails at offset `position` of the file
+abbrev pub FailsAt : List ℕ → (name : List ℕ) → (position : ℕ) → Type 0
+FailsAt file name position = (r : Record) × (IsRecord figure file (Name name (between 0 0)) 0 position r)
+    × (r.result ≡ Failed)
 
 -- the metagrammar matches the file
 abbrev pub FigureMatches : List ℕ → Type 0

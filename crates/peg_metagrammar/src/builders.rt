@@ -8,7 +8,7 @@ ghost use Rattle.peg_metagrammar.specs.Figure.{sign_body};
 ghost use Rattle.peg_metagrammar.specs.Ranges.{class_of};
 ghost use Rattle.peg_metagrammar.specs.RangesCode.{range_of};
 
-use crate::ranges::{ByteRange, class_set};
+use crate::ranges::{ByteRange, set_of_ranges};
 use peg_bytes::Span;
 use peg_grammar::{Definition, Expr};
 use std::alloc::{AllocError, Global};
@@ -60,7 +60,7 @@ pub(crate) fn class(ranges: &[ByteRange], start: u32, end: u32) -> Expr
     ensures { form_of result ≡ Class (class_of (map range_of ranges.now)) (between start end) }
 {
     Expr::Class {
-        set: class_set(ranges),
+        set: set_of_ranges(ranges),
         span: Span::new(start, end),
     }
 }

@@ -5,7 +5,10 @@ ghost use Rattle.peg_semantics.specs.Rules.{Rule};
 ghost use Rattle.peg_semantics.specs.WellFormed.{IsWellFormedGrammar};
 ghost use Rattle.peg_metagrammar.specs.EscapedFigure.{escaped_figure};
 ghost use Rattle.peg_metagrammar.specs.Figure.{figure};
+ghost use Rattle.peg_metagrammar.specs.Nesting.{max_open};
 ghost use Rattle.peg_metagrammar.specs.Notation.{IsReading};
+
+use crate::nesting::MAX_OPEN;
 
 /// The metagrammar has 31 rules.
 pub fn the_figure_has_31_rules()
@@ -26,4 +29,9 @@ pub fn the_figure_is_well_formed()
 /// The counts in the reading of any file are in range.
 pub fn the_counts_of_a_reading_are_in_range()
     ensures { (file : List ℕ) (rules : List Rule) → IsReading file rules → CountsAreInRange rules }
+{}
+
+/// The limit of open parentheses in code is the limit in the definitions.
+pub fn max_nesting_matches_spec()
+    ensures { MAX_OPEN ≡ max_open }
 {}

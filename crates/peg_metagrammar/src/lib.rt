@@ -3,11 +3,13 @@
 #![tactic(auto)]
 
 mod builders;
-mod figure_rules;
+mod figure_file;
 pub mod laws;
+mod nesting;
 mod ranges;
-mod text_of_figure;
+mod rules;
 
-pub use figure_rules::figure;
-pub use ranges::{ByteRange, class_set};
-pub use text_of_figure::figure_text;
+pub use figure_file::figure_text;
+pub use nesting::MAX_OPEN;
+pub use ranges::{ByteRange, set_of_ranges};
+pub use rules::figure;

@@ -14,7 +14,7 @@ pub struct ByteRange {
 }
 
 /// Returns the union of the ranges as a set. Linear in the number of ranges.
-pub fn class_set(ranges: &[ByteRange]) -> ByteSet
+pub fn set_of_ranges(ranges: &[ByteRange]) -> ByteSet
     ensures { bytes_of result ≡ class_of (map range_of ranges.now) }
 {
     let mut set = ByteSet::empty();

@@ -6,12 +6,12 @@ use Rattle.std.proofs.Common.{Option, Some, sym, ap, ◌∙◌, subst}
 use Rattle.peg_bytes.specs.Extent.{Extent}
 use Rattle.peg_tree.specs.Trees.{Trees, NoTrees, Tree}
 use Rattle.peg_semantics.specs.Form.{Form, Forms, Name, Seq, Choice, Star, Plus, End, Then}
-use Rattle.peg_semantics.specs.Record.{Recognition, Failed, Matched, behind}
-use Rattle.peg_semantics.specs.Rules.{Meaning, meant}
+use Rattle.peg_semantics.specs.Record.{Recognition, Failed, Matched, prepend_trees}
+use Rattle.peg_semantics.specs.Rules.{Meaning, meaning_of}
 use Rattle.peg_semantics.proofs.Derivations.{Derives, DerivesItems, DerivesFirst}
 use Rattle.peg_metagrammar.specs.EscapedFigure.{escaped_figure, number_now, numbered_now}
 use Rattle.peg_metagrammar.specs.Figure.{figure}
-use Rattle.peg_notation.proofs.EscapedMeanings.{now, behind-now, trees-now}
+use Rattle.peg_notation.proofs.EscapedMeanings.{now, prepend_trees-now, trees-now}
 use Rattle.peg_notation.proofs.Fronts.{front}
 
 -- how the escaped metagrammar may stop before a brace
@@ -106,10 +106,10 @@ module _ (file : List ℕ) where
       item : {first other : Form} {rest others : Forms} {k l m : Halt} → Carries first other k → CarriesItems rest others l
           → ((p : ℕ) → FailsAt k p → FailsAt m p)
           → ((p middle : ℕ) (trees : Trees) (x : Recognition) → EndsAt k middle
-          → DerivesItems escaped_figure file rest middle x → Halts m p (behind trees x))
+          → DerivesItems escaped_figure file rest middle x → Halts m p (prepend_trees trees x))
           → ((p middle : ℕ) (trees : Trees) (x : Recognition)
           → Derives escaped_figure file first p (Matched middle trees) → Halts l middle x
-          → Halts m p (behind trees x))
+          → Halts m p (prepend_trees trees x))
           → CarriesItems (Then first rest) (Then other others) m
 
     pub data CarriesFirst : Form → Forms → Halt → Type 0 where
@@ -123,18 +123,18 @@ module _ (file : List ℕ) where
   -- the meaning of a rule in the metagrammar, if its body in the escaped metagrammar stops in this way
   pub record Carried (used : List ℕ) (m : Meaning) (k : Halt) : Type 0 where
     pub meaning : Meaning
-    pub known : meant figure used ≡ Some meaning
+    pub known : meaning_of figure used ≡ Some meaning
     pub rule_is : meaning.rule ≡ number_now m.rule
     pub carries : Carries m.body meaning.body k
 
   -- the result of a form under the escaped metagrammar is also its result under the metagrammar, or the first stops
   module _ (body-carries : (used : List ℕ) (k : Halt) (m : Meaning) → IsHalting used k
-      → meant escaped_figure used ≡ Some m → Carried used m k) where
+      → meaning_of escaped_figure used ≡ Some m → Carried used m k) where
     mutual
       pub carried : {e f : Form} {p : ℕ} {x : Recognition} {k : Halt} → Derives escaped_figure file e p x → Carries e f k
           → Derives figure file f p (now x) ⊎ Halts k p x
       carried {p = p} {x} d (Carries.shown f) = f p x d
-      carried (Derives.name_matched {used = used} {meaning = m} {place = p} {end = end} {trees = trees} found d t)
+      carried (Derives.name_matched {used = used} {meaning = m} {position = p} {end = end} {trees = trees} found d t)
           (Carries.name is) =
           let same = body-carries used _ m is found in
           elim (carried d same.carries) [
@@ -142,7 +142,7 @@ module _ (file : List ℕ) where
                 (ap numbered_now t ∙ ap (λ rule. Tree rule p end (numbered_now trees) NoTrees) (sym same.rule_is)))
             | inr s ↦ inr s
           ]
-      carried (Derives.name_failed {used = used} {meaning = m} {place = p} found d) (Carries.name is) =
+      carried (Derives.name_failed {used = used} {meaning = m} {position = p} found d) (Carries.name is) =
           let same = body-carries used _ m is found in
           elim (carried d same.carries) [
             | inl d ↦ inl (Derives.name_failed same.known d)
@@ -158,7 +158,7 @@ module _ (file : List ℕ) where
             | inl d ↦ inl (Derives.choice d)
             | inr s ↦ inr s
           ]
-      carried (Derives.star_none {place = p} d) (Carries.star c fails ends) =
+      carried (Derives.star_none {position = p} d) (Carries.star c fails ends) =
           elim (carried d c) [
             | inl d ↦ inl (Derives.star_none d)
             | inr s ↦ inr (fails p s)
@@ -172,7 +172,7 @@ module _ (file : List ℕ) where
             ]
             | inr s ↦ inr (ends middle end more s ds)
           ]
-      carried (Derives.plus_failed {place = p} d) (Carries.plus c fails ends) =
+      carried (Derives.plus_failed {position = p} d) (Carries.plus c fails ends) =
           elim (carried d c) [
             | inl d ↦ inl (Derives.plus_failed d)
             | inr s ↦ absurd (fails p s)
@@ -191,16 +191,16 @@ module _ (file : List ℕ) where
           → DerivesItems escaped_figure file items p x → CarriesItems items others k
           → DerivesItems figure file others p (now x) ⊎ Halts k p x
       items_carried {p = p} {x} ds (CarriesItems.items_shown f) = f p x ds
-      items_carried (DerivesItems.items_failed {place = p} d) (CarriesItems.item c cs fail stop go) =
+      items_carried (DerivesItems.items_failed {position = p} d) (CarriesItems.item c cs fail stop go) =
           elim (carried d c) [
             | inl d ↦ inl (DerivesItems.items_failed d)
             | inr s ↦ inr (fail p s)
           ]
-      items_carried {k = k} (DerivesItems.items_then {place = p} {middle = middle} {trees = trees} {more = more} old ds is)
+      items_carried {k = k} (DerivesItems.items_then {position = p} {middle = middle} {trees = trees} {more = more} old ds is)
           (CarriesItems.item c cs fail stop go) =
           elim (carried old c) [
             | inl d ↦ elim (items_carried ds cs) [
-              | inl rest ↦ inl (DerivesItems.items_then d rest (ap now is ∙ behind-now trees more))
+              | inl rest ↦ inl (DerivesItems.items_then d rest (ap now is ∙ prepend_trees-now trees more))
               | inr s ↦ inr (subst (Halts k p) (sym is) (go p middle trees more old s))
             ]
             | inr s ↦ inr (subst (Halts k p) (sym is) (stop p middle trees more s ds))
@@ -219,7 +219,7 @@ module _ (file : List ℕ) where
             | inl d ↦ inl (DerivesFirst.alternative_matched d)
             | inr s ↦ inr (ends end s)
           ]
-      first_carried (DerivesFirst.alternative_failed {place = p} {result = x} d ds) (CarriesFirst.other c cs ends failed later) =
+      first_carried (DerivesFirst.alternative_failed {position = p} {result = x} d ds) (CarriesFirst.other c cs ends failed later) =
           elim (carried d c) [
             | inl d ↦ elim (first_carried ds cs) [
               | inl rest ↦ inl (DerivesFirst.alternative_failed d rest)

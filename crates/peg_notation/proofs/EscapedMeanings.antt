@@ -7,13 +7,13 @@ use Rattle.std.proofs.lemmas.Bool.Decides.{nat_tests}
 use Rattle.std.proofs.lemmas.Slice.Eq.{bytes_eq-Decides}
 use Rattle.peg_tree.specs.Trees.{Trees, NoTrees, Tree, followed_by}
 use Rattle.peg_semantics.specs.Form.{Form, Forms, terminals}
-use Rattle.peg_semantics.specs.Record.{Recognition, Failed, Matched, behind}
-use Rattle.peg_semantics.specs.Rules.{Rule, Meaning, meant_from, meant}
+use Rattle.peg_semantics.specs.Record.{Recognition, Failed, Matched, prepend_trees}
+use Rattle.peg_semantics.specs.Rules.{Rule, Meaning, meaning_from, meaning_of}
 use Rattle.peg_semantics.proofs.Derivations.{Derives, DerivesItems, DerivesFirst}
 use Rattle.peg_metagrammar.specs.EscapedFigure.{escaped_figure, escaped_suffix, number_now, numbered_now}
 use Rattle.peg_metagrammar.specs.Figure.{figure}
 use Rattle.peg_metagrammar.specs.FigureRules as rule
-use Rattle.peg_notation.proofs.Meanings.{Meant, meant-changed, without, all_without, not_false, turned, meant_without, leads_elsewhere}
+use Rattle.peg_notation.proofs.Meanings.{Meant, meaning_of-changed, without, all_without, not_false, turned, meant_without, leads_elsewhere}
 
 -- ---- trees
 
@@ -27,9 +27,9 @@ followed-now NoTrees b = refl
 followed-now (Tree r start end children rest) b =
     ap (Tree (number_now r) start end (numbered_now children)) (followed-now rest b)
 
-pub behind-now : (one : Trees) (x : Recognition) → now (behind one x) ≡ behind (numbered_now one) (now x)
-behind-now one Failed = refl
-behind-now one (Matched end more) = ap (Matched end) (followed-now one more)
+pub prepend_trees-now : (one : Trees) (x : Recognition) → now (prepend_trees one x) ≡ prepend_trees (numbered_now one) (now x)
+prepend_trees-now one Failed = refl
+prepend_trees-now one (Matched end more) = ap (Matched end) (followed-now one more)
 
 pub trees-now : (one more trees : Trees) → trees ≡ followed_by one more
     → numbered_now trees ≡ followed_by (numbered_now one) (numbered_now more)
@@ -40,47 +40,47 @@ trees-now one more trees is = ap numbered_now is ∙ followed-now one more
 -- the meaning of a name whose rule comes this many places later
 pub record Later (n t : ℕ) (rules : List Rule) (used : List ℕ) (rule : ℕ) (m : Meaning) : Type 0 where
   pub meaning : Meaning
-  pub known : meant_from n t rules used ≡ Some meaning
+  pub known : meaning_from n t rules used ≡ Some meaning
   pub rule_is : meaning.rule ≡ rule
   pub body_is : meaning.body ≡ m.body
 
 -- a rule's number is at least the number of the first one
-no_earlier : (n t : ℕ) (rules : List Rule) (used : List ℕ) (m : Meaning) → meant_from n t rules used ≡ Some m → n ≤ m.rule
+no_earlier : (n t : ℕ) (rules : List Rule) (used : List ℕ) (m : Meaning) → meaning_from n t rules used ≡ Some m → n ≤ m.rule
 no_earlier n t [] used m is = cc
 no_earlier n t (r ∷ rs) used m is =
     by (λ found. no_earlier (n + 1) (t + terminals r.body) rs used m found) (bytes_eq used r.name) is
   where
-    by : (meant_from (n + 1) (t + terminals r.body) rs used ≡ Some m → n + 1 ≤ m.rule) → (b : Bool) → (if b then Some (record { rule = n; terminal = t; body = r.body })
-        else meant_from (n + 1) (t + terminals r.body) rs used) ≡ Some m → n ≤ m.rule
-    by behind true is =
+    by : (meaning_from (n + 1) (t + terminals r.body) rs used ≡ Some m → n + 1 ≤ m.rule) → (b : Bool) → (if b then Some (record { rule = n; terminal = t; body = r.body })
+        else meaning_from (n + 1) (t + terminals r.body) rs used) ≡ Some m → n ≤ m.rule
+    by prepend_trees true is =
         let one : Meaning = record { rule = n; terminal = t; body = r.body } in
         let same : one ≡ m = cc in
         let number : n ≡ m.rule = ap (λ (m : Meaning). m.rule) same in
         omega (arith, number)
-    by behind false is = let more = behind is in omega (arith, more)
+    by prepend_trees false is = let more = prepend_trees is in omega (arith, more)
 
 -- the first of some rules, if it has the name, and if it hasn't
 at_first : (n t : ℕ) (r : Rule) (rs : List Rule) (used : List ℕ) → bytes_eq used r.name ≡ true
-    → meant_from n t (r ∷ rs) used ≡ Some (record { rule = n; terminal = t; body = r.body })
+    → meaning_from n t (r ∷ rs) used ≡ Some (record { rule = n; terminal = t; body = r.body })
 at_first n t r rs used is = ap (λ (b : Bool). if b then Some (record { rule = n; terminal = t; body = r.body })
-    else meant_from (n + 1) (t + terminals r.body) rs used) is
+    else meaning_from (n + 1) (t + terminals r.body) rs used) is
 
 behind_first : (n t : ℕ) (r : Rule) (rs : List Rule) (used : List ℕ) → bytes_eq used r.name ≡ false
-    → meant_from n t (r ∷ rs) used ≡ meant_from (n + 1) (t + terminals r.body) rs used
+    → meaning_from n t (r ∷ rs) used ≡ meaning_from (n + 1) (t + terminals r.body) rs used
 behind_first n t r rs used is = ap (λ (b : Bool). if b then Some (record { rule = n; terminal = t; body = r.body })
-    else meant_from (n + 1) (t + terminals r.body) rs used) is
+    else meaning_from (n + 1) (t + terminals r.body) rs used) is
 
 -- the same rules two places later
-moved : (n t u : ℕ) (rules : List Rule) (used : List ℕ) (m : Meaning) → meant_from n t rules used ≡ Some m
+moved : (n t u : ℕ) (rules : List Rule) (used : List ℕ) (m : Meaning) → meaning_from n t rules used ≡ Some m
     → Later (n + 2) u rules used (m.rule + 2) m
 moved n t u [] used m is = cc
 moved n t u (r ∷ rs) used m is =
     by (λ found. moved (n + 1) (t + terminals r.body) (u + terminals r.body) rs used m found) (bytes_eq used r.name) refl
   where
-    by : (meant_from (n + 1) (t + terminals r.body) rs used ≡ Some m
+    by : (meaning_from (n + 1) (t + terminals r.body) rs used ≡ Some m
         → Later (n + 1 + 2) (u + terminals r.body) rs used (m.rule + 2) m) → (b : Bool) → bytes_eq used r.name ≡ b
         → Later (n + 2) u (r ∷ rs) used (m.rule + 2) m
-    by behind true here =
+    by prepend_trees true here =
         let one : Meaning = record { rule = n; terminal = t; body = r.body } in
         let both : Some one ≡ Some m = sym (at_first n t r rs used here) ∙ is in
         let same : one ≡ m = cc in
@@ -90,14 +90,14 @@ moved n t u (r ∷ rs) used m is =
           rule_is = ap (λ (m : Meaning). m.rule + 2) same;
           body_is = ap (λ (m : Meaning). m.body) same;
         }
-    by behind false other =
-        let it = behind (sym (behind_first n t r rs used other) ∙ is) in
-        let place : n + 1 + 2 ≡ n + 2 + 1 = omega arith in
+    by prepend_trees false other =
+        let it = prepend_trees (sym (behind_first n t r rs used other) ∙ is) in
+        let position : n + 1 + 2 ≡ n + 2 + 1 = omega arith in
         record {
           meaning = it.meaning;
           known =
               behind_first (n + 2) u r rs used other
-              ∙ (ap (λ k. meant_from k (u + terminals r.body) rs used) (sym place) ∙ it.known);
+              ∙ (ap (λ k. meaning_from k (u + terminals r.body) rs used) (sym position) ∙ it.known);
           rule_is = it.rule_is;
           body_is = it.body_is;
         }
@@ -108,8 +108,8 @@ moved_from first rule = if nat_lt rule first then rule else rule + 2
 
 -- two rules with other names are inserted between rules
 inserted : (xs two ys : List Rule) (n t u : ℕ) (used : List ℕ) (m : Meaning)
-    → ((k v w : ℕ) → meant_from k v ys used ≡ Some m → Later k w (two ++ ys) used (m.rule + 2) m)
-    → meant_from n t (xs ++ ys) used ≡ Some m
+    → ((k v w : ℕ) → meaning_from k v ys used ≡ Some m → Later k w (two ++ ys) used (m.rule + 2) m)
+    → meaning_from n t (xs ++ ys) used ≡ Some m
     → Later n u (xs ++ (two ++ ys)) used (moved_from (n + length xs) m.rule) m
 inserted [] two ys n t u used m over is =
     let it = over n t u is in
@@ -125,11 +125,11 @@ inserted (r ∷ xs) two ys n t u used m over is =
     by (λ found. inserted xs two ys (n + 1) (t + terminals r.body) (u + terminals r.body) used m over found)
     (bytes_eq used r.name) refl
   where
-    by : (meant_from (n + 1) (t + terminals r.body) (xs ++ ys) used ≡ Some m
+    by : (meaning_from (n + 1) (t + terminals r.body) (xs ++ ys) used ≡ Some m
         → Later (n + 1) (u + terminals r.body) (xs ++ (two ++ ys)) used (moved_from (n + 1 + length xs) m.rule) m)
         → (b : Bool) → bytes_eq used r.name ≡ b
         → Later n u (r ∷ (xs ++ (two ++ ys))) used (moved_from (n + length (r ∷ xs)) m.rule) m
-    by behind true here =
+    by prepend_trees true here =
         let one : Meaning = record { rule = n; terminal = t; body = r.body } in
         let both : Some one ≡ Some m = sym (at_first n t r (xs ++ ys) used here) ∙ is in
         let same : one ≡ m = cc in
@@ -142,8 +142,8 @@ inserted (r ∷ xs) two ys n t u used m over is =
           rule_is = number ∙ sym (ap (λ (b : Bool). if b then m.rule else m.rule + 2) test);
           body_is = ap (λ (m : Meaning). m.body) same;
         }
-    by behind false other =
-        let it = behind (sym (behind_first n t r (xs ++ ys) used other) ∙ is) in
+    by prepend_trees false other =
+        let it = prepend_trees (sym (behind_first n t r (xs ++ ys) used other) ∙ is) in
         let size : n + 1 + length xs ≡ n + length (r ∷ xs) = omega arith in
         record {
           meaning = it.meaning;
@@ -154,18 +154,18 @@ inserted (r ∷ xs) two ys n t u used m over is =
 
 -- rules after two others that don't have the name
 over_two : (k v w : ℕ) (one two : Rule) (ys : List Rule) (used : List ℕ) (m : Meaning) → bytes_eq used one.name ≡ false
-    → bytes_eq used two.name ≡ false → meant_from k v ys used ≡ Some m → Later k w (one ∷ two ∷ ys) used (m.rule + 2) m
+    → bytes_eq used two.name ≡ false → meaning_from k v ys used ≡ Some m → Later k w (one ∷ two ∷ ys) used (m.rule + 2) m
 over_two k v w one two ys used m first second is =
     let behind_one : ℕ = w + terminals one.body in
     let behind_two : ℕ = behind_one + terminals two.body in
     let it = moved k v behind_two ys used m is in
-    let place : k + 1 + 1 ≡ k + 2 = omega arith in
+    let position : k + 1 + 1 ≡ k + 2 = omega arith in
     record {
       meaning = it.meaning;
       known =
           behind_first k w one (two ∷ ys) used first
           ∙ (behind_first (k + 1) behind_one two ys used second
-          ∙ (ap (λ n. meant_from n behind_two ys used) place ∙ it.known));
+          ∙ (ap (λ n. meaning_from n behind_two ys used) position ∙ it.known));
       rule_is = it.rule_is;
       body_is = it.body_is;
     }
@@ -182,18 +182,18 @@ abbrev behind_counts : List Rule
 behind_counts = drop rule.open_sign figure
 
 -- no rule after those of counts has their names
-no_count : (k v : ℕ) (used : List ℕ) (m : Meaning) → meant_from k v behind_counts used ≡ Some m
+no_count : (k v : ℕ) (used : List ℕ) (m : Meaning) → meaning_from k v behind_counts used ≡ Some m
     → (bytes_eq used (codes "COUNT") ≡ false) × (bytes_eq used (codes "Number") ≡ false)
 unfolding figure
 no_count k v used m is = (
-  by (codes "COUNT") (λ same. nowhere (sym is ∙ ap (meant_from k v behind_counts) same)),
-  by (codes "Number") (λ same. nothing (sym is ∙ ap (meant_from k v behind_counts) same)),
+  by (codes "COUNT") (λ same. nowhere (sym is ∙ ap (meaning_from k v behind_counts) same)),
+  by (codes "Number") (λ same. nothing (sym is ∙ ap (meaning_from k v behind_counts) same)),
 )
   where
-    nowhere : Some m ≡ meant_from k v behind_counts (codes "COUNT") → ⊥
+    nowhere : Some m ≡ meaning_from k v behind_counts (codes "COUNT") → ⊥
     nowhere e = cc
 
-    nothing : Some m ≡ meant_from k v behind_counts (codes "Number") → ⊥
+    nothing : Some m ≡ meaning_from k v behind_counts (codes "Number") → ⊥
     nothing e = cc
 
     by : (name : List ℕ) → (used ≡ name → ⊥) → bytes_eq used name ≡ false
@@ -204,18 +204,18 @@ no_count k v used m is = (
         test false is = is
 
 -- a name after the rules of counts, with these before it
-over_counts : (k v w : ℕ) (used : List ℕ) (m : Meaning) → meant_from k v behind_counts used ≡ Some m
+over_counts : (k v w : ℕ) (used : List ℕ) (m : Meaning) → meaning_from k v behind_counts used ≡ Some m
     → Later k w (of_counts ++ behind_counts) used (m.rule + 2) m
 unfolding figure
 over_counts k v w used m is =
     let apart = no_count k v used m is in over_two k v w _ _ behind_counts used m apart.0 apart.1 is
 
-pub meant-escaped : (used : List ℕ) (m : Meaning) → bytes_eq used (codes "Suffix") ≡ false
-    → meant escaped_figure used ≡ Some m → Later 0 0 figure used (number_now m.rule) m
+pub meaning_of-escaped : (used : List ℕ) (m : Meaning) → bytes_eq used (codes "Suffix") ≡ false
+    → meaning_of escaped_figure used ≡ Some m → Later 0 0 figure used (number_now m.rule) m
 unfolding figure escaped_figure
-meant-escaped used m other is =
+meaning_of-escaped used m other is =
     let here : Meant 0 0 (before_counts ++ behind_counts) used m =
-    meant-changed (codes "Suffix") escaped_suffix (before_counts ++ behind_counts) 0 0 0 used m other is in
+    meaning_of-changed (codes "Suffix") escaped_suffix (before_counts ++ behind_counts) 0 0 0 used m other is in
     let it = inserted before_counts of_counts behind_counts 0 0 0 used here.meaning
     (λ k v w found. over_counts k v w used here.meaning found) here.known in
     record {
@@ -230,13 +230,13 @@ meant-escaped used m other is =
 abbrev pub elsewhere : ℕ → List ℕ → Bool
 elsewhere n used = leads_elsewhere escaped_figure (codes "Suffix") n used
 
-named : (used : List ℕ) (m : Meaning) (n : ℕ) → meant escaped_figure used ≡ Some m → elsewhere (suc n) used ≡ true
+named : (used : List ℕ) (m : Meaning) (n : ℕ) → meaning_of escaped_figure used ≡ Some m → elsewhere (suc n) used ≡ true
     → (without (elsewhere n) m.body ≡ true) × Later 0 0 figure used (number_now m.rule) m
 named used m n found leads =
     let parts = and_parts (turned (bytes_eq used (codes "Suffix")))
-    (meant_without (elsewhere n) (meant escaped_figure used)) leads in (
+    (meant_without (elsewhere n) (meaning_of escaped_figure used)) leads in (
       ap (meant_without (elsewhere n)) (sym found) ∙ parts.1,
-      meant-escaped used m (not_false (bytes_eq used (codes "Suffix")) parts.0) found,
+      meaning_of-escaped used m (not_false (bytes_eq used (codes "Suffix")) parts.0) found,
     )
 
 module _ {file : List ℕ} where
@@ -251,14 +251,14 @@ module _ {file : List ℕ} where
     alike n (Derives.any_matched a b) is = Derives.any_matched a b
     alike n (Derives.any_failed a) is = Derives.any_failed a
     alike zero (Derives.name_matched found d t) is = cc
-    alike (suc n) (Derives.name_matched {used = used} {meaning = m} {place = p} {end = end} {trees = trees} found d t) is =
+    alike (suc n) (Derives.name_matched {used = used} {meaning = m} {position = p} {end = end} {trees = trees} found d t) is =
         let it = named used m n found is in
         Derives.name_matched it.1.known
         (subst (λ (body : Form). Derives figure file body p (Matched end (numbered_now trees))) (sym it.1.body_is)
         (alike n d it.0))
         (ap numbered_now t ∙ ap (λ rule. Tree rule p end (numbered_now trees) NoTrees) (sym it.1.rule_is))
     alike zero (Derives.name_failed found d) is = cc
-    alike (suc n) (Derives.name_failed {used = used} {meaning = m} {place = p} found d) is =
+    alike (suc n) (Derives.name_failed {used = used} {meaning = m} {position = p} found d) is =
         let it = named used m n found is in
         Derives.name_failed it.1.known
         (subst (λ (body : Form). Derives figure file body p Failed) (sym it.1.body_is) (alike n d it.0))
@@ -286,7 +286,7 @@ module _ {file : List ℕ} where
         (all_without (elsewhere n) rest) is).0)
     items_alike n (DerivesItems.items_then {item = item} {rest = rest} {trees = one} {more = more} d ds t) is =
         let parts = and_parts (without (elsewhere n) item) (all_without (elsewhere n) rest) is in
-        DerivesItems.items_then (alike n d parts.0) (items_alike n ds parts.1) (ap now t ∙ behind-now one more)
+        DerivesItems.items_then (alike n d parts.0) (items_alike n ds parts.1) (ap now t ∙ prepend_trees-now one more)
 
     first_alike : (n : ℕ) {first : Form} {rest : Forms} {p : ℕ} {x : Recognition}
         → DerivesFirst escaped_figure file first rest p x

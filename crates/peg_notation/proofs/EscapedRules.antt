@@ -7,8 +7,8 @@ use Rattle.std.specs.List.{starts_with}
 use Rattle.peg_bytes.specs.Extent.{Extent, between}
 use Rattle.peg_tree.specs.Trees.{Trees, NoTrees, Tree}
 use Rattle.peg_semantics.specs.Form.{Form, Forms, Name, Seq, Choice, Optional, Star, Plus, End, Then}
-use Rattle.peg_semantics.specs.Record.{Recognition, Failed, Matched, behind}
-use Rattle.peg_semantics.specs.Rules.{Rule, Meaning, meant}
+use Rattle.peg_semantics.specs.Record.{Recognition, Failed, Matched, prepend_trees}
+use Rattle.peg_semantics.specs.Rules.{Rule, Meaning, meaning_of}
 use Rattle.peg_semantics.proofs.Derivations.{Derives, DerivesItems, DerivesFirst, derived, star_never_fails}
 use Rattle.peg_semantics.proofs.ResultSteps.{starts_with-rest}
 use Rattle.peg_metagrammar.specs.EscapedFigure.{escaped_figure, escaped_suffix, MatchesEscaped, number_now, numbered_now, IsEscapedReading}
@@ -16,8 +16,8 @@ use Rattle.peg_metagrammar.specs.Figure.{figure, grammar_body, definition_body, 
 use Rattle.peg_metagrammar.specs.FigureRules as rule
 use Rattle.peg_metagrammar.specs.Notation.{Matches, IsReading}
 use Rattle.peg_metagrammar.specs.Ranges.{class_of}
-use Rattle.peg_metagrammar.specs.Spelled.{spelled, numerals_in, bounds_spelled, bounds_in_range, bad_counts}
-use Rattle.peg_metagrammar.proofs.FigureNames.{grammar-meant, definition-meant, expression-meant, sequence-meant, prefix-meant, suffix-meant, primary-meant, count-meant}
+use Rattle.peg_metagrammar.specs.Denotation.{spelled, numerals_in, bounds_spelled, bounds_in_range, bad_counts}
+use Rattle.peg_metagrammar.proofs.FigureNames.{grammar-meaning_of, definition-meaning_of, expression-meaning_of, sequence-meaning_of, prefix-meaning_of, suffix-meaning_of, primary-meaning_of, count-meaning_of}
 use Rattle.peg_lexer.proofs.Lexemes.{matches}
 use Rattle.peg_notation.proofs.EscapedHalts.{Halt, IsOpener, IsStop, at, FailsAt, EndsAt, Halts, IsHalting, Carries, CarriesItems, CarriesFirst, Carried, carried}
 use Rattle.peg_notation.proofs.EscapedMeanings.{now, elsewhere, alike, items_alike}
@@ -83,7 +83,7 @@ module _ (file : List ℕ) where
   -- a plain item, and those after it
   plain_then : {e : Form} {rest : Forms} {l m : Halt} → without (elsewhere 5) e ≡ true → CarriesItems file rest rest l
       → ((p middle : ℕ) (trees : Trees) (x : Recognition) → Old e p (Matched middle trees) → Halts file l middle x
-      → Halts file m p (behind trees x))
+      → Halts file m p (prepend_trees trees x))
       → CarriesItems file (Then e rest) (Then e rest) m
   plain_then is rest go =
       CarriesItems.item (plain {k = Halt.never} is) rest (λ p s. absurd s) (λ p middle trees x s ds. absurd s) go
@@ -92,7 +92,7 @@ module _ (file : List ℕ) where
   then_plain : {e f : Form} {rest : Forms} {k m : Halt} → Carries file e f k → all_without (elsewhere 5) rest ≡ true
       → ((p : ℕ) → FailsAt file k p → FailsAt file m p)
       → ((p middle : ℕ) (trees : Trees) (x : Recognition) → EndsAt file k middle → OldItems rest middle x
-      → Halts file m p (behind trees x))
+      → Halts file m p (prepend_trees trees x))
       → CarriesItems file (Then e rest) (Then f rest) m
   then_plain c is fail stop =
       CarriesItems.item c (plain_items {k = Halt.never} is) fail stop
@@ -103,11 +103,11 @@ module _ (file : List ℕ) where
   last_item {k = k} c = then_plain c refl (λ p s. s) (λ p middle trees x s ds. ends p middle trees x s ds)
     where
       ends : (p middle : ℕ) (trees : Trees) (x : Recognition) → EndsAt file k middle → OldItems End middle x
-          → Halts file k p (behind trees x)
+          → Halts file k p (prepend_trees trees x)
       ends p middle trees x s DerivesItems.items_none = s
 
   -- stopping so that the whole fails
-  all_halts : (p : ℕ) (trees : Trees) (x : Recognition) → x ≡ Failed → Halts file Halt.whole p (behind trees x)
+  all_halts : (p : ℕ) (trees : Trees) (x : Recognition) → x ≡ Failed → Halts file Halt.whole p (prepend_trees trees x)
   all_halts p trees Failed is = tt
   all_halts p trees (Matched end more) is = cc
 
@@ -186,11 +186,11 @@ module _ (file : List ℕ) where
       (then_plain {k = Halt.words} (Carries.name IsHalting.is_expression) refl (λ p h. absurd h) stop) go
     where
       stop : (p middle : ℕ) (trees : Trees) (x : Recognition) → EndsAt file Halt.words middle
-          → OldItems (Then (Name (codes "CLOSE") u) End) middle x → Halts file Halt.whole p (behind trees x)
+          → OldItems (Then (Name (codes "CLOSE") u) End) middle x → Halts file Halt.whole p (prepend_trees trees x)
       stop p middle trees x h ds = all_halts p trees x (items_blocked 5 (stop_no_close (at file middle) h) ds)
 
       go : (p middle : ℕ) (trees : Trees) (x : Recognition) → Old (Name (codes "OPEN") s) p (Matched middle trees)
-          → Halts file Halt.whole middle x → Halts file Halt.parenthesis p (behind trees x)
+          → Halts file Halt.whole middle x → Halts file Halt.parenthesis p (prepend_trees trees x)
       go p middle trees Failed d h = open_front d
       go p middle trees (Matched end more) d h = h
 
@@ -222,7 +222,7 @@ module _ (file : List ℕ) where
       → Derives figure file (Name (codes "COUNT") span) p Failed
   unfolding count_body
   count_fails is =
-      Derives.name_failed count-meant.1 (Derives.sequence (DerivesItems.items_failed (Derives.literal_failed is)))
+      Derives.name_failed count-meaning_of.1 (Derives.sequence (DerivesItems.items_failed (Derives.literal_failed is)))
 
   -- the operators that may come after an expression, and the same with a count appended
   abbrev signs : (q r s t : Extent) → Form
@@ -261,7 +261,7 @@ module _ (file : List ℕ) where
       (λ p middle trees x h ds. absurd h) (λ p middle trees x d h. go p middle trees x h))
     where
       go : (p middle : ℕ) (trees : Trees) (x : Recognition) → Halts file Halt.signs middle x
-          → Halts file Halt.token p (behind trees x)
+          → Halts file Halt.token p (prepend_trees trees x)
       go p middle trees Failed h = absurd h
       go p middle trees (Matched end more) h = h
 
@@ -289,7 +289,7 @@ module _ (file : List ℕ) where
     where
       go : {s t u v : Extent} (p middle : ℕ) (trees : Trees) (x : Recognition)
           → Old (Optional (Choice (Name (codes "AND") s) (Then (Name (codes "NOT") t) End) u) v) p (Matched middle trees)
-          → Halts file Halt.token middle x → Halts file Halt.token p (behind trees x)
+          → Halts file Halt.token middle x → Halts file Halt.token p (prepend_trees trees x)
       go p middle trees Failed d h = sign_front d h
       go p middle trees (Matched end more) d h = h
 
@@ -301,9 +301,9 @@ module _ (file : List ℕ) where
       never_here 5 (brace_no_sign (at file p) h) d
   no_prefix {p = p} h (Derives.sequence (DerivesItems.items_then {more = x} (Derives.optional_none d) ds is)) =
       let failed : x ≡ Failed = items_blocked 5 (brace_no_suffix (at file p) h) ds in
-      matched≢failed (is ∙ ap (behind NoTrees) failed)
+      matched≢failed (is ∙ ap (prepend_trees NoTrees) failed)
 
-  prefix_meant : (t : ℕ) × (meant escaped_figure (codes "Prefix")
+  prefix_meant : (t : ℕ) × (meaning_of escaped_figure (codes "Prefix")
       ≡ Some (record { rule = rule.prefix; terminal = t; body = prefix_body }))
   unfolding escaped_figure figure
   prefix_meant = (_, refl)
@@ -332,7 +332,7 @@ module _ (file : List ℕ) where
   -- ---- Expression, Definition, Grammar
 
   words_on : (p middle : ℕ) (trees : Trees) (x : Recognition) → Halts file Halt.words middle x
-      → Halts file Halt.words p (behind trees x)
+      → Halts file Halt.words p (prepend_trees trees x)
   words_on p middle trees Failed h = absurd h
   words_on p middle trees (Matched end more) h = h
 
@@ -356,10 +356,10 @@ module _ (file : List ℕ) where
       (λ p h. absurd h) stop (λ p middle trees x d h. words_on p middle trees x h))
     where
       stop : {s t u v : Extent} (p middle : ℕ) (trees : Trees) (x : Recognition) → EndsAt file Halt.words middle
-          → OldItems (Then (slashes s t u v) End) middle x → Halts file Halt.words p (behind trees x)
+          → OldItems (Then (slashes s t u v) End) middle x → Halts file Halt.words p (prepend_trees trees x)
       stop p middle trees x h (DerivesItems.items_failed d) = absurd (star_never_fails d)
       stop p middle trees x h (DerivesItems.items_then {middle = end} d DerivesItems.items_none is) =
-          subst (λ (x : Recognition). Halts file Halt.words p (behind trees x)) (sym is)
+          subst (λ (x : Recognition). Halts file Halt.words p (prepend_trees trees x)) (sym is)
           (subst (λ n. IsStop (at file n)) (sym (star_blocked 5 (stop_no_slash (at file middle) h) d)) h)
 
   definition_carried : Carries file definition_body definition_body Halt.words
@@ -384,16 +384,16 @@ module _ (file : List ℕ) where
           (sym (star_blocked 5 (stop_no_definition (at file middle) h) d)) h)
 
       go : {e : Form} (p middle : ℕ) (trees : Trees) (x : Recognition) → Old e p (Matched middle trees)
-          → Halts file Halt.whole middle x → Halts file Halt.whole p (behind trees x)
+          → Halts file Halt.whole middle x → Halts file Halt.whole p (prepend_trees trees x)
       go p middle trees Failed d h = tt
       go p middle trees (Matched end more) d h = h
 
   -- ---- the meaning of the rules
 
   same_body : (used : List ℕ) {k : Halt} (m : Meaning) (number terminal now_terminal : ℕ) (body new : Form)
-      → meant escaped_figure used ≡ Some (record { rule = number; terminal = terminal; body = body })
-      → meant escaped_figure used ≡ Some m
-      → meant figure used ≡ Some (record { rule = number; terminal = now_terminal; body = new })
+      → meaning_of escaped_figure used ≡ Some (record { rule = number; terminal = terminal; body = body })
+      → meaning_of escaped_figure used ≡ Some m
+      → meaning_of figure used ≡ Some (record { rule = number; terminal = now_terminal; body = new })
       → number_now number ≡ number → Carries file body new k → Carried file used m k
   same_body used {k} m number terminal now_terminal body new old found known stays c =
       let both : Some (record { rule = number; terminal = terminal; body = body }) ≡ Some m = sym old ∙ found in
@@ -405,26 +405,26 @@ module _ (file : List ℕ) where
         carries = subst (λ (z : Meaning). Carries file z.body new k) same c;
       }
 
-  body_carries : (used : List ℕ) (k : Halt) (m : Meaning) → IsHalting file used k → meant escaped_figure used ≡ Some m
+  body_carries : (used : List ℕ) (k : Halt) (m : Meaning) → IsHalting file used k → meaning_of escaped_figure used ≡ Some m
       → Carried file used m k
   unfolding escaped_figure figure
   body_carries used k m IsHalting.is_grammar found =
-      same_body (codes "Grammar") m rule.grammar _ _ grammar_body grammar_body refl found grammar-meant.1 refl grammar_carried
+      same_body (codes "Grammar") m rule.grammar _ _ grammar_body grammar_body refl found grammar-meaning_of.1 refl grammar_carried
   body_carries used k m IsHalting.is_definition found =
-      same_body (codes "Definition") m rule.definition _ _ definition_body definition_body refl found definition-meant.1 refl
+      same_body (codes "Definition") m rule.definition _ _ definition_body definition_body refl found definition-meaning_of.1 refl
       definition_carried
   body_carries used k m IsHalting.is_expression found =
-      same_body (codes "Expression") m rule.expression _ _ expression_body expression_body refl found expression-meant.1 refl
+      same_body (codes "Expression") m rule.expression _ _ expression_body expression_body refl found expression-meaning_of.1 refl
       expression_carried
   body_carries used k m IsHalting.is_sequence found =
-      same_body (codes "Sequence") m rule.sequence _ _ sequence_body sequence_body refl found sequence-meant.1 refl
+      same_body (codes "Sequence") m rule.sequence _ _ sequence_body sequence_body refl found sequence-meaning_of.1 refl
       sequence_carried
   body_carries used k m IsHalting.is_prefix found =
-      same_body (codes "Prefix") m rule.prefix _ _ prefix_body prefix_body refl found prefix-meant.1 refl prefix_carried
+      same_body (codes "Prefix") m rule.prefix _ _ prefix_body prefix_body refl found prefix-meaning_of.1 refl prefix_carried
   body_carries used k m IsHalting.is_suffix found =
-      same_body (codes "Suffix") m rule.suffix _ _ escaped_suffix suffix_body refl found suffix-meant.1 refl suffix_carried
+      same_body (codes "Suffix") m rule.suffix _ _ escaped_suffix suffix_body refl found suffix-meaning_of.1 refl suffix_carried
   body_carries used k m IsHalting.is_primary found =
-      same_body (codes "Primary") m rule.primary _ _ primary_body primary_body refl found primary-meant.1 refl primary_carried
+      same_body (codes "Primary") m rule.primary _ _ primary_body primary_body refl found primary-meaning_of.1 refl primary_carried
 
   -- ---- files
 

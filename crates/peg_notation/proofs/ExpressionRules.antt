@@ -10,21 +10,21 @@ use Rattle.peg_semantics.specs.Record.{Failed, Matched}
 use Rattle.peg_semantics.proofs.Derivations.{Derives, DerivesItems}
 use Rattle.peg_metagrammar.specs.Figure.{figure, sequence_body, expression_body}
 use Rattle.peg_metagrammar.specs.FigureRules as rule
-use Rattle.peg_lexer.specs.Lexical.{text_of}
-use Rattle.peg_lexer.specs.Pieces.{Piece}
-use Rattle.peg_notation.specs.Reader.{Halt, Unexpected, TooDeep, BadCountAt, FormRead, FormsRead, Reading, place_of, starts_with_arrow, kind_begins, begins_prefix, and_read, many, is_bad_count, suffix_sign, with_suffix, then_suffix, primary, suffix, prefix, whole_sequence, sequence, is_slash, starts_with_slash, behind, alternative, whole_choice, expression, expression_in}
-use Rattle.peg_metagrammar.specs.Spelled.{Spelling, Expression, part, text_end, spelled, expressions_in, sequence_spelled, choice_spelled}
+use Rattle.peg_lexer.specs.Lexical.{matcher_of}
+use Rattle.peg_lexer.specs.Matchers.{PrefixMatch}
+use Rattle.peg_notation.specs.Reader.{ReadError, Unexpected, TooDeepAt, BadCountAt, FormRead, FormsRead, Reading, place_of, starts_with_arrow, kind_begins, begins_prefix, and_read, many_forms, is_bad_count, suffix_sign, with_suffix, then_suffix, primary, suffix, prefix, whole_sequence, sequence, is_slash, starts_with_slash, after_tokens, alternative, whole_choice, expression, expression_in}
+use Rattle.peg_metagrammar.specs.Denotation.{Denotation, Expression, part, text_end, spelled, expressions_in, sequence_spelled, choice_spelled}
 use Rattle.peg_lexer.specs.Tokens.{Lexeme}
 use Rattle.peg_lexer.specs.declared.token.TokenKind.{TokenKind}
 use Rattle.peg_lexer.specs.declared.token.TokenKind.TheVariants as kind
-use Rattle.peg_metagrammar.proofs.FigureNames.{sequence-meant, expression-meant}
+use Rattle.peg_metagrammar.proofs.FigureNames.{sequence-meaning_of, expression-meaning_of}
 use Rattle.peg_lexer.proofs.Lexemes.{lexeme_at}
-use Rattle.peg_lexer.proofs.PieceSizes.{blank-these}
+use Rattle.peg_lexer.proofs.PieceSizes.{blank-literal_bytes}
 use Rattle.peg_notation.proofs.PrefixRules.{prefix-exact}
-use Rattle.peg_notation.proofs.Readings.{followed-none, ExactAny, ReadsAt, ExactAt, IsStuck, Good, node_at, place-is}
+use Rattle.peg_notation.proofs.Readings.{followed-none, ExactAny, ReadsAt, ExactAt, IsStuck, Good, node_at, position-is}
 use Rattle.peg_notation.proofs.Repeats.{ExactRound, Rounds, ExactMany, rounds}
 use Rattle.peg_notation.proofs.Streams.{Stream, here, not_here, none_here}
-use Rattle.peg_lexer.proofs.Takes.{spelled-followed, text_end-followed, nesting-followed}
+use Rattle.peg_lexer.proofs.Takes.{spelled-seq_matcher, text_end-seq_matcher, nesting-seq_matcher}
 use Rattle.peg_lexer.proofs.Texts.{FindsToken, behind_text}
 
 -- ---- where a prefix begins
@@ -75,9 +75,9 @@ suffix_goes_on : (file : List ℕ) (inner : Option Reading) (lexemes : List Lexe
     → primary file inner lexemes ≡ Ok part_read → suffix file inner lexemes ≡ Err (Unexpected at) → ⊥
 unfolding suffix
 suffix_goes_on file inner lexemes part_read at read is =
-    never_unexpected file (place_of (length file) lexemes) part_read (drop part_read.taken lexemes) at
-    (sym (ap (λ (x : Result FormRead Halt). and_read x (λ (p : FormRead). then_suffix file (place_of (length file) lexemes) p
-    (drop p.taken lexemes))) read) ∙ is)
+    never_unexpected file (place_of (length file) lexemes) part_read (drop part_read.token_count lexemes) at
+    (sym (ap (λ (x : Result FormRead ReadError). and_read x (λ (p : FormRead). then_suffix file (place_of (length file) lexemes) p
+    (drop p.token_count lexemes))) read) ∙ is)
 
 -- where one begins and none is read, there is an operator or a parenthesis
 begun_stuck : (file : List ℕ) (inner : Option Reading) (p at : ℕ) (lexemes : List Lexeme) → Stream file p lexemes
@@ -94,12 +94,12 @@ begun_stuck file inner p at (_ ∷ more) (Stream.next k piece lexeme found is re
     name false arrow yes_begins e =
         absurd (suffix_goes_on file inner (lexeme_at kind.Ident p piece.length ∷ more) (record {
           form = form.Name (part file p (p + piece.length)) (between p (p + piece.length));
-          taken = 1;
+          token_count = 1;
           last = p + piece.length;
           depth = 0;
         }) at (rw arrow refl) e)
 
-    by : (k : TokenKind) → text_of k (drop p file) ≡ Some piece → kind_begins k (starts_with_arrow more) ≡ true
+    by : (k : TokenKind) → matcher_of k (drop p file) ≡ Some piece → kind_begins k (starts_with_arrow more) ≡ true
         → prefix file inner (lexeme_at k p piece.length ∷ more) ≡ Err (Unexpected at) → IsStuck file p
     by kind.And there yes_begins e = record { kind = kind.And; piece = piece; found = there; opens = inl refl }
     by kind.Not there yes_begins e = record { kind = kind.Not; piece = piece; found = there; opens = inr (inl refl) }
@@ -127,14 +127,14 @@ prefix_rounds : (file : List ℕ) (inner : Option Reading) → Good file inner
 prefix_rounds file inner good = record {
   none = λ p lexemes stream none.
       let it = none_begins file inner p lexemes stream none in
-      subst (λ (x : Result FormRead Halt). ExactAny file (codes "Prefix") p lexemes x) it.1
+      subst (λ (x : Result FormRead ReadError). ExactAny file (codes "Prefix") p lexemes x) it.1
       (prefix-exact file inner good p lexemes stream) (between 140 146);
   one = λ before p lexemes stream begins.
       by p lexemes stream begins (prefix file inner lexemes) refl
       (prefix-exact file inner good p lexemes stream);
 }
   where
-    by : (p : ℕ) (lexemes : List Lexeme) → Stream file p lexemes → begins_prefix lexemes ≡ true → (x : Result FormRead Halt)
+    by : (p : ℕ) (lexemes : List Lexeme) → Stream file p lexemes → begins_prefix lexemes ≡ true → (x : Result FormRead ReadError)
         → prefix file inner lexemes ≡ x → ExactAny file (codes "Prefix") p lexemes x
         → ExactRound file (Name (codes "Prefix") (between 140 146)) (between 140 147) p lexemes x
     by p lexemes stream begins (Ok part) is e = record {
@@ -153,7 +153,7 @@ prefix_rounds file inner good = record {
       derives = Derives.star_none (fails (between 140 146));
       stuck = begun_stuck file inner p at lexemes stream begins is;
     }
-    by p lexemes stream begins (Err (TooDeep at)) is e = tt
+    by p lexemes stream begins (Err (TooDeepAt at)) is e = tt
     by p lexemes stream begins (Err (BadCountAt at)) is e = tt
 
 -- the expressions among the pieces that expressions denote
@@ -167,26 +167,26 @@ pub sequence-exact : (file : List ℕ) (inner : Option Reading) → Good file in
     → ExactAt file (codes "Sequence") before p lexemes (sequence file inner before lexemes)
 unfolding sequence sequence_body
 sequence-exact file inner good before p lexemes stream =
-    by (many begins_prefix (λ b. prefix file inner) before lexemes)
+    by (many_forms begins_prefix (λ b. prefix file inner) before lexemes)
     (rounds (prefix_rounds file inner good) (length lexemes) before p lexemes (omega arith) stream refl)
   where
-    by : (x : Result FormsRead Halt) → ExactMany file (Name (codes "Prefix") (between 140 146))
+    by : (x : Result FormsRead ReadError) → ExactMany file (Name (codes "Prefix") (between 140 146))
         (between 140 147) before p lexemes x → ExactAt file (codes "Sequence") before p lexemes
         (and_read x (λ (parts : FormsRead). Ok (whole_sequence before (place_of (length file) lexemes) parts)))
     by (Ok parts) m =
         subst (λ start. ReadsAt file (codes "Sequence") before p lexemes (whole_sequence before start parts))
-        (sym (place-is stream))
-        (node_at before _ sequence-meant.1 refl refl m.derives (whole_sequence before p parts)
+        (sym (position-is stream))
+        (node_at before _ sequence-meaning_of.1 refl refl m.derives (whole_sequence before p parts)
         (ap (λ (forms : List Form). Expression (sequence_spelled before (between p parts.last) forms) ∷ [])
         (ap expressions_in (m.spells before) ∙ expressions-all parts.forms))
         m.ends m.nests m.left)
     by (Err (Unexpected at)) stops = record {
       end = stops.end;
       trees = Tree rule.sequence p stops.end stops.trees NoTrees;
-      derives = λ span. Derives.name_matched sequence-meant.1 stops.derives refl;
+      derives = λ span. Derives.name_matched sequence-meaning_of.1 stops.derives refl;
       stuck = stops.stuck;
     }
-    by (Err (TooDeep at)) m = tt
+    by (Err (TooDeepAt at)) m = tt
     by (Err (BadCountAt at)) m = tt
 
 -- ---- alternatives
@@ -216,30 +216,30 @@ stuck_slash file q stuck span =
       ]
     ]
 
-one_alternative : (file : List ℕ) (p : ℕ) (piece : Piece) (rest : List Lexeme) → text_of kind.Slash (drop p file)
-    ≡ Some piece → (x : Result FormRead Halt) → ExactAt file (codes "Sequence") (p + piece.length)
+one_alternative : (file : List ℕ) (p : ℕ) (piece : PrefixMatch) (rest : List Lexeme) → matcher_of kind.Slash (drop p file)
+    ≡ Some piece → (x : Result FormRead ReadError) → ExactAt file (codes "Sequence") (p + piece.length)
     (behind_text file p piece.length) rest x → ExactRound file slash_sequence (between 110 127) p
-    (lexeme_at kind.Slash p piece.length ∷ rest) (and_read x (λ (part : FormRead). Ok (behind 1 part)))
+    (lexeme_at kind.Slash p piece.length ∷ rest) (and_read x (λ (part : FormRead). Ok (after_tokens 1 part)))
 one_alternative file p piece rest found (Ok part) e =
     let s : FindsToken file rule.slash (codes "SLASH") (between 111 116) p piece = here kind.Slash piece
     (between 111 116) found in
-    let blank : piece.spells ≡ [] = (blank-these (codes "/")).blank (drop p file) piece found in
+    let blank : piece.spells ≡ [] = (blank-literal_bytes (codes "/")).blank (drop p file) piece found in
     record {
       end = e.end;
       trees = followed_by s.trees e.trees;
       left =
-          let one : 1 + part.taken ≡ suc part.taken = omega arith in
+          let one : 1 + part.token_count ≡ suc part.token_count = omega arith in
           subst (λ n. Stream file e.end (drop n (lexeme_at kind.Slash p piece.length ∷ rest))) (sym one) e.left;
       derives =
           Derives.sequence (DerivesItems.items_then s.derives (DerivesItems.items_then
           (e.derives (between 117 125)) DerivesItems.items_none refl)
           (ap (λ (t : Trees). Matched e.end (followed_by s.trees t)) (sym (followed-none e.trees))));
       spells = λ b.
-          spelled-followed file b s.trees e.trees
-          ∙ (ap (λ (pieces : List Spelling). pieces ++ spelled file (text_end b s.trees) e.trees) (s.spells b ∙ blank)
+          spelled-seq_matcher file b s.trees e.trees
+          ∙ (ap (λ (pieces : List Denotation). pieces ++ spelled file (text_end b s.trees) e.trees) (s.spells b ∙ blank)
           ∙ (ap (λ k. spelled file k e.trees) (s.ends b) ∙ e.spells));
-      ends = λ b. text_end-followed b s.trees e.trees ∙ (ap (λ k. text_end k e.trees) (s.ends b) ∙ e.ends);
-      nests = omega (arith, nesting-followed s.trees e.trees, s.flat, e.nests);
+      ends = λ b. text_end-seq_matcher b s.trees e.trees ∙ (ap (λ k. text_end k e.trees) (s.ends b) ∙ e.ends);
+      nests = omega (arith, nesting-seq_matcher s.trees e.trees, s.flat, e.nests);
       some = omega arith;
     }
 one_alternative file p piece rest found (Err (Unexpected at)) stops =
@@ -254,7 +254,7 @@ one_alternative file p piece rest found (Err (Unexpected at)) stops =
           (Derives.star_none (no_slash (stuck_slash file stops.end stops.stuck))) refl;
       stuck = stops.stuck;
     }
-one_alternative file p piece rest found (Err (TooDeep at)) e = tt
+one_alternative file p piece rest found (Err (TooDeepAt at)) e = tt
 one_alternative file p piece rest found (Err (BadCountAt at)) e = tt
 
 alternative_rounds : (file : List ℕ) (inner : Option Reading) → Good file inner
@@ -279,12 +279,12 @@ alternative_rounds file inner good = record {
     reads before p [] stream begins = cc
     reads before p (_ ∷ more) (Stream.next k piece lexeme found is rest) begins =
         subst (λ (l : Lexeme). ExactRound file slash_sequence (between 110 127) p (l ∷
-        more) (and_read (sequence file inner l.text.end more) (λ (part : FormRead). Ok (behind 1 part)))) (sym is)
+        more) (and_read (sequence file inner l.text.end more) (λ (part : FormRead). Ok (after_tokens 1 part)))) (sym is)
         (by k found (ap (λ (l : Lexeme). is_slash l.kind) (sym is) ∙ begins))
       where
-        by : (k : TokenKind) → text_of k (drop p file) ≡ Some piece → is_slash k ≡ true
+        by : (k : TokenKind) → matcher_of k (drop p file) ≡ Some piece → is_slash k ≡ true
             → ExactRound file slash_sequence (between 110 127) p (lexeme_at k p piece.length ∷
-            more) (and_read (sequence file inner (p + piece.length) more) (λ (part : FormRead). Ok (behind 1 part)))
+            more) (and_read (sequence file inner (p + piece.length) more) (λ (part : FormRead). Ok (after_tokens 1 part)))
         by kind.Slash there slash =
             one_alternative file p piece more there (sequence file inner (p + piece.length) more)
             (sequence-exact file inner good (p + piece.length) (behind_text file p piece.length) more rest)
@@ -306,35 +306,35 @@ alternative_rounds file inner good = record {
 
 -- a sequence and the alternatives after it
 both_parts : (file : List ℕ) (before p : ℕ) (lexemes : List Lexeme) (first : FormRead)
-    → (e : ReadsAt file (codes "Sequence") before p lexemes first) → (x : Result FormsRead Halt)
-    → ExactMany file slash_sequence (between 110 127) first.last e.end (drop first.taken lexemes) x
+    → (e : ReadsAt file (codes "Sequence") before p lexemes first) → (x : Result FormsRead ReadError)
+    → ExactMany file slash_sequence (between 110 127) first.last e.end (drop first.token_count lexemes) x
     → ExactAt file (codes "Expression") before p lexemes (and_read x (λ (more : FormsRead). Ok (whole_choice p first more)))
 unfolding expression_body
 both_parts file before p lexemes first e (Ok more) m =
-    node_at before _ expression-meant.1 refl refl
+    node_at before _ expression-meaning_of.1 refl refl
     (Derives.sequence
     (DerivesItems.items_then (e.derives _) (DerivesItems.items_then m.derives DerivesItems.items_none refl)
     (ap (λ (t : Trees). Matched m.end (followed_by e.trees t)) (sym (followed-none m.trees)))))
     (whole_choice p first more)
     (ap (λ (forms : List Form). Expression (choice_spelled (between p more.last) forms) ∷ [])
     (ap expressions_in
-    (spelled-followed file before e.trees m.trees
-    ∙ (ap (λ (pieces : List Spelling). spelled file before e.trees ++ pieces) (m.spells (text_end before e.trees))
-    ∙ ap (λ (pieces : List Spelling). pieces ++ map Expression more.forms) e.spells))
+    (spelled-seq_matcher file before e.trees m.trees
+    ∙ (ap (λ (pieces : List Denotation). spelled file before e.trees ++ pieces) (m.spells (text_end before e.trees))
+    ∙ ap (λ (pieces : List Denotation). pieces ++ map Expression more.forms) e.spells))
     ∙ ap (λ (forms : List Form). first.form ∷ forms) (expressions-all more.forms)))
-    (text_end-followed before e.trees m.trees ∙ (ap (λ b. text_end b m.trees) e.ends ∙ m.ends))
-    (omega (arith, nesting-followed e.trees m.trees, e.nests, m.nests))
-    (subst (λ (l : List Lexeme). Stream file m.end l) (drop-drop more.taken first.taken lexemes) m.left)
+    (text_end-seq_matcher before e.trees m.trees ∙ (ap (λ b. text_end b m.trees) e.ends ∙ m.ends))
+    (omega (arith, nesting-seq_matcher e.trees m.trees, e.nests, m.nests))
+    (subst (λ (l : List Lexeme). Stream file m.end l) (drop-drop more.token_count first.token_count lexemes) m.left)
 both_parts file before p lexemes first e (Err (Unexpected at)) stops = record {
   end = stops.end;
   trees = Tree rule.expression p stops.end (followed_by e.trees (followed_by stops.trees NoTrees)) NoTrees;
-  derives = λ span. Derives.name_matched expression-meant.1
+  derives = λ span. Derives.name_matched expression-meaning_of.1
       (Derives.sequence
       (DerivesItems.items_then (e.derives _)
       (DerivesItems.items_then stops.derives DerivesItems.items_none refl) refl)) refl;
   stuck = stops.stuck;
 }
-both_parts file before p lexemes first e (Err (TooDeep at)) m = tt
+both_parts file before p lexemes first e (Err (TooDeepAt at)) m = tt
 both_parts file before p lexemes first e (Err (BadCountAt at)) m = tt
 
 -- Expression matches exactly what is read
@@ -345,34 +345,34 @@ unfolding expression_body
 expression-exact file inner good before p lexemes stream =
     by (sequence file inner before lexemes) (sequence-exact file inner good before p lexemes stream)
   where
-    by : (x : Result FormRead Halt) → ExactAt file (codes "Sequence") before p lexemes x
+    by : (x : Result FormRead ReadError) → ExactAt file (codes "Sequence") before p lexemes x
         → ExactAt file (codes "Expression") before p lexemes
-        (and_read x (λ (first : FormRead). and_read (many starts_with_slash (alternative file inner) first.last
-        (drop first.taken lexemes)) (λ (more : FormsRead). Ok (whole_choice (place_of (length file) lexemes) first more))))
+        (and_read x (λ (first : FormRead). and_read (many_forms starts_with_slash (alternative file inner) first.last
+        (drop first.token_count lexemes)) (λ (more : FormsRead). Ok (whole_choice (place_of (length file) lexemes) first more))))
     by (Ok first) e =
-        let m = rounds (alternative_rounds file inner good) (length (drop first.taken lexemes)) first.last e.end
-        (drop first.taken lexemes) (omega arith) e.left refl in
+        let m = rounds (alternative_rounds file inner good) (length (drop first.token_count lexemes)) first.last e.end
+        (drop first.token_count lexemes) (omega arith) e.left refl in
         subst (λ start. ExactAt file (codes "Expression") before p lexemes
-        (and_read (many starts_with_slash (alternative file inner) first.last (drop first.taken lexemes))
-        (λ (more : FormsRead). Ok (whole_choice start first more)))) (sym (place-is stream))
-        (both_parts file before p lexemes first e (many starts_with_slash (alternative file inner) first.last
-        (drop first.taken lexemes)) m)
+        (and_read (many_forms starts_with_slash (alternative file inner) first.last (drop first.token_count lexemes))
+        (λ (more : FormsRead). Ok (whole_choice start first more)))) (sym (position-is stream))
+        (both_parts file before p lexemes first e (many_forms starts_with_slash (alternative file inner) first.last
+        (drop first.token_count lexemes)) m)
     by (Err (Unexpected at)) stops = record {
       end = stops.end;
       trees = Tree rule.expression p stops.end (followed_by stops.trees NoTrees) NoTrees;
-      derives = λ span. Derives.name_matched expression-meant.1
+      derives = λ span. Derives.name_matched expression-meaning_of.1
           (Derives.sequence (DerivesItems.items_then (stops.derives _)
           (DerivesItems.items_then (Derives.star_none
           (no_slash (stuck_slash file stops.end stops.stuck))) DerivesItems.items_none refl) refl)) refl;
       stuck = stops.stuck;
     }
-    by (Err (TooDeep at)) e = tt
+    by (Err (TooDeepAt at)) e = tt
     by (Err (BadCountAt at)) e = tt
 
 -- within the limit of open parentheses, Expression matches exactly what is read
-pub expression_in-exact : (file : List ℕ) (most before p : ℕ) (lexemes : List Lexeme) → Stream file p lexemes
+pub expression_in-exact : (file : List ℕ) (bound before p : ℕ) (lexemes : List Lexeme) → Stream file p lexemes
     → ExactAt file (codes "Expression") before p lexemes
-    (expression_in file most before lexemes)
+    (expression_in file bound before lexemes)
 unfolding expression_in
 expression_in-exact file zero before p lexemes stream = expression-exact file None tt before p lexemes stream
 expression_in-exact file (suc n) before p lexemes stream =

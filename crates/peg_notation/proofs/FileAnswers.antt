@@ -9,13 +9,13 @@ use Rattle.peg_semantics.specs.Record.{Failed, Matched}
 use Rattle.peg_semantics.proofs.Derivations.{Derives, one_result}
 use Rattle.peg_metagrammar.specs.Figure.{figure}
 use Rattle.peg_metagrammar.specs.Notation.{Matches, FigureMatches, max_file_bytes}
-use Rattle.peg_lexer.specs.Lexical.{text_of}
-use Rattle.peg_lexer.specs.Pieces.{Piece}
-use Rattle.peg_metagrammar.specs.Spelled.{text_end, bounds_in_range, bad_counts}
+use Rattle.peg_lexer.specs.Lexical.{matcher_of}
+use Rattle.peg_lexer.specs.Matchers.{PrefixMatch}
+use Rattle.peg_metagrammar.specs.Denotation.{text_end, bounds_in_range, bad_counts}
 use Rattle.peg_lexer.specs.declared.token.TokenKind.{TokenKind}
 use Rattle.peg_lexer.specs.declared.token.TokenKind.TheVariants as token
-use Rattle.peg_notation.specs.Reader.{Halt, Unexpected, TooDeep, BadCountAt, RulesRead, bounds_of, is_count, is_bad_count, grammar}
-use Rattle.peg_notation.specs.ReaderCode.{IsText, AreTexts, ConveysHalt}
+use Rattle.peg_notation.specs.Reader.{ReadError, Unexpected, TooDeepAt, BadCountAt, RulesRead, bounds_of_lexeme, is_count, is_bad_count, grammar}
+use Rattle.peg_notation.specs.ReaderCode.{IsText, AreTexts, AgreesOnError}
 use Rattle.peg_metagrammar.specs.Nesting.{max_open}
 use Rattle.peg_notation.specs.Reads.{fault_of, Reads, IsReadingWithin, NestsDeeper, CountsOutOfRange, IsTokenPlace, one_if_open, opens, one_if_close, closes, IsOneTooMany, IsBadCountToken}
 use Rattle.peg_notation.specs.Spans.{RuleLiesIn, AnswerLiesIn}
@@ -53,7 +53,7 @@ stream-texts : {file : List ℕ} {p : ℕ} {lexemes : List Lexeme} → Stream fi
 stream-texts (Stream.ended last) = omega (arith, last)
 stream-texts {file} {p} (Stream.next {more = more} k piece lexeme found is rest) =
     let here : IsText file (lexeme_at k p piece.length) =
-    ap (λ (x : Option Piece). option_map (λ (q : Piece). p + q.length) x) found in
+    ap (λ (x : Option PrefixMatch). option_map (λ (q : PrefixMatch). p + q.length) x) found in
     let behind : AreTexts file (p + piece.length) more =
     texts-from file (behind_text file p piece.length) (p + piece.length) more (omega arith) (stream-texts rest) in
     subst (λ (l : Lexeme). AreTexts file p (l ∷ more)) (sym is) (omega arith, here, behind)
@@ -79,12 +79,12 @@ token_place size (lexeme ∷ more) at (IsPlace.later rest) =
 
 -- ---- open parentheses
 
--- The tokens that a run passes: the numbers of those that open and close, with at most `most` open on the way.
-record Passed (most a b : ℕ) (lexemes rest : List Lexeme) : Type 0 where
+-- The tokens that a run passes: the numbers of those that open and close, with at most `bound` open on the way.
+record Passed (bound a b : ℕ) (lexemes rest : List Lexeme) : Type 0 where
   pub before : List Lexeme
   pub same : lexemes ≡ before ++ rest
   pub count : a + opens before ≡ b + closes before
-  pub within : (n : ℕ) → a + opens (take n before) ≤ most + closes (take n before)
+  pub within : (n : ℕ) → a + opens (take n before) ≤ bound + closes (take n before)
 
 counts : (lexeme : Lexeme) (more : List Lexeme) → (opens (lexeme ∷ more) ≡ one_if_open lexeme.kind + opens more)
     × (closes (lexeme ∷ more) ≡ one_if_close lexeme.kind + closes more)
@@ -94,10 +94,10 @@ counts lexeme more = (
 )
 
 -- one token, and what is passed after it
-one_passed : (most a c b : ℕ) (lexeme : Lexeme) (more rest : List Lexeme) → a ≤ most
-    → a + one_if_open lexeme.kind ≡ c + one_if_close lexeme.kind → Passed most c b more rest
-    → Passed most a b (lexeme ∷ more) rest
-one_passed most a c b lexeme more rest less step p =
+one_passed : (bound a c b : ℕ) (lexeme : Lexeme) (more rest : List Lexeme) → a ≤ bound
+    → a + one_if_open lexeme.kind ≡ c + one_if_close lexeme.kind → Passed bound c b more rest
+    → Passed bound a b (lexeme ∷ more) rest
+one_passed bound a c b lexeme more rest less step p =
     let both = counts lexeme p.before in
     record {
       before = lexeme ∷ p.before;
@@ -106,41 +106,41 @@ one_passed most a c b lexeme more rest less step p =
       within = λ n. by n;
     }
   where
-    by : (n : ℕ) → a + opens (take n (lexeme ∷ p.before)) ≤ most + closes (take n (lexeme ∷ p.before))
+    by : (n : ℕ) → a + opens (take n (lexeme ∷ p.before)) ≤ bound + closes (take n (lexeme ∷ p.before))
     by zero = omega arith
     by (suc n) =
         let both = counts lexeme (take n p.before) in
         omega (arith, both.0, both.1, step, p.within n)
 
-stays_passed : (most a : ℕ) (lexemes : List Lexeme) → a ≤ most → Passed most a a lexemes lexemes
-stays_passed most a lexemes less = record { before = []; same = refl; count = refl; within = λ n. by n }
+stays_passed : (bound a : ℕ) (lexemes : List Lexeme) → a ≤ bound → Passed bound a a lexemes lexemes
+stays_passed bound a lexemes less = record { before = []; same = refl; count = refl; within = λ n. by n }
   where
-    by : (n : ℕ) → a + opens (take n []) ≤ most + closes (take n [])
+    by : (n : ℕ) → a + opens (take n []) ≤ bound + closes (take n [])
     by zero = omega arith
     by (suc n) = omega arith
 
-runs-passed : {file : List ℕ} {most a b : ℕ} {lexemes rest : List Lexeme} → a ≤ most → Runs file most a lexemes b rest
-    → Passed most a b lexemes rest
-runs-passed {most = most} {a} {b} {lexemes} less Runs.stays = stays_passed most a lexemes less
-runs-passed {most = most} {a} {b} less (Runs.opened {lexeme = lexeme} {more = more} {rest = rest} is smaller run) =
-    one_passed most a (suc a) b lexeme more rest less (omega (arith, ap one_if_open is, ap one_if_close is))
+runs-passed : {file : List ℕ} {bound a b : ℕ} {lexemes rest : List Lexeme} → a ≤ bound → Runs file bound a lexemes b rest
+    → Passed bound a b lexemes rest
+runs-passed {bound = bound} {a} {b} {lexemes} less Runs.stays = stays_passed bound a lexemes less
+runs-passed {bound = bound} {a} {b} less (Runs.opened {lexeme = lexeme} {more = more} {rest = rest} is smaller run) =
+    one_passed bound a (suc a) b lexeme more rest less (omega (arith, ap one_if_open is, ap one_if_close is))
     (runs-passed (omega arith) run)
-runs-passed {most = most} {a} {b} less (Runs.shut {a = c} {lexeme = lexeme} {more = more} {rest = rest} is run) =
-    one_passed most (suc c) c b lexeme more rest less (omega (arith, ap one_if_open is, ap one_if_close is))
+runs-passed {bound = bound} {a} {b} less (Runs.shut {a = c} {lexeme = lexeme} {more = more} {rest = rest} is run) =
+    one_passed bound (suc c) c b lexeme more rest less (omega (arith, ap one_if_open is, ap one_if_close is))
     (runs-passed (omega arith) run)
-runs-passed {most = most} {a} {b} less (Runs.other {lexeme = lexeme} {more = more} {rest = rest} plain run) =
-    one_passed most a a b lexeme more rest less (omega (arith, plain.no_open, plain.no_close)) (runs-passed less run)
+runs-passed {bound = bound} {a} {b} less (Runs.other {lexeme = lexeme} {more = more} {rest = rest} plain run) =
+    one_passed bound a a b lexeme more rest less (omega (arith, plain.no_open, plain.no_close)) (runs-passed less run)
 
-too_many : (most : ℕ) (file : List ℕ) (lexemes : List Lexeme) (at : ℕ) → IsTokens file lexemes → IsDeepAt file most 0 lexemes at
-    → IsOneTooMany most file at
-too_many most file lexemes at tokens deep =
+too_many : (bound : ℕ) (file : List ℕ) (lexemes : List Lexeme) (at : ℕ) → IsTokens file lexemes → IsDeepAt file bound 0 lexemes at
+    → IsOneTooMany bound file at
+too_many bound file lexemes at tokens deep =
     let p = runs-passed (omega arith) deep.runs in (
       p.before,
       deep.opening,
       deep.more,
       subst (IsTokens file) p.same tokens,
       deep.opens,
-      deep.place,
+      deep.position,
       omega (arith, p.count),
       λ n. omega (arith, p.within n),
     )
@@ -148,14 +148,14 @@ too_many most file lexemes at tokens deep =
 -- ---- the result
 
 -- a reading is the metagrammar's, and within the nesting limit
-read_within : (file : List ℕ) (most : ℕ) (lexemes : List Lexeme) (read : RulesRead) → IsTokens file lexemes
-    → ExactFile file (Ok read) → RulesReach file most lexemes (Ok read) → IsReadingWithin most file read.rules
-read_within file most lexemes read tokens exact reach =
+read_within : (file : List ℕ) (bound : ℕ) (lexemes : List Lexeme) (read : RulesRead) → IsTokens file lexemes
+    → ExactFile file (Ok read) → RulesReach file bound lexemes (Ok read) → IsReadingWithin bound file read.rules
+read_within file bound lexemes read tokens exact reach =
     let matched : Matches file (codes "Grammar") 0 exact.end exact.trees = matches (exact.derives (between 0 0)) in
     let fine = counts-tokens file lexemes tokens exact.end exact.trees matched ∙ reach.2 in
     ((exact.end, exact.trees, matched, fine, exact.spells), λ end trees m. flat end trees m)
   where
-    flat : (end : ℕ) (trees : Trees) → Matches file (codes "Grammar") 0 end trees → nesting trees ≤ most
+    flat : (end : ℕ) (trees : Trees) → Matches file (codes "Grammar") 0 end trees → nesting trees ≤ bound
     flat end trees m =
         let same : Matched end trees ≡ Matched exact.end exact.trees = one_result (derives m) (exact.derives (between 0 0)) in
         let one : trees ≡ exact.trees = cc in
@@ -166,17 +166,17 @@ not_matched : (file : List ℕ) → ((span : Rattle.peg_bytes.specs.Extent.Exten
 not_matched file fails end trees m =
     let bad : Matched end trees ≡ Failed = one_result (derives m) (fails (between 0 0)) in cc
 
--- if `most` parentheses are open after some tokens and another one opens, they nest deeper
-runs-deepest : {file : List ℕ} {most a b : ℕ} {lexemes rest : List Lexeme} → Runs file most a lexemes b rest
+-- if `bound` parentheses are open after some tokens and another one opens, they nest deeper
+runs-deepest : {file : List ℕ} {bound a b : ℕ} {lexemes rest : List Lexeme} → Runs file bound a lexemes b rest
     → b + deepest rest ≤ a + deepest lexemes
 runs-deepest Runs.stays = omega arith
 runs-deepest (Runs.opened is less run) = omega (arith, ap one_if_open is, ap one_if_close is, runs-deepest run)
 runs-deepest (Runs.shut is run) = omega (arith, ap one_if_open is, ap one_if_close is, runs-deepest run)
 runs-deepest (Runs.other plain run) = omega (arith, plain.no_open, plain.no_close, runs-deepest run)
 
-nests_deeper : (file : List ℕ) (most : ℕ) (lexemes : List Lexeme) (at : ℕ) → IsTokens file lexemes
-    → IsDeepAt file most 0 lexemes at → NestsDeeper most file
-nests_deeper file most lexemes at tokens deep end trees m =
+nests_deeper : (file : List ℕ) (bound : ℕ) (lexemes : List Lexeme) (at : ℕ) → IsTokens file lexemes
+    → IsDeepAt file bound 0 lexemes at → NestsDeeper bound file
+nests_deeper file bound lexemes at tokens deep end trees m =
     omega (
       arith,
       nests-tokens file lexemes tokens end trees m,
@@ -236,10 +236,10 @@ bad_tree : (file : List ℕ) (count : Lexeme) (more : List Lexeme) (q : ℕ) →
     → (end : ℕ) × (trees : Trees) × Matches file (codes "COUNT") count.text.start end trees
     × (bad_counts file trees ≡ count.text.start ∷ [])
 bad_tree file count more q (Stream.next k piece lexeme found is rest) bad =
-    let counts : count.kind ≡ token.Count = count_kind count.kind (not (bounds_in_range (bounds_of file count))) bad in
+    let counts : count.kind ≡ token.Count = count_kind count.kind (not (bounds_in_range (bounds_of_lexeme file count))) bad in
     let kinds : k ≡ token.Count = sym (ap (λ (l : Lexeme). l.kind) is) ∙ counts in
     let starts : count.text.start ≡ q = ap (λ (l : Lexeme). l.text.start) is in
-    let there : text_of token.Count (drop q file) ≡ Some piece = subst (λ k. text_of k (drop q file) ≡ Some piece) kinds found in
+    let there : matcher_of token.Count (drop q file) ≡ Some piece = subst (λ k. matcher_of k (drop q file) ≡ Some piece) kinds found in
     let it = here token.Count piece (between 0 0) there in
     let one : Lexeme = lexeme_here token.Count q it.trees in
     let same : is_bad_count file one ≡ is_bad_count file count =
@@ -259,40 +259,40 @@ bad_token file lexemes at tokens it =
       it.count,
       it.more,
       all,
-      count_kind it.count.kind (not (bounds_in_range (bounds_of file it.count))) it.bad,
-      it.place,
+      count_kind it.count.kind (not (bounds_in_range (bounds_of_lexeme file it.count))) it.bad,
+      it.position,
       subst (λ n. (end : ℕ) × (trees : Trees) × Matches file (codes "COUNT") n end trees × (bad_counts file trees ≡ n ∷ []))
-          (sym it.place) (bad_tree file it.count it.more there.0 there.1 it.bad),
+          (sym it.position) (bad_tree file it.count it.more there.0 there.1 it.bad),
     )
 
 -- it starts in the file
 bad_within : (file : List ℕ) (before : List Lexeme) (count : Lexeme) (more : List Lexeme) (at from : ℕ)
     → AreTexts file from (before ++ count ∷ more) → at ≡ count.text.start → at ≤ length file
-bad_within file [] count more at from texts place =
-    omega (arith, place, token-order file from count more texts, texts-within file count.text.end more texts.2)
-bad_within file (lexeme ∷ before) count more at from texts place =
-    bad_within file before count more at lexeme.text.end texts.2 place
+bad_within file [] count more at from texts position =
+    omega (arith, position, token-order file from count more texts, texts-within file count.text.end more texts.2)
+bad_within file (lexeme ∷ before) count more at from texts position =
+    bad_within file before count more at lexeme.text.end texts.2 position
 
 -- what is read of the tokens of a file with at most this number of open parentheses
-pub record OfTokens (file : List ℕ) (most : ℕ) (lexemes : List Lexeme) : Type 0 where
-  pub read : (r : RulesRead) → grammar file most lexemes ≡ Ok r → IsReadingWithin most file r.rules
-  pub lies : (r : RulesRead) → grammar file most lexemes ≡ Ok r → All (RuleLiesIn (length file)) r.rules
-  pub unread : (at : ℕ) → grammar file most lexemes ≡ Err (Unexpected at) → (¬ FigureMatches file) × IsTokenPlace file at
-  pub deep : (at : ℕ) → grammar file most lexemes ≡ Err (TooDeep at) → NestsDeeper most file × IsOneTooMany most file at
-  pub bad : (at : ℕ) → grammar file most lexemes ≡ Err (BadCountAt at) → CountsOutOfRange file × IsBadCountToken file at
+pub record OfTokens (file : List ℕ) (bound : ℕ) (lexemes : List Lexeme) : Type 0 where
+  pub read : (r : RulesRead) → grammar file bound lexemes ≡ Ok r → IsReadingWithin bound file r.rules
+  pub lies : (r : RulesRead) → grammar file bound lexemes ≡ Ok r → All (RuleLiesIn (length file)) r.rules
+  pub unread : (at : ℕ) → grammar file bound lexemes ≡ Err (Unexpected at) → (¬ FigureMatches file) × IsTokenPlace file at
+  pub deep : (at : ℕ) → grammar file bound lexemes ≡ Err (TooDeepAt at) → NestsDeeper bound file × IsOneTooMany bound file at
+  pub bad : (at : ℕ) → grammar file bound lexemes ≡ Err (BadCountAt at) → CountsOutOfRange file × IsBadCountToken file at
       × (at ≤ length file)
 
-pub answers : (file : List ℕ) (most : ℕ) (lexemes : List Lexeme) → IsTokens file lexemes → OfTokens file most lexemes
-answers file most lexemes tokens =
-    let read = grammar file most lexemes in
-    let exact : ExactFile file read = grammar-exact file most lexemes (tokens-stream file lexemes tokens) in
-    let reach : RulesReach file most lexemes read = grammar-reaches file most 0 lexemes (tokens-texts file lexemes tokens) in
-    let exact_as : (x : Result RulesRead Halt) → read ≡ x → ExactFile file x =
-    λ x found. subst (λ (y : Result RulesRead Halt). ExactFile file y) found exact in
-    let reach_as : (x : Result RulesRead Halt) → read ≡ x → RulesReach file most lexemes x =
-    λ x found. subst (λ (y : Result RulesRead Halt). RulesReach file most lexemes y) found reach in
+pub answers : (file : List ℕ) (bound : ℕ) (lexemes : List Lexeme) → IsTokens file lexemes → OfTokens file bound lexemes
+answers file bound lexemes tokens =
+    let read = grammar file bound lexemes in
+    let exact : ExactFile file read = grammar-exact file bound lexemes (tokens-stream file lexemes tokens) in
+    let reach : RulesReach file bound lexemes read = grammar-reaches file bound 0 lexemes (tokens-texts file lexemes tokens) in
+    let exact_as : (x : Result RulesRead ReadError) → read ≡ x → ExactFile file x =
+    λ x found. subst (λ (y : Result RulesRead ReadError). ExactFile file y) found exact in
+    let reach_as : (x : Result RulesRead ReadError) → read ≡ x → RulesReach file bound lexemes x =
+    λ x found. subst (λ (y : Result RulesRead ReadError). RulesReach file bound lexemes y) found reach in
     record {
-      read = λ r found. read_within file most lexemes r tokens (exact_as (Ok r) found) (reach_as (Ok r) found);
+      read = λ r found. read_within file bound lexemes r tokens (exact_as (Ok r) found) (reach_as (Ok r) found);
       lies = λ r found. (reach_as (Ok r) found).0;
       unread = λ at found. (
         λ m. not_matched file (exact_as (Err (Unexpected at)) found) m.0 m.1 m.2,
@@ -300,19 +300,19 @@ answers file most lexemes tokens =
           lexemes,
           tokens,
           token_place (length file) lexemes at
-              (subst (λ (x : Result RulesRead Halt). StopsAt (length file) lexemes x) found (grammar-stops file most lexemes)),
+              (subst (λ (x : Result RulesRead ReadError). StopsAt (length file) lexemes x) found (grammar-stops file bound lexemes)),
         ),
       );
       deep = λ at found. (
-        nests_deeper file most lexemes at tokens (reach_as (Err (TooDeep at)) found),
-        too_many most file lexemes at tokens (reach_as (Err (TooDeep at)) found),
+        nests_deeper file bound lexemes at tokens (reach_as (Err (TooDeepAt at)) found),
+        too_many bound file lexemes at tokens (reach_as (Err (TooDeepAt at)) found),
       );
       bad = λ at found.
           let it = reach_as (Err (BadCountAt at)) found in (
             out_of_range file lexemes at tokens it,
             bad_token file lexemes at tokens it,
             bad_within file it.before it.count it.more at 0
-                (subst (AreTexts file 0) it.same (tokens-texts file lexemes tokens)) it.place,
+                (subst (AreTexts file 0) it.same (tokens-texts file lexemes tokens)) it.position,
           );
     }
 
@@ -329,7 +329,7 @@ lexing_lies file Memory is = tt
 
 -- the result of the reader on the tokens of a file is the result of reading the file
 pub fault_reads : (file : List ℕ) (lexemes : List Lexeme) (fault : NotationFault) → length file ≤ max_file_bytes
-    → IsTokens file lexemes → ConveysHalt (grammar file max_open lexemes) fault → Reads file (Err fault)
+    → IsTokens file lexemes → AgreesOnError (grammar file max_open lexemes) fault → Reads file (Err fault)
 fault_reads file lexemes answer.FileTooLong short tokens is = absurd is
 fault_reads file lexemes (answer.Syntax at) short tokens is =
     let it = (answers file max_open lexemes tokens).unread at is in (short, it.0, inr it.1)
@@ -347,7 +347,7 @@ starts_within file from (lexeme ∷ more) at texts (IsPlace.first is) =
     omega (arith, is, token-order file from lexeme more texts, texts-within file lexeme.text.end more texts.2)
 starts_within file from (lexeme ∷ more) at texts (IsPlace.later rest) = starts_within file lexeme.text.end more at texts.2 rest
 
-runs_within : (file : List ℕ) {most a b : ℕ} {lexemes rest : List Lexeme} → Runs file most a lexemes b rest → (from : ℕ)
+runs_within : (file : List ℕ) {bound a b : ℕ} {lexemes rest : List Lexeme} → Runs file bound a lexemes b rest → (from : ℕ)
     → AreTexts file from lexemes → (to : ℕ) × AreTexts file to rest
 runs_within file Runs.stays from texts = (from, texts)
 runs_within file (Runs.opened {lexeme = lexeme} is less run) from texts = runs_within file run lexeme.text.end texts.2
@@ -355,19 +355,19 @@ runs_within file (Runs.shut {lexeme = lexeme} is run) from texts = runs_within f
 runs_within file (Runs.other {lexeme = lexeme} plain run) from texts = runs_within file run lexeme.text.end texts.2
 
 pub fault_lies : (file : List ℕ) (lexemes : List Lexeme) (fault : NotationFault) → IsTokens file lexemes
-    → ConveysHalt (grammar file max_open lexemes) fault → AnswerLiesIn (length file) (Err fault)
+    → AgreesOnError (grammar file max_open lexemes) fault → AnswerLiesIn (length file) (Err fault)
 fault_lies file lexemes answer.FileTooLong tokens is = tt
 fault_lies file lexemes (answer.Syntax at) tokens is =
     starts_within file 0 lexemes at (tokens-texts file lexemes tokens)
-    (subst (λ (x : Result RulesRead Halt). StopsAt (length file) lexemes x) is (grammar-stops file max_open lexemes))
+    (subst (λ (x : Result RulesRead ReadError). StopsAt (length file) lexemes x) is (grammar-stops file max_open lexemes))
 fault_lies file lexemes (answer.TooNested at) tokens is =
     let texts = tokens-texts file lexemes tokens in
     let deep : IsDeepAt file max_open 0 lexemes at =
-    subst (λ (x : Result RulesRead Halt). RulesReach file max_open lexemes x) is (grammar-reaches file max_open 0 lexemes texts) in
+    subst (λ (x : Result RulesRead ReadError). RulesReach file max_open lexemes x) is (grammar-reaches file max_open 0 lexemes texts) in
     let left = runs_within file deep.runs 0 texts in
     omega (
       arith,
-      deep.place,
+      deep.position,
       token-order file left.0 deep.opening deep.more left.1,
       texts-within file deep.opening.text.end deep.more left.1.2,
     )

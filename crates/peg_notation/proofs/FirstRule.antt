@@ -4,23 +4,23 @@ use Rattle.std.proofs.Common.{append-nil, subst}
 use Rattle.peg_bytes.specs.Extent.{Extent, between}
 use Rattle.peg_tree.specs.Trees.{Trees, NoTrees, Tree, followed_by}
 use Rattle.peg_semantics.specs.Form.{Form, Forms, Name, Seq, Plus, End, Then}
-use Rattle.peg_semantics.specs.Record.{Recognition, Failed, Matched, behind}
-use Rattle.peg_semantics.specs.Rules.{Rule, Meaning, meant}
+use Rattle.peg_semantics.specs.Record.{Recognition, Failed, Matched, prepend_trees}
+use Rattle.peg_semantics.specs.Rules.{Rule, Meaning, meaning_of}
 use Rattle.peg_semantics.proofs.Derivations.{Derives, DerivesItems, derived, one_result}
 use Rattle.peg_metagrammar.specs.Figure.{figure, grammar_body, definition_body}
 use Rattle.peg_metagrammar.specs.FigureRules as rule
-use Rattle.peg_lexer.specs.Lexical.{text_of}
-use Rattle.peg_lexer.specs.Pieces.{Piece}
+use Rattle.peg_lexer.specs.Lexical.{matcher_of}
+use Rattle.peg_lexer.specs.Matchers.{PrefixMatch}
 use Rattle.peg_metagrammar.specs.Notation.{IsReading}
-use Rattle.peg_metagrammar.specs.Spelled.{Spelling, Byte, Bytes, Numeral, Word, Sign, Expression, Definition}
-use Rattle.peg_metagrammar.specs.Spelled.{text_end, part, spelled, choice_spelled, definition_spelled, expressions_in}
-use Rattle.peg_metagrammar.specs.Spelled.{rules_in, rules_spelled}
+use Rattle.peg_metagrammar.specs.Denotation.{Denotation, Byte, Bytes, Numeral, Word, Sign, Expression, Definition}
+use Rattle.peg_metagrammar.specs.Denotation.{text_end, part, spelled, choice_spelled, definition_spelled, expressions_in}
+use Rattle.peg_metagrammar.specs.Denotation.{rules_denoted, rules_spelled}
 use Rattle.peg_lexer.specs.declared.token.TokenKind.TheVariants as kind
-use Rattle.peg_metagrammar.proofs.FigureNames.{grammar-meant, definition-meant, identifier-meant, expression-meant}
-use Rattle.peg_lexer.proofs.PieceSizes.{blank-these}
+use Rattle.peg_metagrammar.proofs.FigureNames.{grammar-meaning_of, definition-meaning_of, identifier-meaning_of, expression-meaning_of}
+use Rattle.peg_lexer.proofs.PieceSizes.{blank-literal_bytes}
 use Rattle.peg_notation.proofs.Streams.{here}
-use Rattle.peg_bootstrap.proofs.TokenNodes.{takes-kind}
-use Rattle.peg_lexer.proofs.Takes.{spelled-followed}
+use Rattle.peg_lexer.proofs.KindRules.{takes-kind}
+use Rattle.peg_lexer.proofs.Takes.{spelled-seq_matcher}
 use Rattle.peg_lexer.proofs.Texts.{FindsToken}
 
 -- ---- the parts of a derivation
@@ -31,7 +31,7 @@ record InName (file : List ℕ) (m : Meaning) (p end : ℕ) (trees : Trees) : Ty
   derives : Derives figure file m.body p (Matched end inner)
   is : trees ≡ Tree m.rule p end inner NoTrees
 
-in_name : {file used : List ℕ} {span : Extent} {p end : ℕ} {trees : Trees} (m : Meaning) → meant figure used ≡ Some m
+in_name : {file used : List ℕ} {span : Extent} {p end : ℕ} {trees : Trees} (m : Meaning) → meaning_of figure used ≡ Some m
     → Derives figure file (Name used span) p (Matched end trees) → InName file m p end trees
 in_name {file} {used} {span} {p} {end} m known (Derives.name_matched {meaning = other} {trees = inner} same d is) =
     let it : other ≡ m = let both : Some other ≡ Some m = sym same ∙ known in cc in
@@ -55,7 +55,7 @@ in_items : {file : List ℕ} {item : Form} {rest : Forms} {p end : ℕ} {trees :
 in_items {file} {item} {rest} {p} {end} {trees}
     (DerivesItems.items_then {middle = middle} {trees = first} {more = result} d others is) = by result others is
   where
-    by : (x : Recognition) → DerivesItems figure file rest middle x → Matched end trees ≡ behind first x
+    by : (x : Recognition) → DerivesItems figure file rest middle x → Matched end trees ≡ prepend_trees first x
         → InItems file item rest p end trees
     by Failed others is = cc
     by (Matched last more) others is =
@@ -79,16 +79,16 @@ in_sequence (Derives.sequence items) = items
 arrow-blank : (file : List ℕ) (span : Extent) (p end : ℕ) (trees : Trees)
     → Derives figure file (Name (codes "LEFTARROW") span) p (Matched end trees) → (before : ℕ)
     → spelled file before trees ≡ []
-arrow-blank file span p end trees d before = by (text_of kind.Arrow (drop p file)) refl
+arrow-blank file span p end trees d before = by (matcher_of kind.Arrow (drop p file)) refl
   where
-    by : (text : Option Piece) → text_of kind.Arrow (drop p file) ≡ text → spelled file before trees ≡ []
+    by : (text : Option PrefixMatch) → matcher_of kind.Arrow (drop p file) ≡ text → spelled file before trees ≡ []
     by None none =
         let bad : Matched end trees ≡ Failed = one_result d ((takes-kind file kind.Arrow).none span p none) in cc
     by (Some piece) found =
         let it : FindsToken file rule.leftarrow (codes "LEFTARROW") span p piece = here kind.Arrow piece span found in
         let both = one_result d it.derives in
         let same : trees ≡ it.trees = cc in
-        ap (spelled file before) same ∙ (it.spells before ∙ (blank-these (codes "<-")).blank (drop p file) piece found)
+        ap (spelled file before) same ∙ (it.spells before ∙ (blank-literal_bytes (codes "<-")).blank (drop p file) piece found)
 
 -- no items give no tree
 in_nothing : {file : List ℕ} {p end : ℕ} {trees : Trees} → DerivesItems figure file End p (Matched end trees)
@@ -101,12 +101,12 @@ definition-spells : (file : List ℕ) (span : Extent) (p end : ℕ) (trees : Tre
     → (r : Rule) × (spelled file before trees ≡ Definition r ∷ [])
 unfolding definition_body
 definition-spells file span p end trees d before =
-    let node = in_name _ definition-meant.1 d in
+    let node = in_name _ definition-meaning_of.1 d in
     let a = in_items (in_sequence node.derives) in
     let b = in_items a.there_is in
     let c = in_items b.there_is in
-    let name = in_name _ identifier-meant.1 a.here_is in
-    let body = in_name _ expression-meant.1 c.here_is in
+    let name = in_name _ identifier-meaning_of.1 a.here_is in
+    let body = in_name _ expression-meaning_of.1 c.here_is in
     let behind_name = text_end before a.first in
     let behind_arrow = text_end behind_name b.first in
     let last = text_end before name.inner in
@@ -121,13 +121,13 @@ definition-spells file span p end trees d before =
     ap (spelled file (text_end behind_arrow c.first)) (in_nothing c.there_is) in
     let from_body : spelled file behind_arrow b.more ≡ Expression form ∷ [] =
     ap (spelled file behind_arrow) c.is
-    ∙ (spelled-followed file behind_arrow c.first c.more ∙ (λ i. bodies i ++ nothing i)) in
+    ∙ (spelled-seq_matcher file behind_arrow c.first c.more ∙ (λ i. bodies i ++ nothing i)) in
     let from_arrow : spelled file behind_name a.more ≡ Expression form ∷ [] =
     ap (spelled file behind_name) b.is
-    ∙ (spelled-followed file behind_name b.first b.more ∙ (λ i. arrows i ++ from_body i)) in
+    ∙ (spelled-seq_matcher file behind_name b.first b.more ∙ (λ i. arrows i ++ from_body i)) in
     let inside : spelled file before node.inner ≡ Word (part file p last) (between p last) ∷ Expression form ∷ [] =
     ap (spelled file before) a.is
-    ∙ (spelled-followed file before a.first a.more ∙ (λ i. names i ++ from_arrow i)) in (
+    ∙ (spelled-seq_matcher file before a.first a.more ∙ (λ i. names i ++ from_arrow i)) in (
       record {
         name = part file p last;
         span = between p last;
@@ -153,16 +153,16 @@ in_plus (Derives.plus_matched {middle = middle} {first = first} {more = more} d 
     record { middle = middle; first = first; more = more; here_is = d; is = is }
 
 -- if a definition is among the pieces, a rule is
-rules_in-some : (pieces : List Spelling) (r : Rule) (others : List Spelling)
-    → rules_in (pieces ++ Definition r ∷ others) ≢ []
-rules_in-some [] r others none = cc
-rules_in-some (Definition first ∷ pieces) r others none = cc
-rules_in-some (Byte byte ∷ pieces) r others none = rules_in-some pieces r others none
-rules_in-some (Bytes bytes ∷ pieces) r others none = rules_in-some pieces r others none
-rules_in-some (Numeral value ∷ pieces) r others none = rules_in-some pieces r others none
-rules_in-some (Word name span ∷ pieces) r others none = rules_in-some pieces r others none
-rules_in-some (Sign sign ∷ pieces) r others none = rules_in-some pieces r others none
-rules_in-some (Expression form ∷ pieces) r others none = rules_in-some pieces r others none
+rules_denoted-some : (pieces : List Denotation) (r : Rule) (others : List Denotation)
+    → rules_denoted (pieces ++ Definition r ∷ others) ≢ []
+rules_denoted-some [] r others none = cc
+rules_denoted-some (Definition first ∷ pieces) r others none = cc
+rules_denoted-some (Byte byte ∷ pieces) r others none = rules_denoted-some pieces r others none
+rules_denoted-some (Bytes bytes ∷ pieces) r others none = rules_denoted-some pieces r others none
+rules_denoted-some (Numeral value ∷ pieces) r others none = rules_denoted-some pieces r others none
+rules_denoted-some (Word name span ∷ pieces) r others none = rules_denoted-some pieces r others none
+rules_denoted-some (Sign sign ∷ pieces) r others none = rules_denoted-some pieces r others none
+rules_denoted-some (Expression form ∷ pieces) r others none = rules_denoted-some pieces r others none
 
 -- the reading of a file has a rule
 pub IsReading-some : (file : List ℕ) (rules : List Rule) → IsReading file rules → rules ≢ []
@@ -171,7 +171,7 @@ IsReading-some file rules reading none =
     let matched = reading.2 in
     let d = subst (λ (x : Recognition). Derives figure file (Name (codes "Grammar") (between 0 0)) 0 x) matched.2
     (derived figure file matched.1.0 (Name (codes "Grammar") (between 0 0)) 0 0 matched.0 matched.1.1) in
-    let node = in_name _ grammar-meant.1 d in
+    let node = in_name _ grammar-meaning_of.1 d in
     let gap = in_items (in_sequence node.derives) in
     let rest = in_items gap.there_is in
     let plus = in_plus rest.here_is in
@@ -181,14 +181,14 @@ IsReading-some file rules reading none =
     let last = spelled file (text_end behind_gap rest.first) rest.more in
     let definitions : spelled file behind_gap rest.first ≡ Definition one.0 ∷ others =
     ap (spelled file behind_gap) plus.is
-    ∙ (spelled-followed file behind_gap plus.first plus.more ∙ (λ i. one.1 i ++ others)) in
-    let behind : spelled file behind_gap gap.more ≡ Definition one.0 ∷ (others ++ last) =
+    ∙ (spelled-seq_matcher file behind_gap plus.first plus.more ∙ (λ i. one.1 i ++ others)) in
+    let prepend_trees : spelled file behind_gap gap.more ≡ Definition one.0 ∷ (others ++ last) =
     ap (spelled file behind_gap) rest.is
-    ∙ (spelled-followed file behind_gap rest.first rest.more ∙ (λ i. definitions i ++ last)) in
+    ∙ (spelled-seq_matcher file behind_gap rest.first rest.more ∙ (λ i. definitions i ++ last)) in
     let all : spelled file 0 node.inner ≡ spelled file 0 gap.first ++ Definition one.0 ∷ (others ++ last) =
     ap (spelled file 0) gap.is
-    ∙ (spelled-followed file 0 gap.first gap.more ∙ (λ i. spelled file 0 gap.first ++ behind i)) in
+    ∙ (spelled-seq_matcher file 0 gap.first gap.more ∙ (λ i. spelled file 0 gap.first ++ prepend_trees i)) in
     let whole : rules_spelled file reading.1
-    ≡ rules_in (spelled file 0 gap.first ++ Definition one.0 ∷ (others ++ last)) =
-    ap (rules_spelled file) node.is ∙ ap rules_in (append-nil (spelled file 0 node.inner) ∙ all) in
-    rules_in-some (spelled file 0 gap.first) one.0 (others ++ last) (sym whole ∙ (sym reading.4 ∙ none))
+    ≡ rules_denoted (spelled file 0 gap.first ++ Definition one.0 ∷ (others ++ last)) =
+    ap (rules_spelled file) node.is ∙ ap rules_denoted (append-nil (spelled file 0 node.inner) ∙ all) in
+    rules_denoted-some (spelled file 0 gap.first) one.0 (others ++ last) (sym whole ∙ (sym reading.4 ∙ none))

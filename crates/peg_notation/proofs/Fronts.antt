@@ -7,7 +7,7 @@ use Rattle.peg_bytes.specs.ByteSet.{has}
 use Rattle.peg_tree.specs.Trees.{Trees}
 use Rattle.peg_semantics.specs.Form.{Form, Forms, Literal, Class, Any, Name, Seq, Choice, Optional, Star, Plus, Counted, And, Not, End, Then}
 use Rattle.peg_semantics.specs.Record.{Recognition, Failed, Matched}
-use Rattle.peg_semantics.specs.Rules.{Rule, Meaning, meant}
+use Rattle.peg_semantics.specs.Rules.{Rule, Meaning, meaning_of}
 use Rattle.peg_semantics.proofs.Derivations.{Derives, DerivesItems, DerivesFirst}
 use Rattle.peg_semantics.proofs.ResultSteps.{begins_with, passes_any}
 
@@ -71,7 +71,7 @@ meant_may_match known at (Some m) = may_match known at m.body
 -- the same for a name, in this number of steps from name to name
 abbrev pub name_may_match : List Rule → ℕ → Option ℕ → List ℕ → Bool
 name_may_match rules zero at used = true
-name_may_match rules (suc n) at used = meant_may_match (name_may_match rules n at) at (meant rules used)
+name_may_match rules (suc n) at used = meant_may_match (name_may_match rules n at) at (meaning_of rules used)
 
 or_first : (a b : Bool) → a ≡ true → (a || b) ≡ true
 or_first a b is = ap (λ t. t || b) is
@@ -115,12 +115,12 @@ module _ {rules : List Rule} {file : List ℕ} where
     pub matches_front : (n : ℕ) {e : Form} {p end : ℕ} {trees : Trees}
         → Derives rules file e p (Matched end trees)
         → may_match (name_may_match rules n (front (drop p file))) (front (drop p file)) e ≡ true
-    matches_front n (Derives.literal_matched {bytes = bytes} {span = span} {place = p} is end) =
+    matches_front n (Derives.literal_matched {bytes = bytes} {span = span} {position = p} is end) =
         literal_front bytes (drop p file) is (name_may_match rules n (front (drop p file))) span
-    matches_front n (Derives.class_matched {set = set} {place = p} is end) = class_front (has set) (drop p file) is
-    matches_front n (Derives.any_matched {place = p} is end) = class_front passes_any (drop p file) is
+    matches_front n (Derives.class_matched {set = set} {position = p} is end) = class_front (has set) (drop p file) is
+    matches_front n (Derives.any_matched {position = p} is end) = class_front passes_any (drop p file) is
     matches_front zero (Derives.name_matched found d t) = refl
-    matches_front (suc n) (Derives.name_matched {place = p} found d t) =
+    matches_front (suc n) (Derives.name_matched {position = p} found d t) =
         ap (meant_may_match (name_may_match rules n (front (drop p file))) (front (drop p file))) found ∙ matches_front n d
     matches_front n (Derives.sequence ds) = items_front n ds
     matches_front n (Derives.choice ds) = first_front n ds
@@ -143,12 +143,12 @@ module _ {rules : List Rule} {file : List ℕ} where
         → DerivesFirst rules file first rest p (Matched end trees)
         → (may_match (name_may_match rules n (front (drop p file))) (front (drop p file)) first
         || some_may_match (name_may_match rules n (front (drop p file))) (front (drop p file)) rest) ≡ true
-    first_front n (DerivesFirst.alternative_last {only = only} {place = p} d) =
+    first_front n (DerivesFirst.alternative_last {only = only} {position = p} d) =
         or_first (may_match (name_may_match rules n (front (drop p file))) (front (drop p file)) only) false (matches_front n d)
-    first_front n (DerivesFirst.alternative_matched {first = first} {next = next} {rest = rest} {place = p} d) =
+    first_front n (DerivesFirst.alternative_matched {first = first} {next = next} {rest = rest} {position = p} d) =
         or_first (may_match (name_may_match rules n (front (drop p file))) (front (drop p file)) first)
         (some_may_match (name_may_match rules n (front (drop p file))) (front (drop p file)) (Then next rest)) (matches_front n d)
-    first_front n (DerivesFirst.alternative_failed {first = first} {next = next} {rest = rest} {place = p} d ds) =
+    first_front n (DerivesFirst.alternative_failed {first = first} {next = next} {rest = rest} {position = p} d ds) =
         or_other (may_match (name_may_match rules n (front (drop p file))) (front (drop p file)) first)
         (some_may_match (name_may_match rules n (front (drop p file))) (front (drop p file)) (Then next rest)) (first_front n ds)
 

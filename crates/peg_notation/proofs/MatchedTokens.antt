@@ -6,8 +6,8 @@ use Rattle.std.proofs.lemmas.List.Sums.{sum_by-append, sum_by-cons}
 use Rattle.peg_bytes.specs.Extent.{Extent, between}
 use Rattle.peg_tree.specs.Trees.{Trees, NoTrees, Tree, followed_by}
 use Rattle.peg_semantics.specs.Form.{Form, Forms, Literal, Class, Any, Name, Seq, Choice, Optional, Star, Plus, Counted, And, Not, End, Then}
-use Rattle.peg_semantics.specs.Record.{Recognition, Failed, Matched, behind}
-use Rattle.peg_semantics.specs.Rules.{Meaning, meant}
+use Rattle.peg_semantics.specs.Record.{Recognition, Failed, Matched, prepend_trees}
+use Rattle.peg_semantics.specs.Rules.{Meaning, meaning_of}
 use Rattle.peg_semantics.proofs.Derivations.{Derives, DerivesItems, DerivesFirst, recorded, derived, one_result}
 use Rattle.peg_semantics.proofs.ResultSteps.{begins_with, passes_any}
 use Rattle.peg_semantics.proofs.TerminalLemmas.{record_in-ends}
@@ -15,23 +15,23 @@ use Rattle.peg_metagrammar.specs.Figure.{figure, grammar_body, definition_body, 
 use Rattle.peg_metagrammar.specs.FigureRules as rule
 use Rattle.peg_metagrammar.specs.Nesting.{nesting, has_open}
 use Rattle.peg_metagrammar.specs.Notation.{Matches, FigureMatches}
-use Rattle.peg_metagrammar.specs.Spelled.{text_end, spelled, numerals_in, bounds_spelled, bounds_in_range, bad_counts}
+use Rattle.peg_metagrammar.specs.Denotation.{text_end, spelled, numerals_in, bounds_spelled, bounds_in_range, bad_counts}
 use Rattle.peg_lexer.specs.Tokens.{rule_of_kind, Lexeme, Lexemes, IsTokens, IsLexingFault}
 use Rattle.peg_lexer.specs.declared.token.TokenKind.{TokenKind}
 use Rattle.peg_lexer.specs.declared.token.TokenKind.TheVariants as kind
-use Rattle.peg_metagrammar.proofs.FigureNames.{grammar-meant, definition-meant, expression-meant, sequence-meant, prefix-meant, suffix-meant, primary-meant, open_sign-meant, end_of_file-meant}
+use Rattle.peg_metagrammar.proofs.FigureNames.{grammar-meaning_of, definition-meaning_of, expression-meaning_of, sequence-meaning_of, prefix-meaning_of, suffix-meaning_of, primary-meaning_of, open_sign-meaning_of, end_of_file-meaning_of}
 use Rattle.peg_lexer.proofs.Lexemes.{matches}
 use Rattle.peg_lexer.proofs.OneLexing.{tokens_or_fault, one_list}
-use Rattle.peg_lexer.proofs.Takes.{nesting-followed, bad_counts-followed}
+use Rattle.peg_lexer.proofs.Takes.{nesting-seq_matcher, bad_counts-seq_matcher}
 use Rattle.peg_notation.specs.Reads.{one_if_open, opens, one_if_close, closes}
 use Rattle.peg_notation.specs.Reader.{is_count, is_bad_count}
 use Rattle.peg_notation.proofs.Readings.{has_open-followed}
 use Rattle.peg_notation.proofs.ReachedRules.{bad_places}
-use Rattle.peg_lexer.specs.Lexical.{text_of}
-use Rattle.peg_lexer.specs.Pieces.{Piece}
+use Rattle.peg_lexer.specs.Lexical.{matcher_of}
+use Rattle.peg_lexer.specs.Matchers.{PrefixMatch}
 use Rattle.peg_lexer.proofs.SpacingRules.{finds-spacing}
 use Rattle.peg_lexer.proofs.Texts.{FindsToken, behind_text}
-use Rattle.peg_bootstrap.proofs.TokenNodes.{number_of, takes-kind}
+use Rattle.peg_lexer.proofs.KindRules.{number_of, takes-kind}
 
 -- ---- expressions over tokens
 
@@ -134,26 +134,26 @@ TakesBody m =
     (OfTokens m.body ⊎ (IsPrimaryChoice m.body × (m.rule ≡ rule.primary))) × ((m.rule == rule.count) ≡ false)
 
 -- a name has one meaning
-meant_body : (name used : List ℕ) (m known : Meaning) → used ≡ name → meant figure name ≡ Some known
-    → meant figure used ≡ Some m → TakesBody known → TakesBody m
+meant_body : (name used : List ℕ) (m known : Meaning) → used ≡ name → meaning_of figure name ≡ Some known
+    → meaning_of figure used ≡ Some m → TakesBody known → TakesBody m
 meant_body name used m known is there found takes =
-    let same : Some known ≡ Some m = sym there ∙ (ap (meant figure) (sym is) ∙ found) in
+    let same : Some known ≡ Some m = sym there ∙ (ap (meaning_of figure) (sym is) ∙ found) in
     let one : known ≡ m = cc in
     subst (λ (x : Meaning). TakesBody x) one takes
 
-body-takes : (used : List ℕ) (m : Meaning) → IsSyntax used → meant figure used ≡ Some m → TakesBody m
+body-takes : (used : List ℕ) (m : Meaning) → IsSyntax used → meaning_of figure used ≡ Some m → TakesBody m
 body-takes used m (IsSyntax.is_definition is) found =
-    meant_body (codes "Definition") used m _ is definition-meant.1 found (inl definition-takes, refl)
+    meant_body (codes "Definition") used m _ is definition-meaning_of.1 found (inl definition-takes, refl)
 body-takes used m (IsSyntax.is_expression is) found =
-    meant_body (codes "Expression") used m _ is expression-meant.1 found (inl expression-takes, refl)
+    meant_body (codes "Expression") used m _ is expression-meaning_of.1 found (inl expression-takes, refl)
 body-takes used m (IsSyntax.is_sequence is) found =
-    meant_body (codes "Sequence") used m _ is sequence-meant.1 found (inl sequence-takes, refl)
+    meant_body (codes "Sequence") used m _ is sequence-meaning_of.1 found (inl sequence-takes, refl)
 body-takes used m (IsSyntax.is_prefix is) found =
-    meant_body (codes "Prefix") used m _ is prefix-meant.1 found (inl prefix-takes, refl)
+    meant_body (codes "Prefix") used m _ is prefix-meaning_of.1 found (inl prefix-takes, refl)
 body-takes used m (IsSyntax.is_suffix is) found =
-    meant_body (codes "Suffix") used m _ is suffix-meant.1 found (inl suffix-takes, refl)
+    meant_body (codes "Suffix") used m _ is suffix-meaning_of.1 found (inl suffix-takes, refl)
 body-takes used m (IsSyntax.is_primary is) found =
-    meant_body (codes "Primary") used m _ is primary-meant.1 found (inr (primary-takes, refl), refl)
+    meant_body (codes "Primary") used m _ is primary-meaning_of.1 found (inr (primary-takes, refl), refl)
 
 -- ---- the nesting depth of tokens
 
@@ -196,20 +196,20 @@ bad_places-append file (lexeme ∷ a) b =
 
 -- There are tokens between two offsets, and each of their parentheses is closed. The trees have the same nesting depth
 -- and the same counts out of range.
-record Stand (file : List ℕ) (place end : ℕ) (trees : Trees) : Type 0 where
+record Stand (file : List ℕ) (position end : ℕ) (trees : Trees) : Type 0 where
   pub list : List Lexeme
-  pub stand : Lexemes file place list end
+  pub stand : Lexemes file position list end
   pub even : opens list ≡ closes list
   pub deep : deepest list ≤ nesting trees
   pub counts : bad_counts file trees ≡ bad_places file list
 
 -- the same for the result of an expression, if it matches
-abbrev Stood : List ℕ → (place : ℕ) → Recognition → Type 0
-Stood file place Failed = Unit {0}
-Stood file place (Matched end trees) = Stand file place end trees
+abbrev Stood : List ℕ → (position : ℕ) → Recognition → Type 0
+Stood file position Failed = Unit {0}
+Stood file position (Matched end trees) = Stand file position end trees
 
-nothing : (file : List ℕ) (place : ℕ) → Stand file place place NoTrees
-nothing file place = record {
+nothing : (file : List ℕ) (position : ℕ) → Stand file position position NoTrees
+nothing file position = record {
   list = [];
   stand = Lexemes.none;
   even = refl;
@@ -229,34 +229,34 @@ both_stand {file} {one = one} {more = more} x y is = record {
   stand = and_stand x.stand y.stand;
   even = omega (arith, opens-append x.list y.list, closes-append x.list y.list, x.even, y.even);
   deep =
-      omega (arith, deepest-append x.list y.list, x.even, x.deep, y.deep, ap nesting is, nesting-followed one more);
+      omega (arith, deepest-append x.list y.list, x.even, x.deep, y.deep, ap nesting is, nesting-seq_matcher one more);
   counts =
-      ap (bad_counts file) is ∙ (bad_counts-followed file one more
+      ap (bad_counts file) is ∙ (bad_counts-seq_matcher file one more
       ∙ ((λ i. x.counts i ++ y.counts i) ∙ sym (bad_places-append file x.list y.list)));
 }
 
-behind_stands : {file : List ℕ} {place middle : ℕ} {one : Trees} → Stand file place middle one → (x : Recognition)
-    → Stood file middle x → Stood file place (behind one x)
+behind_stands : {file : List ℕ} {position middle : ℕ} {one : Trees} → Stand file position middle one → (x : Recognition)
+    → Stood file middle x → Stood file position (prepend_trees one x)
 behind_stands first Failed rest = tt
 behind_stands first (Matched end more) rest = both_stand first rest refl
 
 -- a node of a rule other than COUNT has the counts of its children
-node-counts : (file : List ℕ) (number place end : ℕ) (inside : Trees) → (number == rule.count) ≡ false
-    → bad_counts file (Tree number place end inside NoTrees) ≡ bad_counts file inside
-node-counts file number place end inside no_count =
-    ap (λ (t : Bool). (if t && not (bounds_in_range (bounds_spelled (numerals_in (spelled file place inside)))) then place ∷ []
+node-counts : (file : List ℕ) (number position end : ℕ) (inside : Trees) → (number == rule.count) ≡ false
+    → bad_counts file (Tree number position end inside NoTrees) ≡ bad_counts file inside
+node-counts file number position end inside no_count =
+    ap (λ (t : Bool). (if t && not (bounds_in_range (bounds_spelled (numerals_in (spelled file position inside)))) then position ∷ []
     else []) ++ (bad_counts file inside ++ [])) no_count
     ∙ append-nil (bad_counts file inside)
 
 -- the trees of a rule's node nest at least as deep as those inside
-node_stands : {file : List ℕ} {place end : ℕ} {inside tree : Trees} (number : ℕ) → (number == rule.count) ≡ false
-    → Stand file place end inside → tree ≡ Tree number place end inside NoTrees → Stand file place end tree
-node_stands {file} {place} {end} {inside = inside} number no_count x is = record {
+node_stands : {file : List ℕ} {position end : ℕ} {inside tree : Trees} (number : ℕ) → (number == rule.count) ≡ false
+    → Stand file position end inside → tree ≡ Tree number position end inside NoTrees → Stand file position end tree
+node_stands {file} {position} {end} {inside = inside} number no_count x is = record {
   list = x.list;
   stand = x.stand;
   even = x.even;
   deep = omega (arith, x.deep, ap nesting is, by (number == rule.primary && has_open inside));
-  counts = ap (bad_counts file) is ∙ (node-counts file number place end inside no_count ∙ x.counts);
+  counts = ap (bad_counts file) is ∙ (node-counts file number position end inside no_count ∙ x.counts);
 }
   where
     by : (t : Bool) → nesting inside ≤ max ((if t then 1 else 0) + nesting inside) 0
@@ -266,19 +266,19 @@ node_stands {file} {place} {end} {inside = inside} number no_count x is = record
 -- ---- one token
 
 -- a token of this kind
-abbrev pub lexeme_here : TokenKind → (place : ℕ) → Trees → Lexeme
-lexeme_here k place trees = record { kind = k; text = between place (text_end place trees) }
+abbrev pub lexeme_here : TokenKind → (position : ℕ) → Trees → Lexeme
+lexeme_here k position trees = record { kind = k; text = between position (text_end position trees) }
 
 -- a match of a name is a match wherever the name is called
-elsewhere : {file : List ℕ} {used : List ℕ} {span : Extent} (other : Extent) {place : ℕ} {x : Recognition}
-    → Derives figure file (Name used span) place x → Derives figure file (Name used other) place x
+elsewhere : {file : List ℕ} {used : List ℕ} {span : Extent} (other : Extent) {position : ℕ} {x : Recognition}
+    → Derives figure file (Name used span) position x → Derives figure file (Name used other) position x
 elsewhere other (Derives.name_matched found d t) = Derives.name_matched found d t
 elsewhere other (Derives.name_failed found d) = Derives.name_failed found d
 
 -- there is one token where its rule matches
-one_token : {file : List ℕ} {span : Extent} {place end : ℕ} {trees : Trees} (k : TokenKind)
-    → Derives figure file (Name (rule_of_kind k) span) place (Matched end trees)
-    → Lexemes file place (lexeme_here k place trees ∷ []) end
+one_token : {file : List ℕ} {span : Extent} {position end : ℕ} {trees : Trees} (k : TokenKind)
+    → Derives figure file (Name (rule_of_kind k) span) position (Matched end trees)
+    → Lexemes file position (lexeme_here k position trees ∷ []) end
 one_token {trees = trees} k d = Lexemes.one (trees, matches (elsewhere (between 0 0) d), refl) Lexemes.none
 
 -- COUNT alone is the rule of counts
@@ -299,32 +299,32 @@ count-number kind.Close = refl
 count-number kind.Dot = refl
 
 -- the trees of a token have the count that it is, if that is out of range
-pub token-counts : {file : List ℕ} {span : Extent} {place end : ℕ} {trees : Trees} (k : TokenKind)
-    → Derives figure file (Name (rule_of_kind k) span) place (Matched end trees)
-    → bad_counts file trees ≡ bad_places file (lexeme_here k place trees ∷ [])
-token-counts {file} {span} {place} {end} {trees} k d = by (text_of k (drop place file)) refl
+pub token-counts : {file : List ℕ} {span : Extent} {position end : ℕ} {trees : Trees} (k : TokenKind)
+    → Derives figure file (Name (rule_of_kind k) span) position (Matched end trees)
+    → bad_counts file trees ≡ bad_places file (lexeme_here k position trees ∷ [])
+token-counts {file} {span} {position} {end} {trees} k d = by (matcher_of k (drop position file)) refl
   where
-    by : (text : Option Piece) → text_of k (drop place file) ≡ text
-        → bad_counts file trees ≡ bad_places file (lexeme_here k place trees ∷ [])
-    by None none = let bad : Matched end trees ≡ Failed = one_result d ((takes-kind file k).none span place none) in cc
+    by : (text : Option PrefixMatch) → matcher_of k (drop position file) ≡ text
+        → bad_counts file trees ≡ bad_places file (lexeme_here k position trees ∷ [])
+    by None none = let bad : Matched end trees ≡ Failed = one_result d ((takes-kind file k).none span position none) in cc
     by (Some piece) found =
-        let it : FindsToken file (number_of k) (rule_of_kind k) span place piece =
-        (takes-kind file k).some span place piece found in
-        let same : Matched end trees ≡ Matched (behind_text file place piece.length) it.trees = one_result d it.derives in
+        let it : FindsToken file (number_of k) (rule_of_kind k) span position piece =
+        (takes-kind file k).some span position piece found in
+        let same : Matched end trees ≡ Matched (behind_text file position piece.length) it.trees = one_result d it.derives in
         let one : trees ≡ it.trees = cc in
-        let pieces : unwrap_or (option_map (λ (piece : Piece). piece.spells) (text_of k (drop place file))) [] ≡ piece.spells =
-        ap (λ text. unwrap_or (option_map (λ (x : Piece). x.spells) text) []) found in
+        let pieces : unwrap_or (option_map (λ (piece : PrefixMatch). piece.spells) (matcher_of k (drop position file))) [] ≡ piece.spells =
+        ap (λ text. unwrap_or (option_map (λ (x : PrefixMatch). x.spells) text) []) found in
         ap (bad_counts file) one ∙ (it.counts
-        ∙ ((λ i. if count-number k i && not (bounds_in_range (bounds_spelled (numerals_in (sym pieces i)))) then place ∷ []
-        else []) ∙ sym (append-nil (if is_bad_count file (lexeme_here k place trees) then place ∷ [] else []))))
+        ∙ ((λ i. if count-number k i && not (bounds_in_range (bounds_spelled (numerals_in (sym pieces i)))) then position ∷ []
+        else []) ∙ sym (append-nil (if is_bad_count file (lexeme_here k position trees) then position ∷ [] else []))))
 
-token_stands : {file : List ℕ} {used : List ℕ} {span : Extent} {place : ℕ} (x : Recognition) → IsToken used
-    → Derives figure file (Name used span) place x → Stood file place x
+token_stands : {file : List ℕ} {used : List ℕ} {span : Extent} {position : ℕ} (x : Recognition) → IsToken used
+    → Derives figure file (Name used span) position x → Stood file position x
 token_stands Failed is d = tt
-token_stands {file} {used} {span} {place} (Matched end trees) is d =
-    let here : Derives figure file (Name (rule_of_kind is.kind) span) place (Matched end trees) =
-    subst (λ n. Derives figure file (Name n span) place (Matched end trees)) is.is d in
-    let lexeme : Lexeme = lexeme_here is.kind place trees in
+token_stands {file} {used} {span} {position} (Matched end trees) is d =
+    let here : Derives figure file (Name (rule_of_kind is.kind) span) position (Matched end trees) =
+    subst (λ n. Derives figure file (Name n span) position (Matched end trees)) is.is d in
+    let lexeme : Lexeme = lexeme_here is.kind position trees in
     record {
       list = lexeme ∷ [];
       stand = one_token is.kind here;
@@ -336,34 +336,34 @@ token_stands {file} {used} {span} {place} (Matched end trees) is d =
 -- ---- an expression in parentheses
 
 -- an expression, and the closing parenthesis after it
-record Closing (file : List ℕ) (place end : ℕ) (trees : Trees) : Type 0 where
+record Closing (file : List ℕ) (position end : ℕ) (trees : Trees) : Type 0 where
   pub list : List Lexeme
-  pub stand : Lexemes file place list end
+  pub stand : Lexemes file position list end
   pub odd : suc (opens list) ≡ closes list
   pub deep : deepest list ≤ nesting trees
   pub counts : bad_counts file trees ≡ bad_places file list
 
-abbrev Closed : List ℕ → (place : ℕ) → Recognition → Type 0
-Closed file place Failed = Unit {0}
-Closed file place (Matched end trees) = Closing file place end trees
+abbrev Closed : List ℕ → (position : ℕ) → Recognition → Type 0
+Closed file position Failed = Unit {0}
+Closed file position (Matched end trees) = Closing file position end trees
 
-close_stands : {file : List ℕ} {last : Extent} {place : ℕ} {x : Recognition}
-    → DerivesItems figure file (Then (Name (codes "CLOSE") last) End) place x → Closed file place x
+close_stands : {file : List ℕ} {last : Extent} {position : ℕ} {x : Recognition}
+    → DerivesItems figure file (Then (Name (codes "CLOSE") last) End) position x → Closed file position x
 close_stands (DerivesItems.items_failed d) = tt
-close_stands {file} {last} {place} (DerivesItems.items_then {middle = middle} {trees = one} d DerivesItems.items_none is) =
-    let lexeme : Lexeme = lexeme_here kind.Close place one in
-    subst (Closed file place) (sym is) (record {
+close_stands {file} {last} {position} (DerivesItems.items_then {middle = middle} {trees = one} d DerivesItems.items_none is) =
+    let lexeme : Lexeme = lexeme_here kind.Close position one in
+    subst (Closed file position) (sym is) (record {
       list = lexeme ∷ [];
       stand = one_token kind.Close d;
       odd = omega (arith, opens-cons lexeme [], closes-cons lexeme []);
       deep = omega arith;
       counts =
-          bad_counts-followed file one NoTrees
+          bad_counts-seq_matcher file one NoTrees
           ∙ (append-nil (bad_counts file one) ∙ token-counts kind.Close d);
     })
 
-behind_closes : {file : List ℕ} {place middle : ℕ} {one : Trees} → Stand file place middle one → (x : Recognition)
-    → Closed file middle x → Closed file place (behind one x)
+behind_closes : {file : List ℕ} {position middle : ℕ} {one : Trees} → Stand file position middle one → (x : Recognition)
+    → Closed file middle x → Closed file position (prepend_trees one x)
 behind_closes first Failed rest = tt
 behind_closes {file} {one = one} first (Matched end more) rest = record {
   list = first.list ++ rest.list;
@@ -376,62 +376,62 @@ behind_closes {file} {one = one} first (Matched end more) rest = record {
         first.even,
         first.deep,
         rest.deep,
-        nesting-followed one more,
+        nesting-seq_matcher one more,
       );
   counts =
-      bad_counts-followed file one more ∙ ((λ i. first.counts i ++ rest.counts i)
+      bad_counts-seq_matcher file one more ∙ ((λ i. first.counts i ++ rest.counts i)
       ∙ sym (bad_places-append file first.list rest.list));
 }
 
 -- the trees of an expression in parentheses, inside their Primary
-record Parentheses (file : List ℕ) (place end : ℕ) (trees : Trees) : Type 0 where
+record Parentheses (file : List ℕ) (position end : ℕ) (trees : Trees) : Type 0 where
   pub list : List Lexeme
-  pub stand : Lexemes file place list end
+  pub stand : Lexemes file position list end
   pub even : opens list ≡ closes list
   pub deep : deepest list ≤ suc (nesting trees)
   pub opening : has_open trees ≡ true
   pub counts : bad_counts file trees ≡ bad_places file list
 
 -- the inside of a Primary
-abbrev InPrimary : List ℕ → (place : ℕ) → Recognition → Type 0
-InPrimary file place Failed = Unit {0}
-InPrimary file place (Matched end trees) = Stand file place end trees ⊎ Parentheses file place end trees
+abbrev InPrimary : List ℕ → (position : ℕ) → Recognition → Type 0
+InPrimary file position Failed = Unit {0}
+InPrimary file position (Matched end trees) = Stand file position end trees ⊎ Parentheses file position end trees
 
 -- the tree of OPEN
-open-tree : {file : List ℕ} {first : Extent} {place end : ℕ} {trees : Trees}
-    → Derives figure file (Name (codes "OPEN") first) place (Matched end trees) → has_open trees ≡ true
-open-tree {place = place} {end = end} (Derives.name_matched {meaning = m} {trees = inside} found d t) =
-    let same : Some m ≡ Some _ = sym found ∙ open_sign-meant.1 in
+open-tree : {file : List ℕ} {first : Extent} {position end : ℕ} {trees : Trees}
+    → Derives figure file (Name (codes "OPEN") first) position (Matched end trees) → has_open trees ≡ true
+open-tree {position = position} {end = end} (Derives.name_matched {meaning = m} {trees = inside} found d t) =
+    let same : Some m ≡ Some _ = sym found ∙ open_sign-meaning_of.1 in
     let number : m.rule ≡ rule.open_sign = cc in
-    ap has_open t ∙ ap (λ n. has_open (Tree n place end inside NoTrees)) number
+    ap has_open t ∙ ap (λ n. has_open (Tree n position end inside NoTrees)) number
 
-opened_stands : {file : List ℕ} {first : Extent} {place middle : ℕ} {one : Trees}
-    → Derives figure file (Name (codes "OPEN") first) place (Matched middle one) → (x : Recognition)
-    → Closed file middle x → InPrimary file place (behind one x)
+opened_stands : {file : List ℕ} {first : Extent} {position middle : ℕ} {one : Trees}
+    → Derives figure file (Name (codes "OPEN") first) position (Matched middle one) → (x : Recognition)
+    → Closed file middle x → InPrimary file position (prepend_trees one x)
 opened_stands d Failed rest = tt
-opened_stands {file} {first} {place} {middle} {one} d (Matched end more) rest =
-    let lexeme : Lexeme = lexeme_here kind.Open place one in
+opened_stands {file} {first} {position} {middle} {one} d (Matched end more) rest =
+    let lexeme : Lexeme = lexeme_here kind.Open position one in
     inr (record {
       list = lexeme ∷ rest.list;
       stand = and_stand (one_token kind.Open d) rest.stand;
       even = omega (arith, opens-cons lexeme rest.list, closes-cons lexeme rest.list, rest.odd);
-      deep = omega (arith, rest.deep, nesting-followed one more);
+      deep = omega (arith, rest.deep, nesting-seq_matcher one more);
       opening = has_open-followed one more ∙ ap (λ (t : Bool). t || has_open more) (open-tree d);
       counts =
-          bad_counts-followed file one more ∙ ((λ i. token-counts kind.Open d i ++ rest.counts i)
+          bad_counts-seq_matcher file one more ∙ ((λ i. token-counts kind.Open d i ++ rest.counts i)
           ∙ sym (bad_places-append file (lexeme ∷ []) rest.list));
     })
 
-in_primary : (file : List ℕ) (place : ℕ) (x : Recognition) → Stood file place x → InPrimary file place x
-in_primary file place Failed s = tt
-in_primary file place (Matched end trees) s = inl s
+in_primary : (file : List ℕ) (position : ℕ) (x : Recognition) → Stood file position x → InPrimary file position x
+in_primary file position Failed s = tt
+in_primary file position (Matched end trees) s = inl s
 
 -- a Primary's tree
-primary_stands : {file : List ℕ} {place end : ℕ} {inside tree : Trees} (number : ℕ) → (number == rule.count) ≡ false
-    → number ≡ rule.primary → InPrimary file place (Matched end inside) → tree ≡ Tree number place end inside NoTrees
-    → Stand file place end tree
+primary_stands : {file : List ℕ} {position end : ℕ} {inside tree : Trees} (number : ℕ) → (number == rule.count) ≡ false
+    → number ≡ rule.primary → InPrimary file position (Matched end inside) → tree ≡ Tree number position end inside NoTrees
+    → Stand file position end tree
 primary_stands number no_count primary (inl s) is = node_stands number no_count s is
-primary_stands {file} {place} {end} {inside} number no_count primary (inr s) is =
+primary_stands {file} {position} {end} {inside} number no_count primary (inr s) is =
     let test : (number == rule.primary && has_open inside) ≡ true =
     λ i. primary i == rule.primary && s.opening i in
     let one : max ((if number == rule.primary && has_open inside then 1 else 0) + nesting inside) 0
@@ -441,14 +441,14 @@ primary_stands {file} {place} {end} {inside} number no_count primary (inr s) is 
       stand = s.stand;
       even = s.even;
       deep = omega (arith, s.deep, ap nesting is, one);
-      counts = ap (bad_counts file) is ∙ (node-counts file number place end inside no_count ∙ s.counts);
+      counts = ap (bad_counts file) is ∙ (node-counts file number position end inside no_count ∙ s.counts);
     }
 
 -- ---- what is matched has tokens
 
 mutual
-  stands : {file : List ℕ} {e : Form} {place : ℕ} {x : Recognition} → OfTokens e → Derives figure file e place x
-      → Stood file place x
+  stands : {file : List ℕ} {e : Form} {position : ℕ} {x : Recognition} → OfTokens e → Derives figure file e position x
+      → Stood file position x
   stands takes (Derives.literal_matched a b) = absurd takes
   stands takes (Derives.literal_failed a) = absurd takes
   stands takes (Derives.class_matched a b) = absurd takes
@@ -467,19 +467,19 @@ mutual
   stands takes (Derives.sequence items) = items_stand takes items
   stands takes (Derives.choice first) = first_stands takes.0 takes.1 first
   stands takes (Derives.optional_some d) = stands takes d
-  stands {file} {place = place} takes (Derives.optional_none d) = nothing file place
-  stands {file} {place = place} takes (Derives.star_none d) = nothing file place
+  stands {file} {position = position} takes (Derives.optional_none d) = nothing file position
+  stands {file} {position = position} takes (Derives.star_none d) = nothing file position
   stands takes (Derives.star_more d rest t) = both_stand (stands takes d) (stands takes rest) t
   stands takes (Derives.plus_failed d) = tt
   stands takes (Derives.plus_matched d rest t) = both_stand (stands takes d) (stands takes rest) t
   stands takes (Derives.counted times) = absurd takes
-  stands {file} {place = place} takes (Derives.and_matched d) = nothing file place
+  stands {file} {position = position} takes (Derives.and_matched d) = nothing file position
   stands takes (Derives.and_failed d) = tt
-  stands {file} {place = place} takes (Derives.not_matched d) = nothing file place
+  stands {file} {position = position} takes (Derives.not_matched d) = nothing file position
   stands takes (Derives.not_failed d) = tt
 
-  alternatives_stand : {file : List ℕ} {e : Form} {place : ℕ} {x : Recognition} → IsPrimaryChoice e
-      → Derives figure file e place x → InPrimary file place x
+  alternatives_stand : {file : List ℕ} {e : Form} {position : ℕ} {x : Recognition} → IsPrimaryChoice e
+      → Derives figure file e position x → InPrimary file position x
   alternatives_stand takes (Derives.choice first) = either_stands takes.0 takes.1 first
   alternatives_stand takes (Derives.literal_matched a b) = absurd takes
   alternatives_stand takes (Derives.literal_failed a) = absurd takes
@@ -502,41 +502,41 @@ mutual
   alternatives_stand takes (Derives.not_matched d) = absurd takes
   alternatives_stand takes (Derives.not_failed d) = absurd takes
 
-  either_stands : {file : List ℕ} {first : Form} {rest : Forms} {place : ℕ} {x : Recognition} → OfPrimary first
-      → AllOfPrimary rest → DerivesFirst figure file first rest place x → InPrimary file place x
-  either_stands {file} {place = place} {x = x} (inl takes) more (DerivesFirst.alternative_last d) =
-      in_primary file place x (stands takes d)
+  either_stands : {file : List ℕ} {first : Form} {rest : Forms} {position : ℕ} {x : Recognition} → OfPrimary first
+      → AllOfPrimary rest → DerivesFirst figure file first rest position x → InPrimary file position x
+  either_stands {file} {position = position} {x = x} (inl takes) more (DerivesFirst.alternative_last d) =
+      in_primary file position x (stands takes d)
   either_stands (inr (IsParenthesized.parenthesized takes)) more
       (DerivesFirst.alternative_last (Derives.sequence items)) = parentheses_stand takes items
-  either_stands {file} {place = place} (inl takes) more
-      (DerivesFirst.alternative_matched {end = end} {trees = trees} d) = in_primary file place (Matched end trees) (stands takes d)
+  either_stands {file} {position = position} (inl takes) more
+      (DerivesFirst.alternative_matched {end = end} {trees = trees} d) = in_primary file position (Matched end trees) (stands takes d)
   either_stands (inr (IsParenthesized.parenthesized takes)) more
       (DerivesFirst.alternative_matched (Derives.sequence items)) = parentheses_stand takes items
   either_stands takes more (DerivesFirst.alternative_failed d rest) = either_stands more.0 more.1 rest
 
-  parentheses_stand : {file : List ℕ} {inside : Form} {first last : Extent} {place : ℕ} {x : Recognition}
+  parentheses_stand : {file : List ℕ} {inside : Form} {first last : Extent} {position : ℕ} {x : Recognition}
       → OfTokens inside → DerivesItems figure file
-      (Then (Name (codes "OPEN") first) (Then inside (Then (Name (codes "CLOSE") last) End))) place x
-      → InPrimary file place x
+      (Then (Name (codes "OPEN") first) (Then inside (Then (Name (codes "CLOSE") last) End))) position x
+      → InPrimary file position x
   parentheses_stand takes (DerivesItems.items_failed d) = tt
-  parentheses_stand {file} {place = place} takes (DerivesItems.items_then {more = more} d rest is) =
-      subst (InPrimary file place) (sym is) (opened_stands d more (closing_stands takes rest))
+  parentheses_stand {file} {position = position} takes (DerivesItems.items_then {more = more} d rest is) =
+      subst (InPrimary file position) (sym is) (opened_stands d more (closing_stands takes rest))
 
-  closing_stands : {file : List ℕ} {inside : Form} {last : Extent} {place : ℕ} {x : Recognition} → OfTokens inside
-      → DerivesItems figure file (Then inside (Then (Name (codes "CLOSE") last) End)) place x → Closed file place x
+  closing_stands : {file : List ℕ} {inside : Form} {last : Extent} {position : ℕ} {x : Recognition} → OfTokens inside
+      → DerivesItems figure file (Then inside (Then (Name (codes "CLOSE") last) End)) position x → Closed file position x
   closing_stands takes (DerivesItems.items_failed d) = tt
-  closing_stands {file} {place = place} takes (DerivesItems.items_then {more = more} d rest is) =
-      subst (Closed file place) (sym is) (behind_closes (stands takes d) more (close_stands rest))
+  closing_stands {file} {position = position} takes (DerivesItems.items_then {more = more} d rest is) =
+      subst (Closed file position) (sym is) (behind_closes (stands takes d) more (close_stands rest))
 
-  items_stand : {file : List ℕ} {items : Forms} {place : ℕ} {x : Recognition} → AllOfTokens items
-      → DerivesItems figure file items place x → Stood file place x
-  items_stand {file} {place = place} takes DerivesItems.items_none = nothing file place
+  items_stand : {file : List ℕ} {items : Forms} {position : ℕ} {x : Recognition} → AllOfTokens items
+      → DerivesItems figure file items position x → Stood file position x
+  items_stand {file} {position = position} takes DerivesItems.items_none = nothing file position
   items_stand takes (DerivesItems.items_failed d) = tt
-  items_stand {file} {place = place} takes (DerivesItems.items_then {more = more} d rest is) =
-      subst (Stood file place) (sym is) (behind_stands (stands takes.0 d) more (items_stand takes.1 rest))
+  items_stand {file} {position = position} takes (DerivesItems.items_then {more = more} d rest is) =
+      subst (Stood file position) (sym is) (behind_stands (stands takes.0 d) more (items_stand takes.1 rest))
 
-  first_stands : {file : List ℕ} {first : Form} {rest : Forms} {place : ℕ} {x : Recognition} → OfTokens first
-      → AllOfTokens rest → DerivesFirst figure file first rest place x → Stood file place x
+  first_stands : {file : List ℕ} {first : Form} {rest : Forms} {position : ℕ} {x : Recognition} → OfTokens first
+      → AllOfTokens rest → DerivesFirst figure file first rest position x → Stood file position x
   first_stands takes more (DerivesFirst.alternative_last d) = stands takes d
   first_stands takes more (DerivesFirst.alternative_matched d) = stands takes d
   first_stands takes more (DerivesFirst.alternative_failed d rest) = first_stands more.0 more.1 rest
@@ -548,25 +548,25 @@ ends_at : {a b : ℕ} {t u : Trees} → Matched a t ≡ Matched b u → a ≡ b
 ends_at e = cc
 
 -- trees in front of a match are part of a match that ends at the same offset
-behind_matched : (one : Trees) (more : Recognition) (end : ℕ) (trees : Trees) → behind one more ≡ Matched end trees
+behind_matched : (one : Trees) (more : Recognition) (end : ℕ) (trees : Trees) → prepend_trees one more ≡ Matched end trees
     → (rest : Trees) × (more ≡ Matched end rest) × (trees ≡ followed_by one rest)
 behind_matched one Failed end trees is = cc
 behind_matched one (Matched last rest) end trees is = (rest, ap (λ n. Matched n rest) (ends_at is), cc)
 
 -- a first item, and those after it
-record FirstItem (file : List ℕ) (first : Form) (others : Forms) (place end : ℕ) (trees : Trees) : Type 0 where
+record FirstItem (file : List ℕ) (first : Form) (others : Forms) (position end : ℕ) (trees : Trees) : Type 0 where
   pub middle : ℕ
   pub one : Trees
   pub more : Trees
-  pub item : Derives figure file first place (Matched middle one)
+  pub item : Derives figure file first position (Matched middle one)
   pub rest : DerivesItems figure file others middle (Matched end more)
   pub is : trees ≡ followed_by one more
 
-first_item : {file : List ℕ} {item : Form} {rest : Forms} {place : ℕ} {x : Recognition}
-    → DerivesItems figure file (Then item rest) place x → (end : ℕ) (trees : Trees) → x ≡ Matched end trees
-    → FirstItem file item rest place end trees
+first_item : {file : List ℕ} {item : Form} {rest : Forms} {position : ℕ} {x : Recognition}
+    → DerivesItems figure file (Then item rest) position x → (end : ℕ) (trees : Trees) → x ≡ Matched end trees
+    → FirstItem file item rest position end trees
 first_item (DerivesItems.items_failed d) end trees is = cc
-first_item {file} {item} {rest} {place} (DerivesItems.items_then {middle = middle} {trees = one} {more = more} d others same) end trees is =
+first_item {file} {item} {rest} {position} (DerivesItems.items_then {middle = middle} {trees = one} {more = more} d others same) end trees is =
     let last = behind_matched one more end trees (sym same ∙ is) in
     record {
       middle = middle;
@@ -577,57 +577,57 @@ first_item {file} {item} {rest} {place} (DerivesItems.items_then {middle = middl
       is = last.2;
     }
 
-named_tree : {place a b : ℕ} {tree trees inside : Trees} {m : Meaning} {number terminal : ℕ} {body : Form}
-    → Matched a tree ≡ Matched b trees → tree ≡ Tree m.rule place a inside NoTrees
-    → m ≡ record { rule = number; terminal = terminal; body = body } → trees ≡ Tree number place b inside NoTrees
-named_tree {place = place} {a = a} {inside = inside} {number = number} is t one =
+named_tree : {position a b : ℕ} {tree trees inside : Trees} {m : Meaning} {number terminal : ℕ} {body : Form}
+    → Matched a tree ≡ Matched b trees → tree ≡ Tree m.rule position a inside NoTrees
+    → m ≡ record { rule = number; terminal = terminal; body = body } → trees ≡ Tree number position b inside NoTrees
+named_tree {position = position} {a = a} {inside = inside} {number = number} is t one =
     let trees_are = same_trees is in
-    sym trees_are ∙ (t ∙ (ap (λ (m : Meaning). Tree m.rule place a inside NoTrees) one
-    ∙ ap (λ n. Tree number place n inside NoTrees) (ends_at is)))
+    sym trees_are ∙ (t ∙ (ap (λ (m : Meaning). Tree m.rule position a inside NoTrees) one
+    ∙ ap (λ n. Tree number position n inside NoTrees) (ends_at is)))
   where
     same_trees : {a b : ℕ} {t u : Trees} → Matched a t ≡ Matched b u → t ≡ u
     same_trees e = cc
 
 -- a match of a name is a match of its body
-named : {file : List ℕ} {used : List ℕ} {span : Extent} {place : ℕ} {x : Recognition} → Derives figure file (Name used span) place x
+named : {file : List ℕ} {used : List ℕ} {span : Extent} {position : ℕ} {x : Recognition} → Derives figure file (Name used span) position x
     → (end : ℕ) (trees : Trees) → x ≡ Matched end trees → (rule terminal : ℕ) (body : Form)
-    → meant figure used ≡ Some (record { rule = rule; terminal = terminal; body = body })
-    → (inside : Trees) × Derives figure file body place (Matched end inside)
-    × (trees ≡ Tree rule place end inside NoTrees)
-named {file} {place = place} (Derives.name_matched {meaning = m} {end = last} {trees = inside} found d t) end trees is rule terminal body known =
+    → meaning_of figure used ≡ Some (record { rule = rule; terminal = terminal; body = body })
+    → (inside : Trees) × Derives figure file body position (Matched end inside)
+    × (trees ≡ Tree rule position end inside NoTrees)
+named {file} {position = position} (Derives.name_matched {meaning = m} {end = last} {trees = inside} found d t) end trees is rule terminal body known =
     let same : Some m ≡ Some (record { rule = rule; terminal = terminal; body = body }) = sym found ∙ known in
     let one : m ≡ record { rule = rule; terminal = terminal; body = body } = cc in (
       inside,
-      subst (λ n. Derives figure file body place (Matched n inside)) (ends_at is)
-          (subst (λ (y : Meaning). Derives figure file y.body place (Matched last inside)) one d),
+      subst (λ n. Derives figure file body position (Matched n inside)) (ends_at is)
+          (subst (λ (y : Meaning). Derives figure file y.body position (Matched last inside)) one d),
       named_tree is t one,
     )
 named (Derives.name_failed found d) end trees is rule terminal body known = cc
 
-items_of : {file : List ℕ} {items : Forms} {span : Extent} {place : ℕ} {x : Recognition}
-    → Derives figure file (Seq items span) place x → DerivesItems figure file items place x
+items_of : {file : List ℕ} {items : Forms} {span : Extent} {position : ℕ} {x : Recognition}
+    → Derives figure file (Seq items span) position x → DerivesItems figure file items position x
 items_of (Derives.sequence items) = items
 
 -- a match ends within the file
-ends_within : {file : List ℕ} {e : Form} {place end : ℕ} {trees : Trees} → Derives figure file e place (Matched end trees)
-    → place ≤ length file → end ≤ length file
-ends_within {file} {e} {place} {end} {trees} d within =
+ends_within : {file : List ℕ} {e : Form} {position end : ℕ} {trees : Trees} → Derives figure file e position (Matched end trees)
+    → position ≤ length file → end ≤ length file
+ends_within {file} {e} {position} {end} {trees} d within =
     let known = recorded d 0 in
-    record_in-ends figure file known.depth e 0 place end trees known.found within known.is known.result_is
+    record_in-ends figure file known.depth e 0 position end trees known.found within known.is known.result_is
 
 none_left : (rest : List ℕ) → begins_with passes_any rest ≡ false → length rest ≡ 0
 none_left [] none = refl
 none_left (byte ∷ rest) none = cc
 
-not_any : {file : List ℕ} {span : Extent} {place : ℕ} {x : Recognition} → Derives figure file (Any span) place x → x ≡ Failed
-    → length file ≤ place
+not_any : {file : List ℕ} {span : Extent} {position : ℕ} {x : Recognition} → Derives figure file (Any span) position x → x ≡ Failed
+    → length file ≤ position
 not_any (Derives.any_matched a b) is = cc
-not_any {file} {place = place} (Derives.any_failed none) is =
-    let size : length (drop place file) ≡ 0 = none_left (drop place file) none in omega (arith, size, length-drop place file)
+not_any {file} {position = position} (Derives.any_failed none) is =
+    let size : length (drop position file) ≡ 0 = none_left (drop position file) none in omega (arith, size, length-drop position file)
 
 -- where no byte is next, the file ends
-no_byte : {file : List ℕ} {inner span : Extent} {place : ℕ} {x : Recognition} → Derives figure file (Not (Any inner) span) place x
-    → (end : ℕ) (trees : Trees) → x ≡ Matched end trees → length file ≤ place
+no_byte : {file : List ℕ} {inner span : Extent} {position : ℕ} {x : Recognition} → Derives figure file (Not (Any inner) span) position x
+    → (end : ℕ) (trees : Trees) → x ≡ Matched end trees → length file ≤ position
 no_byte (Derives.not_matched d) end trees is = not_any d refl
 no_byte (Derives.not_failed d) end trees is = cc
 
@@ -646,22 +646,22 @@ pub record MatchedFile (file : List ℕ) (trees : Trees) : Type 0 where
   pub counts : bad_counts file trees ≡ bad_places file lexemes
 
 -- spacing has no count
-spacing-fine : {file : List ℕ} {span : Extent} {place end : ℕ} {trees : Trees}
-    → Derives figure file (Name (codes "Spacing") span) place (Matched end trees) → bad_counts file trees ≡ []
-spacing-fine {file} {span} {place} {end} {trees} d =
-    let gap = finds-spacing file span place in
+spacing-fine : {file : List ℕ} {span : Extent} {position end : ℕ} {trees : Trees}
+    → Derives figure file (Name (codes "Spacing") span) position (Matched end trees) → bad_counts file trees ≡ []
+spacing-fine {file} {span} {position} {end} {trees} d =
+    let gap = finds-spacing file span position in
     let same : Matched end trees ≡ Matched _ gap.trees = one_result d gap.derives in
     let one : trees ≡ gap.trees = cc in
     ap (bad_counts file) one ∙ gap.fine
 
 -- no items give no tree
-no_items : {file : List ℕ} {place end : ℕ} {trees : Trees} → DerivesItems figure file End place (Matched end trees)
+no_items : {file : List ℕ} {position end : ℕ} {trees : Trees} → DerivesItems figure file End position (Matched end trees)
     → trees ≡ NoTrees
 no_items DerivesItems.items_none = refl
 
 -- a predicate gives no tree
-not_leaves : {file : List ℕ} {part : Form} {span : Extent} {place end : ℕ} {trees : Trees}
-    → Derives figure file (Not part span) place (Matched end trees) → trees ≡ NoTrees
+not_leaves : {file : List ℕ} {part : Form} {span : Extent} {position end : ℕ} {trees : Trees}
+    → Derives figure file (Not part span) position (Matched end trees) → trees ≡ NoTrees
 not_leaves (Derives.not_matched d) = refl
 
 -- a file that the metagrammar matches has tokens
@@ -669,11 +669,11 @@ pub has_tokens : (file : List ℕ) (end : ℕ) (trees : Trees) → Matches file 
     → MatchedFile file trees
 unfolding grammar_body end_of_file_body
 has_tokens file end trees m =
-    let whole = named (derives m) end trees refl _ _ grammar_body grammar-meant.1 in
+    let whole = named (derives m) end trees refl _ _ grammar_body grammar-meaning_of.1 in
     let gap = first_item (items_of whole.1) end whole.0 refl in
     let rules = first_item gap.rest end gap.more refl in
     let last = first_item rules.rest end rules.more refl in
-    let inside = named last.item last.middle last.one refl _ _ end_of_file_body end_of_file-meant.1 in
+    let inside = named last.item last.middle last.one refl _ _ end_of_file_body end_of_file-meaning_of.1 in
     let past : length file ≤ rules.middle = no_byte inside.1 last.middle inside.0 refl in
     let start : gap.middle ≤ length file = ends_within gap.item (omega arith) in
     let within : rules.middle ≤ length file = ends_within rules.item start in
@@ -694,18 +694,18 @@ has_tokens file end trees m =
             tokens.deep,
             ap nesting whole.2,
             ap nesting gap.is,
-            nesting-followed gap.one gap.more,
+            nesting-seq_matcher gap.one gap.more,
             ap nesting rules.is,
-            nesting-followed rules.one rules.more,
+            nesting-seq_matcher rules.one rules.more,
           );
       counts =
           ap (bad_counts file) whole.2
           ∙ (node-counts file rule.grammar 0 end whole.0 refl
           ∙ (ap (bad_counts file) gap.is
-          ∙ (bad_counts-followed file gap.one gap.more
+          ∙ (bad_counts-seq_matcher file gap.one gap.more
           ∙ (ap (λ (l : List ℕ). l ++ bad_counts file gap.more) (spacing-fine gap.item)
           ∙ (ap (bad_counts file) rules.is
-          ∙ (bad_counts-followed file rules.one rules.more
+          ∙ (bad_counts-seq_matcher file rules.one rules.more
           ∙ (ap (λ (l : List ℕ). bad_counts file rules.one ++ l) (ap (bad_counts file) last.is ∙ (ap (λ (t : Trees). bad_counts file (followed_by last.one t)) (no_items last.rest)
           ∙ (ap (λ (t : Trees). bad_counts file (followed_by t NoTrees)) inside.2
           ∙ ap (λ (t : Trees). bad_counts file (followed_by (Tree rule.end_of_file rules.middle last.middle t NoTrees) NoTrees)) (not_leaves inside.1))))

@@ -4,7 +4,7 @@ use Rattle.std.proofs.Common.{◌≡◌, ℕ, zero, suc, ◌+◌, Bool, true, fa
 use Rattle.std.proofs.Common.{Option, None, Some, bytes_eq, refl, sym, ap, ◌∙◌}
 use Rattle.std.proofs.lemmas.Slice.Eq.{bytes_eq-Decides}
 use Rattle.peg_semantics.specs.Form.{Form, Forms, Literal, Class, Any, Name, Seq, Choice, Optional, Star, Plus, Counted, And, Not, End, Then, terminals}
-use Rattle.peg_semantics.specs.Rules.{Rule, Meaning, meant_from, meant}
+use Rattle.peg_semantics.specs.Rules.{Rule, Meaning, meaning_from, meaning_of}
 
 -- ---- meanings
 
@@ -16,7 +16,7 @@ changed name body rule =
 -- the meaning of a name among rules, which agrees with its meaning elsewhere
 pub record Meant (n t : ℕ) (rules : List Rule) (used : List ℕ) (m : Meaning) : Type 0 where
   pub meaning : Meaning
-  pub known : meant_from n t rules used ≡ Some meaning
+  pub known : meaning_from n t rules used ≡ Some meaning
   pub rule_is : meaning.rule ≡ m.rule
   pub body_is : meaning.body ≡ m.body
 
@@ -29,34 +29,34 @@ same_name name used here other is char =
     let same : used ≡ here = (bytes_eq-Decides used here).0 is in
     true≢false (sym char ∙ (ap (λ n. bytes_eq n name) (sym same) ∙ other))
 
-pub meant-changed : (name : List ℕ) (body : Form) (rules : List Rule) (n t u : ℕ) (used : List ℕ) (m : Meaning)
-    → bytes_eq used name ≡ false → meant_from n t (map (changed name body) rules) used ≡ Some m
+pub meaning_of-changed : (name : List ℕ) (body : Form) (rules : List Rule) (n t u : ℕ) (used : List ℕ) (m : Meaning)
+    → bytes_eq used name ≡ false → meaning_from n t (map (changed name body) rules) used ≡ Some m
     → Meant n u rules used m
-meant-changed name body [] n t u used m other is = cc
-meant-changed name body (r ∷ rs) n t u used m other is =
-    by (λ v w found. meant-changed name body rs (n + 1) v w used m other found) (bytes_eq r.name name) refl is
+meaning_of-changed name body [] n t u used m other is = cc
+meaning_of-changed name body (r ∷ rs) n t u used m other is =
+    by (λ v w found. meaning_of-changed name body rs (n + 1) v w used m other found) (bytes_eq r.name name) refl is
   where
     later : bytes_eq used r.name ≡ false → Meant (n + 1) (u + terminals r.body) rs used m → Meant n u (r ∷ rs) used m
     later differs it = record {
       meaning = it.meaning;
       known = ap (λ (b : Bool). if b then Some (record { rule = n; terminal = u; body = r.body })
-          else meant_from (n + 1) (u + terminals r.body) rs used) differs ∙ it.known;
+          else meaning_from (n + 1) (u + terminals r.body) rs used) differs ∙ it.known;
       rule_is = it.rule_is;
       body_is = it.body_is;
     }
 
-    other_body : ((v w : ℕ) → meant_from (n + 1) v (map (changed name body) rs) used ≡ Some m → Meant (n + 1) w rs used m)
+    other_body : ((v w : ℕ) → meaning_from (n + 1) v (map (changed name body) rs) used ≡ Some m → Meant (n + 1) w rs used m)
         → bytes_eq r.name name ≡ true → (b : Bool) → bytes_eq used r.name ≡ b
         → (if b then Some (record { rule = n; terminal = t; body = body })
-        else meant_from (n + 1) (t + terminals body) (map (changed name body) rs) used) ≡ Some m
+        else meaning_from (n + 1) (t + terminals body) (map (changed name body) rs) used) ≡ Some m
         → Meant n u (r ∷ rs) used m
     other_body behind named true same found = absurd (same_name name used r.name other same named)
     other_body behind named false same found = later same (behind (t + terminals body) (u + terminals r.body) found)
 
-    kept : ((v w : ℕ) → meant_from (n + 1) v (map (changed name body) rs) used ≡ Some m → Meant (n + 1) w rs used m)
+    kept : ((v w : ℕ) → meaning_from (n + 1) v (map (changed name body) rs) used ≡ Some m → Meant (n + 1) w rs used m)
         → (b : Bool) → bytes_eq used r.name ≡ b
         → (if b then Some (record { rule = n; terminal = t; body = r.body })
-        else meant_from (n + 1) (t + terminals r.body) (map (changed name body) rs) used) ≡ Some m
+        else meaning_from (n + 1) (t + terminals r.body) (map (changed name body) rs) used) ≡ Some m
         → Meant n u (r ∷ rs) used m
     kept behind true same found =
         let one : Meaning = record { rule = n; terminal = t; body = r.body } in
@@ -64,15 +64,15 @@ meant-changed name body (r ∷ rs) n t u used m other is =
         record {
           meaning = record { rule = n; terminal = u; body = r.body };
           known = ap (λ (b : Bool). if b then Some (record { rule = n; terminal = u; body = r.body })
-              else meant_from (n + 1) (u + terminals r.body) rs used) same;
+              else meaning_from (n + 1) (u + terminals r.body) rs used) same;
           rule_is = ap (λ (m : Meaning). m.rule) is_one;
           body_is = ap (λ (m : Meaning). m.body) is_one;
         }
     kept behind false same found = later same (behind (t + terminals r.body) (u + terminals r.body) found)
 
-    by : ((v w : ℕ) → meant_from (n + 1) v (map (changed name body) rs) used ≡ Some m → Meant (n + 1) w rs used m)
+    by : ((v w : ℕ) → meaning_from (n + 1) v (map (changed name body) rs) used ≡ Some m → Meant (n + 1) w rs used m)
         → (c : Bool) → bytes_eq r.name name ≡ c
-        → meant_from n t ((if c then record { name = r.name; span = r.span; body = body } else r)
+        → meaning_from n t ((if c then record { name = r.name; span = r.span; body = body } else r)
         ∷ map (changed name body) rs) used ≡ Some m → Meant n u (r ∷ rs) used m
     by behind true named found = other_body behind named (bytes_eq used r.name) refl found
     by behind false named found = kept behind (bytes_eq used r.name) refl found
@@ -116,4 +116,4 @@ meant_without known (Some m) = without known m.body
 abbrev pub leads_elsewhere : List Rule → (name : List ℕ) → ℕ → List ℕ → Bool
 leads_elsewhere rules name zero used = false
 leads_elsewhere rules name (suc n) used =
-    turned (bytes_eq used name) && meant_without (leads_elsewhere rules name n) (meant rules used)
+    turned (bytes_eq used name) && meant_without (leads_elsewhere rules name n) (meaning_of rules used)

@@ -10,26 +10,26 @@ use Rattle.peg_semantics.specs.Record.{Failed, Matched}
 use Rattle.peg_semantics.proofs.Derivations.{Derives, DerivesItems, DerivesFirst}
 use Rattle.peg_metagrammar.specs.Figure.{figure, suffix_body, prefix_body}
 use Rattle.peg_metagrammar.specs.FigureRules as rule
-use Rattle.peg_lexer.specs.Lexical.{text_of}
-use Rattle.peg_lexer.specs.Pieces.{Piece}
-use Rattle.peg_notation.specs.Reader.{Halt, Unexpected, TooDeep, BadCountAt, FormRead, Reading, place_of, and_read, pieces_of, bounds_of, is_bad_count, primary, with_token, then_suffix, suffix, with_prefix, prefix_of, prefix_sign, prefix}
-use Rattle.peg_metagrammar.specs.Spelled.{Spelling, Expression, Sign, text_end, spelled, signed, counted, bounds_spelled, numerals_in}
+use Rattle.peg_lexer.specs.Lexical.{matcher_of}
+use Rattle.peg_lexer.specs.Matchers.{PrefixMatch}
+use Rattle.peg_notation.specs.Reader.{ReadError, Unexpected, TooDeepAt, BadCountAt, FormRead, Reading, place_of, and_read, pieces_of, bounds_of_lexeme, is_bad_count, primary, with_token, then_suffix, suffix, with_prefix, prefix_of, prefix_sign, prefix}
+use Rattle.peg_metagrammar.specs.Denotation.{Denotation, Expression, Sign, text_end, spelled, signed, counted_form, bounds_spelled, numerals_in}
 use Rattle.peg_lexer.specs.Tokens.{Lexeme}
 use Rattle.peg_lexer.specs.declared.token.TokenKind.{TokenKind}
 use Rattle.peg_lexer.specs.declared.token.TokenKind.TheVariants as kind
-use Rattle.peg_metagrammar.proofs.FigureNames.{suffix-meant, prefix-meant}
+use Rattle.peg_metagrammar.proofs.FigureNames.{suffix-meaning_of, prefix-meaning_of}
 use Rattle.peg_lexer.proofs.Lexemes.{lexeme_at}
 use Rattle.peg_notation.proofs.PrimaryRule.{pieces_here, primary-exact}
-use Rattle.peg_notation.proofs.Readings.{followed-none, ReadsAny, ExactAny, Good, node_any, place-is}
+use Rattle.peg_notation.proofs.Readings.{followed-none, ReadsAny, ExactAny, Good, node_any, position-is}
 use Rattle.peg_notation.proofs.Streams.{Stream, here, not_here, none_here}
-use Rattle.peg_lexer.proofs.Takes.{spelled-followed, text_end-followed, nesting-followed}
+use Rattle.peg_lexer.proofs.Takes.{spelled-seq_matcher, text_end-seq_matcher, nesting-seq_matcher}
 use Rattle.peg_lexer.proofs.Texts.{FindsToken, behind_text}
 
 -- ---- Suffix
 
 -- one more token
-after_one : (lexemes : List Lexeme) (taken : ℕ) → drop (taken + 1) lexemes ≡ drop 1 (drop taken lexemes)
-after_one lexemes taken = sym (drop-drop 1 taken lexemes)
+after_one : (lexemes : List Lexeme) (token_count : ℕ) → drop (token_count + 1) lexemes ≡ drop 1 (drop token_count lexemes)
+after_one lexemes token_count = sym (drop-drop 1 token_count lexemes)
 
 -- no operator after the primary
 no_suffix : (file : List ℕ) (p : ℕ) (lexemes : List Lexeme) (part : FormRead)
@@ -41,7 +41,7 @@ no_suffix : (file : List ℕ) (p : ℕ) (lexemes : List Lexeme) (part : FormRead
     → ReadsAny file (codes "Suffix") p lexemes part
 unfolding suffix_body
 no_suffix file p lexemes part e question star plus count =
-    node_any _ suffix-meant.1 refl refl
+    node_any _ suffix-meaning_of.1 refl refl
     (Derives.sequence (DerivesItems.items_then (e.derives _)
     (DerivesItems.items_then (Derives.optional_none (Derives.choice
     (DerivesFirst.alternative_failed (question _) (DerivesFirst.alternative_failed (star _)
@@ -52,37 +52,37 @@ no_suffix file p lexemes part e question star plus count =
 -- an operator after the primary
 one_suffix : (file : List ℕ) (p : ℕ) (lexemes : List Lexeme) (part : FormRead)
     → (e : ReadsAny file (codes "Primary") p lexemes part)
-    → {number : ℕ} {used : List ℕ} {span : Extent} {piece : Piece} (sign : Form → Extent → Form) (rest : List Lexeme)
+    → {number : ℕ} {used : List ℕ} {span : Extent} {piece : PrefixMatch} (sign : Form → Extent → Form) (rest : List Lexeme)
     → (it : FindsToken file number used span e.end piece)
     → ((before : ℕ) → spelled file before it.trees ≡ Sign sign ∷ [])
     → Derives figure file suffix_body p (Matched (behind_text file e.end piece.length) (followed_by e.trees it.trees))
-    → Stream file (behind_text file e.end piece.length) (drop (part.taken + 1) lexemes)
+    → Stream file (behind_text file e.end piece.length) (drop (part.token_count + 1) lexemes)
     → ReadsAny file (codes "Suffix") p lexemes (record {
       form = sign part.form
           (between p (e.end + piece.length));
-      taken = part.taken + 1;
+      token_count = part.token_count + 1;
       last = e.end + piece.length;
       depth = part.depth;
     })
 one_suffix file p lexemes part e {number} {used} {span} {piece} sign rest it spells d left =
-    node_any _ suffix-meant.1 refl refl d
+    node_any _ suffix-meaning_of.1 refl refl d
     (record {
       form = sign part.form
           (between p (e.end + piece.length));
-      taken = part.taken + 1;
+      token_count = part.token_count + 1;
       last = e.end + piece.length;
       depth = part.depth;
     })
     (λ before. ap (signed (between p (e.end + piece.length)))
-    (spelled-followed file before e.trees it.trees
-    ∙ (ap (λ (pieces : List Spelling). spelled file before e.trees ++ pieces) (spells (text_end before e.trees))
-    ∙ ap (λ (pieces : List Spelling). pieces ++ Sign sign ∷ []) (e.spells before))))
-    (λ before. text_end-followed before e.trees it.trees ∙ it.ends (text_end before e.trees))
-    (omega (arith, nesting-followed e.trees it.trees, e.nests, it.flat)) (omega arith)
+    (spelled-seq_matcher file before e.trees it.trees
+    ∙ (ap (λ (pieces : List Denotation). spelled file before e.trees ++ pieces) (spells (text_end before e.trees))
+    ∙ ap (λ (pieces : List Denotation). pieces ++ Sign sign ∷ []) (e.spells before))))
+    (λ before. text_end-seq_matcher before e.trees it.trees ∙ it.ends (text_end before e.trees))
+    (omega (arith, nesting-seq_matcher e.trees it.trees, e.nests, it.flat)) (omega arith)
     left
 
 suffix_read : (file : List ℕ) (p : ℕ) (lexemes : List Lexeme) (part : FormRead)
-    → (e : ReadsAny file (codes "Primary") p lexemes part) → (left : List Lexeme) → drop part.taken lexemes ≡ left
+    → (e : ReadsAny file (codes "Primary") p lexemes part) → (left : List Lexeme) → drop part.token_count lexemes ≡ left
     → Stream file e.end left → ExactAny file (codes "Suffix") p lexemes (then_suffix file p part left)
 unfolding suffix_body
 suffix_read file p lexemes part e [] same (Stream.ended last) =
@@ -92,11 +92,11 @@ suffix_read file p lexemes part e (_ ∷ rest) same (Stream.next k piece lexeme 
     subst (λ (l : Lexeme). ExactAny file (codes "Suffix") p lexemes (with_token file p part l)) (sym is)
     (by k there (same ∙ ap (λ (l : Lexeme). l ∷ rest) is))
   where
-    next_left : (k : TokenKind) → drop part.taken lexemes ≡ lexeme_at k e.end piece.length ∷ rest
-        → Stream file (behind_text file e.end piece.length) (drop (part.taken + 1) lexemes)
+    next_left : (k : TokenKind) → drop part.token_count lexemes ≡ lexeme_at k e.end piece.length ∷ rest
+        → Stream file (behind_text file e.end piece.length) (drop (part.token_count + 1) lexemes)
     next_left k left_is =
         subst (λ (l : List Lexeme). Stream file (behind_text file e.end piece.length) l)
-        (sym (after_one lexemes part.taken ∙ ap (drop 1) left_is)) left
+        (sym (after_one lexemes part.token_count ∙ ap (drop 1) left_is)) left
 
     -- a count out of range says nothing
     in_range : {part : FormRead} (at : ℕ) (t : Bool) → ReadsAny file (codes "Suffix") p lexemes part
@@ -104,14 +104,14 @@ suffix_read file p lexemes part e (_ ∷ rest) same (Stream.next k piece lexeme 
     in_range at true it = tt
     in_range at false it = it
 
-    none : (k : TokenKind) → text_of k (drop e.end file) ≡ Some piece → kind.Question ≢ k → kind.Star ≢ k
+    none : (k : TokenKind) → matcher_of k (drop e.end file) ≡ Some piece → kind.Question ≢ k → kind.Star ≢ k
         → kind.Plus ≢ k → kind.Count ≢ k → ReadsAny file (codes "Suffix") p lexemes part
     none k at_end a b c d =
         no_suffix file p lexemes part e (λ span. not_here k piece kind.Question span at_end a)
         (λ span. not_here k piece kind.Star span at_end b) (λ span. not_here k piece kind.Plus span at_end c)
         (λ span. not_here k piece kind.Count span at_end d)
 
-    by : (k : TokenKind) → text_of k (drop e.end file) ≡ Some piece → drop part.taken lexemes
+    by : (k : TokenKind) → matcher_of k (drop e.end file) ≡ Some piece → drop part.token_count lexemes
         ≡ lexeme_at k e.end piece.length ∷ rest → ExactAny file (codes "Suffix") p lexemes
         (with_token file p part (lexeme_at k e.end piece.length))
     by kind.Question at_end left_is =
@@ -152,10 +152,10 @@ suffix_read file p lexemes part e (_ ∷ rest) same (Stream.next k piece lexeme 
         (between 222 227) at_end in
         let pieces : pieces_of file (lexeme_at kind.Count e.end piece.length) ≡ piece.spells =
         pieces_here file kind.Count e.end piece at_end in
-        let sign = counted (bounds_of file (lexeme_at kind.Count e.end piece.length)) in
+        let sign = counted_form (bounds_of_lexeme file (lexeme_at kind.Count e.end piece.length)) in
         let spells : (before : ℕ) → spelled file before it.trees ≡ Sign sign ∷ [] =
         λ before. it.spells before
-        ∙ ap (λ (l : List Spelling). Sign (counted (bounds_spelled (numerals_in l))) ∷ []) (sym pieces) in
+        ∙ ap (λ (l : List Denotation). Sign (counted_form (bounds_spelled (numerals_in l))) ∷ []) (sym pieces) in
         in_range e.end (is_bad_count file (lexeme_at kind.Count e.end piece.length))
         (one_suffix file p lexemes part e sign rest it spells
         (Derives.sequence (DerivesItems.items_then (e.derives _)
@@ -186,15 +186,15 @@ unfolding suffix suffix_body
 suffix-exact file inner good p lexemes stream =
     by (primary file inner lexemes) (primary-exact file inner good p lexemes stream)
   where
-    by : (x : Result FormRead Halt) → ExactAny file (codes "Primary") p lexemes x
+    by : (x : Result FormRead ReadError) → ExactAny file (codes "Primary") p lexemes x
         → ExactAny file (codes "Suffix") p lexemes (and_read x
-        (λ (part : FormRead). then_suffix file (place_of (length file) lexemes) part (drop part.taken lexemes)))
+        (λ (part : FormRead). then_suffix file (place_of (length file) lexemes) part (drop part.token_count lexemes)))
     by (Ok part) e =
-        subst (λ start. ExactAny file (codes "Suffix") p lexemes (then_suffix file start part (drop part.taken lexemes)))
-        (sym (place-is stream)) (suffix_read file p lexemes part e (drop part.taken lexemes) refl e.left)
+        subst (λ start. ExactAny file (codes "Suffix") p lexemes (then_suffix file start part (drop part.token_count lexemes)))
+        (sym (position-is stream)) (suffix_read file p lexemes part e (drop part.token_count lexemes) refl e.left)
     by (Err (Unexpected at)) fails =
-        λ span. Derives.name_failed suffix-meant.1 (Derives.sequence (DerivesItems.items_failed (fails _)))
-    by (Err (TooDeep at)) e = tt
+        λ span. Derives.name_failed suffix-meaning_of.1 (Derives.sequence (DerivesItems.items_failed (fails _)))
+    by (Err (TooDeepAt at)) e = tt
     by (Err (BadCountAt at)) e = tt
 
 -- ---- Prefix
@@ -202,51 +202,51 @@ suffix-exact file inner good p lexemes stream =
 -- no operator before the suffix
 no_prefix : (file : List ℕ) (p : ℕ) (lexemes : List Lexeme)
     → ((span : Extent) → Derives figure file (Name (codes "AND") span) p Failed)
-    → ((span : Extent) → Derives figure file (Name (codes "NOT") span) p Failed) → (x : Result FormRead Halt)
+    → ((span : Extent) → Derives figure file (Name (codes "NOT") span) p Failed) → (x : Result FormRead ReadError)
     → ExactAny file (codes "Suffix") p lexemes x → ExactAny file (codes "Prefix") p lexemes x
 unfolding prefix_body
 no_prefix file p lexemes ands nots (Ok part) e =
-    node_any _ prefix-meant.1 refl refl
+    node_any _ prefix-meaning_of.1 refl refl
     (Derives.sequence (DerivesItems.items_then (Derives.optional_none
     (Derives.choice (DerivesFirst.alternative_failed (ands _) (DerivesFirst.alternative_last (nots _)))))
     (DerivesItems.items_then (e.derives _) DerivesItems.items_none refl)
     (ap (λ (t : Trees). Matched e.end t) (sym (followed-none e.trees)))))
     part (λ before. ap (signed (between p part.last)) (e.spells before)) e.ends e.nests e.some e.left
 no_prefix file p lexemes ands nots (Err (Unexpected at)) fails =
-    λ span. Derives.name_failed prefix-meant.1
+    λ span. Derives.name_failed prefix-meaning_of.1
     (Derives.sequence (DerivesItems.items_then (Derives.optional_none
     (Derives.choice (DerivesFirst.alternative_failed (ands _) (DerivesFirst.alternative_last (nots _)))))
     (DerivesItems.items_failed (fails _)) refl))
-no_prefix file p lexemes ands nots (Err (TooDeep at)) e = tt
+no_prefix file p lexemes ands nots (Err (TooDeepAt at)) e = tt
 no_prefix file p lexemes ands nots (Err (BadCountAt at)) e = tt
 
 -- an operator before the suffix
 one_prefix : (file : List ℕ) (p : ℕ) (lexeme : Lexeme)
-    (more : List Lexeme) {number : ℕ} {used : List ℕ} {span : Extent} {piece : Piece} (sign : Form → Extent → Form)
+    (more : List Lexeme) {number : ℕ} {used : List ℕ} {span : Extent} {piece : PrefixMatch} (sign : Form → Extent → Form)
     → (it : FindsToken file number used span p piece) → ((before : ℕ) → spelled file before it.trees ≡ Sign sign ∷ [])
     → Derives figure file (form.Optional (form.Choice (Name (codes "AND") (between 159 162))
     (form.Then (Name (codes "NOT") (between 165 168)) form.End) (between 159 168)) (between 158 170)) p
-    (Matched (behind_text file p piece.length) it.trees) → (x : Result FormRead Halt)
+    (Matched (behind_text file p piece.length) it.trees) → (x : Result FormRead ReadError)
     → ExactAny file (codes "Suffix") (behind_text file p piece.length) more x
     → ExactAny file (codes "Prefix") p (lexeme ∷ more) (and_read x (λ (part : FormRead). Ok (with_prefix p sign part)))
 unfolding prefix_body
 one_prefix file p lexeme more {number} {used} {span} {piece} sign it spells d (Ok part) e =
-    node_any _ prefix-meant.1 refl refl
+    node_any _ prefix-meaning_of.1 refl refl
     (Derives.sequence (DerivesItems.items_then d (DerivesItems.items_then (e.derives _) DerivesItems.items_none refl)
     (ap (λ (t : Trees). Matched e.end (followed_by it.trees t)) (sym (followed-none e.trees)))))
     (with_prefix p sign part)
     (λ before. ap (signed (between p part.last))
-    (spelled-followed file before it.trees e.trees
-    ∙ (ap (λ (pieces : List Spelling). spelled file before it.trees ++ pieces) (e.spells (text_end before it.trees))
-    ∙ ap (λ (pieces : List Spelling). pieces ++ Expression part.form ∷ []) (spells before))))
-    (λ before. text_end-followed before it.trees e.trees ∙ e.ends (text_end before it.trees))
-    (omega (arith, nesting-followed it.trees e.trees, e.nests, it.flat)) (omega arith)
-    (let one : 1 + part.taken ≡ suc part.taken = omega arith in
+    (spelled-seq_matcher file before it.trees e.trees
+    ∙ (ap (λ (pieces : List Denotation). spelled file before it.trees ++ pieces) (e.spells (text_end before it.trees))
+    ∙ ap (λ (pieces : List Denotation). pieces ++ Expression part.form ∷ []) (spells before))))
+    (λ before. text_end-seq_matcher before it.trees e.trees ∙ e.ends (text_end before it.trees))
+    (omega (arith, nesting-seq_matcher it.trees e.trees, e.nests, it.flat)) (omega arith)
+    (let one : 1 + part.token_count ≡ suc part.token_count = omega arith in
     subst (λ n. Stream file e.end (drop n (lexeme ∷ more))) (sym one) e.left)
 one_prefix file p lexeme more sign it spells d (Err (Unexpected at)) fails =
-    λ span. Derives.name_failed prefix-meant.1
+    λ span. Derives.name_failed prefix-meaning_of.1
     (Derives.sequence (DerivesItems.items_then d (DerivesItems.items_failed (fails _)) refl))
-one_prefix file p lexeme more sign it spells d (Err (TooDeep at)) e = tt
+one_prefix file p lexeme more sign it spells d (Err (TooDeepAt at)) e = tt
 one_prefix file p lexeme more sign it spells d (Err (BadCountAt at)) e = tt
 
 -- Prefix matches exactly what is read
@@ -261,7 +261,7 @@ prefix-exact file inner good p (_ ∷ more) (Stream.next k piece lexeme found is
     subst (λ (l : Lexeme). ExactAny file (codes "Prefix") p (l ∷ more)
     (prefix_of file inner l more (prefix_sign l.kind))) (sym is) (by k found)
   where
-    plain : (k : TokenKind) → text_of k (drop p file) ≡ Some piece → kind.And ≢ k → kind.Not ≢ k
+    plain : (k : TokenKind) → matcher_of k (drop p file) ≡ Some piece → kind.And ≢ k → kind.Not ≢ k
         → ExactAny file (codes "Prefix") p (lexeme_at k p piece.length ∷
         more) (suffix file inner (lexeme_at k p piece.length ∷ more))
     plain k there a b =
@@ -270,7 +270,7 @@ prefix-exact file inner good p (_ ∷ more) (Stream.next k piece lexeme found is
         more)) (suffix-exact file inner good p (lexeme_at k p piece.length ∷
         more) (Stream.next k piece (lexeme_at k p piece.length) there refl rest))
 
-    by : (k : TokenKind) → text_of k (drop p file) ≡ Some piece
+    by : (k : TokenKind) → matcher_of k (drop p file) ≡ Some piece
         → ExactAny file (codes "Prefix") p (lexeme_at k p piece.length ∷
         more) (prefix_of file inner (lexeme_at k p piece.length) more (prefix_sign k))
     by kind.And there =

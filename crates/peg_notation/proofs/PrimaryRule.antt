@@ -10,22 +10,22 @@ use Rattle.peg_semantics.specs.Record.{Failed, Matched}
 use Rattle.peg_semantics.proofs.Derivations.{Derives, DerivesItems, DerivesFirst}
 use Rattle.peg_metagrammar.specs.Figure.{figure, primary_body}
 use Rattle.peg_metagrammar.specs.FigureRules as rule
-use Rattle.peg_lexer.specs.Lexical.{text_of}
-use Rattle.peg_lexer.specs.Pieces.{Piece}
+use Rattle.peg_lexer.specs.Lexical.{matcher_of}
+use Rattle.peg_lexer.specs.Matchers.{PrefixMatch}
 use Rattle.peg_metagrammar.specs.Ranges.{class_of}
-use Rattle.peg_notation.specs.Reader.{Halt, Unexpected, TooDeep, BadCountAt, FormRead, Reading, pieces_of, and_read, closed, parenthesized, primary, primary_of, starts_with_arrow}
-use Rattle.peg_metagrammar.specs.Spelled.{Spelling, Expression, bytes_in, ranges_in, part, text_end, spelled, node_spelled, primary_spelled}
+use Rattle.peg_notation.specs.Reader.{ReadError, Unexpected, TooDeepAt, BadCountAt, FormRead, Reading, pieces_of, and_read, closed_form, parenthesized, primary, primary_of, starts_with_arrow}
+use Rattle.peg_metagrammar.specs.Denotation.{Denotation, Expression, bytes_in, ranges_in, part, text_end, spelled, node_spelled, primary_spelled}
 use Rattle.peg_metagrammar.specs.Nesting.{nesting, has_open}
 use Rattle.peg_lexer.specs.Tokens.{Lexeme, rule_of_kind}
 use Rattle.peg_lexer.specs.declared.token.TokenKind.{TokenKind}
 use Rattle.peg_lexer.specs.declared.token.TokenKind.TheVariants as kind
-use Rattle.peg_metagrammar.proofs.FigureNames.{primary-meant}
+use Rattle.peg_metagrammar.proofs.FigureNames.{primary-meaning_of}
 use Rattle.peg_lexer.proofs.Lexemes.{lexeme_at}
-use Rattle.peg_lexer.proofs.PieceSizes.{blank-these}
-use Rattle.peg_lexer.proofs.Takes.{spelled-followed, text_end-followed, nesting-followed}
+use Rattle.peg_lexer.proofs.PieceSizes.{blank-literal_bytes}
+use Rattle.peg_lexer.proofs.Takes.{spelled-seq_matcher, text_end-seq_matcher, nesting-seq_matcher}
 use Rattle.peg_notation.proofs.Readings.{followed-none, has_open-followed, ReadsAny, ExactAny, ExactAt, ReadsAt, IsStuck, Good}
 use Rattle.peg_notation.proofs.Streams.{Stream, here, not_here, none_here}
-use Rattle.peg_bootstrap.proofs.TokenNodes.{number_of}
+use Rattle.peg_lexer.proofs.KindRules.{number_of}
 use Rattle.peg_lexer.proofs.Texts.{FindsToken, behind_text}
 
 -- ---- Primary in general
@@ -34,7 +34,7 @@ use Rattle.peg_lexer.proofs.Texts.{FindsToken, behind_text}
 matched : {file : List ℕ} {p end : ℕ} {trees : Trees} → Derives figure file primary_body p (Matched end trees)
     → (span : Extent) → Derives figure file (Name (codes "Primary") span) p
     (Matched end (Tree rule.primary p end trees NoTrees))
-matched d span = Derives.name_matched primary-meant.1 d refl
+matched d span = Derives.name_matched primary-meaning_of.1 d refl
 
 -- all five alternatives fail
 failed : {file : List ℕ} {p : ℕ} → ((span : Extent) → Derives figure file (Name (codes "Identifier") span) p Failed)
@@ -45,14 +45,14 @@ failed : {file : List ℕ} {p : ℕ} → ((span : Extent) → Derives figure fil
     → Derives figure file (Name (codes "Primary") span) p Failed
 unfolding primary_body
 failed ident opens literal class dot span =
-    Derives.name_failed primary-meant.1
+    Derives.name_failed primary-meaning_of.1
     (Derives.choice (DerivesFirst.alternative_failed (Derives.sequence (DerivesItems.items_failed (ident _)))
     (DerivesFirst.alternative_failed (Derives.sequence (DerivesItems.items_failed (opens _)))
     (DerivesFirst.alternative_failed (literal _) (DerivesFirst.alternative_failed (class _)
     (DerivesFirst.alternative_last (dot _)))))))
 
 -- the next token is of a kind that begins no primary
-other_fails : {file : List ℕ} {p : ℕ} (k : TokenKind) (piece : Piece) → text_of k (drop p file) ≡ Some piece
+other_fails : {file : List ℕ} {p : ℕ} (k : TokenKind) (piece : PrefixMatch) → matcher_of k (drop p file) ≡ Some piece
     → kind.Ident ≢ k → kind.Open ≢ k → kind.Literal ≢ k → kind.Class ≢ k → kind.Dot ≢ k → (span : Extent)
     → Derives figure file (Name (codes "Primary") span) p Failed
 other_fails k piece found a b c d e =
@@ -61,15 +61,15 @@ other_fails k piece found a b c d e =
     (λ span. not_here k piece kind.Dot span found e)
 
 -- a primary of one token
-of_token : {file : List ℕ} {p : ℕ} {k : TokenKind} {span : Extent} {piece : Piece} {more : List Lexeme} (value : Form)
+of_token : {file : List ℕ} {p : ℕ} {k : TokenKind} {span : Extent} {piece : PrefixMatch} {more : List Lexeme} (value : Form)
     → (it : FindsToken file (number_of k) (rule_of_kind k) span p piece) → (number_of k == rule.open_sign) ≡ false
     → ((before : ℕ) → primary_spelled (node_spelled file (number_of k) before p (behind_text file p piece.length)
     (p + piece.length) piece.spells) ≡ Expression value ∷ [])
     → Derives figure file primary_body p (Matched (behind_text file p piece.length) it.trees)
     → Stream file (behind_text file p piece.length) more
     → ReadsAny file (codes "Primary") p (lexeme_at k p piece.length ∷
-    more) (record { form = value; taken = 1; last = p + piece.length; depth = 0 })
-of_token {file} {p} {k} {span} {piece} {more} value it closed spelling d left = record {
+    more) (record { form = value; token_count = 1; last = p + piece.length; depth = 0 })
+of_token {file} {p} {k} {span} {piece} {more} value it closed_form spelling d left = record {
   end = behind_text file p piece.length;
   trees = Tree rule.primary p (behind_text file p piece.length) it.trees NoTrees;
   left = left;
@@ -79,7 +79,7 @@ of_token {file} {p} {k} {span} {piece} {more} value it closed spelling d left = 
       ∙ (ap primary_spelled (it.spells before) ∙ spelling before);
   ends = it.ends;
   nests =
-      ap (λ (t : Bool). max ((if t then 1 else 0) + nesting it.trees) 0) (it.opens ∙ closed)
+      ap (λ (t : Bool). max ((if t then 1 else 0) + nesting it.trees) 0) (it.opens ∙ closed_form)
       ∙ ap (λ n. max (0 + n) 0) it.flat;
   some = omega arith;
 }
@@ -98,7 +98,7 @@ arrow_next {file} {p} (Stream.next {more = more} k piece lexeme found is rest) =
     ≡ false) × ((span : Extent) → Derives figure file (Name (codes "LEFTARROW") span) p Failed))) (sym is)
     (by k found)
   where
-    by : (k : TokenKind) → text_of k (drop p file) ≡ Some piece
+    by : (k : TokenKind) → matcher_of k (drop p file) ≡ Some piece
         → ((starts_with_arrow (lexeme_at k p piece.length ∷ more) ≡ true)
         × ((span : Extent) → (end : ℕ) × (trees : Trees)
         × Derives figure file (Name (codes "LEFTARROW") span) p (Matched end trees))) ⊎
@@ -123,8 +123,8 @@ arrow_next {file} {p} (Stream.next {more = more} k piece lexeme found is rest) =
     by kind.Close there = inr (refl, λ span. not_here kind.Close piece kind.Arrow span there (λ e. cc))
     by kind.Dot there = inr (refl, λ span. not_here kind.Dot piece kind.Arrow span there (λ e. cc))
 
-name_primary : (file : List ℕ) (p : ℕ) (piece : Piece) (more : List Lexeme) (inner : Option Reading)
-    → text_of kind.Ident (drop p file) ≡ Some piece → Stream file (behind_text file p piece.length) more
+name_primary : (file : List ℕ) (p : ℕ) (piece : PrefixMatch) (more : List Lexeme) (inner : Option Reading)
+    → matcher_of kind.Ident (drop p file) ≡ Some piece → Stream file (behind_text file p piece.length) more
     → ExactAny file (codes "Primary") p (lexeme_at kind.Ident p piece.length ∷
     more) (primary_of file inner (lexeme_at kind.Ident p piece.length) more kind.Ident)
 unfolding primary_body
@@ -136,7 +136,7 @@ name_primary file p piece more inner found rest =
         → ExactAny file (codes "Primary") p (lexeme_at kind.Ident p piece.length ∷
         more) (primary_of file inner (lexeme_at kind.Ident p piece.length) more kind.Ident)
     refused arrow =
-        rw arrow.0 (λ (span : Extent). Derives.name_failed primary-meant.1
+        rw arrow.0 (λ (span : Extent). Derives.name_failed primary-meaning_of.1
         (Derives.choice (DerivesFirst.alternative_failed (Derives.sequence
         (DerivesItems.items_then ((here kind.Ident piece _ found).derives)
         (DerivesItems.items_failed (Derives.not_failed ((arrow.1 _).2))) refl))
@@ -163,12 +163,12 @@ name_primary file p piece more inner found rest =
 -- ---- literals, classes and dots
 
 -- what a token denotes
-pub pieces_here : (file : List ℕ) (k : TokenKind) (p : ℕ) (piece : Piece) → text_of k (drop p file) ≡ Some piece
+pub pieces_here : (file : List ℕ) (k : TokenKind) (p : ℕ) (piece : PrefixMatch) → matcher_of k (drop p file) ≡ Some piece
     → pieces_of file (lexeme_at k p piece.length) ≡ piece.spells
-pieces_here file k p piece found = ap (λ text. unwrap_or (option_map (λ (x : Piece). x.spells) text) []) found
+pieces_here file k p piece found = ap (λ text. unwrap_or (option_map (λ (x : PrefixMatch). x.spells) text) []) found
 
-literal_primary : (file : List ℕ) (p : ℕ) (piece : Piece) (more : List Lexeme) (inner : Option Reading)
-    → text_of kind.Literal (drop p file) ≡ Some piece → Stream file (behind_text file p piece.length) more
+literal_primary : (file : List ℕ) (p : ℕ) (piece : PrefixMatch) (more : List Lexeme) (inner : Option Reading)
+    → matcher_of kind.Literal (drop p file) ≡ Some piece → Stream file (behind_text file p piece.length) more
     → ExactAny file (codes "Primary") p (lexeme_at kind.Literal p piece.length ∷
     more) (primary_of file inner (lexeme_at kind.Literal p piece.length) more kind.Literal)
 unfolding primary_body
@@ -185,8 +185,8 @@ literal_primary file p piece more inner found rest =
     (not_here kind.Literal piece kind.Open _ found (λ e. cc))))
     (DerivesFirst.alternative_matched it.derives)))) rest
 
-class_primary : (file : List ℕ) (p : ℕ) (piece : Piece) (more : List Lexeme) (inner : Option Reading)
-    → text_of kind.Class (drop p file) ≡ Some piece → Stream file (behind_text file p piece.length) more
+class_primary : (file : List ℕ) (p : ℕ) (piece : PrefixMatch) (more : List Lexeme) (inner : Option Reading)
+    → matcher_of kind.Class (drop p file) ≡ Some piece → Stream file (behind_text file p piece.length) more
     → ExactAny file (codes "Primary") p (lexeme_at kind.Class p piece.length ∷
     more) (primary_of file inner (lexeme_at kind.Class p piece.length) more kind.Class)
 unfolding primary_body
@@ -204,8 +204,8 @@ class_primary file p piece more inner found rest =
     (DerivesFirst.alternative_failed (not_here kind.Class piece kind.Literal _ found (λ e. cc))
     (DerivesFirst.alternative_matched it.derives))))) rest
 
-dot_primary : (file : List ℕ) (p : ℕ) (piece : Piece) (more : List Lexeme) (inner : Option Reading)
-    → text_of kind.Dot (drop p file) ≡ Some piece → Stream file (behind_text file p piece.length) more
+dot_primary : (file : List ℕ) (p : ℕ) (piece : PrefixMatch) (more : List Lexeme) (inner : Option Reading)
+    → matcher_of kind.Dot (drop p file) ≡ Some piece → Stream file (behind_text file p piece.length) more
     → ExactAny file (codes "Primary") p (lexeme_at kind.Dot p piece.length ∷
     more) (primary_of file inner (lexeme_at kind.Dot p piece.length) more kind.Dot)
 unfolding primary_body
@@ -224,13 +224,13 @@ dot_primary file p piece more inner found rest =
 -- ---- parentheses
 
 -- if a parenthesis opens and the rest of its alternative fails, so does Primary
-open_fails : (file : List ℕ) (p : ℕ) (piece : Piece) → text_of kind.Open (drop p file) ≡ Some piece
+open_fails : (file : List ℕ) (p : ℕ) (piece : PrefixMatch) → matcher_of kind.Open (drop p file) ≡ Some piece
     → ((span next : Extent) → DerivesItems figure file (Then (Name (codes "Expression") span)
     (Then (Name (codes "CLOSE") next) End)) (behind_text file p piece.length) Failed) → (span : Extent)
     → Derives figure file (Name (codes "Primary") span) p Failed
 unfolding primary_body
 open_fails file p piece found inside span =
-    Derives.name_failed primary-meant.1
+    Derives.name_failed primary-meaning_of.1
     (Derives.choice (DerivesFirst.alternative_failed (Derives.sequence
     (DerivesItems.items_failed (not_here kind.Open piece kind.Ident _ found (λ e. cc))))
     (DerivesFirst.alternative_failed (Derives.sequence (DerivesItems.items_then ((here kind.Open piece _ found).derives)
@@ -240,20 +240,20 @@ open_fails file p piece found inside span =
     (DerivesFirst.alternative_last (not_here kind.Open piece kind.Dot _ found (λ e. cc))))))))
 
 -- after the tokens inside and two more
-behind_both : (opening : Lexeme) (more : List Lexeme) (taken : ℕ) → drop (taken + 2) (opening ∷ more)
-    ≡ drop 1 (drop taken more)
-behind_both opening more taken =
-    let same : taken + 2 ≡ suc (taken + 1) = omega arith in
-    ap (λ n. drop n (opening ∷ more)) same ∙ sym (drop-drop 1 taken more)
+behind_both : (opening : Lexeme) (more : List Lexeme) (token_count : ℕ) → drop (token_count + 2) (opening ∷ more)
+    ≡ drop 1 (drop token_count more)
+behind_both opening more token_count =
+    let same : token_count + 2 ≡ suc (token_count + 1) = omega arith in
+    ap (λ n. drop n (opening ∷ more)) same ∙ sym (drop-drop 1 token_count more)
 
 -- an expression in parentheses
-parentheses : (file : List ℕ) (p : ℕ) (piece : Piece) (more : List Lexeme) (part : FormRead)
-    → text_of kind.Open (drop p file) ≡ Some piece → (e : ReadsAt file (codes "Expression") (p + piece.length)
-    (behind_text file p piece.length) more part) → (closing : Piece) (rest : List Lexeme)
-    → text_of kind.Close (drop e.end file) ≡ Some closing → drop part.taken more
+parentheses : (file : List ℕ) (p : ℕ) (piece : PrefixMatch) (more : List Lexeme) (part : FormRead)
+    → matcher_of kind.Open (drop p file) ≡ Some piece → (e : ReadsAt file (codes "Expression") (p + piece.length)
+    (behind_text file p piece.length) more part) → (closing : PrefixMatch) (rest : List Lexeme)
+    → matcher_of kind.Close (drop e.end file) ≡ Some closing → drop part.token_count more
     ≡ lexeme_at kind.Close e.end closing.length ∷ rest → Stream file (behind_text file e.end closing.length) rest
     → ReadsAny file (codes "Primary") p (lexeme_at kind.Open p piece.length ∷
-    more) (record { form = part.form; taken = part.taken + 2; last = e.end + closing.length; depth = part.depth + 1 })
+    more) (record { form = part.form; token_count = part.token_count + 2; last = e.end + closing.length; depth = part.depth + 1 })
 unfolding primary_body
 parentheses file p piece more part found e closing rest there left_is left =
     let o : FindsToken file rule.open_sign (codes "OPEN") (between 265 269) p piece = here kind.Open piece
@@ -262,8 +262,8 @@ parentheses file p piece more part found e closing rest there left_is left =
     (between 281 286) there in
     let end : ℕ = behind_text file e.end closing.length in
     let inside : Trees = followed_by o.trees (followed_by e.trees (followed_by c.trees NoTrees)) in
-    let o_blank : piece.spells ≡ [] = (blank-these (codes "(")).blank (drop p file) piece found in
-    let c_blank : closing.spells ≡ [] = (blank-these (codes ")")).blank (drop e.end file) closing there in
+    let o_blank : piece.spells ≡ [] = (blank-literal_bytes (codes "(")).blank (drop p file) piece found in
+    let c_blank : closing.spells ≡ [] = (blank-literal_bytes (codes ")")).blank (drop e.end file) closing there in
     let body : Derives figure file primary_body p (Matched end inside) =
     Derives.choice (DerivesFirst.alternative_failed (Derives.sequence
     (DerivesItems.items_failed (not_here kind.Open piece kind.Ident _ found (λ x. cc))))
@@ -274,13 +274,13 @@ parentheses file p piece more part found e closing rest there left_is left =
     λ before. ap (spelled file before) (followed-none c.trees) ∙ (c.spells before ∙ c_blank) in
     let e_spells : spelled file (p + piece.length) (followed_by e.trees (followed_by c.trees NoTrees))
     ≡ Expression part.form ∷ [] =
-    spelled-followed file (p + piece.length) e.trees (followed_by c.trees NoTrees)
-    ∙ (ap (λ (pieces : List Spelling). spelled file (p + piece.length) e.trees ++ pieces)
+    spelled-seq_matcher file (p + piece.length) e.trees (followed_by c.trees NoTrees)
+    ∙ (ap (λ (pieces : List Denotation). spelled file (p + piece.length) e.trees ++ pieces)
     (c_spells (text_end (p + piece.length) e.trees))
     ∙ (append-nil (spelled file (p + piece.length) e.trees) ∙ e.spells)) in
     let all_spells : (before : ℕ) → spelled file before inside ≡ Expression part.form ∷ [] =
-    λ before. spelled-followed file before o.trees (followed_by e.trees (followed_by c.trees NoTrees))
-    ∙ (ap (λ (pieces : List Spelling). pieces ++ spelled file (text_end before o.trees)
+    λ before. spelled-seq_matcher file before o.trees (followed_by e.trees (followed_by c.trees NoTrees))
+    ∙ (ap (λ (pieces : List Denotation). pieces ++ spelled file (text_end before o.trees)
     (followed_by e.trees (followed_by c.trees NoTrees))) (o.spells before ∙ o_blank)
     ∙ (ap (λ b. spelled file b (followed_by e.trees (followed_by c.trees NoTrees))) (o.ends before) ∙ e_spells)) in
     let opens : has_open inside ≡ true =
@@ -289,11 +289,11 @@ parentheses file p piece more part found e closing rest there left_is left =
     let nests : nesting inside ≡ part.depth =
     omega (
       arith,
-      nesting-followed o.trees (followed_by e.trees
+      nesting-seq_matcher o.trees (followed_by e.trees
           (followed_by c.trees NoTrees)),
-      nesting-followed e.trees
+      nesting-seq_matcher e.trees
           (followed_by c.trees NoTrees),
-      nesting-followed c.trees NoTrees,
+      nesting-seq_matcher c.trees NoTrees,
       o.flat,
       c.flat,
       e.nests,
@@ -303,13 +303,13 @@ parentheses file p piece more part found e closing rest there left_is left =
       trees = Tree rule.primary p end inside NoTrees;
       left =
           subst (λ (lexemes : List Lexeme). Stream file end lexemes)
-          (sym (behind_both (lexeme_at kind.Open p piece.length) more part.taken ∙ ap (drop 1) left_is)) left;
+          (sym (behind_both (lexeme_at kind.Open p piece.length) more part.token_count ∙ ap (drop 1) left_is)) left;
       derives = matched body;
       spells = λ before.
           append-nil (primary_spelled (spelled file before inside)) ∙ ap primary_spelled (all_spells before);
       ends = λ before.
-          text_end-followed before o.trees (followed_by e.trees (followed_by c.trees NoTrees))
-          ∙ (text_end-followed (text_end before o.trees) e.trees (followed_by c.trees NoTrees)
+          text_end-seq_matcher before o.trees (followed_by e.trees (followed_by c.trees NoTrees))
+          ∙ (text_end-seq_matcher (text_end before o.trees) e.trees (followed_by c.trees NoTrees)
           ∙ (ap (text_end (text_end (text_end before o.trees) e.trees)) (followed-none c.trees)
           ∙ c.ends (text_end (text_end before o.trees) e.trees)));
       nests =
@@ -319,7 +319,7 @@ parentheses file p piece more part found e closing rest there left_is left =
     }
 
 -- if the parenthesis doesn't close, CLOSE fails
-no_close : (file : List ℕ) (p : ℕ) (piece : Piece) (more : List Lexeme) (part : FormRead) → text_of kind.Open (drop p file)
+no_close : (file : List ℕ) (p : ℕ) (piece : PrefixMatch) (more : List Lexeme) (part : FormRead) → matcher_of kind.Open (drop p file)
     ≡ Some piece → (e : ReadsAt file (codes "Expression") (p + piece.length)
     (behind_text file p piece.length) more part) → ((span : Extent)
     → Derives figure file (Name (codes "CLOSE") span) e.end Failed) → (span : Extent)
@@ -328,20 +328,20 @@ no_close file p piece more part found e fails =
     open_fails file p piece found (λ span next. DerivesItems.items_then (e.derives span)
     (DerivesItems.items_failed (fails next)) refl)
 
-close_read : (file : List ℕ) (p : ℕ) (piece : Piece) (more : List Lexeme) (part : FormRead)
-    → text_of kind.Open (drop p file) ≡ Some piece → (e : ReadsAt file (codes "Expression") (p + piece.length)
-    (behind_text file p piece.length) more part) → (lexemes : List Lexeme) → drop part.taken more ≡ lexemes
+close_read : (file : List ℕ) (p : ℕ) (piece : PrefixMatch) (more : List Lexeme) (part : FormRead)
+    → matcher_of kind.Open (drop p file) ≡ Some piece → (e : ReadsAt file (codes "Expression") (p + piece.length)
+    (behind_text file p piece.length) more part) → (lexemes : List Lexeme) → drop part.token_count more ≡ lexemes
     → Stream file e.end lexemes → ExactAny file (codes "Primary") p (lexeme_at kind.Open p piece.length ∷
-    more) (closed (length file) part lexemes)
+    more) (closed_form (length file) part lexemes)
 close_read file p piece more part found e [] same (Stream.ended last) =
     no_close file p piece more part found e (λ span. none_here kind.Close span last)
 close_read file p piece more part found e (_ ∷ rest) same (Stream.next k closing lexeme there is left) =
     subst (λ (l : Lexeme). ExactAny file (codes "Primary") p (lexeme_at kind.Open p piece.length ∷
-    more) (closed (length file) part (l ∷ rest))) (sym is) (by k there (same ∙ ap (λ (l : Lexeme). l ∷ rest) is))
+    more) (closed_form (length file) part (l ∷ rest))) (sym is) (by k there (same ∙ ap (λ (l : Lexeme). l ∷ rest) is))
   where
-    by : (k : TokenKind) → text_of k (drop e.end file) ≡ Some closing → drop part.taken more
+    by : (k : TokenKind) → matcher_of k (drop e.end file) ≡ Some closing → drop part.token_count more
         ≡ lexeme_at k e.end closing.length ∷ rest → ExactAny file (codes "Primary") p
-        (lexeme_at kind.Open p piece.length ∷ more) (closed (length file) part (lexeme_at k e.end closing.length ∷
+        (lexeme_at kind.Open p piece.length ∷ more) (closed_form (length file) part (lexeme_at k e.end closing.length ∷
         rest))
     by kind.Close here_is left_is = parentheses file p piece more part found e closing rest here_is left_is left
     by kind.Ident here_is left_is = no_close file p piece more part found e
@@ -386,22 +386,22 @@ stuck_close file q stuck span =
       ]
     ]
 
-open_primary : (file : List ℕ) (p : ℕ) (piece : Piece) (more : List Lexeme) (inner : Option Reading)
-    → Good file inner → text_of kind.Open (drop p file) ≡ Some piece → Stream file (behind_text file p piece.length) more
+open_primary : (file : List ℕ) (p : ℕ) (piece : PrefixMatch) (more : List Lexeme) (inner : Option Reading)
+    → Good file inner → matcher_of kind.Open (drop p file) ≡ Some piece → Stream file (behind_text file p piece.length) more
     → ExactAny file (codes "Primary") p (lexeme_at kind.Open p piece.length ∷
     more) (parenthesized inner (length file) (lexeme_at kind.Open p piece.length) more)
 open_primary file p piece more None good found rest = tt
 open_primary file p piece more (Some read) good found rest =
     by (read (p + piece.length) more) (good (p + piece.length) (behind_text file p piece.length) more rest)
   where
-    by : (x : Result FormRead Halt) → ExactAt file (codes "Expression") (p + piece.length)
+    by : (x : Result FormRead ReadError) → ExactAt file (codes "Expression") (p + piece.length)
         (behind_text file p piece.length) more x → ExactAny file (codes "Primary") p (lexeme_at kind.Open p piece.length ∷
-        more) (and_read x (λ (inside : FormRead). closed (length file) inside (drop inside.taken more)))
-    by (Ok inside) e = close_read file p piece more inside found e (drop inside.taken more) refl e.left
+        more) (and_read x (λ (inside : FormRead). closed_form (length file) inside (drop inside.token_count more)))
+    by (Ok inside) e = close_read file p piece more inside found e (drop inside.token_count more) refl e.left
     by (Err (Unexpected at)) stops =
         open_fails file p piece found (λ span next. DerivesItems.items_then (stops.derives span)
         (DerivesItems.items_failed (stuck_close file stops.end stops.stuck next)) refl)
-    by (Err (TooDeep at)) e = tt
+    by (Err (TooDeepAt at)) e = tt
     by (Err (BadCountAt at)) e = tt
 
 -- ---- every kind
@@ -419,7 +419,7 @@ primary-exact file inner good p (_ ∷ more) (Stream.next k piece lexeme found i
     subst (λ (l : Lexeme). ExactAny file (codes "Primary") p (l ∷ more) (primary_of file inner l more l.kind)) (sym is)
     (by k found)
   where
-    by : (k : TokenKind) → text_of k (drop p file) ≡ Some piece
+    by : (k : TokenKind) → matcher_of k (drop p file) ≡ Some piece
         → ExactAny file (codes "Primary") p (lexeme_at k p piece.length ∷
         more) (primary_of file inner (lexeme_at k p piece.length) more k)
     by kind.Ident there = name_primary file p piece more inner there rest

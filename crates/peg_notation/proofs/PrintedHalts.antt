@@ -5,13 +5,13 @@ use Rattle.std.proofs.Common.{Option, Some, refl, sym, ap, ◌∙◌, subst}
 use Rattle.peg_bytes.specs.Extent.{Extent, between}
 use Rattle.peg_tree.specs.Trees.{Trees, NoTrees, Tree}
 use Rattle.peg_semantics.specs.Form.{Form, Forms, Name, Seq, Choice, Star, Plus, End, Then}
-use Rattle.peg_semantics.specs.Record.{Recognition, Failed, Matched, behind}
-use Rattle.peg_semantics.specs.Rules.{Meaning, meant}
+use Rattle.peg_semantics.specs.Record.{Recognition, Failed, Matched, prepend_trees}
+use Rattle.peg_semantics.specs.Rules.{Meaning, meaning_of}
 use Rattle.peg_semantics.proofs.Derivations.{Derives, DerivesItems, DerivesFirst}
 use Rattle.peg_metagrammar.specs.EscapedFigure.{escaped_figure}
 use Rattle.peg_notation.specs.PrintedFigure.{printed_figure}
 use Rattle.peg_notation.proofs.Fronts.{front}
-use Rattle.peg_notation.proofs.PrintedMeanings.{meant-printed}
+use Rattle.peg_notation.proofs.PrintedMeanings.{meaning_of-printed}
 
 -- how the printed figure may stop before hexadecimal digits
 pub data Halt : Type 0 where
@@ -159,10 +159,10 @@ module _ (file : List ℕ) where
       item : {first : Form} {rest : Forms} {k l m : Halt} → Carries first k → CarriesItems rest l
           → ((p : ℕ) → FailsAt k p → FailsAt m p)
           → ((p middle : ℕ) (trees : Trees) (x : Recognition) → EndsAt k middle
-          → DerivesItems printed_figure file rest middle x → Halts m p (behind trees x))
+          → DerivesItems printed_figure file rest middle x → Halts m p (prepend_trees trees x))
           → ((p middle : ℕ) (trees : Trees) (x : Recognition)
           → Derives printed_figure file first p (Matched middle trees) → Halts l middle x
-          → Halts m p (behind trees x))
+          → Halts m p (prepend_trees trees x))
           → CarriesItems (Then first rest) m
 
     pub data CarriesFirst : Form → Forms → Halt → Type 0 where
@@ -175,22 +175,22 @@ module _ (file : List ℕ) where
 
   -- the result of a form under the printed figure is also its result under the escaped metagrammar, or the first stops
   module _ (body-carries : (used : List ℕ) (k : Halt) (m : Meaning) → IsHalting used k
-      → meant printed_figure used ≡ Some m → Carries m.body k) where
+      → meaning_of printed_figure used ≡ Some m → Carries m.body k) where
     mutual
       pub carried : {e : Form} {p : ℕ} {x : Recognition} {k : Halt} → Derives printed_figure file e p x → Carries e k
           → Derives escaped_figure file e p x ⊎ Halts k p x
       carried {p = p} {x} d (Carries.shown f) = f p x d
-      carried (Derives.name_matched {used = used} {meaning = m} {place = p} {end = end} {trees = trees} found d t)
+      carried (Derives.name_matched {used = used} {meaning = m} {position = p} {end = end} {trees = trees} found d t)
           (Carries.name is) =
-          let same = meant-printed used m (no_char is) found in
+          let same = meaning_of-printed used m (no_char is) found in
           elim (carried d (body-carries used _ m is found)) [
             | inl d ↦ inl (Derives.name_matched same.known
                 (subst (λ (body : Form). Derives escaped_figure file body p (Matched end trees)) (sym same.body_is) d)
                 (t ∙ ap (λ rule. Tree rule p end trees NoTrees) (sym same.rule_is)))
             | inr s ↦ inr s
           ]
-      carried (Derives.name_failed {used = used} {meaning = m} {place = p} found d) (Carries.name is) =
-          let same = meant-printed used m (no_char is) found in
+      carried (Derives.name_failed {used = used} {meaning = m} {position = p} found d) (Carries.name is) =
+          let same = meaning_of-printed used m (no_char is) found in
           elim (carried d (body-carries used _ m is found)) [
             | inl d ↦ inl (Derives.name_failed same.known
                 (subst (λ (body : Form). Derives escaped_figure file body p Failed) (sym same.body_is) d))
@@ -206,7 +206,7 @@ module _ (file : List ℕ) where
             | inl d ↦ inl (Derives.choice d)
             | inr s ↦ inr s
           ]
-      carried (Derives.star_none {place = p} d) (Carries.star c fails ends) =
+      carried (Derives.star_none {position = p} d) (Carries.star c fails ends) =
           elim (carried d c) [
             | inl d ↦ inl (Derives.star_none d)
             | inr s ↦ inr (fails p s)
@@ -219,7 +219,7 @@ module _ (file : List ℕ) where
             ]
             | inr s ↦ inr (ends middle end more s ds)
           ]
-      carried (Derives.plus_failed {place = p} d) (Carries.plus c fails ends) =
+      carried (Derives.plus_failed {position = p} d) (Carries.plus c fails ends) =
           elim (carried d c) [
             | inl d ↦ inl (Derives.plus_failed d)
             | inr s ↦ absurd (fails p s)
@@ -236,12 +236,12 @@ module _ (file : List ℕ) where
       items_carried : {items : Forms} {p : ℕ} {x : Recognition} {k : Halt} → DerivesItems printed_figure file items p x
           → CarriesItems items k → DerivesItems escaped_figure file items p x ⊎ Halts k p x
       items_carried {p = p} {x} ds (CarriesItems.items_shown f) = f p x ds
-      items_carried (DerivesItems.items_failed {place = p} d) (CarriesItems.item c cs fail stop go) =
+      items_carried (DerivesItems.items_failed {position = p} d) (CarriesItems.item c cs fail stop go) =
           elim (carried d c) [
             | inl d ↦ inl (DerivesItems.items_failed d)
             | inr s ↦ inr (fail p s)
           ]
-      items_carried {k = k} (DerivesItems.items_then {place = p} {middle = middle} {trees = trees} {more = more} old ds is)
+      items_carried {k = k} (DerivesItems.items_then {position = p} {middle = middle} {trees = trees} {more = more} old ds is)
           (CarriesItems.item c cs fail stop go) =
           elim (carried old c) [
             | inl d ↦ elim (items_carried ds cs) [
@@ -264,7 +264,7 @@ module _ (file : List ℕ) where
             | inl d ↦ inl (DerivesFirst.alternative_matched d)
             | inr s ↦ inr (ends end s)
           ]
-      first_carried (DerivesFirst.alternative_failed {place = p} {result = x} d ds) (CarriesFirst.other c cs ends failed later) =
+      first_carried (DerivesFirst.alternative_failed {position = p} {result = x} d ds) (CarriesFirst.other c cs ends failed later) =
           elim (carried d c) [
             | inl d ↦ elim (first_carried ds cs) [
               | inl rest ↦ inl (DerivesFirst.alternative_failed d rest)

@@ -6,27 +6,27 @@ use Rattle.std.proofs.lemmas.Bool.{and_parts}
 use Rattle.peg_tree.specs.Trees.{NoTrees, Tree}
 use Rattle.peg_semantics.specs.Form.{Form, Forms}
 use Rattle.peg_semantics.specs.Record.{Recognition, Failed, Matched}
-use Rattle.peg_semantics.specs.Rules.{Meaning, meant}
+use Rattle.peg_semantics.specs.Rules.{Meaning, meaning_of}
 use Rattle.peg_semantics.proofs.Derivations.{Derives, DerivesItems, DerivesFirst}
 use Rattle.peg_metagrammar.specs.EscapedFigure.{escaped_figure}
 use Rattle.peg_notation.specs.PrintedFigure.{printed_char, printed_figure}
-use Rattle.peg_notation.proofs.Meanings.{Meant, meant-changed, without, all_without, turned, not_false, meant_without, leads_elsewhere}
+use Rattle.peg_notation.proofs.Meanings.{Meant, meaning_of-changed, without, all_without, turned, not_false, meant_without, leads_elsewhere}
 
-pub meant-printed : (used : List ℕ) (m : Meaning) → bytes_eq used (codes "Char") ≡ false
-    → meant printed_figure used ≡ Some m → Meant 0 0 escaped_figure used m
-meant-printed used m other is = meant-changed (codes "Char") printed_char escaped_figure 0 0 0 used m other is
+pub meaning_of-printed : (used : List ℕ) (m : Meaning) → bytes_eq used (codes "Char") ≡ false
+    → meaning_of printed_figure used ≡ Some m → Meant 0 0 escaped_figure used m
+meaning_of-printed used m other is = meaning_of-changed (codes "Char") printed_char escaped_figure 0 0 0 used m other is
 
 -- whether a name leads to no Char, in this number of steps from name to name
 abbrev pub leads_past : ℕ → List ℕ → Bool
 leads_past n used = leads_elsewhere printed_figure (codes "Char") n used
 
-named : (used : List ℕ) (m : Meaning) (n : ℕ) → meant printed_figure used ≡ Some m
+named : (used : List ℕ) (m : Meaning) (n : ℕ) → meaning_of printed_figure used ≡ Some m
     → leads_past (suc n) used ≡ true → (without (leads_past n) m.body ≡ true) × Meant 0 0 escaped_figure used m
 named used m n found leads =
     let parts = and_parts (turned (bytes_eq used (codes "Char")))
-    (meant_without (leads_past n) (meant printed_figure used)) leads in (
+    (meant_without (leads_past n) (meaning_of printed_figure used)) leads in (
       ap (meant_without (leads_past n)) (sym found) ∙ parts.1,
-      meant-printed used m (not_false (bytes_eq used (codes "Char")) parts.0) found,
+      meaning_of-printed used m (not_false (bytes_eq used (codes "Char")) parts.0) found,
     )
 
 module _ {file : List ℕ} where
@@ -41,13 +41,13 @@ module _ {file : List ℕ} where
     alike n (Derives.any_matched a b) is = Derives.any_matched a b
     alike n (Derives.any_failed a) is = Derives.any_failed a
     alike zero (Derives.name_matched found d t) is = cc
-    alike (suc n) (Derives.name_matched {used = used} {meaning = m} {place = p} {end = end} {trees = trees} found d t) is =
+    alike (suc n) (Derives.name_matched {used = used} {meaning = m} {position = p} {end = end} {trees = trees} found d t) is =
         let it = named used m n found is in
         Derives.name_matched it.1.known
         (subst (λ (body : Form). Derives escaped_figure file body p (Matched end trees)) (sym it.1.body_is) (alike n d it.0))
         (t ∙ ap (λ rule. Tree rule p end trees NoTrees) (sym it.1.rule_is))
     alike zero (Derives.name_failed found d) is = cc
-    alike (suc n) (Derives.name_failed {used = used} {meaning = m} {place = p} found d) is =
+    alike (suc n) (Derives.name_failed {used = used} {meaning = m} {position = p} found d) is =
         let it = named used m n found is in
         Derives.name_failed it.1.known
         (subst (λ (body : Form). Derives escaped_figure file body p Failed) (sym it.1.body_is) (alike n d it.0))

@@ -11,8 +11,8 @@ use Rattle.peg_bytes.specs.ByteSet.{has}
 use Rattle.peg_bytes.specs.Extent.{Extent, between}
 use Rattle.peg_tree.specs.Trees.{Trees, NoTrees, Tree}
 use Rattle.peg_semantics.specs.Form.{Form, Forms, Literal, Class, Name, Seq, Choice, Optional, Star, Plus, Not, End, Then}
-use Rattle.peg_semantics.specs.Record.{Recognition, Failed, Matched, behind, as_tree}
-use Rattle.peg_semantics.specs.Rules.{Meaning, meant}
+use Rattle.peg_semantics.specs.Record.{Recognition, Failed, Matched, prepend_trees, as_tree}
+use Rattle.peg_semantics.specs.Rules.{Meaning, meaning_of}
 use Rattle.peg_semantics.proofs.Derivations.{Derives, DerivesItems, DerivesFirst, recorded, derived, one_result, star_never_fails, literal_here, class_missing}
 use Rattle.peg_semantics.proofs.ResultSteps.{begins_with, passes_any, starts_with-rest}
 use Rattle.peg_metagrammar.specs.Ranges.{range, class_of, in_ranges}
@@ -74,7 +74,7 @@ module _ (file : List ℕ) where
   elsewhere (Derives.name_failed found d) = Derives.name_failed found d
 
   pub named : {used : List ℕ} {span : Extent} {p : ℕ} {x : Recognition} (m : Meaning)
-      → meant printed_figure used ≡ Some m → Old (Name used span) p x
+      → meaning_of printed_figure used ≡ Some m → Old (Name used span) p x
       → (y : Recognition) × Old m.body p y × (x ≡ as_tree m.rule p y)
   named {p = p} m known (Derives.name_matched {meaning = other} {end = end} {trees = trees} found d t) =
       let both : Some other ≡ Some m = sym found ∙ known in
@@ -88,7 +88,7 @@ module _ (file : List ℕ) where
       let it : other ≡ m = cc in
       (Failed, subst (λ (z : Meaning). Old z.body p Failed) it d, refl)
 
-  named_anew : {used : List ℕ} {p : ℕ} (m : Meaning) (span : Extent) → meant escaped_figure used ≡ Some m → (y : Recognition)
+  named_anew : {used : List ℕ} {p : ℕ} (m : Meaning) (span : Extent) → meaning_of escaped_figure used ≡ Some m → (y : Recognition)
       → Derives escaped_figure file m.body p y → Derives escaped_figure file (Name used span) p (as_tree m.rule p y)
   named_anew m span known Failed d = Derives.name_failed known d
   named_anew m span known (Matched end trees) d = Derives.name_matched known d refl
@@ -98,7 +98,7 @@ module _ (file : List ℕ) where
   first_item {item} {rest} {p} {end} {trees} (DerivesItems.items_then {middle = m} {trees = a} {more = x} d ds is) =
       by x ds is
     where
-      by : (x : Recognition) → OldItems rest m x → Matched end trees ≡ behind a x
+      by : (x : Recognition) → OldItems rest m x → Matched end trees ≡ prepend_trees a x
           → (m : ℕ) × (a : Trees) × (b : Trees) × Old item p (Matched m a) × OldItems rest m (Matched end b)
       by Failed ds is = cc
       by (Matched last b) ds is =
@@ -135,7 +135,7 @@ module _ (file : List ℕ) where
   plain_then : {e : Form} {rest : Forms} {l m : Halt} → without (leads_past 5) e ≡ true
       → CarriesItems file rest l
       → ((p middle : ℕ) (trees : Trees) (x : Recognition) → Old e p (Matched middle trees) → Halts file l middle x
-      → Halts file m p (behind trees x))
+      → Halts file m p (prepend_trees trees x))
       → CarriesItems file (Then e rest) m
   plain_then is rest go =
       CarriesItems.item (plain {k = Halt.never} is) rest (λ p s. absurd s) (λ p middle trees x s ds. absurd s) go
@@ -144,7 +144,7 @@ module _ (file : List ℕ) where
   then_plain : {e : Form} {rest : Forms} {k m : Halt} → Carries file e k
       → all_without (leads_past 5) rest ≡ true → ((p : ℕ) → FailsAt file k p → FailsAt file m p)
       → ((p middle : ℕ) (trees : Trees) (x : Recognition) → EndsAt file k middle → OldItems rest middle x
-      → Halts file m p (behind trees x))
+      → Halts file m p (prepend_trees trees x))
       → CarriesItems file (Then e rest) m
   then_plain c is fail stop =
       CarriesItems.item c (plain_items {k = Halt.never} is) fail stop
@@ -155,23 +155,23 @@ module _ (file : List ℕ) where
   last_item {k = k} c = then_plain c refl (λ p s. s) (λ p middle trees x s ds. ends p middle trees x s ds)
     where
       ends : (p middle : ℕ) (trees : Trees) (x : Recognition) → EndsAt file k middle → OldItems End middle x
-          → Halts file k p (behind trees x)
+          → Halts file k p (prepend_trees trees x)
       ends p middle trees x s DerivesItems.items_none = s
 
   -- stopping so that the whole fails
-  all_halts : (p : ℕ) (trees : Trees) (x : Recognition) → x ≡ Failed → Halts file Halt.whole p (behind trees x)
+  all_halts : (p : ℕ) (trees : Trees) (x : Recognition) → x ≡ Failed → Halts file Halt.whole p (prepend_trees trees x)
   all_halts p trees Failed is = tt
   all_halts p trees (Matched end more) is = cc
 
   -- ---- Char
 
-  pub printed-meant : (t : ℕ) × (meant printed_figure (codes "Char")
+  pub printed-meaning_of : (t : ℕ) × (meaning_of printed_figure (codes "Char")
       ≡ Some (record { rule = 13; terminal = t; body = printed_char }))
   unfolding escaped_figure figure escaped_suffix
-  printed-meant = (_, refl)
+  printed-meaning_of = (_, refl)
 
   abbrev pub printed_meaning : Meaning
-  printed_meaning = record { rule = 13; terminal = printed-meant.0; body = printed_char }
+  printed_meaning = record { rule = 13; terminal = printed-meaning_of.0; body = printed_char }
 
   pub no_escape : (p : ℕ) (rest : List ℕ) → drop p file ≡ 92 ∷ 120 ∷ rest → Old printed_char p Failed
   unfolding class_of
@@ -187,10 +187,10 @@ module _ (file : List ℕ) where
       (DerivesFirst.alternative_last (Derives.sequence
       (DerivesItems.items_failed (Derives.not_failed (literal_here (120 ∷ rest) is))))))))
 
-  char-meant : (t : ℕ) × (meant escaped_figure (codes "Char")
+  char-meaning_of : (t : ℕ) × (meaning_of escaped_figure (codes "Char")
       ≡ Some (record { rule = 13; terminal = t; body = char_body }))
   unfolding escaped_figure figure
-  char-meant = (_, refl)
+  char-meaning_of = (_, refl)
 
   alternatives : {first : Form} {rest : Forms} {span : Extent} {p : ℕ} {y : Recognition}
       → Derives escaped_figure file (Choice first rest span) p y → DerivesFirst escaped_figure file first rest p y
@@ -212,10 +212,10 @@ module _ (file : List ℕ) where
       by : (p : ℕ) (x : Recognition) → Old (Name (codes "Char") span) p x
           → Derives escaped_figure file (Name (codes "Char") span) p x ⊎ Halts file Halt.character p x
       by p x d =
-          let it = named printed_meaning printed-meant.1 d in
+          let it = named printed_meaning printed-meaning_of.1 d in
           elim (char_by p (starts_with nat_eq (drop p file) (codes "\\x")) refl it.0 it.1) [
             | inl new ↦ inl (subst (λ (z : Recognition). Derives escaped_figure file (Name (codes "Char") span) p z) (sym it.2)
-                (named_anew _ span char-meant.1 it.0 new))
+                (named_anew _ span char-meaning_of.1 it.0 new))
             | inr dead ↦
                 let fails : x ≡ Failed = it.2 ∙ ap (as_tree 13 p) dead.1 in
                 inr (subst (Halts file Halt.character p) (sym fails)
@@ -230,7 +230,7 @@ module _ (file : List ℕ) where
       let no_backslash : starts_with nat_eq (drop p file) (codes "\\") ≡ false =
       ap (λ l. starts_with nat_eq l (codes "\\")) is in
       let alone : Old (Name (codes "Char") span) p (Matched (p + 1) (Tree 13 p (p + 1) NoTrees NoTrees)) =
-      Derives.name_matched printed-meant.1 (Derives.choice
+      Derives.name_matched printed-meaning_of.1 (Derives.choice
       (DerivesFirst.alternative_failed
       (Derives.sequence (DerivesItems.items_failed (Derives.literal_failed no_backslash)))
       (DerivesFirst.alternative_failed
@@ -257,7 +257,7 @@ module _ (file : List ℕ) where
         where
           go : (p middle : ℕ) (trees : Trees) (x : Recognition)
               → Old (Literal (codes "-") span) p (Matched middle trees) → Halts file Halt.character middle x
-              → Halts file Halt.dashed p (behind trees x)
+              → Halts file Halt.dashed p (prepend_trees trees x)
           go p middle trees Failed d s =
               (byte_is (at file p) 45 (matches_front 5 d), subst (IsDead file) (literal_end d) s)
           go p middle trees (Matched end more) d s = s
@@ -268,7 +268,7 @@ module _ (file : List ℕ) where
         where
           go : (p middle : ℕ) (trees : Trees) (x : Recognition)
               → Old (Name (codes "Char") first) p (Matched middle trees) → Halts file Halt.dashed middle x
-              → Halts file Halt.pair p (behind trees x)
+              → Halts file Halt.pair p (prepend_trees trees x)
           go p middle trees Failed d s = inr (middle, trees, elsewhere d, s)
           go p middle trees (Matched end more) d s = s
 
@@ -292,16 +292,16 @@ module _ (file : List ℕ) where
       × (at file middle ≡ Some 45))
       ⊎ ((trees : Trees) × Old (Name (codes "Char") (between 0 0)) p (Matched end trees))
 
-  range-meant : (t : ℕ) × (meant printed_figure (codes "Range")
+  range-meaning_of : (t : ℕ) × (meaning_of printed_figure (codes "Range")
       ≡ Some (record { rule = 12; terminal = t; body = range_body }))
   unfolding escaped_figure figure escaped_suffix
-  range-meant = (_, refl)
+  range-meaning_of = (_, refl)
 
   range_chars : {span : Extent} {p end : ℕ} {trees : Trees} → Old (Name (codes "Range") span) p (Matched end trees)
       → IsOfChars p end
   unfolding range_body
   range_chars {p = p} {end} {trees} d =
-      let it = named _ range-meant.1 d in body it.0 it.1 it.2
+      let it = named _ range-meaning_of.1 d in body it.0 it.1 it.2
     where
       first : {s t u v : Extent} (last : ℕ) (inside : Trees) → Old (Seq (Then (Name (codes "Char") s)
           (Then (Literal (codes "-") t) (Then (Name (codes "Char") u) End))) v) p (Matched last inside) → IsOfChars p end
@@ -346,8 +346,8 @@ module _ (file : List ℕ) where
       by (inr one) = matched≢failed (one_result one.1 dead.1)
 
   -- no position is both at a backslash and at a dash
-  no_dash : (place middle : ℕ) → middle ≡ place → at file place ≡ Some 92 → at file middle ≡ Some 45 → ⊥
-  no_dash place middle same slashed dashed = apart (sym slashed ∙ (ap (at file) (sym same) ∙ dashed))
+  no_dash : (position middle : ℕ) → middle ≡ position → at file position ≡ Some 92 → at file middle ≡ Some 45 → ⊥
+  no_dash position middle same slashed dashed = apart (sym slashed ∙ (ap (at file) (sym same) ∙ dashed))
     where
       apart : (let one : Option ℕ = Some 92 in let other : Option ℕ = Some 45 in one ≡ other) → ⊥
       apart e = cc
@@ -378,7 +378,7 @@ module _ (file : List ℕ) where
         where
           here : (p middle : ℕ) (trees : Trees) (x : Recognition)
               → Old (Not (Literal (codes "]") s) t) p (Matched middle trees) → Halts file Halt.ranged middle x
-              → Halts file Halt.ranged p (behind trees x)
+              → Halts file Halt.ranged p (prepend_trees trees x)
           here p middle trees Failed d s = subst (IsDead file) (not_end d) s
           here p middle trees (Matched end more) d s = s
 
@@ -389,12 +389,12 @@ module _ (file : List ℕ) where
 
       stop : {s : Extent} {rest : Forms} (p middle : ℕ) (trees : Trees) (x : Recognition)
           → EndsAt file Halt.loose middle → OldItems (Then (Literal (codes "]") s) rest) middle x
-          → Halts file Halt.whole p (behind trees x)
+          → Halts file Halt.whole p (prepend_trees trees x)
       stop p middle trees x s ds = all_halts p trees x (items_blocked 5 (loose_no_bracket (at file middle) s) ds)
 
       go : {s : Extent} (p middle : ℕ) (trees : Trees) (x : Recognition)
           → Old (Literal (codes "[") s) p (Matched middle trees) → Halts file Halt.whole middle x
-          → Halts file (Halt.begun 91) p (behind trees x)
+          → Halts file (Halt.begun 91) p (prepend_trees trees x)
       go p middle trees Failed d s = byte_is (at file p) 91 (matches_front 5 d)
       go p middle trees (Matched end more) d s = s
 
@@ -415,7 +415,7 @@ module _ (file : List ℕ) where
     where
       here : (p middle : ℕ) (trees : Trees) (x : Recognition)
           → Old (Not (one_byte byte s) t) p (Matched middle trees) → Halts file Halt.character middle x
-          → Halts file Halt.character p (behind trees x)
+          → Halts file Halt.character p (prepend_trees trees x)
       here p middle trees Failed d h = subst (IsDead file) (not_end d) h
       here p middle trees (Matched end more) d h = h
 
@@ -427,11 +427,11 @@ module _ (file : List ℕ) where
           (λ p h. subst IsLoose (sym h.0) IsLoose.backslash) (λ middle end trees h d. absurd h)
 
       stop : {rest : Forms} (p middle : ℕ) (trees : Trees) (x : Recognition) → EndsAt file Halt.loose middle
-          → OldItems (Then (one_byte byte e) rest) middle x → Halts file Halt.whole p (behind trees x)
+          → OldItems (Then (one_byte byte e) rest) middle x → Halts file Halt.whole p (prepend_trees trees x)
       stop p middle trees x h ds = all_halts p trees x (items_blocked 5 (loose (at file middle) h) ds)
 
       go : (p middle : ℕ) (trees : Trees) (x : Recognition) → Old (one_byte byte r) p (Matched middle trees)
-          → Halts file Halt.whole middle x → Halts file (Halt.begun byte) p (behind trees x)
+          → Halts file Halt.whole middle x → Halts file (Halt.begun byte) p (prepend_trees trees x)
       go p middle trees Failed d h = byte_in byte small (at file p) (matches_front 5 d)
       go p middle trees (Matched end more) d h = h
 
@@ -550,11 +550,11 @@ module _ (file : List ℕ) where
       (then_plain {k = Halt.words} (Carries.name IsHalting.is_expression) refl (λ p h. absurd h) stop) go
     where
       stop : (p middle : ℕ) (trees : Trees) (x : Recognition) → EndsAt file Halt.words middle
-          → OldItems (Then (Name (codes "CLOSE") u) End) middle x → Halts file Halt.whole p (behind trees x)
+          → OldItems (Then (Name (codes "CLOSE") u) End) middle x → Halts file Halt.whole p (prepend_trees trees x)
       stop p middle trees x h ds = all_halts p trees x (items_blocked 5 (opener_no_close (at file middle) h) ds)
 
       go : (p middle : ℕ) (trees : Trees) (x : Recognition) → Old (Name (codes "OPEN") s) p (Matched middle trees)
-          → Halts file Halt.whole middle x → Halts file (Halt.begun 40) p (behind trees x)
+          → Halts file Halt.whole middle x → Halts file (Halt.begun 40) p (prepend_trees trees x)
       go p middle trees Failed d h = open_front d
       go p middle trees (Matched end more) d h = h
 
@@ -611,7 +611,7 @@ module _ (file : List ℕ) where
     where
       go : {s t u v : Extent} (p middle : ℕ) (trees : Trees) (x : Recognition)
           → Old (Optional (Choice (Name (codes "AND") s) (Then (Name (codes "NOT") t) End) u) v) p (Matched middle trees)
-          → Halts file Halt.token middle x → Halts file Halt.token p (behind trees x)
+          → Halts file Halt.token middle x → Halts file Halt.token p (prepend_trees trees x)
       go p middle trees Failed d h = sign_front d h
       go p middle trees (Matched end more) d h = h
 
@@ -623,7 +623,7 @@ module _ (file : List ℕ) where
   -- ---- Expression, Definition, Grammar
 
   words_on : (p middle : ℕ) (trees : Trees) (x : Recognition) → Halts file Halt.words middle x
-      → Halts file Halt.words p (behind trees x)
+      → Halts file Halt.words p (prepend_trees trees x)
   words_on p middle trees Failed h = absurd h
   words_on p middle trees (Matched end more) h = h
 
@@ -646,10 +646,10 @@ module _ (file : List ℕ) where
     where
       stop : {s t u v : Extent} (p middle : ℕ) (trees : Trees) (x : Recognition) → EndsAt file Halt.words middle
           → OldItems (Then (Star (Seq (Then (Name (codes "SLASH") s) (Then (Name (codes "Sequence") t) End)) u) v) End)
-          middle x → Halts file Halt.words p (behind trees x)
+          middle x → Halts file Halt.words p (prepend_trees trees x)
       stop p middle trees x h (DerivesItems.items_failed d) = absurd (star_never_fails d)
       stop p middle trees x h (DerivesItems.items_then {middle = end} d DerivesItems.items_none is) =
-          subst (λ (x : Recognition). Halts file Halt.words p (behind trees x)) (sym is)
+          subst (λ (x : Recognition). Halts file Halt.words p (prepend_trees trees x)) (sym is)
           (subst (λ n. IsOpener (at file n)) (sym (star_blocked 5 (opener_no_slash (at file middle) h) d)) h)
 
   definition_carried : Carries file definition_body Halt.words
@@ -673,21 +673,21 @@ module _ (file : List ℕ) where
           (sym (star_blocked 5 (opener_no_definition (at file middle) h) d)) h)
 
       go : {e : Form} (p middle : ℕ) (trees : Trees) (x : Recognition) → Old e p (Matched middle trees)
-          → Halts file Halt.whole middle x → Halts file Halt.whole p (behind trees x)
+          → Halts file Halt.whole middle x → Halts file Halt.whole p (prepend_trees trees x)
       go p middle trees Failed d h = tt
       go p middle trees (Matched end more) d h = h
 
   -- ---- the meaning of the rules
 
   same_body : (used : List ℕ) {k : Halt} (m : Meaning) (rule terminal : ℕ) (body : Form)
-      → meant printed_figure used ≡ Some (record { rule = rule; terminal = terminal; body = body })
-      → meant printed_figure used ≡ Some m → Carries file body k → Carries file m.body k
+      → meaning_of printed_figure used ≡ Some (record { rule = rule; terminal = terminal; body = body })
+      → meaning_of printed_figure used ≡ Some m → Carries file body k → Carries file m.body k
   same_body used {k} m rule terminal body known found c =
       let both : Some (record { rule = rule; terminal = terminal; body = body }) ≡ Some m = sym known ∙ found in
       let same : record { rule = rule; terminal = terminal; body = body } ≡ m = cc in
       subst (λ (z : Meaning). Carries file z.body k) same c
 
-  body_carries : (used : List ℕ) (k : Halt) (m : Meaning) → IsHalting file used k → meant printed_figure used ≡ Some m
+  body_carries : (used : List ℕ) (k : Halt) (m : Meaning) → IsHalting file used k → meaning_of printed_figure used ≡ Some m
       → Carries file m.body k
   unfolding escaped_figure figure escaped_suffix
   body_carries used k m IsHalting.is_grammar found =

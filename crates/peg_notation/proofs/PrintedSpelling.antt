@@ -9,9 +9,9 @@ use Rattle.peg_semantics.specs.Form.{Name}
 use Rattle.peg_semantics.specs.Record.{Failed, Matched}
 use Rattle.peg_semantics.proofs.Derivations.{Derives, DerivesItems, DerivesFirst, derived, one_result}
 use Rattle.peg_semantics.proofs.ResultSteps.{begins_with, passes_any}
-use Rattle.peg_metagrammar.specs.Spelled.{is_octal, octal, escaped, hexadecimal, byte_spelled, part}
+use Rattle.peg_metagrammar.specs.Denotation.{is_octal, octal, simple_escape, hexadecimal, byte_spelled, part}
 use Rattle.peg_notation.specs.PrintedFigure.{MatchesPrinted, printed_figure, printed_byte}
-use Rattle.peg_notation.proofs.PrintedRules.{Old, no_escape, printed-meant}
+use Rattle.peg_notation.proofs.PrintedRules.{Old, no_escape, printed-meaning_of}
 
 -- an end that is one byte after the start
 one_byte : (file : List ℕ) (p end : ℕ) → end ≡ p + 1 → end - p ≡ 1
@@ -31,7 +31,7 @@ alone file p byte rest is other end trees d =
     let no_backslash : starts_with nat_eq (drop p file) (codes "\\") ≡ false =
     ap (λ l. starts_with nat_eq l (codes "\\")) is ∙ differs in
     let one : Old file (Name (codes "Char") (between 0 0)) p (Matched (p + 1) (Tree 13 p (p + 1) NoTrees NoTrees)) =
-    Derives.name_matched (printed-meant file).1 (Derives.choice
+    Derives.name_matched (printed-meaning_of file).1 (Derives.choice
     (DerivesFirst.alternative_failed
     (Derives.sequence (DerivesItems.items_failed (Derives.literal_failed no_backslash)))
     (DerivesFirst.alternative_failed
@@ -53,7 +53,7 @@ no_x : (first sign : ℕ) (digits : List ℕ) → (sign == 120) ≡ false
     → byte_spelled (first ∷ sign ∷ digits) ≡ printed_byte (first ∷ sign ∷ digits)
 no_x first sign digits other =
     ap (λ (b : Bool). if b then hexadecimal digits
-    else (if is_octal sign then octal (sign ∷ digits) else escaped sign)) other
+    else (if is_octal sign then octal (sign ∷ digits) else simple_escape sign)) other
 
 -- the start of a text with a backslash
 behind_backslash : (sign : ℕ) (rest : List ℕ) (n : ℕ) → (sign == 120) ≡ false
@@ -77,7 +77,7 @@ printed-spelling file start end trees m = by (drop start file) refl
     escape sign rest true same is =
         let sign_is : sign ≡ 120 = grind (arith, nat_tests) in
         let failed = no_escape file start rest (is ∙ ap (λ s. 92 ∷ s ∷ rest) sign_is) in
-        let dead = Derives.name_failed (printed-meant file).1 failed in
+        let dead = Derives.name_failed (printed-meaning_of file).1 failed in
         let none : Matched end trees ≡ Failed = one_result d dead in
         cc
 

@@ -2,54 +2,54 @@
 use Rattle.std.proofs.Common.{◌≡◌, ℕ, zero, suc, ◌-◌, ◌<◌, ◌≤◌, ◌≢◌, List, [], ◌∷◌, length, drop, take, get_or, true}
 use Rattle.std.proofs.Common.{Option, Result, Ok, Err, refl, sym, ap, ◌∙◌, subst, arith}
 use Rattle.peg_bytes.specs.Extent.{extent}
-use Rattle.peg_notation.specs.Reader.{Halt, Unexpected, TooDeep, BadCountAt, FormRead, FormsRead, Reading, place_of, and_read, many, begins_prefix, starts_with_slash, parenthesized, closed, primary, suffix, prefix, whole_sequence, sequence, alternative, whole_choice, expression, expression_in, RuleRead, rule_of, definition_behind, definitions_behind, grammar, starts_with_arrow}
-use Rattle.peg_notation.specs.ReaderCode.{lexemes, AreTexts, inner_of, ConveysHalt}
+use Rattle.peg_notation.specs.Reader.{ReadError, Unexpected, TooDeepAt, BadCountAt, FormRead, FormsRead, Reading, place_of, and_read, many_forms, begins_prefix, starts_with_slash, parenthesized, closed_form, primary, suffix, prefix, whole_sequence, sequence, alternative, whole_choice, expression, expression_in, RuleRead, rule_read, definition_after, definitions_after, grammar, starts_with_arrow}
+use Rattle.peg_notation.specs.ReaderCode.{lexemes, AreTexts, inner_reading, AgreesOnError}
 use Rattle.peg_notation.specs.Spans.{LiesIn}
 use Rattle.peg_lexer.specs.Tokens.{Lexeme, lexeme_of}
 use Rattle.peg_lexer.specs.declared.token.Token.{Token}
 use Rattle.peg_notation.specs.declared.fault.NotationFault.{NotationFault}
 use Rattle.peg_notation.specs.declared.fault.NotationFault.TheVariants.{FileTooLong, Syntax, TooNested, BadCount, Memory}
 use Rattle.peg_notation.proofs.ManyLoops.{SoFar, so_far-halt}
-use Rattle.peg_notation.proofs.Reached.{token-order, token-lies, texts-from, texts-place, Taken, Reached, Takes, Reaches, InnerReaches, primary-takes, suffix-takes}
+use Rattle.peg_notation.proofs.Reached.{token-order, token-lies, texts-from, texts-position, Taken, Reached, Takes, Reaches, InnerReaches, primary-takes, suffix-takes}
 use Rattle.peg_notation.proofs.ReachedRules.{Passes, PassesAll, items-pass, alternatives-pass, sequence-reaches, both-order, expression_in-reaches}
 use Rattle.peg_notation.proofs.TokenTexts.{lexemes-behind}
 
 -- a fault is passed on
-pub fault_passes : {X Y : Type 0} (x : Result X Halt) (next : X → Result Y Halt) (fault : NotationFault) → ConveysHalt x fault
-    → ConveysHalt (and_read x next) fault
+pub fault_passes : {X Y : Type 0} (x : Result X ReadError) (next : X → Result Y ReadError) (fault : NotationFault) → AgreesOnError x fault
+    → AgreesOnError (and_read x next) fault
 fault_passes x next FileTooLong is = is
-fault_passes {X} {Y} x next (Syntax at) is = ap (λ (r : Result X Halt). and_read r next) is
-fault_passes {X} {Y} x next (TooNested at) is = ap (λ (r : Result X Halt). and_read r next) is
-fault_passes {X} {Y} x next (BadCount at) is = ap (λ (r : Result X Halt). and_read r next) is
+fault_passes {X} {Y} x next (Syntax at) is = ap (λ (r : Result X ReadError). and_read r next) is
+fault_passes {X} {Y} x next (TooNested at) is = ap (λ (r : Result X ReadError). and_read r next) is
+fault_passes {X} {Y} x next (BadCount at) is = ap (λ (r : Result X ReadError). and_read r next) is
 fault_passes x next Memory is = tt
 
 -- a fault of the part is a fault of the whole, if each reason to stop in the part is one in the whole
-pub fault_same : {X Y : Type 0} (x : Result X Halt) (y : Result Y Halt) (fault : NotationFault)
-    → ((halt : Halt) → x ≡ Err halt → y ≡ Err halt) → ConveysHalt x fault → ConveysHalt y fault
+pub fault_same : {X Y : Type 0} (x : Result X ReadError) (y : Result Y ReadError) (fault : NotationFault)
+    → ((halt : ReadError) → x ≡ Err halt → y ≡ Err halt) → AgreesOnError x fault → AgreesOnError y fault
 fault_same x y FileTooLong same is = is
 fault_same x y (Syntax at) same is = same (Unexpected at) is
-fault_same x y (TooNested at) same is = same (TooDeep at) is
+fault_same x y (TooNested at) same is = same (TooDeepAt at) is
 fault_same x y (BadCount at) same is = same (BadCountAt at) is
 fault_same x y Memory same is = tt
 
 -- an expression inside parentheses may have one parenthesis less open
 pub expression_in-is : (file : List ℕ) (n before : ℕ) (lexemes : List Lexeme)
-    → expression_in file n before lexemes ≡ expression file (inner_of file n) before lexemes
+    → expression_in file n before lexemes ≡ expression file (inner_reading file n) before lexemes
 unfolding expression_in
 expression_in-is file zero before lexemes = refl
 expression_in-is file (suc n) before lexemes = refl
 
 -- if a parenthesis may be opened, it contains an expression
 pub parenthesized-is : (file : List ℕ) (left : ℕ) → left ≢ 0 → (size : ℕ) (opening : Lexeme) (rest : List Lexeme)
-    → parenthesized (inner_of file left) size opening rest
-    ≡ and_read (expression file (inner_of file (left - 1)) opening.text.end rest)
-    (λ (inside : FormRead). closed size inside (drop inside.taken rest))
+    → parenthesized (inner_reading file left) size opening rest
+    ≡ and_read (expression file (inner_reading file (left - 1)) opening.text.end rest)
+    (λ (inside : FormRead). closed_form size inside (drop inside.token_count rest))
 parenthesized-is file zero some size opening rest = absurd (some refl)
 parenthesized-is file (suc n) some size opening rest =
     let less : n ≡ suc n - 1 = omega arith in
-    ap (λ (x : Result FormRead Halt). and_read x (λ (inside : FormRead). closed size inside (drop inside.taken rest)))
+    ap (λ (x : Result FormRead ReadError). and_read x (λ (inside : FormRead). closed_form size inside (drop inside.token_count rest)))
     (expression_in-is file n opening.text.end rest
-    ∙ ap (λ k. expression file (inner_of file k) opening.text.end rest) less)
+    ∙ ap (λ k. expression file (inner_reading file k) opening.text.end rest) less)
 
 -- the tokens after the first n have their texts after the start of the file
 pub texts-behind : (file : List ℕ) (from n : ℕ) (lexemes : List Lexeme) → AreTexts file from lexemes
@@ -79,135 +79,135 @@ front_lies file from tokens token long is texts =
 -- ---- the order of offsets
 
 -- if no parenthesis is open yet, as many may be opened as are left
-inner-reaches : (file : List ℕ) (left : ℕ) → InnerReaches file left 0 (inner_of file left)
+inner-reaches : (file : List ℕ) (left : ℕ) → InnerReaches file left 0 (inner_reading file left)
 inner-reaches file zero = refl
 inner-reaches file (suc n) = (omega arith, expression_in-reaches file (suc n) n 1 (omega arith))
 
 -- the operator of a predicate is before the end of its part
 pub prefix_order : (file : List ℕ) (left : ℕ) (tokens : List Token) (sign : Token) → 1 ≤ length tokens
     → sign ≡ get_or tokens 0 sign → AreTexts file 0 (lexemes tokens) → (part : FormRead)
-    → suffix file (inner_of file left) (lexemes (take (length tokens - 1) (drop 1 tokens))) ≡ Ok part
+    → suffix file (inner_reading file left) (lexemes (take (length tokens - 1) (drop 1 tokens))) ≡ Ok part
     → sign.span.start ≤ part.last
 prefix_order file left tokens sign long is texts part read =
     let rest = lexemes (take (length tokens - 1) (drop 1 tokens)) in
     let all = front_texts file 0 tokens sign long is texts in
     let reached : Taken file left 0 rest part =
-    subst (λ (x : Result FormRead Halt). Takes file left 0 rest x) read
-    (suffix-takes file left 0 sign.span.end (inner_of file left) (inner-reaches file left) rest all.2) in
-    omega (arith, token-order file 0 (lexeme_of sign) rest all, texts-place file sign.span.end rest all.2, reached.order)
+    subst (λ (x : Result FormRead ReadError). Takes file left 0 rest x) read
+    (suffix-takes file left 0 sign.span.end (inner_reading file left) (inner-reaches file left) rest all.2) in
+    omega (arith, token-order file 0 (lexeme_of sign) rest all, texts-position file sign.span.end rest all.2, reached.order)
 
 -- a Primary that is read ends no earlier than it starts, and the tokens after it follow it
 pub primary_taken : (file : List ℕ) (left : ℕ) (lexemes : List Lexeme) → AreTexts file 0 lexemes → (part : FormRead)
-    → primary file (inner_of file left) lexemes ≡ Ok part → Taken file left 0 lexemes part
+    → primary file (inner_reading file left) lexemes ≡ Ok part → Taken file left 0 lexemes part
 primary_taken file left lexemes texts part read =
-    subst (λ (x : Result FormRead Halt). Takes file left 0 lexemes x) read
-    (primary-takes file left 0 0 (inner_of file left) (inner-reaches file left) lexemes texts)
+    subst (λ (x : Result FormRead ReadError). Takes file left 0 lexemes x) read
+    (primary-takes file left 0 0 (inner_reading file left) (inner-reaches file left) lexemes texts)
 
 pub items_order : (file : List ℕ) (left before : ℕ) (lexemes : List Lexeme) → AreTexts file before lexemes → (parts : FormsRead)
-    → many begins_prefix (λ b. prefix file (inner_of file left)) before lexemes ≡ Ok parts → 0 < length parts.forms
+    → many_forms begins_prefix (λ b. prefix file (inner_reading file left)) before lexemes ≡ Ok parts → 0 < length parts.forms
     → place_of (length file) lexemes ≤ parts.last
 items_order file left before lexemes texts parts read some =
     let passed : Passes file left 0 before lexemes parts =
-    subst (λ (x : Result FormsRead Halt). PassesAll file left 0 before lexemes x) read
-    (items-pass file left 0 (inner_of file left) (inner-reaches file left) before lexemes texts) in
+    subst (λ (x : Result FormsRead ReadError). PassesAll file left 0 before lexemes x) read
+    (items-pass file left 0 (inner_reading file left) (inner-reaches file left) before lexemes texts) in
     passed.order (passed.some some)
 
 pub choice_order : (file : List ℕ) (left before : ℕ) (lexemes : List Lexeme) → AreTexts file before lexemes
-    → (first : FormRead) → sequence file (inner_of file left) before lexemes ≡ Ok first → (more : FormsRead)
-    → many starts_with_slash (alternative file (inner_of file left)) first.last (drop first.taken lexemes) ≡ Ok more
+    → (first : FormRead) → sequence file (inner_reading file left) before lexemes ≡ Ok first → (more : FormsRead)
+    → many_forms starts_with_slash (alternative file (inner_reading file left)) first.last (drop first.token_count lexemes) ≡ Ok more
     → 0 < length more.forms → place_of (length file) lexemes ≤ more.last
 choice_order file left before lexemes texts first read more read_more some =
-    let inner = inner_of file left in
+    let inner = inner_reading file left in
     let one : Reached file left 0 before lexemes first =
-    subst (λ (x : Result FormRead Halt). Reaches file left 0 before lexemes x) read
+    subst (λ (x : Result FormRead ReadError). Reaches file left 0 before lexemes x) read
     (sequence-reaches file left 0 inner (inner-reaches file left) before lexemes texts) in
-    let passed : Passes file left 0 first.last (drop first.taken lexemes) more =
-    subst (λ (x : Result FormsRead Halt). PassesAll file left 0 first.last (drop first.taken lexemes) x) read_more
-    (alternatives-pass file left 0 inner (inner-reaches file left) first.last (drop first.taken lexemes) one.behind) in
-    both-order file lexemes first.taken more.taken first.last more.last one.order passed.after passed.order
+    let passed : Passes file left 0 first.last (drop first.token_count lexemes) more =
+    subst (λ (x : Result FormsRead ReadError). PassesAll file left 0 first.last (drop first.token_count lexemes) x) read_more
+    (alternatives-pass file left 0 inner (inner-reaches file left) first.last (drop first.token_count lexemes) one.rest_texts) in
+    both-order file lexemes first.token_count more.token_count first.last more.last one.order passed.after passed.order
     (omega (arith, passed.some some))
 
 -- ---- faults inside loops
 
 pub sequence_fault : (file : List ℕ) (inner : Option Reading) (before : ℕ) (lexemes : List Lexeme) (parts : FormsRead)
     (fault : NotationFault) → SoFar begins_prefix (λ b. prefix file inner) before lexemes parts
-    → begins_prefix (drop parts.taken lexemes) ≡ true → ConveysHalt (prefix file inner (drop parts.taken lexemes)) fault
-    → ConveysHalt (sequence file inner before lexemes) fault
+    → begins_prefix (drop parts.token_count lexemes) ≡ true → AgreesOnError (prefix file inner (drop parts.token_count lexemes)) fault
+    → AgreesOnError (sequence file inner before lexemes) fault
 unfolding sequence
 sequence_fault file inner before lexemes parts fault so_far begun is =
-    fault_passes (many begins_prefix (λ b. prefix file inner) before lexemes)
+    fault_passes (many_forms begins_prefix (λ b. prefix file inner) before lexemes)
     (λ (p : FormsRead). Ok (whole_sequence before (place_of (length file) lexemes) p)) fault
-    (fault_same (prefix file inner (drop parts.taken lexemes)) (many begins_prefix (λ b. prefix file inner) before lexemes) fault
+    (fault_same (prefix file inner (drop parts.token_count lexemes)) (many_forms begins_prefix (λ b. prefix file inner) before lexemes) fault
     (λ halt same. so_far-halt begins_prefix (λ b. prefix file inner) before lexemes parts halt so_far refl begun same) is)
 
 pub expression_fault : (file : List ℕ) (inner : Option Reading) (before : ℕ) (lexemes : List Lexeme) (first : FormRead) (more : FormsRead)
     (fault : NotationFault) → sequence file inner before lexemes ≡ Ok first
-    → SoFar starts_with_slash (alternative file inner) first.last (drop first.taken lexemes) more
-    → starts_with_slash (drop more.taken (drop first.taken lexemes)) ≡ true
-    → ConveysHalt (alternative file inner more.last (drop more.taken (drop first.taken lexemes))) fault
-    → ConveysHalt (expression file inner before lexemes) fault
+    → SoFar starts_with_slash (alternative file inner) first.last (drop first.token_count lexemes) more
+    → starts_with_slash (drop more.token_count (drop first.token_count lexemes)) ≡ true
+    → AgreesOnError (alternative file inner more.last (drop more.token_count (drop first.token_count lexemes))) fault
+    → AgreesOnError (expression file inner before lexemes) fault
 expression_fault file inner before lexemes first more fault read so_far begun is =
-    let rest = drop first.taken lexemes in
-    fault_same (many starts_with_slash (alternative file inner) first.last rest) (expression file inner before lexemes) fault
-    (λ halt same. ap (λ (x : Result FormRead Halt). and_read x (λ (p : FormRead). and_read
-    (many starts_with_slash (alternative file inner) p.last (drop p.taken lexemes))
+    let rest = drop first.token_count lexemes in
+    fault_same (many_forms starts_with_slash (alternative file inner) first.last rest) (expression file inner before lexemes) fault
+    (λ halt same. ap (λ (x : Result FormRead ReadError). and_read x (λ (p : FormRead). and_read
+    (many_forms starts_with_slash (alternative file inner) p.last (drop p.token_count lexemes))
     (λ (q : FormsRead). Ok (whole_choice (place_of (length file) lexemes) p q)))) read
-    ∙ ap (λ (x : Result FormsRead Halt). and_read x (λ (q : FormsRead). Ok (whole_choice (place_of (length file) lexemes) first q))) same)
-    (fault_same (alternative file inner more.last (drop more.taken rest))
-    (many starts_with_slash (alternative file inner) first.last rest) fault
+    ∙ ap (λ (x : Result FormsRead ReadError). and_read x (λ (q : FormsRead). Ok (whole_choice (place_of (length file) lexemes) first q))) same)
+    (fault_same (alternative file inner more.last (drop more.token_count rest))
+    (many_forms starts_with_slash (alternative file inner) first.last rest) fault
     (λ halt same. so_far-halt starts_with_slash (alternative file inner) first.last rest more halt so_far refl begun same) is)
 
 -- ---- what is read in all
 
 pub sequence_read : (file : List ℕ) (inner : Option Reading) (before : ℕ) (lexemes : List Lexeme) (parts : FormsRead)
-    → many begins_prefix (λ b. prefix file inner) before lexemes ≡ Ok parts
+    → many_forms begins_prefix (λ b. prefix file inner) before lexemes ≡ Ok parts
     → sequence file inner before lexemes ≡ Ok (whole_sequence before (place_of (length file) lexemes) parts)
 unfolding sequence
 sequence_read file inner before lexemes parts read =
-    ap (λ (x : Result FormsRead Halt). and_read x (λ (p : FormsRead). Ok (whole_sequence before (place_of (length file) lexemes) p))) read
+    ap (λ (x : Result FormsRead ReadError). and_read x (λ (p : FormsRead). Ok (whole_sequence before (place_of (length file) lexemes) p))) read
 
 pub expression_read : (file : List ℕ) (inner : Option Reading) (before : ℕ) (lexemes : List Lexeme) (first : FormRead) (more : FormsRead)
     → sequence file inner before lexemes ≡ Ok first
-    → many starts_with_slash (alternative file inner) first.last (drop first.taken lexemes) ≡ Ok more
+    → many_forms starts_with_slash (alternative file inner) first.last (drop first.token_count lexemes) ≡ Ok more
     → expression file inner before lexemes ≡ Ok (whole_choice (place_of (length file) lexemes) first more)
 expression_read file inner before lexemes first more read read_more =
-    ap (λ (x : Result FormRead Halt). and_read x (λ (p : FormRead). and_read
-    (many starts_with_slash (alternative file inner) p.last (drop p.taken lexemes))
+    ap (λ (x : Result FormRead ReadError). and_read x (λ (p : FormRead). and_read
+    (many_forms starts_with_slash (alternative file inner) p.last (drop p.token_count lexemes))
     (λ (q : FormsRead). Ok (whole_choice (place_of (length file) lexemes) p q)))) read
-    ∙ ap (λ (x : Result FormsRead Halt). and_read x (λ (q : FormsRead). Ok (whole_choice (place_of (length file) lexemes) first q))) read_more
+    ∙ ap (λ (x : Result FormsRead ReadError). and_read x (λ (q : FormsRead). Ok (whole_choice (place_of (length file) lexemes) first q))) read_more
 
 pub ruleset faults = (fault_passes)
 
 -- a rule after its name, by its body
-behind_is : (file : List ℕ) (most : ℕ) (name : Lexeme) (lexemes : List Lexeme) (arrow : Lexeme) (more : List Lexeme)
+behind_is : (file : List ℕ) (bound : ℕ) (name : Lexeme) (lexemes : List Lexeme) (arrow : Lexeme) (more : List Lexeme)
     → lexemes ≡ arrow ∷ more → starts_with_arrow lexemes ≡ true
-    → definition_behind file most name lexemes (starts_with_arrow lexemes)
-    ≡ and_read (expression file (inner_of file most) arrow.text.end more) (λ (body : FormRead). Ok (rule_of file name body))
-behind_is file most name lexemes arrow more front next =
-    ap (definition_behind file most name lexemes) next
-    ∙ (ap (λ l. definition_behind file most name l true) front
-    ∙ ap (λ (x : Result FormRead Halt). and_read x (λ (body : FormRead). Ok (rule_of file name body)))
-    (expression_in-is file most arrow.text.end more))
+    → definition_after file bound name lexemes (starts_with_arrow lexemes)
+    ≡ and_read (expression file (inner_reading file bound) arrow.text.end more) (λ (body : FormRead). Ok (rule_read file name body))
+behind_is file bound name lexemes arrow more front next =
+    ap (definition_after file bound name lexemes) next
+    ∙ (ap (λ l. definition_after file bound name l true) front
+    ∙ ap (λ (x : Result FormRead ReadError). and_read x (λ (body : FormRead). Ok (rule_read file name body)))
+    (expression_in-is file bound arrow.text.end more))
 
-pub behind_fault : (file : List ℕ) (most : ℕ) (name : Lexeme) (lexemes : List Lexeme) (arrow : Lexeme) (more : List Lexeme)
+pub behind_fault : (file : List ℕ) (bound : ℕ) (name : Lexeme) (lexemes : List Lexeme) (arrow : Lexeme) (more : List Lexeme)
     (fault : NotationFault) → lexemes ≡ arrow ∷ more → starts_with_arrow lexemes ≡ true
-    → ConveysHalt (expression file (inner_of file most) arrow.text.end more) fault
-    → ConveysHalt (definition_behind file most name lexemes (starts_with_arrow lexemes)) fault
-behind_fault file most name lexemes arrow more fault front next is =
-    subst (λ (x : Result RuleRead Halt). ConveysHalt x fault) (sym (behind_is file most name lexemes arrow more front next))
-    (fault_passes (expression file (inner_of file most) arrow.text.end more) (λ (body : FormRead). Ok (rule_of file name body)) fault is)
+    → AgreesOnError (expression file (inner_reading file bound) arrow.text.end more) fault
+    → AgreesOnError (definition_after file bound name lexemes (starts_with_arrow lexemes)) fault
+behind_fault file bound name lexemes arrow more fault front next is =
+    subst (λ (x : Result RuleRead ReadError). AgreesOnError x fault) (sym (behind_is file bound name lexemes arrow more front next))
+    (fault_passes (expression file (inner_reading file bound) arrow.text.end more) (λ (body : FormRead). Ok (rule_read file name body)) fault is)
 
-pub behind_read : (file : List ℕ) (most : ℕ) (name : Lexeme) (lexemes : List Lexeme) (arrow : Lexeme) (more : List Lexeme)
+pub behind_read : (file : List ℕ) (bound : ℕ) (name : Lexeme) (lexemes : List Lexeme) (arrow : Lexeme) (more : List Lexeme)
     (body : FormRead) → lexemes ≡ arrow ∷ more → starts_with_arrow lexemes ≡ true
-    → expression file (inner_of file most) arrow.text.end more ≡ Ok body
-    → definition_behind file most name lexemes (starts_with_arrow lexemes) ≡ Ok (rule_of file name body)
-behind_read file most name lexemes arrow more body front next read =
-    behind_is file most name lexemes arrow more front next
-    ∙ ap (λ (x : Result FormRead Halt). and_read x (λ (body : FormRead). Ok (rule_of file name body))) read
+    → expression file (inner_reading file bound) arrow.text.end more ≡ Ok body
+    → definition_after file bound name lexemes (starts_with_arrow lexemes) ≡ Ok (rule_read file name body)
+behind_read file bound name lexemes arrow more body front next read =
+    behind_is file bound name lexemes arrow more front next
+    ∙ ap (λ (x : Result FormRead ReadError). and_read x (λ (body : FormRead). Ok (rule_read file name body))) read
 
 -- a file of some tokens is its rules
-pub grammar-is : (file : List ℕ) (most : ℕ) (lexemes : List Lexeme) → 0 < length lexemes
-    → grammar file most lexemes ≡ definitions_behind file most lexemes 0
+pub grammar-is : (file : List ℕ) (bound : ℕ) (lexemes : List Lexeme) → 0 < length lexemes
+    → grammar file bound lexemes ≡ definitions_after file bound lexemes 0
 unfolding grammar
-grammar-is file most [] some = absurd (omega arith)
-grammar-is file most (lexeme ∷ rest) some = refl
+grammar-is file bound [] some = absurd (omega arith)
+grammar-is file bound (lexeme ∷ rest) some = refl

@@ -6,14 +6,14 @@ use Rattle.peg_bytes.specs.Extent.{Extent}
 use Rattle.peg_tree.specs.Trees.{Trees, NoTrees, Tree, followed_by}
 use Rattle.peg_semantics.specs.Form.{Name}
 use Rattle.peg_semantics.specs.Record.{Failed, Matched}
-use Rattle.peg_semantics.specs.Rules.{Meaning, meant}
+use Rattle.peg_semantics.specs.Rules.{Meaning, meaning_of}
 use Rattle.peg_semantics.proofs.Derivations.{Derives}
 use Rattle.peg_metagrammar.specs.Figure.{figure}
 use Rattle.peg_metagrammar.specs.FigureRules as rule
-use Rattle.peg_lexer.specs.Lexical.{text_of}
-use Rattle.peg_lexer.specs.Pieces.{Piece}
-use Rattle.peg_notation.specs.Reader.{Halt, Unexpected, TooDeep, BadCountAt, FormRead, Reading, place_of}
-use Rattle.peg_metagrammar.specs.Spelled.{Expression, text_end, node_spelled, spelled}
+use Rattle.peg_lexer.specs.Lexical.{matcher_of}
+use Rattle.peg_lexer.specs.Matchers.{PrefixMatch}
+use Rattle.peg_notation.specs.Reader.{ReadError, Unexpected, TooDeepAt, BadCountAt, FormRead, Reading, place_of}
+use Rattle.peg_metagrammar.specs.Denotation.{Expression, text_end, node_spelled, spelled}
 use Rattle.peg_metagrammar.specs.Nesting.{nesting, has_open}
 use Rattle.peg_lexer.specs.Tokens.{Lexeme}
 use Rattle.peg_lexer.specs.declared.token.TokenKind.{TokenKind}
@@ -41,19 +41,19 @@ has_open-followed (Tree r start end children rest) b = by (r == rule.open_sign) 
 pub record ReadsAny (file used : List ℕ) (p : ℕ) (lexemes : List Lexeme) (part : FormRead) : Type 0 where
   pub end : ℕ
   pub trees : Trees
-  pub left : Stream file end (drop part.taken lexemes)
+  pub left : Stream file end (drop part.token_count lexemes)
   pub derives : (span : Extent) → Derives figure file (Name used span) p (Matched end trees)
   pub spells : (before : ℕ) → spelled file before trees ≡ Expression part.form ∷ []
   pub ends : (before : ℕ) → text_end before trees ≡ part.last
   pub nests : nesting trees ≡ part.depth
-  pub some : 0 < part.taken
+  pub some : 0 < part.token_count
 
 -- What is read is matched, and at an unexpected token the rule fails. A reading that stops at a parenthesis too many
 -- says nothing.
-abbrev pub ExactAny : (file used : List ℕ) (p : ℕ) (lexemes : List Lexeme) → Result FormRead Halt → Type 0
+abbrev pub ExactAny : (file used : List ℕ) (p : ℕ) (lexemes : List Lexeme) → Result FormRead ReadError → Type 0
 ExactAny file used p lexemes (Ok part) = ReadsAny file used p lexemes part
 ExactAny file used p lexemes (Err (Unexpected at)) = (span : Extent) → Derives figure file (Name used span) p Failed
-ExactAny file used p lexemes (Err (TooDeep at)) = Unit {0}
+ExactAny file used p lexemes (Err (TooDeepAt at)) = Unit {0}
 ExactAny file used p lexemes (Err (BadCountAt at)) = Unit {0}
 
 -- ---- rules that never fail
@@ -62,7 +62,7 @@ ExactAny file used p lexemes (Err (BadCountAt at)) = Unit {0}
 pub record ReadsAt (file used : List ℕ) (before p : ℕ) (lexemes : List Lexeme) (part : FormRead) : Type 0 where
   pub end : ℕ
   pub trees : Trees
-  pub left : Stream file end (drop part.taken lexemes)
+  pub left : Stream file end (drop part.token_count lexemes)
   pub derives : (span : Extent) → Derives figure file (Name used span) p (Matched end trees)
   pub spells : spelled file before trees ≡ Expression part.form ∷ []
   pub ends : text_end before trees ≡ part.last
@@ -72,8 +72,8 @@ pub record ReadsAt (file used : List ℕ) (before p : ℕ) (lexemes : List Lexem
 -- these.
 pub record IsStuck (file : List ℕ) (p : ℕ) : Type 0 where
   pub kind : TokenKind
-  pub piece : Piece
-  pub found : text_of kind (drop p file) ≡ Some piece
+  pub piece : PrefixMatch
+  pub found : matcher_of kind (drop p file) ≡ Some piece
   pub opens : (kind ≡ And) ⊎ (kind ≡ Not) ⊎ (kind ≡ Open)
 
 -- a rule stops at such a token
@@ -83,10 +83,10 @@ pub record Stops (file used : List ℕ) (p : ℕ) : Type 0 where
   pub derives : (span : Extent) → Derives figure file (Name used span) p (Matched end trees)
   pub stuck : IsStuck file end
 
-abbrev pub ExactAt : (file used : List ℕ) (before p : ℕ) (lexemes : List Lexeme) → Result FormRead Halt → Type 0
+abbrev pub ExactAt : (file used : List ℕ) (before p : ℕ) (lexemes : List Lexeme) → Result FormRead ReadError → Type 0
 ExactAt file used before p lexemes (Ok part) = ReadsAt file used before p lexemes part
 ExactAt file used before p lexemes (Err (Unexpected at)) = Stops file used p
-ExactAt file used before p lexemes (Err (TooDeep at)) = Unit {0}
+ExactAt file used before p lexemes (Err (TooDeepAt at)) = Unit {0}
 ExactAt file used before p lexemes (Err (BadCountAt at)) = Unit {0}
 
 -- a function that reads inside parentheses and agrees with Expression
@@ -99,12 +99,12 @@ Good file (Some read) =
 -- ---- nodes
 
 -- a match of a rule's body is one tree of the rule
-pub node_any : {file used : List ℕ} {p end : ℕ} {t : Trees} {lexemes : List Lexeme} (m : Meaning) → meant figure used
+pub node_any : {file used : List ℕ} {p end : ℕ} {t : Trees} {lexemes : List Lexeme} (m : Meaning) → meaning_of figure used
     ≡ Some m → (m.rule == rule.spacing) ≡ false → (m.rule == rule.primary) ≡ false
     → Derives figure file m.body p (Matched end t) → (part : FormRead)
     → ((before : ℕ) → node_spelled file m.rule before p end part.last (spelled file before t) ≡ Expression part.form ∷
-    []) → ((before : ℕ) → text_end before t ≡ part.last) → nesting t ≡ part.depth → 0 < part.taken
-    → Stream file end (drop part.taken lexemes) → ReadsAny file used p lexemes part
+    []) → ((before : ℕ) → text_end before t ≡ part.last) → nesting t ≡ part.depth → 0 < part.token_count
+    → Stream file end (drop part.token_count lexemes) → ReadsAny file used p lexemes part
 node_any {file} {used} {p} {end} {t} {lexemes} m known no_spacing no_primary d part spells ends nests some left = record {
   end = end;
   trees = Tree m.rule p end t NoTrees;
@@ -121,10 +121,10 @@ node_any {file} {used} {p} {end} {t} {lexemes} m known no_spacing no_primary d p
 }
 
 pub node_at : {file used : List ℕ} {p end : ℕ} {t : Trees} {lexemes : List Lexeme} (before : ℕ) (m : Meaning)
-    → meant figure used ≡ Some m → (m.rule == rule.spacing) ≡ false → (m.rule == rule.primary) ≡ false
+    → meaning_of figure used ≡ Some m → (m.rule == rule.spacing) ≡ false → (m.rule == rule.primary) ≡ false
     → Derives figure file m.body p (Matched end t) → (part : FormRead)
     → node_spelled file m.rule before p end part.last (spelled file before t) ≡ Expression part.form ∷ []
-    → text_end before t ≡ part.last → nesting t ≡ part.depth → Stream file end (drop part.taken lexemes)
+    → text_end before t ≡ part.last → nesting t ≡ part.depth → Stream file end (drop part.token_count lexemes)
     → ReadsAt file used before p lexemes part
 node_at {file} {used} {p} {end} {t} {lexemes} before m known no_spacing no_primary d part spells ends nests left = record {
   end = end;
@@ -141,7 +141,7 @@ node_at {file} {used} {p} {end} {t} {lexemes} before m known no_spacing no_prima
 }
 
 -- the first of the tokens at an offset starts there, or the file ends there
-pub place-is : {file : List ℕ} {p : ℕ} {lexemes : List Lexeme} → Stream file p lexemes → place_of (length file) lexemes
+pub position-is : {file : List ℕ} {p : ℕ} {lexemes : List Lexeme} → Stream file p lexemes → place_of (length file) lexemes
     ≡ p
-place-is (Stream.ended last) = sym last
-place-is (Stream.next k piece lexeme found is rest) = ap (λ (l : Lexeme). l.text.start) is
+position-is (Stream.ended last) = sym last
+position-is (Stream.next k piece lexeme found is rest) = ap (λ (l : Lexeme). l.text.start) is

@@ -3,14 +3,13 @@ pub use Rattle.peg_bytes.specs.Extent
 pub use Rattle.peg_metagrammar.specs.Nesting
 pub use Rattle.peg_metagrammar.specs.Notation
 pub use Rattle.peg_metagrammar.specs.Ranges
-pub use Rattle.peg_metagrammar.specs.Spelled
+pub use Rattle.peg_metagrammar.specs.Denotation
 pub use Rattle.peg_semantics.specs.Form
 pub use Rattle.peg_semantics.specs.Rules
 pub use Rattle.peg_grammar.specs.Written
 pub use Rattle.peg_lexer.specs.Lexical
-pub use Rattle.peg_lexer.specs.Pieces
+pub use Rattle.peg_lexer.specs.Matchers
 pub use Rattle.peg_lexer.specs.Tokens
-pub use Rattle.peg_bootstrap.specs.FigureTrees
 pub use Rattle.peg_tree.specs.Trees
 pub mod EscapedNesting
 pub mod PrintedFigure

@@ -8,7 +8,7 @@ use Rattle.peg_semantics.specs.Record.{Record, Matched, IsRecord}
 use Rattle.peg_semantics.specs.Rules.{Rule}
 use Rattle.peg_metagrammar.specs.EscapedFigure.{escaped_figure, numbered_now}
 use Rattle.peg_metagrammar.specs.Figure.{char_sign, char_three_digits, char_two_digits, char_alone}
-use Rattle.peg_metagrammar.specs.Spelled.{is_octal, octal, escaped, rules_spelled}
+use Rattle.peg_metagrammar.specs.Denotation.{is_octal, octal, simple_escape, rules_spelled}
 
 -- Char <- '\\' [nrt'"\[\]\\] / '\\' [0-2][0-7][0-7] / '\\' [0-7][0-7]? / !'\\' .
 abbrev pub printed_char : Form
@@ -39,4 +39,4 @@ IsPrintedReading file rules =
 abbrev pub printed_byte : List ℕ → ℕ
 printed_byte [] = 0
 printed_byte (byte ∷ []) = byte
-printed_byte (backslash ∷ sign ∷ digits) = if is_octal sign then octal (sign ∷ digits) else escaped sign
+printed_byte (backslash ∷ sign ∷ digits) = if is_octal sign then octal (sign ∷ digits) else simple_escape sign

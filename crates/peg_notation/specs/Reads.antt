@@ -10,7 +10,7 @@ use Rattle.peg_grammar.specs.declared.expr.Definition.{Definition}
 use Rattle.peg_tree.specs.Trees.{Trees}
 use Rattle.peg_metagrammar.specs.Notation.{Matches, FigureMatches, IsReading, max_file_bytes}
 use Rattle.peg_metagrammar.specs.Nesting.{nesting, max_open}
-use Rattle.peg_metagrammar.specs.Spelled.{bad_counts}
+use Rattle.peg_metagrammar.specs.Denotation.{bad_counts}
 use Rattle.peg_lexer.specs.Tokens.{Lexeme, IsTokens, IsLexingFault}
 use Rattle.peg_lexer.specs.declared.fault.LexFault.{LexFault}
 use Rattle.peg_lexer.specs.declared.fault.LexFault.TheVariants as lexing
@@ -19,22 +19,22 @@ use Rattle.peg_notation.specs.declared.fault.NotationFault.TheVariants.{FileTooL
 use Rattle.peg_lexer.specs.declared.token.TokenKind.{TokenKind}
 use Rattle.peg_lexer.specs.declared.token.TokenKind.TheVariants.{Open, Close, Count}
 
--- if the metagrammar matches the file, its nesting depth is at most `most`
-abbrev pub NestsWithin : (most : ℕ) → List ℕ → Type 0
-NestsWithin most file = (end : ℕ) (trees : Trees) → Matches file (codes "Grammar") 0 end trees → nesting trees ≤ most
+-- if the metagrammar matches the file, its nesting depth is at most `bound`
+abbrev pub NestsWithin : (bound : ℕ) → List ℕ → Type 0
+NestsWithin bound file = (end : ℕ) (trees : Trees) → Matches file (codes "Grammar") 0 end trees → nesting trees ≤ bound
 
--- if the metagrammar matches the file, its nesting depth is greater than `most`
-abbrev pub NestsDeeper : (most : ℕ) → List ℕ → Type 0
-NestsDeeper most file = (end : ℕ) (trees : Trees) → Matches file (codes "Grammar") 0 end trees → most < nesting trees
+-- if the metagrammar matches the file, its nesting depth is greater than `bound`
+abbrev pub NestsDeeper : (bound : ℕ) → List ℕ → Type 0
+NestsDeeper bound file = (end : ℕ) (trees : Trees) → Matches file (codes "Grammar") 0 end trees → bound < nesting trees
 
 -- if the metagrammar matches the file, some count is out of range
 abbrev pub CountsOutOfRange : List ℕ → Type 0
 CountsOutOfRange file =
     (end : ℕ) (trees : Trees) → Matches file (codes "Grammar") 0 end trees → bad_counts file trees ≢ []
 
--- these rules are the reading of a file with a nesting depth of at most `most`
-abbrev pub IsReadingWithin : (most : ℕ) → List ℕ → List Rule → Type 0
-IsReadingWithin most file rules = IsReading file rules × NestsWithin most file
+-- these rules are the reading of a file with a nesting depth of at most `bound`
+abbrev pub IsReadingWithin : (bound : ℕ) → List ℕ → List Rule → Type 0
+IsReadingWithin bound file rules = IsReading file rules × NestsWithin bound file
 
 -- ---- offsets
 
@@ -60,13 +60,13 @@ one_if_close _ = 0
 abbrev pub closes : List Lexeme → ℕ
 closes lexemes = sum_by (λ (lexeme : Lexeme). one_if_close lexeme.kind) lexemes
 
--- The parenthesis that opens at this offset is the first one too many. Just before it `most` parentheses are open, and
+-- The parenthesis that opens at this offset is the first one too many. Just before it `bound` parentheses are open, and
 -- never more at any token before it.
-abbrev pub IsOneTooMany : (most : ℕ) → List ℕ → (at : ℕ) → Type 0
-IsOneTooMany most file at =
+abbrev pub IsOneTooMany : (bound : ℕ) → List ℕ → (at : ℕ) → Type 0
+IsOneTooMany bound file at =
     (before : List Lexeme) × (opening : Lexeme) × (more : List Lexeme) × IsTokens file (before ++ opening ∷ more)
-    × (opening.kind ≡ Open) × (at ≡ opening.text.start) × (opens before ≡ closes before + most)
-    × ((n : ℕ) → opens (take n before) ≤ closes (take n before) + most)
+    × (opening.kind ≡ Open) × (at ≡ opening.text.start) × (opens before ≡ closes before + bound)
+    × ((n : ℕ) → opens (take n before) ≤ closes (take n before) + bound)
 
 -- a count that is out of range starts at this offset of the file
 abbrev pub IsBadCountToken : List ℕ → (at : ℕ) → Type 0

@@ -11,10 +11,10 @@ use std::alloc::{AllocError, Global};
 
 /// An expression that was read.
 #[derive(Debug, Drop)]
-pub(crate) struct ReadExpr {
+pub(crate) struct ParsedExpr {
     pub(crate) expression: Expr,
     /// The number of its tokens.
-    pub(crate) taken: usize,
+    pub(crate) token_count: usize,
     /// The offset where the text of its last token ends. Without tokens, it is the end of the token before it.
     pub(crate) last: u32,
     /// The nesting depth of its parentheses.
@@ -23,33 +23,33 @@ pub(crate) struct ReadExpr {
 
 /// Several expressions that were read one after the other.
 #[derive(Debug, Drop)]
-pub(crate) struct ReadExprs {
+pub(crate) struct ParsedExprs {
     pub(crate) expressions: Vec<Expr>,
-    pub(crate) taken: usize,
+    pub(crate) token_count: usize,
     pub(crate) last: u32,
     pub(crate) depth: usize,
 }
 
-impl ReadExprs {
+impl ParsedExprs {
     /// Returns an empty list, after a token whose text ends at `last`.
-    pub(crate) fn none(alloc: Global, last: u32) -> ReadExprs
+    pub(crate) fn none(alloc: Global, last: u32) -> ParsedExprs
         ensures { forms_seen result ≡ no_more last }
     {
-        ReadExprs {
+        ParsedExprs {
             expressions: Vec::new(alloc),
-            taken: 0,
+            token_count: 0,
             last,
             depth: 0,
         }
     }
 
     /// Appends an expression. The only error is a failed allocation.
-    pub(crate) fn add(&mut self, part: ReadExpr) -> Result<(), AllocError>
-        requires { self.old.taken + part.taken < 2 ^ 64 }
+    pub(crate) fn add(&mut self, part: ParsedExpr) -> Result<(), AllocError>
+        requires { self.old.token_count + part.token_count < 2 ^ 64 }
         ensures { OnOk result (forms_seen self.new ≡ with_form (forms_seen self.old) (form_seen part)) }
     {
         self.expressions.push(part.expression)?;
-        self.taken += part.taken;
+        self.token_count += part.token_count;
         self.last = part.last;
         self.depth = self.depth.max(part.depth);
         Ok(())
@@ -57,13 +57,13 @@ impl ReadExprs {
 
     /// Returns the sequence of these expressions, from the offset `start`. A single expression is itself. An empty
     /// sequence is at the end of the token before it.
-    pub(crate) fn into_sequence(self, before: u32, start: u32) -> ReadExpr
+    pub(crate) fn into_sequence(self, before: u32, start: u32) -> ParsedExpr
         requires { 1 < length self.expressions.items → start ≤ self.last }
         ensures { form_seen result ≡ whole_sequence before start (forms_seen self) }
     {
-        let ReadExprs {
+        let ParsedExprs {
             mut expressions,
-            taken,
+            token_count,
             last,
             depth,
         } = self;
@@ -81,9 +81,9 @@ impl ReadExprs {
                 },
             }
         };
-        ReadExpr {
+        ParsedExpr {
             expression,
-            taken,
+            token_count,
             last,
             depth,
         }
@@ -95,19 +95,19 @@ impl ReadExprs {
         self,
         alloc: Global,
         start: u32,
-        first: ReadExpr,
-    ) -> Result<ReadExpr, AllocError>
-        requires few { first.taken + self.taken < 2 ^ 64 }
+        first: ParsedExpr,
+    ) -> Result<ParsedExpr, AllocError>
+        requires few { first.token_count + self.token_count < 2 ^ 64 }
         requires order { 0 < length self.expressions.items → start ≤ self.last }
         ensures { IfOk result (λ part. form_seen part ≡ whole_choice start (form_seen first) (forms_seen self)) }
     {
-        let ReadExprs {
+        let ParsedExprs {
             expressions,
-            taken,
+            token_count,
             last,
             depth,
         } = self;
-        let taken = first.taken + taken;
+        let token_count = first.token_count + token_count;
         let depth = first.depth.max(depth);
         let expression = if expressions.is_empty() {
             first.expression
@@ -118,9 +118,9 @@ impl ReadExprs {
                 span: Span::new(start, last),
             }
         };
-        Ok(ReadExpr {
+        Ok(ParsedExpr {
             expression,
-            taken,
+            token_count,
             last,
             depth,
         })

@@ -5,7 +5,7 @@ ghost use Rattle.peg_tree.specs.Trees.{Trees};
 ghost use Rattle.peg_metagrammar.specs.EscapedFigure.{MatchesEscaped, numbered_now, IsEscapedReading};
 ghost use Rattle.peg_metagrammar.specs.Nesting.{nesting};
 ghost use Rattle.peg_metagrammar.specs.Notation.{Matches, IsReading};
-ghost use Rattle.peg_metagrammar.specs.Spelled.{byte_spelled, part};
+ghost use Rattle.peg_metagrammar.specs.Denotation.{byte_spelled, part};
 ghost use Rattle.peg_notation.specs.EscapedNesting.{escaped_nesting};
 ghost use Rattle.peg_notation.specs.PrintedFigure.{MatchesPrinted, IsPrintedReading, printed_byte};
 

@@ -10,6 +10,5 @@ mod rules;
 
 pub use fault::NotationFault;
 pub use file::read;
-pub use peg_bootstrap::{DefinitionsFault, MAX_OPEN, definitions_of};
 pub use peg_lexer::{Bounds, LexFault, MAX_FILE_BYTES, Token, TokenKind, count_bounds, lex};
-pub use peg_metagrammar::{figure, figure_text};
+pub use peg_metagrammar::{MAX_OPEN, figure, figure_text};

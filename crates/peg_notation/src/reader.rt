@@ -8,20 +8,20 @@ ghost use Rattle.peg_grammar.specs.Written.{form_of};
 ghost use Rattle.peg_metagrammar.specs.Notation.{max_file_bytes};
 ghost use Rattle.peg_metagrammar.specs.Ranges.{class_of};
 ghost use Rattle.peg_notation.specs.Reader.{starts_with_arrow, starts_with_slash, begins_prefix, place_of, pieces_of};
-ghost use Rattle.peg_notation.specs.Reader.{one_token, closed, parenthesized, named, primary, with_token};
+ghost use Rattle.peg_notation.specs.Reader.{one_token, closed_form, parenthesized, named, primary, with_token};
 ghost use Rattle.peg_notation.specs.Reader.{then_suffix, suffix, with_prefix, prefix, sequence, alternative};
 ghost use Rattle.peg_notation.specs.Reader.{expression};
-ghost use Rattle.peg_notation.specs.ReaderCode.{lexemes, IsText, AreTexts, form_seen, inner_of, Conveys, IsCounted};
+ghost use Rattle.peg_notation.specs.ReaderCode.{lexemes, IsText, AreTexts, form_seen, inner_reading, Agrees, IsCounted};
 ghost use Rattle.peg_notation.specs.ReaderCode.{IsBounded};
 ghost use Rattle.peg_notation.specs.Spans.{LiesIn};
-ghost use Rattle.peg_metagrammar.specs.Spelled.{bytes_in, ranges_in};
+ghost use Rattle.peg_metagrammar.specs.Denotation.{bytes_in, ranges_in};
 ghost use Rattle.peg_lexer.specs.Tokens.{lexeme_of};
 
-use crate::expressions::{ReadExpr, ReadExprs};
+use crate::expressions::{ParsedExpr, ParsedExprs};
 use crate::fault::NotationFault;
 use peg_bytes::{ByteSet, Span};
 use peg_grammar::Expr;
-use peg_lexer::{Bounds, Token, TokenKind, class_bytes, count_bounds, literal_bytes, name_text};
+use peg_lexer::{Bounds, Token, TokenKind, class_of_token, count_bounds, literal_bytes, name_text};
 use std::alloc::{AllocError, Global};
 
 /// A reader of a file. Each call gets the tokens that are left.
@@ -32,13 +32,13 @@ pub(crate) struct Reader<'a> {
     ghost small: { length file.now ≤ max_file_bytes },
 }
 
-/// Returns the tokens after the first `taken` ones.
-pub(crate) fn behind(tokens: &[Token], taken: usize) -> &[Token]
-    requires { taken ≤ length tokens.now }
-    ensures tokens { lexemes result.now ≡ drop taken (lexemes tokens.now) }
-    ensures len { length result.now ≡ length tokens.now - taken }
+/// Returns the tokens after the first `token_count` ones.
+pub(crate) fn rest_after(tokens: &[Token], token_count: usize) -> &[Token]
+    requires { token_count ≤ length tokens.now }
+    ensures tokens { lexemes result.now ≡ drop token_count (lexemes tokens.now) }
+    ensures len { length result.now ≡ length tokens.now - token_count }
 {
-    &tokens[taken..]
+    &tokens[token_count..]
 }
 
 /// Returns whether the next token is an arrow.
@@ -111,18 +111,18 @@ impl<'a> Reader<'a> {
         before: u32,
         tokens: &[Token],
         left: usize,
-    ) -> Result<ReadExpr, NotationFault>
+    ) -> Result<ParsedExpr, NotationFault>
         requires texts { AreTexts (file_of self.now) before (lexemes tokens.now) }
-        ensures read { Conveys form_seen
-            (expression (file_of self.now) (inner_of (file_of self.now) left) before (lexemes tokens.now)) result }
-        ensures fits { IfOk result (λ part. part.taken ≤ length tokens.now) }
+        ensures read { Agrees form_seen
+            (expression (file_of self.now) (inner_reading (file_of self.now) left) before (lexemes tokens.now)) result }
+        ensures fits { IfOk result (λ part. part.token_count ≤ length tokens.now) }
         ensures shallow { IfOk result (λ part. part.depth ≤ left) }
     {
         let first = self.sequence(before, tokens, left)?;
-        let mut more = ReadExprs::none(self.alloc, first.last);
-        let rest = behind(tokens, first.taken);
-        'alternatives: while starts_with_slash(behind(rest, more.taken)) {
-            let alternative = self.alternative(behind(rest, more.taken), left)?;
+        let mut more = ParsedExprs::none(self.alloc, first.last);
+        let rest = rest_after(tokens, first.token_count);
+        'alternatives: while starts_with_slash(rest_after(rest, more.token_count)) {
+            let alternative = self.alternative(rest_after(rest, more.token_count), left)?;
             more.add(alternative)?;
         }
         Ok(more.into_choice(self.alloc, self.place_of(tokens), first)?)
@@ -131,19 +131,20 @@ impl<'a> Reader<'a> {
     // A slash and the sequence after it.
     #[cycle(reader)]
     #[tactic(auto, using(crate::proofs::ReaderSteps::faults), unfolding(crate::specs::Reader::alternative))]
-    fn alternative(&self, tokens: &[Token], left: usize) -> Result<ReadExpr, NotationFault>
+    fn alternative(&self, tokens: &[Token], left: usize) -> Result<ParsedExpr, NotationFault>
         requires texts { AreTexts (file_of self.now) 0 (lexemes tokens.now) }
-        ensures read { (before : ℕ) → Conveys form_seen
-            (alternative (file_of self.now) (inner_of (file_of self.now) left) before (lexemes tokens.now)) result }
-        ensures fits { IfOk result (λ part. part.taken ≤ length tokens.now) }
-        ensures some { IfOk result (λ part. 0 < part.taken) }
+        ensures read { (before : ℕ) → Agrees form_seen
+            (alternative (file_of self.now) (inner_reading (file_of self.now) left) before
+            (lexemes tokens.now)) result }
+        ensures fits { IfOk result (λ part. part.token_count ≤ length tokens.now) }
+        ensures some { IfOk result (λ part. 0 < part.token_count) }
         ensures shallow { IfOk result (λ part. part.depth ≤ left) }
     {
         match tokens {
             [slash, ..] => {
                 let part = self.sequence(slash.span.end, &tokens[1..], left)?;
-                Ok(ReadExpr {
-                    taken: 1 + part.taken,
+                Ok(ParsedExpr {
+                    token_count: 1 + part.token_count,
                     ..part
                 })
             }
@@ -159,16 +160,16 @@ impl<'a> Reader<'a> {
         before: u32,
         tokens: &[Token],
         left: usize,
-    ) -> Result<ReadExpr, NotationFault>
+    ) -> Result<ParsedExpr, NotationFault>
         requires texts { AreTexts (file_of self.now) before (lexemes tokens.now) }
-        ensures read { Conveys form_seen
-            (sequence (file_of self.now) (inner_of (file_of self.now) left) before (lexemes tokens.now)) result }
-        ensures fits { IfOk result (λ part. part.taken ≤ length tokens.now) }
+        ensures read { Agrees form_seen
+            (sequence (file_of self.now) (inner_reading (file_of self.now) left) before (lexemes tokens.now)) result }
+        ensures fits { IfOk result (λ part. part.token_count ≤ length tokens.now) }
         ensures shallow { IfOk result (λ part. part.depth ≤ left) }
     {
-        let mut items = ReadExprs::none(self.alloc, before);
-        'items: while begins_prefix(behind(tokens, items.taken)) {
-            let item = self.prefix(behind(tokens, items.taken), left)?;
+        let mut items = ParsedExprs::none(self.alloc, before);
+        'items: while begins_prefix(rest_after(tokens, items.token_count)) {
+            let item = self.prefix(rest_after(tokens, items.token_count), left)?;
             items.add(item)?;
         }
         Ok(items.into_sequence(before, self.place_of(tokens)))
@@ -177,12 +178,12 @@ impl<'a> Reader<'a> {
     // Prefix: a suffix, or a predicate of one.
     #[cycle(reader)]
     #[tactic(auto, using(crate::proofs::ReaderSteps::faults), unfolding(crate::specs::Reader::prefix))]
-    fn prefix(&self, tokens: &[Token], left: usize) -> Result<ReadExpr, NotationFault>
+    fn prefix(&self, tokens: &[Token], left: usize) -> Result<ParsedExpr, NotationFault>
         requires texts { AreTexts (file_of self.now) 0 (lexemes tokens.now) }
-        ensures read { Conveys form_seen
-            (prefix (file_of self.now) (inner_of (file_of self.now) left) (lexemes tokens.now)) result }
-        ensures fits { IfOk result (λ part. part.taken ≤ length tokens.now) }
-        ensures some { IfOk result (λ part. 0 < part.taken) }
+        ensures read { Agrees form_seen
+            (prefix (file_of self.now) (inner_reading (file_of self.now) left) (lexemes tokens.now)) result }
+        ensures fits { IfOk result (λ part. part.token_count ≤ length tokens.now) }
+        ensures some { IfOk result (λ part. 0 < part.token_count) }
         ensures shallow { IfOk result (λ part. part.depth ≤ left) }
     {
         match tokens {
@@ -198,8 +199,8 @@ impl<'a> Reader<'a> {
         }
     }
 
-    fn and(&self, sign: Token, part: ReadExpr) -> Result<ReadExpr, AllocError>
-        requires few { part.taken < 2 ^ 63 }
+    fn and(&self, sign: Token, part: ParsedExpr) -> Result<ParsedExpr, AllocError>
+        requires few { part.token_count < 2 ^ 63 }
         requires order { sign.span.start ≤ part.last }
         ensures { IfOk result (λ whole. form_seen whole ≡ with_prefix sign.span.start And (form_seen part)) }
     {
@@ -207,16 +208,16 @@ impl<'a> Reader<'a> {
             part: Box::new(self.alloc, part.expression)?,
             span: Span::new(sign.span.start, part.last),
         };
-        Ok(ReadExpr {
+        Ok(ParsedExpr {
             expression,
-            taken: 1 + part.taken,
+            token_count: 1 + part.token_count,
             last: part.last,
             depth: part.depth,
         })
     }
 
-    fn not(&self, sign: Token, part: ReadExpr) -> Result<ReadExpr, AllocError>
-        requires few { part.taken < 2 ^ 63 }
+    fn not(&self, sign: Token, part: ParsedExpr) -> Result<ParsedExpr, AllocError>
+        requires few { part.token_count < 2 ^ 63 }
         requires order { sign.span.start ≤ part.last }
         ensures { IfOk result (λ whole. form_seen whole ≡ with_prefix sign.span.start Not (form_seen part)) }
     {
@@ -224,9 +225,9 @@ impl<'a> Reader<'a> {
             part: Box::new(self.alloc, part.expression)?,
             span: Span::new(sign.span.start, part.last),
         };
-        Ok(ReadExpr {
+        Ok(ParsedExpr {
             expression,
-            taken: 1 + part.taken,
+            token_count: 1 + part.token_count,
             last: part.last,
             depth: part.depth,
         })
@@ -235,17 +236,17 @@ impl<'a> Reader<'a> {
     // Suffix: a primary with an optional operator or count.
     #[cycle(reader)]
     #[tactic(auto, using(crate::proofs::ReaderSteps::faults), unfolding(crate::specs::Reader::suffix))]
-    fn suffix(&self, tokens: &[Token], left: usize) -> Result<ReadExpr, NotationFault>
+    fn suffix(&self, tokens: &[Token], left: usize) -> Result<ParsedExpr, NotationFault>
         requires texts { AreTexts (file_of self.now) 0 (lexemes tokens.now) }
-        ensures read { Conveys form_seen
-            (suffix (file_of self.now) (inner_of (file_of self.now) left) (lexemes tokens.now)) result }
-        ensures fits { IfOk result (λ part. part.taken ≤ length tokens.now) }
-        ensures some { IfOk result (λ part. 0 < part.taken) }
+        ensures read { Agrees form_seen
+            (suffix (file_of self.now) (inner_reading (file_of self.now) left) (lexemes tokens.now)) result }
+        ensures fits { IfOk result (λ part. part.token_count ≤ length tokens.now) }
+        ensures some { IfOk result (λ part. 0 < part.token_count) }
         ensures shallow { IfOk result (λ part. part.depth ≤ left) }
     {
         let part = self.primary(tokens, left)?;
         let start = self.place_of(tokens);
-        self.then_suffix(start, behind(tokens, part.taken), part)
+        self.then_suffix(start, rest_after(tokens, part.token_count), part)
     }
 
     // Adds the operator or count that is next, if there is one. `start` is the offset where the expression starts.
@@ -253,15 +254,15 @@ impl<'a> Reader<'a> {
         &self,
         start: u32,
         rest: &[Token],
-        part: ReadExpr,
-    ) -> Result<ReadExpr, NotationFault>
-        requires few { part.taken < 2 ^ 63 }
+        part: ParsedExpr,
+    ) -> Result<ParsedExpr, NotationFault>
+        requires few { part.token_count < 2 ^ 63 }
         requires order { start ≤ part.last }
         requires texts { AreTexts (file_of self.now) part.last (lexemes rest.now) }
-        ensures read { Conveys form_seen
+        ensures read { Agrees form_seen
             (then_suffix (file_of self.now) start (form_seen part) (lexemes rest.now)) result }
-        ensures fits { IfOk result (λ whole. whole.taken ≤ part.taken + length rest.now) }
-        ensures some { IfOk result (λ whole. part.taken ≤ whole.taken) }
+        ensures fits { IfOk result (λ whole. whole.token_count ≤ part.token_count + length rest.now) }
+        ensures some { IfOk result (λ whole. part.token_count ≤ whole.token_count) }
         ensures depth { IfOk result (λ whole. whole.depth ≡ part.depth) }
     {
         match rest {
@@ -275,22 +276,22 @@ impl<'a> Reader<'a> {
         &self,
         start: u32,
         sign: Token,
-        part: ReadExpr,
-    ) -> Result<ReadExpr, NotationFault>
-        requires few { part.taken < 2 ^ 63 }
+        part: ParsedExpr,
+    ) -> Result<ParsedExpr, NotationFault>
+        requires few { part.token_count < 2 ^ 63 }
         requires order { start ≤ sign.span.end }
         requires text { IsText (file_of self.now) (lexeme_of sign) }
         requires inside { LiesIn (length (file_of self.now)) (extent sign.span) }
-        ensures read { Conveys form_seen
+        ensures read { Agrees form_seen
             (with_token (file_of self.now) start (form_seen part) (lexeme_of sign)) result }
-        ensures fits { IfOk result (λ whole. whole.taken ≤ part.taken + 1) }
-        ensures some { IfOk result (λ whole. part.taken ≤ whole.taken) }
+        ensures fits { IfOk result (λ whole. whole.token_count ≤ part.token_count + 1) }
+        ensures some { IfOk result (λ whole. part.token_count ≤ whole.token_count) }
         ensures depth { IfOk result (λ whole. whole.depth ≡ part.depth) }
     {
         let span = Span::new(start, sign.span.end);
-        let ReadExpr {
+        let ParsedExpr {
             expression,
-            taken,
+            token_count,
             last,
             depth,
         } = part;
@@ -309,17 +310,17 @@ impl<'a> Reader<'a> {
             },
             TokenKind::Count => self.counted(sign, expression, span)?,
             _ => {
-                return Ok(ReadExpr {
+                return Ok(ParsedExpr {
                     expression,
-                    taken,
+                    token_count,
                     last,
                     depth,
                 });
             }
         };
-        Ok(ReadExpr {
+        Ok(ParsedExpr {
             expression,
-            taken: taken + 1,
+            token_count: token_count + 1,
             last: sign.span.end,
             depth,
         })
@@ -356,12 +357,12 @@ impl<'a> Reader<'a> {
     // Primary: a name, a literal, a class, a dot, or an expression in parentheses.
     #[cycle(reader)]
     #[tactic(auto, using(crate::proofs::ReaderSteps::faults), unfolding(crate::specs::Reader::primary))]
-    fn primary(&self, tokens: &[Token], left: usize) -> Result<ReadExpr, NotationFault>
+    fn primary(&self, tokens: &[Token], left: usize) -> Result<ParsedExpr, NotationFault>
         requires texts { AreTexts (file_of self.now) 0 (lexemes tokens.now) }
-        ensures read { Conveys form_seen
-            (primary (file_of self.now) (inner_of (file_of self.now) left) (lexemes tokens.now)) result }
-        ensures fits { IfOk result (λ part. part.taken ≤ length tokens.now) }
-        ensures some { IfOk result (λ part. 0 < part.taken) }
+        ensures read { Agrees form_seen
+            (primary (file_of self.now) (inner_reading (file_of self.now) left) (lexemes tokens.now)) result }
+        ensures fits { IfOk result (λ part. part.token_count ≤ length tokens.now) }
+        ensures some { IfOk result (λ part. 0 < part.token_count) }
         ensures shallow { IfOk result (λ part. part.depth ≤ left) }
     {
         match tokens {
@@ -378,11 +379,11 @@ impl<'a> Reader<'a> {
     }
 
     // A name that isn't the name of the next definition.
-    fn name(&self, token: Token, rest: &[Token]) -> Result<ReadExpr, NotationFault>
+    fn name(&self, token: Token, rest: &[Token]) -> Result<ParsedExpr, NotationFault>
         requires text { IsText (file_of self.now) (lexeme_of token) }
         requires inside { LiesIn (length (file_of self.now)) (extent token.span) }
         requires ident { token.kind ≡ TokenKind.Ident }
-        ensures { Conveys form_seen (named (file_of self.now) (lexeme_of token) (lexemes rest.now)) result }
+        ensures { Agrees form_seen (named (file_of self.now) (lexeme_of token) (lexemes rest.now)) result }
     {
         if starts_with_arrow(rest) {
             return Err(self.unexpected(rest));
@@ -396,7 +397,7 @@ impl<'a> Reader<'a> {
     }
 
     // The bytes that a literal denotes.
-    fn literal(&self, token: Token) -> Result<ReadExpr, AllocError>
+    fn literal(&self, token: Token) -> Result<ParsedExpr, AllocError>
         requires text { IsText (file_of self.now) (lexeme_of token) }
         requires inside { LiesIn (length (file_of self.now)) (extent token.span) }
         requires literal { token.kind ≡ TokenKind.Literal }
@@ -410,7 +411,7 @@ impl<'a> Reader<'a> {
     }
 
     // The set of bytes that a class denotes.
-    fn class(&self, token: Token) -> Result<ReadExpr, AllocError>
+    fn class(&self, token: Token) -> Result<ParsedExpr, AllocError>
         requires text { IsText (file_of self.now) (lexeme_of token) }
         requires inside { LiesIn (length (file_of self.now)) (extent token.span) }
         requires class { token.kind ≡ TokenKind.Class }
@@ -419,7 +420,7 @@ impl<'a> Reader<'a> {
             (lexeme_of token)) }
     {
         let span = token.span;
-        let set = class_bytes(self.alloc, &self.file[span.start as usize..])?;
+        let set = class_of_token(self.alloc, &self.file[span.start as usize..])?;
         Ok(one_token(class_of(set, span), token))
     }
 
@@ -431,12 +432,13 @@ impl<'a> Reader<'a> {
         opening: Token,
         rest: &[Token],
         left: usize,
-    ) -> Result<ReadExpr, NotationFault>
+    ) -> Result<ParsedExpr, NotationFault>
         requires texts { AreTexts (file_of self.now) opening.span.end (lexemes rest.now) }
-        ensures read { Conveys form_seen (parenthesized (inner_of (file_of self.now) left) (length (file_of self.now))
+        ensures read { Agrees form_seen (parenthesized (inner_reading (file_of self.now) left) (length
+            (file_of self.now))
             (lexeme_of opening) (lexemes rest.now)) result }
-        ensures fits { IfOk result (λ part. part.taken ≤ 1 + length rest.now) }
-        ensures some { IfOk result (λ part. 0 < part.taken) }
+        ensures fits { IfOk result (λ part. part.token_count ≤ 1 + length rest.now) }
+        ensures some { IfOk result (λ part. 0 < part.token_count) }
         ensures shallow { IfOk result (λ part. part.depth ≤ left) }
     {
         if left == 0 {
@@ -445,25 +447,25 @@ impl<'a> Reader<'a> {
             });
         }
         let inside = self.expression(opening.span.end, rest, left - 1)?;
-        self.closed(behind(rest, inside.taken), inside)
+        self.closed(rest_after(rest, inside.token_count), inside)
     }
 
     // The closing parenthesis. If there is a name instead, it is followed by an arrow, and the arrow is the unexpected
     // token.
-    fn closed(&self, rest: &[Token], inside: ReadExpr) -> Result<ReadExpr, NotationFault>
-        requires few { inside.taken < 2 ^ 63 }
+    fn closed(&self, rest: &[Token], inside: ParsedExpr) -> Result<ParsedExpr, NotationFault>
+        requires few { inside.token_count < 2 ^ 63 }
         requires shallow { inside.depth + 1 < 2 ^ 64 }
-        ensures read { Conveys form_seen
-            (closed (length (file_of self.now)) (form_seen inside) (lexemes rest.now)) result }
-        ensures fits { IfOk result (λ part. part.taken ≤ inside.taken + 1 + length rest.now) }
-        ensures some { IfOk result (λ part. 0 < part.taken) }
+        ensures read { Agrees form_seen
+            (closed_form (length (file_of self.now)) (form_seen inside) (lexemes rest.now)) result }
+        ensures fits { IfOk result (λ part. part.token_count ≤ inside.token_count + 1 + length rest.now) }
+        ensures some { IfOk result (λ part. 0 < part.token_count) }
         ensures depth { IfOk result (λ part. part.depth ≡ inside.depth + 1) }
     {
         match rest {
             [closing, ..] => match closing.kind {
-                TokenKind::Close => Ok(ReadExpr {
+                TokenKind::Close => Ok(ParsedExpr {
                     expression: inside.expression,
-                    taken: inside.taken + 2,
+                    token_count: inside.token_count + 2,
                     last: closing.span.end,
                     depth: inside.depth + 1,
                 }),
@@ -475,12 +477,12 @@ impl<'a> Reader<'a> {
     }
 }
 
-fn one_token(expression: Expr, token: Token) -> ReadExpr
+fn one_token(expression: Expr, token: Token) -> ParsedExpr
     ensures { Ok (form_seen result) ≡ one_token (form_of expression) (lexeme_of token) }
 {
-    ReadExpr {
+    ParsedExpr {
         expression,
-        taken: 1,
+        token_count: 1,
         last: token.span.end,
         depth: 0,
     }

@@ -1,10 +1,10 @@
 -- Refusals of a file.
 use Rattle.std.proofs.Common.{ℕ}
 use Rattle.peg_parser.specs.Cause.{Cause}
-use Rattle.peg_parser.specs.Faults.{TellsWhy, IsTellable, want_of_memory, of_cause}
+use Rattle.peg_parser.specs.Faults.{HasCause, IsTrueRefusal, out_of_memory, of_cause}
 use Rattle.peg_parser.specs.declared.refusal.Refusal.{Refusal}
 
 -- a refusal with a cause of some kind is one that the file can have
-pub tellable-of_kind : (Kind : Cause → Type 0) (size : ℕ) (why : Refusal) → TellsWhy Kind size why → IsTellable size why
-tellable-of_kind Kind size why (want_of_memory is) = want_of_memory is
+pub tellable-of_kind : (Kind : Cause → Type 0) (size : ℕ) (why : Refusal) → HasCause Kind size why → IsTrueRefusal size why
+tellable-of_kind Kind size why (out_of_memory is) = out_of_memory is
 tellable-of_kind Kind size why (of_cause cause tells holds starts named) = of_cause cause tells tt starts named

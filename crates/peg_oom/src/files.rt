@@ -1,7 +1,7 @@
 //! Calls on the bytes of a grammar file: tokens, values, definitions.
+use crate::ending::{Borrowed, report};
 use crate::inputs::{CHAIN, COUNTS, OPEN};
-use crate::told::{Lent, tell};
-use peg_lexer::{LexFault, class_bytes, lex, literal_bytes, name_text};
+use peg_lexer::{LexFault, class_of_token, lex, literal_bytes, name_text};
 use peg_metagrammar::figure;
 use peg_notation::{NotationFault, read};
 use std::alloc::Global;
@@ -35,46 +35,51 @@ pub(crate) fn call(rt: &impl Print, alloc: Global, word: &str) -> io::Result<boo
 }
 
 fn the_figure(rt: &impl Print, alloc: Global) -> io::Result<()> {
-    let lent = Lent::of(alloc, &CHAIN)?;
+    let borrowed = Borrowed::of(alloc, &CHAIN)?;
     let answer = figure(alloc);
-    tell(rt, &lent, answer.is_err(), &answer)
+    report(rt, &borrowed, answer.is_err(), &answer)
 }
 
 fn tokens(rt: &impl Print, alloc: Global, file: &[u8]) -> io::Result<()> {
     let file = file.to_vec(alloc)?;
-    let lent = Lent::of(alloc, &file)?;
+    let borrowed = Borrowed::of(alloc, &file)?;
     let answer = lex(alloc, &file);
-    tell(rt, &lent, matches!(answer, Err(LexFault::Memory)), &answer)
+    report(
+        rt,
+        &borrowed,
+        matches!(answer, Err(LexFault::Memory)),
+        &answer,
+    )
 }
 
 fn name(rt: &impl Print, alloc: Global) -> io::Result<()> {
     let text = b"Calculation_0";
-    let lent = Lent::of(alloc, &text)?;
+    let borrowed = Borrowed::of(alloc, &text)?;
     let answer = name_text(alloc, text);
-    tell(rt, &lent, answer.is_err(), &answer)
+    report(rt, &borrowed, answer.is_err(), &answer)
 }
 
 fn literal(rt: &impl Print, alloc: Global) -> io::Result<()> {
     let text = b"'a\\n\\101'";
-    let lent = Lent::of(alloc, &text)?;
+    let borrowed = Borrowed::of(alloc, &text)?;
     let answer = literal_bytes(alloc, text);
-    tell(rt, &lent, answer.is_err(), &answer)
+    report(rt, &borrowed, answer.is_err(), &answer)
 }
 
 fn class(rt: &impl Print, alloc: Global) -> io::Result<()> {
     let text = b"[a-z_\\n]";
-    let lent = Lent::of(alloc, &text)?;
-    let answer = class_bytes(alloc, text);
-    tell(rt, &lent, answer.is_err(), &answer)
+    let borrowed = Borrowed::of(alloc, &text)?;
+    let answer = class_of_token(alloc, text);
+    report(rt, &borrowed, answer.is_err(), &answer)
 }
 
 fn definitions(rt: &impl Print, alloc: Global, file: &[u8]) -> io::Result<()> {
     let file = file.to_vec(alloc)?;
-    let lent = Lent::of(alloc, &file)?;
+    let borrowed = Borrowed::of(alloc, &file)?;
     let answer = read(alloc, &file);
-    tell(
+    report(
         rt,
-        &lent,
+        &borrowed,
         matches!(answer, Err(NotationFault::Memory)),
         &answer,
     )

@@ -1,9 +1,9 @@
 //! Calls on grammars, core forms, tables, checks, code, and the reference evaluators.
+use crate::ending::{Borrowed, report};
 use crate::inputs::{
     CHAIN, COUNTS, CYCLE, LOOP, MISSING, PREFIX, Pair, TWICE, checked, compiled, core, definitions,
     grammar, pluses,
 };
-use crate::told::{Lent, tell};
 use peg_check::{CheckFault, check, table_of};
 use peg_code::{CodeFault, compile};
 use peg_core::desugar;
@@ -50,21 +50,21 @@ pub(crate) fn call(rt: &impl Print, alloc: Global, word: &str) -> io::Result<boo
 
 fn made(rt: &impl Print, alloc: Global, file: &[u8]) -> io::Result<()> {
     let definitions = definitions(alloc, file)?;
-    let lent = Lent::of(alloc, &())?;
+    let borrowed = Borrowed::of(alloc, &())?;
     let answer = Grammar::new(alloc, definitions);
     let memory = matches!(answer, Err(GrammarFault::Memory));
-    tell(rt, &lent, memory, &answer)
+    report(rt, &borrowed, memory, &answer)
 }
 
 fn matched(rt: &impl Print, alloc: Global, depth: u64) -> io::Result<()> {
     let grammar = grammar(alloc, CHAIN)?;
     let text = b"aab";
     let borrowed = (&grammar, text);
-    let lent = Lent::of(alloc, &borrowed)?;
+    let borrowed = Borrowed::of(alloc, &borrowed)?;
     let answer = plain_match(alloc, &grammar, text, 0, depth);
-    tell(
+    report(
         rt,
-        &lent,
+        &borrowed,
         matches!(answer, Err(PlainFault::Memory)),
         &answer,
     )
@@ -74,11 +74,11 @@ fn total(rt: &impl Print, alloc: Global) -> io::Result<()> {
     let Pair { grammar, .. } = &compiled(alloc, COUNTS)?;
     let text = b"aabbcc";
     let borrowed = (grammar, text);
-    let lent = Lent::of(alloc, &borrowed)?;
+    let borrowed = Borrowed::of(alloc, &borrowed)?;
     let answer = plain_total(alloc, grammar, text, 0);
-    tell(
+    report(
         rt,
-        &lent,
+        &borrowed,
         matches!(answer, Err(TotalFault::Memory)),
         &answer,
     )
@@ -86,25 +86,25 @@ fn total(rt: &impl Print, alloc: Global) -> io::Result<()> {
 
 fn desugared(rt: &impl Print, alloc: Global) -> io::Result<()> {
     let grammar = grammar(alloc, COUNTS)?;
-    let lent = Lent::of(alloc, &grammar)?;
+    let borrowed = Borrowed::of(alloc, &grammar)?;
     let answer = desugar(alloc, &grammar);
-    tell(rt, &lent, answer.is_err(), &answer)
+    report(rt, &borrowed, answer.is_err(), &answer)
 }
 
 fn tabled(rt: &impl Print, alloc: Global) -> io::Result<()> {
     let core = core(alloc, COUNTS)?;
-    let lent = Lent::of(alloc, &core)?;
+    let borrowed = Borrowed::of(alloc, &core)?;
     let answer = table_of(alloc, &core);
-    tell(rt, &lent, answer.is_err(), &answer)
+    report(rt, &borrowed, answer.is_err(), &answer)
 }
 
 fn judged(rt: &impl Print, alloc: Global, file: &[u8]) -> io::Result<()> {
     let core = core(alloc, file)?;
-    let lent = Lent::of(alloc, &())?;
+    let borrowed = Borrowed::of(alloc, &())?;
     let answer = check(alloc, core);
-    tell(
+    report(
         rt,
-        &lent,
+        &borrowed,
         matches!(answer, Err(CheckFault::Memory)),
         &answer,
     )
@@ -112,7 +112,12 @@ fn judged(rt: &impl Print, alloc: Global, file: &[u8]) -> io::Result<()> {
 
 fn coded(rt: &impl Print, alloc: Global, file: &[u8]) -> io::Result<()> {
     let checked = checked(alloc, file)?;
-    let lent = Lent::of(alloc, &())?;
+    let borrowed = Borrowed::of(alloc, &())?;
     let answer = compile(alloc, checked);
-    tell(rt, &lent, matches!(answer, Err(CodeFault::Memory)), &answer)
+    report(
+        rt,
+        &borrowed,
+        matches!(answer, Err(CodeFault::Memory)),
+        &answer,
+    )
 }

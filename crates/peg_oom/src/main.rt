@@ -9,13 +9,14 @@
 //! Without a known argument the calls are listed.
 //!
 //! The calls are the public ones of the libraries that `grep -rn 'alloc: Global' crates/*/src` finds. Calls on values
-//! with an allocator are added: `keep` of the memos, `begin` of `ListWatch`, `parse`, and what `TreeRows` and
+//! with an allocator are added: `keep` of the memos, `begin` of `ListWatch`, `parse`, and what `FlatTree` and
 //! `NestedTree` send to a serializer.
 //!
 //! Two calls are only made inside others. These are `definitions_of`, which needs the metagrammar's tree of a file, in
-//! `read_by_figure`, and `send_member` in `answer_json` and `table_json`.
+//! `read_by_figure`, and `serialize_member` in `answer_json` and `table_json`.
 #![tactic(auto)]
 
+mod ending;
 mod files;
 mod grammars;
 mod inputs;
@@ -24,7 +25,6 @@ mod parsers;
 mod replies;
 mod runs;
 mod shortcuts;
-mod told;
 mod tools;
 mod trees;
 

@@ -1,6 +1,6 @@
 //! Calls on memos, and on their entries.
+use crate::ending::{Borrowed, report};
 use crate::inputs::{PREFIX, Pair, compiled};
-use crate::told::{Lent, tell};
 use peg_bytes::Span;
 use peg_memo::{Found, Keep, LruMemo};
 use peg_memo_policy::{RerunCosts, SelectiveMemo};
@@ -33,15 +33,15 @@ pub(crate) fn call(rt: &impl Print, alloc: Global, word: &str) -> io::Result<boo
 }
 
 fn memo(rt: &impl Print, alloc: Global) -> io::Result<()> {
-    let lent = Lent::of(alloc, &())?;
+    let borrowed = Borrowed::of(alloc, &())?;
     let answer = LruMemo::new(alloc, 4096);
-    let told = answer.as_ref().map(|memo| memo.is_empty());
-    tell(rt, &lent, answer.is_err(), &told)
+    let outcome = answer.as_ref().map(|memo| memo.is_empty());
+    report(rt, &borrowed, answer.is_err(), &outcome)
 }
 
 // The nodes of the result at a position: a node and its child.
-fn rows_at(place: u32) -> [TreeNode; 2] {
-    let span = Span::new(place, place.saturating_add(2));
+fn rows_at(position: u32) -> [TreeNode; 2] {
+    let span = Span::new(position, position.saturating_add(2));
     let (rule, size) = (0, 2);
     [
         TreeNode { rule, span, size },
@@ -54,12 +54,12 @@ fn rows_at(place: u32) -> [TreeNode; 2] {
 }
 
 // The result at a position; every third one is a failure.
-fn found_at(place: u32, rows: &[TreeNode; 2]) -> Found<'_> {
-    if place % 3 == 0 {
+fn found_at(position: u32, rows: &[TreeNode; 2]) -> Found<'_> {
+    if position % 3 == 0 {
         Found::Failed
     } else {
         Found::Done {
-            end: place.saturating_add(2),
+            end: position.saturating_add(2),
             nodes: rows,
         }
     }
@@ -83,20 +83,20 @@ pub(crate) fn are_alike(one: Found<'_>, other: Found<'_>) -> bool {
 // Offers the results of consecutive positions to a memo, as a machine does. Returns the answers.
 fn keep_all<K: Keep>(memo: &mut K) -> [bool; RESULTS as usize] {
     let mut answers = [false; RESULTS as usize];
-    for (place, answer) in (0..RESULTS).zip(answers.iter_mut()) {
-        memo.touch(0, place);
-        *answer = memo.keep(0, place, found_at(place, &rows_at(place)));
+    for (position, answer) in (0..RESULTS).zip(answers.iter_mut()) {
+        memo.touch(0, position);
+        *answer = memo.keep(0, position, found_at(position, &rows_at(position)));
     }
     answers
 }
 
 // Whether a memo has exactly the results that it claimed to store.
 fn holds<K: Keep>(memo: &mut K, answers: &[bool]) -> bool {
-    for (place, answer) in (0..RESULTS).zip(answers) {
-        memo.touch(0, place);
-        let rows = rows_at(place);
-        let right = match memo.find(0, place) {
-            Some(found) => *answer && are_alike(found, found_at(place, &rows)),
+    for (position, answer) in (0..RESULTS).zip(answers) {
+        memo.touch(0, position);
+        let rows = rows_at(position);
+        let right = match memo.find(0, position) {
+            Some(found) => *answer && are_alike(found, found_at(position, &rows)),
             None => !*answer,
         };
         if !right {
@@ -111,28 +111,28 @@ fn kept(rt: &impl Print, alloc: Global) -> io::Result<()> {
     let Ok(mut memo) = LruMemo::new(alloc, RESULTS) else {
         return Err(io::Error::from(AllocError));
     };
-    let mut lent = Lent::of(alloc, &())?;
+    let mut borrowed = Borrowed::of(alloc, &())?;
     let answers = keep_all(&mut memo);
     if !holds(&mut memo, &answers) {
-        lent.spoil();
+        borrowed.spoil();
     }
-    tell(rt, &lent, answers.contains(&false), &answers)
+    report(rt, &borrowed, answers.contains(&false), &answers)
 }
 
 fn costs(rt: &impl Print, alloc: Global) -> io::Result<()> {
     let Pair { program, .. } = &compiled(alloc, PREFIX)?;
-    let lent = Lent::of(alloc, program)?;
+    let borrowed = Borrowed::of(alloc, program)?;
     let answer = RerunCosts::new(alloc, program);
-    tell(rt, &lent, answer.is_err(), &answer)
+    report(rt, &borrowed, answer.is_err(), &answer)
 }
 
 fn selective(rt: &impl Print, alloc: Global) -> io::Result<()> {
     let Pair { program, .. } = &compiled(alloc, PREFIX)?;
     let costs = RerunCosts::new(alloc, program)?;
-    let lent = Lent::of(alloc, &costs)?;
+    let borrowed = Borrowed::of(alloc, &costs)?;
     let answer = SelectiveMemo::new(alloc, 4096, &costs, b"(a)y");
-    let told = answer.as_ref().map(|memo| memo.is_empty());
-    tell(rt, &lent, answer.is_err(), &told)
+    let outcome = answer.as_ref().map(|memo| memo.is_empty());
+    report(rt, &borrowed, answer.is_err(), &outcome)
 }
 
 // What a selective memo stores if no allocation fails. Two memos are compared, since an allocation of one may fail.
@@ -157,14 +157,14 @@ fn selected(rt: &impl Print, alloc: Global) -> io::Result<()> {
     let text = b"((((((((((a)y)y)y)y)y)y)y)y)y)y";
     let wanted = wanted(alloc, &costs, text)?;
     let mut memo = SelectiveMemo::new(alloc, RESULTS, &costs, text)?;
-    let mut lent = Lent::of(alloc, &costs)?;
+    let mut borrowed = Borrowed::of(alloc, &costs)?;
     let answers = keep_all(&mut memo);
     let more = answers
         .iter()
         .zip(&wanted)
         .any(|(one, other)| *one && !*other);
     if more || !holds(&mut memo, &answers) {
-        lent.spoil();
+        borrowed.spoil();
     }
-    tell(rt, &lent, answers != wanted, &answers)
+    report(rt, &borrowed, answers != wanted, &answers)
 }

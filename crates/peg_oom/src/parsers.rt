@@ -1,6 +1,6 @@
 //! Calls on parsers of grammar files, on parses of texts, and on the reader by the metagrammar.
+use crate::ending::{Borrowed, report};
 use crate::inputs::{CHAIN, COUNTS, CYCLE, LOOP, MISSING, OPEN, PREFIX, TWICE, pluses};
-use crate::told::{Lent, tell};
 use peg_parser::{
     DEFAULT_MEMO, FigureFault, ParseFault, ParseOptions, Parser, Refusal, grammar_of,
     read_by_figure,
@@ -63,30 +63,35 @@ fn made(rt: &impl Print, alloc: Global, word: &str) -> io::Result<bool> {
 
 fn spelled(rt: &impl Print, alloc: Global, file: &[u8]) -> io::Result<()> {
     let file = file.to_vec(alloc)?;
-    let lent = Lent::of(alloc, &file)?;
+    let borrowed = Borrowed::of(alloc, &file)?;
     let answer = grammar_of(alloc, &file);
-    tell(rt, &lent, matches!(answer, Err(Refusal::Memory)), &answer)
+    report(
+        rt,
+        &borrowed,
+        matches!(answer, Err(Refusal::Memory)),
+        &answer,
+    )
 }
 
 fn accepted(rt: &impl Print, alloc: Global, file: &[u8]) -> io::Result<()> {
     let file = file.to_vec(alloc)?;
-    let lent = Lent::of(alloc, &file)?;
+    let borrowed = Borrowed::of(alloc, &file)?;
     let answer = Parser::from_file(alloc, &file);
     let memory = matches!(answer, Err(Refusal::Memory));
-    let told = match &answer {
+    let outcome = match &answer {
         Ok(parser) => Ok((parser.grammar(), parser.program())),
         Err(refusal) => Err(refusal),
     };
-    tell(rt, &lent, memory, &told)
+    report(rt, &borrowed, memory, &outcome)
 }
 
 fn names(rt: &impl Print, alloc: Global) -> io::Result<()> {
     match Parser::from_file(alloc, CYCLE) {
         Ok(_) | Err(Refusal::Memory) => Err(io::Error::from(AllocError)),
         Err(refusal) => {
-            let lent = Lent::of(alloc, &refusal)?;
+            let borrowed = Borrowed::of(alloc, &refusal)?;
             let answer = refusal.names(alloc);
-            tell(rt, &lent, answer.is_err(), &answer)
+            report(rt, &borrowed, answer.is_err(), &answer)
         }
     }
 }
@@ -104,19 +109,19 @@ fn parsed(rt: &impl Print, alloc: Global, start: Option<&str>, memo: u32) -> io:
     let parser = parser(alloc, PREFIX)?;
     let text = b"((((a)y)y)y)y".to_vec(alloc)?;
     let borrowed = (parser.grammar(), parser.program(), &text);
-    let lent = Lent::of(alloc, &borrowed)?;
+    let borrowed = Borrowed::of(alloc, &borrowed)?;
     let steps = None;
     let options = ParseOptions { start, memo, steps };
     let answer = parser.parse(alloc, &text, &options);
     let memory = matches!(answer, Err(ParseFault::Memory));
     let outcome = answer.as_ref().map(|answer| &answer.outcome);
-    tell(rt, &lent, memory, &outcome)
+    report(rt, &borrowed, memory, &outcome)
 }
 
 fn figured(rt: &impl Print, alloc: Global, file: &[u8]) -> io::Result<()> {
     let file = file.to_vec(alloc)?;
-    let lent = Lent::of(alloc, &file)?;
+    let borrowed = Borrowed::of(alloc, &file)?;
     let answer = read_by_figure(alloc, &file);
     let memory = matches!(answer, Err(FigureFault::Memory));
-    tell(rt, &lent, memory, &answer)
+    report(rt, &borrowed, memory, &answer)
 }

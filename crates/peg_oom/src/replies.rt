@@ -2,9 +2,9 @@
 ghost use Rattle.std.specs.Prelude.{◌≤◌, length};
 ghost use Rattle.peg_bytes.specs.Place.{max_offset};
 
+use crate::ending::{Borrowed, report};
 use crate::inputs::{CHAIN, COUNTS, CYCLE, LOOP, MISSING, OPEN, PREFIX, TWICE};
 use crate::parsers::parser;
-use crate::told::{Lent, tell};
 use peg_check::table_of;
 use peg_core::desugar;
 use peg_json::{
@@ -100,9 +100,14 @@ fn answered(rt: &impl Print, alloc: Global, text: &[u8], rows: bool) -> io::Resu
         return Err(io::Error::from(AllocError));
     };
     let borrowed = (parser.grammar(), parser.program(), &parsed);
-    let lent = Lent::of(alloc, &borrowed)?;
+    let borrowed = Borrowed::of(alloc, &borrowed)?;
     let answer = answer_json(alloc, &parser, &parsed, text.len() as u32, true, rows);
-    tell(rt, &lent, matches!(answer, Err(JsonFault::Memory)), &answer)
+    report(
+        rt,
+        &borrowed,
+        matches!(answer, Err(JsonFault::Memory)),
+        &answer,
+    )
 }
 
 fn answer_of(rt: &impl Print, alloc: Global, text: &[u8]) -> io::Result<()> {
@@ -111,10 +116,10 @@ fn answer_of(rt: &impl Print, alloc: Global, text: &[u8]) -> io::Result<()> {
         return Err(io::Error::from(AllocError));
     };
     let borrowed = (parser.grammar(), parser.program(), &parsed);
-    let lent = Lent::of(alloc, &borrowed)?;
+    let borrowed = Borrowed::of(alloc, &borrowed)?;
     let form = TreeForm::Nested;
     let answer = answer_line(alloc, &parser, &parsed, text.len() as u32, true, form);
-    tell(rt, &lent, answer.is_err(), &answer)
+    report(rt, &borrowed, answer.is_err(), &answer)
 }
 
 fn rows_of(rt: &impl Print, alloc: Global, text: &[u8]) -> io::Result<()> {
@@ -123,16 +128,16 @@ fn rows_of(rt: &impl Print, alloc: Global, text: &[u8]) -> io::Result<()> {
         return Err(io::Error::from(AllocError));
     };
     let borrowed = (parser.grammar(), parser.program());
-    let lent = Lent::of(alloc, &borrowed)?;
+    let borrowed = Borrowed::of(alloc, &borrowed)?;
     let answer = rows_line(alloc, &parser, parsed, text.len() as u32, true);
-    tell(rt, &lent, answer.is_err(), &answer)
+    report(rt, &borrowed, answer.is_err(), &answer)
 }
 
 fn fault(rt: &impl Print, alloc: Global, name: &str) -> io::Result<()> {
     let fault = Fault::NoSuchStart(name);
-    let lent = Lent::of(alloc, &fault)?;
+    let borrowed = Borrowed::of(alloc, &fault)?;
     let answer = refusal_json(alloc, &fault, b"", &[]);
-    tell(rt, &lent, answer.is_err(), &answer)
+    report(rt, &borrowed, answer.is_err(), &answer)
 }
 
 fn refusal_line(rt: &impl Print, alloc: Global, file: &[u8]) -> io::Result<()>
@@ -142,9 +147,9 @@ fn refusal_line(rt: &impl Print, alloc: Global, file: &[u8]) -> io::Result<()>
         Ok(_) | Err(Refusal::Memory) => Err(io::Error::from(AllocError)),
         Err(refusal) => {
             let borrowed = (file, &refusal);
-            let lent = Lent::of(alloc, &borrowed)?;
+            let borrowed = Borrowed::of(alloc, &borrowed)?;
             let answer = refused_line(alloc, file, &refusal);
-            tell(rt, &lent, answer.is_err(), &answer)
+            report(rt, &borrowed, answer.is_err(), &answer)
         }
     }
 }
@@ -156,9 +161,9 @@ fn table_text(rt: &impl Print, alloc: Global) -> io::Result<()> {
     let core = desugar(alloc, &grammar)?;
     let table = table_of(alloc, &core)?;
     let borrowed = (&grammar, &core, &table);
-    let lent = Lent::of(alloc, &borrowed)?;
+    let borrowed = Borrowed::of(alloc, &borrowed)?;
     let answer = table_json(alloc, &grammar, &core, &table);
-    tell(rt, &lent, answer.is_err(), &answer)
+    report(rt, &borrowed, answer.is_err(), &answer)
 }
 
 fn table_of_line(rt: &impl Print, alloc: Global) -> io::Result<()> {
@@ -168,46 +173,46 @@ fn table_of_line(rt: &impl Print, alloc: Global) -> io::Result<()> {
     let core = desugar(alloc, &grammar)?;
     let table = table_of(alloc, &core)?;
     let borrowed = (&grammar, &core, &table);
-    let lent = Lent::of(alloc, &borrowed)?;
+    let borrowed = Borrowed::of(alloc, &borrowed)?;
     let answer = table_line(alloc, &grammar, &core, &table);
-    tell(rt, &lent, answer.is_err(), &answer)
+    report(rt, &borrowed, answer.is_err(), &answer)
 }
 
 fn code_text(rt: &impl Print, alloc: Global) -> io::Result<()> {
     let parser = parser(alloc, PREFIX)?;
-    let lent = Lent::of(alloc, parser.program())?;
+    let borrowed = Borrowed::of(alloc, parser.program())?;
     let answer = code_json(alloc, parser.program());
-    tell(rt, &lent, answer.is_err(), &answer)
+    report(rt, &borrowed, answer.is_err(), &answer)
 }
 
 fn code_of_line(rt: &impl Print, alloc: Global) -> io::Result<()> {
     let parser = parser(alloc, PREFIX)?;
-    let lent = Lent::of(alloc, parser.program())?;
+    let borrowed = Borrowed::of(alloc, parser.program())?;
     let answer = code_line(alloc, parser.program());
-    tell(rt, &lent, answer.is_err(), &answer)
+    report(rt, &borrowed, answer.is_err(), &answer)
 }
 
 fn accepted(rt: &impl Print, alloc: Global) -> io::Result<()> {
-    let lent = Lent::of(alloc, &())?;
+    let borrowed = Borrowed::of(alloc, &())?;
     let answer = accepted_line(alloc, 29);
-    tell(rt, &lent, answer.is_err(), &answer)
+    report(rt, &borrowed, answer.is_err(), &answer)
 }
 
 fn no_start(rt: &impl Print, alloc: Global) -> io::Result<()> {
     let name = "T\"\n";
-    let lent = Lent::of(alloc, &name)?;
+    let borrowed = Borrowed::of(alloc, &name)?;
     let answer = no_start_line(alloc, name);
-    tell(rt, &lent, answer.is_err(), &answer)
+    report(rt, &borrowed, answer.is_err(), &answer)
 }
 
 fn long_text(rt: &impl Print, alloc: Global) -> io::Result<()> {
-    let lent = Lent::of(alloc, &())?;
+    let borrowed = Borrowed::of(alloc, &())?;
     let answer = long_text_line(alloc);
-    tell(rt, &lent, answer.is_err(), &answer)
+    report(rt, &borrowed, answer.is_err(), &answer)
 }
 
 fn step_limit(rt: &impl Print, alloc: Global) -> io::Result<()> {
-    let lent = Lent::of(alloc, &())?;
+    let borrowed = Borrowed::of(alloc, &())?;
     let answer = step_limit_line(alloc);
-    tell(rt, &lent, answer.is_err(), &answer)
+    report(rt, &borrowed, answer.is_err(), &answer)
 }

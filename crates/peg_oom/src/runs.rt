@@ -1,9 +1,9 @@
 //! Runs of programs by the machine, with memos and with tracers.
 ghost use Rattle.std.specs.Prelude.{◌≤◌};
 
+use crate::ending::{Borrowed, report};
 use crate::inputs::{CHAIN, COUNTS, PREFIX, Pair, compiled};
 use crate::memos::are_alike;
-use crate::told::{Lent, tell};
 use peg_code::Program;
 use peg_machine::{ListWatch, NoWatch, RunFault, Watch, run};
 use peg_memo::{Keep, LruMemo, NoMemo};
@@ -55,9 +55,14 @@ pub(crate) fn call(rt: &impl Print, alloc: Global, word: &str) -> io::Result<boo
 fn alone(rt: &impl Print, alloc: Global, file: &[u8], text: &[u8]) -> io::Result<()> {
     let Pair { program, .. } = &compiled(alloc, file)?;
     let borrowed = (program, text);
-    let lent = Lent::of(alloc, &borrowed)?;
+    let borrowed = Borrowed::of(alloc, &borrowed)?;
     let answer = run(alloc, program, text, 0, &mut NoMemo, &mut NoWatch, None);
-    tell(rt, &lent, matches!(answer, Err(RunFault::Memory)), &answer)
+    report(
+        rt,
+        &borrowed,
+        matches!(answer, Err(RunFault::Memory)),
+        &answer,
+    )
 }
 
 // A memo after a run from the first rule, with all results for which no allocation failed.
@@ -72,10 +77,10 @@ fn filled(alloc: Global, pair: &Pair, text: &[u8]) -> Result<LruMemo, AllocError
 /// Returns whether each entry of a memo is also an entry of another memo.
 pub(crate) fn is_part<K: Keep>(memo: &mut K, whole: &LruMemo) -> bool {
     for number in 0..RULES * PLACES {
-        let (rule, place) = (number / PLACES, number % PLACES);
-        memo.touch(rule, place);
-        if let Some(found) = memo.find(rule, place) {
-            match whole.find(rule, place) {
+        let (rule, position) = (number / PLACES, number % PLACES);
+        memo.touch(rule, position);
+        if let Some(found) = memo.find(rule, position) {
+            match whole.find(rule, position) {
                 Some(other) if are_alike(found, other) => (),
                 _ => return false,
             }
@@ -110,14 +115,14 @@ fn remembering(
     let mut memo = LruMemo::new(alloc, capacity)?;
     let program = &pair.program;
     let borrowed = (program, text);
-    let mut lent = Lent::of(alloc, &borrowed)?;
+    let mut borrowed = Borrowed::of(alloc, &borrowed)?;
     let answer = run(alloc, program, text, 0, &mut memo, &mut NoWatch, None);
     if !is_part(&mut memo, &whole) {
-        lent.spoil();
+        borrowed.spoil();
     }
     let memory = matches!(answer, Err(RunFault::Memory));
     let outcome = answer.as_ref().map(|answer| &answer.outcome);
-    tell(rt, &lent, memory, &outcome)
+    report(rt, &borrowed, memory, &outcome)
 }
 
 fn selecting(rt: &impl Print, alloc: Global, file: &[u8], text: &[u8]) -> io::Result<()> {
@@ -126,14 +131,14 @@ fn selecting(rt: &impl Print, alloc: Global, file: &[u8], text: &[u8]) -> io::Re
     let program = &pair.program;
     let costs = RerunCosts::new(alloc, program)?;
     let mut memo = SelectiveMemo::new(alloc, 64, &costs, text)?;
-    let mut lent = Lent::of(alloc, program)?;
+    let mut borrowed = Borrowed::of(alloc, program)?;
     let answer = run(alloc, program, text, 0, &mut memo, &mut NoWatch, None);
     if !is_part(&mut memo, &whole) {
-        lent.spoil();
+        borrowed.spoil();
     }
     let memory = matches!(answer, Err(RunFault::Memory));
     let outcome = answer.as_ref().map(|answer| &answer.outcome);
-    tell(rt, &lent, memory, &outcome)
+    report(rt, &borrowed, memory, &outcome)
 }
 
 // The tracer has the calls that it got before an allocation failed.
@@ -146,21 +151,26 @@ fn watched(
 ) -> io::Result<()> {
     let Pair { program, .. } = &compiled(alloc, file)?;
     let borrowed = (program, text);
-    let mut lent = Lent::of(alloc, &borrowed)?;
+    let mut borrowed = Borrowed::of(alloc, &borrowed)?;
     let mut watch = ListWatch::new(alloc);
     let answer = run(alloc, program, text, 0, &mut NoMemo, &mut watch, None);
-    let shown = watch.pairs();
-    if !pairs.starts_with(shown) || answer.is_ok() && shown.len() < pairs.len() {
-        lent.spoil();
+    let traced = watch.pairs();
+    if !pairs.starts_with(traced) || answer.is_ok() && traced.len() < pairs.len() {
+        borrowed.spoil();
     }
-    tell(rt, &lent, matches!(answer, Err(RunFault::Memory)), &answer)
+    report(
+        rt,
+        &borrowed,
+        matches!(answer, Err(RunFault::Memory)),
+        &answer,
+    )
 }
 
 // Whether the pairs of a tracer are those that it claimed to store.
 fn has_taken(watch: &ListWatch, answers: &[bool]) -> bool {
     let mut pairs = watch.pairs().iter();
-    for (place, answer) in (0..PAIRS).zip(answers) {
-        if *answer && pairs.next() != Some(&(0, place)) {
+    for (position, answer) in (0..PAIRS).zip(answers) {
+        if *answer && pairs.next() != Some(&(0, position)) {
             return false;
         }
     }
@@ -168,14 +178,14 @@ fn has_taken(watch: &ListWatch, answers: &[bool]) -> bool {
 }
 
 fn begun(rt: &impl Print, alloc: Global) -> io::Result<()> {
-    let mut lent = Lent::of(alloc, &())?;
+    let mut borrowed = Borrowed::of(alloc, &())?;
     let mut watch = ListWatch::new(alloc);
     let mut answers = [false; PAIRS as usize];
-    for (place, answer) in (0..PAIRS).zip(answers.iter_mut()) {
-        *answer = watch.begin(0, place).is_ok();
+    for (position, answer) in (0..PAIRS).zip(answers.iter_mut()) {
+        *answer = watch.begin(0, position).is_ok();
     }
     if !has_taken(&watch, &answers) {
-        lent.spoil();
+        borrowed.spoil();
     }
-    tell(rt, &lent, answers.contains(&false), &answers)
+    report(rt, &borrowed, answers.contains(&false), &answers)
 }

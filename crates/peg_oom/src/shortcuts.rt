@@ -1,13 +1,13 @@
 //! Calls on shortcuts of the machine, and runs with tables of them.
 ghost use Rattle.std.specs.Prelude.{◌≡◌, ◌<◌, length, IfOk};
 
+use crate::ending::{Borrowed, report};
 use crate::inputs::{Pair, SUMS, compiled};
 use crate::runs::{is_part, whole};
-use crate::told::{Lent, tell};
 use peg_code::Program;
-use peg_machine::{Answer, ListWatch, NoWatch, RunFault, run, run_by};
+use peg_machine::{Answer, ListWatch, NoWatch, RunFault, run, run_with_shortcuts};
 use peg_memo::{LruMemo, NoMemo};
-use peg_shortcut::{Kept, Shortcut, Shortcuts};
+use peg_shortcut::{CachedShortcut, Shortcut, Shortcuts};
 use std::alloc::{AllocError, Global};
 use std::fmt::Debug;
 use std::io;
@@ -31,7 +31,7 @@ const EARLIER: &[u8] = b"w(";
 pub(crate) fn call(rt: &impl Print, alloc: Global, word: &str) -> io::Result<bool> {
     match word {
         "shortcut_of" => found(rt, alloc)?,
-        "run_by_through" => through(rt, alloc)?,
+        "run_by_through" => enters_calls(rt, alloc)?,
         "run_by_stopping" => stopping(rt, alloc)?,
         "run_by_kept" => kept(rt, alloc)?,
         _ => return Ok(false),
@@ -42,22 +42,22 @@ pub(crate) fn call(rt: &impl Print, alloc: Global, word: &str) -> io::Result<boo
 // From the first rule, on the first byte of a word: five rules are called there.
 fn found(rt: &impl Print, alloc: Global) -> io::Result<()> {
     let Pair { program, .. } = &compiled(alloc, SUMS)?;
-    let lent = Lent::of(alloc, program)?;
-    let answer = Shortcut::of(alloc, program, true, program.entry(0), b'w');
-    tell(rt, &lent, answer.is_err(), &answer)
+    let borrowed = Borrowed::of(alloc, program)?;
+    let answer = Shortcut::compute(alloc, program, true, program.entry(0), b'w');
+    report(rt, &borrowed, answer.is_err(), &answer)
 }
 
 // Whether two shortcuts are the same, and the first is known on no other bytes than the second.
-fn is_within(one: &Kept, other: &Kept) -> bool {
-    one.shortcut.is_like(&other.shortcut) && one.bytes.union(&other.bytes) == other.bytes
+fn is_within(one: &CachedShortcut, other: &CachedShortcut) -> bool {
+    one.shortcut.has_same_effect(&other.shortcut) && one.bytes.union(&other.bytes) == other.bytes
 }
 
 // Whether each shortcut that a table has of a program's instructions is also in another table.
 fn are_in(shortcuts: &Shortcuts<'_>, whole: &Shortcuts<'_>, program: &Program) -> bool {
     for pc in 0..program.len() {
         for byte in 0..=u8::MAX {
-            if let Some(kept) = shortcuts.numbered(shortcuts.known(pc, byte), pc, byte) {
-                match whole.numbered(whole.known(pc, byte), pc, byte) {
+            if let Some(kept) = shortcuts.get(shortcuts.cell(pc, byte), pc, byte) {
+                match whole.get(whole.cell(pc, byte), pc, byte) {
                     Some(other) if is_within(kept, other) => (),
                     _ => return false,
                 }
@@ -92,10 +92,10 @@ fn find_all(shortcuts: &mut Shortcuts<'_>, program: &Program, byte: u8)
 }
 
 // A table with the shortcuts on these bytes for which no allocation failed.
-fn table<'a>(alloc: Global, program: &'a Program, through: bool, bytes: &[u8]) -> Shortcuts<'a>
+fn table<'a>(alloc: Global, program: &'a Program, enters_calls: bool, bytes: &[u8]) -> Shortcuts<'a>
     ensures { result.program.now ≡ program.now }
 {
-    let mut shortcuts = Shortcuts::new(alloc, program, usize::MAX, through);
+    let mut shortcuts = Shortcuts::new(alloc, program, usize::MAX, enters_calls);
     for byte in bytes {
         find_all(&mut shortcuts, program, *byte);
     }
@@ -112,7 +112,7 @@ fn run_plain(
     requires program { shortcuts.old.program.now ≡ program.now }
     requires rule { 0 < length program.now.core.bodies }
 {
-    run_by(
+    run_with_shortcuts(
         alloc,
         shortcuts,
         program,
@@ -128,12 +128,12 @@ fn run_plain(
 fn filled<'a>(
     alloc: Global,
     program: &'a Program,
-    through: bool,
+    enters_calls: bool,
     bytes: &[u8],
 ) -> Result<Shortcuts<'a>, AllocError>
     requires { 0 < length program.now.core.bodies }
 {
-    let mut shortcuts = table(alloc, program, through, bytes);
+    let mut shortcuts = table(alloc, program, enters_calls, bytes);
     match run_plain(alloc, &mut shortcuts, program, TEXT) {
         Ok(_) => Ok(shortcuts),
         Err(_) => Err(AllocError),
@@ -144,21 +144,21 @@ fn filled<'a>(
 fn all_of<'a>(
     alloc: Global,
     program: &'a Program,
-    through: bool,
+    enters_calls: bool,
     bytes: &[u8],
 ) -> Result<Shortcuts<'a>, AllocError>
     requires { 0 < length program.now.core.bodies }
 {
-    let first = filled(alloc, program, through, bytes)?;
-    let second = filled(alloc, program, through, bytes)?;
+    let first = filled(alloc, program, enters_calls, bytes)?;
+    let second = filled(alloc, program, enters_calls, bytes)?;
     one_of(first, second, program)
 }
 
 // Prints the result of a run with a table. Afterwards the table has no other shortcuts than a complete one.
-fn run_told<B: Debug>(
+fn run_and_report<B: Debug>(
     rt: &impl Print,
     alloc: Global,
-    lent: &mut Lent<'_, B>,
+    borrowed: &mut Borrowed<'_, B>,
     shortcuts: &mut Shortcuts<'_>,
     whole: &Shortcuts<'_>,
     program: &Program,
@@ -168,18 +168,23 @@ fn run_told<B: Debug>(
 {
     let answer = run_plain(alloc, shortcuts, program, TEXT);
     if !are_in(shortcuts, whole, program) {
-        lent.spoil();
+        borrowed.spoil();
     }
-    tell(rt, lent, matches!(answer, Err(RunFault::Memory)), &answer)
+    report(
+        rt,
+        borrowed,
+        matches!(answer, Err(RunFault::Memory)),
+        &answer,
+    )
 }
 
 // The call builds the table. If an allocation fails the table has fewer shortcuts, and the answer is the same.
-fn through(rt: &impl Print, alloc: Global) -> io::Result<()> {
+fn enters_calls(rt: &impl Print, alloc: Global) -> io::Result<()> {
     let Pair { program, .. } = &compiled(alloc, SUMS)?;
     let whole = all_of(alloc, program, true, b"")?;
-    let mut lent = Lent::of(alloc, program)?;
+    let mut borrowed = Borrowed::of(alloc, program)?;
     let mut shortcuts = Shortcuts::new(alloc, program, usize::MAX, true);
-    run_told(rt, alloc, &mut lent, &mut shortcuts, &whole, program)
+    run_and_report(rt, alloc, &mut borrowed, &mut shortcuts, &whole, program)
 }
 
 // The table already has the shortcuts of other texts.
@@ -189,12 +194,12 @@ fn kept(rt: &impl Print, alloc: Global) -> io::Result<()> {
     let first = table(alloc, program, true, EARLIER);
     let second = table(alloc, program, true, EARLIER);
     let mut shortcuts = one_of(first, second, program)?;
-    let mut lent = Lent::of(alloc, program)?;
-    run_told(rt, alloc, &mut lent, &mut shortcuts, &whole, program)
+    let mut borrowed = Borrowed::of(alloc, program)?;
+    run_and_report(rt, alloc, &mut borrowed, &mut shortcuts, &whole, program)
 }
 
 // The pairs that a run reports to a tracer, whatever is stored.
-fn shown(alloc: Global, pair: &Pair) -> Result<ListWatch, AllocError> {
+fn traced(alloc: Global, pair: &Pair) -> Result<ListWatch, AllocError> {
     let mut watch = ListWatch::new(alloc);
     match run(alloc, &pair.program, TEXT, 0, &mut NoMemo, &mut watch, None) {
         Ok(_) => Ok(watch),
@@ -215,12 +220,12 @@ fn stopping(rt: &impl Print, alloc: Global) -> io::Result<()> {
     let program = &pair.program;
     let all = all_of(alloc, program, false, b"")?;
     let whole = whole(alloc, &pair, TEXT)?;
-    let shown = shown(alloc, &pair)?;
+    let traced = traced(alloc, &pair)?;
     let mut memo = LruMemo::new(alloc, 1024)?;
-    let mut lent = Lent::of(alloc, program)?;
+    let mut borrowed = Borrowed::of(alloc, program)?;
     let mut watch = ListWatch::new(alloc);
     let mut shortcuts = Shortcuts::new(alloc, program, usize::MAX, false);
-    let answer = run_by(
+    let answer = run_with_shortcuts(
         alloc,
         &mut shortcuts,
         program,
@@ -230,14 +235,14 @@ fn stopping(rt: &impl Print, alloc: Global) -> io::Result<()> {
         &mut watch,
         None,
     );
-    let missing = answer.is_ok() && !has_part(&watch, &shown);
-    if missing || !has_part(&shown, &watch) {
-        lent.spoil();
+    let missing = answer.is_ok() && !has_part(&watch, &traced);
+    if missing || !has_part(&traced, &watch) {
+        borrowed.spoil();
     }
     if !is_part(&mut memo, &whole) || !are_in(&shortcuts, &all, program) {
-        lent.spoil();
+        borrowed.spoil();
     }
     let memory = matches!(answer, Err(RunFault::Memory));
     let outcome = answer.as_ref().map(|answer| &answer.outcome);
-    tell(rt, &lent, memory, &outcome)
+    report(rt, &borrowed, memory, &outcome)
 }

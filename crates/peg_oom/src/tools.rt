@@ -1,8 +1,8 @@
 //! Calls that read devices, parse arguments and run the tool, over files in memory.
 ghost use Rattle.std.specs.Prelude.{None};
 
+use crate::ending::{Borrowed, report};
 use crate::inputs::{CHAIN, COUNTS, CYCLE, LOOP, MISSING, OPEN, PREFIX, TWICE};
-use crate::told::{Lent, tell};
 use peg_io::{ReadFault, read_up_to};
 use peg_tool::{
     Command, Device, OpenFault, Opener, ParseOptions, ProgramFault, Words, WordsFault, read_words,
@@ -96,9 +96,14 @@ fn parsed(rt: &impl Print, alloc: Global, word: &str) -> io::Result<bool> {
 
 fn bytes(rt: &impl Print, alloc: Global) -> io::Result<()> {
     let input = COUNTS.to_vec(alloc)?;
-    let lent = Lent::of(alloc, &input)?;
+    let borrowed = Borrowed::of(alloc, &input)?;
     let answer = read_up_to(alloc, &mut Device::new(input.as_slice()), ROOM);
-    tell(rt, &lent, matches!(answer, Err(ReadFault::Memory)), &answer)
+    report(
+        rt,
+        &borrowed,
+        matches!(answer, Err(ReadFault::Memory)),
+        &answer,
+    )
 }
 
 // The arguments in a text, separated by spaces; an empty text has none.
@@ -115,28 +120,33 @@ fn list_of(alloc: Global, text: &str) -> Result<Vec<String>, AllocError> {
 
 fn asked(rt: &impl Print, alloc: Global, text: &str) -> io::Result<()> {
     let words = list_of(alloc, text)?;
-    let lent = Lent::of(alloc, &words)?;
+    let borrowed = Borrowed::of(alloc, &words)?;
     let answer = read_words(alloc, &words);
-    tell(
+    report(
         rt,
-        &lent,
+        &borrowed,
         matches!(answer, Err(WordsFault::Memory)),
         &answer,
     )
 }
 
 // Prints how a run over devices ended and what it wrote: nothing, if an allocation failed.
-fn told<B: std::fmt::Debug, E: std::fmt::Debug>(
+fn report_run<B: std::fmt::Debug, E: std::fmt::Debug>(
     rt: &impl Print,
-    lent: &mut Lent<'_, B>,
+    borrowed: &mut Borrowed<'_, B>,
     memory: bool,
     answer: &Result<u8, E>,
     written: &[u8],
 ) -> io::Result<()> {
     if memory && !written.is_empty() {
-        lent.spoil();
+        borrowed.spoil();
     }
-    tell(rt, lent, memory, &(answer, std::str::from_utf8(written)))
+    report(
+        rt,
+        borrowed,
+        memory,
+        &(answer, std::str::from_utf8(written)),
+    )
 }
 
 fn tool(
@@ -148,7 +158,7 @@ fn tool(
 ) -> io::Result<()> {
     let mut written = Vec::with_capacity(alloc, ROOM)?;
     let borrowed = (file, text, command);
-    let mut lent = Lent::of(alloc, &borrowed)?;
+    let mut borrowed = Borrowed::of(alloc, &borrowed)?;
     let answer = run_tool(
         alloc,
         &mut Device::new(file),
@@ -156,18 +166,18 @@ fn tool(
         &mut Device::new(&mut written),
         command,
     );
-    told(rt, &mut lent, answer == Ok(MEMORY), &answer, &written)
+    report_run(rt, &mut borrowed, answer == Ok(MEMORY), &answer, &written)
 }
 
 fn joined(rt: &impl Print, alloc: Global, input: &[u8]) -> io::Result<()> {
     let mut written = Vec::with_capacity(alloc, ROOM)?;
-    let mut lent = Lent::of(alloc, &input)?;
+    let mut borrowed = Borrowed::of(alloc, &input)?;
     let answer = run_joined(
         alloc,
         &mut Device::new(input),
         &mut Device::new(&mut written),
     );
-    told(rt, &mut lent, answer == Ok(MEMORY), &answer, &written)
+    report_run(rt, &mut borrowed, answer == Ok(MEMORY), &answer, &written)
 }
 
 // Two files by name.
@@ -195,7 +205,7 @@ fn led(rt: &impl Print, alloc: Global, text: &str) -> io::Result<()> {
         return Err(io::Error::from(AllocError));
     };
     let mut written = Vec::with_capacity(alloc, ROOM)?;
-    let mut lent = Lent::of(alloc, &words)?;
+    let mut borrowed = Borrowed::of(alloc, &words)?;
     let input = b"S <- 'a' S / 'b'\n%%\naab".as_slice();
     let answer = run_words(
         alloc,
@@ -205,5 +215,5 @@ fn led(rt: &impl Print, alloc: Global, text: &str) -> io::Result<()> {
         &words,
     );
     let memory = answer == Err(ProgramFault::Memory);
-    told(rt, &mut lent, memory, &answer, &written)
+    report_run(rt, &mut borrowed, memory, &answer, &written)
 }

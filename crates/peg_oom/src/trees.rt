@@ -2,10 +2,10 @@
 ghost use Rattle.std.specs.Prelude.{◌∷◌, [], codes};
 ghost use Rattle.peg_tree.specs.Nodes.{RulesBelow};
 
-use crate::told::{Lent, tell};
+use crate::ending::{Borrowed, report};
 use peg_bytes::Span;
 use peg_tree::{
-    JsonFault, Names, NestedTree, RowsText, Tree, TreeNode, TreeRows, nested_json, one_tree,
+    FlatTree, FlatTreeWriter, JsonFault, Names, NestedTree, Tree, TreeNode, nested_json, one_tree,
     rows_json,
 };
 use std::alloc::{AllocError, Global};
@@ -82,45 +82,50 @@ fn chain(alloc: Global) -> Result<Vec<TreeNode>, AllocError> {
 fn rows_value(rt: &impl Print, alloc: Global, tree: &Tree) -> io::Result<()>
     requires { RulesBelow 2 tree.now }
 {
-    let lent = Lent::of(alloc, tree)?;
+    let borrowed = Borrowed::of(alloc, tree)?;
     let answer = rows_json(alloc, tree, &Rules);
-    tell(rt, &lent, answer.is_err(), &answer)
+    report(rt, &borrowed, answer.is_err(), &answer)
 }
 
 fn nested_value(rt: &impl Print, alloc: Global, tree: &Tree) -> io::Result<()>
     requires { RulesBelow 2 tree.now }
 {
-    let lent = Lent::of(alloc, tree)?;
+    let borrowed = Borrowed::of(alloc, tree)?;
     let answer = nested_json(alloc, tree, &Rules);
-    tell(rt, &lent, matches!(answer, Err(JsonFault::Memory)), &answer)
+    report(
+        rt,
+        &borrowed,
+        matches!(answer, Err(JsonFault::Memory)),
+        &answer,
+    )
 }
 
 // The text that a serializer makes of the tree.
 fn rows_sent(rt: &impl Print, alloc: Global, tree: &Tree) -> io::Result<()>
     requires { RulesBelow 2 tree.now }
 {
-    let lent = Lent::of(alloc, tree)?;
-    let answer = serde_json::to_string(alloc, &TreeRows::new(alloc, tree, &Rules));
-    tell(rt, &lent, answer.is_err(), &answer)
+    let borrowed = Borrowed::of(alloc, tree)?;
+    let answer = serde_json::to_string(alloc, &FlatTree::new(alloc, tree, &Rules));
+    report(rt, &borrowed, answer.is_err(), &answer)
 }
 
 fn nested_sent(rt: &impl Print, alloc: Global, tree: &Tree) -> io::Result<()>
     requires { RulesBelow 2 tree.now }
 {
-    let lent = Lent::of(alloc, tree)?;
+    let borrowed = Borrowed::of(alloc, tree)?;
     let answer = serde_json::to_string(alloc, &NestedTree::new(alloc, tree, &Rules));
-    tell(rt, &lent, answer.is_err(), &answer)
+    report(rt, &borrowed, answer.is_err(), &answer)
 }
 
 // Fills the first piece of the list of nodes too, which doesn't allocate.
 fn rows_filled(rt: &impl Print, alloc: Global, tree: Tree) -> io::Result<()>
     requires { RulesBelow 2 tree }
 {
-    let lent = Lent::of(alloc, &Rules)?;
-    let mut answer = RowsText::new(alloc, tree, &Rules);
+    let borrowed = Borrowed::of(alloc, &Rules)?;
+    let mut answer = FlatTreeWriter::new(alloc, tree, &Rules);
     if let Ok(text) = &mut answer {
         text.fill();
     }
     let piece = answer.as_ref().map(|text| text.piece());
-    tell(rt, &lent, answer.is_err(), &piece)
+    report(rt, &borrowed, answer.is_err(), &piece)
 }

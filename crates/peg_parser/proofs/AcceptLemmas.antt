@@ -26,14 +26,14 @@ use Rattle.peg_notation.specs.declared.fault.NotationFault.{NotationFault}
 use Rattle.peg_notation.specs.declared.fault.NotationFault.TheVariants as notation
 use Rattle.peg_notation.proofs.FirstRule.{IsReading-some}
 use Rattle.peg_tree.specs.Names.{name_at}
-use Rattle.peg_parser.specs.Accepts.{Accepts, IsRead, IsTaken, code_size}
+use Rattle.peg_parser.specs.Accepts.{Accepts, IsRead, IsAcceptedGrammar, code_size}
 use Rattle.peg_parser.specs.Cause.{Cause, FileTooLong, Syntax, TooNested, BadCount, TooManyParts}
 use Rattle.peg_parser.specs.Cause.{CodeTooLarge, EmptyLoop, LeftRecursion, reference}
-use Rattle.peg_parser.specs.Faults.{of_notation, of_grammar, of_check, of_code, TellsWhy, want_of_memory, of_cause, Means, cause_told}
+use Rattle.peg_parser.specs.Faults.{of_notation, of_grammar, from_check, of_code, HasCause, out_of_memory, of_cause, RefusalMeaning, cause_of}
 use Rattle.peg_parser.specs.Parser.{parser_rules}
-use Rattle.peg_parser.specs.Refusals.{IsNoGrammar, IsIllFormed, Refuses, Shows, file_too_long, not_in_the_notation}
+use Rattle.peg_parser.specs.Refusals.{IsNoGrammar, IsIllFormed, IsRefusalOf, RefusalImplies, file_too_long, not_in_the_notation}
 use Rattle.peg_parser.specs.Refusals.{too_nested, count_out_of_range, a_name_twice, a_name_missing, too_many_parts, empty_loop, left_recursion}
-use Rattle.peg_parser.specs.Refusals.{code_too_large, no_notation, no_grammar, ill_formed}
+use Rattle.peg_parser.specs.Refusals.{code_too_large, not_in_notation, not_a_grammar, not_well_formed}
 use Rattle.peg_parser.specs.declared.parser.Parser.{Parser}
 use Rattle.peg_parser.specs.declared.refusal.Refusal.{Refusal}
 use Rattle.peg_parser.proofs.CheckLemmas.{loop-inside}
@@ -42,14 +42,14 @@ use Rattle.peg_parser.proofs.RuleNames.{name-numbered, names-of-path}
 
 -- an error equal to a refusal has the refusal's cause
 pub told-error : {X : Type 0} (Kind : Cause → Type 0) (size : ℕ) (result : Result X Refusal) (why : Refusal)
-    → IsErrAnd result (λ other. other ≡ why) → TellsWhy Kind size why → IfErr result (TellsWhy Kind size)
+    → IsErrAnd result (λ other. other ≡ why) → HasCause Kind size why → IfErr result (HasCause Kind size)
 told-error Kind size (Ok x) why is tells = tt
-told-error Kind size (Err other) why is tells = subst (TellsWhy Kind size) (sym is) tells
+told-error Kind size (Err other) why is tells = subst (HasCause Kind size) (sym is) tells
 
 -- ---- reading
 
 pub told-notation : (file : List ℕ) (why : NotationFault) → Reads file (Err why) → AnswerLiesIn (length file) (Err why)
-    → TellsWhy (IsNoGrammar file) (length file) (of_notation why)
+    → HasCause (IsNoGrammar file) (length file) (of_notation why)
 told-notation file notation.FileTooLong reads inside = of_cause FileTooLong refl (file_too_long reads) tt tt
 told-notation file (notation.Syntax at) reads inside =
     of_cause (Syntax at) refl (not_in_the_notation reads.0 reads.1 reads.2) inside tt
@@ -57,7 +57,7 @@ told-notation file (notation.TooNested at) reads inside =
     of_cause (TooNested at) refl (too_nested reads.0 reads.1 reads.2) inside tt
 told-notation file (notation.BadCount at) reads inside =
     of_cause (BadCount at) refl (count_out_of_range reads.0 reads.1 reads.2) inside tt
-told-notation file notation.Memory reads inside = want_of_memory refl
+told-notation file notation.Memory reads inside = out_of_memory refl
 
 -- ---- the grammar
 
@@ -71,8 +71,8 @@ no_bad_count (count ∷ written) all =
     ∙ no_bad_count written (All-tail (λ count. is_in_range count ≡ true) count written all)
 
 pub told-grammar : (file : List ℕ) (rules : List Rule) (why : GrammarFault) → IsRead file rules
-    → All (RuleLiesIn (length file)) rules → definitions.Refuses rules why
-    → TellsWhy (IsNoGrammar file) (length file) (of_grammar why)
+    → All (RuleLiesIn (length file)) rules → definitions.IsRefusedBy rules why
+    → HasCause (IsNoGrammar file) (length file) (of_grammar why)
 told-grammar file rules grammar.NoRule read inside refuses =
     absurd (IsReading-some file rules read.reading.0 refuses)
 told-grammar file rules (grammar.Duplicate name span) read inside refuses =
@@ -86,7 +86,7 @@ told-grammar file rules (grammar.BadCount span) read inside refuses =
     let both : None ≡ Some _ = ap (option_map (λ (count : Count). count.span)) (sym none) ∙ refuses.2 in cc
 told-grammar file rules grammar.TooManyParts read inside refuses =
     of_cause TooManyParts refl (too_many_parts read refuses.0 refuses.1) tt tt
-told-grammar file rules grammar.Memory read inside refuses = want_of_memory refl
+told-grammar file rules grammar.Memory read inside refuses = out_of_memory refl
 
 -- ---- the check
 
@@ -97,8 +97,8 @@ named-too rules why named =
 
 -- the cause of the check's fault for its grammar
 pub told-check : (file : List ℕ) (grammar : Grammar) (why : CheckFault) → IsIllFormedBy (rules_in grammar) why
-    → NamesRules (length (rules_in grammar)) why → IsRead file (rules_in grammar) → IsTaken (rules_in grammar) → All (RuleLiesIn (length file)) (rules_in grammar)
-    → TellsWhy (Refuses file) (length file) (of_check why grammar)
+    → NamesRules (length (rules_in grammar)) why → IsRead file (rules_in grammar) → IsAcceptedGrammar (rules_in grammar) → All (RuleLiesIn (length file)) (rules_in grammar)
+    → HasCause (IsRefusalOf file) (length file) (from_check why grammar)
 told-check file grammar (check.EmptyLoop number span) ill named read taken inside =
     let rules = rules_in grammar in
     let lies = loop-inside (length file) rules number (extent span) inside ill.1 in
@@ -112,53 +112,53 @@ told-check file grammar (check.LeftRecursion path) ill named read taken inside =
     (inr (inl (subst (λ (l : List (List ℕ)). IsIllFormed file (LeftRecursion l))
     (sym (names-of-path rules path.items named)) (left_recursion path.items read taken ill.0 ill.1 ill.2 ill.3)))) tt
     (named-too rules (check.LeftRecursion path) named)
-told-check file grammar check.Memory ill named read taken inside = want_of_memory refl
+told-check file grammar check.Memory ill named read taken inside = out_of_memory refl
 
 -- ---- the code
 
 -- the cause of the compiler's fault for a well-formed grammar
-pub told-code : (file : List ℕ) (rules : List Rule) (why : CodeFault) → IsRead file rules → IsTaken rules
+pub told-code : (file : List ℕ) (rules : List Rule) (why : CodeFault) → IsRead file rules → IsAcceptedGrammar rules
     → IsWellFormedGrammar rules → (why ≡ code.CodeTooLarge → max_instructions < code_size rules)
-    → TellsWhy (Refuses file) (length file) (of_code why)
+    → HasCause (IsRefusalOf file) (length file) (of_code why)
 told-code file rules code.CodeTooLarge read taken formed over =
     of_cause CodeTooLarge refl (inr (inr (code_too_large read taken formed (over refl)))) tt tt
-told-code file rules code.Memory read taken formed over = want_of_memory refl
+told-code file rules code.Memory read taken formed over = out_of_memory refl
 
 -- ---- what refusals imply
 
 -- a file that is rejected before the check is rejected
-pub told-early : (file : List ℕ) (size : ℕ) (why : Refusal) → TellsWhy (IsNoGrammar file) size why
-    → TellsWhy (Refuses file) size why
-told-early file size why (want_of_memory is) = want_of_memory is
+pub told-early : (file : List ℕ) (size : ℕ) (why : Refusal) → HasCause (IsNoGrammar file) size why
+    → HasCause (IsRefusalOf file) size why
+told-early file size why (out_of_memory is) = out_of_memory is
 told-early file size why (of_cause cause tells holds starts named) = of_cause cause tells (inl holds) starts named
 
-shows : (file : List ℕ) (cause : Cause) → Refuses file cause → Shows file cause
+shows : (file : List ℕ) (cause : Cause) → IsRefusalOf file cause → RefusalImplies file cause
 shows file cause (inl (file_too_long over)) = tt
-shows file cause (inl (not_in_the_notation within none at)) = no_notation (λ reads. none (reads.0, reads.1, reads.2))
+shows file cause (inl (not_in_the_notation within none at)) = not_in_notation (λ reads. none (reads.0, reads.1, reads.2))
 shows file cause (inl (too_nested within deep at)) = tt
-shows file cause (inl (count_out_of_range within bad at)) = no_notation (λ reads. bad reads.0 reads.1 reads.2 reads.3)
+shows file cause (inl (count_out_of_range within bad at)) = not_in_notation (λ reads. bad reads.0 reads.1 reads.2 reads.3)
 shows file cause (inl (a_name_twice {rules} read twice)) =
-    no_grammar rules read.reading.0 (λ whole. let both : None ≡ Some _ = sym (searches_from_IsGrammar rules whole).1
+    not_a_grammar rules read.reading.0 (λ whole. let both : None ≡ Some _ = sym (searches_from_IsGrammar rules whole).1
     ∙ twice in cc)
 shows file cause (inl (a_name_missing {rules} read once missing)) =
-    no_grammar rules read.reading.0 (λ whole. let both : None ≡ Some _ = sym (searches_from_IsGrammar rules whole).2
+    not_a_grammar rules read.reading.0 (λ whole. let both : None ≡ Some _ = sym (searches_from_IsGrammar rules whole).2
     ∙ missing in cc)
 shows file cause (inl (too_many_parts read whole over)) = tt
-shows file cause (inr (inl (empty_loop {rules} number span read taken ill loop))) = ill_formed rules read.reading.0 ill
-shows file cause (inr (inl (left_recursion {rules} path read taken ill none cycle once))) = ill_formed rules read.reading.0 ill
+shows file cause (inr (inl (empty_loop {rules} number span read taken ill loop))) = not_well_formed rules read.reading.0 ill
+shows file cause (inr (inl (left_recursion {rules} path read taken ill none cycle once))) = not_well_formed rules read.reading.0 ill
 shows file cause (inr (inr (code_too_large read taken formed over))) = tt
 
-pub told-means : (file : List ℕ) (size : ℕ) (why : Refusal) → TellsWhy (Refuses file) size why → Means file why
-told-means file size why (want_of_memory is) =
-    subst (λ (w : Refusal). IfSome (cause_told w) (Shows file)) (sym is) tt
+pub told-means : (file : List ℕ) (size : ℕ) (why : Refusal) → HasCause (IsRefusalOf file) size why → RefusalMeaning file why
+told-means file size why (out_of_memory is) =
+    subst (λ (w : Refusal). IfSome (cause_of w) (RefusalImplies file)) (sym is) tt
 told-means file size why (of_cause cause tells holds starts named) =
-    subst (λ (told : Option Cause). IfSome told (Shows file)) (sym tells) (shows file cause holds)
+    subst (λ (told : Option Cause). IfSome told (RefusalImplies file)) (sym tells) (shows file cause holds)
 
 -- ---- accepted files
 
 -- the parser of a well-formed grammar of a file is that of an accepted file
 pub accepted-whole : (file : List ℕ) (grammar : Grammar) (result : Result Parser Refusal) → IsRead file (rules_in grammar)
-    → IsTaken (rules_in grammar) → IfOk result (λ parser. parser_rules parser ≡ rules_in grammar)
+    → IsAcceptedGrammar (rules_in grammar) → IfOk result (λ parser. parser_rules parser ≡ rules_in grammar)
     → OnOk result (IsWellFormedGrammar (rules_in grammar)) → OnOk result (code_size (rules_in grammar) ≤ max_instructions)
     → IfOk result (λ parser. Accepts file (parser_rules parser))
 accepted-whole file grammar (Ok parser) read taken same formed small =

@@ -3,7 +3,7 @@ use Rattle.std.proofs.Common.{◌≡◌, inl, inr, ℕ, zero, suc, List, [], ◌
 use Rattle.std.proofs.lemmas.List.Elements.{All-nil, All-cons, All-head, All-tail, All-append}
 use Rattle.peg_bytes.specs.Extent.{Extent}
 use Rattle.peg_semantics.specs.Form.{Form, Forms, Literal, Class, Any, Name, Seq, Choice, Optional, Star, Plus, Counted, And, Not, End, Then}
-use Rattle.peg_semantics.specs.Loops.{IsEmptyLoop, WritesLoop}
+use Rattle.peg_semantics.specs.Loops.{IsEmptyLoop, HasLoopOver}
 use Rattle.peg_semantics.specs.Rules.{Rule}
 use Rattle.peg_semantics.specs.WellFormed.{subexpressions, below, below_all}
 use Rattle.peg_notation.specs.Spans.{LiesIn, FormLiesIn, FormsLieIn, RuleLiesIn}
@@ -62,6 +62,6 @@ loop-inside size rules number span inside empty = by empty.written
         let body = (rule-inside size rules number empty.rule inside empty.numbered).1 in
         All-cons (FormLiesIn size) empty.rule.body (below empty.rule.body) body (below-inside size empty.rule.body body)
 
-    by : WritesLoop (subexpressions empty.rule.body) empty.part span → LiesIn size span
+    by : HasLoopOver (subexpressions empty.rule.body) empty.part span → LiesIn size span
     by (inl star) = (one_of_all (FormLiesIn size) (subexpressions empty.rule.body) (Star empty.part span) all star).0
     by (inr plus) = (one_of_all (FormLiesIn size) (subexpressions empty.rule.body) (Plus empty.part span) all plus).0

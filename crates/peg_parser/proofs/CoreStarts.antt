@@ -18,8 +18,8 @@ use Rattle.peg_core.proofs.Meanings.{length-core_bodies}
 use Rattle.peg_core.proofs.SugarRecords.{IsRecord-from_core}
 use Rattle.peg_semantics.specs.Form.{Form, Name, terminals}
 use Rattle.peg_semantics.specs.Grammar.{IsGrammar}
-use Rattle.peg_semantics.specs.Rules.{Meaning, Rule, meant_from, name_of, names}
-use Rattle.peg_grammar.specs.Outcomes.{IsOutcome}
+use Rattle.peg_semantics.specs.Rules.{Meaning, Rule, meaning_from, name_of, names}
+use Rattle.peg_grammar.specs.Outcomes.{IsParseOutcome}
 use Rattle.peg_machine.specs.CoreOutcome.{IsCoreOutcome}
 use Rattle.peg_tree.specs.declared.outcome.Outcome.{Outcome}
 use Rattle.peg_parser.specs.Parser.{parser_rules}
@@ -35,25 +35,25 @@ abbrev number : Option Meaning → Option ℕ
 number = option_map (λ (m : Meaning). m.rule)
 
 -- if the names are distinct, a rule's name means the rule
-meant_from-number : (first terminal : ℕ) (rules : List Rule) (rule : ℕ) → Differ (names rules) → rule < length rules
-    → number (meant_from first terminal rules (name_of rules rule)) ≡ Some (rule + first)
-meant_from-number first terminal [] rule differ less = absurd (omega arith)
-meant_from-number first terminal (r ∷ rs) zero differ less =
+meaning_from-number : (first terminal : ℕ) (rules : List Rule) (rule : ℕ) → Differ (names rules) → rule < length rules
+    → number (meaning_from first terminal rules (name_of rules rule)) ≡ Some (rule + first)
+meaning_from-number first terminal [] rule differ less = absurd (omega arith)
+meaning_from-number first terminal (r ∷ rs) zero differ less =
     let here : Option Meaning = Some (record { rule = first; terminal = terminal; body = r.body }) in
-    let later : Option Meaning = meant_from (first + 1) (terminal + terminals r.body) rs r.name in
+    let later : Option Meaning = meaning_from (first + 1) (terminal + terminals r.body) rs r.name in
     let same : bytes_eq r.name r.name ≡ true = (bytes_eq-Decides r.name r.name).1 refl in
     ap (λ (b : Bool). number (if b then here else later)) same ∙ ap Some (sym (zero-add first))
-meant_from-number first terminal (r ∷ rs) (suc rule) differ less =
+meaning_from-number first terminal (r ∷ rs) (suc rule) differ less =
     let name : List ℕ = name_of rs rule in
     let here : Option Meaning = Some (record { rule = first; terminal = terminal; body = r.body }) in
-    let later : Option Meaning = meant_from (first + 1) (terminal + terminals r.body) rs name in
+    let later : Option Meaning = meaning_from (first + 1) (terminal + terminals r.body) rs name in
     let count : length (names rs) ≡ length rs = length-map rs (λ rule. rule.name) in
     let other : bytes_eq name r.name ≡ false = false_from_ne_true _ (λ same.
     differ 0 (suc rule) [] (omega arith) (omega arith)
     (sym ((bytes_eq-Decides name r.name).0 same) ∙ sym (name-numbered rs rule (omega arith)))) in
     let next : rule + (first + 1) ≡ suc rule + first = omega arith in
     ap (λ (b : Bool). number (if b then here else later)) other
-    ∙ meant_from-number (first + 1) (terminal + terminals r.body) rs rule
+    ∙ meaning_from-number (first + 1) (terminal + terminals r.body) rs rule
     (λ i j d before within. differ (suc i) (suc j) d (omega arith) (omega arith)) (omega arith)
     ∙ ap Some next
 
@@ -61,7 +61,7 @@ meant_from-number first terminal (r ∷ rs) (suc rule) differ less =
 number_of-named : (rules : List Rule) (start : ℕ) → start < length rules → IsGrammar rules
     → number_of rules (name_of rules start) ≡ start
 number_of-named rules start less grammar =
-    ap (λ (found : Option ℕ). unwrap_or found (length rules)) (meant_from-number 0 0 rules start grammar.distinct less)
+    ap (λ (found : Option ℕ). unwrap_or found (length rules)) (meaning_from-number 0 0 rules start grammar.distinct less)
     ∙ add-zero start
 
 -- ---- facts about a parser's program
@@ -87,7 +87,7 @@ number-named parser start less =
 -- the outcome of a rule's call on core forms is that of the rule's name
 written-outcome : (rules : List Rule) (text : List ℕ) (start : ℕ) (outcome : Outcome) → AreBytes text
     → number_of rules (name_of rules start) ≡ start → IsCoreOutcome (core_bodies rules) text start outcome
-    → IsOutcome rules text (name_of rules start) outcome
+    → IsParseOutcome rules text (name_of rules start) outcome
 written-outcome rules text start outcome bytes same is =
     let held = is.1 in
     let name : Form = Name (name_of rules start) (between 0 0) in
@@ -99,7 +99,7 @@ written-outcome rules text start outcome bytes same is =
 -- the result of a parser's program on a text is the outcome of the grammar as written
 pub parser-outcome : (parser : Parser) (text : List ℕ) (start : ℕ) (outcome : Outcome) → AreBytes text
     → start < length (parser_rules parser) → IsCoreOutcome (bodies_of parser.program.core) text start outcome
-    → IsOutcome (parser_rules parser) text (name_of (parser_rules parser) start) outcome
+    → IsParseOutcome (parser_rules parser) text (name_of (parser_rules parser) start) outcome
 parser-outcome parser text start outcome bytes less is =
     let rules = parser_rules parser in
     written-outcome rules text start outcome bytes (number-named parser start less)

@@ -12,11 +12,11 @@ use Rattle.peg_semantics.specs.Form.{Count}
 use Rattle.peg_semantics.specs.Rules.{weight_of}
 use Rattle.peg_semantics.specs.WellFormed.{IsWellFormedGrammar}
 use Rattle.peg_grammar.specs.GrammarRules.{rules_in}
-use Rattle.peg_grammar.specs.Refusal.{Refuses}
+use Rattle.peg_grammar.specs.Refusal.{IsRefusedBy}
 use Rattle.peg_grammar.specs.declared.fault.GrammarFault.{GrammarFault}
 use Rattle.peg_grammar.specs.declared.fault.GrammarFault.TheVariants as grammar
 use Rattle.peg_grammar.specs.declared.grammar.Grammar.{Grammar}
-use Rattle.peg_parser.specs.Faults.{of_check, of_code}
+use Rattle.peg_parser.specs.Faults.{from_check, of_code}
 use Rattle.peg_parser.specs.declared.refusal.Refusal.{Refusal}
 use Rattle.peg_parser.specs.declared.refusal.Refusal.TheVariants as refusal
 
@@ -41,7 +41,7 @@ unfolding figure
 not_empty is = cc
 
 -- the only fault of a grammar that the metagrammar can have is out of memory
-pub grammar_memory : (fault : GrammarFault) → Refuses figure fault → fault ≡ grammar.Memory
+pub grammar_memory : (fault : GrammarFault) → IsRefusedBy figure fault → fault ≡ grammar.Memory
 grammar_memory grammar.NoRule is = absurd (not_empty is)
 grammar_memory (grammar.Duplicate name span) is = absurd (let bad : Some _ ≡ None = sym is ∙ no_duplicate in cc)
 grammar_memory (grammar.Undefined name span) is = absurd (let bad : Some _ ≡ None = sym is.1 ∙ none_undefined in cc)
@@ -52,7 +52,7 @@ grammar_memory grammar.Memory is = refl
 
 -- the same for the check and the compiler
 pub check_memory : (g : Grammar) (fault : CheckFault) → IsIllFormedBy (rules_in g) fault → IsWellFormedGrammar (rules_in g)
-    → of_check fault g ≡ refusal.Memory
+    → from_check fault g ≡ refusal.Memory
 check_memory g (check.EmptyLoop rule span) is formed = absurd (is.0 formed)
 check_memory g (check.LeftRecursion path) is formed = absurd (is.0 formed)
 check_memory g check.Memory is formed = refl

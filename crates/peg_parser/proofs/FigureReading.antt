@@ -8,23 +8,23 @@ use Rattle.peg_tree.specs.declared.outcome.Outcome.{Outcome}
 use Rattle.peg_tree.specs.declared.outcome.Parsed.TheVariants as parsed
 use Rattle.peg_semantics.specs.Record.{Recognition, Failed, Matched}
 use Rattle.peg_semantics.specs.Rules.{Rule}
-use Rattle.peg_semantics.specs.Starts.{start_of}
+use Rattle.peg_semantics.specs.Starts.{start_name}
 use Rattle.peg_semantics.proofs.Derivations.{one_result}
 use Rattle.peg_metagrammar.specs.Figure.{figure}
 use Rattle.peg_metagrammar.specs.Nesting.{nesting, max_open}
 use Rattle.peg_metagrammar.specs.Notation.{FigureMatches, IsReading, max_file_bytes}
-use Rattle.peg_metagrammar.specs.Spelled.{bad_counts, rules_spelled}
-use Rattle.peg_grammar.specs.Outcomes.{IsOutcome, parsed_of}
+use Rattle.peg_metagrammar.specs.Denotation.{bad_counts, rules_spelled}
+use Rattle.peg_grammar.specs.Outcomes.{IsParseOutcome, parsed_of}
 use Rattle.peg_grammar.specs.Written.{rules_of}
 use Rattle.peg_grammar.specs.declared.expr.Definition.{Definition}
 use Rattle.peg_notation.specs.Reads.{IsReadingWithin, NestsDeeper, NestsWithin}
-use Rattle.peg_bootstrap.specs.FigureTrees.{IsTreeOf, TellsBadCount}
+use Rattle.peg_bootstrap.specs.FigureTrees.{IsTreeOf, HasNestingOrBadCount}
 use Rattle.peg_bootstrap.proofs.Inversions.{derives}
 use Rattle.peg_bootstrap.specs.declared.fault.DefinitionsFault.{DefinitionsFault}
 use Rattle.peg_bootstrap.specs.declared.fault.DefinitionsFault.TheVariants as definitions
 use Rattle.peg_parser.specs.ReadsByFigure.{ReadsByFigure, AgreesWithRead, of_definitions}
-use Rattle.peg_parser.specs.declared.figure_reader.FigureFault.{FigureFault}
-use Rattle.peg_parser.specs.declared.figure_reader.FigureFault.TheVariants.{FileTooLong, NotInFigure, TooNested, BadCount, Memory}
+use Rattle.peg_parser.specs.declared.meta_reader.FigureFault.{FigureFault}
+use Rattle.peg_parser.specs.declared.meta_reader.FigureFault.TheVariants.{FileTooLong, NotInFigure, TooNested, BadCount, Memory}
 
 -- ---- a file has one tree
 
@@ -51,18 +51,18 @@ one_reading file a b m n =
 
 -- ---- the outcome
 
-pub start-figure : start_of figure None ≡ Some (codes "Grammar")
+pub start-figure : start_name figure None ≡ Some (codes "Grammar")
 unfolding figure
 start-figure = refl
 
 -- an outcome of the metagrammar's parse, from its first rule
 pub outcome_of : (rules : List Rule) (file : List ℕ) (outcome : Outcome) → rules ≡ figure
-    → IfSome (start_of rules None) (λ start. IsOutcome rules file start outcome) → IsOutcome figure file (codes "Grammar") outcome
+    → IfSome (start_name rules None) (λ start. IsParseOutcome rules file start outcome) → IsParseOutcome figure file (codes "Grammar") outcome
 outcome_of rules file outcome is told =
-    subst (λ (o : Option (List ℕ)). IfSome o (λ start. IsOutcome figure file start outcome)) start-figure
-    (subst (λ (r : List Rule). IfSome (start_of r None) (λ start. IsOutcome r file start outcome)) is told)
+    subst (λ (o : Option (List ℕ)). IfSome o (λ start. IsParseOutcome figure file start outcome)) start-figure
+    (subst (λ (r : List Rule). IfSome (start_name r None) (λ start. IsParseOutcome r file start outcome)) is told)
 
-pub matched_tree : (file : List ℕ) (outcome : Outcome) → IsOutcome figure file (codes "Grammar") outcome → (end : ℕ) (tree : Trees)
+pub matched_tree : (file : List ℕ) (outcome : Outcome) → IsParseOutcome figure file (codes "Grammar") outcome → (end : ℕ) (tree : Trees)
     → outcome.result ≡ parsed.Matched end tree → IsTreeOf file tree
 matched_tree file outcome is end tree told = by is.1.0.result refl (sym told ∙ is.1.2)
   where
@@ -73,7 +73,7 @@ matched_tree file outcome is end tree told = by is.1.0.result refl (sym told ∙
         let trees : t ≡ tree = cc in
         subst (IsTreeOf file) trees (e, (is.1.0, (is.0, is.1.1), at))
 
-pub failed_none : (file : List ℕ) (outcome : Outcome) → IsOutcome figure file (codes "Grammar") outcome
+pub failed_none : (file : List ℕ) (outcome : Outcome) → IsParseOutcome figure file (codes "Grammar") outcome
     → outcome.result ≡ parsed.Failed → ¬ FigureMatches file
 failed_none file outcome is told m = by is.1.0.result refl (sym told ∙ is.1.2)
   where
@@ -106,7 +106,7 @@ agree file read (Err Memory) by_hand by_figure some = absurd (some refl)
 -- what a fault of a tree's definitions implies about the file
 pub told_definitions : (file : List ℕ) (tree : Trees) (why : DefinitionsFault) → length file ≤ max_file_bytes → IsTreeOf file tree
     → (IsErrOf {T = Vec Definition Global} (Err why) definitions.TooNested → max_open < nesting tree)
-    → TellsBadCount file tree why
+    → HasNestingOrBadCount file tree why
     → (result : Result (Vec Definition Global) FigureFault) → IsErrAnd result (λ told. told ≡ of_definitions why)
     → ReadsByFigure file result
 told_definitions file tree definitions.TooNested short m deep bad (Err told) is =

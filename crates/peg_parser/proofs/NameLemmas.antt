@@ -6,7 +6,7 @@ use Rattle.std.proofs.lemmas.List.Elements.{All-nil, All-cons, All-head, All-tai
 use Rattle.peg_semantics.specs.Form.{Form, Forms, Reference, Literal, Class, Any, Name, Seq, Choice, Optional, Star}
 use Rattle.peg_semantics.specs.Form.{Plus, Counted, And, Not, End, Then, names_used, names_used_by_all}
 use Rattle.peg_semantics.specs.Grammar.{duplicate_after, first_duplicate, first_undefined}
-use Rattle.peg_semantics.specs.Rules.{Rule, uses, defined_at, is_defined}
+use Rattle.peg_semantics.specs.Rules.{Rule, references, defined_at, is_defined}
 use Rattle.peg_notation.specs.Spans.{LiesIn, FormLiesIn, FormsLieIn, RuleLiesIn}
 
 -- a name within a file of this length
@@ -53,12 +53,12 @@ mutual
       All-append (StandsIn size) (names_used e) (names_used_by_all rest) (names-inside size e inside.0)
       (all_names-inside size rest inside.1)
 
-uses-inside : (size : ℕ) (rules : List Rule) → All (RuleLiesIn size) rules → All (StandsIn size) (uses rules)
-uses-inside size [] inside = All-nil (StandsIn size)
-uses-inside size (rule ∷ rules) inside =
-    All-append (StandsIn size) (names_used rule.body) (uses rules)
+references-inside : (size : ℕ) (rules : List Rule) → All (RuleLiesIn size) rules → All (StandsIn size) (references rules)
+references-inside size [] inside = All-nil (StandsIn size)
+references-inside size (rule ∷ rules) inside =
+    All-append (StandsIn size) (names_used rule.body) (references rules)
     (names-inside size rule.body (All-head (RuleLiesIn size) rule rules inside).1)
-    (uses-inside size rules (All-tail (RuleLiesIn size) rule rules inside))
+    (references-inside size rules (All-tail (RuleLiesIn size) rule rules inside))
 
 -- a name that a search finds is in the list
 found-inside : (size : ℕ) (test : Reference → Bool) (names : List Reference) (name : Reference)
@@ -83,6 +83,6 @@ twice-inside size rules name inside is =
 pub missing-inside : (size : ℕ) (rules : List Rule) (name : Reference) → All (RuleLiesIn size) rules
     → first_undefined rules ≡ Some name → name.span.start ≤ size
 missing-inside size rules name inside is =
-    let lies = found-inside size (λ (reference : Reference). not (is_defined rules reference.name)) (uses rules) name
-    (uses-inside size rules inside) is in
+    let lies = found-inside size (λ (reference : Reference). not (is_defined rules reference.name)) (references rules) name
+    (references-inside size rules inside) is in
     omega (arith, lies.0, lies.1)

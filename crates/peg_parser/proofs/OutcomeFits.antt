@@ -1,6 +1,6 @@
 -- The tree of an outcome has rules of the grammar, and its terminals are the grammar's.
 use Rattle.std.proofs.Common.{◌≡◌, ℕ, List, length, refl, sym, Some}
-use Rattle.peg_grammar.specs.Outcomes.{IsOutcome, parsed_of}
+use Rattle.peg_grammar.specs.Outcomes.{IsParseOutcome, parsed_of}
 use Rattle.peg_semantics.specs.Record.{Recognition, Record, start_record}
 use Rattle.peg_semantics.specs.Record as recognition
 use Rattle.peg_semantics.specs.Rules.{Rule}
@@ -34,7 +34,7 @@ result-fits rules text n start r found parsed.Failed is = tt
 result-fits rules text n start r found (parsed.Matched end tree) is =
     start_record-rules rules text n start r end tree found (parsed-matched r.result end tree is)
 
-pub outcome-fits : (rules : List Rule) (text start : List ℕ) (outcome : Outcome) → IsOutcome rules text start outcome
+pub outcome-fits : (rules : List Rule) (text start : List ℕ) (outcome : Outcome) → IsParseOutcome rules text start outcome
     → Fits rules outcome
 outcome-fits rules text start outcome is =
     let held = is.1 in

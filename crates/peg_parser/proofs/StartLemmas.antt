@@ -8,7 +8,7 @@ use Rattle.std.proofs.lemmas.List.Quantifiers.{position-Some}
 use Rattle.std.proofs.lemmas.Slice.Eq.{bytes_eq-Decides}
 use Rattle.std.specs.List.{list_any, position_or_len}
 use Rattle.peg_semantics.specs.Rules.{Rule, names, name_of}
-use Rattle.peg_semantics.specs.Starts.{start_of}
+use Rattle.peg_semantics.specs.Starts.{start_name}
 use Rattle.peg_parser.proofs.RuleNames.{name-numbered}
 
 -- if the search reaches the end, no item passes
@@ -29,12 +29,12 @@ some-found : {X : Type 0} (p : X → Bool) (xs : List X) (at : ℕ) (d : X) → 
 some-found p xs at d is = let found = position-Some p xs at d is in list_any_at p xs at d found.0 found.1
 
 start-none : (rules : List Rule) (name : List ℕ) → position (bytes_eq name) (names rules) ≡ None
-    → start_of rules (Some name) ≡ None
+    → start_name rules (Some name) ≡ None
 start-none rules name none =
     ap (λ (b : Bool). if b then Some name else None) (none-found (bytes_eq name) (names rules) none)
 
 start-some : (rules : List Rule) (name : List ℕ) (k : ℕ) → position (bytes_eq name) (names rules) ≡ Some k
-    → start_of rules (Some name) ≡ Some (name_of rules k)
+    → start_name rules (Some name) ≡ Some (name_of rules k)
 start-some rules name k is =
     let found = position-Some (bytes_eq name) (names rules) k [] is in
     let same : name ≡ get_or (names rules) k [] = (bytes_eq-Decides name (get_or (names rules) k [])).0 found.1 in
@@ -44,15 +44,15 @@ start-some rules name k is =
 -- a start by name has the number at which its name is found, and none if it isn't found
 pub start-numbered : (rules : List Rule) (start : Option (List ℕ)) (name : List ℕ) (found : Option ℕ)
     → start ≡ Some name → found ≡ position (bytes_eq name) (names rules)
-    → IfSome found (λ k. start_of rules start ≡ Some (name_of rules k))
+    → IfSome found (λ k. start_name rules start ≡ Some (name_of rules k))
 start-numbered rules start name None named is = tt
-start-numbered rules start name (Some k) named is = ap (start_of rules) named ∙ start-some rules name k (sym is)
+start-numbered rules start name (Some k) named is = ap (start_name rules) named ∙ start-some rules name k (sym is)
 
 pub start-missing : (rules : List Rule) (start : Option (List ℕ)) (name : List ℕ) (found : Option ℕ)
     → start ≡ Some name → found ≡ position (bytes_eq name) (names rules)
-    → (found ≡ None) ↔ (start_of rules start ≡ None)
+    → (found ≡ None) ↔ (start_name rules start ≡ None)
 start-missing rules start name None named is =
-    (λ none. ap (start_of rules) named ∙ start-none rules name (sym is), λ none. refl)
+    (λ none. ap (start_name rules) named ∙ start-none rules name (sym is), λ none. refl)
 start-missing rules start name (Some k) named is =
-    let there = ap (start_of rules) named ∙ start-some rules name k (sym is) in
+    let there = ap (start_name rules) named ∙ start-some rules name k (sym is) in
     (λ none. cc, λ none. let both : Some (name_of rules k) ≡ None = sym there ∙ none in cc)

@@ -16,7 +16,7 @@ pub record IsRead (file : List ℕ) (rules : List Rule) : Type 0 where
   pub reading : IsReadingWithin max_open file rules
 
 -- the rules are a grammar whose weight is within the limit
-pub record IsTaken (rules : List Rule) : Type 0 where
+pub record IsAcceptedGrammar (rules : List Rule) : Type 0 where
   pub grammar : IsGrammar rules
   pub light : weight_of rules ≤ max_parts
 
@@ -27,6 +27,6 @@ code_size rules = length (program_code (core_bodies rules))
 -- the reading of an accepted file: a well-formed grammar whose code is within the limit
 pub record Accepts (file : List ℕ) (rules : List Rule) : Type 0 where
   pub read : IsRead file rules
-  pub taken : IsTaken rules
+  pub taken : IsAcceptedGrammar rules
   pub well_formed : IsWellFormedGrammar rules
   pub small : code_size rules ≤ max_instructions

@@ -17,7 +17,7 @@ use Rattle.peg_notation.specs.declared.fault.NotationFault.TheVariants as notati
 use Rattle.peg_tree.specs.Names.{name_at}
 use Rattle.peg_parser.specs.Cause.{Cause, FileTooLong, Syntax, TooNested, BadCount, NoRule, Duplicate, Undefined}
 use Rattle.peg_parser.specs.Cause.{TooManyParts, EmptyLoop, LeftRecursion, CodeTooLarge, reference}
-use Rattle.peg_parser.specs.Refusals.{Shows}
+use Rattle.peg_parser.specs.Refusals.{RefusalImplies}
 use Rattle.peg_parser.specs.declared.refusal.Refusal.{Refusal}
 use Rattle.peg_parser.specs.declared.refusal.Refusal.TheVariants as refusal
 
@@ -52,13 +52,13 @@ refusal_cause names refusal.CodeTooLarge = Some CodeTooLarge
 refusal_cause names refusal.Memory = None
 
 -- the names that a refusal has for the rules that it refers to by number
-abbrev pub names_told : Refusal → List (List ℕ)
-names_told (refusal.NotWellFormed why grammar) = names (rules_in grammar)
-names_told other = []
+abbrev pub refusal_names : Refusal → List (List ℕ)
+refusal_names (refusal.NotWellFormed why grammar) = names (rules_in grammar)
+refusal_names other = []
 
 -- the cause of a refusal, by its own names
-abbrev pub cause_told : Refusal → Option Cause
-cause_told why = refusal_cause (names_told why) why
+abbrev pub cause_of : Refusal → Option Cause
+cause_of why = refusal_cause (refusal_names why) why
 
 -- ---- the offsets of causes
 
@@ -79,7 +79,7 @@ RefusalNames count other = Unit {0}
 
 -- ---- how faults are converted
 
--- out of memory is `Memory` in every stage
+-- out of memory is `MemoState` in every stage
 abbrev pub of_notation : NotationFault → Refusal
 of_notation notation.Memory = refusal.Memory
 of_notation why = refusal.Notation why
@@ -88,9 +88,9 @@ abbrev pub of_grammar : GrammarFault → Refusal
 of_grammar grammar.Memory = refusal.Memory
 of_grammar why = refusal.Grammar why
 
-abbrev pub of_check : CheckFault → Grammar → Refusal
-of_check check.Memory grammar = refusal.Memory
-of_check why grammar = refusal.NotWellFormed why grammar
+abbrev pub from_check : CheckFault → Grammar → Refusal
+from_check check.Memory grammar = refusal.Memory
+from_check why grammar = refusal.NotWellFormed why grammar
 
 abbrev pub of_code : CodeFault → Refusal
 of_code code.CodeTooLarge = refusal.CodeTooLarge
@@ -98,15 +98,15 @@ of_code code.Memory = refusal.Memory
 
 -- A refusal has a cause of this kind. The cause starts within a file of this length, and the refusal has names for the
 -- rules that it refers to by number. Or an allocation failed.
-pub data TellsWhy (Kind : Cause → Type 0) (size : ℕ) (why : Refusal) : Type 0 where
-  want_of_memory : why ≡ refusal.Memory → TellsWhy Kind size why
-  of_cause : (cause : Cause) → cause_told why ≡ Some cause → Kind cause → StartsIn size cause
-      → RefusalNames (length (names_told why)) why → TellsWhy Kind size why
+pub data HasCause (Kind : Cause → Type 0) (size : ℕ) (why : Refusal) : Type 0 where
+  out_of_memory : why ≡ refusal.Memory → HasCause Kind size why
+  of_cause : (cause : Cause) → cause_of why ≡ Some cause → Kind cause → StartsIn size cause
+      → RefusalNames (length (refusal_names why)) why → HasCause Kind size why
 
 -- a refusal that a file of this length can have
-abbrev pub IsTellable : (size : ℕ) → Refusal → Type 0
-IsTellable size why = TellsWhy (λ cause. Unit {0}) size why
+abbrev pub IsTrueRefusal : (size : ℕ) → Refusal → Type 0
+IsTrueRefusal size why = HasCause (λ cause. Unit {0}) size why
 
 -- what a refusal implies about the file
-abbrev pub Means : List ℕ → Refusal → Type 0
-Means file why = IfSome (cause_told why) (Shows file)
+abbrev pub RefusalMeaning : List ℕ → Refusal → Type 0
+RefusalMeaning file why = IfSome (cause_of why) (RefusalImplies file)

@@ -10,9 +10,9 @@ use Rattle.peg_notation.specs.Reads.{IsReadingWithin, NestsDeeper, NestsWithin, 
 use Rattle.peg_tree.specs.Trees.{Trees}
 use Rattle.peg_bootstrap.specs.declared.fault.DefinitionsFault.{DefinitionsFault}
 use Rattle.peg_bootstrap.specs.declared.fault.DefinitionsFault.TheVariants as definitions
-use Rattle.peg_parser.specs.declared.figure_reader.FigureFault.{FigureFault}
-use Rattle.peg_parser.specs.declared.figure_reader.FigureFault.TheVariants.{FileTooLong, NotInFigure, TooNested, BadCount}
-use Rattle.peg_parser.specs.declared.figure_reader.FigureFault.TheVariants.{Memory}
+use Rattle.peg_parser.specs.declared.meta_reader.FigureFault.{FigureFault}
+use Rattle.peg_parser.specs.declared.meta_reader.FigureFault.TheVariants.{FileTooLong, NotInFigure, TooNested, BadCount}
+use Rattle.peg_parser.specs.declared.meta_reader.FigureFault.TheVariants.{Memory}
 
 -- the metagrammar matches the file, and its first count out of range starts at this offset
 abbrev pub HasFirstBadCount : List ℕ → (at : ℕ) → Type 0

@@ -12,7 +12,7 @@ use Rattle.peg_lexer.specs.Tokens.{IsLexingFault}
 use Rattle.peg_metagrammar.specs.Nesting.{max_open}
 use Rattle.peg_notation.specs.Reads.{CountsOutOfRange, IsBadCountToken, IsOneTooMany, IsTokenPlace, NestsDeeper}
 use Rattle.peg_code.specs.Compiled.{max_instructions}
-use Rattle.peg_parser.specs.Accepts.{IsRead, IsTaken, code_size}
+use Rattle.peg_parser.specs.Accepts.{IsRead, IsAcceptedGrammar, code_size}
 use Rattle.peg_parser.specs.Cause.{Cause, FileTooLong, Syntax, TooNested, BadCount, Duplicate, Undefined, TooManyParts}
 use Rattle.peg_parser.specs.Cause.{EmptyLoop, LeftRecursion, CodeTooLarge, reference}
 
@@ -38,34 +38,34 @@ pub data IsNoGrammar (file : List ℕ) : Cause → Type 0 where
 
 -- the grammar of the file isn't well-formed; the rules of a left cycle are distinct
 pub data IsIllFormed (file : List ℕ) : Cause → Type 0 where
-  empty_loop : {rules : List Rule} (number : ℕ) (span : Extent) → IsRead file rules → IsTaken rules
+  empty_loop : {rules : List Rule} (number : ℕ) (span : Extent) → IsRead file rules → IsAcceptedGrammar rules
       → ¬ IsWellFormedGrammar rules → IsEmptyLoop rules number span
       → IsIllFormed file (EmptyLoop (reference (name_of rules number) span))
-  left_recursion : {rules : List Rule} (path : List ℕ) → IsRead file rules → IsTaken rules
+  left_recursion : {rules : List Rule} (path : List ℕ) → IsRead file rules → IsAcceptedGrammar rules
       → ¬ IsWellFormedGrammar rules → ((number : ℕ) (span : Extent) → ¬ IsEmptyLoop rules number span)
       → IsLeftCycle rules path → AllDiffer path → IsIllFormed file (LeftRecursion (map (name_of rules) path))
 
 -- the grammar of the file is well-formed, but its code is too large
 pub data HasTooMuchCode (file : List ℕ) : Cause → Type 0 where
-  code_too_large : {rules : List Rule} → IsRead file rules → IsTaken rules → IsWellFormedGrammar rules
+  code_too_large : {rules : List Rule} → IsRead file rules → IsAcceptedGrammar rules → IsWellFormedGrammar rules
       → max_instructions < code_size rules → HasTooMuchCode file CodeTooLarge
 
 -- why a file isn't accepted
-abbrev pub Refuses : List ℕ → Cause → Type 0
-Refuses file cause = IsNoGrammar file cause ⊎ (IsIllFormed file cause ⊎ HasTooMuchCode file cause)
+abbrev pub IsRefusalOf : List ℕ → Cause → Type 0
+IsRefusalOf file cause = IsNoGrammar file cause ⊎ (IsIllFormed file cause ⊎ HasTooMuchCode file cause)
 
 -- ---- what a refusal implies
 
 -- the file isn't in the notation; or its rules are no grammar, or no well-formed one
-pub data IsWrong (file : List ℕ) : Type 0 where
-  no_notation : ¬ IsInNotation file → IsWrong file
-  no_grammar : (rules : List Rule) → IsReading file rules → ¬ IsGrammar rules → IsWrong file
-  ill_formed : (rules : List Rule) → IsReading file rules → ¬ IsWellFormedGrammar rules → IsWrong file
+pub data NotAGrammar (file : List ℕ) : Type 0 where
+  not_in_notation : ¬ IsInNotation file → NotAGrammar file
+  not_a_grammar : (rules : List Rule) → IsReading file rules → ¬ IsGrammar rules → NotAGrammar file
+  not_well_formed : (rules : List Rule) → IsReading file rules → ¬ IsWellFormedGrammar rules → NotAGrammar file
 
 -- a refusal for a stated limit says nothing about the file's grammar; any other implies that it is wrong
-abbrev pub Shows : List ℕ → Cause → Type 0
-Shows file FileTooLong = Unit {0}
-Shows file (TooNested at) = Unit {0}
-Shows file TooManyParts = Unit {0}
-Shows file CodeTooLarge = Unit {0}
-Shows file other = IsWrong file
+abbrev pub RefusalImplies : List ℕ → Cause → Type 0
+RefusalImplies file FileTooLong = Unit {0}
+RefusalImplies file (TooNested at) = Unit {0}
+RefusalImplies file TooManyParts = Unit {0}
+RefusalImplies file CodeTooLarge = Unit {0}
+RefusalImplies file other = NotAGrammar file

@@ -7,8 +7,8 @@ ghost use Rattle.peg_semantics.specs.Terminals.{extents_of_terminals};
 ghost use Rattle.peg_semantics.specs.WellFormed.{IsWellFormedGrammar};
 ghost use Rattle.peg_grammar.specs.GrammarRules.{rules_in};
 ghost use Rattle.peg_notation.specs.Spans.{RuleLiesIn};
-ghost use Rattle.peg_parser.specs.Accepts.{IsRead, IsTaken};
-ghost use Rattle.peg_parser.specs.Faults.{TellsWhy};
+ghost use Rattle.peg_parser.specs.Accepts.{IsRead, IsAcceptedGrammar};
+ghost use Rattle.peg_parser.specs.Faults.{HasCause};
 ghost use Rattle.peg_parser.specs.Refusals.{IsNoGrammar};
 
 use crate::refusal::Refusal;
@@ -23,9 +23,9 @@ use std::alloc::Global;
 #[tactic(auto, using(crate::proofs::AcceptLemmas::accepting))]
 pub fn grammar_of(alloc: Global, file: &[u8]) -> Result<Grammar, Refusal>
     ensures read { IfOk result (λ grammar. IsRead file.now (rules_in grammar)) }
-    ensures taken { IfOk result (λ grammar. IsTaken (rules_in grammar)) }
+    ensures taken { IfOk result (λ grammar. IsAcceptedGrammar (rules_in grammar)) }
     ensures inside { IfOk result (λ grammar. All (RuleLiesIn (length file.now)) (rules_in grammar)) }
-    ensures refused { IfErr result (TellsWhy (IsNoGrammar file.now) (length file.now)) }
+    ensures refused { IfErr result (HasCause (IsNoGrammar file.now) (length file.now)) }
 {
     let definitions = read(alloc, file)?;
     let grammar = Grammar::new(alloc, definitions)?;

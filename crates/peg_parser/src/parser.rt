@@ -8,10 +8,10 @@ ghost use Rattle.peg_core.specs.Layout.{bodies_of};
 ghost use Rattle.peg_code.specs.Code.{entries_of, program_code};
 ghost use Rattle.peg_code.specs.Compiled.{max_instructions};
 ghost use Rattle.peg_grammar.specs.GrammarRules.{rules_in};
-ghost use Rattle.peg_grammar.specs.Outcomes.{IsOutcome};
+ghost use Rattle.peg_grammar.specs.Outcomes.{IsParseOutcome};
 ghost use Rattle.peg_semantics.specs.Terminals.{extents_of_terminals};
 ghost use Rattle.peg_semantics.specs.WellFormed.{IsWellFormedGrammar};
-ghost use Rattle.peg_machine.specs.CoreOutcome.{TakesMore};
+ghost use Rattle.peg_machine.specs.CoreOutcome.{ExceedsStepLimit};
 
 use crate::layers::{checked_core, grammar_of};
 use crate::options::ParseOptions;
@@ -69,14 +69,14 @@ impl From<AllocError> for ParseFault {
 impl Parser {
     ghost use Rattle.peg_semantics.specs.Rules.{name_of};
     ghost use Rattle.peg_notation.specs.Spans.{RuleLiesIn};
-    ghost use Rattle.peg_parser.specs.Accepts.{Accepts, IsRead, IsTaken, code_size};
-    ghost use Rattle.peg_parser.specs.Faults.{Means, TellsWhy};
+    ghost use Rattle.peg_parser.specs.Accepts.{Accepts, IsRead, IsAcceptedGrammar, code_size};
+    ghost use Rattle.peg_parser.specs.Faults.{RefusalMeaning, HasCause};
     ghost use Rattle.peg_parser.specs.Fits.{Fits};
     ghost use Rattle.peg_parser.specs.Parser.{parser_rules, start_named};
-    ghost use Rattle.peg_parser.specs.Refusals.{Refuses};
+    ghost use Rattle.peg_parser.specs.Refusals.{IsRefusalOf};
     ghost use Rattle.peg_parser.specs.StepLimits.{TakesMoreSteps};
     ghost use Rattle.peg_grammar.specs.Limits.{max_text_bytes};
-    ghost use Rattle.peg_semantics.specs.Starts.{start_of};
+    ghost use Rattle.peg_semantics.specs.Starts.{start_name};
 
     /// Returns the parser of a grammar file, or why the file is rejected. The tests come in this order: the notation,
     /// a grammar, a well-formed grammar (Ford 2004, figure 1 and sections 3.1 and 3.6), and the size of its code.
@@ -86,22 +86,23 @@ impl Parser {
     #[tactic(auto, using(crate::proofs::AcceptLemmas::accepting))]
     pub fn from_file(alloc: Global, file: &[u8]) -> Result<Parser, Refusal>
         ensures accepted { IfOk result (λ parser. Accepts file.now (parser_rules parser)) }
-        ensures refused { IfErr result (TellsWhy (Refuses file.now) (length file.now)) }
-        ensures wrong { IfErr result (Means file.now) }
+        ensures refused { IfErr result (HasCause (IsRefusalOf file.now) (length file.now)) }
+        ensures wrong { IfErr result (RefusalMeaning file.now) }
     {
         match grammar_of(alloc, file) {
-            Ok(grammar) => Parser::of(alloc, grammar),
+            Ok(grammar) => Parser::from_grammar(alloc, grammar),
             Err(refusal) => Err(refusal),
         }
     }
 
     // The parser of a grammar, if it is well-formed and its code isn't too large.
-    pub(crate) fn of(alloc: Global, grammar: Grammar) -> Result<Parser, Refusal>
+    pub(crate) fn from_grammar(alloc: Global, grammar: Grammar) -> Result<Parser, Refusal>
         ensures rules { IfOk result (λ parser. parser_rules parser ≡ rules_in grammar) }
         ensures well_formed { OnOk result (IsWellFormedGrammar (rules_in grammar)) }
         ensures small { OnOk result (code_size (rules_in grammar) ≤ max_instructions) }
-        ensures refused { (file : List ℕ) → IsRead file (rules_in grammar) → IsTaken (rules_in grammar)
-            → All (RuleLiesIn (length file)) (rules_in grammar) → IfErr result (TellsWhy (Refuses file) (length file)) }
+        ensures refused { (file : List ℕ) → IsRead file (rules_in grammar) → IsAcceptedGrammar (rules_in grammar)
+            → All (RuleLiesIn (length file)) (rules_in grammar)
+            → IfErr result (HasCause (IsRefusalOf file) (length file)) }
         ensures refused_where { IsWellFormedGrammar (rules_in grammar)
             → code_size (rules_in grammar) ≤ max_instructions → IfErr result (λ why. why ≡ Refusal.Memory) }
     {
@@ -115,7 +116,7 @@ impl Parser {
                     costs,
                 })
             }
-            Err(fault) => Err(Refusal::of_check(fault, grammar)),
+            Err(fault) => Err(Refusal::from_check(fault, grammar)),
         }
     }
 
@@ -157,12 +158,12 @@ impl Parser {
         options: &ParseOptions<'_>,
     ) -> Result<Answer, ParseFault>
         ensures no_start { IsErrOf result ParseFault.NoSuchStart
-            ↔ (start_of (parser_rules self.now) (start_named options.now) ≡ None) }
-        ensures long { (start : List ℕ) → start_of (parser_rules self.now) (start_named options.now) ≡ Some start
+            ↔ (start_name (parser_rules self.now) (start_named options.now) ≡ None) }
+        ensures long { (start : List ℕ) → start_name (parser_rules self.now) (start_named options.now) ≡ Some start
             → (IsErrOf result ParseFault.TextTooLong ↔ (max_text_bytes < length text.now)) }
         ensures short { OnOk result (length text.now ≤ max_text_bytes) }
-        ensures outcome { IfOk result (λ answer. IfSome (start_of (parser_rules self.now) (start_named options.now))
-            (λ start. IsOutcome (parser_rules self.now) text.now start answer.outcome)) }
+        ensures outcome { IfOk result (λ answer. IfSome (start_name (parser_rules self.now) (start_named options.now))
+            (λ start. IsParseOutcome (parser_rules self.now) text.now start answer.outcome)) }
         ensures fits { IfOk result (λ answer. Fits (parser_rules self.now) answer.outcome) }
 
         // The step limit: an answer stays within it. Without a memo there is no answer if more steps are needed.
@@ -189,21 +190,29 @@ impl Parser {
         text: &[u8],
         start: u32,
         memo: &mut K,
-        most: Option<u64>,
+        max_steps: Option<u64>,
     ) -> Result<Answer, ParseFault>
         requires start { start < length (parser_rules self.now) }
-        requires empty { map.len (K.held memo.old) ≡ 0 }
+        requires empty { map.len (K.entries memo.old) ≡ 0 }
         ensures started { ¬ IsErrOf result ParseFault.NoSuchStart }
         ensures long { IsErrOf result ParseFault.TextTooLong ↔ (max_text_bytes < length text.now) }
-        ensures outcome { IfOk result (λ answer. IsOutcome (parser_rules self.now) text.now
+        ensures outcome { IfOk result (λ answer. IsParseOutcome (parser_rules self.now) text.now
             (name_of (parser_rules self.now) start) answer.outcome) }
-        ensures allowed { IfOk result (λ answer. (limit : ℕ) → most ≡ Some limit → answer.steps ≤ limit) }
+        ensures allowed { IfOk result (λ answer. (limit : ℕ) → max_steps ≡ Some limit → answer.steps ≤ limit) }
         ensures limited { IsErrOf result ParseFault.StepLimit
-            → TakesMore (core_bodies (parser_rules self.now)) text.now start most }
-        ensures enough { ((any : K) → map.len (K.held any) ≡ 0)
-            → OnOk result (¬ TakesMore (core_bodies (parser_rules self.now)) text.now start most) }
+            → ExceedsStepLimit (core_bodies (parser_rules self.now)) text.now start max_steps }
+        ensures enough { ((any : K) → map.len (K.entries any) ≡ 0)
+            → OnOk result (¬ ExceedsStepLimit (core_bodies (parser_rules self.now)) text.now start max_steps) }
     {
-        match run(alloc, &self.program, text, start, memo, &mut NoWatch, most) {
+        match run(
+            alloc,
+            &self.program,
+            text,
+            start,
+            memo,
+            &mut NoWatch,
+            max_steps,
+        ) {
             Ok(answer) => Ok(answer),
             Err(RunFault::TextTooLong) => Err(ParseFault::TextTooLong),
             Err(RunFault::StepLimit) => Err(ParseFault::StepLimit),
@@ -213,10 +222,11 @@ impl Parser {
 
     // The number of the start rule.
     fn start(&self, options: &ParseOptions<'_>) -> Option<u32>
-        ensures none { (result ≡ None) ↔ (start_of (parser_rules self.now) (start_named options.now) ≡ None) }
+        ensures none { (result ≡ None) ↔ (start_name (parser_rules self.now) (start_named options.now) ≡ None) }
         ensures some { IfSome result (λ start. start < length (parser_rules self.now)) }
         ensures named { IfSome result (λ start.
-            start_of (parser_rules self.now) (start_named options.now) ≡ Some (name_of (parser_rules self.now) start)) }
+            start_name (parser_rules self.now) (start_named options.now) ≡ Some (name_of
+            (parser_rules self.now) start)) }
     {
         match options.start {
             None => Some(0),

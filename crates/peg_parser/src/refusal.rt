@@ -84,11 +84,11 @@ impl From<CodeFault> for Refusal {
 }
 
 impl Refusal {
-    ghost use Rattle.peg_parser.specs.Faults.{names_told, of_check};
+    ghost use Rattle.peg_parser.specs.Faults.{refusal_names, from_check};
 
     // Converts a fault of the check to a refusal.
-    pub(crate) fn of_check(fault: CheckFault, grammar: Grammar) -> Refusal
-        ensures { result ≡ of_check fault grammar }
+    pub(crate) fn from_check(fault: CheckFault, grammar: Grammar) -> Refusal
+        ensures { result ≡ from_check fault grammar }
     {
         match fault {
             CheckFault::Memory => Refusal::Memory,
@@ -99,7 +99,7 @@ impl Refusal {
     /// Returns the names of the grammar's rules, in order, if the refusal refers to rules by number; otherwise an
     /// empty list. Linear in the number of rules.
     pub fn names(&self, alloc: Global) -> Result<Vec<&str>, AllocError>
-        ensures { IfOk result (λ list. map (λ name. name.now) list.items ≡ names_told self.now) }
+        ensures { IfOk result (λ list. map (λ name. name.now) list.items ≡ refusal_names self.now) }
     {
         match self {
             Refusal::NotWellFormed(_, grammar) => names_of(alloc, grammar),

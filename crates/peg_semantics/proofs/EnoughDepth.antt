@@ -15,16 +15,16 @@ use Rattle.peg_semantics.proofs.MeaningLemmas.{All-front, All-back}
 use Rattle.peg_semantics.proofs.RecordLemmas.{record_in-more}
 use Rattle.peg_semantics.proofs.SameParts.{same-table}
 use Rattle.peg_semantics.proofs.StableRounds.{found_soon}
-use Rattle.peg_semantics.proofs.States.{Part, part_of, start, parts, start-among, asked-among, meant-among, length-parts}
+use Rattle.peg_semantics.proofs.States.{Part, part_of, start, parts, start-among, asked-among, meaning_of-among, length-parts}
 use Rattle.peg_semantics.proofs.TerminalLemmas.{record_in-ends}
 
 -- an expression at a position
 record State : Type 0 where
   part : Part
-  place : ℕ
+  position : ℕ
 
 abbrev state : Part → ℕ → State
-state p place = record { part = p; place = place }
+state p position = record { part = p; position = position }
 
 -- one expression at all positions up to a bound; and several expressions there
 abbrev at_places : Part → ℕ → List State
@@ -83,7 +83,7 @@ from_parts P (p ∷ ps) n each =
 module _ (rules : List Rule) (text name : List ℕ) where
   -- the record of a state in depth n
   abbrev found : ℕ → State → Option Record
-  found n s = record_in rules text n s.part.form s.part.terminal s.place
+  found n s = record_in rules text n s.part.form s.part.terminal s.position
 
   abbrev Same : ℕ → State → Type 0
   Same n s = found n s ≡ found (suc n) s
@@ -99,10 +99,10 @@ module _ (rules : List Rule) (text name : List ℕ) where
       (All-weaker (Contains (parts rules name)) (λ p. (k : ℕ) → k ≤ length text → Same (suc n) (state p k))
       (λ p there k within.
       same-table (parts rules name) (length text) (record_in rules text n) (record_in rules text (suc n))
-      (λ e terminal place there within.
+      (λ e terminal position there within.
       All-contains (λ p. (k : ℕ) → k ≤ length text → Same n (state p k)) (parts rules name) (part_of terminal e)
-      (each_part (Same n) (parts rules name) (length text) all) there place within)
-      (record_in-ends rules text n) rules text (meant-among rules name) p.form p.terminal k there
+      (each_part (Same n) (parts rules name) (length text) all) there position within)
+      (record_in-ends rules text n) rules text (meaning_of-among rules name) p.form p.terminal k there
       (asked-among rules name p.terminal p.form there) within) (parts rules name)
       (All-contains_itself (parts rules name)))
 
@@ -125,7 +125,7 @@ module _ (rules : List Rule) (text name : List ℕ) where
   pub start-soon : (n m : ℕ) (r : Record) → max_cases rules text ≤ m → start_record rules text n name ≡ Some r
       → start_record rules text m name ≡ Some r
   start-soon n m r enough is =
-      found_soon found (λ n s. record_in-more rules text n s.part.form s.part.terminal s.place) asked on n m
+      found_soon found (λ n s. record_in-more rules text n s.part.form s.part.terminal s.position) asked on n m
       (state (part_of 0 (start rules name)) 0) r (omega (arith, length-asked, enough)) start-asked is
 
 -- a well-formed grammar has a record of each start rule within that depth

@@ -4,7 +4,7 @@ use Rattle.std.proofs.lemmas.List.Elements.{Contains-append_left, Contains-appen
 use Rattle.std.proofs.lemmas.Bool.Decides.{nat_tests}
 use Rattle.peg_semantics.specs.Record.{Test}
 use Rattle.peg_semantics.specs.Furthest.{IsFurthest}
-use Rattle.peg_semantics.specs.FurthestPass.{Furthest, insert_ascending, noted, nothing_failed, furthest_of}
+use Rattle.peg_semantics.specs.FurthestPass.{Furthest, insert_ascending, note_test, nothing_failed, furthest_of}
 use Rattle.peg_semantics.proofs.Ascending.{RisesFrom, RisesFrom-insert, RisesFrom-to_increasing}
 
 Contains-none : {X : Type 0} (x : X) → Contains [] x → ⊥
@@ -54,8 +54,8 @@ push-not_empty [] x e = cc
 push-not_empty (y ∷ ys) x e = cc
 
 -- the test of a terminal at a position
-abbrev test_at : (place terminal : ℕ) → Test
-test_at place terminal = record { place = place; terminal = terminal }
+abbrev test_at : (position terminal : ℕ) → Test
+test_at position terminal = record { position = position; terminal = terminal }
 
 -- the invariant of the pass, test by test
 record IsNoted (tests : List Test) (f : Furthest) : Type 0 where
@@ -64,14 +64,14 @@ record IsNoted (tests : List Test) (f : Furthest) : Type 0 where
 
 -- one more test: below the furthest failure so far, above it or at it
 module _ (tests : List Test) (f : Furthest) (t : Test) (kept : IsNoted tests f) where
-  all_within : (far : ℕ) → f.far ≤ far → t.place ≤ far → All (λ (s : Test). s.place ≤ far) (tests ++ t ∷ [])
-  all_within far h k = All-push (λ (s : Test). s.place ≤ far) tests t (λ i d lt. le_trans (kept.is.greatest i d lt) h) k
+  all_within : (far : ℕ) → f.far ≤ far → t.position ≤ far → All (λ (s : Test). s.position ≤ far) (tests ++ t ∷ [])
+  all_within far h k = All-push (λ (s : Test). s.position ≤ far) tests t (λ i d lt. le_trans (kept.is.greatest i d lt) h) k
 
-  IsNoted-below : t.place < f.far → IsNoted (tests ++ t ∷ []) f
+  IsNoted-below : t.position < f.far → IsNoted (tests ++ t ∷ []) f
   IsNoted-below h = record {
     is = record {
       greatest = all_within f.far (le_refl f.far) (le_of_lt h);
-      exactly = λ n. (λ c. Contains-append_left tests (t ∷ []) (test_at f.far n) ((kept.is.exactly n).0 c), λ c. elim (Contains-push_cases tests t (test_at f.far n) c) [ inl a ↦ (kept.is.exactly n).1 a | inr a ↦ absurd (let same : t.place ≡ f.far = ap (λ (s : Test). s.place) a in omega arith) ]);
+      exactly = λ n. (λ c. Contains-append_left tests (t ∷ []) (test_at f.far n) ((kept.is.exactly n).0 c), λ c. elim (Contains-push_cases tests t (test_at f.far n) c) [ inl a ↦ (kept.is.exactly n).1 a | inr a ↦ absurd (let same : t.position ≡ f.far = ap (λ (s : Test). s.position) a in omega arith) ]);
       ascending = kept.is.ascending;
       reached = λ some. kept.is.reached (λ none. let zero_far : f.far ≡ 0 = kept.is.none none in absurd (omega arith));
       none = λ e. absurd (push-not_empty tests t e);
@@ -79,11 +79,11 @@ module _ (tests : List Test) (f : Furthest) (t : Test) (kept : IsNoted tests f) 
     rises = kept.rises;
   }
 
-  IsNoted-above : f.far < t.place → IsNoted (tests ++ t ∷ []) (record { far = t.place; expected = t.terminal ∷ [] })
+  IsNoted-above : f.far < t.position → IsNoted (tests ++ t ∷ []) (record { far = t.position; expected = t.terminal ∷ [] })
   IsNoted-above h = record {
     is = record {
-      greatest = all_within t.place (le_of_lt h) (le_refl t.place);
-      exactly = λ n. (λ c. elim (Contains-cons_cases [] t.terminal n c) [ inl a ↦ subst (λ k. Contains (tests ++ t ∷ []) (test_at t.place k)) a (Contains-push tests t) | inr a ↦ absurd (Contains-none n a) ], λ c. elim (Contains-push_cases tests t (test_at t.place n) c) [ inl a ↦ absurd (let within : t.place ≤ f.far = All-contains (λ (s : Test). s.place ≤ f.far) tests (test_at t.place n) kept.is.greatest a in omega arith) | inr a ↦ subst (Contains (t.terminal ∷ [])) (ap (λ (s : Test). s.terminal) a) (Contains-here [] t.terminal) ]);
+      greatest = all_within t.position (le_of_lt h) (le_refl t.position);
+      exactly = λ n. (λ c. elim (Contains-cons_cases [] t.terminal n c) [ inl a ↦ subst (λ k. Contains (tests ++ t ∷ []) (test_at t.position k)) a (Contains-push tests t) | inr a ↦ absurd (Contains-none n a) ], λ c. elim (Contains-push_cases tests t (test_at t.position n) c) [ inl a ↦ absurd (let within : t.position ≤ f.far = All-contains (λ (s : Test). s.position ≤ f.far) tests (test_at t.position n) kept.is.greatest a in omega arith) | inr a ↦ subst (Contains (t.terminal ∷ [])) (ap (λ (s : Test). s.terminal) a) (Contains-here [] t.terminal) ]);
       ascending = RisesFrom-to_increasing 0 (t.terminal ∷ []) (omega arith, tt);
       reached = λ some e. cc;
       none = λ e. absurd (push-not_empty tests t e);
@@ -91,7 +91,7 @@ module _ (tests : List Test) (f : Furthest) (t : Test) (kept : IsNoted tests f) 
     rises = (omega arith, tt);
   }
 
-  IsNoted-at : t.place ≡ f.far → IsNoted (tests ++ t ∷ []) (record { far = f.far; expected = insert_ascending t.terminal f.expected })
+  IsNoted-at : t.position ≡ f.far → IsNoted (tests ++ t ∷ []) (record { far = f.far; expected = insert_ascending t.terminal f.expected })
   IsNoted-at h = record {
     is = record {
       greatest = all_within f.far (le_refl f.far) (omega arith);
@@ -109,18 +109,18 @@ module _ (tests : List Test) (f : Furthest) (t : Test) (kept : IsNoted tests f) 
       same : (n : ℕ) → t.terminal ≡ n → t ≡ test_at f.far n
       same n a = λ i. test_at (h i) (a i)
 
-  IsNoted-push : IsNoted (tests ++ t ∷ []) (noted f t)
-  IsNoted-push = by (nat_lt t.place f.far) (nat_lt f.far t.place) refl refl
+  IsNoted-push : IsNoted (tests ++ t ∷ []) (note_test f t)
+  IsNoted-push = by (nat_lt t.position f.far) (nat_lt f.far t.position) refl refl
     where
-      by : (b e : Bool) → nat_lt t.place f.far ≡ b → nat_lt f.far t.place ≡ e → IsNoted (tests ++ t ∷ []) (if b then f else (if e then record { far = t.place; expected = t.terminal ∷ [] } else record { far = f.far; expected = insert_ascending t.terminal f.expected }))
+      by : (b e : Bool) → nat_lt t.position f.far ≡ b → nat_lt f.far t.position ≡ e → IsNoted (tests ++ t ∷ []) (if b then f else (if e then record { far = t.position; expected = t.terminal ∷ [] } else record { far = f.far; expected = insert_ascending t.terminal f.expected }))
       by true e p q = IsNoted-below (grind (arith, nat_tests))
       by false true p q = IsNoted-above (grind (arith, nat_tests))
       by false false p q = IsNoted-at (grind (arith, nat_tests))
 
-IsNoted-fold : (before tests : List Test) (f : Furthest) → IsNoted before f → IsNoted (before ++ tests) (fold noted f tests)
+IsNoted-fold : (before tests : List Test) (f : Furthest) → IsNoted before f → IsNoted (before ++ tests) (fold note_test f tests)
 IsNoted-fold before [] f kept = rw append-nil kept
 IsNoted-fold before (t ∷ tests) f kept =
-    rw append_assoc at (IsNoted-fold (before ++ t ∷ []) tests (noted f t) (IsNoted-push before f t kept))
+    rw append_assoc at (IsNoted-fold (before ++ t ∷ []) tests (note_test f t) (IsNoted-push before f t kept))
 
 -- one pass over the failed tests computes their furthest failure
 pub furthest_of-is : (tests : List Test) → IsFurthest tests (furthest_of tests).far (furthest_of tests).expected

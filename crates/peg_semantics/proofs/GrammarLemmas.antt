@@ -11,7 +11,7 @@ use Rattle.std.proofs.lemmas.List.Quantifiers.{all_pairs_push}
 use Rattle.std.proofs.lemmas.Map.Views.{Contains-from_any, list_any-from_Contains}
 use Rattle.std.proofs.lemmas.Slice.Eq.{bytes_eq-Decides}
 use Rattle.peg_semantics.specs.Form.{Count, Reference}
-use Rattle.peg_semantics.specs.Rules.{Rule, counts, names, uses, defined_at}
+use Rattle.peg_semantics.specs.Rules.{Rule, counts, names, references, defined_at}
 use Rattle.peg_semantics.specs.Grammar.{IsGrammar, duplicate_after, first_bad_count, first_duplicate, first_undefined}
 use Rattle.peg_semantics.specs.Grammar.{is_in_range, is_unknown}
 
@@ -145,7 +145,7 @@ pub IsGrammar-from_searches : (rules : List Rule) → rules ≢ [] → first_dup
 IsGrammar-from_searches rules some distinct defined counted = record {
   some = some;
   distinct = distinct_after [] rules distinct (λ i j d before within. absurd (omega arith));
-  defined = all_known (names rules) (uses rules) defined;
+  defined = all_known (names rules) (references rules) defined;
   counted = all_in_range (counts rules) counted;
 }
 
@@ -155,6 +155,6 @@ pub searches_from_IsGrammar : (rules : List Rule) → IsGrammar rules
 searches_from_IsGrammar rules grammar = (
   grammar.some,
   no_duplicate_after [] rules grammar.distinct,
-  no_unknown (names rules) (uses rules) grammar.defined,
+  no_unknown (names rules) (references rules) grammar.defined,
   no_bad_count (counts rules) grammar.counted,
 )

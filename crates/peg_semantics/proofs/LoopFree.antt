@@ -7,11 +7,11 @@ use Rattle.peg_bytes.specs.Extent.{Extent}
 use Rattle.peg_semantics.specs.AbstractOutcomes.{GivesNothing}
 use Rattle.peg_semantics.specs.Form.{Form, Forms, Literal, Class, Any, Name, Seq, Choice, Optional, Star, Plus, Counted, And, Not}
 use Rattle.peg_semantics.specs.Form.{End, Then}
-use Rattle.peg_semantics.specs.Loops.{Reaches, ItemsReach, SomeReaches, MeetsFirst, MeetInTurn, IsLeftCycle, IsEmptyLoop}
-use Rattle.peg_semantics.specs.Rules.{Rule, Meaning, meant}
+use Rattle.peg_semantics.specs.Loops.{CanCallFirst, ItemsCanCallFirst, SomeCanCallFirst, LeftCalls, IsChain, IsLeftCycle, IsEmptyLoop}
+use Rattle.peg_semantics.specs.Rules.{Rule, Meaning, meaning_of}
 use Rattle.peg_semantics.specs.WellFormed.{ItemsAre, AllAre, MeaningIs, WellFormedTable, IsWellFormedIn, IsWellFormed}
 use Rattle.peg_semantics.specs.WellFormed.{IsWellFormedGrammar, below, subexpressions}
-use Rattle.peg_semantics.proofs.MeaningLemmas.{All-numbered, meant-is_at}
+use Rattle.peg_semantics.proofs.MeaningLemmas.{All-numbered, meaning_of-is_at}
 
 module _ (rules : List Rule) where
   -- an expression that is well-formed in some round is so by Ford's rules from an earlier round
@@ -23,20 +23,20 @@ module _ (rules : List Rule) where
 
   -- the rule that a name refers to is well-formed in fewer than n rounds
   abbrev SoonerFine : List ℕ → ℕ → Type 0
-  SoonerFine name n = (k : ℕ) × (k < n) × MeaningIs (IsWellFormedIn rules k) (meant rules name)
+  SoonerFine name n = (k : ℕ) × (k < n) × MeaningIs (IsWellFormedIn rules k) (meaning_of rules name)
 
   later : (name : List ℕ) (k n : ℕ) → k < n → SoonerFine name k → SoonerFine name n
   later name k n less fine = (fine.0, omega (arith, less, fine.1), fine.2)
 
   mutual
-    reached_sooner : (e : Form) (n : ℕ) (name : List ℕ) → IsWellFormedIn rules n e → Reaches (GivesNothing rules) e name
+    reached_sooner : (e : Form) (n : ℕ) (name : List ℕ) → IsWellFormedIn rules n e → CanCallFirst (GivesNothing rules) e name
         → SoonerFine name n
     reached_sooner (Literal bytes span) n name is reached = absurd reached
     reached_sooner (Class set span) n name is reached = absurd reached
     reached_sooner (Any span) n name is reached = absurd reached
     reached_sooner (Name other span) n name is reached =
         let before = round_before n (Name other span) is in
-        (before.0, before.1, subst (λ s. MeaningIs (IsWellFormedIn rules before.0) (meant rules s)) reached before.2)
+        (before.0, before.1, subst (λ s. MeaningIs (IsWellFormedIn rules before.0) (meaning_of rules s)) reached before.2)
     reached_sooner (Seq items span) n name is reached =
         let before = round_before n (Seq items span) is in
         later name before.0 n before.1 (item_sooner items before.0 name before.2 reached)
@@ -66,7 +66,7 @@ module _ (rules : List Rule) where
         later name before.0 n before.1 (reached_sooner part before.0 name before.2 reached)
 
     item_sooner : (items : Forms) (n : ℕ) (name : List ℕ) → ItemsAre rules (IsWellFormedIn rules n) items
-        → ItemsReach (GivesNothing rules) items name → SoonerFine name n
+        → ItemsCanCallFirst (GivesNothing rules) items name → SoonerFine name n
     item_sooner End n name are reached = absurd reached
     item_sooner (Then e rest) n name are reached =
         elim reached [
@@ -75,7 +75,7 @@ module _ (rules : List Rule) where
         ]
 
     some_sooner : (items : Forms) (n : ℕ) (name : List ℕ) → AllAre (IsWellFormedIn rules n) items
-        → SomeReaches (GivesNothing rules) items name → SoonerFine name n
+        → SomeCanCallFirst (GivesNothing rules) items name → SoonerFine name n
     some_sooner End n name are reached = absurd reached
     some_sooner (Then e rest) n name are reached =
         elim reached [
@@ -87,24 +87,24 @@ module _ (rules : List Rule) where
   abbrev FineAt : ℕ → ℕ → Type 0
   FineAt n i = (r : Rule) × (slice_get rules i ≡ Some r) × IsWellFormedIn rules n r.body
 
-  meaning_at : (k j : ℕ) (name : List ℕ) (meaning : Option Meaning) → meant rules name ≡ meaning
+  meaning_at : (k j : ℕ) (name : List ℕ) (meaning : Option Meaning) → meaning_of rules name ≡ meaning
       → option_map (λ (m : Meaning). m.rule) meaning ≡ Some j → MeaningIs (IsWellFormedIn rules k) meaning → FineAt k j
   meaning_at k j name None is means fine = absurd fine
   meaning_at k j name (Some m) is means fine =
-      let at = meant-is_at rules name m is in
+      let at = meaning_of-is_at rules name m is in
       let number : m.rule ≡ j = cc in
       (at.0, ap (slice_get rules) (sym number) ∙ at.1, subst (IsWellFormedIn rules k) (sym at.2) fine)
 
   -- a left-called rule is well-formed in fewer rounds
-  met_sooner : (n i j : ℕ) → FineAt n i → MeetsFirst rules i j → (k : ℕ) × (k < n) × FineAt k j
+  met_sooner : (n i j : ℕ) → FineAt n i → LeftCalls rules i j → (k : ℕ) × (k < n) × FineAt k j
   met_sooner n i j fine meets =
       let same : fine.0 ≡ meets.rule = cc in
       let here = subst (λ (r : Rule). IsWellFormedIn rules n r.body) same fine.2 in
       let sooner = reached_sooner meets.rule.body n meets.name here meets.reached in
-      (sooner.0, sooner.1, meaning_at sooner.0 j meets.name (meant rules meets.name) refl meets.means sooner.2)
+      (sooner.0, sooner.1, meaning_at sooner.0 j meets.name (meaning_of rules meets.name) refl meets.means sooner.2)
 
   -- the same for the last rule of a chain of left calls
-  last_sooner : (path : List ℕ) (n i last : ℕ) → FineAt n i → MeetInTurn (MeetsFirst rules) i (path ++ last ∷ [])
+  last_sooner : (path : List ℕ) (n i last : ℕ) → FineAt n i → IsChain (LeftCalls rules) i (path ++ last ∷ [])
       → (k : ℕ) × (k < n) × FineAt k last
   last_sooner [] n i last fine meet = met_sooner n i last fine meet.0
   last_sooner (next ∷ more) n i last fine meet =
@@ -113,7 +113,7 @@ module _ (rules : List Rule) where
       (rest.0, omega (arith, sooner.1, rest.1), rest.2)
 
   no_cycle_below : (most n first : ℕ) (more : List ℕ) → n < most → FineAt n first
-      → MeetInTurn (MeetsFirst rules) first (more ++ first ∷ []) → ⊥
+      → IsChain (LeftCalls rules) first (more ++ first ∷ []) → ⊥
   no_cycle_below zero n first more less fine meet = absurd (omega (arith, less))
   no_cycle_below (suc most) n first more less fine meet =
       let sooner = last_sooner more n first first fine meet in
@@ -124,7 +124,7 @@ module _ (rules : List Rule) where
   numbered_fine i r at fine =
       All-numbered (λ (rule : Rule). All (IsWellFormed rules) (subexpressions rule.body)) rules i r at fine
 
-  meeting_fine : (i j : ℕ) → IsWellFormedGrammar rules → MeetsFirst rules i j → (n : ℕ) × FineAt n i
+  meeting_fine : (i j : ℕ) → IsWellFormedGrammar rules → LeftCalls rules i j → (n : ℕ) × FineAt n i
   meeting_fine i j fine meets =
       let all = numbered_fine i meets.rule meets.numbered fine in
       let is = All-head (IsWellFormed rules) meets.rule.body (below meets.rule.body) all in
@@ -132,7 +132,7 @@ module _ (rules : List Rule) where
 
   -- the first rule of a chain of left calls is a rule of the grammar
   first_fine : (path : List ℕ) (i last : ℕ) → IsWellFormedGrammar rules
-      → MeetInTurn (MeetsFirst rules) i (path ++ last ∷ []) → (n : ℕ) × FineAt n i
+      → IsChain (LeftCalls rules) i (path ++ last ∷ []) → (n : ℕ) × FineAt n i
   first_fine [] i last fine meet = meeting_fine i last fine meet.0
   first_fine (next ∷ more) i last fine meet = meeting_fine i next fine meet.0
 

@@ -7,7 +7,7 @@ use Rattle.std.proofs.lemmas.Cmp.{nat_list_eq_equiv}
 use Rattle.std.proofs.lemmas.List.Elements.{All-nil, All-cons, All-head, All-tail}
 use Rattle.std.proofs.lemmas.Map.Views.{list_any-from_Contains}
 use Rattle.peg_semantics.specs.Form.{terminals}
-use Rattle.peg_semantics.specs.Rules.{Rule, Meaning, names, meant_from, meant}
+use Rattle.peg_semantics.specs.Rules.{Rule, Meaning, names, meaning_from, meaning_of}
 
 -- a property of all elements of two lists holds for all elements of each
 pub All-front : {X : Type 0} (P : X → Type 0) (xs ys : List X) → All P (xs ++ ys) → All P xs
@@ -44,18 +44,18 @@ All-from_numbered P (x ∷ xs) each = All-cons P x xs (each zero x refl) (All-fr
 abbrev IsAt : (rule : ℕ) → List Rule → Meaning → Type 0
 IsAt rule rules m = (i : ℕ) × (m.rule ≡ i + rule) × (r : Rule) × (slice_get rules i ≡ Some r) × (r.body ≡ m.body)
 
-meant_from-is_at : (rule terminal : ℕ) (rules : List Rule) (name : List ℕ) (m : Meaning)
-    → meant_from rule terminal rules name ≡ Some m → IsAt rule rules m
-meant_from-is_at rule terminal [] name m is = cc
-meant_from-is_at rule terminal (r ∷ rs) name m is =
-    by (bytes_eq name r.name) (meant_from-is_at (rule + 1) (terminal + terminals r.body) rs name m) is
+meaning_from-is_at : (rule terminal : ℕ) (rules : List Rule) (name : List ℕ) (m : Meaning)
+    → meaning_from rule terminal rules name ≡ Some m → IsAt rule rules m
+meaning_from-is_at rule terminal [] name m is = cc
+meaning_from-is_at rule terminal (r ∷ rs) name m is =
+    by (bytes_eq name r.name) (meaning_from-is_at (rule + 1) (terminal + terminals r.body) rs name m) is
   where
     first : Meaning
     first = record { rule = rule; terminal = terminal; body = r.body }
 
     by : (b : Bool)
-        → (meant_from (rule + 1) (terminal + terminals r.body) rs name ≡ Some m → IsAt (rule + 1) rs m)
-        → (if b then Some first else meant_from (rule + 1) (terminal + terminals r.body) rs name) ≡ Some m
+        → (meaning_from (rule + 1) (terminal + terminals r.body) rs name ≡ Some m → IsAt (rule + 1) rs m)
+        → (if b then Some first else meaning_from (rule + 1) (terminal + terminals r.body) rs name) ≡ Some m
         → IsAt rule (r ∷ rs) m
     by true later found =
         let same : first ≡ m = cc in
@@ -64,33 +64,33 @@ meant_from-is_at rule terminal (r ∷ rs) name m is =
         let behind = later found in (suc behind.0, omega (arith, behind.1), behind.2, behind.3, behind.4)
 
 -- a meaning is that of the rule with its number
-pub meant-is_at : (rules : List Rule) (name : List ℕ) (m : Meaning) → meant rules name ≡ Some m
+pub meaning_of-is_at : (rules : List Rule) (name : List ℕ) (m : Meaning) → meaning_of rules name ≡ Some m
     → (r : Rule) × (slice_get rules m.rule ≡ Some r) × (r.body ≡ m.body)
-meant-is_at rules name m is =
-    let at = meant_from-is_at 0 0 rules name m is in
+meaning_of-is_at rules name m is =
+    let at = meaning_from-is_at 0 0 rules name m is in
     let number : m.rule ≡ at.0 = omega (arith, at.1) in
     (at.2, ap (slice_get rules) number ∙ at.3, at.4)
 
-meant_from-found : (rule terminal : ℕ) (rules : List Rule) (name : List ℕ)
+meaning_from-found : (rule terminal : ℕ) (rules : List Rule) (name : List ℕ)
     → list_any (bytes_eq name) (names rules) ≡ true
-    → (m : Meaning) × (meant_from rule terminal rules name ≡ Some m)
-meant_from-found rule terminal [] name there = cc
-meant_from-found rule terminal (r ∷ rs) name there =
-    by (bytes_eq name r.name) refl (meant_from-found (rule + 1) (terminal + terminals r.body) rs name)
+    → (m : Meaning) × (meaning_from rule terminal rules name ≡ Some m)
+meaning_from-found rule terminal [] name there = cc
+meaning_from-found rule terminal (r ∷ rs) name there =
+    by (bytes_eq name r.name) refl (meaning_from-found (rule + 1) (terminal + terminals r.body) rs name)
   where
     first : Meaning
     first = record { rule = rule; terminal = terminal; body = r.body }
 
     by : (b : Bool) → bytes_eq name r.name ≡ b
         → (list_any (bytes_eq name) (names rs) ≡ true
-        → (m : Meaning) × (meant_from (rule + 1) (terminal + terminals r.body) rs name ≡ Some m))
+        → (m : Meaning) × (meaning_from (rule + 1) (terminal + terminals r.body) rs name ≡ Some m))
         → (m : Meaning)
-        × ((if b then Some first else meant_from (rule + 1) (terminal + terminals r.body) rs name) ≡ Some m)
+        × ((if b then Some first else meaning_from (rule + 1) (terminal + terminals r.body) rs name) ≡ Some m)
     by true is later = (first, refl)
     by false is later = later (sym (ap (λ b. b || list_any (bytes_eq name) (names rs)) is) ∙ there)
 
 -- a defined name refers to a rule
-pub meant-known : (rules : List Rule) (name : List ℕ) → Contains (names rules) name
-    → (m : Meaning) × (meant rules name ≡ Some m)
-meant-known rules name known =
-    meant_from-found 0 0 rules name (list_any-from_Contains nat_list_eq_equiv name (names rules) known)
+pub meaning_of-known : (rules : List Rule) (name : List ℕ) → Contains (names rules) name
+    → (m : Meaning) × (meaning_of rules name ≡ Some m)
+meaning_of-known rules name known =
+    meaning_from-found 0 0 rules name (list_any-from_Contains nat_list_eq_equiv name (names rules) known)

@@ -5,20 +5,20 @@ use Rattle.std.proofs.Common.{All, Option, None, Some, option_map, get_or, slice
 use Rattle.std.proofs.Common.{◌∙◌, subst, arith}
 use Rattle.std.proofs.lemmas.Bool.{ltb-true}
 use Rattle.std.proofs.lemmas.List.Elements.{All-nil, All-cons, All-append}
-use Rattle.peg_semantics.specs.AbstractOutcomes.{Can, CanAll, cannot, only_nothing, something_or_fails, can_of_set, both}
-use Rattle.peg_semantics.specs.AbstractOutcomes.{either}
-use Rattle.peg_semantics.specs.AbstractOutcomes.{or_nothing, again, once_and_again, times, ahead, not_ahead}
-use Rattle.peg_semantics.specs.AbstractOutcomes.{judge_items, judge_first, judge_meaning, can_table}
+use Rattle.peg_semantics.specs.AbstractOutcomes.{Can, CanAll, no_outcome, always_empty, consumes_or_fails, can_of_set, seq_outcome}
+use Rattle.peg_semantics.specs.AbstractOutcomes.{choice_outcome}
+use Rattle.peg_semantics.specs.AbstractOutcomes.{optional_outcome, star_outcome, plus_outcome, repeat_outcome, and_outcome, not_outcome}
+use Rattle.peg_semantics.specs.AbstractOutcomes.{outcome_of_items, outcome_of_choice, outcome_of_meaning, can_table}
 use Rattle.peg_semantics.specs.Form.{Form, Forms, Literal, Class, Any, Name, Seq, Choice, Optional, Star, Plus, Counted, And, Not}
 use Rattle.peg_semantics.specs.Form.{End, Then}
 use Rattle.peg_semantics.specs.Form.{terminals}
 use Rattle.peg_semantics.specs.Grammar.{IsGrammar}
-use Rattle.peg_semantics.specs.Loops.{Reaches, ItemsReach, SomeReaches, MeetsFirstBy}
-use Rattle.peg_semantics.specs.Ranked.{IdlesBy, RepeatsSomething, IsRanked}
-use Rattle.peg_semantics.specs.Rules.{Rule, Meaning, meant_from, meant}
+use Rattle.peg_semantics.specs.Loops.{CanCallFirst, ItemsCanCallFirst, SomeCanCallFirst, LeftCallsBy}
+use Rattle.peg_semantics.specs.Ranked.{NullableBy, RepeatsNonEmpty, IsRanked}
+use Rattle.peg_semantics.specs.Rules.{Rule, Meaning, meaning_from, meaning_of}
 use Rattle.peg_semantics.specs.WellFormed.{IsWellFormedGrammar, below_all, subexpressions}
 use Rattle.peg_semantics.proofs.RankedRules.{IsWellFormedGrammar-from_ranks}
-use Rattle.peg_semantics.proofs.RoundsLemmas.{CanAll-refl, CanAll-cannot}
+use Rattle.peg_semantics.proofs.RoundsLemmas.{CanAll-refl, CanAll-no_outcome}
 
 -- the given data of a rule: the outcomes of its expression, and its rank
 pub record Told : Type 0 where
@@ -26,7 +26,7 @@ pub record Told : Type 0 where
   pub rank : ℕ
 
 abbrev pub untold : Told
-untold = record { can = cannot; rank = 0 }
+untold = record { can = no_outcome; rank = 0 }
 
 -- the given data of the rule that a name refers to
 abbrev pub told_of : List Rule → List Told → List ℕ → Told
@@ -38,27 +38,27 @@ told_of (r ∷ rs) (t ∷ ts) name = if bytes_eq name r.name then t else told_of
 
 abbrev mutual
   pub judged : (List ℕ → Told) → Form → Can
-  judged told (Literal [] span) = only_nothing
-  judged told (Literal (b ∷ bs) span) = something_or_fails
+  judged told (Literal [] span) = always_empty
+  judged told (Literal (b ∷ bs) span) = consumes_or_fails
   judged told (Class set span) = can_of_set set
-  judged told (Any span) = something_or_fails
+  judged told (Any span) = consumes_or_fails
   judged told (Name name span) = (told name).can
   judged told (Seq items span) = judged_items told items
   judged told (Choice first rest span) = judged_first told (judged told first) rest
-  judged told (Optional part span) = or_nothing (judged told part)
-  judged told (Star part span) = again (judged told part)
-  judged told (Plus part span) = once_and_again (judged told part)
-  judged told (Counted part min max span) = times (judged told part) min max
-  judged told (And part span) = ahead (judged told part)
-  judged told (Not part span) = not_ahead (judged told part)
+  judged told (Optional part span) = optional_outcome (judged told part)
+  judged told (Star part span) = star_outcome (judged told part)
+  judged told (Plus part span) = plus_outcome (judged told part)
+  judged told (Counted part min max span) = repeat_outcome (judged told part) min max
+  judged told (And part span) = and_outcome (judged told part)
+  judged told (Not part span) = not_outcome (judged told part)
 
   pub judged_items : (List ℕ → Told) → Forms → Can
-  judged_items told End = only_nothing
-  judged_items told (Then e rest) = both (judged told e) (judged_items told rest)
+  judged_items told End = always_empty
+  judged_items told (Then e rest) = seq_outcome (judged told e) (judged_items told rest)
 
   pub judged_first : (List ℕ → Told) → Can → Forms → Can
   judged_first told can End = can
-  judged_first told can (Then e rest) = either can (judged_first told (judged told e) rest)
+  judged_first told can (Then e rest) = choice_outcome can (judged_first told (judged told e) rest)
 
 -- no star or plus in an expression has a part that gives 0 by these outcomes
 abbrev mutual
@@ -155,7 +155,7 @@ CanAll-is_within a b e =
 
 module _ (told : List ℕ → Told) where
   abbrev Repeats : Form → Type 0
-  Repeats = RepeatsSomething (judged told)
+  Repeats = RepeatsNonEmpty (judged told)
 
   loop-shown : (part : Form) → (not (judged told part).nothing && repeats_something told part) ≡ true
       → (judged told part).nothing ≡ false
@@ -204,7 +204,7 @@ module _ (told : List ℕ → Told) where
     IsLower = (told name).rank < rank
 
     mutual
-      falls-shown : (e : Form) → falls told rank e ≡ true → Reaches (IdlesBy (judged told)) e name → IsLower
+      falls-shown : (e : Form) → falls told rank e ≡ true → CanCallFirst (NullableBy (judged told)) e name → IsLower
       falls-shown (Literal bytes span) e reached = absurd reached
       falls-shown (Class set span) e reached = absurd reached
       falls-shown (Any span) e reached = absurd reached
@@ -223,7 +223,7 @@ module _ (told : List ℕ → Told) where
       falls-shown (Not part span) e reached = falls-shown part e reached
 
       items-shown : (items : Forms) → items_fall told rank items ≡ true
-          → ItemsReach (IdlesBy (judged told)) items name → IsLower
+          → ItemsCanCallFirst (NullableBy (judged told)) items name → IsLower
       items-shown End e reached = absurd reached
       items-shown (Then first rest) e (inl here) =
           falls-shown first
@@ -234,7 +234,7 @@ module _ (told : List ℕ → Told) where
           items-shown rest (implied nothing (items_fall told rank rest) behind there.0) there.1
 
       some-shown : (items : Forms) → all_fall told rank items ≡ true
-          → SomeReaches (IdlesBy (judged told)) items name → IsLower
+          → SomeCanCallFirst (NullableBy (judged told)) items name → IsLower
       some-shown End e reached = absurd reached
       some-shown (Then first rest) e (inl here) =
           falls-shown first (and-left (falls told rank first) (all_fall told rank rest) e) here
@@ -243,29 +243,29 @@ module _ (told : List ℕ → Told) where
 
   -- ---- the table is closed if it is closed at names
 
-  items-judged : (items : Forms) → judge_items (judged told) items ≡ judged_items told items
+  items-judged : (items : Forms) → outcome_of_items (judged told) items ≡ judged_items told items
   items-judged End = refl
-  items-judged (Then e rest) = ap (both (judged told e)) (items-judged rest)
+  items-judged (Then e rest) = ap (seq_outcome (judged told e)) (items-judged rest)
 
-  first-judged : (e : Form) (rest : Forms) → judge_first (judged told) e rest ≡ judged_first told (judged told e) rest
+  first-judged : (e : Form) (rest : Forms) → outcome_of_choice (judged told) e rest ≡ judged_first told (judged told e) rest
   first-judged e End = refl
-  first-judged e (Then next rest) = ap (either (judged told e)) (first-judged next rest)
+  first-judged e (Then next rest) = ap (choice_outcome (judged told e)) (first-judged next rest)
 
   same-can : (a b : Can) → a ≡ b → CanAll a b
   same-can a b same = subst (CanAll a) same (CanAll-refl a)
 
   judged-closed : (rules : List Rule)
-      → ((name : List ℕ) → CanAll (judge_meaning (judged told) (meant rules name)) (told name).can) → (e : Form)
+      → ((name : List ℕ) → CanAll (outcome_of_meaning (judged told) (meaning_of rules name)) (told name).can) → (e : Form)
       → CanAll (can_table rules (judged told) e) (judged told e)
-  judged-closed rules names (Literal [] span) = CanAll-refl only_nothing
-  judged-closed rules names (Literal (b ∷ bs) span) = CanAll-refl something_or_fails
+  judged-closed rules names (Literal [] span) = CanAll-refl always_empty
+  judged-closed rules names (Literal (b ∷ bs) span) = CanAll-refl consumes_or_fails
   judged-closed rules names (Class set span) = CanAll-refl (can_of_set set)
-  judged-closed rules names (Any span) = CanAll-refl something_or_fails
+  judged-closed rules names (Any span) = CanAll-refl consumes_or_fails
   judged-closed rules names (Name name span) = names name
   judged-closed rules names (Seq items span) =
-      same-can (judge_items (judged told) items) (judged_items told items) (items-judged items)
+      same-can (outcome_of_items (judged told) items) (judged_items told items) (items-judged items)
   judged-closed rules names (Choice first rest span) =
-      same-can (judge_first (judged told) first rest) (judged_first told (judged told first) rest)
+      same-can (outcome_of_choice (judged told) first rest) (judged_first told (judged told first) rest)
       (first-judged first rest)
   judged-closed rules names (Optional part span) = CanAll-refl (judged told (Optional part span))
   judged-closed rules names (Star part span) = CanAll-refl (judged told (Star part span))
@@ -280,13 +280,13 @@ module _ (told : List ℕ → Told) where
   can-shown r t e =
       and-left (is_within (judged told r.body) t.can) (repeats_something told r.body && falls told t.rank r.body) e
 
-  both-shown : (r : Rule) (t : Told) → rule_shows told r t ≡ true
+  seq_outcome-shown : (r : Rule) (t : Told) → rule_shows told r t ≡ true
       → (repeats_something told r.body ≡ true) × (falls told t.rank r.body ≡ true)
-  both-shown r t e =
+  seq_outcome-shown r t e =
       let repeats = repeats_something told r.body in
       let lower = falls told t.rank r.body in
-      let both = and-right (is_within (judged told r.body) t.can) (repeats && lower) e in
-      (and-left repeats lower both, and-right repeats lower both)
+      let seq_outcome = and-right (is_within (judged told r.body) t.can) (repeats && lower) e in
+      (and-left repeats lower seq_outcome, and-right repeats lower seq_outcome)
 
   rule-shown : (r : Rule) (t : Told) (rs : List Rule) (ts : List Told) → rules_show told (r ∷ rs) (t ∷ ts) ≡ true
       → rule_shows told r t ≡ true
@@ -303,7 +303,7 @@ module _ (told : List ℕ → Told) where
       × CanAll (judged told m.body) (told_of rs ts name).can
 
   told-at : (rule terminal : ℕ) (rs : List Rule) (ts : List Told) (name : List ℕ) (m : Meaning)
-      → rules_show told rs ts ≡ true → meant_from rule terminal rs name ≡ Some m → ToldAt rule rs ts name m
+      → rules_show told rs ts ≡ true → meaning_from rule terminal rs name ≡ Some m → ToldAt rule rs ts name m
   told-at rule terminal [] ts name m shown is = cc
   told-at rule terminal (r ∷ rs) [] name m shown is = cc
   told-at rule terminal (r ∷ rs) (t ∷ ts) name m shown is =
@@ -317,8 +317,8 @@ module _ (told : List ℕ → Told) where
       here = CanAll-is_within (judged told r.body) t.can (can-shown r t (rule-shown r t rs ts shown))
 
       by : (b : Bool)
-          → (meant_from (rule + 1) (terminal + terminals r.body) rs name ≡ Some m → ToldAt (rule + 1) rs ts name m)
-          → (if b then Some first else meant_from (rule + 1) (terminal + terminals r.body) rs name) ≡ Some m
+          → (meaning_from (rule + 1) (terminal + terminals r.body) rs name ≡ Some m → ToldAt (rule + 1) rs ts name m)
+          → (if b then Some first else meaning_from (rule + 1) (terminal + terminals r.body) rs name) ≡ Some m
           → (i : ℕ) × (m.rule ≡ i + rule) × ((if b then t else told_of rs ts name) ≡ get_or (t ∷ ts) i untold)
           × CanAll (judged told m.body) (if b then t else told_of rs ts name).can
       by true later found =
@@ -340,23 +340,23 @@ module _ (rules : List Rule) (written : List Told) (shown : shows_well_formed ru
   abbrev rank : ℕ → ℕ
   rank i = (get_or written i untold).rank
 
-  name-closed : (name : List ℕ) → CanAll (judge_meaning (judged told) (meant rules name)) (told name).can
-  name-closed name = by (meant rules name) (λ m is. (told-at told 0 0 rules written name m shown is).3)
+  name-closed : (name : List ℕ) → CanAll (outcome_of_meaning (judged told) (meaning_of rules name)) (told name).can
+  name-closed name = by (meaning_of rules name) (λ m is. (told-at told 0 0 rules written name m shown is).3)
     where
       by : (meaning : Option Meaning)
           → ((m : Meaning) → meaning ≡ Some m → CanAll (judged told m.body) (told name).can)
-          → CanAll (judge_meaning (judged told) meaning) (told name).can
-      by None each = CanAll-cannot (told name).can
+          → CanAll (outcome_of_meaning (judged told) meaning) (told name).can
+      by None each = CanAll-no_outcome (told name).can
       by (Some m) each = each m refl
 
   abbrev AllRepeat : Rule → Type 0
-  AllRepeat rule = All (RepeatsSomething (judged told)) (subexpressions rule.body)
+  AllRepeat rule = All (RepeatsNonEmpty (judged told)) (subexpressions rule.body)
 
   loops-shown : (rs : List Rule) (ts : List Told) → rules_show told rs ts ≡ true → All AllRepeat rs
   loops-shown [] ts e = All-nil AllRepeat
   loops-shown (r ∷ rs) [] e = cc
   loops-shown (r ∷ rs) (t ∷ ts) e =
-      let here = both-shown told r t (rule-shown told r t rs ts e) in
+      let here = seq_outcome-shown told r t (rule-shown told r t rs ts e) in
       All-cons AllRepeat r rs (repeats-shown told r.body here.0) (loops-shown rs ts (rest-shown told r t rs ts e))
 
   falls-at : (rs : List Rule) (ts : List Told) (i : ℕ) (r : Rule) → rules_show told rs ts ≡ true
@@ -364,15 +364,15 @@ module _ (rules : List Rule) (written : List Told) (shown : shows_well_formed ru
   falls-at [] ts i r e at = cc
   falls-at (s ∷ rs) [] i r e at = cc
   falls-at (s ∷ rs) (t ∷ ts) zero r e at =
-      let here = both-shown told s t (rule-shown told s t rs ts e) in
+      let here = seq_outcome-shown told s t (rule-shown told s t rs ts e) in
       let same : s ≡ r = cc in
       subst (λ (rule : Rule). falls told t.rank rule.body ≡ true) same here.1
   falls-at (s ∷ rs) (t ∷ ts) (suc i) r e at = falls-at rs ts i r (rest-shown told s t rs ts e) at
 
   -- the rank of a name is that of its rule
-  name-rank : (name : List ℕ) (j : ℕ) → option_map (λ (m : Meaning). m.rule) (meant rules name) ≡ Some j
+  name-rank : (name : List ℕ) (j : ℕ) → option_map (λ (m : Meaning). m.rule) (meaning_of rules name) ≡ Some j
       → (told name).rank ≡ rank j
-  name-rank name j means = by (meant rules name) (λ m is. told-at told 0 0 rules written name m shown is) means
+  name-rank name j means = by (meaning_of rules name) (λ m is. told-at told 0 0 rules written name m shown is) means
     where
       by : (meaning : Option Meaning) → ((m : Meaning) → meaning ≡ Some m → ToldAt told 0 rules written name m)
           → option_map (λ (m : Meaning). m.rule) meaning ≡ Some j → (told name).rank ≡ rank j
@@ -383,7 +383,7 @@ module _ (rules : List Rule) (written : List Told) (shown : shows_well_formed ru
           let same : at.0 ≡ j = omega (arith, at.1, number) in
           ap (λ (t : Told). t.rank) at.2 ∙ ap rank same
 
-  ranks-fall : (first second : ℕ) → MeetsFirstBy rules (IdlesBy (judged told)) first second → rank second < rank first
+  ranks-fall : (first second : ℕ) → LeftCallsBy rules (NullableBy (judged told)) first second → rank second < rank first
   ranks-fall first second meets =
       let here = falls-at rules written first meets.rule shown meets.numbered in
       subst (λ n. n < rank first) (name-rank meets.name second meets.means)

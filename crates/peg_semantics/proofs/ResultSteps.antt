@@ -7,8 +7,8 @@ use Rattle.std.specs.Cmp.Lexicographic.{same_text}
 use Rattle.std.specs.List.{starts_with}
 use Rattle.std.proofs.lemmas.List.{take-append-drop}
 use Rattle.peg_tree.specs.Trees.{Trees, NoTrees}
-use Rattle.peg_semantics.specs.Record.{Recognition, Failed, Matched, Record, matched_at, failed_at, after_both, behind}
-use Rattle.peg_semantics.specs.Record.{followed, then_at, replaced, or_else, repeated, literal_at, byte_at}
+use Rattle.peg_semantics.specs.Record.{Recognition, Failed, Matched, Record, matched_at, failed_at, after_both, prepend_trees}
+use Rattle.peg_semantics.specs.Record.{then_result, then_at, choice_result, or_else, star_result, literal_at, byte_at}
 use Rattle.peg_semantics.proofs.RecordLemmas.{Extends}
 
 -- ---- literals, classes and dots, by the bytes at a position
@@ -40,47 +40,47 @@ starts_with-rest bytes all is =
     ∙ ap (λ l. l ++ drop (length bytes) all) (sym (same_text bytes (take (length bytes) all) (sym is)))
 
 -- the result of a literal, by whether the bytes start with it
-pub literal_at-matched : (terminal place end : ℕ) (bytes rest : List ℕ) → starts_with nat_eq rest bytes ≡ true
-    → end ≡ place + length bytes → (literal_at terminal place bytes rest).result ≡ Matched end NoTrees
-literal_at-matched terminal place end [] rest is ends = ap (λ end. Matched end NoTrees) (sym (ends ∙ add-zero place))
-literal_at-matched terminal place end (b ∷ bs) [] is ends = cc
-literal_at-matched terminal place end (b ∷ bs) (c ∷ rest) is ends =
-    by (b == c) is (λ h. literal_at-matched terminal (place + 1) end bs rest h (omega arith))
+pub literal_at-matched : (terminal position end : ℕ) (bytes rest : List ℕ) → starts_with nat_eq rest bytes ≡ true
+    → end ≡ position + length bytes → (literal_at terminal position bytes rest).result ≡ Matched end NoTrees
+literal_at-matched terminal position end [] rest is ends = ap (λ end. Matched end NoTrees) (sym (ends ∙ add-zero position))
+literal_at-matched terminal position end (b ∷ bs) [] is ends = cc
+literal_at-matched terminal position end (b ∷ bs) (c ∷ rest) is ends =
+    by (b == c) is (λ h. literal_at-matched terminal (position + 1) end bs rest h (omega arith))
   where
     by : (t : Bool) → (t && starts_with nat_eq rest bs) ≡ true
         → (starts_with nat_eq rest bs ≡ true
-        → (literal_at terminal (place + 1) bs rest).result ≡ Matched end NoTrees)
-        → (if t then literal_at terminal (place + 1) bs rest else failed_at terminal place).result
+        → (literal_at terminal (position + 1) bs rest).result ≡ Matched end NoTrees)
+        → (if t then literal_at terminal (position + 1) bs rest else failed_at terminal position).result
         ≡ Matched end NoTrees
     by true h later = later h
     by false h later = cc
 
-pub literal_at-failed : (terminal place : ℕ) (bytes rest : List ℕ) → starts_with nat_eq rest bytes ≡ false
-    → (literal_at terminal place bytes rest).result ≡ Failed
-literal_at-failed terminal place [] rest is = cc
-literal_at-failed terminal place (b ∷ bs) [] is = refl
-literal_at-failed terminal place (b ∷ bs) (c ∷ rest) is =
-    by (b == c) is (literal_at-failed terminal (place + 1) bs rest)
+pub literal_at-failed : (terminal position : ℕ) (bytes rest : List ℕ) → starts_with nat_eq rest bytes ≡ false
+    → (literal_at terminal position bytes rest).result ≡ Failed
+literal_at-failed terminal position [] rest is = cc
+literal_at-failed terminal position (b ∷ bs) [] is = refl
+literal_at-failed terminal position (b ∷ bs) (c ∷ rest) is =
+    by (b == c) is (literal_at-failed terminal (position + 1) bs rest)
   where
     by : (t : Bool) → (t && starts_with nat_eq rest bs) ≡ false
-        → (starts_with nat_eq rest bs ≡ false → (literal_at terminal (place + 1) bs rest).result ≡ Failed)
-        → (if t then literal_at terminal (place + 1) bs rest else failed_at terminal place).result ≡ Failed
+        → (starts_with nat_eq rest bs ≡ false → (literal_at terminal (position + 1) bs rest).result ≡ Failed)
+        → (if t then literal_at terminal (position + 1) bs rest else failed_at terminal position).result ≡ Failed
     by true h later = later h
     by false h later = refl
 
 -- the result of a byte test, by whether the byte passes
-pub byte_at-matched : (test : ℕ → Bool) (terminal place end : ℕ) (bytes : List ℕ) → begins_with test bytes ≡ true
-    → end ≡ place + 1 → (byte_at test terminal place bytes).result ≡ Matched end NoTrees
-byte_at-matched test terminal place end [] is ends = cc
-byte_at-matched test terminal place end (c ∷ rest) is ends =
-    ap (λ t. (if t then matched_at (place + 1) else failed_at terminal place).result) is
+pub byte_at-matched : (test : ℕ → Bool) (terminal position end : ℕ) (bytes : List ℕ) → begins_with test bytes ≡ true
+    → end ≡ position + 1 → (byte_at test terminal position bytes).result ≡ Matched end NoTrees
+byte_at-matched test terminal position end [] is ends = cc
+byte_at-matched test terminal position end (c ∷ rest) is ends =
+    ap (λ t. (if t then matched_at (position + 1) else failed_at terminal position).result) is
     ∙ ap (λ end. Matched end NoTrees) (sym ends)
 
-pub byte_at-failed : (test : ℕ → Bool) (terminal place : ℕ) (bytes : List ℕ) → begins_with test bytes ≡ false
-    → (byte_at test terminal place bytes).result ≡ Failed
-byte_at-failed test terminal place [] is = refl
-byte_at-failed test terminal place (c ∷ rest) is =
-    ap (λ t. (if t then matched_at (place + 1) else failed_at terminal place).result) is
+pub byte_at-failed : (test : ℕ → Bool) (terminal position : ℕ) (bytes : List ℕ) → begins_with test bytes ≡ false
+    → (byte_at test terminal position bytes).result ≡ Failed
+byte_at-failed test terminal position [] is = refl
+byte_at-failed test terminal position (c ∷ rest) is =
+    ap (λ t. (if t then matched_at (position + 1) else failed_at terminal position).result) is
 
 -- ---- results in some depth
 
@@ -142,19 +142,19 @@ pub then_failed : (tried : ℕ → Option Record) (next : ℕ → ℕ → Option
 then_failed tried next a = record {
   depth = a.depth;
   found = a.found;
-  is = ap (λ o. then_at o (next a.depth)) a.is ∙ ap (λ x. followed x a.found (next a.depth)) a.result_is;
+  is = ap (λ o. then_at o (next a.depth)) a.is ∙ ap (λ x. then_result x a.found (next a.depth)) a.result_is;
   result_is = a.result_is;
 }
 
 pub then_matched : (tried : ℕ → Option Record) (next : ℕ → ℕ → Option Record) (end : ℕ) (trees : Trees)
     (x : Recognition) → Both tried (λ n. next n end) (Matched end trees) x
-    → Recorded (λ n. then_at (tried n) (next n)) (behind trees x)
+    → Recorded (λ n. then_at (tried n) (next n)) (prepend_trees trees x)
 then_matched tried next end trees x a = record {
   depth = a.depth;
-  found = after_both a.found a.next (behind trees a.next.result);
-  is = ap (λ o. then_at o (next a.depth)) a.found_is ∙ ap (λ r. followed r a.found (next a.depth)) a.one_is
-      ∙ ap (option_map (λ more. after_both a.found more (behind trees more.result))) a.next_is;
-  result_is = ap (behind trees) a.other_is;
+  found = after_both a.found a.next (prepend_trees trees a.next.result);
+  is = ap (λ o. then_at o (next a.depth)) a.found_is ∙ ap (λ r. then_result r a.found (next a.depth)) a.one_is
+      ∙ ap (option_map (λ more. after_both a.found more (prepend_trees trees more.result))) a.next_is;
+  result_is = ap (prepend_trees trees) a.other_is;
 }
 
 -- a choice
@@ -163,7 +163,7 @@ pub or_matched : (tried other : ℕ → Option Record) (end : ℕ) (trees : Tree
 or_matched tried other end trees a = record {
   depth = a.depth;
   found = a.found;
-  is = ap (λ o. or_else o (other a.depth)) a.is ∙ ap (λ r. replaced r a.found (other a.depth)) a.result_is;
+  is = ap (λ o. or_else o (other a.depth)) a.is ∙ ap (λ r. choice_result r a.found (other a.depth)) a.result_is;
   result_is = a.result_is;
 }
 
@@ -172,35 +172,35 @@ pub or_failed : (tried other : ℕ → Option Record) (x : Recognition) → Both
 or_failed tried other x a = record {
   depth = a.depth;
   found = after_both a.found a.next a.next.result;
-  is = ap (λ o. or_else o (other a.depth)) a.found_is ∙ ap (λ r. replaced r a.found (other a.depth)) a.one_is
+  is = ap (λ o. or_else o (other a.depth)) a.found_is ∙ ap (λ r. choice_result r a.found (other a.depth)) a.one_is
       ∙ ap (option_map (λ more. after_both a.found more more.result)) a.next_is;
   result_is = a.other_is;
 }
 
 -- a star
 abbrev pub rounds : Option Record → ℕ → (ℕ → Option Record) → Option Record
-rounds tried place next = option_and_then (λ (round : Record). repeated round.result place round next) tried
+rounds tried position next = option_and_then (λ (round : Record). star_result round.result position round next) tried
 
-pub rounds_failed : (tried : ℕ → Option Record) (place : ℕ) (next : ℕ → ℕ → Option Record) → Recorded tried Failed
-    → Recorded (λ n. rounds (tried n) place (next n)) (Matched place NoTrees)
-rounds_failed tried place next a = record {
+pub rounds_failed : (tried : ℕ → Option Record) (position : ℕ) (next : ℕ → ℕ → Option Record) → Recorded tried Failed
+    → Recorded (λ n. rounds (tried n) position (next n)) (Matched position NoTrees)
+rounds_failed tried position next a = record {
   depth = a.depth;
-  found = after_both a.found (matched_at place) (Matched place NoTrees);
-  is = ap (λ o. rounds o place (next a.depth)) a.is
-      ∙ ap (λ x. repeated x place a.found (next a.depth)) a.result_is;
+  found = after_both a.found (matched_at position) (Matched position NoTrees);
+  is = ap (λ o. rounds o position (next a.depth)) a.is
+      ∙ ap (λ x. star_result x position a.found (next a.depth)) a.result_is;
   result_is = refl;
 }
 
-pub rounds_matched : (tried : ℕ → Option Record) (place : ℕ) (next : ℕ → ℕ → Option Record) (end : ℕ) (trees : Trees)
+pub rounds_matched : (tried : ℕ → Option Record) (position : ℕ) (next : ℕ → ℕ → Option Record) (end : ℕ) (trees : Trees)
     (x : Recognition) → Both tried (λ n. next n end) (Matched end trees) x
-    → Recorded (λ n. rounds (tried n) place (next n)) (behind trees x)
-rounds_matched tried place next end trees x a = record {
+    → Recorded (λ n. rounds (tried n) position (next n)) (prepend_trees trees x)
+rounds_matched tried position next end trees x a = record {
   depth = a.depth;
-  found = after_both a.found a.next (behind trees a.next.result);
-  is = ap (λ o. rounds o place (next a.depth)) a.found_is
-      ∙ ap (λ r. repeated r place a.found (next a.depth)) a.one_is
-      ∙ ap (option_map (λ more. after_both a.found more (behind trees more.result))) a.next_is;
-  result_is = ap (behind trees) a.other_is;
+  found = after_both a.found a.next (prepend_trees trees a.next.result);
+  is = ap (λ o. rounds o position (next a.depth)) a.found_is
+      ∙ ap (λ r. star_result r position a.found (next a.depth)) a.one_is
+      ∙ ap (option_map (λ more. after_both a.found more (prepend_trees trees more.result))) a.next_is;
+  result_is = ap (prepend_trees trees) a.other_is;
 }
 
 -- ---- facts of results
@@ -220,15 +220,15 @@ map_cases P (Some part) change r made is = some_case P (change part) r (made par
 pub then_cases : (P : Recognition → Type 0) (tried : Option Record) (next : ℕ → Option Record) (r : Record)
     → ((part : Record) → tried ≡ Some part → part.result ≡ Failed → P Failed)
     → ((part more : Record) (end : ℕ) (trees : Trees) → tried ≡ Some part → part.result ≡ Matched end trees
-    → next end ≡ Some more → P (behind trees more.result))
+    → next end ≡ Some more → P (prepend_trees trees more.result))
     → then_at tried next ≡ Some r → P r.result
 then_cases P None next r failed matched is = cc
 then_cases P (Some part) next r failed matched is = by part.result refl is
   where
-    by : (x : Recognition) → part.result ≡ x → followed x part next ≡ Some r → P r.result
+    by : (x : Recognition) → part.result ≡ x → then_result x part next ≡ Some r → P r.result
     by Failed e f = some_case P part r (subst P (sym e) (failed part refl e)) f
     by (Matched end trees) e f =
-        map_cases P (next end) (λ more. after_both part more (behind trees more.result)) r
+        map_cases P (next end) (λ more. after_both part more (prepend_trees trees more.result)) r
         (λ more g. matched part more end trees refl e g) f
 
 -- from the alternative that matched, or from one that failed and the other one
@@ -240,23 +240,23 @@ pub or_cases : (P : Recognition → Type 0) (tried other : Option Record) (r : R
 or_cases P None other r matched failed is = cc
 or_cases P (Some part) other r matched failed is = by part.result refl is
   where
-    by : (x : Recognition) → part.result ≡ x → replaced x part other ≡ Some r → P r.result
+    by : (x : Recognition) → part.result ≡ x → choice_result x part other ≡ Some r → P r.result
     by Failed e f =
         map_cases P other (λ more. after_both part more more.result) r (λ more g. failed part more refl e g) f
     by (Matched end trees) e f = some_case P part r (subst P (sym e) (matched part end trees refl e)) f
 
 -- from the iteration of a star that failed, or from one that matched and the iterations after it
-pub rounds_cases : (P : Recognition → Type 0) (tried : Option Record) (place : ℕ) (next : ℕ → Option Record)
-    (r : Record) → ((part : Record) → tried ≡ Some part → part.result ≡ Failed → P (Matched place NoTrees))
+pub rounds_cases : (P : Recognition → Type 0) (tried : Option Record) (position : ℕ) (next : ℕ → Option Record)
+    (r : Record) → ((part : Record) → tried ≡ Some part → part.result ≡ Failed → P (Matched position NoTrees))
     → ((part more : Record) (end : ℕ) (trees : Trees) → tried ≡ Some part → part.result ≡ Matched end trees
-    → next end ≡ Some more → P (behind trees more.result))
-    → rounds tried place next ≡ Some r → P r.result
-rounds_cases P None place next r failed matched is = cc
-rounds_cases P (Some part) place next r failed matched is = by part.result refl is
+    → next end ≡ Some more → P (prepend_trees trees more.result))
+    → rounds tried position next ≡ Some r → P r.result
+rounds_cases P None position next r failed matched is = cc
+rounds_cases P (Some part) position next r failed matched is = by part.result refl is
   where
-    by : (x : Recognition) → part.result ≡ x → repeated x place part next ≡ Some r → P r.result
+    by : (x : Recognition) → part.result ≡ x → star_result x position part next ≡ Some r → P r.result
     by Failed e f =
-        some_case P (after_both part (matched_at place) (Matched place NoTrees)) r (failed part refl e) f
+        some_case P (after_both part (matched_at position) (Matched position NoTrees)) r (failed part refl e) f
     by (Matched end trees) e f =
-        map_cases P (next end) (λ more. after_both part more (behind trees more.result)) r
+        map_cases P (next end) (λ more. after_both part more (prepend_trees trees more.result)) r
         (λ more g. matched part more end trees refl e g) f

@@ -7,8 +7,8 @@ use Rattle.std.proofs.lemmas.Option.{slice_get_past}
 use Rattle.std.specs.List.{position_or_len}
 use Rattle.peg_semantics.specs.Form.{Form, Forms, Literal, Class, Any, Name, Seq, Choice, Optional, Star, Plus, Counted, And, Not, End, Then, terminals, terminals_of_all, form_weight, forms_weight}
 use Rattle.peg_semantics.specs.Numbers.{first_from, terminals_of}
-use Rattle.peg_semantics.specs.Record.{Taking, as_use}
-use Rattle.peg_semantics.specs.Rules.{Rule, Meaning, names, meant_from, weight_of}
+use Rattle.peg_semantics.specs.Record.{Recognizer, as_call}
+use Rattle.peg_semantics.specs.Rules.{Rule, Meaning, names, meaning_from, weight_of}
 
 -- ---- the number of terminals
 
@@ -71,10 +71,10 @@ abbrev pub meaning_at : ℕ → ℕ → List Rule → ℕ → Option Meaning
 meaning_at first terminal rules rule =
     option_map (meaning (first + rule) (get_or (first_from terminal rules) rule 0)) (slice_get rules rule)
 
-meant_from-at : (first terminal : ℕ) (rules : List Rule) (name : List ℕ) → meant_from first terminal rules name ≡ meaning_at first terminal rules (position_or_len (bytes_eq name) (names rules))
-meant_from-at first terminal [] name = refl
-meant_from-at first terminal (r ∷ rs) name =
-    by (bytes_eq name r.name) (meant_from-at (first + 1) (terminal + terminals r.body) rs name)
+meaning_from-at : (first terminal : ℕ) (rules : List Rule) (name : List ℕ) → meaning_from first terminal rules name ≡ meaning_at first terminal rules (position_or_len (bytes_eq name) (names rules))
+meaning_from-at first terminal [] name = refl
+meaning_from-at first terminal (r ∷ rs) name =
+    by (bytes_eq name r.name) (meaning_from-at (first + 1) (terminal + terminals r.body) rs name)
   where
     at : ℕ
     at = position_or_len (bytes_eq name) (names rs)
@@ -82,8 +82,8 @@ meant_from-at first terminal (r ∷ rs) name =
     next : (first + 1) + at ≡ first + (1 + at)
     next = omega arith
 
-    by : (b : Bool) → meant_from (first + 1) (terminal + terminals r.body) rs name ≡ meaning_at (first + 1) (terminal + terminals r.body) rs at
-        → (if b then Some (meaning first terminal r) else meant_from (first + 1) (terminal + terminals r.body) rs name) ≡ meaning_at first terminal (r ∷ rs) (cond (not b) (1 + at) 0)
+    by : (b : Bool) → meaning_from (first + 1) (terminal + terminals r.body) rs name ≡ meaning_at (first + 1) (terminal + terminals r.body) rs at
+        → (if b then Some (meaning first terminal r) else meaning_from (first + 1) (terminal + terminals r.body) rs name) ≡ meaning_at first terminal (r ∷ rs) (cond (not b) (1 + at) 0)
     by true h =
         let same : first ≡ first + 0 = omega arith in ap (λ n. Some (meaning n terminal r)) same
     by false h =
@@ -94,17 +94,17 @@ position-at true at rule e = cc
 position-at false at rule e = cc
 
 -- a name at a position in the list of names refers to the rule at that position
-pub meant-position : (rules : List Rule) (name : List ℕ) (rule : ℕ) → position (bytes_eq name) (names rules) ≡ Some rule → meant_from 0 0 rules name ≡ meaning_at 0 0 rules rule
+pub meant-position : (rules : List Rule) (name : List ℕ) (rule : ℕ) → position (bytes_eq name) (names rules) ≡ Some rule → meaning_from 0 0 rules name ≡ meaning_at 0 0 rules rule
 meant-position rules name rule h =
     let at = position_or_len (bytes_eq name) (names rules) in
-    meant_from-at 0 0 rules name ∙ ap (meaning_at 0 0 rules) (position-at (nat_lt at (length (names rules))) at rule h)
+    meaning_from-at 0 0 rules name ∙ ap (meaning_at 0 0 rules) (position-at (nat_lt at (length (names rules))) at rule h)
 
 -- a name that is not in the list refers to no rule
-pub meant-no_position : (rules : List Rule) (name : List ℕ) → position (bytes_eq name) (names rules) ≡ None → meant_from 0 0 rules name ≡ None
+pub meant-no_position : (rules : List Rule) (name : List ℕ) → position (bytes_eq name) (names rules) ≡ None → meaning_from 0 0 rules name ≡ None
 meant-no_position rules name h =
     let at = position_or_len (bytes_eq name) (names rules) in
     let beyond : length (names rules) ≤ at = by (nat_lt at (length (names rules))) refl h in
-    meant_from-at 0 0 rules name ∙ ap (option_map (meaning (0 + at) (get_or (first_from 0 rules) at 0))) (slice_get_past rules at (rw length-map at beyond))
+    meaning_from-at 0 0 rules name ∙ ap (option_map (meaning (0 + at) (get_or (first_from 0 rules) at 0))) (slice_get_past rules at (rw length-map at beyond))
   where
     by : (b : Bool) → nat_lt (position_or_len (bytes_eq name) (names rules)) (length (names rules)) ≡ b → cond b (Some (position_or_len (bytes_eq name) (names rules))) None ≡ None → length (names rules) ≤ position_or_len (bytes_eq name) (names rules)
     by true e k = cc
@@ -119,11 +119,11 @@ position-within rules name rule h = rw length-map at (by (nat_lt (position_or_le
     by false e k = cc
 
 -- the record of a name is the record of a call of the rule that it refers to
-pub named-used : (take : Taking) (place rule : ℕ) (rules : List Rule) (found : Option Meaning) → found ≡ meaning_at 0 0 rules rule
-    → option_and_then (λ (m : Meaning). option_map (as_use m.rule place) (take m.body m.terminal place)) found
-    ≡ option_and_then (λ (r : Rule). option_map (as_use rule place) (take r.body (get_or (first_from 0 rules) rule 0) place)) (slice_get rules rule)
-named-used take place rule rules found is =
-    ap (option_and_then (λ (m : Meaning). option_map (as_use m.rule place) (take m.body m.terminal place))) is ∙ by (slice_get rules rule)
+pub named-used : (take : Recognizer) (position rule : ℕ) (rules : List Rule) (found : Option Meaning) → found ≡ meaning_at 0 0 rules rule
+    → option_and_then (λ (m : Meaning). option_map (as_call m.rule position) (take m.body m.terminal position)) found
+    ≡ option_and_then (λ (r : Rule). option_map (as_call rule position) (take r.body (get_or (first_from 0 rules) rule 0) position)) (slice_get rules rule)
+named-used take position rule rules found is =
+    ap (option_and_then (λ (m : Meaning). option_map (as_call m.rule position) (take m.body m.terminal position))) is ∙ by (slice_get rules rule)
   where
     first : ℕ
     first = get_or (first_from 0 rules) rule 0
@@ -131,7 +131,7 @@ named-used take place rule rules found is =
     same : 0 + rule ≡ rule
     same = omega arith
 
-    by : (found : Option Rule) → option_and_then (λ (m : Meaning). option_map (as_use m.rule place) (take m.body m.terminal place)) (option_map (meaning (0 + rule) first) found)
-        ≡ option_and_then (λ (r : Rule). option_map (as_use rule place) (take r.body first place)) found
+    by : (found : Option Rule) → option_and_then (λ (m : Meaning). option_map (as_call m.rule position) (take m.body m.terminal position)) (option_map (meaning (0 + rule) first) found)
+        ≡ option_and_then (λ (r : Rule). option_map (as_call rule position) (take r.body first position)) found
     by None = refl
-    by (Some r) = ap (λ n. option_map (as_use n place) (take r.body first place)) same
+    by (Some r) = ap (λ n. option_map (as_call n position) (take r.body first position)) same

@@ -9,7 +9,7 @@ use Rattle.std.proofs.lemmas.List.Sums.{sum_by-cons}
 use Rattle.peg_bytes.specs.Extent.{between}
 use Rattle.peg_semantics.specs.Form.{Form, Forms, Literal, Class, Any, Name, Seq, Choice, Optional, Star, Plus, Counted, And, Not}
 use Rattle.peg_semantics.specs.Form.{End, Then, terminals, form_weight, forms_weight}
-use Rattle.peg_semantics.specs.Rules.{Rule, Meaning, meant_from, meant, weight_of}
+use Rattle.peg_semantics.specs.Rules.{Rule, Meaning, meaning_from, meaning_of, weight_of}
 use Rattle.peg_semantics.proofs.MeaningLemmas.{All-front, All-back}
 
 -- an expression, and the number of its first terminal
@@ -210,7 +210,7 @@ module _ (known : List Part) where
   IsKnown m = Contains known (part_of m.terminal m.body)
 
   meaning_known : (rule terminal : ℕ) (rules : List Rule) (name : List ℕ) (m : Meaning)
-      → Known (parts_from terminal rules) → meant_from rule terminal rules name ≡ Some m → IsKnown m
+      → Known (parts_from terminal rules) → meaning_from rule terminal rules name ≡ Some m → IsKnown m
   meaning_known rule terminal [] name m all is = cc
   meaning_known rule terminal (r ∷ rs) name m all is =
       by (bytes_eq name r.name)
@@ -226,8 +226,8 @@ module _ (known : List Part) where
       first = record { rule = rule; terminal = terminal; body = r.body }
 
       by : (b : Bool)
-          → (meant_from (rule + 1) (terminal + terminals r.body) rs name ≡ Some m → IsKnown m)
-          → (if b then Some first else meant_from (rule + 1) (terminal + terminals r.body) rs name) ≡ Some m
+          → (meaning_from (rule + 1) (terminal + terminals r.body) rs name ≡ Some m → IsKnown m)
+          → (if b then Some first else meaning_from (rule + 1) (terminal + terminals r.body) rs name) ≡ Some m
           → IsKnown m
       by true later found =
           let same : first ≡ m = cc in
@@ -259,9 +259,9 @@ module _ (rules : List Rule) (name : List ℕ) where
       All-contains (Closed parts) parts (part_of terminal e)
       (All-cons (Closed parts) (part_of 0 start) (parts_from 0 rules) tt (closed_rules parts 0 rules of_rules)) there
 
-  pub meant-among : (used : List ℕ) (m : Meaning) → meant rules used ≡ Some m
+  pub meaning_of-among : (used : List ℕ) (m : Meaning) → meaning_of rules used ≡ Some m
       → Contains parts (part_of m.terminal m.body)
-  meant-among used m is = meaning_known parts 0 0 rules used m of_rules is
+  meaning_of-among used m is = meaning_known parts 0 0 rules used m of_rules is
 
   pub length-parts : length parts ≤ 1 + 2 * weight_of rules
   length-parts = omega (arith, length-parts_from 0 rules)

@@ -11,10 +11,10 @@ use Rattle.peg_tree.specs.Trees.{Trees}
 use Rattle.peg_semantics.specs.Form.{Form, Forms, Literal, Class, Any, Name, Seq, Choice, Optional, Star, Plus, Counted, And, Not, End, Then}
 use Rattle.peg_semantics.specs.Form.{terminals, terminals_of_all}
 use Rattle.peg_semantics.specs.Furthest.{IsFurthest}
-use Rattle.peg_semantics.specs.Rules.{Rule, Meaning, meant_from, meant}
-use Rattle.peg_semantics.specs.Record.{Recognition, Failed, Matched, Test, Record, Taking, matched_at, failed_at, after_both, behind, followed, then_at}
-use Rattle.peg_semantics.specs.Record.{replaced, or_else, repeated, if_matched, if_failed, with_result, literal_at, byte_at, as_tree, as_use}
-use Rattle.peg_semantics.specs.Record.{take_items, take_first, take_times, table, record_in, start_record}
+use Rattle.peg_semantics.specs.Rules.{Rule, Meaning, meaning_from, meaning_of}
+use Rattle.peg_semantics.specs.Record.{Recognition, Failed, Matched, Test, Record, Recognizer, matched_at, failed_at, after_both, prepend_trees, then_result, then_at}
+use Rattle.peg_semantics.specs.Record.{choice_result, or_else, star_result, if_matched, if_failed, with_result, literal_at, byte_at, as_tree, as_call}
+use Rattle.peg_semantics.specs.Record.{recognize_seq, recognize_choice, recognize_repeat, table, record_in, start_record}
 use Rattle.peg_semantics.specs.Terminals.{terminal_extents, terminal_extents_of_all, extents_of_terminals}
 
 -- an expression has as many terminal extents as terminals
@@ -27,7 +27,7 @@ mutual
   length-terminal_extents (Seq items span) = length-terminal_extents_of_all items
   length-terminal_extents (Choice first rest span) =
       let here = length-terminal_extents first in
-      let behind = length-terminal_extents_of_all rest in
+      let prepend_trees = length-terminal_extents_of_all rest in
       omega (arith, length-append (terminal_extents first) (terminal_extents_of_all rest))
   length-terminal_extents (Optional part span) = length-terminal_extents part
   length-terminal_extents (Star part span) = length-terminal_extents part
@@ -40,7 +40,7 @@ mutual
   length-terminal_extents_of_all End = refl
   length-terminal_extents_of_all (Then e rest) =
       let here = length-terminal_extents e in
-      let behind = length-terminal_extents_of_all rest in
+      let prepend_trees = length-terminal_extents_of_all rest in
       omega (arith, length-append (terminal_extents e) (terminal_extents_of_all rest))
 
 -- the same for rules
@@ -55,16 +55,16 @@ abbrev IsBelow : ℕ → Meaning → Type 0
 IsBelow most m = m.terminal + terminals m.body ≤ most
 
 -- the terminals of the rule that a name refers to are among those of the rules
-meant_from-below : (rule terminal : ℕ) (rules : List Rule) (name : List ℕ) (m : Meaning)
-    → meant_from rule terminal rules name ≡ Some m → IsBelow (terminal + length (extents_of_terminals rules)) m
-meant_from-below rule terminal [] name m is = cc
-meant_from-below rule terminal (r ∷ rs) name m is =
-    by (bytes_eq name r.name) (meant_from-below (rule + 1) (terminal + terminals r.body) rs name m) is
+meaning_from-below : (rule terminal : ℕ) (rules : List Rule) (name : List ℕ) (m : Meaning)
+    → meaning_from rule terminal rules name ≡ Some m → IsBelow (terminal + length (extents_of_terminals rules)) m
+meaning_from-below rule terminal [] name m is = cc
+meaning_from-below rule terminal (r ∷ rs) name m is =
+    by (bytes_eq name r.name) (meaning_from-below (rule + 1) (terminal + terminals r.body) rs name m) is
   where
     by : (b : Bool)
-        → (meant_from (rule + 1) (terminal + terminals r.body) rs name ≡ Some m
+        → (meaning_from (rule + 1) (terminal + terminals r.body) rs name ≡ Some m
         → IsBelow (terminal + terminals r.body + length (extents_of_terminals rs)) m)
-        → (if b then Some (record { rule = rule; terminal = terminal; body = r.body }) else meant_from (rule + 1) (terminal + terminals r.body) rs name) ≡ Some m
+        → (if b then Some (record { rule = rule; terminal = terminal; body = r.body }) else meaning_from (rule + 1) (terminal + terminals r.body) rs name) ≡ Some m
         → IsBelow (terminal + length (extents_of_terminals (r ∷ rs))) m
     by true later found =
         let first : Meaning = record { rule = rule; terminal = terminal; body = r.body } in
@@ -73,13 +73,13 @@ meant_from-below rule terminal (r ∷ rs) name m is =
         subst (IsBelow (terminal + length (extents_of_terminals (r ∷ rs)))) same
         (omega (arith, length-append (terminal_extents r.body) (extents_of_terminals rs)))
     by false later found =
-        let behind = later found in
+        let prepend_trees = later found in
         let here = length-terminal_extents r.body in
         omega (arith, length-append (terminal_extents r.body) (extents_of_terminals rs))
 
-meant-below : (most : ℕ) (rules : List Rule) → length (extents_of_terminals rules) ≤ most
-    → (name : List ℕ) → IfSome (meant rules name) (IsBelow most)
-meant-below most rules enough name = by (meant rules name) (meant_from-below 0 0 rules name)
+meaning_of-below : (most : ℕ) (rules : List Rule) → length (extents_of_terminals rules) ≤ most
+    → (name : List ℕ) → IfSome (meaning_of rules name) (IsBelow most)
+meaning_of-below most rules enough name = by (meaning_of rules name) (meaning_from-below 0 0 rules name)
   where
     by : (meaning : Option Meaning)
         → ((m : Meaning) → meaning ≡ Some m → IsBelow (0 + length (extents_of_terminals rules)) m)
@@ -96,7 +96,7 @@ EndsBy len (Matched end trees) = end ≤ len
 -- the record ends within that text.
 record IsWithin (most len : ℕ) (r : Record) : Type 0 where
   below : All (λ (test : Test). test.terminal < most) r.tests
-  in_text : All (λ (test : Test). test.place ≤ len) r.tests
+  in_text : All (λ (test : Test). test.position ≤ len) r.tests
   ends : EndsBy len r.result
 
 -- Each combinator of the recognition rules preserves this property.
@@ -105,7 +105,7 @@ module _ (most len : ℕ) where
   Below test = test.terminal < most
 
   abbrev InText : Test → Type 0
-  InText test = test.place ≤ len
+  InText test = test.position ≤ len
 
   -- the property holds for the record, if there is one
   abbrev Keeps : Option Record → Type 0
@@ -117,15 +117,15 @@ module _ (most len : ℕ) where
 
   -- the property holds for each expression at each position in the text, if the terminals of the expression are below
   -- the bound
-  abbrev KeepsAll : Taking → Type 0
-  KeepsAll take = (e : Form) (terminal place : ℕ) → terminal + terminals e ≤ most → place ≤ len → Keeps (take e terminal place)
+  abbrev KeepsAll : Recognizer → Type 0
+  KeepsAll take = (e : Form) (terminal position : ℕ) → terminal + terminals e ≤ most → position ≤ len → Keeps (take e terminal position)
 
-  IsWithin-matched_at : (place : ℕ) → place ≤ len → IsWithin most len (matched_at place)
-  IsWithin-matched_at place here = record { below = All-nil Below; in_text = All-nil InText; ends = here }
+  IsWithin-matched_at : (position : ℕ) → position ≤ len → IsWithin most len (matched_at position)
+  IsWithin-matched_at position here = record { below = All-nil Below; in_text = All-nil InText; ends = here }
 
-  IsWithin-failed_at : (terminal place : ℕ) → terminal < most → place ≤ len → IsWithin most len (failed_at terminal place)
-  IsWithin-failed_at terminal place room here =
-      let test : Test = record { place = place; terminal = terminal } in
+  IsWithin-failed_at : (terminal position : ℕ) → terminal < most → position ≤ len → IsWithin most len (failed_at terminal position)
+  IsWithin-failed_at terminal position room here =
+      let test : Test = record { position = position; terminal = terminal } in
       record {
         below = All-cons Below test [] room (All-nil Below);
         in_text = All-cons InText test [] here (All-nil InText);
@@ -144,66 +144,66 @@ module _ (most len : ℕ) where
     ends = ends;
   }
 
-  EndsBy-behind : (trees : Trees) (result : Recognition) → EndsBy len result → EndsBy len (behind trees result)
-  EndsBy-behind trees Failed ends = tt
-  EndsBy-behind trees (Matched end more) ends = ends
+  EndsBy-prepend_trees : (trees : Trees) (result : Recognition) → EndsBy len result → EndsBy len (prepend_trees trees result)
+  EndsBy-prepend_trees trees Failed ends = tt
+  EndsBy-prepend_trees trees (Matched end more) ends = ends
 
-  Keeps-followed : (result : Recognition) (part : Record) (next : ℕ → Option Record) → EndsBy len result
-      → IsWithin most len part → KeepsNext next → Keeps (followed result part next)
-  Keeps-followed Failed part next ends h k = h
-  Keeps-followed (Matched end trees) part next ends h k = by (next end) (k end ends)
+  Keeps-then_result : (result : Recognition) (part : Record) (next : ℕ → Option Record) → EndsBy len result
+      → IsWithin most len part → KeepsNext next → Keeps (then_result result part next)
+  Keeps-then_result Failed part next ends h k = h
+  Keeps-then_result (Matched end trees) part next ends h k = by (next end) (k end ends)
     where
       by : (tried : Option Record) → Keeps tried
-          → Keeps (option_map (λ more. after_both part more (behind trees more.result)) tried)
+          → Keeps (option_map (λ more. after_both part more (prepend_trees trees more.result)) tried)
       by None kept = tt
       by (Some more) kept =
-          IsWithin-after_both part more (behind trees more.result) h kept (EndsBy-behind trees more.result kept.ends)
+          IsWithin-after_both part more (prepend_trees trees more.result) h kept (EndsBy-prepend_trees trees more.result kept.ends)
 
   Keeps-then_at : (tried : Option Record) (next : ℕ → Option Record) → Keeps tried → KeepsNext next
       → Keeps (then_at tried next)
   Keeps-then_at None next h k = tt
-  Keeps-then_at (Some part) next h k = Keeps-followed part.result part next h.ends h k
+  Keeps-then_at (Some part) next h k = Keeps-then_result part.result part next h.ends h k
 
-  Keeps-replaced : (result : Recognition) (part : Record) (other : Option Record) → IsWithin most len part → Keeps other
-      → Keeps (replaced result part other)
-  Keeps-replaced Failed part None h k = tt
-  Keeps-replaced Failed part (Some more) h k = IsWithin-after_both part more more.result h k k.ends
-  Keeps-replaced (Matched end trees) part other h k = h
+  Keeps-choice_result : (result : Recognition) (part : Record) (other : Option Record) → IsWithin most len part → Keeps other
+      → Keeps (choice_result result part other)
+  Keeps-choice_result Failed part None h k = tt
+  Keeps-choice_result Failed part (Some more) h k = IsWithin-after_both part more more.result h k k.ends
+  Keeps-choice_result (Matched end trees) part other h k = h
 
   Keeps-or_else : (tried other : Option Record) → Keeps tried → Keeps other → Keeps (or_else tried other)
   Keeps-or_else None other h k = tt
-  Keeps-or_else (Some part) other h k = Keeps-replaced part.result part other h k
+  Keeps-or_else (Some part) other h k = Keeps-choice_result part.result part other h k
 
-  Keeps-repeated : (result : Recognition) (place : ℕ) (part : Record) (next : ℕ → Option Record) → place ≤ len
-      → EndsBy len result → IsWithin most len part → KeepsNext next → Keeps (repeated result place part next)
-  Keeps-repeated Failed place part next here ends h k =
-      Keeps-replaced Failed part (Some (matched_at place)) h (IsWithin-matched_at place here)
-  Keeps-repeated (Matched end trees) place part next here ends h k =
-      Keeps-followed (Matched end trees) part next ends h k
+  Keeps-star_result : (result : Recognition) (position : ℕ) (part : Record) (next : ℕ → Option Record) → position ≤ len
+      → EndsBy len result → IsWithin most len part → KeepsNext next → Keeps (star_result result position part next)
+  Keeps-star_result Failed position part next here ends h k =
+      Keeps-choice_result Failed part (Some (matched_at position)) h (IsWithin-matched_at position here)
+  Keeps-star_result (Matched end trees) position part next here ends h k =
+      Keeps-then_result (Matched end trees) part next ends h k
 
-  Keeps-rounds : (tried : Option Record) (place : ℕ) (next : ℕ → Option Record) → place ≤ len → Keeps tried
-      → KeepsNext next → Keeps (option_and_then (λ (round : Record). repeated round.result place round next) tried)
-  Keeps-rounds None place next here h k = tt
-  Keeps-rounds (Some round) place next here h k = Keeps-repeated round.result place round next here h.ends h k
+  Keeps-rounds : (tried : Option Record) (position : ℕ) (next : ℕ → Option Record) → position ≤ len → Keeps tried
+      → KeepsNext next → Keeps (option_and_then (λ (round : Record). star_result round.result position round next) tried)
+  Keeps-rounds None position next here h k = tt
+  Keeps-rounds (Some round) position next here h k = Keeps-star_result round.result position round next here h.ends h k
 
   -- the repetitions of a part
-  Keeps-take_times : (take : ℕ → Option Record) → KeepsNext take → (min max place : ℕ) → place ≤ len
-      → Keeps (take_times take min max place)
-  Keeps-take_times take h min zero place here = IsWithin-matched_at place here
-  Keeps-take_times take h zero (suc max) place here =
-      Keeps-rounds (take place) place (λ end. take_times take zero max end) here (h place here)
-      (λ end within. Keeps-take_times take h zero max end within)
-  Keeps-take_times take h (suc min) (suc max) place here =
-      Keeps-then_at (take place) (λ end. take_times take min max end) (h place here)
-      (λ end within. Keeps-take_times take h min max end within)
+  Keeps-recognize_repeat : (take : ℕ → Option Record) → KeepsNext take → (min max position : ℕ) → position ≤ len
+      → Keeps (recognize_repeat take min max position)
+  Keeps-recognize_repeat take h min zero position here = IsWithin-matched_at position here
+  Keeps-recognize_repeat take h zero (suc max) position here =
+      Keeps-rounds (take position) position (λ end. recognize_repeat take zero max end) here (h position here)
+      (λ end within. Keeps-recognize_repeat take h zero max end within)
+  Keeps-recognize_repeat take h (suc min) (suc max) position here =
+      Keeps-then_at (take position) (λ end. recognize_repeat take min max end) (h position here)
+      (λ end within. Keeps-recognize_repeat take h min max end within)
 
-  EndsBy-if_matched : (place : ℕ) → place ≤ len → (result : Recognition) → EndsBy len (if_matched result place)
-  EndsBy-if_matched place here Failed = tt
-  EndsBy-if_matched place here (Matched end trees) = here
+  EndsBy-if_matched : (position : ℕ) → position ≤ len → (result : Recognition) → EndsBy len (if_matched result position)
+  EndsBy-if_matched position here Failed = tt
+  EndsBy-if_matched position here (Matched end trees) = here
 
-  EndsBy-if_failed : (place : ℕ) → place ≤ len → (result : Recognition) → EndsBy len (if_failed result place)
-  EndsBy-if_failed place here Failed = here
-  EndsBy-if_failed place here (Matched end trees) = tt
+  EndsBy-if_failed : (position : ℕ) → position ≤ len → (result : Recognition) → EndsBy len (if_failed result position)
+  EndsBy-if_failed position here Failed = here
+  EndsBy-if_failed position here (Matched end trees) = tt
 
   Keeps-predicate : (tried : Option Record) (result : Recognition → Recognition)
       → ((part : Recognition) → EndsBy len (result part)) → Keeps tried
@@ -211,112 +211,112 @@ module _ (most len : ℕ) where
   Keeps-predicate None result ends h = tt
   Keeps-predicate (Some r) result ends h = IsWithin-with_result r (result r.result) h (ends r.result)
 
-  EndsBy-as_tree : (rule place : ℕ) (result : Recognition) → EndsBy len result → EndsBy len (as_tree rule place result)
-  EndsBy-as_tree rule place Failed ends = tt
-  EndsBy-as_tree rule place (Matched end trees) ends = ends
+  EndsBy-as_tree : (rule position : ℕ) (result : Recognition) → EndsBy len result → EndsBy len (as_tree rule position result)
+  EndsBy-as_tree rule position Failed ends = tt
+  EndsBy-as_tree rule position (Matched end trees) ends = ends
 
-  Keeps-as_use : (rule place : ℕ) (tried : Option Record) → Keeps tried → Keeps (option_map (as_use rule place) tried)
-  Keeps-as_use rule place None h = tt
-  Keeps-as_use rule place (Some r) h =
-      record { below = h.below; in_text = h.in_text; ends = EndsBy-as_tree rule place r.result h.ends }
+  Keeps-as_call : (rule position : ℕ) (tried : Option Record) → Keeps tried → Keeps (option_map (as_call rule position) tried)
+  Keeps-as_call rule position None h = tt
+  Keeps-as_call rule position (Some r) h =
+      record { below = h.below; in_text = h.in_text; ends = EndsBy-as_tree rule position r.result h.ends }
 
   -- bytes from a position on, no more than the text has there
-  IsWithin-literal_at : (terminal place : ℕ) (bytes rest : List ℕ) → terminal < most → place + length rest ≤ len
-      → IsWithin most len (literal_at terminal place bytes rest)
-  IsWithin-literal_at terminal place [] rest room fits = IsWithin-matched_at place (omega arith)
-  IsWithin-literal_at terminal place (b ∷ bs) [] room fits = IsWithin-failed_at terminal place room (omega arith)
-  IsWithin-literal_at terminal place (b ∷ bs) (c ∷ rest) room fits =
-      by (b == c) (IsWithin-literal_at terminal (place + 1) bs rest room (omega arith))
+  IsWithin-literal_at : (terminal position : ℕ) (bytes rest : List ℕ) → terminal < most → position + length rest ≤ len
+      → IsWithin most len (literal_at terminal position bytes rest)
+  IsWithin-literal_at terminal position [] rest room fits = IsWithin-matched_at position (omega arith)
+  IsWithin-literal_at terminal position (b ∷ bs) [] room fits = IsWithin-failed_at terminal position room (omega arith)
+  IsWithin-literal_at terminal position (b ∷ bs) (c ∷ rest) room fits =
+      by (b == c) (IsWithin-literal_at terminal (position + 1) bs rest room (omega arith))
     where
-      by : (same : Bool) → IsWithin most len (literal_at terminal (place + 1) bs rest)
-          → IsWithin most len (if same then literal_at terminal (place + 1) bs rest else failed_at terminal place)
+      by : (same : Bool) → IsWithin most len (literal_at terminal (position + 1) bs rest)
+          → IsWithin most len (if same then literal_at terminal (position + 1) bs rest else failed_at terminal position)
       by true later = later
-      by false later = IsWithin-failed_at terminal place room (omega arith)
+      by false later = IsWithin-failed_at terminal position room (omega arith)
 
-  IsWithin-byte_at : (test : ℕ → Bool) (terminal place : ℕ) (rest : List ℕ) → terminal < most
-      → place + length rest ≤ len → IsWithin most len (byte_at test terminal place rest)
-  IsWithin-byte_at test terminal place [] room fits = IsWithin-failed_at terminal place room (omega arith)
-  IsWithin-byte_at test terminal place (c ∷ rest) room fits = by (test c)
+  IsWithin-byte_at : (test : ℕ → Bool) (terminal position : ℕ) (rest : List ℕ) → terminal < most
+      → position + length rest ≤ len → IsWithin most len (byte_at test terminal position rest)
+  IsWithin-byte_at test terminal position [] room fits = IsWithin-failed_at terminal position room (omega arith)
+  IsWithin-byte_at test terminal position (c ∷ rest) room fits = by (test c)
     where
-      by : (passes : Bool) → IsWithin most len (if passes then matched_at (place + 1) else failed_at terminal place)
-      by true = IsWithin-matched_at (place + 1) (omega arith)
-      by false = IsWithin-failed_at terminal place room (omega arith)
+      by : (passes : Bool) → IsWithin most len (if passes then matched_at (position + 1) else failed_at terminal position)
+      by true = IsWithin-matched_at (position + 1) (omega arith)
+      by false = IsWithin-failed_at terminal position room (omega arith)
 
   -- if a recognizer has the property, so does the table over it
-  module _ (take : Taking) (h : KeepsAll take) where
-    Keeps-take_items : (items : Forms) (terminal place : ℕ) → terminal + terminals_of_all items ≤ most → place ≤ len
-        → Keeps (take_items take items terminal place)
-    Keeps-take_items End terminal place room here = IsWithin-matched_at place here
-    Keeps-take_items (Then e rest) terminal place room here =
-        Keeps-then_at (take e terminal place) (λ end. take_items take rest (terminal + terminals e) end)
-        (h e terminal place (omega arith) here)
+  module _ (take : Recognizer) (h : KeepsAll take) where
+    Keeps-take_items : (items : Forms) (terminal position : ℕ) → terminal + terminals_of_all items ≤ most → position ≤ len
+        → Keeps (recognize_seq take items terminal position)
+    Keeps-take_items End terminal position room here = IsWithin-matched_at position here
+    Keeps-take_items (Then e rest) terminal position room here =
+        Keeps-then_at (take e terminal position) (λ end. recognize_seq take rest (terminal + terminals e) end)
+        (h e terminal position (omega arith) here)
         (λ end within. Keeps-take_items rest (terminal + terminals e) end (omega arith) within)
 
-    Keeps-take_first : (e : Form) (rest : Forms) (terminal place : ℕ)
-        → terminal + (terminals e + terminals_of_all rest) ≤ most → place ≤ len
-        → Keeps (take_first take e rest terminal place)
-    Keeps-take_first e End terminal place room here = h e terminal place (omega arith) here
-    Keeps-take_first e (Then next rest) terminal place room here =
-        Keeps-or_else (take e terminal place) (take_first take next rest (terminal + terminals e) place)
-        (h e terminal place (omega arith) here)
-        (Keeps-take_first next rest (terminal + terminals e) place (omega arith) here)
+    Keeps-take_first : (e : Form) (rest : Forms) (terminal position : ℕ)
+        → terminal + (terminals e + terminals_of_all rest) ≤ most → position ≤ len
+        → Keeps (recognize_choice take e rest terminal position)
+    Keeps-take_first e End terminal position room here = h e terminal position (omega arith) here
+    Keeps-take_first e (Then next rest) terminal position room here =
+        Keeps-or_else (take e terminal position) (recognize_choice take next rest (terminal + terminals e) position)
+        (h e terminal position (omega arith) here)
+        (Keeps-take_first next rest (terminal + terminals e) position (omega arith) here)
 
-    Keeps-name : (place : ℕ) (meaning : Option Meaning) → place ≤ len → IfSome meaning (IsBelow most)
-        → Keeps (option_and_then (λ (m : Meaning). option_map (as_use m.rule place) (take m.body m.terminal place)) meaning)
-    Keeps-name place None here below = tt
-    Keeps-name place (Some m) here below =
-        Keeps-as_use m.rule place (take m.body m.terminal place) (h m.body m.terminal place below here)
+    Keeps-name : (position : ℕ) (meaning : Option Meaning) → position ≤ len → IfSome meaning (IsBelow most)
+        → Keeps (option_and_then (λ (m : Meaning). option_map (as_call m.rule position) (take m.body m.terminal position)) meaning)
+    Keeps-name position None here below = tt
+    Keeps-name position (Some m) here below =
+        Keeps-as_call m.rule position (take m.body m.terminal position) (h m.body m.terminal position below here)
 
     module _ (rules : List Rule) (text : List ℕ) (enough : length (extents_of_terminals rules) ≤ most) (long : length text ≤ len) where
-      rest_fits : (place : ℕ) → place ≤ len → place + length (drop place text) ≤ len
-      rest_fits place here = omega (arith, length-drop place text)
+      rest_fits : (position : ℕ) → position ≤ len → position + length (drop position text) ≤ len
+      rest_fits position here = omega (arith, length-drop position text)
 
       Keeps-table : KeepsAll (table rules text take)
-      Keeps-table (Literal bytes span) terminal place room here =
-          IsWithin-literal_at terminal place bytes (drop place text) (omega arith) (rest_fits place here)
-      Keeps-table (Class set span) terminal place room here =
-          IsWithin-byte_at (has set) terminal place (drop place text) (omega arith) (rest_fits place here)
-      Keeps-table (Any span) terminal place room here =
-          IsWithin-byte_at (λ byte. true) terminal place (drop place text) (omega arith) (rest_fits place here)
-      Keeps-table (Name name span) terminal place room here =
-          Keeps-name place (meant rules name) here (meant-below most rules enough name)
-      Keeps-table (Seq items span) terminal place room here = Keeps-take_items items terminal place room here
-      Keeps-table (Choice first rest span) terminal place room here =
-          Keeps-take_first first rest terminal place room here
-      Keeps-table (Optional part span) terminal place room here =
-          Keeps-or_else (take part terminal place) (Some (matched_at place)) (h part terminal place room here)
-          (IsWithin-matched_at place here)
-      Keeps-table (Star part span) terminal place room here =
-          Keeps-rounds (take part terminal place) place (λ end. take (Star part span) terminal end) here
-          (h part terminal place room here) (λ end within. h (Star part span) terminal end room within)
-      Keeps-table (Plus part span) terminal place room here =
-          Keeps-then_at (take part terminal place) (λ end. take (Star part span) terminal end)
-          (h part terminal place room here) (λ end within. h (Star part span) terminal end room within)
-      Keeps-table (Counted part min max span) terminal place room here =
-          Keeps-take_times (λ at. take part terminal at) (λ at within. h part terminal at room within) min max place
+      Keeps-table (Literal bytes span) terminal position room here =
+          IsWithin-literal_at terminal position bytes (drop position text) (omega arith) (rest_fits position here)
+      Keeps-table (Class set span) terminal position room here =
+          IsWithin-byte_at (has set) terminal position (drop position text) (omega arith) (rest_fits position here)
+      Keeps-table (Any span) terminal position room here =
+          IsWithin-byte_at (λ byte. true) terminal position (drop position text) (omega arith) (rest_fits position here)
+      Keeps-table (Name name span) terminal position room here =
+          Keeps-name position (meaning_of rules name) here (meaning_of-below most rules enough name)
+      Keeps-table (Seq items span) terminal position room here = Keeps-take_items items terminal position room here
+      Keeps-table (Choice first rest span) terminal position room here =
+          Keeps-take_first first rest terminal position room here
+      Keeps-table (Optional part span) terminal position room here =
+          Keeps-or_else (take part terminal position) (Some (matched_at position)) (h part terminal position room here)
+          (IsWithin-matched_at position here)
+      Keeps-table (Star part span) terminal position room here =
+          Keeps-rounds (take part terminal position) position (λ end. take (Star part span) terminal end) here
+          (h part terminal position room here) (λ end within. h (Star part span) terminal end room within)
+      Keeps-table (Plus part span) terminal position room here =
+          Keeps-then_at (take part terminal position) (λ end. take (Star part span) terminal end)
+          (h part terminal position room here) (λ end within. h (Star part span) terminal end room within)
+      Keeps-table (Counted part min max span) terminal position room here =
+          Keeps-recognize_repeat (λ at. take part terminal at) (λ at within. h part terminal at room within) min max position
           here
-      Keeps-table (And part span) terminal place room here =
-          Keeps-predicate (take part terminal place) (λ result. if_matched result place) (EndsBy-if_matched place here)
-          (h part terminal place room here)
-      Keeps-table (Not part span) terminal place room here =
-          Keeps-predicate (take part terminal place) (λ result. if_failed result place) (EndsBy-if_failed place here)
-          (h part terminal place room here)
+      Keeps-table (And part span) terminal position room here =
+          Keeps-predicate (take part terminal position) (λ result. if_matched result position) (EndsBy-if_matched position here)
+          (h part terminal position room here)
+      Keeps-table (Not part span) terminal position room here =
+          Keeps-predicate (take part terminal position) (λ result. if_failed result position) (EndsBy-if_failed position here)
+          (h part terminal position room here)
 
 -- the records in depth n at a position in the text, if all terminals are below a bound
 Keeps-record_in : (most : ℕ) (rules : List Rule) (text : List ℕ) → length (extents_of_terminals rules) ≤ most
     → (n : ℕ) → KeepsAll most (length text) (record_in rules text n)
 unfolding record_in
-Keeps-record_in most rules text enough zero = λ e terminal place room here. tt
+Keeps-record_in most rules text enough zero = λ e terminal position room here. tt
 Keeps-record_in most rules text enough (suc n) =
     Keeps-table most (length text) (record_in rules text n) (Keeps-record_in most rules text enough n) rules text enough
     (le_refl (length text))
 
 IsWithin-record_in : (most : ℕ) (rules : List Rule) (text : List ℕ) → length (extents_of_terminals rules) ≤ most
-    → (n : ℕ) (e : Form) (terminal place : ℕ) (r : Record) → terminal + terminals e ≤ most → place ≤ length text
-    → record_in rules text n e terminal place ≡ Some r → IsWithin most (length text) r
-IsWithin-record_in most rules text enough n e terminal place r room here is =
+    → (n : ℕ) (e : Form) (terminal position : ℕ) (r : Record) → terminal + terminals e ≤ most → position ≤ length text
+    → record_in rules text n e terminal position ≡ Some r → IsWithin most (length text) r
+IsWithin-record_in most rules text enough n e terminal position r room here is =
     subst (λ (tried : Option Record). IfSome tried (IsWithin most (length text))) is
-    (Keeps-record_in most rules text enough n e terminal place room here)
+    (Keeps-record_in most rules text enough n e terminal position room here)
 
 -- the failed tests of a start record are of terminals in the rules
 pub start_record-below : (rules : List Rule) (text : List ℕ) (n : ℕ) (name : List ℕ) (r : Record)
@@ -335,7 +335,7 @@ expected-below most tests far expected furthest below =
   where
     of_a_test : (terminal : ℕ) → Contains expected terminal → terminal < most
     of_a_test terminal there =
-        let failed : Test = record { place = far; terminal = terminal } in
+        let failed : Test = record { position = far; terminal = terminal } in
         All-contains (λ (test : Test). test.terminal < most) tests failed below ((furthest.exactly terminal).0 there)
 
 -- a bound on the numbers of all terminals of an expression and of the rules
@@ -343,18 +343,18 @@ abbrev enough_for : List Rule → ℕ → Form → ℕ
 enough_for rules terminal e = terminal + terminals e + length (extents_of_terminals rules)
 
 -- from a position in the text, the failed tests are at positions in the text
-pub record_in-in_text : (rules : List Rule) (text : List ℕ) (n : ℕ) (e : Form) (terminal place : ℕ) (r : Record)
-    → place ≤ length text → record_in rules text n e terminal place ≡ Some r
-    → All (λ (test : Test). test.place ≤ length text) r.tests
-record_in-in_text rules text n e terminal place r here is =
+pub record_in-in_text : (rules : List Rule) (text : List ℕ) (n : ℕ) (e : Form) (terminal position : ℕ) (r : Record)
+    → position ≤ length text → record_in rules text n e terminal position ≡ Some r
+    → All (λ (test : Test). test.position ≤ length text) r.tests
+record_in-in_text rules text n e terminal position r here is =
     let most = enough_for rules terminal e in
-    (IsWithin-record_in most rules text (omega arith) n e terminal place r (omega arith) here is).in_text
+    (IsWithin-record_in most rules text (omega arith) n e terminal position r (omega arith) here is).in_text
 
 -- a match ends within the text
-pub record_in-ends : (rules : List Rule) (text : List ℕ) (n : ℕ) (e : Form) (terminal place end : ℕ) (trees : Trees)
-    (r : Record) → place ≤ length text → record_in rules text n e terminal place ≡ Some r → r.result ≡ Matched end trees
+pub record_in-ends : (rules : List Rule) (text : List ℕ) (n : ℕ) (e : Form) (terminal position end : ℕ) (trees : Trees)
+    (r : Record) → position ≤ length text → record_in rules text n e terminal position ≡ Some r → r.result ≡ Matched end trees
     → end ≤ length text
-record_in-ends rules text n e terminal place end trees r here is matched =
+record_in-ends rules text n e terminal position end trees r here is matched =
     let most = enough_for rules terminal e in
     subst (EndsBy (length text)) matched
-    (IsWithin-record_in most rules text (omega arith) n e terminal place r (omega arith) here is).ends
+    (IsWithin-record_in most rules text (omega arith) n e terminal position r (omega arith) here is).ends

@@ -4,7 +4,7 @@ use Rattle.std.specs.Prelude.{◌≡◌, ℕ, zero, suc, Bool, true, false, ◌&
 use Rattle.peg_bytes.specs.ByteSet.{Bytes, has_some}
 use Rattle.peg_semantics.specs.Form.{Form, Forms, Literal, Class, Any, Name, Seq, Choice, Optional, Star, Plus, Counted}
 use Rattle.peg_semantics.specs.Form.{And, Not, End, Then}
-use Rattle.peg_semantics.specs.Rules.{Rule, Meaning, meant}
+use Rattle.peg_semantics.specs.Rules.{Rule, Meaning, meaning_of}
 
 -- Ford's three outcomes: 0 (succeeds without consuming), 1 (succeeds and consumes) and f (fails)
 pub record Can : Type 0 where
@@ -13,16 +13,16 @@ pub record Can : Type 0 where
   pub fails : Bool
 
 -- no outcome: the start of the iteration
-abbrev pub cannot : Can
-cannot = record { nothing = false; something = false; fails = false }
+abbrev pub no_outcome : Can
+no_outcome = record { nothing = false; something = false; fails = false }
 
 -- the outcomes of the empty expression
-abbrev pub only_nothing : Can
-only_nothing = record { nothing = true; something = false; fails = false }
+abbrev pub always_empty : Can
+always_empty = record { nothing = true; something = false; fails = false }
 
 -- the outcomes of a nonempty literal or of any
-abbrev pub something_or_fails : Can
-something_or_fails = record { nothing = false; something = true; fails = true }
+abbrev pub consumes_or_fails : Can
+consumes_or_fails = record { nothing = false; something = true; fails = true }
 
 -- the outcomes of a class; the empty class can only fail
 abbrev pub can_of_set : Bytes → Can
@@ -34,86 +34,86 @@ succeeds can = can.nothing || can.something
 
 -- The outcomes of a sequence of two expressions. 0: both give 0. 1: both succeed and one of them gives 1. f: the first
 -- fails, or the first succeeds and the second fails.
-abbrev pub both : Can → Can → Can
-both first rest = record {
+abbrev pub seq_outcome : Can → Can → Can
+seq_outcome first rest = record {
   nothing = first.nothing && rest.nothing;
   something = succeeds first && succeeds rest && (first.something || rest.something);
   fails = first.fails || (succeeds first && rest.fails);
 }
 
 -- the outcomes of a choice: 0 and 1 as the first alternative; if the first fails, also all outcomes of the second
-abbrev pub either : Can → Can → Can
-either first rest = record {
+abbrev pub choice_outcome : Can → Can → Can
+choice_outcome first rest = record {
   nothing = first.nothing || (first.fails && rest.nothing);
   something = first.something || (first.fails && rest.something);
   fails = first.fails && rest.fails;
 }
 
 -- the outcomes of an optional part
-abbrev pub or_nothing : Can → Can
-or_nothing part = record { nothing = part.nothing || part.fails; something = part.something; fails = false }
+abbrev pub optional_outcome : Can → Can
+optional_outcome part = record { nothing = part.nothing || part.fails; something = part.something; fails = false }
 
 -- the outcomes of a star: 0 if the part can fail, 1 if the part gives 1
-abbrev pub again : Can → Can
-again part = record { nothing = part.fails; something = part.something; fails = false }
+abbrev pub star_outcome : Can → Can
+star_outcome part = record { nothing = part.fails; something = part.something; fails = false }
 
 -- the outcomes of a plus: the part once, then the star
-abbrev pub once_and_again : Can → Can
-once_and_again part = record { nothing = part.nothing && part.fails; something = part.something; fails = part.fails }
+abbrev pub plus_outcome : Can → Can
+plus_outcome part = record { nothing = part.nothing && part.fails; something = part.something; fails = part.fails }
 
 -- The outcomes of a count. With max 0 nothing is matched. While min is above 0 the part is required; after that the
 -- part and the rest are optional.
-abbrev pub times : Can → (min max : ℕ) → Can
-times part min zero = only_nothing
-times part zero (suc max) = or_nothing (both part (times part zero max))
-times part (suc min) (suc max) = both part (times part min max)
+abbrev pub repeat_outcome : Can → (min max : ℕ) → Can
+repeat_outcome part min zero = always_empty
+repeat_outcome part zero (suc max) = optional_outcome (seq_outcome part (repeat_outcome part zero max))
+repeat_outcome part (suc min) (suc max) = seq_outcome part (repeat_outcome part min max)
 
 -- the outcomes of the predicates `&e` and `!e`
-abbrev pub ahead : Can → Can
-ahead part = record { nothing = succeeds part; something = false; fails = part.fails }
+abbrev pub and_outcome : Can → Can
+and_outcome part = record { nothing = succeeds part; something = false; fails = part.fails }
 
-abbrev pub not_ahead : Can → Can
-not_ahead part = record { nothing = part.fails; something = false; fails = succeeds part }
+abbrev pub not_outcome : Can → Can
+not_outcome part = record { nothing = part.fails; something = false; fails = succeeds part }
 
 -- an assignment of outcomes to expressions
-abbrev pub Judging : Type 0
-Judging = Form → Can
+abbrev pub OutcomeOf : Type 0
+OutcomeOf = Form → Can
 
 -- the outcomes of the items of a sequence
-abbrev pub judge_items : Judging → Forms → Can
-judge_items judge End = only_nothing
-judge_items judge (Then e rest) = both (judge e) (judge_items judge rest)
+abbrev pub outcome_of_items : OutcomeOf → Forms → Can
+outcome_of_items judge End = always_empty
+outcome_of_items judge (Then e rest) = seq_outcome (judge e) (outcome_of_items judge rest)
 
 -- the outcomes of the alternatives of a choice
-abbrev pub judge_first : Judging → Form → Forms → Can
-judge_first judge e End = judge e
-judge_first judge e (Then next rest) = either (judge e) (judge_first judge next rest)
+abbrev pub outcome_of_choice : OutcomeOf → Form → Forms → Can
+outcome_of_choice judge e End = judge e
+outcome_of_choice judge e (Then next rest) = choice_outcome (judge e) (outcome_of_choice judge next rest)
 
 -- the outcomes of the rule that a name refers to; none for an undefined name
-abbrev pub judge_meaning : Judging → Option Meaning → Can
-judge_meaning judge None = cannot
-judge_meaning judge (Some m) = judge m.body
+abbrev pub outcome_of_meaning : OutcomeOf → Option Meaning → Can
+outcome_of_meaning judge None = no_outcome
+outcome_of_meaning judge (Some m) = judge m.body
 
 -- Ford's rules, one line for each form of expression, given the outcomes of its parts
-abbrev pub can_table : List Rule → Judging → Judging
-can_table rules judge (Literal [] span) = only_nothing
-can_table rules judge (Literal (b ∷ bs) span) = something_or_fails
+abbrev pub can_table : List Rule → OutcomeOf → OutcomeOf
+can_table rules judge (Literal [] span) = always_empty
+can_table rules judge (Literal (b ∷ bs) span) = consumes_or_fails
 can_table rules judge (Class set span) = can_of_set set
-can_table rules judge (Any span) = something_or_fails
-can_table rules judge (Name name span) = judge_meaning judge (meant rules name)
-can_table rules judge (Seq items span) = judge_items judge items
-can_table rules judge (Choice first rest span) = judge_first judge first rest
-can_table rules judge (Optional part span) = or_nothing (judge part)
-can_table rules judge (Star part span) = again (judge part)
-can_table rules judge (Plus part span) = once_and_again (judge part)
-can_table rules judge (Counted part min max span) = times (judge part) min max
-can_table rules judge (And part span) = ahead (judge part)
-can_table rules judge (Not part span) = not_ahead (judge part)
+can_table rules judge (Any span) = consumes_or_fails
+can_table rules judge (Name name span) = outcome_of_meaning judge (meaning_of rules name)
+can_table rules judge (Seq items span) = outcome_of_items judge items
+can_table rules judge (Choice first rest span) = outcome_of_choice judge first rest
+can_table rules judge (Optional part span) = optional_outcome (judge part)
+can_table rules judge (Star part span) = star_outcome (judge part)
+can_table rules judge (Plus part span) = plus_outcome (judge part)
+can_table rules judge (Counted part min max span) = repeat_outcome (judge part) min max
+can_table rules judge (And part span) = and_outcome (judge part)
+can_table rules judge (Not part span) = not_outcome (judge part)
 
 -- The outcomes of an expression after n rounds of iteration: none in round 0; else by Ford's rules from the outcomes in
 -- round n - 1.
-unfoldable pub can_in : List Rule → ℕ → Judging
-can_in rules zero e = cannot
+unfoldable pub can_in : List Rule → ℕ → OutcomeOf
+can_in rules zero e = no_outcome
 can_in rules (suc n) e = can_table rules (can_in rules n) e
 
 -- Ford's outcomes are the least relation closed under his rules: an outcome holds if it holds in some round.

@@ -3,18 +3,18 @@
 use Rattle.std.specs.Prelude.{ℕ, Bool, true, false, List, [], ◌∷◌, map, codes}
 use Rattle.peg_bytes.specs.Extent.{between}
 use Rattle.peg_tree.specs.Trees.{Trees, NoTrees, Tree}
-use Rattle.peg_semantics.specs.AbstractOutcomes.{Can, cannot, can_in}
+use Rattle.peg_semantics.specs.AbstractOutcomes.{Can, no_outcome, can_in}
 use Rattle.peg_semantics.specs.Form.{Form, Literal, Class, Any, Name, Seq, Choice, Optional, Star, Plus, Counted, And, Not}
 use Rattle.peg_semantics.specs.Form.{End, Then}
 use Rattle.peg_semantics.specs.Furthest.{IsFurthest}
-use Rattle.peg_semantics.specs.Record.{Record, Failed, Matched, Test, Use, IsRecord}
+use Rattle.peg_semantics.specs.Record.{Record, Failed, Matched, Test, RuleCall, IsRecord}
 use Rattle.peg_semantics.specs.Rules.{Rule}
 
-abbrev test : (place terminal : ℕ) → Test
-test place terminal = record { place = place; terminal = terminal }
+abbrev test : (position terminal : ℕ) → Test
+test position terminal = record { position = position; terminal = terminal }
 
-abbrev use_of : (rule place : ℕ) → Use
-use_of rule place = record { rule = rule; place = place }
+abbrev call_at : (rule position : ℕ) → RuleCall
+call_at rule position = record { rule = rule; position = position }
 
 -- a node with the given children
 abbrev node : (rule start end : ℕ) → Trees → Trees
@@ -42,14 +42,14 @@ abbrev pub nested_record : Record
 nested_record = record {
   result = Matched 3 (node 0 0 3 (node 0 1 3 (node 0 2 3 NoTrees)));
   tests = test 2 0 ∷ [];
-  uses = use_of 0 0 ∷ use_of 0 1 ∷ use_of 0 2 ∷ [];
+  calls = call_at 0 0 ∷ call_at 0 1 ∷ call_at 0 2 ∷ [];
 }
 
 -- D <- &(A !'b') 'a'* B !.
 -- A <- 'a' A 'b' / ''
 -- B <- 'b' B 'c' / ''
-abbrev pub counted : List Rule
-counted =
+abbrev pub abc_grammar : List Rule
+abc_grammar =
     record {
       name = codes "D";
       span = between 0 1;
@@ -87,11 +87,11 @@ counted =
     } ∷ []
 
 -- on aabbcc: the predicate leaves no tree, but its failed tests count
-abbrev pub counted_record : Record
-counted_record = record {
+abbrev pub abc_record : Record
+abc_record = record {
   result = Matched 6 (node 0 0 6 (node 2 2 6 (node 2 3 5 (node 2 4 4 NoTrees))));
   tests = test 2 3 ∷ test 4 0 ∷ test 2 1 ∷ test 4 6 ∷ test 6 2 ∷ [];
-  uses = use_of 0 0 ∷ use_of 1 0 ∷ use_of 1 1 ∷ use_of 1 2 ∷ use_of 2 2 ∷ use_of 2 3 ∷ use_of 2 4 ∷ [];
+  calls = call_at 0 0 ∷ call_at 1 0 ∷ call_at 1 1 ∷ call_at 1 2 ∷ call_at 2 2 ∷ call_at 2 3 ∷ call_at 2 4 ∷ [];
 }
 
 -- S <- 'a' / 'ab'
@@ -108,7 +108,7 @@ ordered =
 
 -- on ab: the first alternative matches, so the longer one is not tried
 abbrev pub ordered_record : Record
-ordered_record = record { result = Matched 1 (node 0 0 1 NoTrees); tests = []; uses = use_of 0 0 ∷ [] }
+ordered_record = record { result = Matched 1 (node 0 0 1 NoTrees); tests = []; calls = call_at 0 0 ∷ [] }
 
 -- A <- '(' A ')' 'x' / '(' A ')' 'y' / 'a'
 abbrev pub repeated_prefix : List Rule
@@ -141,7 +141,7 @@ abbrev pub repeated_prefix_record : Record
 repeated_prefix_record = record {
   result = Matched 4 (node 0 0 4 (node 0 1 2 NoTrees));
   tests = test 1 0 ∷ test 1 3 ∷ test 3 2 ∷ test 1 0 ∷ test 1 3 ∷ [];
-  uses = use_of 0 0 ∷ use_of 0 1 ∷ use_of 0 1 ∷ [];
+  calls = call_at 0 0 ∷ call_at 0 1 ∷ call_at 0 1 ∷ [];
 }
 
 -- A <- 'a'{2,4}
@@ -155,15 +155,15 @@ two_to_four =
 
 -- on aaa: the fourth attempt at 'a' fails, and the count still matches
 abbrev pub three_record : Record
-three_record = record { result = Matched 3 (node 0 0 3 NoTrees); tests = test 3 0 ∷ []; uses = use_of 0 0 ∷ [] }
+three_record = record { result = Matched 3 (node 0 0 3 NoTrees); tests = test 3 0 ∷ []; calls = call_at 0 0 ∷ [] }
 
 -- on a: the second 'a' is required
 abbrev pub too_few_record : Record
-too_few_record = record { result = Failed; tests = test 1 0 ∷ []; uses = use_of 0 0 ∷ [] }
+too_few_record = record { result = Failed; tests = test 1 0 ∷ []; calls = call_at 0 0 ∷ [] }
 
 -- on aaaaa: the fifth byte is not tested
 abbrev pub four_record : Record
-four_record = record { result = Matched 4 (node 0 0 4 NoTrees); tests = []; uses = use_of 0 0 ∷ [] }
+four_record = record { result = Matched 4 (node 0 0 4 NoTrees); tests = []; calls = call_at 0 0 ∷ [] }
 
 -- a triple of outcomes: succeeds on nothing, succeeds on something, fails
 abbrev can : (nothing something fails : Bool) → Can
@@ -174,8 +174,8 @@ abbrev pub all_can_in : List Rule → ℕ → List Can
 all_can_in rules n = map (λ (rule : Rule). can_in rules n rule.body) rules
 
 -- A and B match the empty literal if nothing else matches, so they never fail; the predicates of D can fail
-abbrev pub counted_can : List Can
-counted_can = can true true true ∷ can true true false ∷ can true true false ∷ []
+abbrev pub abc_can : List Can
+abc_can = can true true true ∷ can true true false ∷ can true true false ∷ []
 
 -- S <- 'a' S / 'b' consumes a byte or fails
 abbrev pub nested_can : List Can
@@ -191,11 +191,11 @@ itself = record { name = codes "T"; span = between 0 1; body = Name (codes "T") 
 
 -- the least outcomes of T: none
 abbrev pub itself_can : List Can
-itself_can = cannot ∷ []
+itself_can = no_outcome ∷ []
 
 -- expressions with operators: 'x'?  .+  ''*  &[]  !''  'x'* .  !'x' / [] 'x'
-abbrev pub signs : List Rule
-signs = map
+abbrev pub operators : List Rule
+operators = map
     (λ (body : Form). record { name = codes "A"; span = between 0 1; body = body })
     (Optional (Literal (codes "x") (between 0 3)) (between 0 4)
     ∷ Plus (Any (between 0 1)) (between 0 2)
@@ -210,8 +210,8 @@ signs = map
     ∷ [])
 
 -- by Ford's rules, expression by expression; the star of '' has no outcome
-abbrev pub signs_can : List Can
-signs_can =
+abbrev pub operators_can : List Can
+operators_can =
     can true true false
     ∷ can false true true
     ∷ can false false false

@@ -15,12 +15,12 @@ insert_ascending n (m ∷ ms) =
     if nat_lt n m then n ∷ m ∷ ms else (if n == m then m ∷ ms else m ∷ insert_ascending n ms)
 
 -- the furthest failure after one more failed test
-abbrev pub noted : Furthest → Test → Furthest
-noted f test =
-    if nat_lt test.place f.far
+abbrev pub note_test : Furthest → Test → Furthest
+note_test f test =
+    if nat_lt test.position f.far
     then f
-    else (if nat_lt f.far test.place
-    then record { far = test.place; expected = test.terminal ∷ [] }
+    else (if nat_lt f.far test.position
+    then record { far = test.position; expected = test.terminal ∷ [] }
     else record { far = f.far; expected = insert_ascending test.terminal f.expected })
 
 -- the furthest failure before any test
@@ -29,4 +29,4 @@ nothing_failed = record { far = 0; expected = [] }
 
 -- the furthest failure after all of the tests
 abbrev pub furthest_of : List Test → Furthest
-furthest_of tests = fold noted nothing_failed tests
+furthest_of tests = fold note_test nothing_failed tests

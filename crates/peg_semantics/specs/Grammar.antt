@@ -3,7 +3,7 @@ use Rattle.std.specs.Prelude.{◌≢◌, ℕ, Bool, List, [], ◌∷◌, ◌++�
 use Rattle.std.specs.Prelude.{if◌then◌else◌, bytes_eq, ◌≡◌, ◌&&◌, nat_le, true}
 use Rattle.std.specs.List.{list_any}
 use Rattle.peg_semantics.specs.Form.{Reference, Count}
-use Rattle.peg_semantics.specs.Rules.{Rule, names, uses, counts, defined_at, is_defined}
+use Rattle.peg_semantics.specs.Rules.{Rule, names, references, counts, defined_at, is_defined}
 
 -- the greatest number allowed in a count
 abbrev pub greatest_count : ℕ
@@ -22,7 +22,7 @@ CountsAreInRange rules = All (λ count. is_in_range count ≡ true) (counts rule
 pub record IsGrammar (rules : List Rule) : Type 0 where
   pub some : rules ≢ []
   pub distinct : AllPairs (λ (a b : List ℕ). a ≢ b) (names rules)
-  pub defined : All (λ (reference : Reference). Contains (names rules) reference.name) (uses rules)
+  pub defined : All (λ (reference : Reference). Contains (names rules) reference.name) (references rules)
   pub counted : CountsAreInRange rules
 
 -- the maximum weight of a grammar
@@ -43,7 +43,7 @@ first_duplicate rules = duplicate_after [] rules
 
 -- the first reference, in written order, to a name that no rule defines
 abbrev pub first_undefined : List Rule → Option Reference
-first_undefined rules = find (λ (reference : Reference). not (is_defined rules reference.name)) (uses rules)
+first_undefined rules = find (λ (reference : Reference). not (is_defined rules reference.name)) (references rules)
 
 -- the first count, in written order, that is out of range
 abbrev pub first_bad_count : List Rule → Option Count

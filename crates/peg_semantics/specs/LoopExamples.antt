@@ -14,8 +14,8 @@ star_of_stuck_star = only_rule (Star (Star (Literal [] (between 6 8)) (between 6
 
 -- A <- B 'x'
 -- B <- 'y'? A
-abbrev pub behind_optional : List Rule
-behind_optional =
+abbrev pub after_optional : List Rule
+after_optional =
     record {
       name = codes "A";
       span = between 0 1;
@@ -31,8 +31,8 @@ behind_optional =
     } ∷ []
 
 -- A <- [] A: the class never succeeds, so A is not a left call
-abbrev pub behind_empty_class : List Rule
-behind_empty_class =
+abbrev pub after_empty_class : List Rule
+after_empty_class =
     only_rule (Seq (Then (Class [] (between 5 7)) (Then (Name (codes "A") (between 8 9)) End)) (between 5 9))
 
 -- A <- A{0,2}: the part of a count is left-called, whatever its bounds

@@ -20,8 +20,8 @@ abbrev pub defined_at : Rule → Reference
 defined_at rule = record { name = rule.name; span = rule.span }
 
 -- the names that the rules refer to, in written order
-abbrev pub uses : List Rule → List Reference
-uses rules = flat_map (λ rule. names_used rule.body) rules
+abbrev pub references : List Rule → List Reference
+references rules = flat_map (λ rule. names_used rule.body) rules
 
 -- the counts in the rules, in written order
 abbrev pub counts : List Rule → List Count
@@ -47,13 +47,13 @@ pub record Meaning : Type 0 where
 
 -- The first rule of the given name, if the first rule of the list has number `rule` and first terminal `terminal`.
 -- Terminals are numbered from 0 in written order, rule by rule and left to right.
-abbrev pub meant_from : ℕ → ℕ → List Rule → List ℕ → Option Meaning
-meant_from rule terminal [] name = None
-meant_from rule terminal (r ∷ rs) name =
+abbrev pub meaning_from : ℕ → ℕ → List Rule → List ℕ → Option Meaning
+meaning_from rule terminal [] name = None
+meaning_from rule terminal (r ∷ rs) name =
     if bytes_eq name r.name
     then Some (record { rule = rule; terminal = terminal; body = r.body })
-    else meant_from (rule + 1) (terminal + terminals r.body) rs name
+    else meaning_from (rule + 1) (terminal + terminals r.body) rs name
 
 -- the rule that a name refers to in a grammar
-abbrev pub meant : List Rule → List ℕ → Option Meaning
-meant rules name = meant_from 0 0 rules name
+abbrev pub meaning_of : List Rule → List ℕ → Option Meaning
+meaning_of rules name = meaning_from 0 0 rules name

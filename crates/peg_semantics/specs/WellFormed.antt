@@ -2,38 +2,38 @@
 use Rattle.std.specs.Prelude.{ℕ, zero, suc, List, [], ◌∷◌, ◌++◌, All, Option, None, Some}
 use Rattle.peg_semantics.specs.Form.{Form, Forms, Literal, Class, Any, Name, Seq, Choice, Optional, Star, Plus, Counted}
 use Rattle.peg_semantics.specs.Form.{And, Not, End, Then}
-use Rattle.peg_semantics.specs.Rules.{Rule, Meaning, meant}
+use Rattle.peg_semantics.specs.Rules.{Rule, Meaning, meaning_of}
 use Rattle.peg_semantics.specs.AbstractOutcomes.{GivesNothing}
 
 -- a property of expressions
-abbrev pub Asking : Type 1
-Asking = Form → Type 0
+abbrev pub FormPredicate : Type 1
+FormPredicate = Form → Type 0
 
 -- the items of a sequence: the first has the property, and if it gives 0, so do the rest
-abbrev pub ItemsAre : List Rule → Asking → Forms → Type 0
+abbrev pub ItemsAre : List Rule → FormPredicate → Forms → Type 0
 ItemsAre rules Is End = Unit {0}
 ItemsAre rules Is (Then e rest) = Is e × (GivesNothing rules e → ItemsAre rules Is rest)
 
 -- all of the expressions have the property
-abbrev pub AllAre : Asking → Forms → Type 0
+abbrev pub AllAre : FormPredicate → Forms → Type 0
 AllAre Is End = Unit {0}
 AllAre Is (Then e rest) = Is e × AllAre Is rest
 
 -- the name refers to a rule whose expression has the property
-abbrev pub MeaningIs : Asking → Option Meaning → Type 0
+abbrev pub MeaningIs : FormPredicate → Option Meaning → Type 0
 MeaningIs Is None = ⊥
 MeaningIs Is (Some m) = Is m.body
 
 -- the part of a star or a plus has the property and does not give 0
-abbrev pub RepeatsWell : List Rule → Asking → Form → Type 0
+abbrev pub RepeatsWell : List Rule → FormPredicate → Form → Type 0
 RepeatsWell rules Is part = Is part × ¬ GivesNothing rules part
 
 -- Ford's rules, one line for each form of expression, given the property of its parts
-abbrev pub WellFormedTable : List Rule → Asking → Asking
+abbrev pub WellFormedTable : List Rule → FormPredicate → FormPredicate
 WellFormedTable rules Is (Literal bytes span) = Unit {0}
 WellFormedTable rules Is (Class set span) = Unit {0}
 WellFormedTable rules Is (Any span) = Unit {0}
-WellFormedTable rules Is (Name name span) = MeaningIs Is (meant rules name)
+WellFormedTable rules Is (Name name span) = MeaningIs Is (meaning_of rules name)
 WellFormedTable rules Is (Seq items span) = ItemsAre rules Is items
 WellFormedTable rules Is (Choice first rest span) = Is first × AllAre Is rest
 WellFormedTable rules Is (Optional part span) = Is part
@@ -44,7 +44,7 @@ WellFormedTable rules Is (And part span) = Is part
 WellFormedTable rules Is (Not part span) = Is part
 
 -- Well-formed in n rounds: in round 0 no expression is; else by Ford's rules from round n - 1.
-unfoldable pub IsWellFormedIn : List Rule → ℕ → Asking
+unfoldable pub IsWellFormedIn : List Rule → ℕ → FormPredicate
 IsWellFormedIn rules zero e = ⊥
 IsWellFormedIn rules (suc n) e = WellFormedTable rules (IsWellFormedIn rules n) e
 

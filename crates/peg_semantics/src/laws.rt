@@ -2,18 +2,18 @@
 //! law.
 ghost use Rattle.std.specs.Prelude.{◌≡◌, ◌≢◌, ◌↔◌, ℕ, suc, ◌<◌, ◌≤◌, All, Contains, List, [], ◌∷◌, codes, length};
 ghost use Rattle.std.specs.Prelude.{None, Some};
-ghost use Rattle.peg_semantics.specs.AbstractOutcomes.{CanAll, CanFail, GivesNothing, GivesSomething, Judging, can_in};
+ghost use Rattle.peg_semantics.specs.AbstractOutcomes.{CanAll, CanFail, GivesNothing, GivesSomething, OutcomeOf, can_in};
 ghost use Rattle.peg_semantics.specs.Depth.{max_cases};
-ghost use Rattle.peg_semantics.specs.Examples.{Gives, nested, nested_record, counted, counted_record, ordered};
+ghost use Rattle.peg_semantics.specs.Examples.{Gives, nested, nested_record, abc_grammar, abc_record, ordered};
 ghost use Rattle.peg_semantics.specs.Examples.{ordered_record, repeated_prefix, repeated_prefix_record};
-ghost use Rattle.peg_semantics.specs.Examples.{all_can_in, nested_can, counted_can, itself, itself_can, signs, signs_can};
+ghost use Rattle.peg_semantics.specs.Examples.{all_can_in, nested_can, abc_can, itself, itself_can, operators, operators_can};
 ghost use Rattle.peg_semantics.specs.Examples.{star_of_star, plus_of_empty, star_of_optional};
 ghost use Rattle.peg_semantics.specs.Examples.{two_to_four, three_record, too_few_record, four_record, two_to_four_can};
 ghost use Rattle.peg_semantics.specs.Form.{Form, Name};
 ghost use Rattle.peg_semantics.specs.Rules.{Rule, name_of};
-ghost use Rattle.peg_semantics.specs.LoopExamples.{only_rule, star_of_stuck_star, behind_optional, behind_empty_class};
+ghost use Rattle.peg_semantics.specs.LoopExamples.{only_rule, star_of_stuck_star, after_optional, after_empty_class};
 ghost use Rattle.peg_semantics.specs.LoopExamples.{counted_itself, star_of_count};
-ghost use Rattle.peg_semantics.specs.Loops.{IsEmptyLoop, IsLeftCycle, MeetsFirst};
+ghost use Rattle.peg_semantics.specs.Loops.{IsEmptyLoop, IsLeftCycle, LeftCalls};
 ghost use Rattle.peg_semantics.specs.Ranked.{IsRanked};
 ghost use Rattle.peg_semantics.specs.Grammar.{IsGrammar, first_bad_count, first_duplicate, first_undefined};
 ghost use Rattle.peg_semantics.specs.Furthest.{IsFurthest};
@@ -27,16 +27,16 @@ ghost use Rattle.peg_tree.specs.Trees.{Trees};
 
 /// Records are monotone in the depth: a record in depth n is also the record in depth n + 1.
 pub fn records_are_monotone_in_depth()
-    ensures { (rules : List Rule) (text : List ℕ) (n : ℕ) (e : Form) (terminal place : ℕ) (r : Record)
-        → record_in rules text n e terminal place ≡ Some r
-        → record_in rules text (suc n) e terminal place ≡ Some r }
+    ensures { (rules : List Rule) (text : List ℕ) (n : ℕ) (e : Form) (terminal position : ℕ) (r : Record)
+        → record_in rules text n e terminal position ≡ Some r
+        → record_in rules text (suc n) e terminal position ≡ Some r }
 {}
 
 /// Records are unique: one expression has at most one record at one position (Ford 2004, section 3.3: the relation is a
 /// function).
 pub fn records_are_unique()
-    ensures { (rules : List Rule) (text : List ℕ) (e : Form) (terminal place : ℕ) (r s : Record)
-        → IsRecord rules text e terminal place r → IsRecord rules text e terminal place s → r ≡ s }
+    ensures { (rules : List Rule) (text : List ℕ) (e : Form) (terminal position : ℕ) (r s : Record)
+        → IsRecord rules text e terminal position r → IsRecord rules text e terminal position s → r ≡ s }
 {}
 
 /// One pass over the failed tests, as the code does it, computes their furthest failure.
@@ -48,7 +48,7 @@ pub fn one_pass_gives_the_furthest_failure()
 /// furthest failure.
 pub fn the_definitions_agree_with_hand_worked_grammars()
     ensures nested { Gives nested (codes "S") (codes "aab") nested_record 2 (0 ∷ []) }
-    ensures counted { Gives counted (codes "D") (codes "aabbcc") counted_record 6 (2 ∷ []) }
+    ensures abc_grammar { Gives abc_grammar (codes "D") (codes "aabbcc") abc_record 6 (2 ∷ []) }
     ensures ordered { Gives ordered (codes "S") (codes "ab") ordered_record 0 [] }
     ensures repeated_prefix { Gives repeated_prefix (codes "A") (codes "(a)y") repeated_prefix_record 3 (2 ∷ []) }
     ensures three { Gives two_to_four (codes "A") (codes "aaa") three_record 3 (0 ∷ []) }
@@ -60,8 +60,8 @@ pub fn the_definitions_agree_with_hand_worked_grammars()
 /// number of rounds. A star or a plus over a part that can match nothing is not well-formed.
 pub fn the_outcomes_agree_with_hand_worked_grammars()
     ensures nested { all_can_in nested 8 ≡ nested_can }
-    ensures counted { all_can_in counted 8 ≡ counted_can }
-    ensures signs { all_can_in signs 8 ≡ signs_can }
+    ensures abc_grammar { all_can_in abc_grammar 8 ≡ abc_can }
+    ensures operators { all_can_in operators 8 ≡ operators_can }
     ensures two_to_four { all_can_in two_to_four 8 ≡ two_to_four_can }
     ensures itself { (n : ℕ) → all_can_in itself n ≡ itself_can }
     ensures star_of_star { ¬ IsWellFormed [] star_of_star }
@@ -92,11 +92,11 @@ pub fn every_failed_test_is_of_a_terminal()
 
 /// From a position within the text, every failed test is within the text, and every match ends within the text.
 pub fn records_stay_within_the_text()
-    ensures tests { (rules : List Rule) (text : List ℕ) (n : ℕ) (e : Form) (terminal place : ℕ) (r : Record)
-        → place ≤ length text → record_in rules text n e terminal place ≡ Some r
-        → All (λ (test : Test). test.place ≤ length text) r.tests }
-    ensures end { (rules : List Rule) (text : List ℕ) (n : ℕ) (e : Form) (terminal place end : ℕ) (trees : Trees)
-        (r : Record) → place ≤ length text → record_in rules text n e terminal place ≡ Some r
+    ensures tests { (rules : List Rule) (text : List ℕ) (n : ℕ) (e : Form) (terminal position : ℕ) (r : Record)
+        → position ≤ length text → record_in rules text n e terminal position ≡ Some r
+        → All (λ (test : Test). test.position ≤ length text) r.tests }
+    ensures end { (rules : List Rule) (text : List ℕ) (n : ℕ) (e : Form) (terminal position end : ℕ) (trees : Trees)
+        (r : Record) → position ≤ length text → record_in rules text n e terminal position ≡ Some r
         → r.result ≡ Matched end trees → end ≤ length text }
 {}
 
@@ -115,16 +115,19 @@ pub fn abstract_outcomes_are_monotone()
 /// Abstract outcomes are sound (Ford 2004, section 3.5): every match ends at its start position or later. A match that
 /// consumes nothing implies outcome 0, a longer match implies 1, and a failure implies f.
 pub fn results_show_abstract_outcomes()
-    ensures onward { (rules : List Rule) (text : List ℕ) (n : ℕ) (e : Form) (terminal place end : ℕ) (trees : Trees)
-        (r : Record) → record_in rules text n e terminal place ≡ Some r → r.result ≡ Matched end trees → place ≤ end }
-    ensures nothing { (rules : List Rule) (text : List ℕ) (n : ℕ) (e : Form) (terminal place : ℕ) (trees : Trees)
-        (r : Record) → record_in rules text n e terminal place ≡ Some r → r.result ≡ Matched place trees
+    ensures onward { (rules : List Rule) (text : List ℕ) (n : ℕ) (e : Form) (terminal position end : ℕ) (trees : Trees)
+        (r : Record) → record_in rules text n e terminal position ≡ Some r → r.result ≡ Matched end trees
+        → position ≤ end }
+    ensures nothing { (rules : List Rule) (text : List ℕ) (n : ℕ) (e : Form) (terminal position : ℕ) (trees : Trees)
+        (r : Record) → record_in rules text n e terminal position ≡ Some r → r.result ≡ Matched position trees
         → GivesNothing rules e }
-    ensures something { (rules : List Rule) (text : List ℕ) (n : ℕ) (e : Form) (terminal place end : ℕ) (trees : Trees)
-        (r : Record) → record_in rules text n e terminal place ≡ Some r → r.result ≡ Matched end trees → place < end
+    ensures something { (rules : List Rule) (text : List ℕ) (n : ℕ) (e : Form) (terminal position end : ℕ)
+        (trees : Trees)
+        (r : Record) → record_in rules text n e terminal position ≡ Some r → r.result ≡ Matched end trees
+        → position < end
         → GivesSomething rules e }
-    ensures fails { (rules : List Rule) (text : List ℕ) (n : ℕ) (e : Form) (terminal place : ℕ) (r : Record)
-        → record_in rules text n e terminal place ≡ Some r → r.result ≡ Failed → CanFail rules e }
+    ensures fails { (rules : List Rule) (text : List ℕ) (n : ℕ) (e : Form) (terminal position : ℕ) (r : Record)
+        → record_in rules text n e terminal position ≡ Some r → r.result ≡ Failed → CanFail rules e }
 {}
 
 /// An expression that is well-formed in n rounds is well-formed in n + 1 rounds.
@@ -142,12 +145,13 @@ pub fn well_formed_grammars_have_no_loops()
 /// A well-formed grammar is complete (Ford 2004, section 3.6). On every text, at every position, every subexpression of
 /// every rule and the name of every rule has a record. Every start rule has a record on every text.
 pub fn well_formed_grammars_are_complete()
-    ensures subexpressions { (rules : List Rule) (text : List ℕ) (rule : Rule) (e : Form) (terminal place : ℕ)
-        → IsWellFormedGrammar rules → Contains rules rule → Contains (subexpressions rule.body) e → place ≤ length text
-        → (r : Record) × IsRecord rules text e terminal place r }
-    ensures names { (rules : List Rule) (text : List ℕ) (rule : ℕ) (span : Extent) (terminal place : ℕ)
-        → IsWellFormedGrammar rules → rule < length rules → place ≤ length text
-        → (r : Record) × IsRecord rules text (Name (name_of rules rule) span) terminal place r }
+    ensures subexpressions { (rules : List Rule) (text : List ℕ) (rule : Rule) (e : Form) (terminal position : ℕ)
+        → IsWellFormedGrammar rules → Contains rules rule → Contains (subexpressions rule.body) e
+        → position ≤ length text
+        → (r : Record) × IsRecord rules text e terminal position r }
+    ensures names { (rules : List Rule) (text : List ℕ) (rule : ℕ) (span : Extent) (terminal position : ℕ)
+        → IsWellFormedGrammar rules → rule < length rules → position ≤ length text
+        → (r : Record) × IsRecord rules text (Name (name_of rules rule) span) terminal position r }
     ensures starts { (rules : List Rule) (text : List ℕ) (start : ℕ)
         → IsWellFormedGrammar rules → start < length rules
         → (n : ℕ) × (r : Record) × (start_record rules text n (name_of rules start) ≡ Some r) }
@@ -165,7 +169,7 @@ pub fn no_record_is_deeper_than_its_states()
 /// closed under Ford's rules, no star or plus has a part that gives 0, and every rule left-calls only rules of lower
 /// rank.
 pub fn ranked_grammars_are_well_formed()
-    ensures { (rules : List Rule) (judge : Judging) (rank : ℕ → ℕ)
+    ensures { (rules : List Rule) (judge : OutcomeOf) (rank : ℕ → ℕ)
         → IsGrammar rules → IsRanked rules judge rank → IsWellFormedGrammar rules }
 {}
 
@@ -177,8 +181,8 @@ pub fn the_loops_agree_with_hand_worked_grammars()
     ensures star_of_optional { IsEmptyLoop (only_rule star_of_optional) 0 (between 5 13) }
     ensures inner { IsEmptyLoop star_of_stuck_star 0 (between 6 9) }
     ensures outer { ¬ IsEmptyLoop star_of_stuck_star 0 (between 5 11) }
-    ensures behind_optional { IsLeftCycle behind_optional (0 ∷ 1 ∷ []) }
-    ensures behind_empty_class { ¬ MeetsFirst behind_empty_class 0 0 }
+    ensures after_optional { IsLeftCycle after_optional (0 ∷ 1 ∷ []) }
+    ensures after_empty_class { ¬ LeftCalls after_empty_class 0 0 }
     ensures itself { IsLeftCycle itself (0 ∷ []) }
     ensures counted_itself { IsLeftCycle counted_itself (0 ∷ []) }
     ensures star_of_count { IsEmptyLoop star_of_count 0 (between 5 16) }

@@ -4,18 +4,18 @@ use Rattle.std.proofs.Common.{refl, sym, ◌∙◌, subst}
 use Rattle.std.specs.Io.KnownBytes.{Keeps}
 use Rattle.peg_io.specs.declared.transfer.ReadFault.{ReadFault}
 use Rattle.peg_io.specs.declared.transfer.ReadFault.TheVariants as read
-use Rattle.peg_json.specs.Statuses.{code_of}
+use Rattle.peg_json.specs.Statuses.{status_code}
 use Rattle.peg_json.specs.declared.line.Line.{Line}
-use Rattle.peg_tool.specs.Ends.{Ends}
+use Rattle.peg_tool.specs.WritesReply.{WritesReply}
 use Rattle.peg_tool.specs.Written.{Prints, PrintsInPart}
-use Rattle.peg_tool.specs.declared.ending.ToolFault.{ToolFault}
-use Rattle.peg_tool.specs.declared.ending.ToolFault.TheVariants as tool
+use Rattle.peg_tool.specs.declared.write.ToolFault.{ToolFault}
+use Rattle.peg_tool.specs.declared.write.ToolFault.TheVariants as tool
 use Rattle.peg_json.specs.Lines.{line_bytes}
 
 module _ (IsRight : List ℕ → ℕ → Type 0) (old new : Option (List ℕ)) where
   -- a correct line that is written as a whole
-  pub ends-prints : (told : Result Line ReadFault) (result : Result ℕ ToolFault) → Ends told old new result
-      → IfOk told (λ line. IsRight (line_bytes line) (code_of line.status))
+  pub ends-prints : (reported : Result Line ReadFault) (result : Result ℕ ToolFault) → WritesReply reported old new result
+      → IfOk reported (λ line. IsRight (line_bytes line) (status_code line.status))
       → IfOk result (λ status. Prints IsRight old new status)
   ends-prints (Ok line) (Ok status) ends right =
       inl (line_bytes line, subst (IsRight (line_bytes line)) (sym ends.1) right, ends.0)
@@ -27,12 +27,12 @@ module _ (IsRight : List ℕ → ℕ → Type 0) (old new : Option (List ℕ)) w
   ends-prints (Err read.Device) (Err why) ends right = tt
 
   -- a correct line that is written in part
-  pub ends-in_part : (told : Result Line ReadFault) (result : Result ℕ ToolFault) → Ends told old new result
-      → IfOk told (λ line. IsRight (line_bytes line) (code_of line.status)) → result ≡ Err tool.WriteFault
+  pub ends-in_part : (reported : Result Line ReadFault) (result : Result ℕ ToolFault) → WritesReply reported old new result
+      → IfOk reported (λ line. IsRight (line_bytes line) (status_code line.status)) → result ≡ Err tool.WriteFault
       → PrintsInPart IsRight old new
   ends-in_part (Ok line) (Ok status) ends right is = cc
   ends-in_part (Ok line) (Err tool.WriteFault) ends right is =
-      (line_bytes line, code_of line.status, ends.0, right, ends.1, ends.2)
+      (line_bytes line, status_code line.status, ends.0, right, ends.1, ends.2)
   ends-in_part (Ok line) (Err tool.ReadFault) ends right is = absurd ends
   ends-in_part (Err read.Memory) result ends right is =
       absurd (let bad : Ok 5 ≡ Err tool.WriteFault = sym ends.0 ∙ is in cc)
@@ -41,46 +41,46 @@ module _ (IsRight : List ℕ → ℕ → Type 0) (old new : Option (List ℕ)) w
 
 -- if the bytes of an input are known, its line is correct; otherwise nothing is promised
 pub input-prints : (IsRight : List ℕ → List ℕ → ℕ → Type 0) (left old new : Option (List ℕ))
-    (told : Result Line ReadFault) (result : Result ℕ ToolFault) → Ends told old new result
-    → IfSome left (λ input. IfOk told (λ line. IsRight input (line_bytes line) (code_of line.status)))
+    (reported : Result Line ReadFault) (result : Result ℕ ToolFault) → WritesReply reported old new result
+    → IfSome left (λ input. IfOk reported (λ line. IsRight input (line_bytes line) (status_code line.status)))
     → IfSome left (λ input. IfOk result (λ status. Prints (IsRight input) old new status))
-input-prints IsRight None old new told result ends right = tt
-input-prints IsRight (Some input) old new told result ends right = ends-prints (IsRight input) old new told result ends right
+input-prints IsRight None old new reported result ends right = tt
+input-prints IsRight (Some input) old new reported result ends right = ends-prints (IsRight input) old new reported result ends right
 
 pub input-in_part : (IsRight : List ℕ → List ℕ → ℕ → Type 0) (left old new : Option (List ℕ))
-    (told : Result Line ReadFault) (result : Result ℕ ToolFault) → Ends told old new result
-    → IfSome left (λ input. IfOk told (λ line. IsRight input (line_bytes line) (code_of line.status)))
+    (reported : Result Line ReadFault) (result : Result ℕ ToolFault) → WritesReply reported old new result
+    → IfSome left (λ input. IfOk reported (λ line. IsRight input (line_bytes line) (status_code line.status)))
     → IfSome left (λ input. result ≡ Err tool.WriteFault → PrintsInPart (IsRight input) old new)
-input-in_part IsRight None old new told result ends right = tt
-input-in_part IsRight (Some input) old new told result ends right =
-    ends-in_part (IsRight input) old new told result ends right
+input-in_part IsRight None old new reported result ends right = tt
+input-in_part IsRight (Some input) old new reported result ends right =
+    ends-in_part (IsRight input) old new reported result ends right
 
 -- the same for a file and the texts of a task
 pub file-prints : (IsText : List ℕ → List ℕ → Type 0) (IsRight : List ℕ → List ℕ → List ℕ → ℕ → Type 0)
-    (left old new : Option (List ℕ)) (told : Result Line ReadFault) (result : Result ℕ ToolFault)
-    → Ends told old new result
+    (left old new : Option (List ℕ)) (reported : Result Line ReadFault) (result : Result ℕ ToolFault)
+    → WritesReply reported old new result
     → IfSome left (λ file. (bytes : List ℕ) → IsText file bytes
-    → IfOk told (λ line. IsRight file bytes (line_bytes line) (code_of line.status)))
+    → IfOk reported (λ line. IsRight file bytes (line_bytes line) (status_code line.status)))
     → IfSome left (λ file. (bytes : List ℕ) → IsText file bytes
     → IfOk result (λ status. Prints (IsRight file bytes) old new status))
-file-prints IsText IsRight None old new told result ends right = tt
-file-prints IsText IsRight (Some file) old new told result ends right =
-    λ bytes is. ends-prints (IsRight file bytes) old new told result ends (right bytes is)
+file-prints IsText IsRight None old new reported result ends right = tt
+file-prints IsText IsRight (Some file) old new reported result ends right =
+    λ bytes is. ends-prints (IsRight file bytes) old new reported result ends (right bytes is)
 
 pub file-in_part : (IsText : List ℕ → List ℕ → Type 0) (IsRight : List ℕ → List ℕ → List ℕ → ℕ → Type 0)
-    (left old new : Option (List ℕ)) (told : Result Line ReadFault) (result : Result ℕ ToolFault)
-    → Ends told old new result
+    (left old new : Option (List ℕ)) (reported : Result Line ReadFault) (result : Result ℕ ToolFault)
+    → WritesReply reported old new result
     → IfSome left (λ file. (bytes : List ℕ) → IsText file bytes
-    → IfOk told (λ line. IsRight file bytes (line_bytes line) (code_of line.status)))
+    → IfOk reported (λ line. IsRight file bytes (line_bytes line) (status_code line.status)))
     → IfSome left (λ file. (bytes : List ℕ) → IsText file bytes → result ≡ Err tool.WriteFault
     → PrintsInPart (IsRight file bytes) old new)
-file-in_part IsText IsRight None old new told result ends right = tt
-file-in_part IsText IsRight (Some file) old new told result ends right =
-    λ bytes is. ends-in_part (IsRight file bytes) old new told result ends (right bytes is)
+file-in_part IsText IsRight None old new reported result ends right = tt
+file-in_part IsText IsRight (Some file) old new reported result ends right =
+    λ bytes is. ends-in_part (IsRight file bytes) old new reported result ends (right bytes is)
 
 -- the run returns a read fault exactly if a read failed
-pub ends-read : (old new : Option (List ℕ)) (told : Result Line ReadFault) (result : Result ℕ ToolFault) (X : Type 0)
-    → Ends told old new result → (told ≡ Err read.Device) ↔ X → (result ≡ Err tool.ReadFault) ↔ X
+pub ends-read : (old new : Option (List ℕ)) (reported : Result Line ReadFault) (result : Result ℕ ToolFault) (X : Type 0)
+    → WritesReply reported old new result → (reported ≡ Err read.Device) ↔ X → (result ≡ Err tool.ReadFault) ↔ X
 ends-read old new (Ok line) (Ok status) X ends both = (λ bad. cc, λ x. absurd (let bad = both.1 x in cc))
 ends-read old new (Ok line) (Err tool.WriteFault) X ends both = (λ bad. cc, λ x. absurd (let bad = both.1 x in cc))
 ends-read old new (Ok line) (Err tool.ReadFault) X ends both = absurd ends
@@ -88,8 +88,8 @@ ends-read old new (Err read.Memory) result X ends both =
     (λ is. absurd (let bad : Ok 5 ≡ Err tool.ReadFault = sym ends.0 ∙ is in cc), λ x. absurd (let bad = both.1 x in cc))
 ends-read old new (Err read.Device) result X ends both = (λ is. both.0 refl, λ x. ends.0)
 
-pub ends-nothing : (old new : Option (List ℕ)) (told : Result Line ReadFault) (result : Result ℕ ToolFault)
-    → Ends told old new result → result ≡ Err tool.ReadFault → Keeps old new
+pub ends-nothing : (old new : Option (List ℕ)) (reported : Result Line ReadFault) (result : Result ℕ ToolFault)
+    → WritesReply reported old new result → result ≡ Err tool.ReadFault → Keeps old new
 ends-nothing old new (Ok line) (Ok status) ends is = cc
 ends-nothing old new (Ok line) (Err tool.WriteFault) ends is = cc
 ends-nothing old new (Ok line) (Err tool.ReadFault) ends is = absurd ends

@@ -6,14 +6,14 @@ use Rattle.std.specs.declared.alloc.AllocError.{AllocError}
 use Rattle.peg_semantics.specs.Rules.{Rule}
 use Rattle.peg_grammar.specs.Limits.{max_text_bytes}
 use Rattle.peg_parser.specs.Cause.{NoSuchStart, TextTooLong}
-use Rattle.peg_semantics.specs.Starts.{start_of}
+use Rattle.peg_semantics.specs.Starts.{start_name}
 use Rattle.peg_machine.specs.declared.answer.Answer.{Answer}
 use Rattle.peg_parser.specs.declared.parser.ParseFault.{ParseFault}
 use Rattle.peg_parser.specs.declared.parser.ParseFault.TheVariants as fault
 use Rattle.peg_json.specs.Lines.{IsLineOf, IsReply, line_bytes}
 use Rattle.peg_json.specs.Parses.{ParsesTo, text_too_long}
 use Rattle.peg_json.specs.Reply.{Refused}
-use Rattle.peg_json.specs.Statuses.{code_of}
+use Rattle.peg_json.specs.Statuses.{status_code}
 use Rattle.peg_json.specs.declared.line.Line.{Line}
 use Rattle.peg_json.proofs.ParseLemmas.{missing-parses}
 use Rattle.peg_json.proofs.PrintLemmas.{reply-kind}
@@ -21,13 +21,13 @@ use Rattle.peg_json.proofs.PrintLemmas.{reply-kind}
 -- the line for a start that no rule has; a text that is too long is reported first
 pub no_start-line : (result : Result Line AllocError) (file : List ℕ) (rules : List Rule) (text : List ℕ)
     (start : Option (List ℕ)) (steps : Option ℕ) (all rows : Bool) (name : List ℕ) → start ≡ Some name
-    → start_of rules start ≡ None
+    → start_name rules start ≡ None
     → (max_text_bytes < length text → IfOk result (λ line.
-    IsReply file (Refused TextTooLong) (line_bytes line) (code_of line.status)))
+    IsReply file (Refused TextTooLong) (line_bytes line) (status_code line.status)))
     → (length text ≤ max_text_bytes → IfOk result (λ line.
-    IsReply file (Refused (NoSuchStart name)) (line_bytes line) (code_of line.status)))
+    IsReply file (Refused (NoSuchStart name)) (line_bytes line) (status_code line.status)))
     → IfOk result (λ line.
-    IsLineOf file (ParsesTo rules text start steps all rows) (line_bytes line) (code_of line.status))
+    IsLineOf file (ParsesTo rules text start steps all rows) (line_bytes line) (status_code line.status))
 no_start-line result file rules text start steps all rows name named none long missing =
     elim (cases_lt max_text_bytes (length text)) [
       | inl over ↦
@@ -40,13 +40,13 @@ no_start-line result file rules text start steps all rows name named none long m
 
 -- a text that is rejected as too long is too long, since the start was found first
 pub long-text : (result : Result Answer ParseFault) (rules : List Rule) (start : Option (List ℕ)) (size : ℕ)
-    → result ≡ Err fault.TextTooLong → (result ≡ Err fault.NoSuchStart) ↔ (start_of rules start ≡ None)
-    → ((from : List ℕ) → start_of rules start ≡ Some from
+    → result ≡ Err fault.TextTooLong → (result ≡ Err fault.NoSuchStart) ↔ (start_name rules start ≡ None)
+    → ((from : List ℕ) → start_name rules start ≡ Some from
     → (result ≡ Err fault.TextTooLong) ↔ (max_text_bytes < size))
     → max_text_bytes < size
-long-text result rules start size is none long = by (start_of rules start) refl
+long-text result rules start size is none long = by (start_name rules start) refl
   where
-    by : (found : Option (List ℕ)) → start_of rules start ≡ found → max_text_bytes < size
+    by : (found : Option (List ℕ)) → start_name rules start ≡ found → max_text_bytes < size
     by None there =
         absurd (let bad : Err fault.TextTooLong ≡ Err fault.NoSuchStart = sym is ∙ none.1 there in cc)
     by (Some from) there = (long from there).0 is

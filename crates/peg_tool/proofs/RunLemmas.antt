@@ -17,11 +17,11 @@ use Rattle.peg_json.specs.Lines.{IsLineOf, line_bytes}
 use Rattle.peg_json.specs.Parses.{ParsesTo, text_too_long, no_such_start, too_many_steps, failed, too_many_levels}
 use Rattle.peg_json.specs.Parses.{matched}
 use Rattle.peg_json.specs.Reply.{Reply, Refused, printed_line, status_of}
-use Rattle.peg_json.specs.Statuses.{code_of}
+use Rattle.peg_json.specs.Statuses.{status_code}
 use Rattle.peg_json.specs.declared.line.Line.{Line}
-use Rattle.peg_tool.specs.Replies.{RepliesTo, IsPrinted, IsPrintedJoined, max_joined_bytes, no_grammar, tabled, ill_formed}
+use Rattle.peg_tool.specs.Replies.{RepliesTo, IsPrinted, IsPrintedJoined, max_joined_bytes, refused_grammar, tabled, refused_form}
 use Rattle.peg_tool.specs.Replies.{too_large, accepted, coded, parsed}
-use Rattle.peg_tool.specs.Task.{Task, TableTask, CheckTask, CodeTask, ParseTask, IsTextOf, default_task}
+use Rattle.peg_tool.specs.Task.{ToolTask, TableTask, CheckTask, CodeTask, ParseTask, IsTextOf, default_task}
 
 -- ---- texts over the limit
 
@@ -45,11 +45,11 @@ ParsesTo-longer rules text more start steps all rows reply long longer
     absurd (omega (arith, long, within))
 
 -- the same for any task
-RepliesTo-longer : (file text more : List ℕ) (task : Task) (reply : Reply) → max_text_bytes < length text
+RepliesTo-longer : (file text more : List ℕ) (task : ToolTask) (reply : Reply) → max_text_bytes < length text
     → max_text_bytes < length more → RepliesTo file text task reply → RepliesTo file more task reply
-RepliesTo-longer file text more task reply long longer (no_grammar is) = no_grammar is
+RepliesTo-longer file text more task reply long longer (refused_grammar is) = refused_grammar is
 RepliesTo-longer file text more task reply long longer (tabled read taken are) = tabled read taken are
-RepliesTo-longer file text more task reply long longer (ill_formed checks is) = ill_formed checks is
+RepliesTo-longer file text more task reply long longer (refused_form checks is) = refused_form checks is
 RepliesTo-longer file text more task reply long longer (too_large checks is) = too_large checks is
 RepliesTo-longer file text more task reply long longer (accepted accepts) = accepted accepts
 RepliesTo-longer file text more task reply long longer (coded accepts) = coded accepts
@@ -59,9 +59,9 @@ RepliesTo-longer file text more task reply long longer (parsed {rules} {start} {
 -- ---- files over the limit
 
 -- a file over the limit is rejected as `FileTooLong`
-over-reply : (file text : List ℕ) (task : Task) (reply : Reply) → max_file_bytes < length file
+over-reply : (file text : List ℕ) (task : ToolTask) (reply : Reply) → max_file_bytes < length file
     → RepliesTo file text task reply → reply ≡ Refused FileTooLong
-over-reply file text task reply long (no_grammar is) = by is
+over-reply file text task reply long (refused_grammar is) = by is
   where
     by : {cause : Cause} → IsNoGrammar file cause → Refused cause ≡ Refused FileTooLong
     by (file_too_long over) = refl
@@ -72,7 +72,7 @@ over-reply file text task reply long (no_grammar is) = by is
     by (a_name_missing read once missing) = absurd (omega (arith, long, read.within))
     by (too_many_parts read whole over) = absurd (omega (arith, long, read.within))
 over-reply file text task reply long (tabled read taken are) = absurd (omega (arith, long, read.within))
-over-reply file text task reply long (ill_formed checks is) = by is
+over-reply file text task reply long (refused_form checks is) = by is
   where
     by : {cause : Cause} → IsIllFormed file cause → Refused cause ≡ Refused FileTooLong
     by (empty_loop number span read taken ill loop) = absurd (omega (arith, long, read.within))
@@ -84,18 +84,18 @@ over-reply file text task reply long (coded accepts) = absurd (omega (arith, lon
 over-reply file text task reply long (parsed accepts is) = absurd (omega (arith, long, accepts.read.within))
 
 -- all files over the limit have the same printed replies
-over-printed : (file text other more : List ℕ) (task : Task) (line : List ℕ) (status : ℕ) → max_file_bytes < length file
+over-printed : (file text other more : List ℕ) (task : ToolTask) (line : List ℕ) (status : ℕ) → max_file_bytes < length file
     → max_file_bytes < length other → IsPrinted task file text line status → IsPrinted task other more line status
 over-printed file text other more task line status long longer is =
     let same = over-reply file text task is.0 long is.1 in (
       Refused FileTooLong,
-      no_grammar (file_too_long longer),
+      refused_grammar (file_too_long longer),
       is.2 ∙ ap (printed_line file) same,
       is.3 ∙ ap status_of same,
     )
 
 -- the reply for a prefix over the limit of a file is the reply for the whole file
-pub IsPrinted-front : (task : Task) (text front rest line : List ℕ) (status : ℕ) → max_file_bytes + 1 ≤ length front
+pub IsPrinted-front : (task : ToolTask) (text front rest line : List ℕ) (status : ℕ) → max_file_bytes + 1 ≤ length front
     → IsPrinted task front text line status → IsPrinted task (front ++ rest) text line status
 IsPrinted-front task text front rest line status long is =
     over-printed front text (front ++ rest) text task line status (omega arith)
@@ -109,7 +109,7 @@ split-shorter input file text (at_separator place found is rest) = omega (arith,
 split-shorter input file text (without_separator none is rest) = omega (arith, ap length is)
 
 -- the reply for a prefix over both limits together, split at a separator, is the reply with any bytes appended
-separated-printed : (file text rest : List ℕ) (task : Task) (line : List ℕ) (status : ℕ)
+separated-printed : (file text rest : List ℕ) (task : ToolTask) (line : List ℕ) (status : ℕ)
     → max_joined_bytes ≤ length file + 3 + length text → IsPrinted task file text line status
     → IsPrinted task file (text ++ rest) line status
 separated-printed file text rest task line status long is = elim (cases_lt max_file_bytes (length file)) [
@@ -139,16 +139,16 @@ IsPrintedJoined-front front rest line status long given =
 
 -- A line that is correct for the bytes read is correct for the whole input. This needs that a line for a prefix of the
 -- most bytes held is correct for every continuation.
-pub right-held : (IsRight : List ℕ → List ℕ → ℕ → Type 0) (most : ℕ)
-    → ((front rest line : List ℕ) (status : ℕ) → most ≤ length front → IsRight front line status
+pub right-held : (IsRight : List ℕ → List ℕ → ℕ → Type 0) (max_steps : ℕ)
+    → ((front rest line : List ℕ) (status : ℕ) → max_steps ≤ length front → IsRight front line status
     → IsRight (front ++ rest) line status)
-    → (left new : Option (List ℕ)) (held line : List ℕ) (status : ℕ) → Consumes left new held → length held ≤ most
-    → (length held < most → IsAtEnd new) → IsRight held line status
+    → (left new : Option (List ℕ)) (held line : List ℕ) (status : ℕ) → Consumes left new held → length held ≤ max_steps
+    → (length held < max_steps → IsAtEnd new) → IsRight held line status
     → IfSome left (λ input. IsRight input line status)
-right-held IsRight most front None new held line status consumed within end given = tt
-right-held IsRight most front (Some input) None held line status consumed within end given = absurd consumed
-right-held IsRight most front (Some input) (Some rest) held line status consumed within end given =
-    elim (cases_lt (length held) most) [
+right-held IsRight max_steps front None new held line status consumed within end given = tt
+right-held IsRight max_steps front (Some input) None held line status consumed within end given = absurd consumed
+right-held IsRight max_steps front (Some input) (Some rest) held line status consumed within end given =
+    elim (cases_lt (length held) max_steps) [
       | inl less ↦
           let all : input ≡ held = consumed ∙ ap (λ bytes. held ++ bytes) (end less) ∙ append-nil held in
           subst (λ l. IsRight l line status) (sym all) given
@@ -165,22 +165,22 @@ pub parsed-printed : (file text : List ℕ) (rules : List Rule) (start : Option 
 parsed-printed file text rules start steps all rows line status accepts is = (is.0, parsed accepts is.1, is.2, is.3)
 
 -- the reply for the text that was read is the reply for the text
-pub parsed-told : (result : Result Line ReadFault) (file : List ℕ) (left : Option (List ℕ)) (bytes : List ℕ)
+pub parsed-reported : (result : Result Line ReadFault) (file : List ℕ) (left : Option (List ℕ)) (bytes : List ℕ)
     (rules : List Rule) (start : Option (List ℕ)) (steps : Option ℕ) (all rows : Bool)
     → IsTextOf (ParseTask start steps all rows) file left bytes
     → Accepts file rules
     → IfOk result (λ line. IfSome left (λ text.
-    IsPrinted (ParseTask start steps all rows) file text (line_bytes line) (code_of line.status)))
+    IsPrinted (ParseTask start steps all rows) file text (line_bytes line) (status_code line.status)))
     → IfOk result (λ line.
-    IsPrinted (ParseTask start steps all rows) file bytes (line_bytes line) (code_of line.status))
-parsed-told (Ok line) file left bytes rules start steps all rows is accepts told =
+    IsPrinted (ParseTask start steps all rows) file bytes (line_bytes line) (status_code line.status))
+parsed-reported (Ok line) file left bytes rules start steps all rows is accepts reported =
     subst (λ (text : Option (List ℕ)). IfSome text (λ read.
-    IsPrinted (ParseTask start steps all rows) file read (line_bytes line) (code_of line.status)))
-    (is rules accepts) told
-parsed-told (Err why) file left bytes rules start steps all rows is accepts told = tt
+    IsPrinted (ParseTask start steps all rows) file read (line_bytes line) (status_code line.status)))
+    (is rules accepts) reported
+parsed-reported (Err why) file left bytes rules start steps all rows is accepts reported = tt
 
 -- the reply for a prefix over the limit of a text is the reply for the whole text
-pub IsPrinted-text_front : (task : Task) (file front rest line : List ℕ) (status : ℕ)
+pub IsPrinted-text_front : (task : ToolTask) (file front rest line : List ℕ) (status : ℕ)
     → max_text_bytes + 1 ≤ length front → IsPrinted task file front line status
     → IsPrinted task file (front ++ rest) line status
 IsPrinted-text_front task file front rest line status long is = (
@@ -193,10 +193,10 @@ IsPrinted-text_front task file front rest line status long is = (
 -- ---- devices
 
 -- the bytes read of a file within the limit are the whole file
-whole-held : (file : List ℕ) (new : Option (List ℕ)) (held : List ℕ) (most : ℕ) → Consumes (Some file) new held
-    → (length held < most → IsAtEnd new) → length held < most → file ≡ held
-whole-held file None held most consumed end less = absurd consumed
-whole-held file (Some rest) held most consumed end less =
+whole-held : (file : List ℕ) (new : Option (List ℕ)) (held : List ℕ) (max_steps : ℕ) → Consumes (Some file) new held
+    → (length held < max_steps → IsAtEnd new) → length held < max_steps → file ≡ held
+whole-held file None held max_steps consumed end less = absurd consumed
+whole-held file (Some rest) held max_steps consumed end less =
     consumed ∙ ap (λ bytes. held ++ bytes) (end less) ∙ append-nil held
 
 accepts-whole : (file : List ℕ) (new : Option (List ℕ)) (held : List ℕ) (rules : List Rule)
@@ -217,11 +217,11 @@ held-unaccepted (Some file) new held X consumed end then =
 -- ---- lines for whole files
 
 -- a line is correct for a task on a file, for every text of the task
-abbrev pub IsRightFor : Task → (text : Option (List ℕ)) → (file line : List ℕ) → ℕ → Type 0
+abbrev pub IsRightFor : ToolTask → (text : Option (List ℕ)) → (file line : List ℕ) → ℕ → Type 0
 IsRightFor task text file line status = (bytes : List ℕ) → IsTextOf task file text bytes → IsPrinted task file bytes line status
 
 -- a task on a prefix over the limit of a file takes any text
-any_text : (task : Task) (text : Option (List ℕ)) (file bytes : List ℕ) → max_file_bytes < length file
+any_text : (task : ToolTask) (text : Option (List ℕ)) (file bytes : List ℕ) → max_file_bytes < length file
     → IsTextOf task file text bytes
 any_text TableTask text file bytes long = tt
 any_text CheckTask text file bytes long = tt
@@ -229,14 +229,14 @@ any_text CodeTask text file bytes long = tt
 any_text (ParseTask start steps all rows) text file bytes long =
     λ rules accepts. absurd (omega (arith, long, accepts.read.within))
 
-pub IsRightFor-front : (task : Task) (text : Option (List ℕ)) (front rest line : List ℕ) (status : ℕ)
+pub IsRightFor-front : (task : ToolTask) (text : Option (List ℕ)) (front rest line : List ℕ) (status : ℕ)
     → max_file_bytes + 1 ≤ length front → IsRightFor task text front line status
     → IsRightFor task text (front ++ rest) line status
 IsRightFor-front task text front rest line status long right bytes is =
     IsPrinted-front task bytes front rest line status long (right bytes (any_text task text front bytes (omega arith)))
 
 -- a line that is correct for the bytes read of a file is correct for the file
-pub line-held : (task : Task) (text left new : Option (List ℕ)) (held line : List ℕ) (status : ℕ)
+pub line-held : (task : ToolTask) (text left new : Option (List ℕ)) (held line : List ℕ) (status : ℕ)
     → Consumes left new held → length held ≤ max_file_bytes + 1 → (length held < max_file_bytes + 1 → IsAtEnd new)
     → IsRightFor task text held line status → IfSome left (λ file. IsRightFor task text file line status)
 line-held task text left new held line status consumed within end right =
@@ -244,13 +244,13 @@ line-held task text left new held line status consumed within end right =
     consumed within end right
 
 -- the same for a result that may be a line
-pub told-held : (result : Result Line ReadFault) (task : Task) (text left new : Option (List ℕ)) (held : List ℕ)
+pub reported-held : (result : Result Line ReadFault) (task : ToolTask) (text left new : Option (List ℕ)) (held : List ℕ)
     → Consumes left new held → length held ≤ max_file_bytes + 1 → (length held < max_file_bytes + 1 → IsAtEnd new)
     → ((bytes : List ℕ) → IsTextOf task held text bytes
-    → IfOk result (λ line. IsPrinted task held bytes (line_bytes line) (code_of line.status)))
+    → IfOk result (λ line. IsPrinted task held bytes (line_bytes line) (status_code line.status)))
     → IfSome left (λ file. (bytes : List ℕ) → IsTextOf task file text bytes
-    → IfOk result (λ line. IsPrinted task file bytes (line_bytes line) (code_of line.status)))
-told-held (Ok line) task text left new held consumed within end right =
-    line-held task text left new held (line_bytes line) (code_of line.status) consumed within end right
-told-held (Err why) task text None new held consumed within end right = tt
-told-held (Err why) task text (Some file) new held consumed within end right = λ bytes is. tt
+    → IfOk result (λ line. IsPrinted task file bytes (line_bytes line) (status_code line.status)))
+reported-held (Ok line) task text left new held consumed within end right =
+    line-held task text left new held (line_bytes line) (status_code line.status) consumed within end right
+reported-held (Err why) task text None new held consumed within end right = tt
+reported-held (Err why) task text (Some file) new held consumed within end right = λ bytes is. tt

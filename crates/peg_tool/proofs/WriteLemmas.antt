@@ -5,8 +5,8 @@ use Rattle.std.proofs.lemmas.List.{take_at, drop_at, take-append-le}
 use Rattle.std.proofs.KnownBytes.{Appends-trans}
 use Rattle.std.specs.Io.KnownBytes.{Appends}
 use Rattle.peg_io.specs.Transfer.{AppendsProperPrefix}
-use Rattle.peg_tree.specs.RowsLeft.{text_left}
-use Rattle.peg_tree.specs.declared.rows_text.RowsText.{RowsText}
+use Rattle.peg_tree.specs.FlatTreeLeft.{text_left}
+use Rattle.peg_tree.specs.declared.flat_tree_writer.FlatTreeWriter.{FlatTreeWriter}
 use Rattle.peg_json.specs.Lines.{with_rows}
 
 -- a fact that holds anyway holds if there is an error
@@ -37,7 +37,7 @@ prefix-behind old mid new done more first cut =
     )
 
 -- the parts of a text with the nodes between them
-pub parts-with_rows : (text front back : List ℕ) (place : ℕ) (given : Option RowsText) (rows : RowsText)
+pub parts-with_rows : (text front back : List ℕ) (place : ℕ) (given : Option FlatTreeWriter) (rows : FlatTreeWriter)
     → given ≡ Some rows → place ≡ length text - 2 → front ≡ take place text → back ≡ drop place text
     → front ++ (text_left rows ++ back) ≡ with_rows text given
 parts-with_rows text front back place given rows is here before behind =

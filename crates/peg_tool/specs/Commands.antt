@@ -1,11 +1,11 @@
 -- Describes code: the tasks of commands.
 use Rattle.peg_parser.specs.Parser.{start_named}
-use Rattle.peg_tool.specs.Task.{Task, TableTask, CheckTask, CodeTask, ParseTask}
+use Rattle.peg_tool.specs.Task.{ToolTask, TableTask, CheckTask, CodeTask, ParseTask}
 use Rattle.peg_tool.specs.declared.command.Command.{Command}
 use Rattle.peg_tool.specs.declared.command.Command.TheVariants.{Table, Check, Code, Parse}
 
 -- the task of a command
-abbrev pub task_of : Command → Task
+abbrev pub task_of : Command → ToolTask
 task_of Table = TableTask
 task_of Check = CheckTask
 task_of Code = CodeTask

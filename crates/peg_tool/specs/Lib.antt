@@ -17,9 +17,9 @@ pub use Rattle.peg_json.specs.Reply
 pub use Rattle.peg_json.specs.Statuses
 pub use Rattle.peg_json.specs.TreeForms
 pub mod Commands
-pub mod Ends
-pub mod Judged
-pub mod Leads
+pub mod WritesReply
+pub mod Loaded
+pub mod CommandOutcome
 pub mod Replies
 pub mod Task
 pub mod Written

@@ -3,25 +3,27 @@ use Rattle.std.specs.Prelude.{ℕ, Bool, List, Option, length}
 use Rattle.peg_code.specs.Code.{entries_of, program_code}
 use Rattle.peg_core.specs.CoreForm.{core_bodies}
 use Rattle.peg_semantics.specs.AbstractOutcomes.{Can}
-use Rattle.peg_semantics.specs.RuleOutcomes.{AreOutcomes}
+use Rattle.peg_semantics.specs.RuleOutcomes.{AreAbstractOutcomes}
 use Rattle.peg_semantics.specs.Rules.{Rule, names}
-use Rattle.peg_parser.specs.Accepts.{IsRead, IsTaken, Accepts}
+use Rattle.peg_parser.specs.Accepts.{IsRead, IsAcceptedGrammar, Accepts}
 use Rattle.peg_parser.specs.Cause.{Cause}
 use Rattle.peg_parser.specs.Refusals.{IsNoGrammar, IsIllFormed, HasTooMuchCode}
 use Rattle.peg_json.specs.Lines.{IsLineOf}
 use Rattle.peg_json.specs.Parses.{ParsesTo}
 use Rattle.peg_json.specs.Reply.{Reply, Refused, Tabled, Accepted, Coded}
 use Rattle.peg_io.specs.Split.{IsSplit}
-use Rattle.peg_tool.specs.Task.{Task, TableTask, CheckTask, CodeTask, ParseTask, Checks, default_task}
+use Rattle.peg_tool.specs.Task.{ToolTask, TableTask, CheckTask, CodeTask, ParseTask, Checks, default_task}
 
 -- the reply to a task on a grammar file and a text
-pub data RepliesTo (file text : List ℕ) : Task → Reply → Type 0 where
-  no_grammar : {task : Task} {cause : Cause} → IsNoGrammar file cause → RepliesTo file text task (Refused cause)
-  tabled : {rules : List Rule} {cans : List Can} → IsRead file rules → IsTaken rules → AreOutcomes rules cans
-      → RepliesTo file text TableTask (Tabled (names rules) cans)
-  ill_formed : {task : Task} {cause : Cause} → Checks task → IsIllFormed file cause
+pub data RepliesTo (file text : List ℕ) : ToolTask → Reply → Type 0 where
+  refused_grammar : {task : ToolTask} {cause : Cause} → IsNoGrammar file cause
       → RepliesTo file text task (Refused cause)
-  too_large : {task : Task} {cause : Cause} → Checks task → HasTooMuchCode file cause
+  tabled : {rules : List Rule} {cans : List Can} → IsRead file rules → IsAcceptedGrammar rules
+      → AreAbstractOutcomes rules cans
+      → RepliesTo file text TableTask (Tabled (names rules) cans)
+  refused_form : {task : ToolTask} {cause : Cause} → Checks task → IsIllFormed file cause
+      → RepliesTo file text task (Refused cause)
+  too_large : {task : ToolTask} {cause : Cause} → Checks task → HasTooMuchCode file cause
       → RepliesTo file text task (Refused cause)
   accepted : {rules : List Rule} → Accepts file rules → RepliesTo file text CheckTask (Accepted (length rules))
   coded : {rules : List Rule} → Accepts file rules → RepliesTo file text CodeTask
@@ -31,7 +33,7 @@ pub data RepliesTo (file text : List ℕ) : Task → Reply → Type 0 where
       → RepliesTo file text (ParseTask start steps all rows) reply
 
 -- the line and the exit status of the reply to a task on a grammar file and a text
-abbrev pub IsPrinted : Task → (file text : List ℕ) → (line : List ℕ) → (status : ℕ) → Type 0
+abbrev pub IsPrinted : ToolTask → (file text : List ℕ) → (line : List ℕ) → (status : ℕ) → Type 0
 IsPrinted task file text = IsLineOf file (RepliesTo file text task)
 
 -- the line and the exit status of a parse by the grammar file of the text, both from one input

@@ -6,25 +6,25 @@ use Rattle.peg_parser.specs.Accepts.{Accepts}
 -- A task: print the table of outcomes, check whether the grammar is accepted, print its code, or parse a text. A parse
 -- has a start rule (the first one without a name) and an optional step limit. `all` asks for a match of the whole
 -- text, and `rows` for the list of nodes.
-pub data Task : Type 0 where
-  TableTask : Task
-  CheckTask : Task
-  CodeTask : Task
-  ParseTask : (start : Option (List ℕ)) → (steps : Option ℕ) → (all rows : Bool) → Task
+pub data ToolTask : Type 0 where
+  TableTask : ToolTask
+  CheckTask : ToolTask
+  CodeTask : ToolTask
+  ParseTask : (start : Option (List ℕ)) → (steps : Option ℕ) → (all rows : Bool) → ToolTask
 
 -- a parse from the first rule without a step limit, where a prefix may match, with a nested tree
-abbrev pub default_task : Task
+abbrev pub default_task : ToolTask
 default_task = ParseTask None None false false
 
 -- whether a task needs the grammar to be accepted
-abbrev pub Checks : Task → Type 0
+abbrev pub Checks : ToolTask → Type 0
 Checks TableTask = ⊥
 Checks CheckTask = Unit {0}
 Checks CodeTask = Unit {0}
 Checks (ParseTask start steps all rows) = Unit {0}
 
 -- whether a task is a parse
-abbrev pub IsParse : Task → Type 0
+abbrev pub IsParse : ToolTask → Type 0
 IsParse TableTask = ⊥
 IsParse CheckTask = ⊥
 IsParse CodeTask = ⊥
@@ -32,7 +32,7 @@ IsParse (ParseTask start steps all rows) = Unit {0}
 
 -- The text of a task on a grammar file: the unread bytes of its reader. Any text will do for a task that reads none
 -- and for a file that isn't accepted.
-abbrev pub IsTextOf : Task → (file : List ℕ) → Option (List ℕ) → List ℕ → Type 0
+abbrev pub IsTextOf : ToolTask → (file : List ℕ) → Option (List ℕ) → List ℕ → Type 0
 IsTextOf TableTask file left text = Unit {0}
 IsTextOf CheckTask file left text = Unit {0}
 IsTextOf CodeTask file left text = Unit {0}

@@ -2,14 +2,14 @@
 ghost use Rattle.std.specs.Prelude.{◌≡◌, ◌≤◌, ◌↔◌, true, false, length, IfOk, IfSome, IsErrOf, string_bytes};
 ghost use Rattle.std.specs.Io.KnownBytes.{Keeps};
 ghost use Rattle.peg_io.specs.Transfer.{ConsumesAtMost};
-ghost use Rattle.peg_json.specs.Statuses.{code_of};
+ghost use Rattle.peg_json.specs.Statuses.{status_code};
 ghost use Rattle.peg_tool.specs.Replies.{IsPrintedJoined, max_joined_bytes};
 ghost use Rattle.peg_tool.specs.Written.{Prints, PrintsInPart};
 ghost use Rattle.peg_json.specs.Lines.{line_bytes};
 
-use crate::ending::{ToolFault, finish};
-use crate::judge::{Judged, judge};
+use crate::loading::{Loaded, load};
 use crate::parse::parse_line;
+use crate::write::{ToolFault, write_reply};
 use peg_io::{ReadFault, Sink, Source, read_up_to, split};
 use peg_json::{Line, TreeForm};
 use peg_parser::{DEFAULT_MEMO, ParseOptions};
@@ -40,15 +40,15 @@ pub fn run_joined<G: Source, W: Sink>(
     ensures partly_written { IfSome (G.left input.old) (λ bytes. IsErrOf result ToolFault.WriteFault
         → PrintsInPart (IsPrintedJoined bytes) (W.written output.old) (W.written output.new)) }
 {
-    let told = line_of(alloc, input);
-    finish(output, told)
+    let reply = line_of(alloc, input);
+    write_reply(output, reply)
 }
 
 // Reads an input and returns its line.
 fn line_of<G: Source>(alloc: Global, input: &mut G) -> Result<Line, ReadFault>
     requires { G.failed input.old ≡ false }
     ensures answer { IfSome (G.left input.old) (λ bytes. IfOk result (λ line.
-        IsPrintedJoined bytes (line_bytes line) (code_of line.status))) }
+        IsPrintedJoined bytes (line_bytes line) (status_code line.status))) }
     ensures held { ConsumesAtMost (G.left input.old) (G.left input.new) max_joined_bytes }
     ensures device { IsErrOf result ReadFault.Device ↔ (G.failed input.new ≡ true) }
 {
@@ -59,7 +59,7 @@ fn line_of<G: Source>(alloc: Global, input: &mut G) -> Result<Line, ReadFault>
 // The line of an input that was read.
 fn line_for(alloc: Global, input: &[u8]) -> Result<Line, AllocError>
     requires { length input.now ≤ max_joined_bytes }
-    ensures { IfOk result (λ line. IsPrintedJoined input.now (line_bytes line) (code_of line.status)) }
+    ensures { IfOk result (λ line. IsPrintedJoined input.now (line_bytes line) (status_code line.status)) }
 {
     let (file, text) = split(input);
     let options = ParseOptions {
@@ -67,8 +67,8 @@ fn line_for(alloc: Global, input: &[u8]) -> Result<Line, AllocError>
         memo: DEFAULT_MEMO,
         steps: None,
     };
-    match judge(alloc, file)? {
-        Judged::Accepted(parser) => parse_line(
+    match load(alloc, file)? {
+        Loaded::Accepted(parser) => parse_line(
             alloc,
             &parser,
             text,
@@ -76,6 +76,6 @@ fn line_for(alloc: Global, input: &[u8]) -> Result<Line, AllocError>
             false,
             TreeForm::Nested,
         ),
-        Judged::Refused(line) => Ok(line),
+        Loaded::Refused(line) => Ok(line),
     }
 }

@@ -2,15 +2,14 @@
 #![tactic(auto)]
 
 mod command;
-mod ending;
 mod joined;
-mod judge;
+mod loading;
 mod parse;
 mod program;
 mod tool;
+mod write;
 
 pub use command::Command;
-pub use ending::ToolFault;
 pub use joined::run_joined;
 pub use peg_cli::{Words, WordsFault, read_words};
 pub use peg_io::{Device, DeviceFault, OpenFault, Opener, Sink, Source, split};
@@ -20,3 +19,4 @@ pub use peg_parser::{
 };
 pub use program::{ProgramFault, run_words};
 pub use tool::run_tool;
+pub use write::ToolFault;

@@ -7,7 +7,7 @@ ghost use Rattle.peg_grammar.specs.Limits.{max_text_bytes};
 ghost use Rattle.peg_json.specs.Lines.{IsLineOf, IsReply, line_bytes};
 ghost use Rattle.peg_json.specs.Parses.{ParsesTo, PrintsOutcome};
 ghost use Rattle.peg_json.specs.Reply.{Refused};
-ghost use Rattle.peg_json.specs.Statuses.{code_of};
+ghost use Rattle.peg_json.specs.Statuses.{status_code};
 ghost use Rattle.peg_json.specs.TreeForms.{is_rows};
 
 use peg_grammar::MAX_TEXT_BYTES;
@@ -28,10 +28,10 @@ pub(crate) fn parse_line(
 ) -> Result<Line, AllocError>
     ensures { (file : List ℕ) → IfOk result (λ line. IsLineOf file
         (ParsesTo (parser_rules parser.now) text.now (start_named options.now) options.now.steps all (is_rows form))
-        (line_bytes line) (code_of line.status)) }
+        (line_bytes line) (status_code line.status)) }
 {
     match parser.parse(alloc, text, options) {
-        Ok(answer) => told(alloc, parser, answer, text.len() as u32, all, form),
+        Ok(answer) => outcome_reply(alloc, parser, answer, text.len() as u32, all, form),
         Err(ParseFault::NoSuchStart) => no_start(alloc, text, options.start),
         Err(ParseFault::TextTooLong) => long_text_line(alloc),
         Err(ParseFault::StepLimit) => step_limit_line(alloc),
@@ -40,7 +40,7 @@ pub(crate) fn parse_line(
 }
 
 // The line of an answer.
-fn told(
+fn outcome_reply(
     alloc: Global,
     parser: &Parser,
     answer: Answer,
@@ -51,7 +51,7 @@ fn told(
     requires { Fits (parser_rules parser.now) answer.outcome }
     ensures { (file : List ℕ) → IfOk result (λ line. IsLineOf file
         (PrintsOutcome (parser_rules parser.now) answer.outcome text_len all (is_rows form))
-        (line_bytes line) (code_of line.status)) }
+        (line_bytes line) (status_code line.status)) }
 {
     match form {
         TreeForm::Rows => rows_line(alloc, parser, answer, text_len, all),
@@ -63,10 +63,10 @@ fn told(
 fn no_start(alloc: Global, text: &[u8], start: Option<&str>) -> Result<Line, AllocError>
     requires { start ≢ None }
     ensures long { max_text_bytes < length text.now → (file : List ℕ) → IfOk result
-        (λ line. IsReply file (Refused TextTooLong) (line_bytes line) (code_of line.status)) }
+        (λ line. IsReply file (Refused TextTooLong) (line_bytes line) (status_code line.status)) }
     ensures missing { length text.now ≤ max_text_bytes → (file name : List ℕ)
         → option_map (λ given. given.now) start.entry ≡ Some name → IfOk result
-        (λ line. IsReply file (Refused (NoSuchStart name)) (line_bytes line) (code_of line.status)) }
+        (λ line. IsReply file (Refused (NoSuchStart name)) (line_bytes line) (status_code line.status)) }
 {
     if text.len() > MAX_TEXT_BYTES {
         return long_text_line(alloc);

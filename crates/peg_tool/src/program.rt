@@ -1,14 +1,14 @@
 //! Runs the program for its parsed arguments, and the faults that end it without an answer.
 ghost use Rattle.std.specs.Prelude.{◌≡◌, ◌≢◌, ℕ, false, List, IfSome, string_bytes};
 ghost use Rattle.peg_tool.specs.Commands.{task_of};
-ghost use Rattle.peg_tool.specs.Leads.{Leads, Outcome, IsHelp, answer_of};
+ghost use Rattle.peg_tool.specs.CommandOutcome.{CommandOutcome, WritesOrFails, IsHelp, program_result};
 ghost use Rattle.peg_tool.specs.Replies.{IsPrinted};
 ghost use Rattle.peg_tool.specs.Task.{IsParse};
 
 use crate::command::Command;
-use crate::ending::ToolFault;
 use crate::joined::run_joined;
 use crate::tool::run_tool;
+use crate::write::ToolFault;
 use peg_cli::Words;
 use peg_io::{Device, OpenFault, Opener, Sink, Source, write_all_bytes};
 use peg_json::Status;
@@ -44,9 +44,9 @@ impl ProgramFault {
 
 impl From<OpenFault> for ProgramFault {
     ghost use Rattle.std.specs.Prelude.{◌≡◌};
-    ghost use Rattle.peg_tool.specs.Leads.{of_open};
+    ghost use Rattle.peg_tool.specs.CommandOutcome.{open_fault};
 
-    ghost from_gives = { λ opening fault. fault ≡ of_open opening };
+    ghost from_gives = { λ opening fault. fault ≡ open_fault opening };
 
     fn from(fault: OpenFault) -> ProgramFault {
         match fault {
@@ -70,12 +70,13 @@ pub fn run_words<O: Opener, I: Source, W: Sink>(
 ) -> Result<u8, ProgramFault>
     requires input_works { I.failed input.old ≡ false }
     requires output_works { W.failed output.old ≡ false }
-    ensures leads { Leads words.now (O.holds files.now) (I.left input.old) (W.written output.old) (W.written output.new)
+    ensures leads { CommandOutcome words.now (O.holds files.now) (I.left input.old) (W.written output.old)
+        (W.written output.new)
         result }
     ensures unread { words.now ≢ Words.Joined → input.new ≡ input.old }
 {
     match words {
-        Words::Joined => answered(run_joined(alloc, input, output)),
+        Words::Joined => to_program_result(run_joined(alloc, input, output)),
         Words::Help { text } => help(output, text),
         Words::Table { g } => on_file(alloc, files, output, g, &Command::Table),
         Words::Check { g } => on_file(alloc, files, output, g, &Command::Check),
@@ -109,7 +110,7 @@ pub fn run_words<O: Opener, I: Source, W: Sink>(
 
 fn help<W: Sink>(output: &mut W, text: &str) -> Result<u8, ProgramFault>
     requires { W.failed output.old ≡ false }
-    ensures { Outcome (IsHelp text.now) (W.written output.old) (W.written output.new) result }
+    ensures { WritesOrFails (IsHelp text.now) (W.written output.old) (W.written output.new) result }
 {
     if text.is_empty() {
         return Ok(Status::Done.code());
@@ -131,11 +132,12 @@ fn on_file<O: Opener, W: Sink>(
     requires works { W.failed output.old ≡ false }
     requires alone { ¬ IsParse (task_of command.now) }
     ensures { IfSome (O.holds files.now g.now) (λ file. (text : List ℕ)
-        → Outcome (IsPrinted (task_of command.now) file text) (W.written output.old) (W.written output.new) result) }
+        → WritesOrFails (IsPrinted (task_of command.now) file text) (W.written output.old)
+        (W.written output.new) result) }
 {
     let mut grammar = files.open(g)?;
     let mut text = Device::new(io::empty());
-    answered(run_tool(alloc, &mut grammar, &mut text, output, command))
+    to_program_result(run_tool(alloc, &mut grammar, &mut text, output, command))
 }
 
 // Runs a command on the grammar file and the text with these names. Both are opened before either is read.
@@ -149,16 +151,17 @@ fn on_files<O: Opener, W: Sink>(
 ) -> Result<u8, ProgramFault>
     requires { W.failed output.old ≡ false }
     ensures { IfSome (O.holds files.now g.now) (λ file. IfSome (O.holds files.now t.now) (λ text.
-        Outcome (IsPrinted (task_of command.now) file text) (W.written output.old) (W.written output.new) result)) }
+        WritesOrFails (IsPrinted (task_of command.now) file text) (W.written output.old)
+        (W.written output.new) result)) }
 {
     let mut grammar = files.open(g)?;
     let mut text = files.open(t)?;
-    answered(run_tool(alloc, &mut grammar, &mut text, output, command))
+    to_program_result(run_tool(alloc, &mut grammar, &mut text, output, command))
 }
 
 // Converts the result of the tool: exit status 5 becomes `Memory`.
-fn answered(ended: Result<u8, ToolFault>) -> Result<u8, ProgramFault>
-    ensures { result ≡ answer_of ended }
+fn to_program_result(ended: Result<u8, ToolFault>) -> Result<u8, ProgramFault>
+    ensures { result ≡ program_result ended }
 {
     match ended {
         Ok(status) if status == Status::Memory.code() => Err(ProgramFault::Memory),

@@ -9,7 +9,7 @@ ghost use Rattle.peg_io.specs.Transfer.{ConsumesAtMost};
 ghost use Rattle.peg_parser.specs.Accepts.{Accepts};
 ghost use Rattle.peg_parser.specs.Parser.{parser_rules, start_named};
 ghost use Rattle.peg_grammar.specs.Limits.{max_text_bytes};
-ghost use Rattle.peg_json.specs.Statuses.{code_of};
+ghost use Rattle.peg_json.specs.Statuses.{status_code};
 ghost use Rattle.peg_json.specs.TreeForms.{is_rows};
 ghost use Rattle.peg_tool.specs.Commands.{task_of};
 ghost use Rattle.peg_tool.specs.Replies.{IsPrinted};
@@ -18,9 +18,9 @@ ghost use Rattle.peg_tool.specs.Written.{Prints, PrintsInPart};
 ghost use Rattle.peg_json.specs.Lines.{line_bytes};
 
 use crate::command::Command;
-use crate::ending::{ToolFault, finish};
-use crate::judge::{Judged, check_file, code_file, judge, table_file};
+use crate::loading::{Loaded, check_file, code_file, load, table_file};
 use crate::parse::parse_line;
+use crate::write::{ToolFault, write_reply};
 use peg_grammar::MAX_TEXT_BYTES;
 use peg_io::{ReadFault, Sink, Source, read_up_to};
 use peg_json::{Line, TreeForm};
@@ -61,8 +61,8 @@ pub fn run_tool<G: Source, T: Source, W: Sink>(
         → IsTextOf (task_of command.now) file (T.left text.old) bytes → IsErrOf result ToolFault.WriteFault
         → PrintsInPart (IsPrinted (task_of command.now) file bytes) (W.written output.old) (W.written output.new)) }
 {
-    let told = line_of(alloc, grammar, text, command);
-    finish(output, told)
+    let reply = line_of(alloc, grammar, text, command);
+    write_reply(output, reply)
 }
 
 // Reads the inputs of a command and returns its line.
@@ -76,7 +76,7 @@ fn line_of<G: Source, T: Source>(
     requires text_works { T.failed text.old ≡ false }
     ensures answer { IfSome (G.left grammar.old) (λ file. (bytes : List ℕ)
         → IsTextOf (task_of command.now) file (T.left text.old) bytes → IfOk result (λ line.
-        IsPrinted (task_of command.now) file bytes (line_bytes line) (code_of line.status))) }
+        IsPrinted (task_of command.now) file bytes (line_bytes line) (status_code line.status))) }
     ensures held { ConsumesAtMost (G.left grammar.old) (G.left grammar.new) (max_file_bytes + 1) }
     ensures text_held { ConsumesAtMost (T.left text.old) (T.left text.new) (max_text_bytes + 1) }
     ensures unread { ¬ IsParse (task_of command.now) → text.new ≡ text.old }
@@ -91,13 +91,14 @@ fn line_of<G: Source, T: Source>(
         Command::Check => Ok(check_file(alloc, &file)?),
         Command::Code => Ok(code_file(alloc, &file)?),
         Command::Parse { options, all, rows } => {
-            parsed(alloc, &file, text, options, *all, TreeForm::of(*rows))
+            let form = TreeForm::from_rows(*rows);
+            parse_reply(alloc, &file, text, options, *all, form)
         }
     }
 }
 
 // Reads a text and returns the line of its parse, or the line that reports why the file is rejected.
-fn parsed<T: Source>(
+fn parse_reply<T: Source>(
     alloc: Global,
     file: &[u8],
     text: &mut T,
@@ -111,14 +112,14 @@ fn parsed<T: Source>(
         → IsTextOf (ParseTask (start_named options.now) options.now.steps all (is_rows form)) file.now
         (T.left text.old) bytes → IfOk result (λ line.
         IsPrinted (ParseTask (start_named options.now) options.now.steps all (is_rows form)) file.now bytes
-        (line_bytes line) (code_of line.status)) }
+        (line_bytes line) (status_code line.status)) }
     ensures held { ConsumesAtMost (T.left text.old) (T.left text.new) (max_text_bytes + 1) }
     ensures refused { ((rules : List Rule) → ¬ Accepts file.now rules) → text.new ≡ text.old }
     ensures device { IsErrOf result ReadFault.Device ↔ (T.failed text.new ≡ true) }
 {
-    match judge(alloc, file)? {
-        Judged::Accepted(parser) => read_and_parse(alloc, &parser, text, options, all, form),
-        Judged::Refused(line) => Ok(line),
+    match load(alloc, file)? {
+        Loaded::Accepted(parser) => read_and_parse(alloc, &parser, text, options, all, form),
+        Loaded::Refused(line) => Ok(line),
     }
 }
 
@@ -135,7 +136,7 @@ fn read_and_parse<T: Source>(
     ensures answer { (file : List ℕ) → Accepts file (parser_rules parser.now) → IfOk result (λ line.
         IfSome (T.left text.old) (λ bytes.
         IsPrinted (ParseTask (start_named options.now) options.now.steps all (is_rows form)) file bytes
-        (line_bytes line) (code_of line.status))) }
+        (line_bytes line) (status_code line.status))) }
     ensures held { ConsumesAtMost (T.left text.old) (T.left text.new) (max_text_bytes + 1) }
     ensures device { IsErrOf result ReadFault.Device ↔ (T.failed text.new ≡ true) }
 {

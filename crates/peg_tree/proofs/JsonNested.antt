@@ -5,7 +5,7 @@ use Rattle.serde_json.specs.Data.{Data}
 use Rattle.serde_json.specs.View.{view}
 use Rattle.peg_tree.specs.declared.nested.Built.{Built}
 use Rattle.peg_tree.specs.declared.row.TreeNode.{TreeNode}
-use Rattle.peg_tree.specs.Built.{SizedObject, object_of, objects_of, objects_of_trees, taken, left_after}
+use Rattle.peg_tree.specs.Built.{SizedObject, object_of, objects_of, objects_of_trees, take_values, left_after}
 use Rattle.peg_tree.specs.Json.{node_data, nested_data}
 use Rattle.peg_tree.specs.Names.{name_at}
 use Rattle.peg_tree.specs.Rows.{Row, row_of, IsOneTree}
@@ -16,13 +16,13 @@ use Rattle.peg_tree.proofs.Forests.{IsForest-size, rows_from}
 
 module _ (names : List (List ℕ)) where
   -- the objects that are taken are those of the leading trees
-  pub taken-objects_of_trees : (count : ℕ) (trees : Trees) → taken count (objects_of_trees names trees) ≡ nested_data names (first_trees count trees)
-  taken-objects_of_trees count NoTrees = refl
-  taken-objects_of_trees count (Tree rule start end children rest) =
-      by (nat_le (1 + nodes children) count) (taken-objects_of_trees (count - (1 + nodes children)) rest)
+  pub take_values-objects_of_trees : (count : ℕ) (trees : Trees) → take_values count (objects_of_trees names trees) ≡ nested_data names (first_trees count trees)
+  take_values-objects_of_trees count NoTrees = refl
+  take_values-objects_of_trees count (Tree rule start end children rest) =
+      by (nat_le (1 + nodes children) count) (take_values-objects_of_trees (count - (1 + nodes children)) rest)
     where
-      by : (b : Bool) → taken (count - (1 + nodes children)) (objects_of_trees names rest) ≡ nested_data names (first_trees (count - (1 + nodes children)) rest)
-          → (if b then node_data (name_at names rule) start end (nested_data names children) ∷ taken (count - (1 + nodes children)) (objects_of_trees names rest) else [])
+      by : (b : Bool) → take_values (count - (1 + nodes children)) (objects_of_trees names rest) ≡ nested_data names (first_trees (count - (1 + nodes children)) rest)
+          → (if b then node_data (name_at names rule) start end (nested_data names children) ∷ take_values (count - (1 + nodes children)) (objects_of_trees names rest) else [])
           ≡ nested_data names (if b then Tree rule start end children (first_trees (count - (1 + nodes children)) rest) else NoTrees)
       by true h = ap (λ l. node_data (name_at names rule) start end (nested_data names children) ∷ l) h
       by false h = refl
@@ -47,7 +47,7 @@ module _ (names : List (List ℕ)) where
       → IsForest (map row_of (drop at rows))
       → (stack left more : List Built) (children : List Data) (built : Built)
       → objects_of stack ≡ objects_of_trees names (trees_of (map row_of (drop next rows)))
-      → children ≡ taken (node.size - 1) (objects_of stack) → objects_of left ≡ left_after (node.size - 1) (objects_of stack)
+      → children ≡ take_values (node.size - 1) (objects_of stack) → objects_of left ≡ left_after (node.size - 1) (objects_of stack)
       → view built.value ≡ node_data (name_at names node.rule) node.span.start node.span.end children → built.size ≡ node.size
       → more ≡ left ++ built ∷ []
       → objects_of more ≡ objects_of_trees names (trees_of (map row_of (drop at rows)))
@@ -56,7 +56,7 @@ module _ (names : List (List ℕ)) where
       let row = rows_from rows at node within is in
       let same' : objects_of stack ≡ objects_of_trees names after = same ∙ ap (λ n. objects_of_trees names (trees_of (map row_of (drop n rows)))) step in
       let size : 1 + nodes (first_trees (node.size - 1) after) ≡ node.size = IsForest-size (row_of node) (map row_of (drop (at + 1) rows)) (subst IsForest row forest) in
-      let inside : children ≡ nested_data names (first_trees (node.size - 1) after) = took ∙ ap (taken (node.size - 1)) same' ∙ taken-objects_of_trees (node.size - 1) after in
+      let inside : children ≡ nested_data names (first_trees (node.size - 1) after) = took ∙ ap (take_values (node.size - 1)) same' ∙ take_values-objects_of_trees (node.size - 1) after in
       let value : view built.value ≡ node_data (name_at names node.rule) node.span.start node.span.end (nested_data names (first_trees (node.size - 1) after)) =
       made ∙ ap (node_data (name_at names node.rule) node.span.start node.span.end) inside in
       let rest : objects_of left ≡ objects_of_trees names (trees_after (node.size - 1) after) = stays ∙ ap (left_after (node.size - 1)) same' ∙ left_after-objects_of_trees (node.size - 1) after in

@@ -10,9 +10,9 @@ use Rattle.peg_tree.specs.declared.nested_tree.Open.{Open}
 use Rattle.peg_tree.specs.declared.row.TreeNode.{TreeNode}
 use Rattle.peg_tree.specs.Json.{nested_data, node_data}
 use Rattle.peg_tree.specs.Names.{name_at}
-use Rattle.peg_tree.specs.Nodes.{count_of, node_at}
+use Rattle.peg_tree.specs.Nodes.{root_count, node_at}
 use Rattle.peg_tree.specs.Rows.{Row, row_of, rows_of, IsOneTree}
-use Rattle.peg_tree.specs.Sending.{BeginsNode, EndAt, EndsNode, IsOpenPast, OpenThen, Opens, SendsRest, rows_behind}
+use Rattle.peg_tree.specs.Sending.{BeginsNode, EndAt, EndsNode, IsOpenPast, OpenThen, Opens, SendsRest, rows_after}
 use Rattle.peg_tree.specs.Events.{SendsNested}
 use Rattle.peg_tree.specs.Trees.{Trees, NoTrees, Tree, nodes, followed_by}
 use Rattle.peg_tree.specs.TreesCode.{first_trees-followed_by, trees_of-append, trees_of-rows_of}
@@ -22,7 +22,7 @@ use Rattle.peg_tree.proofs.NodeRows.{nodes_of_tree, row_of_node, rows_below}
 use Rattle.peg_tree.proofs.Sent.{SendsItems-from_each, items_len-items_of}
 
 -- there is one object for each tree
-length-nested_data : (names : List (List ℕ)) (trees : Trees) → length (nested_data names trees) ≡ count_of trees
+length-nested_data : (names : List (List ℕ)) (trees : Trees) → length (nested_data names trees) ≡ root_count trees
 length-nested_data names NoTrees = refl
 length-nested_data names (Tree rule start end children rest) = omega (arith, length-nested_data names rest)
 
@@ -55,7 +55,7 @@ children_here rows one at node within is children more here size =
 
 module _ (names : List (List ℕ)) where
   -- the events of a node: its beginning, its children, and its end
-  node-sent : (rule start end count : ℕ) (children : Trees) (old begun listed ended : Log) → count ≡ count_of children
+  node-sent : (rule start end count : ℕ) (children : Trees) (old begun listed ended : Log) → count ≡ root_count children
       → BeginsNode count old begun → WritesEach SendsValue (nested_data names children) begun listed
       → EndsNode (name_at names rule) start end listed ended
       → SendsValue (node_data (name_at names rule) start end (nested_data names children)) old ended
@@ -80,7 +80,7 @@ module _ (names : List (List ℕ)) where
   -- the beginning of a node opens it, and its children come next
   SendsRest-open : (rule start end count : ℕ) (children rest : Trees) (inner : Open) (opens : List OpenThen)
       (old begun new : Log) → inner.node.rule ≡ rule → inner.node.span.start ≡ start → inner.node.span.end ≡ end
-      → count ≡ count_of children → BeginsNode count old begun → SendsRest names children ((inner, rest) ∷ opens) begun new
+      → count ≡ root_count children → BeginsNode count old begun → SendsRest names children ((inner, rest) ∷ opens) begun new
       → SendsRest names (Tree rule start end children rest) opens old new
   SendsRest-open rule start end count children rest inner opens old begun new rules starts ends counted begins sent =
       let closes : EndsNode (name_at names rule) start end sent.0 sent.1 =
@@ -107,7 +107,7 @@ module _ (names : List (List ℕ)) where
     pub next : Trees
     pub opens : List OpenThen
     pub stacked : reverse stack ≡ map (λ inner. inner.0) opens
-    pub left : map row_of (drop at rows) ≡ rows_of next ++ rows_behind opens
+    pub left : map row_of (drop at rows) ≡ rows_of next ++ rows_after opens
     pub ends : EndAt bound (at + nodes next) opens
     pub sends : (last : Log) → SendsRest names next opens now last → WritesEach SendsValue whole start last
 
@@ -144,20 +144,20 @@ module _ (names : List (List ℕ)) where
       by is.next is.opens none stacked is.left is.ends is.sends
     where
       by : (next : Trees) (opens : List OpenThen) → next ≡ NoTrees → top ∷ reverse less ≡ map (λ o. o.0) opens
-          → map row_of (drop at rows) ≡ rows_of next ++ rows_behind opens → EndAt bound (at + nodes next) opens
+          → map row_of (drop at rows) ≡ rows_of next ++ rows_after opens → EndAt bound (at + nodes next) opens
           → ((last : Log) → SendsRest names next opens now last → WritesEach SendsValue whole start last)
           → IsSent rows bound at less whole start ended
       by (Tree rule begin end children rest) opens none stacked left ends sends = absurd cc
       by NoTrees [] none stacked left ends sends = absurd cc
       by NoTrees (first ∷ opens) none stacked left ends sends =
           let same : first.0 ≡ top = ap (λ (l : List Open). get_or l 0 top) (sym stacked) in
-          let place : at + nodes NoTrees ≡ at = omega arith in
+          let nth : at + nodes NoTrees ≡ at = omega arith in
           record {
             next = first.1;
             opens = opens;
             stacked = ap (drop 1) stacked;
             left = left;
-            ends = subst (λ n. EndAt bound (n + nodes first.1) opens) place ends.2;
+            ends = subst (λ n. EndAt bound (n + nodes first.1) opens) nth ends.2;
             sends = λ last more. sends last (SendsRest-close first.0 first.1 opens now ended last
                 (subst (λ (o : Open). EndsNode (name_at names o.node.rule) o.node.span.start o.node.span.end now ended) (sym same) closes) more);
           }
@@ -184,7 +184,7 @@ module _ (names : List (List ℕ)) where
   pub begin-sent : (rows : List TreeNode) (one : IsOneTree (map row_of rows)) (bound at : ℕ) (stack more : List Open)
       (whole : List Data) (start now begun : Log) → at < length rows → IsOpenPast at (reverse stack)
       → Opens rows at stack more → ((node : TreeNode) → node ≡ get_or rows at node → node.rule < bound)
-      → BeginsNode (count_of (node_at (trees_of (map row_of rows)) at).children) now begun
+      → BeginsNode (root_count (node_at (trees_of (map row_of rows)) at).children) now begun
       → IsSent rows bound at stack whole start now → IsSent rows bound (at + 1) more whole start begun
   begin-sent rows one bound at stack more whole start now begun within past pushed below begins is =
       by is.next is.opens is.stacked is.left is.ends is.sends
@@ -199,32 +199,32 @@ module _ (names : List (List ℕ)) where
       here = rows_from rows at node within pushed.2
 
       by : (next : Trees) (opens : List OpenThen) → reverse stack ≡ map (λ o. o.0) opens
-          → map row_of (drop at rows) ≡ rows_of next ++ rows_behind opens → EndAt bound (at + nodes next) opens
+          → map row_of (drop at rows) ≡ rows_of next ++ rows_after opens → EndAt bound (at + nodes next) opens
           → ((last : Log) → SendsRest names next opens now last → WritesEach SendsValue whole start last)
           → IsSent rows bound (at + 1) more whole start begun
       by NoTrees opens stacked left ends sends =
           let none = past-top opens bound at stack stacked past ends in
-          let empty : row_of node ∷ map row_of (drop (at + 1) rows) ≡ [] = sym here ∙ left ∙ ap rows_behind none in
+          let empty : row_of node ∷ map row_of (drop (at + 1) rows) ≡ [] = sym here ∙ left ∙ ap rows_after none in
           absurd cc
       by (Tree rule begin end children rest) opens stacked left ends sends =
           let row : Row = record { rule = rule; start = begin; end = end; size = 1 + nodes children } in
-          let same : row_of node ∷ map row_of (drop (at + 1) rows) ≡ row ∷ ((rows_of children ++ rows_of rest) ++ rows_behind opens) = sym here ∙ left in
+          let same : row_of node ∷ map row_of (drop (at + 1) rows) ≡ row ∷ ((rows_of children ++ rows_of rest) ++ rows_after opens) = sym here ∙ left in
           let head : row_of node ≡ row = ap (λ (l : List Row). get_or l 0 row) same in
-          let behind : map row_of (drop (at + 1) rows) ≡ rows_of children ++ (rows_of rest ++ rows_behind opens) =
-          ap (drop 1) same ∙ append_assoc (rows_of children) (rows_of rest) (rows_behind opens) in
+          let behind : map row_of (drop (at + 1) rows) ≡ rows_of children ++ (rows_of rest ++ rows_after opens) =
+          ap (drop 1) same ∙ append_assoc (rows_of children) (rows_of rest) (rows_after opens) in
           let size : node.size ≡ 1 + nodes children = ap (λ (r : Row). r.size) head in
-          let count = children_here rows one at node within pushed.2 children (rows_of rest ++ rows_behind opens) behind size in
-          let place : at + nodes (Tree rule begin end children rest) ≡ (at + 1 + nodes children) + nodes rest = omega arith in
+          let count = children_here rows one at node within pushed.2 children (rows_of rest ++ rows_after opens) behind size in
+          let nth : at + nodes (Tree rule begin end children rest) ≡ (at + 1 + nodes children) + nodes rest = omega arith in
           let ending : top.end ≡ at + 1 + nodes children = omega (arith, pushed.3) in
           record {
             next = children;
             opens = (top, rest) ∷ opens;
             stacked = ap reverse pushed.1 ∙ reverse-append stack (top ∷ []) ∙ ap (λ (l : List Open). top ∷ l) stacked;
             left = behind;
-            ends = (below node pushed.2, ending, subst (λ n. EndAt bound n opens) place ends);
-            sends = λ last sent. sends last (SendsRest-open rule begin end (count_of (node_at (trees_of (map row_of rows)) at).children)
+            ends = (below node pushed.2, ending, subst (λ n. EndAt bound n opens) nth ends);
+            sends = λ last sent. sends last (SendsRest-open rule begin end (root_count (node_at (trees_of (map row_of rows)) at).children)
                 children rest top opens now begun last (ap (λ (r : Row). r.rule) head) (ap (λ (r : Row). r.start) head)
-                (ap (λ (r : Row). r.end) head) (ap count_of count) begins sent);
+                (ap (λ (r : Row). r.end) head) (ap root_count count) begins sent);
           }
 
   -- if no node is left and no open node has ended, the whole tree has been serialized
@@ -235,7 +235,7 @@ module _ (names : List (List ℕ)) where
       let none : map row_of (drop at rows) ≡ [] = ap (map row_of) (drop_all at rows over) in
       root-sent (by is.next is.opens is.stacked (sym none ∙ is.left) is.ends is.sends)
     where
-      by : (next : Trees) (opens : List OpenThen) → reverse stack ≡ map (λ o. o.0) opens → [] ≡ rows_of next ++ rows_behind opens
+      by : (next : Trees) (opens : List OpenThen) → reverse stack ≡ map (λ o. o.0) opens → [] ≡ rows_of next ++ rows_after opens
           → EndAt bound (at + nodes next) opens
           → ((last : Log) → SendsRest names next opens now last → WritesEach SendsValue (nested_data names tree) start last)
           → WritesEach SendsValue (nested_data names tree) start now

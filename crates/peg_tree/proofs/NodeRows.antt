@@ -6,7 +6,7 @@ use Rattle.peg_tree.specs.declared.row.TreeNode.{TreeNode}
 use Rattle.peg_tree.specs.Trees.{Trees, NoTrees, Tree, nodes, followed_by}
 use Rattle.peg_tree.specs.Rows.{Row, row_of, rows_of, IsOneTree}
 use Rattle.peg_tree.specs.TreesOfRows.{trees_of, IsForest}
-use Rattle.peg_tree.specs.Nodes.{Node, node_at, first_root, count_of, trees_from, nodes_before, child_at, RulesBelow}
+use Rattle.peg_tree.specs.Nodes.{Node, node_at, first_root, root_count, trees_from, nodes_before, child_at, RulesBelow}
 use Rattle.peg_tree.proofs.Forests.{length-rows_of, rows_of-followed_by, nodes-trees_of, IsForest-from_one_tree, size_of_one_tree, row_size}
 use Rattle.std.specs.List.{list_all}
 use Rattle.std.proofs.lemmas.List.Folds.{list_all-append, list_all-map}
@@ -81,38 +81,38 @@ node_ends_within (Tree rule start end children rest) (suc number) h =
     ]
 
 -- all nodes are before the end of the trees, and fewer are before each tree
-pub nodes_before-all : (trees : Trees) → nodes_before (count_of trees) trees ≡ nodes trees
+pub nodes_before-all : (trees : Trees) → nodes_before (root_count trees) trees ≡ nodes trees
 nodes_before-all NoTrees = refl
 nodes_before-all (Tree rule start end children rest) =
-    (let e : 1 + count_of rest ≡ suc (count_of rest) = omega arith in ap (λ n. nodes_before n (Tree rule start end children rest)) e)
+    (let e : 1 + root_count rest ≡ suc (root_count rest) = omega arith in ap (λ n. nodes_before n (Tree rule start end children rest)) e)
     ∙ ap (λ n. 1 + nodes children + n) (nodes_before-all rest)
 
-pub nodes_before-one : (trees : Trees) (place : ℕ) → place < count_of trees → nodes_before place trees < nodes trees
-nodes_before-one NoTrees place h = absurd (omega arith)
+pub nodes_before-one : (trees : Trees) (nth : ℕ) → nth < root_count trees → nodes_before nth trees < nodes trees
+nodes_before-one NoTrees nth h = absurd (omega arith)
 nodes_before-one (Tree rule start end children rest) zero h = omega arith
-nodes_before-one (Tree rule start end children rest) (suc place) h = let part = nodes_before-one rest place (omega arith) in omega arith
+nodes_before-one (Tree rule start end children rest) (suc nth) h = let part = nodes_before-one rest nth (omega arith) in omega arith
 
-pub nodes_before-few : (trees : Trees) (place : ℕ) → nodes_before place trees ≤ nodes trees
+pub nodes_before-few : (trees : Trees) (nth : ℕ) → nodes_before nth trees ≤ nodes trees
 nodes_before-few trees zero = omega arith
-nodes_before-few NoTrees (suc place) = omega arith
-nodes_before-few (Tree rule start end children rest) (suc place) = let part = nodes_before-few rest place in omega arith
+nodes_before-few NoTrees (suc nth) = omega arith
+nodes_before-few (Tree rule start end children rest) (suc nth) = let part = nodes_before-few rest nth in omega arith
 
 -- the size of a tree leads to the number of the next tree
-pub nodes_before-more : (trees : Trees) (more : List Row) (place : ℕ) (d : Row) → place < count_of trees
-    → nodes_before place trees + (get_or (rows_of trees ++ more) (nodes_before place trees) d).size ≡ nodes_before (suc place) trees
-nodes_before-more NoTrees more place d h = absurd (omega arith)
+pub nodes_before-more : (trees : Trees) (more : List Row) (nth : ℕ) (d : Row) → nth < root_count trees
+    → nodes_before nth trees + (get_or (rows_of trees ++ more) (nodes_before nth trees) d).size ≡ nodes_before (suc nth) trees
+nodes_before-more NoTrees more nth d h = absurd (omega arith)
 nodes_before-more (Tree rule start end children rest) more zero d h = omega arith
-nodes_before-more (Tree rule start end children rest) more (suc place) d h =
+nodes_before-more (Tree rule start end children rest) more (suc nth) d h =
     let row : Row = record { rule = rule; start = start; end = end; size = 1 + nodes children } in
     let front = row ∷ rows_of children in
     let count : length front ≡ 1 + nodes children = omega (arith, length-rows_of children) in
-    let there : get_or (front ++ (rows_of rest ++ more)) (1 + nodes children + nodes_before place rest) d ≡ get_or (rows_of rest ++ more) (nodes_before place rest) d =
-    ap (λ n. get_or (front ++ (rows_of rest ++ more)) (n + nodes_before place rest) d) (sym count)
-    ∙ get_or-append-add front (rows_of rest ++ more) (nodes_before place rest) d in
+    let there : get_or (front ++ (rows_of rest ++ more)) (1 + nodes children + nodes_before nth rest) d ≡ get_or (rows_of rest ++ more) (nodes_before nth rest) d =
+    ap (λ n. get_or (front ++ (rows_of rest ++ more)) (n + nodes_before nth rest) d) (sym count)
+    ∙ get_or-append-add front (rows_of rest ++ more) (nodes_before nth rest) d in
     let joined : (row ∷ (rows_of children ++ rows_of rest)) ++ more ≡ front ++ (rows_of rest ++ more) = append_assoc front (rows_of rest) more in
-    let size : (get_or ((row ∷ (rows_of children ++ rows_of rest)) ++ more) (1 + nodes children + nodes_before place rest) d).size ≡ (get_or (rows_of rest ++ more) (nodes_before place rest) d).size =
-    ap (λ rows. (get_or rows (1 + nodes children + nodes_before place rest) d).size) joined ∙ ap (λ (r : Row). r.size) there in
-    let part = nodes_before-more rest more place d (omega arith) in
+    let size : (get_or ((row ∷ (rows_of children ++ rows_of rest)) ++ more) (1 + nodes children + nodes_before nth rest) d).size ≡ (get_or (rows_of rest ++ more) (nodes_before nth rest) d).size =
+    ap (λ rows. (get_or rows (1 + nodes children + nodes_before nth rest) d).size) joined ∙ ap (λ (r : Row). r.size) there in
+    let part = nodes_before-more rest more nth d (omega arith) in
     omega arith
 
 -- a node below another node is a node of its children
@@ -143,17 +143,17 @@ node_at-child (Tree rule start end children rest) (suc number) below h k =
           ∙ ap (λ (n : Node). node_at n.children below) (sym same)
     ]
 
--- the node after the trees before index `place` is the root of the tree at that index
-pub node_at-nodes_before : (trees : Trees) (place : ℕ) → place < count_of trees → node_at trees (nodes_before place trees) ≡ first_root (trees_from place trees)
-node_at-nodes_before NoTrees place h = absurd (omega arith)
+-- the node after the trees before index `nth` is the root of the tree at that index
+pub node_at-nodes_before : (trees : Trees) (nth : ℕ) → nth < root_count trees → node_at trees (nodes_before nth trees) ≡ first_root (trees_from nth trees)
+node_at-nodes_before NoTrees nth h = absurd (omega arith)
 node_at-nodes_before (Tree rule start end children rest) zero h = refl
-node_at-nodes_before (Tree rule start end children rest) (suc place) h =
-    let next : 1 + nodes children + nodes_before place rest ≡ suc (nodes children + nodes_before place rest) = omega arith in
-    let less : nodes children + nodes_before place rest - nodes children ≡ nodes_before place rest = omega arith in
+node_at-nodes_before (Tree rule start end children rest) (suc nth) h =
+    let next : 1 + nodes children + nodes_before nth rest ≡ suc (nodes children + nodes_before nth rest) = omega arith in
+    let less : nodes children + nodes_before nth rest - nodes children ≡ nodes_before nth rest = omega arith in
     ap (node_at (Tree rule start end children rest)) next
-    ∙ node_at-after rule start end children rest (nodes children + nodes_before place rest) (omega arith)
+    ∙ node_at-after rule start end children rest (nodes children + nodes_before nth rest) (omega arith)
     ∙ ap (node_at rest) less
-    ∙ node_at-nodes_before rest place (omega arith)
+    ∙ node_at-nodes_before rest nth (omega arith)
 
 -- node lists that are one tree, as the code reads them
 module _ (rows : List TreeNode) (one : IsOneTree (map row_of rows)) where
@@ -184,52 +184,52 @@ module _ (rows : List TreeNode) (one : IsOneTree (map row_of rows)) where
     end_of_node = omega (arith, nodes_of_tree, node_ends_within (trees_of (map row_of rows)) number within)
 
     -- while nodes of the subtree are left, a child is left
-    pub more_children : (place : ℕ) → place ≤ count_of (node_at (trees_of (map row_of rows)) number).children
-        → child_at (trees_of (map row_of rows)) number place < number + 1 + nodes (node_at (trees_of (map row_of rows)) number).children
-        → place < count_of (node_at (trees_of (map row_of rows)) number).children
-    more_children place few left =
+    pub more_children : (nth : ℕ) → nth ≤ root_count (node_at (trees_of (map row_of rows)) number).children
+        → child_at (trees_of (map row_of rows)) number nth < number + 1 + nodes (node_at (trees_of (map row_of rows)) number).children
+        → nth < root_count (node_at (trees_of (map row_of rows)) number).children
+    more_children nth few left =
         let children = (node_at (trees_of (map row_of rows)) number).children in
-        elim (cases_lt place (count_of children)) [
+        elim (cases_lt nth (root_count children)) [
           | inl below ↦ below
           | inr above ↦
-              let same : place ≡ count_of children = omega arith in
-              let all : nodes_before place children ≡ nodes children = ap (λ n. nodes_before n children) same ∙ nodes_before-all children in
+              let same : nth ≡ root_count children = omega arith in
+              let all : nodes_before nth children ≡ nodes children = ap (λ n. nodes_before n children) same ∙ nodes_before-all children in
               absurd (omega arith)
         ]
 
     -- if no node of the subtree is left, no child is left
-    pub no_more_children : (place : ℕ) → place ≤ count_of (node_at (trees_of (map row_of rows)) number).children
-        → number + 1 + nodes (node_at (trees_of (map row_of rows)) number).children ≤ child_at (trees_of (map row_of rows)) number place
-        → place ≡ count_of (node_at (trees_of (map row_of rows)) number).children
-    no_more_children place few none =
+    pub no_more_children : (nth : ℕ) → nth ≤ root_count (node_at (trees_of (map row_of rows)) number).children
+        → number + 1 + nodes (node_at (trees_of (map row_of rows)) number).children ≤ child_at (trees_of (map row_of rows)) number nth
+        → nth ≡ root_count (node_at (trees_of (map row_of rows)) number).children
+    no_more_children nth few none =
         let children = (node_at (trees_of (map row_of rows)) number).children in
-        elim (cases_lt place (count_of children)) [
-          | inl below ↦ let fewer = nodes_before-one children place below in absurd (omega arith)
+        elim (cases_lt nth (root_count children)) [
+          | inl below ↦ let fewer = nodes_before-one children nth below in absurd (omega arith)
           | inr above ↦ omega arith
         ]
 
-    module _ (place : ℕ) (has : place < count_of (node_at (trees_of (map row_of rows)) number).children) where
+    module _ (nth : ℕ) (has : nth < root_count (node_at (trees_of (map row_of rows)) number).children) where
       -- the number of a child is within the list
-      pub child_within : child_at (trees_of (map row_of rows)) number place < length rows
-      child_within = omega (arith, end_of_node, nodes_before-one (node_at (trees_of (map row_of rows)) number).children place has)
+      pub child_within : child_at (trees_of (map row_of rows)) number nth < length rows
+      child_within = omega (arith, end_of_node, nodes_before-one (node_at (trees_of (map row_of rows)) number).children nth has)
 
       -- the node with a child's number is the root of that child
-      pub node_at-child_at : node_at (trees_of (map row_of rows)) (child_at (trees_of (map row_of rows)) number place)
-          ≡ first_root (trees_from place (node_at (trees_of (map row_of rows)) number).children)
+      pub node_at-child_at : node_at (trees_of (map row_of rows)) (child_at (trees_of (map row_of rows)) number nth)
+          ≡ first_root (trees_from nth (node_at (trees_of (map row_of rows)) number).children)
       node_at-child_at =
           let children = (node_at (trees_of (map row_of rows)) number).children in
-          let fewer = nodes_before-one children place has in
-          (let e : number + 1 + nodes_before place children ≡ suc number + nodes_before place children = omega arith in ap (node_at (trees_of (map row_of rows))) e)
-          ∙ node_at-child (trees_of (map row_of rows)) number (nodes_before place children) within fewer
-          ∙ node_at-nodes_before children place has
+          let fewer = nodes_before-one children nth has in
+          (let e : number + 1 + nodes_before nth children ≡ suc number + nodes_before nth children = omega arith in ap (node_at (trees_of (map row_of rows))) e)
+          ∙ node_at-child (trees_of (map row_of rows)) number (nodes_before nth children) within fewer
+          ∙ node_at-nodes_before children nth has
 
       -- the size of a child leads to the number of the next child
-      pub child_at-more : (node : TreeNode) → node ≡ get_or rows (child_at (trees_of (map row_of rows)) number place) node
-          → child_at (trees_of (map row_of rows)) number place + node.size ≡ child_at (trees_of (map row_of rows)) number (place + 1)
+      pub child_at-more : (node : TreeNode) → node ≡ get_or rows (child_at (trees_of (map row_of rows)) number nth) node
+          → child_at (trees_of (map row_of rows)) number nth + node.size ≡ child_at (trees_of (map row_of rows)) number (nth + 1)
       child_at-more node is =
           let children = (node_at (trees_of (map row_of rows)) number).children in
           let parts = rows_below (trees_of (map row_of rows)) number within in
-          let before = nodes_before place children in
+          let before = nodes_before nth children in
           let row : row_of node ≡ get_or (rows_of children ++ rows_of parts.0) before (row_of node) =
           ap row_of is
           ∙ sym (get_or-map row_of rows (number + 1 + before) node (row_of node) child_within)
@@ -238,21 +238,21 @@ module _ (rows : List TreeNode) (one : IsOneTree (map row_of rows)) where
           ∙ sym (get_or-drop (suc number) (rows_of (trees_of (map row_of rows))) before (row_of node))
           ∙ ap (λ l. get_or l before (row_of node)) parts.1 in
           let size : node.size ≡ (get_or (rows_of children ++ rows_of parts.0) before (row_of node)).size = ap (λ (r : Row). r.size) row in
-          let next = nodes_before-more children (rows_of parts.0) place (row_of node) has in
-          let after : place + 1 ≡ suc place = omega arith in
-          let all : number + 1 + before + node.size ≡ number + 1 + nodes_before (suc place) children = omega arith in
+          let next = nodes_before-more children (rows_of parts.0) nth (row_of node) has in
+          let after : nth + 1 ≡ suc nth = omega arith in
+          let all : number + 1 + before + node.size ≡ number + 1 + nodes_before (suc nth) children = omega arith in
           all ∙ ap (λ n. number + 1 + nodes_before n children) (sym after)
 
       -- a child has at least one node
-      pub child_has_size : (node : TreeNode) → node ≡ get_or rows (child_at (trees_of (map row_of rows)) number place) node → 0 < node.size
+      pub child_has_size : (node : TreeNode) → node ≡ get_or rows (child_at (trees_of (map row_of rows)) number nth) node → 0 < node.size
       child_has_size node is =
-          let inside : child_at (trees_of (map row_of rows)) number place < nodes (trees_of (map row_of rows)) = omega (arith, child_within, nodes_of_tree) in
-          let same = ap (λ (r : Row). r.size) (row_of_node (child_at (trees_of (map row_of rows)) number place) inside node is) in
+          let inside : child_at (trees_of (map row_of rows)) number nth < nodes (trees_of (map row_of rows)) = omega (arith, child_within, nodes_of_tree) in
+          let same = ap (λ (r : Row). r.size) (row_of_node (child_at (trees_of (map row_of rows)) number nth) inside node is) in
           omega arith
 
       -- the next child, or the end of the children, is within the subtree
-      pub child_ends_within : child_at (trees_of (map row_of rows)) number (place + 1) ≤ number + 1 + nodes (node_at (trees_of (map row_of rows)) number).children
-      child_ends_within = let few = nodes_before-few (node_at (trees_of (map row_of rows)) number).children (place + 1) in omega arith
+      pub child_ends_within : child_at (trees_of (map row_of rows)) number (nth + 1) ≤ number + 1 + nodes (node_at (trees_of (map row_of rows)) number).children
+      child_ends_within = let few = nodes_before-few (node_at (trees_of (map row_of rows)) number).children (nth + 1) in omega arith
 
 -- the rule numbers of trees are below a bound exactly if those of their node list are
 pub RulesBelow-from_all : (bound : ℕ) (trees : Trees) → list_all (λ (row : Row). nat_lt row.rule bound) (rows_of trees) ≡ true → RulesBelow bound trees

@@ -4,7 +4,7 @@ use Rattle.std.proofs.lemmas.List.{drop_more, drop-map, drop-drop, drop-take, ta
 use Rattle.std.proofs.Math.Nat.{pow-suc}
 use Rattle.peg_tree.specs.declared.part.Part.{Part}
 use Rattle.peg_tree.specs.declared.row.TreeNode.{TreeNode}
-use Rattle.peg_tree.specs.Parts.{rows_in, length_of, IsPart, AreParts, greatest_level, level_in, level_of_parts, length_of_parts}
+use Rattle.peg_tree.specs.Parts.{rows_in, part_length, IsPart, AreParts, greatest_level, level_in, level_of_parts, length_of_parts}
 use Rattle.peg_tree.specs.Rows.{Row, row_of, rows_of, IsOneTree}
 use Rattle.peg_tree.specs.Trees.{Trees, NoTrees, Tree, nodes, levels}
 use Rattle.peg_tree.specs.TreesOfRows.{trees_of, first_trees, trees_after, IsForest}
@@ -176,26 +176,26 @@ module _ (rows : List TreeNode) (part : Part) (is_part : IsPart (map row_of rows
 
 -- pushing a part
 pub AreParts-push : (rows : List Row) (room : ℕ) (parts : List Part) (part : Part) → AreParts rows room parts → IsPart rows part
-    → length_of part < 2 ^ (room - length parts) → AreParts rows room (parts ++ part ∷ [])
-AreParts-push rows room [] part h k few = (k, (let same : room - 0 ≡ room = omega arith in subst (λ n. length_of part < 2 ^ n) same few), tt)
+    → part_length part < 2 ^ (room - length parts) → AreParts rows room (parts ++ part ∷ [])
+AreParts-push rows room [] part h k few = (k, (let same : room - 0 ≡ room = omega arith in subst (λ n. part_length part < 2 ^ n) same few), tt)
 AreParts-push rows room (first ∷ parts) part h k few =
     let less : room - suc (length parts) ≡ room - 1 - length parts = omega arith in
-    (h.0, h.1, AreParts-push rows (room - 1) parts part h.2 k (subst (λ n. length_of part < 2 ^ n) less few))
+    (h.0, h.1, AreParts-push rows (room - 1) parts part h.2 k (subst (λ n. part_length part < 2 ^ n) less few))
 
 -- popping a part
 pub AreParts-pop : (rows : List Row) (room : ℕ) (parts : List Part) (part : Part) → AreParts rows room (parts ++ part ∷ [])
-    → AreParts rows room parts × IsPart rows part × (length_of part < 2 ^ (room - length parts))
-AreParts-pop rows room [] part h = (tt, h.0, (let same : room ≡ room - 0 = omega arith in subst (λ n. length_of part < 2 ^ n) same h.1))
+    → AreParts rows room parts × IsPart rows part × (part_length part < 2 ^ (room - length parts))
+AreParts-pop rows room [] part h = (tt, h.0, (let same : room ≡ room - 0 = omega arith in subst (λ n. part_length part < 2 ^ n) same h.1))
 AreParts-pop rows room (first ∷ parts) part h =
     let less : room - 1 - length parts ≡ room - suc (length parts) = omega arith in
     let rest = AreParts-pop rows (room - 1) parts part h.2 in
-    ((h.0, h.1, rest.0), rest.1, subst (λ n. length_of part < 2 ^ n) less rest.2)
+    ((h.0, h.1, rest.0), rest.1, subst (λ n. part_length part < 2 ^ n) less rest.2)
 
 pub level_of_parts-push : (rows : List Row) (parts : List Part) (part : Part) → level_of_parts rows (parts ++ part ∷ []) ≡ max (level_of_parts rows parts) (level_in rows part)
 level_of_parts-push rows [] part = omega arith
 level_of_parts-push rows (first ∷ parts) part = let h = level_of_parts-push rows parts part in omega arith
 
-pub length_of_parts-push : (parts : List Part) (part : Part) → length_of_parts (parts ++ part ∷ []) ≡ length_of_parts parts + length_of part
+pub length_of_parts-push : (parts : List Part) (part : Part) → length_of_parts (parts ++ part ∷ []) ≡ length_of_parts parts + part_length part
 length_of_parts-push [] part = omega arith
 length_of_parts-push (first ∷ parts) part = let h = length_of_parts-push parts part in omega arith
 
@@ -216,7 +216,7 @@ power_half n k less = let double = pow-suc 2 k in omega arith
 -- the stack after a part has been split
 module _ (rows : List Row) (waiting kept : List Part) (part large small : Part) (popped : waiting ≡ kept ++ part ∷ [])
     (are_parts : AreParts rows 64 waiting) where
-  parted : AreParts rows 64 kept × IsPart rows part × (length_of part < 2 ^ (64 - length kept))
+  parted : AreParts rows 64 kept × IsPart rows part × (part_length part < 2 ^ (64 - length kept))
   parted = AreParts-pop rows 64 kept part (subst (AreParts rows 64) popped are_parts)
 
   pub kept_are_parts : AreParts rows 64 kept
@@ -226,20 +226,20 @@ module _ (rows : List Row) (waiting kept : List Part) (part large small : Part) 
   top_is_part = parted.1
 
   pub room_left : part.from < part.to → length kept < 64
-  room_left some = let room = power_some (length_of part) (64 - length kept) (omega arith) parted.2 in omega arith
+  room_left some = let room = power_some (part_length part) (64 - length kept) (omega arith) parted.2 in omega arith
 
   pub apart_are_parts : part.from < part.to → IsPart rows large → IsPart rows small
-      → length_of large + length_of small + 1 ≡ length_of part → length_of small ≤ length_of large
+      → part_length large + part_length small + 1 ≡ part_length part → part_length small ≤ part_length large
       → AreParts rows 64 ((kept ++ large ∷ []) ++ small ∷ [])
   apart_are_parts some first second sizes few =
       let room = room_left some in
       let more : 64 - length kept ≡ suc (64 - length (kept ++ large ∷ [])) = omega (arith, length-append kept (large ∷ [])) in
-      let bound : length_of part < 2 ^ suc (64 - length (kept ++ large ∷ [])) = subst (λ n. length_of part < 2 ^ n) more parted.2 in
+      let bound : part_length part < 2 ^ suc (64 - length (kept ++ large ∷ [])) = subst (λ n. part_length part < 2 ^ n) more parted.2 in
       let under = parted.2 in
       AreParts-push rows 64 (kept ++ large ∷ []) small
       (AreParts-push rows 64 kept large parted.0 first (omega (arith, under)))
       second
-      (power_half (length_of small) (64 - length (kept ++ large ∷ [])) (omega (arith, bound)))
+      (power_half (part_length small) (64 - length (kept ++ large ∷ [])) (omega (arith, bound)))
 
   pub apart_levels : (deepest deeper whole : ℕ) → deeper ≡ max deepest part.level
       → level_in rows part ≡ max part.level (max (level_in rows large) (level_in rows small))
@@ -259,7 +259,7 @@ module _ (rows : List Row) (waiting kept : List Part) (part large small : Part) 
       let zero_level = level_in-none rows part none in
       omega arith
 
-  pub apart_fewer : part.from < part.to → length_of large + length_of small + 1 ≡ length_of part
+  pub apart_fewer : part.from < part.to → part_length large + part_length small + 1 ≡ part_length part
       → 2 * length_of_parts ((kept ++ large ∷ []) ++ small ∷ []) + length ((kept ++ large ∷ []) ++ small ∷ []) < 2 * length_of_parts waiting + length waiting
   apart_fewer some sizes =
       let a = length_of_parts-push (kept ++ large ∷ []) small in

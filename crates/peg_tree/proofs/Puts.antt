@@ -2,11 +2,11 @@
 use Rattle.std.proofs.Common.{◌≡◌, ℕ, ◌+◌, ◌<◌, ◌≤◌, List, [], ◌∷◌, ◌++◌, length, take, drop, refl, ap, sym, ◌∙◌, arith, append_assoc, append-nil, length-append}
 use Rattle.std.proofs.Math.Seq.{take-add}
 use Rattle.std.proofs.lemmas.List.{take_at}
-use Rattle.peg_tree.specs.Put.{Puts}
+use Rattle.peg_tree.specs.Write.{Writes}
 
 -- writing some bytes, then others after them
-pub puts-both : (old mid new : List ℕ) (at middle end : ℕ) (first second : List ℕ) → Puts old at first mid middle
-    → Puts mid middle second new end → Puts old at (first ++ second) new end
+pub puts-both : (old mid new : List ℕ) (at middle end : ℕ) (first second : List ℕ) → Writes old at first mid middle
+    → Writes mid middle second new end → Writes old at (first ++ second) new end
 puts-both old mid new at middle end first second a b = (
   b.0 ∙ a.0,
   omega (arith, a.1, b.1, length-append first second),
@@ -16,7 +16,7 @@ puts-both old mid new at middle end first second a b = (
 -- bytes that are written from offset `from` on, with the bytes before it unchanged
 pub puts-written : (old new : List ℕ) (at from end : ℕ) (bytes : List ℕ) → length new ≡ length old
     → end ≡ at + length bytes → from + length bytes ≡ end → drop from new ≡ bytes ++ drop end old
-    → take from new ≡ take from old → Puts old at bytes new end
+    → take from new ≡ take from old → Writes old at bytes new end
 puts-written old new at from end bytes same ends starts written before =
     let here : from ≡ at = omega (arith, ends, starts) in
     let far : end ≡ from + length bytes = omega (arith, starts) in (
@@ -30,12 +30,12 @@ puts-written old new at from end bytes same ends starts written before =
     )
 
 -- writing nothing
-pub puts-nothing : (old : List ℕ) (at : ℕ) → Puts old at [] old at
+pub puts-nothing : (old : List ℕ) (at : ℕ) → Writes old at [] old at
 puts-nothing old at = (refl, omega arith, sym (append-nil (take at old)))
 
 -- the bytes written so far continue a text that `first`, `second` and `rest` make up
 pub puts-more : (old new : List ℕ) (at end : ℕ) (first second rest from whole : List ℕ)
-    → Puts old at (first ++ second) new end → whole ≡ take at old ++ from → from ≡ first ++ (second ++ rest)
+    → Writes old at (first ++ second) new end → whole ≡ take at old ++ from → from ≡ first ++ (second ++ rest)
     → whole ≡ take end new ++ rest
 puts-more old new at end first second rest from whole puts is begins =
     is

@@ -58,17 +58,17 @@ rows-text names tree below =
 
 -- ---- levels
 
-EachAtMost-append : (most : ℕ) (front back : List ℕ) → EachAtMost most front → EachAtMost most back
-    → EachAtMost most (front ++ back)
-EachAtMost-append most [] back h k = k
-EachAtMost-append most (number ∷ front) back h k = (h.0, EachAtMost-append most front back h.1 k)
+EachAtMost-append : (limit : ℕ) (front back : List ℕ) → EachAtMost limit front → EachAtMost limit back
+    → EachAtMost limit (front ++ back)
+EachAtMost-append limit [] back h k = k
+EachAtMost-append limit (number ∷ front) back h k = (h.0, EachAtMost-append limit front back h.1 k)
 
-levels-at_most : (most level : ℕ) (trees : Trees) → level + levels trees ≤ most + 1 → EachAtMost most (levels_of level trees)
-levels-at_most most level NoTrees within = tt
-levels-at_most most level (Tree rule start end children rest) within = (
+levels-at_most : (limit level : ℕ) (trees : Trees) → level + levels trees ≤ limit + 1 → EachAtMost limit (levels_of level trees)
+levels-at_most limit level NoTrees within = tt
+levels-at_most limit level (Tree rule start end children rest) within = (
   omega arith,
-  EachAtMost-append most (levels_of (1 + level) children) (levels_of level rest)
-      (levels-at_most most (1 + level) children (omega arith)) (levels-at_most most level rest (omega arith)),
+  EachAtMost-append limit (levels_of (1 + level) children) (levels_of level rest)
+      (levels-at_most limit (1 + level) children (omega arith)) (levels-at_most limit level rest (omega arith)),
 )
 
 -- no node is deeper than the depth of the tree
@@ -132,20 +132,20 @@ levels-more rows at node within is ends kept more closed pushed count counted =
 
 -- the capacity suffices for one more end
 pub room-for_end : (rows : List TreeNode) (at : ℕ) (node : TreeNode) → at < length rows → node ≡ get_or rows at node
-    → (ends kept : List ℕ) → reverse kept ≡ open_at at (reverse ends) → (most : ℕ)
-    → EachAtMost most (levels_from rows at ends) → length kept < most
-room-for_end rows at node within is ends kept closed most each =
+    → (ends kept : List ℕ) → reverse kept ≡ open_at at (reverse ends) → (limit : ℕ)
+    → EachAtMost limit (levels_from rows at ends) → length kept < limit
+room-for_end rows at node within is ends kept closed limit each =
     omega (
       arith,
-      (subst (EachAtMost most) (levels-more rows at node within is ends kept (kept ++ (at + node.size) ∷ []) closed refl
+      (subst (EachAtMost limit) (levels-more rows at node within is ends kept (kept ++ (at + node.size) ∷ []) closed refl
           (length kept) refl) each).0,
     )
 
 pub levels-rest : (rows : List TreeNode) (at : ℕ) (node : TreeNode) → at < length rows → node ≡ get_or rows at node
     → (ends kept more : List ℕ) → reverse kept ≡ open_at at (reverse ends) → more ≡ kept ++ (at + node.size) ∷ []
-    → (most : ℕ) → EachAtMost most (levels_from rows at ends) → EachAtMost most (levels_from rows (at + 1) more)
-levels-rest rows at node within is ends kept more closed pushed most each =
-    (subst (EachAtMost most) (levels-more rows at node within is ends kept more closed pushed (length kept) refl) each).1
+    → (limit : ℕ) → EachAtMost limit (levels_from rows at ends) → EachAtMost limit (levels_from rows (at + 1) more)
+levels-rest rows at node within is ends kept more closed pushed limit each =
+    (subst (EachAtMost limit) (levels-more rows at node within is ends kept more closed pushed (length kept) refl) each).1
 
 -- after the last node the text is empty
 pub text-ended : (names : List (Vec ℕ Global)) (rows : List TreeNode) (at : ℕ) (ends : List ℕ) → length rows ≤ at
@@ -161,12 +161,12 @@ EachAtMost-weaker low high [] less h = tt
 EachAtMost-weaker low high (number ∷ numbers) less h = (omega arith, EachAtMost-weaker low high numbers less h.1)
 
 -- one more number
-pub EachAtMost-push : (most : ℕ) (numbers : List ℕ) (number : ℕ) → EachAtMost most numbers → number ≤ most
-    → EachAtMost most (numbers ++ number ∷ [])
-EachAtMost-push most numbers number h k = EachAtMost-append most numbers (number ∷ []) h (k, tt)
+pub EachAtMost-push : (limit : ℕ) (numbers : List ℕ) (number : ℕ) → EachAtMost limit numbers → number ≤ limit
+    → EachAtMost limit (numbers ++ number ∷ [])
+EachAtMost-push limit numbers number h k = EachAtMost-append limit numbers (number ∷ []) h (k, tt)
 
-pub name-fits : (most : ℕ) (names : List (Vec ℕ Global)) (rule : ℕ) (name : Vec ℕ Global) → rule < length names
-    → name ≡ get_or names rule name → EachAtMost most (map (λ n. vec_len n) names) → vec_len name ≤ most
-name-fits most [] rule name within is h = absurd (omega arith)
-name-fits most (first ∷ names) zero name within is h = subst (λ (n : Vec ℕ Global). vec_len n ≤ most) (sym is) h.0
-name-fits most (first ∷ names) (suc rule) name within is h = name-fits most names rule name (omega arith) is h.1
+pub name-fits : (limit : ℕ) (names : List (Vec ℕ Global)) (rule : ℕ) (name : Vec ℕ Global) → rule < length names
+    → name ≡ get_or names rule name → EachAtMost limit (map (λ n. vec_len n) names) → vec_len name ≤ limit
+name-fits limit [] rule name within is h = absurd (omega arith)
+name-fits limit (first ∷ names) zero name within is h = subst (λ (n : Vec ℕ Global). vec_len n ≤ limit) (sym is) h.0
+name-fits limit (first ∷ names) (suc rule) name within is h = name-fits limit names rule name (omega arith) is h.1

@@ -27,9 +27,10 @@ objects_of_trees names (Tree rule start end children rest) =
     ∷ objects_of_trees names rest
 
 -- the leading objects that fit into `count` nodes
-abbrev pub taken : ℕ → List SizedObject → List Data
-taken count [] = []
-taken count (object ∷ objects) = if nat_le object.1 count then object.0 ∷ taken (count - object.1) objects else []
+abbrev pub take_values : ℕ → List SizedObject → List Data
+take_values count [] = []
+take_values count (object ∷ objects) = if nat_le object.1 count then object.0 ∷ take_values
+    (count - object.1) objects else []
 
 -- the objects after those
 abbrev pub left_after : ℕ → List SizedObject → List SizedObject

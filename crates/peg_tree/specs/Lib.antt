@@ -6,10 +6,10 @@ pub mod Levels
 pub mod Names
 pub mod Nodes
 pub mod Parts
-pub mod Put
+pub mod Write
 pub mod RowText
 pub mod Rows
-pub mod RowsLeft
+pub mod FlatTreeLeft
 pub mod Sending
 pub mod Trees
 pub mod TreesCode

@@ -22,25 +22,25 @@ node_at (Tree rule start end children rest) (suc number) =
     if nat_lt number (nodes children) then node_at children number else node_at rest (number - nodes children)
 
 -- the number of adjacent trees
-abbrev pub count_of : Trees → ℕ
-count_of NoTrees = 0
-count_of (Tree rule start end children rest) = 1 + count_of rest
+abbrev pub root_count : Trees → ℕ
+root_count NoTrees = 0
+root_count (Tree rule start end children rest) = 1 + root_count rest
 
--- the trees from index `place` on
+-- the trees from index `nth` on
 abbrev pub trees_from : ℕ → Trees → Trees
 trees_from zero trees = trees
-trees_from (suc place) NoTrees = NoTrees
-trees_from (suc place) (Tree rule start end children rest) = trees_from place rest
+trees_from (suc nth) NoTrees = NoTrees
+trees_from (suc nth) (Tree rule start end children rest) = trees_from nth rest
 
--- the number of nodes of the trees before index `place`
+-- the number of nodes of the trees before index `nth`
 abbrev pub nodes_before : ℕ → Trees → ℕ
 nodes_before zero trees = 0
-nodes_before (suc place) NoTrees = 0
-nodes_before (suc place) (Tree rule start end children rest) = 1 + nodes children + nodes_before place rest
+nodes_before (suc nth) NoTrees = 0
+nodes_before (suc nth) (Tree rule start end children rest) = 1 + nodes children + nodes_before nth rest
 
--- the number of the child at index `place` of node `number`
-abbrev pub child_at : Trees → (number place : ℕ) → ℕ
-child_at trees number place = number + 1 + nodes_before place (node_at trees number).children
+-- the number of the child at index `nth` of node `number`
+abbrev pub child_at : Trees → (number nth : ℕ) → ℕ
+child_at trees number nth = number + 1 + nodes_before nth (node_at trees number).children
 
 -- every rule number is below the bound
 abbrev pub RulesBelow : ℕ → Trees → Type 0

@@ -7,8 +7,8 @@ use Rattle.peg_tree.specs.TreesOfRows.{trees_of, IsForest}
 use Rattle.peg_tree.specs.declared.part.Part.{Part}
 
 -- the number of nodes of a part
-abbrev pub length_of : Part → ℕ
-length_of part = part.to - part.from
+abbrev pub part_length : Part → ℕ
+part_length part = part.to - part.from
 
 -- the nodes of a part
 abbrev pub rows_in : List Row → Part → List Row
@@ -34,7 +34,7 @@ level_in rows part = greatest_level part.level (trees_of (rows_in rows part))
 -- a stack of parts in which the sizes at least halve: part number i has fewer than 2^(`room` - i) nodes
 abbrev pub AreParts : List Row → ℕ → List Part → Type 0
 AreParts rows room [] = Unit {0}
-AreParts rows room (part ∷ parts) = IsPart rows part × (length_of part < 2 ^ room) × AreParts rows (room - 1) parts
+AreParts rows room (part ∷ parts) = IsPart rows part × (part_length part < 2 ^ room) × AreParts rows (room - 1) parts
 
 -- the greatest level of several parts
 abbrev pub level_of_parts : List Row → List Part → ℕ
@@ -44,4 +44,4 @@ level_of_parts rows (part ∷ parts) = max (level_in rows part) (level_of_parts 
 -- the total number of nodes of several parts
 abbrev pub length_of_parts : List Part → ℕ
 length_of_parts [] = 0
-length_of_parts (part ∷ parts) = length_of part + length_of_parts parts
+length_of_parts (part ∷ parts) = part_length part + length_of_parts parts

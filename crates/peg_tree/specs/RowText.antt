@@ -23,14 +23,14 @@ rest_text later names ends number (row ∷ rows) =
     comma_if later ++ (row_text (1 + length (open_at number ends)) (name_at names row.rule) row.start row.end
     ++ rest_text true names ((number + row.size) ∷ open_at number ends) (number + 1) rows)
 
--- every number is at most `most`
-abbrev pub EachAtMost : (most : ℕ) → List ℕ → Type 0
-EachAtMost most [] = ⊤
-EachAtMost most (number ∷ numbers) = (number ≤ most) × EachAtMost most numbers
+-- every number is at most `limit`
+abbrev pub EachAtMost : (limit : ℕ) → List ℕ → Type 0
+EachAtMost limit [] = ⊤
+EachAtMost limit (number ∷ numbers) = (number ≤ limit) × EachAtMost limit numbers
 
-pub EachAtMost-prop : (most : ℕ) (numbers : List ℕ) → IsProp (EachAtMost most numbers)
-EachAtMost-prop most [] = Unit-prop
-EachAtMost-prop most (number ∷ numbers) = ×_prop le_prop (EachAtMost-prop most numbers)
+pub EachAtMost-prop : (limit : ℕ) (numbers : List ℕ) → IsProp (EachAtMost limit numbers)
+EachAtMost-prop limit [] = Unit-prop
+EachAtMost-prop limit (number ∷ numbers) = ×_prop le_prop (EachAtMost-prop limit numbers)
 
 -- a buffer of length `len` has space for a full piece and the longest possible node, given the rule names
 abbrev pub HasRoom : (len : ℕ) → List (Vec ℕ Global) → Type 0

@@ -46,15 +46,15 @@ SendsRest names trees (inner ∷ opens) old new =
     × SendsRest names inner.1 opens ended new
 
 -- the node list of the trees after the open nodes
-abbrev pub rows_behind : List OpenThen → List Row
-rows_behind [] = []
-rows_behind (inner ∷ opens) = rows_of inner.1 ++ rows_behind opens
+abbrev pub rows_after : List OpenThen → List Row
+rows_after [] = []
+rows_after (inner ∷ opens) = rows_of inner.1 ++ rows_after opens
 
--- each open node ends where the trees in it end, the innermost at `place`, and every rule number is below the bound
-abbrev pub EndAt : (bound place : ℕ) → List OpenThen → Type 0
-EndAt bound place [] = ⊤
-EndAt bound place (inner ∷ opens) =
-    (inner.0.node.rule < bound) × (inner.0.end ≡ place) × EndAt bound (place + nodes inner.1) opens
+-- each open node ends where the trees in it end, the innermost at `nth`, and every rule number is below the bound
+abbrev pub EndAt : (bound nth : ℕ) → List OpenThen → Type 0
+EndAt bound nth [] = ⊤
+EndAt bound nth (inner ∷ opens) =
+    (inner.0.node.rule < bound) × (inner.0.end ≡ nth) × EndAt bound (nth + nodes inner.1) opens
 
 -- the innermost open node, if any, ends after node number `at`
 abbrev pub IsOpenPast : (at : ℕ) → List Open → Type 0

@@ -1,12 +1,12 @@
 //! The number of levels of a tree.
 ghost use Rattle.std.specs.Prelude.{◌≡◌, ◌+◌, ◌*◌, ◌<◌, ◌≤◌, map, max};
-ghost use Rattle.peg_tree.specs.Parts.{IsPart, length_of, level_in};
+ghost use Rattle.peg_tree.specs.Parts.{IsPart, part_length, level_in};
 ghost use Rattle.peg_tree.specs.Rows.{row_of, IsOneTree};
 ghost use Rattle.peg_tree.specs.Trees.{levels};
 ghost use Rattle.peg_tree.specs.TreesOfRows.{trees_of};
 
 use crate::TreeNode;
-use crate::part::{Part, Parts};
+use crate::part::{Part, PartStack};
 
 // Computes the greatest level. Each step splits a part of the node list into the children of its first tree and the
 // trees after it. The smaller part is pushed last, so 65 entries are enough for any tree.
@@ -15,7 +15,7 @@ pub(crate) fn depth_in(rows: &[TreeNode]) -> usize
     ensures { result ≡ levels (trees_of (map row_of rows.now)) }
 {
     let mut deepest = 0;
-    let mut waiting = Parts::new(Part {
+    let mut waiting = PartStack::new(Part {
         from: 0,
         to: rows.len(),
         level: 1,
@@ -23,7 +23,7 @@ pub(crate) fn depth_in(rows: &[TreeNode]) -> usize
     while let Some(part) = waiting.pop() {
         if part.from < part.to {
             deepest = deepest.max(part.level);
-            let halves = taken_apart(rows, part);
+            let halves = split_root(rows, part);
             waiting.push(halves.large);
             waiting.push(halves.small);
         }
@@ -33,19 +33,19 @@ pub(crate) fn depth_in(rows: &[TreeNode]) -> usize
 
 // The two parts that remain when the first node of a part is removed.
 #[derive(Clone, Copy)]
-struct Halves {
+struct Split {
     large: Part,
     small: Part,
 }
 
 // Splits a part into the children of its first tree and the trees after it; `small` has no more nodes than `large`.
-fn taken_apart(rows: &[TreeNode], part: Part) -> Halves
+fn split_root(rows: &[TreeNode], part: Part) -> Split
     requires part { IsPart (map row_of rows.now) part }
     requires some { part.from < part.to }
     ensures large { IsPart (map row_of rows.now) result.large }
     ensures small { IsPart (map row_of rows.now) result.small }
-    ensures sizes { length_of result.large + length_of result.small + 1 ≡ length_of part }
-    ensures few { length_of result.small ≤ length_of result.large }
+    ensures sizes { part_length result.large + part_length result.small + 1 ≡ part_length part }
+    ensures few { part_length result.small ≤ part_length result.large }
     ensures level { level_in (map row_of rows.now) part
         ≡ max part.level (max (level_in (map row_of rows.now) result.large)
         (level_in (map row_of rows.now) result.small)) }
@@ -63,12 +63,12 @@ fn taken_apart(rows: &[TreeNode], part: Part) -> Halves
         level: part.level,
     };
     if middle - part.from <= part.to - middle {
-        Halves {
+        Split {
             large: rest,
             small: children,
         }
     } else {
-        Halves {
+        Split {
             large: children,
             small: rest,
         }

@@ -5,7 +5,7 @@ ghost use Rattle.peg_tree.specs.Events.{SendsMember};
 use serde::{Serialize, Serializer};
 
 /// Serializes a member of an object: the key, then the value.
-pub fn send_member<T: Serialize, S: Serializer>(
+pub fn serialize_member<T: Serialize, S: Serializer>(
     key: &str,
     value: &T,
     out: &mut S,

@@ -2,7 +2,7 @@
 ghost use Rattle.std.specs.Prelude.{◌≡◌, ◌<◌, ◌≤◌, ◌∷◌, ◌++◌, ◌↔◌, [], IfOk, OnOk, IfSome, IfNone, length, map};
 ghost use Rattle.serde_json.specs.View.{view};
 ghost use Rattle.peg_tree.specs.Json.{max_levels, node_data, nested_data};
-ghost use Rattle.peg_tree.specs.Built.{object_of, objects_of, taken, left_after};
+ghost use Rattle.peg_tree.specs.Built.{object_of, objects_of, take_values, left_after};
 ghost use Rattle.peg_tree.specs.Names.{name_at};
 ghost use Rattle.peg_tree.specs.Nodes.{RulesBelow};
 ghost use Rattle.peg_tree.specs.Trees.{levels};
@@ -87,7 +87,7 @@ fn take_children(
     stack: &mut Vec<Built>,
     count: u64,
 ) -> Result<Vec<Value>, AllocError>
-    ensures taken { IfOk result (λ children. map view children.items ≡ taken count (objects_of stack.old.items)) }
+    ensures taken { IfOk result (λ children. map view children.items ≡ take_values count (objects_of stack.old.items)) }
     ensures left { IfOk result (λ children. objects_of stack.new.items
         ≡ left_after count (objects_of stack.old.items)) }
 {
@@ -100,17 +100,17 @@ fn take_children(
     Ok(children)
 }
 
-// Pops the top object if it has at most `most` nodes.
-fn pop_within(stack: &mut Vec<Built>, most: u64) -> Option<Built>
+// Pops the top object if it has at most `limit` nodes.
+fn pop_within(stack: &mut Vec<Built>, limit: u64) -> Option<Built>
     ensures some { IfSome result (λ built. objects_of stack.old.items ≡ object_of built ∷ objects_of stack.new.items) }
-    ensures few { IfSome result (λ built. built.size ≤ most) }
+    ensures few { IfSome result (λ built. built.size ≤ limit) }
     ensures shorter { IfSome result (λ built. length stack.new.items < length stack.old.items) }
     ensures same { IfNone result (stack.new.items ≡ stack.old.items) }
-    ensures none { IfNone result (taken most (objects_of stack.old.items) ≡ []) }
-    ensures rest { IfNone result (left_after most (objects_of stack.old.items) ≡ objects_of stack.old.items) }
+    ensures none { IfNone result (take_values limit (objects_of stack.old.items) ≡ []) }
+    ensures rest { IfNone result (left_after limit (objects_of stack.old.items) ≡ objects_of stack.old.items) }
 {
     match stack.last() {
-        Some(top) if top.size <= most => stack.pop(),
+        Some(top) if top.size <= limit => stack.pop(),
         _ => None,
     }
 }

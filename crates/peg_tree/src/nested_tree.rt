@@ -1,13 +1,13 @@
 //! Serializing a tree as nested objects.
 ghost use Rattle.std.specs.Prelude.{◌≡◌, ◌+◌, ◌<◌, ◌≤◌, ◌∷◌, ◌++◌, [], IfNone, IfSome, OnOk, length, map, reverse};
 ghost use Rattle.peg_tree.specs.Names.{name_at};
-ghost use Rattle.peg_tree.specs.Nodes.{RulesBelow, count_of, node_at};
+ghost use Rattle.peg_tree.specs.Nodes.{RulesBelow, root_count, node_at};
 ghost use Rattle.peg_tree.specs.Rows.{IsOneTree, row_of};
 ghost use Rattle.peg_tree.specs.Events.{SendsNested};
 ghost use Rattle.peg_tree.specs.Sending.{BeginsNode, EndsNode, IsOpenPast, Opens, RulesBelow-prop};
 ghost use Rattle.peg_tree.specs.TreesOfRows.{trees_of};
 
-use crate::member::send_member;
+use crate::member::serialize_member;
 use crate::rows::count_in;
 use crate::{Names, Tree, TreeNode};
 use serde::{Described, Serialize, Serializer};
@@ -21,7 +21,8 @@ pub struct NestedTree<'a, N: Names> {
     alloc: Global,
     pub tree: &'a Tree,
     pub names: &'a N,
-    ghost below: { RulesBelow (length (N.names names.now)) tree.now } by { RulesBelow-prop (length (N.names names.now)) tree.now },
+    ghost below: { RulesBelow (length (N.names names.now)) tree.now } by { RulesBelow-prop (length
+        (N.names names.now)) tree.now },
 }
 
 impl<'a, N: Names> NestedTree<'a, N> {
@@ -41,7 +42,7 @@ impl<N: Names> Described for NestedTree<'_, N> {
 
 impl<N: Names> Serialize for NestedTree<'_, N> {
     fn serialize<S: Serializer>(&self, out: &mut S) -> Result<(), S::Error> {
-        send_nested(self.alloc, self.tree, self.names, out)
+        serialize_nested(self.alloc, self.tree, self.names, out)
     }
 }
 
@@ -53,7 +54,7 @@ pub(crate) struct Open {
 }
 
 // Serializes the tree in one pass, with a stack of open nodes instead of recursion.
-fn send_nested<N: Names, S: Serializer>(
+fn serialize_nested<N: Names, S: Serializer>(
     alloc: Global,
     tree: &Tree,
     names: &N,
@@ -100,7 +101,7 @@ fn begin_node<S: Serializer>(
 ) -> Result<(), S::Error>
     requires tree { IsOneTree (map row_of rows.now) }
     requires within { at < length rows.now }
-    ensures sent { OnOk result (BeginsNode (count_of (node_at (trees_of (map row_of rows.now)) at).children)
+    ensures sent { OnOk result (BeginsNode (root_count (node_at (trees_of (map row_of rows.now)) at).children)
         (S.written out.old) (S.written out.new)) }
     ensures open { OnOk result (Opens rows.now at stack.old.items stack.new.items) }
 {
@@ -122,8 +123,8 @@ fn end_node<N: Names, S: Serializer>(node: TreeNode, names: &N, out: &mut S) -> 
         (S.written out.old) (S.written out.new)) }
 {
     out.end_seq()?;
-    send_member("end", &node.span.end, out)?;
-    send_member("rule", &names.name(node.rule), out)?;
-    send_member("start", &node.span.start, out)?;
+    serialize_member("end", &node.span.end, out)?;
+    serialize_member("rule", &names.name(node.rule), out)?;
+    serialize_member("start", &node.span.start, out)?;
     out.end_map()
 }

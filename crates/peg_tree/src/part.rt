@@ -13,12 +13,12 @@ pub(crate) struct Part {
 
 // A stack of at most 65 parts.
 #[derive(Drop)]
-pub(crate) struct Parts {
+pub(crate) struct PartStack {
     parts: [Part; 65],
     len: usize,
 }
 
-impl Model for Parts {
+impl Model for PartStack {
     ghost use Rattle.std.specs.Prelude.{List, take, ◌≤◌};
     ghost use Rattle.peg_tree.specs.declared.part.Part.{Part};
 
@@ -29,11 +29,11 @@ impl Model for Parts {
     ghost invariant = { λ stack. stack.len ≤ 65 };
 }
 
-impl Parts {
-    pub(crate) fn new(part: Part) -> Parts
+impl PartStack {
+    pub(crate) fn new(part: Part) -> PartStack
         ensures { result ≡ part ∷ [] }
     {
-        Parts {
+        PartStack {
             parts: [part; 65],
             len: 1,
         }

@@ -4,7 +4,7 @@ ghost use Rattle.std.specs.List.{list_all};
 ghost use Rattle.peg_tree.specs.Rows.{row_of, IsOneTree};
 ghost use Rattle.peg_tree.specs.Trees.{nodes};
 ghost use Rattle.peg_tree.specs.TreesOfRows.{trees_of};
-ghost use Rattle.peg_tree.specs.Nodes.{node_at, count_of, child_at, first_root, trees_from};
+ghost use Rattle.peg_tree.specs.Nodes.{node_at, root_count, child_at, first_root, trees_from};
 
 use crate::TreeNode;
 
@@ -24,7 +24,7 @@ pub(crate) fn node_in(rows: &[TreeNode], node: usize) -> TreeNode
 pub(crate) fn count_in(rows: &[TreeNode], node: usize) -> usize
     requires tree { IsOneTree (map row_of rows.now) }
     requires within { node < length rows.now }
-    ensures { result ≡ count_of (node_at (trees_of (map row_of rows.now)) node).children }
+    ensures { result ≡ root_count (node_at (trees_of (map row_of rows.now)) node).children }
 {
     let end = node + node_in(rows, node).size as usize;
     let mut at = node + 1;
@@ -37,18 +37,18 @@ pub(crate) fn count_in(rows: &[TreeNode], node: usize) -> usize
     count
 }
 
-// Returns the number of the child at index `place`. Each step skips one earlier child's subtree.
-pub(crate) fn child_in(rows: &[TreeNode], node: usize, place: usize) -> usize
+// Returns the number of the child at index `nth`. Each step skips one earlier child's subtree.
+pub(crate) fn child_in(rows: &[TreeNode], node: usize, nth: usize) -> usize
     requires tree { IsOneTree (map row_of rows.now) }
     requires within { node < length rows.now }
-    requires place { place < count_of (node_at (trees_of (map row_of rows.now)) node).children }
-    ensures number { result ≡ child_at (trees_of (map row_of rows.now)) node place }
+    requires nth { nth < root_count (node_at (trees_of (map row_of rows.now)) node).children }
+    ensures number { result ≡ child_at (trees_of (map row_of rows.now)) node nth }
     ensures within { result < nodes (trees_of (map row_of rows.now)) }
     ensures node { node_at (trees_of (map row_of rows.now)) result
-        ≡ first_root (trees_from place (node_at (trees_of (map row_of rows.now)) node).children) }
+        ≡ first_root (trees_from nth (node_at (trees_of (map row_of rows.now)) node).children) }
 {
     let mut at = node + 1;
-    for _before in 0..place {
+    for _before in 0..nth {
         let child = rows[at];
         at += child.size as usize;
     }

@@ -4,7 +4,7 @@ ghost use Rattle.peg_tree.specs.Rows.{row_of, rows_of, IsOneTree};
 ghost use Rattle.peg_tree.specs.Trees.{nodes, levels};
 ghost use Rattle.peg_tree.specs.TreesOfRows.{trees_of};
 ghost use Rattle.peg_tree.specs.Branches.{trees_in};
-ghost use Rattle.peg_tree.specs.Nodes.{node_at, count_of, child_at, trees_from, first_root, RulesBelow};
+ghost use Rattle.peg_tree.specs.Nodes.{node_at, root_count, child_at, trees_from, first_root, RulesBelow};
 
 use crate::TreeNode;
 use crate::depth::depth_in;
@@ -82,20 +82,20 @@ impl Tree {
     /// Returns the number of children of a node. Linear in that number.
     pub fn child_count(&self, node: usize) -> usize
         requires { node < nodes self.now }
-        ensures { result ≡ count_of (node_at self.now node).children }
+        ensures { result ≡ root_count (node_at self.now node).children }
     {
         count_in(&self.rows, node)
     }
 
-    /// Returns the number of the child at index `place` among the children of `node`. Linear in `place`.
-    pub fn child(&self, node: usize, place: usize) -> usize
+    /// Returns the number of the child at index `nth` among the children of `node`. Linear in `nth`.
+    pub fn child(&self, node: usize, nth: usize) -> usize
         requires node { node < nodes self.now }
-        requires place { place < count_of (node_at self.now node).children }
-        ensures number { result ≡ child_at self.now node place }
+        requires nth { nth < root_count (node_at self.now node).children }
+        ensures number { result ≡ child_at self.now node nth }
         ensures within { result < nodes self.now }
-        ensures node { node_at self.now result ≡ first_root (trees_from place (node_at self.now node).children) }
+        ensures node { node_at self.now result ≡ first_root (trees_from nth (node_at self.now node).children) }
     {
-        child_in(&self.rows, node, place)
+        child_in(&self.rows, node, nth)
     }
 
     /// Returns the number of levels; the root has level 1. Linear in the number of nodes.

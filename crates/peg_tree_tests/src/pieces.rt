@@ -1,6 +1,6 @@
 //! Tests of the text of a tree's list of nodes, piece by piece.
 use crate::made::{Grammar, chain, row, small};
-use peg_tree::{Names, RowsText, Tree, TreeNode, TreeRows, one_tree};
+use peg_tree::{FlatTree, FlatTreeWriter, Names, Tree, TreeNode, one_tree};
 use std::alloc::Global;
 use std::test::Fail;
 
@@ -18,7 +18,7 @@ fn told(alloc: Global, rows: Vec<TreeNode>) -> Result<(Vec<u8>, usize), Fail> {
     if !tree.fits(Grammar.count()) {
         return Err("no rule".into());
     }
-    let mut text = RowsText::new(alloc, tree, &Grammar)?;
+    let mut text = FlatTreeWriter::new(alloc, tree, &Grammar)?;
     let mut all = Vec::new(alloc);
     for pieces in 0..1000 {
         text.fill();
@@ -48,7 +48,7 @@ fn a_large_tree_is_told_in_pieces(rt: HostRuntime) -> Result<(), Fail> {
     if !tree.fits(Grammar.count()) {
         return Err("no rule".into());
     }
-    let rows = serde_json::to_string(alloc, &TreeRows::new(alloc, &tree, &Grammar));
+    let rows = serde_json::to_string(alloc, &FlatTree::new(alloc, &tree, &Grammar));
     let listed = rows.ok().ok_or("memory")?;
     assert_eq!(rt; text.len() + 2, listed.len());
     assert!(rt; listed.as_bytes().get(1..=text.len()) == Some(text.as_slice()));

@@ -1,6 +1,6 @@
 //! Tests of trees as `serde` writes them.
 use crate::made::{Grammar, chain, row, small};
-use peg_tree::{Names, NestedTree, Tree, TreeNode, TreeRows, one_tree};
+use peg_tree::{FlatTree, Names, NestedTree, Tree, TreeNode, one_tree};
 use std::alloc::Global;
 use std::test::Fail;
 
@@ -13,7 +13,7 @@ fn texts(alloc: Global, rows: Vec<TreeNode>) -> Result<(String, String), Fail> {
     if !tree.fits(Grammar.count()) {
         return Err("no rule".into());
     }
-    let rows = serde_json::to_string(alloc, &TreeRows::new(alloc, &tree, &Grammar));
+    let rows = serde_json::to_string(alloc, &FlatTree::new(alloc, &tree, &Grammar));
     let nested = serde_json::to_string(alloc, &NestedTree::new(alloc, &tree, &Grammar));
     Ok((rows.ok().ok_or("memory")?, nested.ok().ok_or("memory")?))
 }

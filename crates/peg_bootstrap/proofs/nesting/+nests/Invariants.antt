@@ -1,7 +1,7 @@
 use Rattle.std.proofs.Common.{◌≤◌, max}
 use Rattle.peg_metagrammar.specs.Nesting.{nesting}
 use Rattle.peg_tree.specs.Branches.{trees_in}
-use Rattle.peg_tree.specs.Nodes.{count_of}
+use Rattle.peg_tree.specs.Nodes.{root_count}
 use Rattle.peg_tree.specs.Trees.{nodes}
 use Rattle.peg_bootstrap.proofs.nesting.+nests.Given as goal
 
@@ -12,9 +12,9 @@ decreases-nests_within l = nodes (trees_in l.trees.now)
 abbrev pub invariant-trees : goal.invariant-trees
 invariant-trees l = record {
   less : nesting (trees_in l.rest) ≤ nesting (trees_in l.trees);
-  most : nesting (trees_in l.trees) ≤ max l.left (nesting (trees_in l.rest));
+  limit : nesting (trees_in l.trees) ≤ max l.left (nesting (trees_in l.rest));
   fewer : nodes (trees_in l.rest) ≤ nodes (trees_in l.trees);
 }
 
 abbrev pub decreases-trees : goal.decreases-trees
-decreases-trees l = count_of (trees_in l.rest)
+decreases-trees l = root_count (trees_in l.rest)

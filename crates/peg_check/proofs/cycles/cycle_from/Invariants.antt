@@ -2,8 +2,8 @@ use Rattle.std.proofs.Common.{◌≡◌, ℕ, ◌<◌, ◌∷◌, ◌++◌, [], 
 use Rattle.std.specs.List.{sum_by}
 use Rattle.peg_core.specs.Layout.{bodies_of}
 use Rattle.peg_check.specs.Paths.{IsPath}
-use Rattle.peg_check.specs.Settled.{is_marked}
-use Rattle.peg_check.specs.Steps.{one_unless}
+use Rattle.peg_check.specs.Marks.{is_marked}
+use Rattle.peg_check.specs.Fixpoint.{one_unless}
 use Rattle.peg_check.specs.Verdicts.{AllDiffer}
 use Rattle.peg_check.proofs.cycles.cycle_from.Given as goal
 

@@ -23,5 +23,5 @@ returns-else-not-of c =
     let owned : IsOwned core owners number = omega (arith, c.if-rule-rules.false, c.rules.ensures.count) in
     record {
       named = loop-named core number (owner_of owners number) star.0 (extent c.origin-span.result) star.1 gives (c.requires.owners.up_to.under number c.requires.within owned);
-      stands = (number, c.requires.within, (star.0, extent c.origin-span.result, star.1, gives));
+      is_form = (number, c.requires.within, (star.0, extent c.origin-span.result, star.1, gives));
     }

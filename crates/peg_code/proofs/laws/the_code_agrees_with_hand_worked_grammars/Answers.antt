@@ -2,4 +2,4 @@ use Rattle.std.proofs.Common.{refl}
 use Rattle.peg_code.proofs.laws.the_code_agrees_with_hand_worked_grammars.Goals as goal
 
 pub returns : goal.returns
-returns c = record { nested = refl; nested_entries = refl; signs = refl; signs_entries = refl }
+returns c = record { nested = refl; nested_entries = refl; operators = refl; operators_entries = refl }

@@ -8,7 +8,7 @@ pub returns : goal.returns
 unfolding only all_bytes core_can_in core_record_in
 returns c = record {
   nested = refl;
-  signs = refl;
+  operators = refl;
   recognized = (16, refl);
   outcomes = refl;
   two_to_four = refl;

@@ -5,8 +5,8 @@ use Rattle.peg_core.proofs.record_laws.core_records_never_move_back.Goals as goa
 
 pub returns : goal.returns
 returns c = record {
-  onward = λ bodies text n form place end trees r is matched.
-      (core_result-shows bodies text n form place r (Matched end trees) is matched).onward;
+  onward = λ bodies text n form position end trees r is matched.
+      (core_result-shows bodies text n form position r (Matched end trees) is matched).onward;
   within = core_record_in-ends;
   tests = core_record_in-in_text;
 }

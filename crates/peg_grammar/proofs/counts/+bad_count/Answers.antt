@@ -4,7 +4,7 @@ use Rattle.std.specs.declared.boxed.Box.{Box}
 use Rattle.std.specs.declared.vec.Vec.{Vec}
 use Rattle.peg_bytes.specs.declared.span.Span.{Span}
 use Rattle.peg_semantics.specs.Form.{forms, counts_written, counts_written_by_all}
-use Rattle.peg_grammar.specs.Counts.{count_of}
+use Rattle.peg_grammar.specs.Counts.{count_seen}
 use Rattle.peg_grammar.specs.Written.{form_of}
 use Rattle.peg_grammar.specs.declared.expr.Expr.{Expr}
 use Rattle.peg_grammar.specs.declared.expr.Expr.TheViews.{Choice}
@@ -18,7 +18,7 @@ bad_count_among-returns-in-Some t c =
     found_here is_bad (λ item. counts_written (form_of item))
     (λ items. counts_written_by_all (forms (map form_of items))) (λ _ _. refl) c.args.items.now c.loop-item.item-index
     c.item-item.result c.loop-item-test.true c.item-item.is c.loop-item.invariant
-    (count_of c.in-Some.bad) c.in-Some.ensures
+    (count_seen c.in-Some.bad) c.in-Some.ensures
 
 pub bad_count_among-loop-item-preserved : goal.bad_count_among-loop-item-preserved
 bad_count_among-loop-item-preserved t c =
@@ -41,7 +41,7 @@ bad_count_in-returns-in-Some t c =
     let front = counts_written (form_of c.in-Choice.first.value) in
     let behind = counts_written_by_all (forms (map form_of c.in-Choice.rest.items)) in
     let here = c.in-Some.ensures ∙ ap (λ e. find is_bad (counts_written (form_of e))) c.deref-in-Choice.ensures in
-    find_front is_bad front behind (count_of c.in-Some.bad) here
+    find_front is_bad front behind (count_seen c.in-Some.bad) here
     ∙ sym (sought c.args.expression.now c.in-Choice.first c.in-Choice.rest c.in-Choice.span c.in-Choice.is)
 
 pub bad_count_in-returns-in-None : goal.bad_count_in-returns-in-None

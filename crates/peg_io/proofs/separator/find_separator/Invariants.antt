@@ -2,5 +2,5 @@
 use Rattle.peg_io.specs.Split.{NoneBefore}
 use Rattle.peg_io.proofs.separator.find_separator.Given as goal
 
-abbrev pub invariant-loop-place : goal.invariant-loop-place
-invariant-loop-place l = NoneBefore l.input l.place
+abbrev pub invariant-loop-position : goal.invariant-loop-position
+invariant-loop-position l = NoneBefore l.input l.position

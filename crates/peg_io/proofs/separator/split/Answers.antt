@@ -5,4 +5,4 @@ use Rattle.peg_io.proofs.separator.split.Goals as goal
 
 pub returns-in-Some : goal.returns-in-Some
 returns-in-Some c =
-    at_separator c.in-Some.place c.in-Some.ensures refl (take_rest c.args.input.now (c.in-Some.place + 3))
+    at_separator c.in-Some.position c.in-Some.ensures refl (take_rest c.args.input.now (c.in-Some.position + 3))

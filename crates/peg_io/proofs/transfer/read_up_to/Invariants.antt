@@ -5,11 +5,11 @@ use Rattle.peg_io.proofs.transfer.read_up_to.Given as goal
 
 abbrev pub invariant-reads : goal.invariant-reads
 invariant-reads g l = record {
-  within : vec_len l.held ≤ l.most;
+  within : vec_len l.held ≤ l.limit;
   has_room : 0 < length l.piece;
   consumed : Consumes (g.G.Source.left l.initial.input) (g.G.Source.left l.input) l.held.items;
   not_failed : g.G.Source.failed l.input ≡ false;
 }
 
 abbrev pub decreases-reads : goal.decreases-reads
-decreases-reads g l = l.most - vec_len l.held
+decreases-reads g l = l.limit - vec_len l.held

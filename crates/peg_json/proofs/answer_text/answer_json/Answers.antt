@@ -11,9 +11,9 @@ pub returns-clause-text : goal.returns-clause-text
 returns-clause-text c file =
     subst (λ (rows : Bool). IfOk c.answer_text.result (λ text. string_bytes text ≡ compact_text
     (printed file (outcome_reply (parser_rules c.args.parser.now) c.args.answer.now.outcome c.args.text_len c.args.all rows))))
-    c.of.ensures (c.answer_text.ensures.text file)
+    c.from_rows.ensures (c.answer_text.ensures.text file)
 
 pub returns-clause-too_deep : goal.returns-clause-too_deep
 returns-clause-too_deep c =
     subst (λ (rows : Bool). (c.answer_text.result ≡ Err JsonFault.TooDeep)
-    ↔ ((rows ≡ false) × IsDeep c.args.answer.now.outcome.result)) c.of.ensures c.answer_text.ensures.too_deep
+    ↔ ((rows ≡ false) × IsDeep c.args.answer.now.outcome.result)) c.from_rows.ensures c.answer_text.ensures.too_deep

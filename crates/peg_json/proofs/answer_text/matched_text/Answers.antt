@@ -5,7 +5,7 @@ use Rattle.peg_semantics.specs.Rules.{names}
 use Rattle.peg_grammar.specs.GrammarRules.{rules_in}
 use Rattle.peg_tree.specs.Events.{SendsNested}
 use Rattle.peg_json.specs.Reply.{matched_data, tree_member, tree_rows_data}
-use Rattle.peg_json.specs.Sending.{SendsMatch, places_of}
+use Rattle.peg_json.specs.Sending.{SendsMatch, spans_of}
 use Rattle.peg_json.specs.TreeForms.{is_rows}
 use Rattle.peg_json.proofs.AnswerLemmas.{match-without_floats}
 use Rattle.peg_json.proofs.Sent.{TellsBy, match-text, nested-text}
@@ -13,31 +13,31 @@ use Rattle.peg_json.proofs.answer_text.matched_text.Goals as goal
 
 pub returns-in-Rows : goal.returns-in-Rows
 returns-in-Rows c =
-    let told = c.args.summary in
-    let places = places_of told.expected in
+    let reported = c.args.summary in
+    let places = spans_of reported.expected in
     let list = names (rules_in c.args.grammar.now) in
     let tree = c.args.tree.now in
-    let named = subst (λ n. TellsBy (SendsMatch told.partial told.end told.far places (codes "rows")
+    let named = subst (λ n. TellsBy (SendsMatch reported.partial reported.end reported.far places (codes "rows")
     (SendsValue (tree_rows_data (names (rules_in n)) c.new.result.tree.now))) c.text_of.result) c.new.ensures.names c.text_of.ensures in
-    let sent = subst (λ t. TellsBy (SendsMatch told.partial told.end told.far places (codes "rows")
+    let sent = subst (λ t. TellsBy (SendsMatch reported.partial reported.end reported.far places (codes "rows")
     (SendsValue (tree_rows_data list t))) c.text_of.result) c.new.ensures.tree named in
     subst (λ f. IfOk c.text_of.result (λ text. string_bytes text
-    ≡ compact_text (matched_data told.partial told.end told.far places (tree_member (is_rows f) list tree)))) (sym c.in-Rows.is)
-    (match-text c.text_of.result told.partial told.end told.far places (codes "rows") (tree_rows_data list tree)
-    (match-without_floats told.partial told.end told.far places true list tree) sent)
+    ≡ compact_text (matched_data reported.partial reported.end reported.far places (tree_member (is_rows f) list tree)))) (sym c.in-Rows.is)
+    (match-text c.text_of.result reported.partial reported.end reported.far places (codes "rows") (tree_rows_data list tree)
+    (match-without_floats reported.partial reported.end reported.far places true list tree) sent)
 
 pub returns-in-Nested : goal.returns-in-Nested
 returns-in-Nested c =
-    let told = c.args.summary in
-    let places = places_of told.expected in
+    let reported = c.args.summary in
+    let places = spans_of reported.expected in
     let list = names (rules_in c.args.grammar.now) in
     let tree = c.args.tree.now in
     let result = c.text_of-in-Nested.result in
-    let named = subst (λ n. TellsBy (SendsMatch told.partial told.end told.far places (codes "tree")
+    let named = subst (λ n. TellsBy (SendsMatch reported.partial reported.end reported.far places (codes "tree")
     (SendsNested (names (rules_in n)) c.new-in-Nested.result.tree.now)) result) c.new-in-Nested.ensures.names c.text_of-in-Nested.ensures in
-    let sent = subst (λ t. TellsBy (SendsMatch told.partial told.end told.far places (codes "tree")
+    let sent = subst (λ t. TellsBy (SendsMatch reported.partial reported.end reported.far places (codes "tree")
     (SendsNested list t)) result) c.new-in-Nested.ensures.tree named in
     subst (λ f. IfOk result (λ text. string_bytes text
-    ≡ compact_text (matched_data told.partial told.end told.far places (tree_member (is_rows f) list tree)))) (sym c.in-Nested.is)
-    (nested-text result told.partial told.end told.far places (codes "tree") list tree
-    (match-without_floats told.partial told.end told.far places false list tree) sent)
+    ≡ compact_text (matched_data reported.partial reported.end reported.far places (tree_member (is_rows f) list tree)))) (sym c.in-Nested.is)
+    (nested-text result reported.partial reported.end reported.far places (codes "tree") list tree
+    (match-without_floats reported.partial reported.end reported.far places false list tree) sent)

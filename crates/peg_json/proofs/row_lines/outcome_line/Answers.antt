@@ -6,7 +6,7 @@ use Rattle.peg_semantics.specs.Rules.{names}
 use Rattle.peg_parser.specs.Parser.{parser_rules}
 use Rattle.peg_tree.specs.Json.{rows_data}
 use Rattle.peg_tree.specs.declared.outcome.Parsed.TheVariants.{Matched}
-use Rattle.peg_tree.specs.RowsLeft.{text_left}
+use Rattle.peg_tree.specs.FlatTreeLeft.{text_left}
 use Rattle.peg_json.specs.Lines.{line_text}
 use Rattle.peg_json.specs.Parses.{extents_at, result_reply}
 use Rattle.peg_json.specs.Reply.{expected_data, match_word, matched_data, printed}
@@ -27,7 +27,7 @@ returns-clause-text c file =
     let items = items_of (rows_data (names rules) 1 c.in-Matched.tree) in
     let rows = subst (λ known. text_left c.in_ok-rows-in-Matched.rows ++ 93 ∷ []
     ≡ items_text false (items_of (rows_data (names known) 1 c.in-Matched.tree))) c.grammar.ensures c.in_ok-rows-in-Matched.ensures in
-    let told = c.with_rows.ensures.0
+    let reported = c.with_rows.ensures.0
     ∙ rows-in_text text (text_left c.in_ok-rows-in-Matched.rows) members (codes "rows") items
     empty rows in
     subst (λ result. line_text c.with_rows.result
@@ -35,4 +35,4 @@ returns-clause-text c file =
     (extents_at rules c.args.outcome.expected.items) result))) (sym c.in-Matched.is)
     (subst (λ terminals. line_text c.with_rows.result
     ≡ compact_text (printed file (result_reply rules c.args.text_len c.args.all true c.args.outcome.far
-    (extents_at rules terminals) (Matched end c.in-Matched.tree)))) c.deref-in-Matched.ensures.value told)
+    (extents_at rules terminals) (Matched end c.in-Matched.tree)))) c.deref-in-Matched.ensures.value reported)

@@ -1,6 +1,6 @@
 use Rattle.std.proofs.Common.{ℕ, drop, ◌+◌, Some, false, true, [], ◌∷◌, option_map, sym, ap, ◌∙◌, arith}
-use Rattle.peg_lexer.specs.LexicalCode.{count_seen}
-use Rattle.peg_metagrammar.specs.Spelled.{bounds}
+use Rattle.peg_lexer.specs.LexicalCode.{count_view}
+use Rattle.peg_metagrammar.specs.Denotation.{bounds}
 use Rattle.peg_lexer.proofs.CountTexts.{number-from, second-from, brace-from, seen_count, count-closed, count-empty, count-none, count-some, behind-two, behind-one, behind-unclosed, behind-none}
 use Rattle.peg_lexer.proofs.counts.count_at.Goals.{in-Some, in-None}
 use Rattle.peg_lexer.proofs.counts.count_at.Goals as goal
@@ -10,7 +10,7 @@ returns-then-not-starts_with-clause-value c = count-closed c.args.rest.now (sym 
 
 pub returns-in_err-first-clause-value : goal.returns-in_err-first-clause-value
 returns-in_err-first-clause-value c =
-    ap (option_map count_seen) c.from_residual.ensures
+    ap (option_map count_view) c.from_residual.ensures
     ∙ count-empty c.args.rest.now (sym c.if-not-starts_with.ensures.value)
     (number-from c.args.rest.now 1 _ c.in_err-first.ensures.value)
 

@@ -1,9 +1,9 @@
 use Rattle.std.proofs.Common.{◌≡◌, ◌+◌, List, [], ◌∷◌, ◌++◌, map, sym, ap, ◌∙◌, subst, arith}
 use Rattle.std.proofs.lemmas.List.{map-append}
 use Rattle.peg_bytes.specs.Extent.{Extent, extent, between}
-use Rattle.peg_lexer.specs.Tokens.{Lexeme, lexeme_of, Begins}
+use Rattle.peg_lexer.specs.Tokens.{Lexeme, lexeme_of, IsTokenized}
 use Rattle.peg_lexer.specs.declared.token.Token.{Token}
-use Rattle.peg_lexer.specs.LexicalCode.{seen_at_front}
+use Rattle.peg_lexer.specs.LexicalCode.{view_of_scanned}
 use Rattle.peg_lexer.proofs.PieceLemmas.{length-from}
 use Rattle.peg_lexer.proofs.Lexemes.{lexeme_at, lex-start, lex-more, lex-fault}
 use Rattle.peg_lexer.proofs.lexer.lex.Goals as goal
@@ -13,9 +13,9 @@ tokens-init c = record {
   within = omega (arith, c.spacing-at.ensures.fits);
   short = omega arith;
   begins =
-      subst (λ (tokens : List Token). Begins c.args.file.now (map lexeme_of tokens) c.spacing-at.result)
+      subst (λ (tokens : List Token). IsTokenized c.args.file.now (map lexeme_of tokens) c.spacing-at.result)
       (sym c.new-tokens.ensures.items)
-      (subst (λ end. Begins c.args.file.now [] end) (sym c.spacing-at.ensures.value) (lex-start c.args.file.now));
+      (subst (λ end. IsTokenized c.args.file.now [] end) (sym c.spacing-at.ensures.value) (lex-start c.args.file.now));
 }
 
 pub returns-in_default : goal.returns-in_default
@@ -23,7 +23,7 @@ returns-in_default c = (
   c.tokens.invariant.short,
   lex-fault c.args.file.now
       (map lexeme_of c.tokens.tokens.items) c.tokens.at c.tokens.invariant.begins c.tokens-test.true
-      (sym c.token.ensures.value ∙ ap seen_at_front c.in_default.is),
+      (sym c.token.ensures.value ∙ ap view_of_scanned c.in_default.is),
 )
 
 pub tokens-preserved : goal.tokens-preserved
@@ -52,9 +52,9 @@ tokens-preserved c =
       );
       short = c.tokens.invariant.short;
       begins =
-          subst (λ (lexemes : List Lexeme). Begins c.args.file.now lexemes (c.tokens.at + size + c.spacing.result))
+          subst (λ (lexemes : List Lexeme). IsTokenized c.args.file.now lexemes (c.tokens.at + size + c.spacing.result))
           (sym pushed)
-          (subst (λ gap. Begins c.args.file.now (map lexeme_of c.tokens.tokens.items
+          (subst (λ gap. IsTokenized c.args.file.now (map lexeme_of c.tokens.tokens.items
           ++ lexeme_at kind c.tokens.at size ∷
           []) (c.tokens.at + size + gap)) (sym c.spacing.ensures.value) more);
     }

@@ -1,6 +1,6 @@
 use Rattle.std.proofs.Common.{◌-◌, ◌≤◌, length, map}
 use Rattle.peg_metagrammar.specs.Notation.{max_file_bytes}
-use Rattle.peg_lexer.specs.Tokens.{lexeme_of, Begins}
+use Rattle.peg_lexer.specs.Tokens.{lexeme_of, IsTokenized}
 use Rattle.peg_lexer.proofs.lexer.lex.Given as goal
 
 -- the tokens so far, and the end of the spacing after them
@@ -8,7 +8,7 @@ abbrev pub invariant-tokens : goal.invariant-tokens
 invariant-tokens l = record {
   within : l.at ≤ length l.file;
   short : length l.file ≤ max_file_bytes;
-  begins : Begins l.file (map lexeme_of l.tokens.items) l.at;
+  begins : IsTokenized l.file (map lexeme_of l.tokens.items) l.at;
 }
 
 abbrev pub decreases-tokens : goal.decreases-tokens

@@ -2,5 +2,5 @@ use Rattle.peg_machine.proofs.RecordRuns.{record_runs}
 use Rattle.peg_machine.proofs.laws.code_runs_as_its_record_says.Goals as goal
 
 pub returns : goal.returns
-returns c counted bodies setting n form pc place steps r answers stands =
-    record_runs setting counted bodies n answers form place pc stands r steps
+returns c counted bodies body_context n form pc position steps r answers code_at =
+    record_runs body_context counted bodies n answers form position pc code_at r steps

@@ -1,4 +1,4 @@
-use Rattle.peg_machine.proofs.Promises.{stands_there, not_the_end, takes_away, fails_twice}
+use Rattle.peg_machine.proofs.Expectations.{stands_there, not_the_end, takes_away, fails_twice}
 use Rattle.peg_machine.proofs.run_laws.a_run_is_never_stuck.Goals as goal
 
 pub returns : goal.returns

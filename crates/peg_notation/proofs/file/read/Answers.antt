@@ -1,6 +1,6 @@
 use Rattle.std.proofs.Common.{rules, sym, ap, ◌∙◌, subst}
 use Rattle.peg_notation.specs.Reader.{grammar}
-use Rattle.peg_notation.specs.ReaderCode.{lexemes, AreTexts, rules_seen, ConveysHalt}
+use Rattle.peg_notation.specs.ReaderCode.{lexemes, AreTexts, rules_seen, AgreesOnError}
 use Rattle.peg_metagrammar.specs.Nesting.{max_open}
 use Rattle.peg_notation.proofs.FileAnswers.{tokens-texts, answers, lexing_reads, lexing_lies, fault_reads, fault_lies}
 use Rattle.peg_notation.proofs.file.read.Goals as goal
@@ -22,14 +22,14 @@ pub returns-in_err-read-clause-reads : goal.returns-in_err-read-clause-reads
 returns-in_err-read-clause-reads c =
     let file = c.args.file.now in
     let ls = lexemes c.in_ok-tokens.tokens.items in
-    let is = subst (λ tokens. ConveysHalt (grammar file max_open (lexemes tokens)) c.in_err-read.field-0.0) c.deref.ensures.value c.in_err-read.ensures in
+    let is = subst (λ tokens. AgreesOnError (grammar file max_open (lexemes tokens)) c.in_err-read.field-0.0) c.deref.ensures.value c.in_err-read.ensures in
     let told = fault_reads file ls c.in_err-read.field-0.0 c.in_ok-tokens.ensures.0 c.in_ok-tokens.ensures.1 is in search (rules, told)
 
 pub returns-in_err-read-clause-inside : goal.returns-in_err-read-clause-inside
 returns-in_err-read-clause-inside c =
     let file = c.args.file.now in
     let ls = lexemes c.in_ok-tokens.tokens.items in
-    let is = subst (λ tokens. ConveysHalt (grammar file max_open (lexemes tokens)) c.in_err-read.field-0.0) c.deref.ensures.value c.in_err-read.ensures in
+    let is = subst (λ tokens. AgreesOnError (grammar file max_open (lexemes tokens)) c.in_err-read.field-0.0) c.deref.ensures.value c.in_err-read.ensures in
     let told = fault_lies file ls c.in_err-read.field-0.0 c.in_ok-tokens.ensures.1 is in search (rules, told)
 
 pub returns-clause-reads : goal.returns-clause-reads

@@ -1,5 +1,5 @@
 use Rattle.std.proofs.Common.{refl}
-use Rattle.peg_semantics.specs.Examples.{nested_record, counted_record, ordered_record, repeated_prefix_record}
+use Rattle.peg_semantics.specs.Examples.{nested_record, abc_record, ordered_record, repeated_prefix_record}
 use Rattle.peg_semantics.specs.Examples.{three_record, too_few_record, four_record}
 use Rattle.peg_semantics.specs.Record.{record_in}
 use Rattle.peg_semantics.proofs.FurthestLemmas.{furthest_of-is}
@@ -9,7 +9,7 @@ pub returns : goal.returns
 unfolding record_in
 returns c = record {
   nested = record { recognized = (16, refl); furthest = furthest_of-is nested_record.tests };
-  counted = record { recognized = (16, refl); furthest = furthest_of-is counted_record.tests };
+  abc_grammar = record { recognized = (16, refl); furthest = furthest_of-is abc_record.tests };
   ordered = record { recognized = (4, refl); furthest = furthest_of-is ordered_record.tests };
   repeated_prefix = record { recognized = (16, refl); furthest = furthest_of-is repeated_prefix_record.tests };
   three = record { recognized = (4, refl); furthest = furthest_of-is three_record.tests };

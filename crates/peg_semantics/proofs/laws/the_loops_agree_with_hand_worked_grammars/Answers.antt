@@ -5,8 +5,8 @@ use Rattle.peg_bytes.specs.Extent.{Extent, between}
 use Rattle.peg_semantics.specs.AbstractOutcomes.{can_in, GivesNothing}
 use Rattle.peg_semantics.specs.Examples.{star_of_star, plus_of_empty, star_of_optional}
 use Rattle.peg_semantics.specs.Form.{Form, Literal, Class, Name, Seq, Optional, Star, Plus, Counted, End, Then}
-use Rattle.peg_semantics.specs.LoopExamples.{star_of_stuck_star, behind_empty_class}
-use Rattle.peg_semantics.specs.Loops.{Reaches, MeetsFirst, IsEmptyLoop}
+use Rattle.peg_semantics.specs.LoopExamples.{star_of_stuck_star, after_empty_class}
+use Rattle.peg_semantics.specs.Loops.{CanCallFirst, LeftCalls, IsEmptyLoop}
 use Rattle.peg_semantics.specs.Rules.{Rule}
 use Rattle.peg_semantics.specs.WellFormed.{below, subexpressions}
 use Rattle.peg_semantics.proofs.laws.the_loops_agree_with_hand_worked_grammars.Goals as goal
@@ -77,14 +77,14 @@ no_outer loop =
     ]
 
 -- an expression after the empty class is not left-called
-not_met : MeetsFirst behind_empty_class 0 0 → ⊥
+not_met : LeftCalls after_empty_class 0 0 → ⊥
 not_met meets =
     let body : Form = Seq (Then (Class [] (between 5 7)) (Then (Name (codes "A") (between 8 9)) End)) (between 5 9) in
     let rule : Rule = record { name = codes "A"; span = between 0 1; body = body } in
     let same : rule ≡ meets.rule = cc in
-    elim (subst (λ (r : Rule). Reaches (GivesNothing behind_empty_class) r.body meets.name) (sym same) meets.reached) [
+    elim (subst (λ (r : Rule). CanCallFirst (GivesNothing after_empty_class) r.body meets.name) (sym same) meets.reached) [
       | inl here ↦ here
-      | inr there ↦ class-fails behind_empty_class (between 5 7) there.0.0 there.0.1
+      | inr there ↦ class-fails after_empty_class (between 5 7) there.0.0 there.0.1
     ]
 
 -- ('x'{0,2})*
@@ -126,11 +126,11 @@ returns c = record {
     idle = (1, refl);
   };
   outer = no_outer;
-  behind_optional = (
+  after_optional = (
     record { rule = _; name = codes "B"; numbered = refl; reached = inl refl; means = refl },
     (record { rule = _; name = codes "A"; numbered = refl; reached = inr ((2, refl), inl refl); means = refl }, tt),
   );
-  behind_empty_class = not_met;
+  after_empty_class = not_met;
   itself = (record { rule = _; name = codes "T"; numbered = refl; reached = refl; means = refl }, tt);
   counted_itself = (record { rule = _; name = codes "A"; numbered = refl; reached = refl; means = refl }, tt);
   star_of_count = record {

@@ -36,8 +36,8 @@ pub returns : goal.returns
 unfolding can_in
 returns c = record {
   nested = refl;
-  counted = refl;
-  signs = refl;
+  abc_grammar = refl;
+  operators = refl;
   two_to_four = refl;
   itself = itself-none;
   star_of_star = λ is. star-refused (Star (Literal (codes "a") (between 6 9)) (between 6 10)) (between 5 12) (2, refl) is.0 is.1;

@@ -1,16 +1,16 @@
 use Rattle.std.proofs.Common.{None, false, subst, arith}
 use Rattle.std.proofs.lemmas.Result.{IfOk-weaker}
 use Rattle.peg_parser.specs.Parser.{parser_rules}
-use Rattle.peg_json.specs.Statuses.{code_of}
+use Rattle.peg_json.specs.Statuses.{status_code}
 use Rattle.peg_json.specs.declared.line.Line.{Line}
-use Rattle.peg_tool.specs.Judged.{Judges}
+use Rattle.peg_tool.specs.Loaded.{IsLoadedFrom}
 use Rattle.peg_tool.specs.Replies.{IsPrintedJoined}
 use Rattle.peg_tool.proofs.RunLemmas.{split-shorter, parsed-printed}
 use Rattle.peg_tool.proofs.joined.line_for.Goals as goal
 use Rattle.peg_json.specs.Lines.{line_bytes}
 
-pub judge-requires : goal.judge-requires
-judge-requires c =
+pub load-requires : goal.load-requires
+load-requires c =
     let shorter = split-shorter c.args.input.now c.split.result.0.now c.split.result.1.now c.split.ensures in
     omega (arith, shorter, c.requires)
 
@@ -19,14 +19,14 @@ returns-in-Accepted c =
     let file = c.split.result.0.now in
     let text = c.split.result.1.now in
     let rules = parser_rules c.in-Accepted.parser in
-    let judged = subst (Judges file) c.in-Accepted.is c.in_ok-parser.ensures in
+    let judged = subst (IsLoadedFrom file) c.in-Accepted.is c.in_ok-parser.ensures in
     IfOk-weaker c.parse_line.result _
-    (λ (line : Line). IsPrintedJoined c.args.input.now (line_bytes line) (code_of line.status))
+    (λ (line : Line). IsPrintedJoined c.args.input.now (line_bytes line) (status_code line.status))
     (λ line is. (
       file,
       text,
       c.split.ensures,
       parsed-printed file text rules None None false false (line_bytes line)
-          (code_of line.status) judged is,
+          (status_code line.status) judged is,
     ))
     (c.parse_line.ensures file)

@@ -1,7 +1,7 @@
 use Rattle.std.proofs.Common.{◌≡◌, None, Ok, Err, ap, sym, ◌∙◌, length}
 use Rattle.peg_parser.specs.Cause.{StepLimit, TextTooLong}
 use Rattle.peg_parser.specs.Parser.{parser_rules, start_named}
-use Rattle.peg_semantics.specs.Starts.{start_of}
+use Rattle.peg_semantics.specs.Starts.{start_name}
 use Rattle.peg_parser.specs.declared.parser.ParseFault.TheVariants.{NoSuchStart as NoStart}
 use Rattle.peg_json.specs.Parses.{ParsesTo, PrintsOutcome, text_too_long, too_many_steps}
 use Rattle.peg_json.specs.Reply.{Refused}
@@ -17,13 +17,13 @@ returns-in-Ok c file =
     let outcome = c.in-Ok.answer.outcome in
     let start = start_named c.args.options.now in
     let steps = c.args.options.now.steps in
-    let some : (start_of rules start ≡ None → ⊥) =
+    let some : (start_name rules start ≡ None → ⊥) =
     λ none. let both : Ok c.in-Ok.answer ≡ Err NoStart = sym c.in-Ok.is ∙ c.parse.ensures.no_start.1 none in cc in
-    kind-weaker c.told.result file (PrintsOutcome rules outcome _ c.args.all (is_rows c.args.form))
+    kind-weaker c.outcome_reply.result file (PrintsOutcome rules outcome _ c.args.all (is_rows c.args.form))
     (ParsesTo rules c.args.text.now start steps c.args.all (is_rows c.args.form))
     (outcome-parses rules c.args.text.now start steps c.args.all (is_rows c.args.form) outcome c.in-Ok.ensures.short
     some c.in-Ok.ensures.outcome)
-    (c.told.ensures file)
+    (c.outcome_reply.ensures file)
 
 pub returns-in-Err-NoSuchStart : goal.returns-in-Err-NoSuchStart
 returns-in-Err-NoSuchStart c file =

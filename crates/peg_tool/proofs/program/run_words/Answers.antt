@@ -1,5 +1,5 @@
 use Rattle.std.proofs.Common.{string_bytes, subst, sym, option_map}
-use Rattle.peg_tool.specs.Leads.{Leads}
+use Rattle.peg_tool.specs.CommandOutcome.{CommandOutcome}
 use Rattle.peg_tool.proofs.ProgramLemmas.{parse-leads}
 use Rattle.peg_cli.specs.declared.words.Words.{Words}
 use Rattle.peg_tool.proofs.program.run_words.Goals as goal
@@ -9,7 +9,7 @@ returns-in-Parse-clause-leads g c =
     let holds = g.O.Opener.holds c.args.files.now in
     let old = g.W.Sink.written c.args.output.now in
     let new = g.W.Sink.written c.on_files.new.output in
-    subst (λ (words : Words). Leads words holds (g.I.Source.left c.args.input.now) old new c.on_files.result)
+    subst (λ (words : Words). CommandOutcome words holds (g.I.Source.left c.args.input.now) old new c.on_files.result)
     (sym c.in-Parse.is)
     (parse-leads holds old new c.on_files.result c.deref-in-Parse.result.now c.deref-in-Parse-2.result.now
     (string_bytes c.in-Parse.g) (string_bytes c.in-Parse.t) (option_map (λ name. name.now) c.as_deref.result)

@@ -4,68 +4,68 @@ use Rattle.peg_metagrammar.specs.Notation.{max_file_bytes}
 use Rattle.peg_semantics.specs.Rules.{Rule}
 use Rattle.peg_parser.specs.Accepts.{Accepts}
 use Rattle.peg_parser.specs.Parser.{start_named}
-use Rattle.peg_json.specs.Statuses.{code_of}
+use Rattle.peg_json.specs.Statuses.{status_code}
 use Rattle.peg_json.specs.TreeForms.{is_rows}
 use Rattle.peg_tool.specs.Commands.{task_of}
 use Rattle.peg_tool.specs.Replies.{IsPrinted}
-use Rattle.peg_tool.specs.Task.{Task, TableTask, CheckTask, CodeTask, ParseTask, IsTextOf}
-use Rattle.peg_tool.proofs.RunLemmas.{IsRightFor, line-held, told-held, held-unaccepted}
+use Rattle.peg_tool.specs.Task.{ToolTask, TableTask, CheckTask, CodeTask, ParseTask, IsTextOf}
+use Rattle.peg_tool.proofs.RunLemmas.{IsRightFor, line-held, reported-held, held-unaccepted}
 use Rattle.peg_tool.proofs.tool.line_of.Goals as goal
 use Rattle.peg_json.specs.Lines.{line_bytes}
 
 pub returns-in-Table-clause-answer : goal.returns-in-Table-clause-answer
 returns-in-Table-clause-answer g c =
     let held = c.in_ok-file.file in
-    let told = c.in_ok-table_file-in-Table.field-0 in
-    let line = line_bytes told in
+    let reply = c.in_ok-table_file-in-Table.field-0 in
+    let line = line_bytes reply in
     let text = g.T.Source.left c.args.text.now in
     let task = task_of c.args.command.now in
     let is : TableTask ≡ task = sym (ap task_of c.in-Table.is) in
-    let right : IsRightFor task text held.items line (code_of told.status) =
-    λ bytes any. subst (λ (t : Task). IsPrinted t held.items bytes line (code_of told.status)) is
-    (subst (λ (l : List ℕ). IsPrinted TableTask l bytes line (code_of told.status)) c.deref.ensures.value
+    let right : IsRightFor task text held.items line (status_code reply.status) =
+    λ bytes any. subst (λ (t : ToolTask). IsPrinted t held.items bytes line (status_code reply.status)) is
+    (subst (λ (l : List ℕ). IsPrinted TableTask l bytes line (status_code reply.status)) c.deref.ensures.value
     (c.in_ok-table_file-in-Table.ensures bytes)) in
-    let within : length held.items ≤ max_file_bytes + 1 = omega (arith, held.ok.0, c.in_ok-file.ensures.most) in
+    let within : length held.items ≤ max_file_bytes + 1 = omega (arith, held.ok.0, c.in_ok-file.ensures.limit) in
     let at_end : length held.items < max_file_bytes + 1 → IsAtEnd (g.G.Source.left c.read_up_to.new.input) =
     λ less. c.in_ok-file.ensures.end (omega (arith, held.ok.0)) in
     line-held task text (g.G.Source.left c.args.grammar.now) (g.G.Source.left c.read_up_to.new.input) held.items line
-    (code_of told.status) c.in_ok-file.ensures.bytes within at_end right
+    (status_code reply.status) c.in_ok-file.ensures.bytes within at_end right
 
 pub returns-in-Check-clause-answer : goal.returns-in-Check-clause-answer
 returns-in-Check-clause-answer g c =
     let held = c.in_ok-file.file in
-    let told = c.in_ok-check_file-in-Check.field-0 in
-    let line = line_bytes told in
+    let reply = c.in_ok-check_file-in-Check.field-0 in
+    let line = line_bytes reply in
     let text = g.T.Source.left c.args.text.now in
     let task = task_of c.args.command.now in
     let is : CheckTask ≡ task = sym (ap task_of c.in-Check.is) in
-    let right : IsRightFor task text held.items line (code_of told.status) =
-    λ bytes any. subst (λ (t : Task). IsPrinted t held.items bytes line (code_of told.status)) is
-    (subst (λ (l : List ℕ). IsPrinted CheckTask l bytes line (code_of told.status)) c.deref-in-Check.ensures.value
+    let right : IsRightFor task text held.items line (status_code reply.status) =
+    λ bytes any. subst (λ (t : ToolTask). IsPrinted t held.items bytes line (status_code reply.status)) is
+    (subst (λ (l : List ℕ). IsPrinted CheckTask l bytes line (status_code reply.status)) c.deref-in-Check.ensures.value
     (c.in_ok-check_file-in-Check.ensures bytes)) in
-    let within : length held.items ≤ max_file_bytes + 1 = omega (arith, held.ok.0, c.in_ok-file.ensures.most) in
+    let within : length held.items ≤ max_file_bytes + 1 = omega (arith, held.ok.0, c.in_ok-file.ensures.limit) in
     let at_end : length held.items < max_file_bytes + 1 → IsAtEnd (g.G.Source.left c.read_up_to.new.input) =
     λ less. c.in_ok-file.ensures.end (omega (arith, held.ok.0)) in
     line-held task text (g.G.Source.left c.args.grammar.now) (g.G.Source.left c.read_up_to.new.input) held.items line
-    (code_of told.status) c.in_ok-file.ensures.bytes within at_end right
+    (status_code reply.status) c.in_ok-file.ensures.bytes within at_end right
 
 pub returns-in-Code-clause-answer : goal.returns-in-Code-clause-answer
 returns-in-Code-clause-answer g c =
     let held = c.in_ok-file.file in
-    let told = c.in_ok-code_file-in-Code.field-0 in
-    let line = line_bytes told in
+    let reply = c.in_ok-code_file-in-Code.field-0 in
+    let line = line_bytes reply in
     let text = g.T.Source.left c.args.text.now in
     let task = task_of c.args.command.now in
     let is : CodeTask ≡ task = sym (ap task_of c.in-Code.is) in
-    let right : IsRightFor task text held.items line (code_of told.status) =
-    λ bytes any. subst (λ (t : Task). IsPrinted t held.items bytes line (code_of told.status)) is
-    (subst (λ (l : List ℕ). IsPrinted CodeTask l bytes line (code_of told.status)) c.deref-in-Code.ensures.value
+    let right : IsRightFor task text held.items line (status_code reply.status) =
+    λ bytes any. subst (λ (t : ToolTask). IsPrinted t held.items bytes line (status_code reply.status)) is
+    (subst (λ (l : List ℕ). IsPrinted CodeTask l bytes line (status_code reply.status)) c.deref-in-Code.ensures.value
     (c.in_ok-code_file-in-Code.ensures bytes)) in
-    let within : length held.items ≤ max_file_bytes + 1 = omega (arith, held.ok.0, c.in_ok-file.ensures.most) in
+    let within : length held.items ≤ max_file_bytes + 1 = omega (arith, held.ok.0, c.in_ok-file.ensures.limit) in
     let at_end : length held.items < max_file_bytes + 1 → IsAtEnd (g.G.Source.left c.read_up_to.new.input) =
     λ less. c.in_ok-file.ensures.end (omega (arith, held.ok.0)) in
     line-held task text (g.G.Source.left c.args.grammar.now) (g.G.Source.left c.read_up_to.new.input) held.items line
-    (code_of told.status) c.in_ok-file.ensures.bytes within at_end right
+    (status_code reply.status) c.in_ok-file.ensures.bytes within at_end right
 
 pub returns-clause-answer : goal.returns-clause-answer
 returns-clause-answer g c =
@@ -74,21 +74,21 @@ returns-clause-answer g c =
     let task = task_of c.args.command.now in
     let start = start_named c.in-Parse.options in
     let steps = c.in-Parse.options.steps in
-    let asked = ParseTask start steps c.in-Parse.all (is_rows c.of.result) in
+    let asked = ParseTask start steps c.in-Parse.all (is_rows c.from_rows-form.result) in
     let is : asked ≡ task =
-    ap (λ (rows : Bool). ParseTask start steps c.in-Parse.all rows) c.of.ensures
+    ap (λ (rows : Bool). ParseTask start steps c.in-Parse.all rows) c.from_rows-form.ensures
     ∙ sym (ap task_of c.in-Parse.is) in
     let right : (bytes : List ℕ) → IsTextOf task held.items text bytes
-    → IfOk c.parsed.result (λ line. IsPrinted task held.items bytes (line_bytes line) (code_of line.status)) =
-    subst (λ (t : Task). (bytes : List ℕ) → IsTextOf t held.items text bytes
-    → IfOk c.parsed.result (λ line. IsPrinted t held.items bytes (line_bytes line) (code_of line.status))) is
+    → IfOk c.parse_reply.result (λ line. IsPrinted task held.items bytes (line_bytes line) (status_code line.status)) =
+    subst (λ (t : ToolTask). (bytes : List ℕ) → IsTextOf t held.items text bytes
+    → IfOk c.parse_reply.result (λ line. IsPrinted t held.items bytes (line_bytes line) (status_code line.status))) is
     (subst (λ (l : List ℕ). (bytes : List ℕ) → IsTextOf asked l text bytes
-    → IfOk c.parsed.result (λ line. IsPrinted asked l bytes (line_bytes line) (code_of line.status)))
-    c.deref-in-Parse.ensures.value c.parsed.ensures.answer) in
-    let within : length held.items ≤ max_file_bytes + 1 = omega (arith, held.ok.0, c.in_ok-file.ensures.most) in
+    → IfOk c.parse_reply.result (λ line. IsPrinted asked l bytes (line_bytes line) (status_code line.status)))
+    c.deref-in-Parse.ensures.value c.parse_reply.ensures.answer) in
+    let within : length held.items ≤ max_file_bytes + 1 = omega (arith, held.ok.0, c.in_ok-file.ensures.limit) in
     let at_end : length held.items < max_file_bytes + 1 → IsAtEnd (g.G.Source.left c.read_up_to.new.input) =
     λ less. c.in_ok-file.ensures.end (omega (arith, held.ok.0)) in
-    told-held c.parsed.result task text (g.G.Source.left c.args.grammar.now) (g.G.Source.left c.read_up_to.new.input)
+    reported-held c.parse_reply.result task text (g.G.Source.left c.args.grammar.now) (g.G.Source.left c.read_up_to.new.input)
     held.items c.in_ok-file.ensures.bytes within at_end right
 
 pub returns-clause-refused : goal.returns-clause-refused
@@ -98,5 +98,5 @@ returns-clause-refused g c =
     λ less. c.in_ok-file.ensures.end (omega (arith, held.ok.0)) in
     held-unaccepted (g.G.Source.left c.args.grammar.now) (g.G.Source.left c.read_up_to.new.input) held.items _
     c.in_ok-file.ensures.bytes at_end
-    (λ none. c.parsed.ensures.refused (subst (λ (l : List ℕ). (rules : List Rule) → ¬ Accepts l rules)
+    (λ none. c.parse_reply.ensures.refused (subst (λ (l : List ℕ). (rules : List Rule) → ¬ Accepts l rules)
     (sym c.deref-in-Parse.ensures.value) none))

@@ -8,22 +8,22 @@ pub returns-clause-answer : goal.returns-clause-answer
 returns-clause-answer g c =
     let task = task_of c.args.command.now in
     file-prints (λ file bytes. IsTextOf task file (g.T.Source.left c.args.text.now) bytes) (IsPrinted task)
-    (g.G.Source.left c.args.grammar.now) (g.W.Sink.written c.args.output.now) (g.W.Sink.written c.finish.new.output)
-    c.line_of-told.result c.finish.result c.finish.ensures.ends c.line_of-told.ensures.answer
+    (g.G.Source.left c.args.grammar.now) (g.W.Sink.written c.args.output.now) (g.W.Sink.written c.write_reply.new.output)
+    c.line_of-reply.result c.write_reply.result c.write_reply.ensures.ends c.line_of-reply.ensures.answer
 
 pub returns-clause-read_fault : goal.returns-clause-read_fault
 returns-clause-read_fault g c =
-    ends-read (g.W.Sink.written c.args.output.now) (g.W.Sink.written c.finish.new.output) c.line_of-told.result
-    c.finish.result _ c.finish.ensures.ends c.line_of-told.ensures.device
+    ends-read (g.W.Sink.written c.args.output.now) (g.W.Sink.written c.write_reply.new.output) c.line_of-reply.result
+    c.write_reply.result _ c.write_reply.ensures.ends c.line_of-reply.ensures.device
 
 pub returns-clause-nothing_written : goal.returns-clause-nothing_written
 returns-clause-nothing_written g c =
-    ends-nothing (g.W.Sink.written c.args.output.now) (g.W.Sink.written c.finish.new.output) c.line_of-told.result
-    c.finish.result c.finish.ensures.ends
+    ends-nothing (g.W.Sink.written c.args.output.now) (g.W.Sink.written c.write_reply.new.output) c.line_of-reply.result
+    c.write_reply.result c.write_reply.ensures.ends
 
 pub returns-clause-partly_written : goal.returns-clause-partly_written
 returns-clause-partly_written g c =
     let task = task_of c.args.command.now in
     file-in_part (λ file bytes. IsTextOf task file (g.T.Source.left c.args.text.now) bytes) (IsPrinted task)
-    (g.G.Source.left c.args.grammar.now) (g.W.Sink.written c.args.output.now) (g.W.Sink.written c.finish.new.output)
-    c.line_of-told.result c.finish.result c.finish.ensures.ends c.line_of-told.ensures.answer
+    (g.G.Source.left c.args.grammar.now) (g.W.Sink.written c.args.output.now) (g.W.Sink.written c.write_reply.new.output)
+    c.line_of-reply.result c.write_reply.result c.write_reply.ensures.ends c.line_of-reply.ensures.answer

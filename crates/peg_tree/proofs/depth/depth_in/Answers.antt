@@ -13,8 +13,8 @@ loop-part-init c = record {
   same = ap (λ parts. max 0 (level_of_parts (map row_of c.args.rows.now) parts)) c.new-waiting.ensures ∙ whole_level c.args.rows.now c.requires;
 }
 
-pub taken_apart-halves-requires-clause-part : goal.taken_apart-halves-requires-clause-part
-taken_apart-halves-requires-clause-part c =
+pub split_root-halves-requires-clause-part : goal.split_root-halves-requires-clause-part
+split_root-halves-requires-clause-part c =
     top_is_part (map row_of c.args.rows.now) c.loop-part.waiting c.pop.new.self c.in-Some.part c.in-Some.part c.in-Some.part c.in-Some.ensures c.loop-part.invariant.parts
 
 pub push-requires : goal.push-requires
@@ -25,21 +25,21 @@ pub push-requires-then-part : goal.push-requires-then-part
 push-requires-then-part c =
     let room = room_left (map row_of c.args.rows.now) c.loop-part.waiting c.pop.new.self c.in-Some.part c.in-Some.part c.in-Some.part c.in-Some.ensures c.loop-part.invariant.parts c.if-part.true in
     let more = ap length c.push.ensures in
-    omega (arith, length_push c.pop.new.self c.taken_apart-halves.result.large)
+    omega (arith, length_push c.pop.new.self c.split_root-halves.result.large)
 
 pub loop-part-smaller-then-part : goal.loop-part-smaller-then-part
 loop-part-smaller-then-part c =
-    let after = c.push-then-part.ensures ∙ ap (λ parts. parts ++ c.taken_apart-halves.result.small ∷ []) c.push.ensures in
+    let after = c.push-then-part.ensures ∙ ap (λ parts. parts ++ c.split_root-halves.result.small ∷ []) c.push.ensures in
     subst (λ (parts : List Part). 2 * length_of_parts parts + length parts < 2 * length_of_parts c.loop-part.waiting + length c.loop-part.waiting) (sym after)
-    (apart_fewer (map row_of c.args.rows.now) c.loop-part.waiting c.pop.new.self c.in-Some.part c.taken_apart-halves.result.large c.taken_apart-halves.result.small c.in-Some.ensures c.loop-part.invariant.parts
-    c.if-part.true c.taken_apart-halves.ensures.sizes)
+    (apart_fewer (map row_of c.args.rows.now) c.loop-part.waiting c.pop.new.self c.in-Some.part c.split_root-halves.result.large c.split_root-halves.result.small c.in-Some.ensures c.loop-part.invariant.parts
+    c.if-part.true c.split_root-halves.ensures.sizes)
 
 pub loop-part-preserved-then-part : goal.loop-part-preserved-then-part
 loop-part-preserved-then-part c =
     let rows = map row_of c.args.rows.now in
-    let large = c.taken_apart-halves.result.large in
-    let small = c.taken_apart-halves.result.small in
-    let apart = c.taken_apart-halves.ensures in
+    let large = c.split_root-halves.result.large in
+    let small = c.split_root-halves.result.small in
+    let apart = c.split_root-halves.ensures in
     let deeper : c.max-deepest.result ≡ max c.loop-part.deepest c.in-Some.part.level = grind (arith, nat_tests, c.max-deepest.ensures) in
     let after : c.push-then-part.new.self ≡ (c.pop.new.self ++ large ∷ []) ++ small ∷ [] = c.push-then-part.ensures ∙ ap (λ parts. parts ++ small ∷ []) c.push.ensures in
     record {

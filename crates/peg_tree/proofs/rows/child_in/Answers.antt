@@ -3,26 +3,26 @@ use Rattle.peg_tree.specs.declared.row.TreeNode.{TreeNode}
 use Rattle.peg_tree.specs.Rows.{row_of, IsOneTree}
 use Rattle.peg_tree.specs.Trees.{nodes}
 use Rattle.peg_tree.specs.TreesOfRows.{trees_of}
-use Rattle.peg_tree.specs.Nodes.{node_at, count_of, child_at}
+use Rattle.peg_tree.specs.Nodes.{node_at, root_count, child_at}
 use Rattle.peg_tree.proofs.NodeRows.{nodes_of_tree, child_within, node_at-child_at, child_at-more}
 use Rattle.peg_tree.proofs.rows.child_in.Goals as goal
 
 -- the number of a child is within the node list
-module _ (rows : List TreeNode) (one : IsOneTree (map row_of rows)) (number : ℕ) (inside : number < length rows) (place : ℕ)
-    (has : place < count_of (node_at (trees_of (map row_of rows)) number).children) where
+module _ (rows : List TreeNode) (one : IsOneTree (map row_of rows)) (number : ℕ) (inside : number < length rows) (nth : ℕ)
+    (has : nth < root_count (node_at (trees_of (map row_of rows)) number).children) where
   below : number < nodes (trees_of (map row_of rows))
   below = let count = nodes_of_tree rows one in omega arith
 
-  within_rows : child_at (trees_of (map row_of rows)) number place < length rows
-  within_rows = child_within rows one number below place has
+  within_rows : child_at (trees_of (map row_of rows)) number nth < length rows
+  within_rows = child_within rows one number below nth has
 
-  within_nodes : child_at (trees_of (map row_of rows)) number place < nodes (trees_of (map row_of rows))
+  within_nodes : child_at (trees_of (map row_of rows)) number nth < nodes (trees_of (map row_of rows))
   within_nodes = let count = nodes_of_tree rows one in omega (arith, within_rows)
 
-  over_child : (at : ℕ) → at ≡ child_at (trees_of (map row_of rows)) number place → (child : TreeNode) → child ≡ get_or rows at child
-      → at + child.size ≡ child_at (trees_of (map row_of rows)) number (place + 1)
+  over_child : (at : ℕ) → at ≡ child_at (trees_of (map row_of rows)) number nth → (child : TreeNode) → child ≡ get_or rows at child
+      → at + child.size ≡ child_at (trees_of (map row_of rows)) number (nth + 1)
   over_child at here child is =
-      ap (λ n. n + child.size) here ∙ child_at-more rows one number below place has child (is ∙ ap (λ n. get_or rows n child) here)
+      ap (λ n. n + child.size) here ∙ child_at-more rows one number below nth has child (is ∙ ap (λ n. get_or rows n child) here)
 
 pub loop-before-init : goal.loop-before-init
 loop-before-init c =
@@ -44,13 +44,13 @@ loop-before-preserved c =
 pub returns : goal.returns
 returns c =
     let rows = c.args.rows.now in
-    let done : c.loop-before._before ≡ c.args.place = omega arith in
-    let here : c.loop-before.at ≡ child_at (trees_of (map row_of rows)) c.args.node c.args.place =
+    let done : c.loop-before._before ≡ c.args.nth = omega arith in
+    let here : c.loop-before.at ≡ child_at (trees_of (map row_of rows)) c.args.node c.args.nth =
     c.loop-before.invariant.here ∙ ap (child_at (trees_of (map row_of rows)) c.args.node) done in
-    let within = within_nodes rows c.requires.tree c.args.node c.requires.within c.args.place c.requires.place in
+    let within = within_nodes rows c.requires.tree c.args.node c.requires.within c.args.nth c.requires.nth in
     record {
       number = here;
       within = omega arith;
       node = ap (node_at (trees_of (map row_of rows))) here
-          ∙ node_at-child_at rows c.requires.tree c.args.node (below rows c.requires.tree c.args.node c.requires.within c.args.place c.requires.place) c.args.place c.requires.place;
+          ∙ node_at-child_at rows c.requires.tree c.args.node (below rows c.requires.tree c.args.node c.requires.within c.args.nth c.requires.nth) c.args.nth c.requires.nth;
     }

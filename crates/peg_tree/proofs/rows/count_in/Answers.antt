@@ -3,7 +3,7 @@ use Rattle.peg_tree.specs.declared.row.TreeNode.{TreeNode}
 use Rattle.peg_tree.specs.Rows.{row_of, IsOneTree}
 use Rattle.peg_tree.specs.Trees.{nodes}
 use Rattle.peg_tree.specs.TreesOfRows.{trees_of}
-use Rattle.peg_tree.specs.Nodes.{node_at, count_of, child_at}
+use Rattle.peg_tree.specs.Nodes.{node_at, root_count, child_at}
 use Rattle.peg_tree.proofs.NodeRows.{nodes_of_tree, end_of_node, more_children, no_more_children, child_at-more, child_ends_within, child_has_size}
 use Rattle.peg_tree.proofs.rows.count_in.Goals as goal
 
@@ -20,22 +20,22 @@ loop-at-init c =
 
 -- after this child comes the next child or the end
 step : (rows : List TreeNode) (one : IsOneTree (map row_of rows)) (number : ℕ) → number < length rows
-    → (place at : ℕ) → place ≤ count_of (node_at (trees_of (map row_of rows)) number).children
-    → at ≡ child_at (trees_of (map row_of rows)) number place
+    → (nth at : ℕ) → nth ≤ root_count (node_at (trees_of (map row_of rows)) number).children
+    → at ≡ child_at (trees_of (map row_of rows)) number nth
     → at < number + 1 + nodes (node_at (trees_of (map row_of rows)) number).children
     → (child : TreeNode) → child ≡ get_or rows at child
-    → (place < count_of (node_at (trees_of (map row_of rows)) number).children)
-    × (at + child.size ≡ child_at (trees_of (map row_of rows)) number (place + 1))
+    → (nth < root_count (node_at (trees_of (map row_of rows)) number).children)
+    × (at + child.size ≡ child_at (trees_of (map row_of rows)) number (nth + 1))
     × (at + child.size ≤ length rows) × (0 < child.size)
-step rows one number inside place at few here left child is =
+step rows one number inside nth at few here left child is =
     let count = nodes_of_tree rows one in
     let within : number < nodes (trees_of (map row_of rows)) = omega arith in
-    let has = more_children rows one number within place few (omega arith) in
-    let there : child ≡ get_or rows (child_at (trees_of (map row_of rows)) number place) child = is ∙ ap (λ n. get_or rows n child) here in
-    let next = child_at-more rows one number within place has child there in
-    let ends = child_ends_within rows one number within place has in
+    let has = more_children rows one number within nth few (omega arith) in
+    let there : child ≡ get_or rows (child_at (trees_of (map row_of rows)) number nth) child = is ∙ ap (λ n. get_or rows n child) here in
+    let next = child_at-more rows one number within nth has child there in
+    let ends = child_ends_within rows one number within nth has in
     let all = end_of_node rows one number within in
-    let some = child_has_size rows one number within place has child there in
+    let some = child_has_size rows one number within nth has child there in
     (has, omega arith, omega arith, some)
 
 pub overflow_add-at-in-loop-at : goal.overflow_add-at-in-loop-at

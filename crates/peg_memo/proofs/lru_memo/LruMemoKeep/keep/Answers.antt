@@ -1,20 +1,20 @@
-use Rattle.peg_memo.specs.Kept.{kept_of}
-use Rattle.peg_memo.specs.Use.{Use}
-use Rattle.peg_memo.proofs.AfterKeep.{IsPartOf-after_keep, get-after_keep, held_in-after_keep}
+use Rattle.peg_memo.specs.StoredResult.{stored_of}
+use Rattle.peg_memo.specs.MemoKey.{MemoKey}
+use Rattle.peg_memo.proofs.AfterKeep.{IsPartOf-after_keep, get-after_keep, entries_in-after_keep}
 use Rattle.peg_memo.proofs.lru_memo.LruMemoKeep.keep.Goals as goal
 
 pub returns-clause-part : goal.returns-clause-part
 returns-clause-part c =
-    let asked : Use = (c.args.rule, c.args.place) in
-    rw c.keep.ensures.memo (IsPartOf-after_keep c.args.self.now asked (kept_of c.args.found) c.keep.result)
+    let asked : MemoKey = (c.args.rule, c.args.position) in
+    rw c.keep.ensures.memo (IsPartOf-after_keep c.args.self.now asked (stored_of c.args.found) c.keep.result)
 
 pub returns-clause-kept : goal.returns-clause-kept
 returns-clause-kept c =
-    let asked : Use = (c.args.rule, c.args.place) in
-    rw c.keep.ensures.memo (get-after_keep c.args.self.now asked (kept_of c.args.found) c.keep.result)
+    let asked : MemoKey = (c.args.rule, c.args.position) in
+    rw c.keep.ensures.memo (get-after_keep c.args.self.now asked (stored_of c.args.found) c.keep.result)
 
 pub returns-clause-all : goal.returns-clause-all
 returns-clause-all c = λ _.
-    let asked : Use = (c.args.rule, c.args.place) in
+    let asked : MemoKey = (c.args.rule, c.args.position) in
     rw c.keep.ensures.memo
-    (held_in-after_keep c.args.self.now asked (kept_of c.args.found) c.keep.result c.keep.ensures.distinct)
+    (entries_in-after_keep c.args.self.now asked (stored_of c.args.found) c.keep.result c.keep.ensures.distinct)

@@ -4,13 +4,13 @@ use Rattle.peg_semantics.specs.Form.{Class}
 use Rattle.peg_metagrammar.specs.Ranges.{class_of}
 use Rattle.peg_notation.specs.Reader.{one_token}
 use Rattle.peg_notation.specs.ReaderFile.{file_of}
-use Rattle.peg_metagrammar.specs.Spelled.{ranges_in}
+use Rattle.peg_metagrammar.specs.Denotation.{ranges_in}
 use Rattle.peg_lexer.specs.Tokens.{lexeme_of}
 use Rattle.peg_notation.proofs.TokenTexts.{class-here, class-pieces}
 use Rattle.peg_notation.proofs.reader.Reader.class.Goals as goal
 
-pub class_bytes-requires : goal.class_bytes-requires
-class_bytes-requires c = class-here (file_of c.args.self.now) (lexeme_of c.args.token) c.requires.text c.requires.class
+pub class_of_token-requires : goal.class_of_token-requires
+class_of_token-requires c = class-here (file_of c.args.self.now) (lexeme_of c.args.token) c.requires.text c.requires.class
 
 pub returns : goal.returns
 returns c =

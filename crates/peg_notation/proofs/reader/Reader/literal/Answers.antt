@@ -3,7 +3,7 @@ use Rattle.peg_bytes.specs.Extent.{extent}
 use Rattle.peg_semantics.specs.Form.{Literal}
 use Rattle.peg_notation.specs.Reader.{one_token}
 use Rattle.peg_notation.specs.ReaderFile.{file_of}
-use Rattle.peg_metagrammar.specs.Spelled.{bytes_in}
+use Rattle.peg_metagrammar.specs.Denotation.{bytes_in}
 use Rattle.peg_lexer.specs.Tokens.{lexeme_of}
 use Rattle.peg_notation.proofs.TokenTexts.{literal-here, literal-pieces}
 use Rattle.peg_notation.proofs.reader.Reader.literal.Goals as goal

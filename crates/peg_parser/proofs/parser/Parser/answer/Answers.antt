@@ -16,9 +16,9 @@ returns-in-Ok-clause-outcome g c =
 
 pub returns-in-Ok-clause-enough : goal.returns-in-Ok-clause-enough
 returns-in-Ok-clause-enough g c never more =
-    c.in-Ok.ensures.enough never (to-program c.args.self.now c.args.text.now c.args.start c.args.most more)
+    c.in-Ok.ensures.enough never (to-program c.args.self.now c.args.text.now c.args.start c.args.max_steps more)
 
 pub returns-in-Err-StepLimit-clause-limited : goal.returns-in-Err-StepLimit-clause-limited
 returns-in-Err-StepLimit-clause-limited g c is =
-    of-program c.args.self.now c.args.text.now c.args.start c.args.most
+    of-program c.args.self.now c.args.text.now c.args.start c.args.max_steps
     (c.run.ensures.limited (c.in-Err-StepLimit.is ∙ ap Err c.in-Err-StepLimit.field-0-is))

@@ -1,20 +1,20 @@
 use Rattle.std.proofs.Common.{length}
 use Rattle.std.proofs.lemmas.Result.{IfErr-weaker}
-use Rattle.peg_parser.specs.Faults.{Means, TellsWhy}
-use Rattle.peg_parser.specs.Refusals.{Refuses}
+use Rattle.peg_parser.specs.Faults.{RefusalMeaning, HasCause}
+use Rattle.peg_parser.specs.Refusals.{IsRefusalOf}
 use Rattle.peg_parser.proofs.AcceptLemmas.{accepted-whole, told-early, told-means}
 use Rattle.peg_parser.proofs.parser.Parser.from_file.Goals as goal
 
 pub returns-in-Ok-clause-accepted : goal.returns-in-Ok-clause-accepted
 returns-in-Ok-clause-accepted c =
-    accepted-whole c.args.file.now c.in-Ok.grammar c.of.result c.in-Ok.ensures.read c.in-Ok.ensures.taken
-    c.of.ensures.rules c.of.ensures.well_formed c.of.ensures.small
+    accepted-whole c.args.file.now c.in-Ok.grammar c.from_grammar.result c.in-Ok.ensures.read c.in-Ok.ensures.taken
+    c.from_grammar.ensures.rules c.from_grammar.ensures.well_formed c.from_grammar.ensures.small
 
 pub returns-in-Ok-clause-wrong : goal.returns-in-Ok-clause-wrong
 returns-in-Ok-clause-wrong c =
     let file = c.args.file.now in
-    IfErr-weaker c.of.result (TellsWhy (Refuses file) (length file)) (Means file) (told-means file (length file))
-    (c.of.ensures.refused file c.in-Ok.ensures.read c.in-Ok.ensures.taken c.in-Ok.ensures.inside)
+    IfErr-weaker c.from_grammar.result (HasCause (IsRefusalOf file) (length file)) (RefusalMeaning file) (told-means file (length file))
+    (c.from_grammar.ensures.refused file c.in-Ok.ensures.read c.in-Ok.ensures.taken c.in-Ok.ensures.inside)
 
 pub returns-in-Err-clause-refused : goal.returns-in-Err-clause-refused
 returns-in-Err-clause-refused c =

@@ -2,10 +2,10 @@ use Rattle.std.proofs.Common.{◌∙◌, ap, List, ℕ, Result, Ok, Err, IfOk}
 use Rattle.std.proofs.lemmas.Result.{on_ok_weaker}
 use Rattle.std.specs.FinMap.{len, len-empty}
 use Rattle.peg_semantics.specs.Rules.{name_of}
-use Rattle.peg_grammar.specs.Outcomes.{IsOutcome}
+use Rattle.peg_grammar.specs.Outcomes.{IsParseOutcome}
 use Rattle.peg_machine.specs.declared.answer.Answer.{Answer}
-use Rattle.peg_memo.specs.Kept.{Kept}
-use Rattle.peg_memo.specs.Use.{use_cmp}
+use Rattle.peg_memo.specs.StoredResult.{StoredResult}
+use Rattle.peg_memo.specs.MemoKey.{key_cmp}
 use Rattle.peg_parser.specs.Fits.{Fits}
 use Rattle.peg_parser.specs.Parser.{parser_rules, start_named}
 use Rattle.peg_parser.specs.declared.parser.ParseFault.{ParseFault}
@@ -16,17 +16,17 @@ use Rattle.peg_parser.proofs.parser.Parser.parse.Goals as goal
 
 -- an outcome of a grammar fits the grammar
 fits : (parser : Parser) (text : List ℕ) (start : ℕ) (result : Result Answer ParseFault)
-    → IfOk result (λ answer. IsOutcome (parser_rules parser) text (name_of (parser_rules parser) start) answer.outcome)
+    → IfOk result (λ answer. IsParseOutcome (parser_rules parser) text (name_of (parser_rules parser) start) answer.outcome)
     → IfOk result (λ answer. Fits (parser_rules parser) answer.outcome)
 fits parser text start (Ok answer) is =
     let rules = parser_rules parser in outcome-fits rules text (name_of rules start) answer.outcome is
 fits parser text start (Err fault) is = tt
 
 pub answer-requires-clause-empty : goal.answer-requires-clause-empty
-answer-requires-clause-empty c = len-empty use_cmp Kept
+answer-requires-clause-empty c = len-empty key_cmp StoredResult
 
 pub answer-requires-2-clause-empty : goal.answer-requires-2-clause-empty
-answer-requires-2-clause-empty c = ap len c.in_ok-memo.ensures ∙ len-empty use_cmp Kept
+answer-requires-2-clause-empty c = ap len c.in_ok-memo.ensures ∙ len-empty key_cmp StoredResult
 
 pub returns-then-options-eq0-clause-fits : goal.returns-then-options-eq0-clause-fits
 returns-then-options-eq0-clause-fits c =
@@ -46,7 +46,7 @@ pub returns-then-options-eq0-clause-enough : goal.returns-then-options-eq0-claus
 returns-then-options-eq0-clause-enough c none =
     on_ok_weaker c.answer.result (λ not more. not (to-start c.args.self.now c.args.text.now
     (start_named c.args.options.now) c.in-Some.start c.args.options.now.steps c.in-Some.ensures.some
-    c.in-Some.ensures.named more)) (c.answer.ensures.enough (λ any. len-empty use_cmp Kept))
+    c.in-Some.ensures.named more)) (c.answer.ensures.enough (λ any. len-empty key_cmp StoredResult))
 
 pub returns-clause-limited : goal.returns-clause-limited
 returns-clause-limited c is =

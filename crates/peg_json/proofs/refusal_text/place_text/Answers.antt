@@ -1,6 +1,0 @@
-use Rattle.std.proofs.Common.{refl}
-use Rattle.peg_json.specs.CauseText.{place_data}
-use Rattle.peg_json.proofs.refusal_text.place_text.Goals as goal
-
-pub returns : goal.returns
-returns c = c.told.ensures (place_data c.args.file.now c.args.refusal.now c.args.at) c.in_ok-place_value.ensures refl

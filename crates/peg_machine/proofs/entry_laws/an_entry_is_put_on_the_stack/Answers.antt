@@ -1,6 +1,0 @@
-use Rattle.std.proofs.Common.{[]}
-use Rattle.peg_machine.proofs.EntryLemmas.{stack_over-push}
-use Rattle.peg_machine.proofs.entry_laws.an_entry_is_put_on_the_stack.Goals as goal
-
-pub returns : goal.returns
-returns c = λ rows. stack_over-push rows []

@@ -1,5 +1,0 @@
-use Rattle.peg_machine.proofs.GoingEvents.{goes_hits, goes_calls}
-use Rattle.peg_machine.proofs.going_laws.a_hit_or_a_call.Goals as goal
-
-pub returns : goal.returns
-returns c = record { hits = goes_hits; begins = goes_calls }

@@ -1,5 +1,0 @@
-use Rattle.peg_machine.proofs.GoingEvents.{goes_touched, goes_fails, goes_returns}
-use Rattle.peg_machine.proofs.going_laws.memo_may_forget_without_losing_the_invariant.Goals as goal
-
-pub returns : goal.returns
-returns c = record { touched = goes_touched; fails = goes_fails; returns = goes_returns }

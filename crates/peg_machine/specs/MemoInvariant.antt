@@ -1,0 +1,70 @@
+-- The entries of a memo while a run is active, and the invariant on them.
+use Rattle.std.specs.Prelude.{◌≡◌, ◌≢◌, ℕ, ◌+◌, ◌*◌, ◌<◌, ◌≤◌, ◌⊎◌, Bool, false, if◌then◌else◌, IsTrue, List, Some, length}
+use Rattle.std.specs.FinMap as map
+use Rattle.std.specs.List.{AllPairs}
+use Rattle.peg_tree.specs.Rows.{rows_of}
+use Rattle.peg_semantics.specs.Record.{Recognition, Failed, Matched, Record, Test, RuleCall}
+use Rattle.peg_memo.specs.MemoMap.{MemoMap, IsPartOf}
+use Rattle.peg_memo.specs.StoredResult.{StoredResult, StoredFailure, StoredMatch}
+use Rattle.peg_machine.specs.Packrat.{IsInMemo, AreInMemoOrActive}
+use Rattle.peg_machine.specs.Running.{RunContext}
+use Rattle.peg_machine.specs.PartialRuns.{ActiveCall, MayBeStored}
+
+-- ---- a memo at a moment
+
+-- a memo: its entries, its capacity before it may evict one, and whether an allocation failed
+pub record MemoState : Type 0 where
+  pub entries : MemoMap
+  pub capacity : ℕ
+  pub allocation_failed : Bool
+
+abbrev pub memo_state : MemoMap → (capacity : ℕ) → (allocation_failed : Bool) → MemoState
+memo_state stored capacity allocation_failed = record { entries = stored; capacity = capacity; allocation_failed = allocation_failed }
+
+-- a memo after an entry was marked as used
+pub record IsTouched (old new : MemoState) : Type 0 where
+  pub part : IsPartOf new.entries old.entries
+  pub same : 0 < old.capacity → new.entries ≡ old.entries
+  pub capacity : new.capacity ≡ old.capacity
+  pub allocation_failed : IsTrue old.allocation_failed → IsTrue new.allocation_failed
+
+-- a memo after the result of a call was offered to it, whether it stored the result or not
+pub record IsOffered (old : MemoState) (pair : RuleCall) (result : StoredResult) (kept : Bool)
+    (new : MemoState) : Type 0 where
+  pub part : IsPartOf new.entries
+      (if kept then map.insert old.entries (pair.rule, pair.position) result else old.entries)
+  pub all : 0 < old.capacity → new.allocation_failed ≡ false → (map.len old.entries < old.capacity)
+      ⊎ IsInMemo old.entries pair
+      → new.entries ≡ map.insert old.entries (pair.rule, pair.position) result
+  pub capacity : new.capacity ≡ old.capacity
+  pub allocation_failed : IsTrue old.allocation_failed → IsTrue new.allocation_failed
+
+-- ---- the invariant
+
+-- what a memo stores of a record
+abbrev pub stored_result : Recognition → StoredResult
+stored_result Failed = StoredFailure
+stored_result (Matched end trees) = StoredMatch end (rows_of trees)
+
+-- a stored result that is the result of a record that may be stored
+pub record IsResultOf (context : RunContext) (tests : List Test) (traced : List RuleCall) (pair : RuleCall)
+    (result : StoredResult) : Type 0 where
+  pub r : Record
+  pub may_be_stored : MayBeStored context tests traced pair r
+  pub is : stored_result r.result ≡ result
+
+-- each entry is such a result
+abbrev pub EntriesAreRecords : RunContext → List Test → List RuleCall → MemoMap → Type 0
+EntriesAreRecords context tests traced stored =
+    (pair : RuleCall) (result : StoredResult) → map.get stored (pair.rule, pair.position) ≡ Some result
+    → IsResultOf context tests traced pair result
+
+-- the memo has capacity for each rule at each position of the text, and no allocation failed
+pub record HasFullCapacity (context : RunContext) (memo : MemoState) : Type 0 where
+  pub capacity : length context.bodies * (length context.text + 1) ≤ memo.capacity
+  pub given : memo.allocation_failed ≡ false
+
+-- no pair was traced twice, and each has a memo entry or is active
+pub record NoneTwice (traced : List RuleCall) (stored : MemoMap) (stack : List ActiveCall) : Type 0 where
+  pub distinct : AllPairs (λ a b. a ≢ b) traced
+  pub in_memo_or_active : AreInMemoOrActive stored traced stack

@@ -1,7 +1,0 @@
-use Rattle.std.proofs.Common.{refl}
-use Rattle.peg_metagrammar.specs.FigureText.{figure_lines}
-use Rattle.peg_metagrammar.proofs.text_of_figure.figure_text.Goals as goal
-
-pub returns : goal.returns
-unfolding figure_lines
-returns c = refl

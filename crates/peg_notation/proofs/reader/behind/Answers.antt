@@ -1,5 +1,0 @@
-use Rattle.peg_notation.proofs.TokenTexts.{lexemes-behind}
-use Rattle.peg_notation.proofs.reader.behind.Goals as goal
-
-pub returns-clause-tokens : goal.returns-clause-tokens
-returns-clause-tokens c = lexemes-behind c.args.tokens.now c.args.taken
