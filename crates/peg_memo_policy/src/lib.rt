@@ -7,6 +7,7 @@ mod rerun_cost;
 mod rerun_costs;
 mod selective_memo;
 mod size;
+mod stars;
 
 pub use rerun_cost::RerunCost;
 pub use rerun_costs::RerunCosts;

@@ -3,10 +3,12 @@
 //! If a policy declines to store a result, the body of the rule may run again. The calls in the body are counted by the
 //! memo, since each of them is looked up. The body's own instructions aren't counted. This module decides from the code
 //! alone which rules have few instructions of their own. It looks at each rule separately, and at a fixed number of its
-//! first instructions. Each instruction is visited a fixed number of times at most, without recursion.
+//! first instructions. Stars are judged by the core forms of the body. Each instruction and each form is visited a fixed
+//! number of times at most, without recursion.
 ghost use Rattle.std.specs.Prelude.{◌≡◌, length, IfOk};
 
 use crate::RerunCost;
+use crate::stars::{StarEffect, worst_star};
 use peg_bytes::ByteSet;
 use peg_code::{InstrRef, Program};
 use std::alloc::{AllocError, Global};
@@ -32,6 +34,7 @@ impl RerunCosts {
         ensures { IfOk result (λ costs. length (rules_of costs) ≡ length program.now.core.bodies) }
     {
         let mut walk = Walk {
+            alloc,
             program,
             ways: Vec::with_capacity(alloc, MAX_TRIVIAL_STEPS as usize)?,
         };
@@ -71,20 +74,10 @@ enum Return {
     ChoicePoint(u32),
 }
 
-// What may become of the bytes that a star matched.
-#[derive(Clone, Copy)]
-enum StarEffect {
-    // The rule ends after the star.
-    Committed,
-    // The rule may fail after the star.
-    MayFail,
-    // The match may be discarded while the rule continues.
-    MayBeDiscarded,
-}
-
 // A walk over the code of a program.
 #[derive(Drop)]
 struct Walk<'a> {
+    alloc: Global,
     program: &'a Program,
     ways: Vec<Return>,
 }
@@ -94,14 +87,22 @@ impl Walk<'_> {
     fn cost(&mut self, rule: u32) -> Result<RerunCost, AllocError> {
         let trivial = self.is_tiny(rule)?;
         let slow_next = self.slow_bytes(rule)?;
-        let (linear_on_success, linear_on_failure) = self.stars(rule);
+        let stars = self.stars(rule)?;
         Ok(RerunCost {
             trivial,
-            linear_on_success,
-            linear_on_failure,
+            linear_on_success: !matches!(stars, StarEffect::MayBeDiscarded),
+            linear_on_failure: matches!(stars, StarEffect::Committed),
             slow_next: slow_next.unwrap_or(ByteSet::full()),
             slow_at_end: slow_next.is_none(),
         })
+    }
+
+    // The worst effect of the stars in a rule's body. Long bodies aren't searched.
+    fn stars(&self, rule: u32) -> Result<StarEffect, AllocError> {
+        if self.end(rule).saturating_sub(self.entry(rule)) > MAX_BODY_SIZE {
+            return Ok(StarEffect::MayBeDiscarded);
+        }
+        worst_star(self.alloc, self.program.core(), rule)
     }
 
     // Whether a rule, with all that it calls, has few instructions and no star. A recursive rule is not tiny.
@@ -191,104 +192,6 @@ impl Walk<'_> {
             }
         }
         Next::Ended
-    }
-
-    // Whether a rule is `linear_on_success` and whether it is `linear_on_failure`, from its stars.
-    fn stars(&self, rule: u32) -> (bool, bool) {
-        let from = self.entry(rule);
-        let to = self.end(rule);
-        if to.saturating_sub(from) > MAX_BODY_SIZE {
-            return (false, false);
-        }
-        let mut linear_on_success = true;
-        let mut linear_on_failure = true;
-        for pc in from..to {
-            match self.star_effect(from, pc) {
-                StarEffect::Committed => {}
-                StarEffect::MayFail => linear_on_failure = false,
-                StarEffect::MayBeDiscarded => {
-                    linear_on_success = false;
-                    linear_on_failure = false;
-                }
-            }
-        }
-        (linear_on_success, linear_on_failure)
-    }
-
-    // What may become of the match of the star at an instruction, in the body that starts at `from`. Other
-    // instructions, and stars that call a rule in each iteration, are harmless: the memo counts their calls.
-    fn star_effect(&self, from: u32, star: u32) -> StarEffect {
-        if !self.is_star(star) || self.calls_each_time(star) {
-            return StarEffect::Committed;
-        }
-        let mut ways = self.open_choices_at(from, star);
-        let mut pc = self.exit(star);
-        for _ in 0..MAX_BODY_SIZE {
-            match self.instr_ref(pc) {
-                InstrRef::Ret => return StarEffect::Committed,
-                InstrRef::Commit(target) => {
-                    ways = ways.saturating_sub(1);
-                    pc = if target < pc {
-                        self.exit(target)
-                    } else {
-                        target
-                    };
-                }
-                _ if ways == 0 => return StarEffect::MayFail,
-                _ => return StarEffect::MayBeDiscarded,
-            }
-        }
-        StarEffect::MayBeDiscarded
-    }
-
-    // Whether a star starts at an instruction: a choice whose alternative comes after a commit that jumps back to it.
-    fn is_star(&self, pc: u32) -> bool {
-        match self.instr_ref(pc) {
-            InstrRef::Choice(target) =>
-                matches!(self.instr_ref(target.saturating_sub(1)), InstrRef::Commit(back) if back == pc),
-            _ => false,
-        }
-    }
-
-    // Whether a star calls a rule in each iteration. Only tests and not-predicates may come before the call.
-    fn calls_each_time(&self, star: u32) -> bool {
-        let mut pc = star.saturating_add(1);
-        for _ in 0..MAX_BODY_SIZE {
-            pc = match self.instr_ref(pc) {
-                InstrRef::Test { .. } => pc.saturating_add(1),
-                InstrRef::Choice(target) if self.is_not(target) => target,
-                InstrRef::Call(_) => return true,
-                _ => return false,
-            };
-        }
-        false
-    }
-
-    // Whether a not-predicate ends before an instruction.
-    fn is_not(&self, target: u32) -> bool {
-        matches!(
-            self.instr_ref(target.saturating_sub(1)),
-            InstrRef::FailTwice
-        )
-    }
-
-    // The number of choice points of a body that are open at an instruction.
-    fn open_choices_at(&self, from: u32, pc: u32) -> u32 {
-        let mut ways: u32 = 0;
-        for before in from..pc {
-            if self.exit(before) > pc {
-                ways = ways.saturating_add(1);
-            }
-        }
-        ways
-    }
-
-    // The target of a `Choice`; 0 for other instructions.
-    fn exit(&self, pc: u32) -> u32 {
-        match self.instr_ref(pc) {
-            InstrRef::Choice(target) => target,
-            _ => 0,
-        }
     }
 
     // The instruction with a number; `End` if there is none.
