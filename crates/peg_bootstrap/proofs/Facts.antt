@@ -9,7 +9,8 @@ use Rattle.peg_tree.specs.declared.forest.Branch.{Branch}
 use Rattle.peg_semantics.specs.Form as form
 use Rattle.peg_semantics.specs.Form.{Form}
 use Rattle.peg_metagrammar.specs.Figure.{prefix_body, suffix_body}
-use Rattle.peg_metagrammar.specs.FigureRules as rule
+use Rattle.peg_metagrammar.specs.FigureRules.{prefix_rule, suffix_rule, primary_rule, and_sign_rule, not_sign_rule}
+use Rattle.peg_metagrammar.specs.FigureRules.{question_rule, star_rule, plus_rule, count_rule}
 use Rattle.peg_metagrammar.specs.Nesting.{nesting}
 use Rattle.peg_metagrammar.specs.Notation.{Matches}
 use Rattle.peg_metagrammar.specs.Denotation.{Denotation, Sign, Expression, text_end, spelled, numerals_in, bounds_spelled, counted_form, bad_count, bad_counts}
@@ -119,7 +120,7 @@ count_from {file} {first} m =
 -- ---- Prefix
 
 module _ (file : List ℕ) (node : Branch) (m : IsNode file (codes "Prefix") node) where
-  prefix_opened : Opened file rule.prefix prefix_body node.rule node.span.start node.span.end (trees_in node.children)
+  prefix_opened : Opened file prefix_rule prefix_body node.rule node.span.start node.span.end (trees_in node.children)
   prefix_opened = opened (codes "Prefix") prefix-meaning_of.1 m
 
   prefix_shape : PrefixChildren file node.span.end node.span.start (trees_in node.children)
@@ -143,48 +144,48 @@ module _ (file : List ℕ) (node : Branch) (m : IsNode file (codes "Prefix") nod
       pub nests : nesting (tree_of_branch node) ≡ nesting (tree_of_branch first)
       pub counts : bad_counts file (tree_of_branch node) ≡ bad_counts file (tree_of_branch first)
 
-    pub prefix_plain : first.rule ≡ rule.suffix → PrefixPlain
+    pub prefix_plain : first.rule ≡ suffix_rule → PrefixPlain
     prefix_plain known = by prefix_shape
       where
         by : PrefixChildren file node.span.end node.span.start (trees_in node.children) → PrefixPlain
         by (PrefixChildren.plain shape) =
-            let here = subst (Then_is file (codes "Suffix") rule.suffix (Ends node.span.end) node.span.start) is shape in
+            let here = subst (Then_is file (codes "Suffix") suffix_rule (Ends node.span.end) node.span.start) is shape in
             let one = one_child node first is here.3.1 in
             record {
               start = here.1;
               suffix = here.2;
-              says = λ before f last says. node-passes file rule.prefix node.rule node.span.start node.span.end (trees_in node.children)
+              says = λ before f last says. node-passes file prefix_rule node.rule node.span.start node.span.end (trees_in node.children)
                   prefix_opened.is refl (λ l. refl) (subst (λ t. Builds file before t f last) (sym one) says);
-              nests = node-nesting rule.prefix node.rule node.span.start node.span.end (trees_in node.children) prefix_opened.is refl
+              nests = node-nesting prefix_rule node.rule node.span.start node.span.end (trees_in node.children) prefix_opened.is refl
                   ∙ ap nesting one;
-              counts = node-counts file rule.prefix node.rule node.span.start node.span.end (trees_in node.children) prefix_opened.is refl
+              counts = node-counts file prefix_rule node.rule node.span.start node.span.end (trees_in node.children) prefix_opened.is refl
                   ∙ ap (bad_counts file) one;
             }
         by (PrefixChildren.and_before shape) =
-            let here = subst (Then_is file (codes "AND") rule.and_sign (Then_is file (codes "Suffix") rule.suffix (Ends node.span.end)) node.span.start) is shape in
+            let here = subst (Then_is file (codes "AND") and_sign_rule (Then_is file (codes "Suffix") suffix_rule (Ends node.span.end)) node.span.start) is shape in
             absurd (let bad : 16 ≡ 5 = sym here.0 ∙ known in cc)
         by (PrefixChildren.not_before shape) =
-            let here = subst (Then_is file (codes "NOT") rule.not_sign (Then_is file (codes "Suffix") rule.suffix (Ends node.span.end)) node.span.start) is shape in
+            let here = subst (Then_is file (codes "NOT") not_sign_rule (Then_is file (codes "Suffix") suffix_rule (Ends node.span.end)) node.span.start) is shape in
             absurd (let bad : 17 ≡ 5 = sym here.0 ∙ known in cc)
 
     -- with one
     pub record PrefixSigned : Type 0 where
       pub start : first.span.start ≡ node.span.start
       pub plain : IsPlainSign file first
-      pub next : Then_is file (codes "Suffix") rule.suffix (Ends node.span.end) first.span.end (trees_in first.rest)
+      pub next : Then_is file (codes "Suffix") suffix_rule (Ends node.span.end) first.span.end (trees_in first.rest)
 
-    pub prefix_sign : first.rule ≢ rule.suffix → PrefixSigned
+    pub prefix_sign : first.rule ≢ suffix_rule → PrefixSigned
     prefix_sign apart = by prefix_shape
       where
         by : PrefixChildren file node.span.end node.span.start (trees_in node.children) → PrefixSigned
         by (PrefixChildren.plain shape) =
-            let here = subst (Then_is file (codes "Suffix") rule.suffix (Ends node.span.end) node.span.start) is shape in
+            let here = subst (Then_is file (codes "Suffix") suffix_rule (Ends node.span.end) node.span.start) is shape in
             absurd (apart here.0)
         by (PrefixChildren.and_before shape) =
-            let here = subst (Then_is file (codes "AND") rule.and_sign (Then_is file (codes "Suffix") rule.suffix (Ends node.span.end)) node.span.start) is shape in
+            let here = subst (Then_is file (codes "AND") and_sign_rule (Then_is file (codes "Suffix") suffix_rule (Ends node.span.end)) node.span.start) is shape in
             record { start = here.1; plain = plain_from kind.And form.And refl (λ before end last pieces. refl) (λ position pieces. refl) here.2; next = here.3 }
         by (PrefixChildren.not_before shape) =
-            let here = subst (Then_is file (codes "NOT") rule.not_sign (Then_is file (codes "Suffix") rule.suffix (Ends node.span.end)) node.span.start) is shape in
+            let here = subst (Then_is file (codes "NOT") not_sign_rule (Then_is file (codes "Suffix") suffix_rule (Ends node.span.end)) node.span.start) is shape in
             record { start = here.1; plain = plain_from kind.Not form.Not refl (λ before end last pieces. refl) (λ position pieces. refl) here.2; next = here.3 }
 
     module _ (with_operator : PrefixSigned) where
@@ -192,8 +193,8 @@ module _ (file : List ℕ) (node : Branch) (m : IsNode file (codes "Prefix") nod
       prefix_next_some = then_some _ _ _ _ _ _ with_operator.next
 
       module _ (second : Branch) (next_is : trees_in first.rest ≡ trees_from_branch second) where
-        prefix_next : Then_is file (codes "Suffix") rule.suffix (Ends node.span.end) first.span.end (trees_from_branch second)
-        prefix_next = subst (Then_is file (codes "Suffix") rule.suffix (Ends node.span.end) first.span.end) next_is with_operator.next
+        prefix_next : Then_is file (codes "Suffix") suffix_rule (Ends node.span.end) first.span.end (trees_from_branch second)
+        prefix_next = subst (Then_is file (codes "Suffix") suffix_rule (Ends node.span.end) first.span.end) next_is with_operator.next
 
         pub prefix_suffix : IsNode file (codes "Suffix") second
         prefix_suffix = prefix_next.2
@@ -216,13 +217,13 @@ module _ (file : List ℕ) (node : Branch) (m : IsNode file (codes "Prefix") nod
 
         pub prefix_nests : nesting (tree_of_branch node) ≡ nesting (tree_of_branch second)
         prefix_nests =
-            node-nesting rule.prefix node.rule node.span.start node.span.end (trees_in node.children) prefix_opened.is refl
+            node-nesting prefix_rule node.rule node.span.start node.span.end (trees_in node.children) prefix_opened.is refl
             ∙ (ap nesting whole ∙ (nesting-first first.rule first.span.start first.span.end (trees_in first.children) (tree_of_branch second)
             ∙ (ap (λ n. max n (nesting (tree_of_branch second))) with_operator.plain.sign.flat ∙ omega arith)))
 
         pub prefix_counts : bad_counts file (tree_of_branch node) ≡ bad_counts file (tree_of_branch second)
         prefix_counts =
-            node-counts file rule.prefix node.rule node.span.start node.span.end (trees_in node.children) prefix_opened.is refl
+            node-counts file prefix_rule node.rule node.span.start node.span.end (trees_in node.children) prefix_opened.is refl
             ∙ (ap (bad_counts file) whole ∙ counts-behind file first.rule first.span.start first.span.end (trees_in first.children)
             (tree_of_branch second) with_operator.plain.fine)
 
@@ -235,18 +236,18 @@ module _ (file : List ℕ) (node : Branch) (m : IsNode file (codes "Prefix") nod
 -- ---- Suffix
 
 module _ (file : List ℕ) (node : Branch) (m : IsNode file (codes "Suffix") node) where
-  suffix_opened : Opened file rule.suffix suffix_body node.rule node.span.start node.span.end (trees_in node.children)
+  suffix_opened : Opened file suffix_rule suffix_body node.rule node.span.start node.span.end (trees_in node.children)
   suffix_opened = opened (codes "Suffix") suffix-meaning_of.1 m
 
-  suffix_shape : Then_is file (codes "Primary") rule.primary (SuffixRest file node.span.end) node.span.start (trees_in node.children)
+  suffix_shape : Then_is file (codes "Primary") primary_rule (SuffixRest file node.span.end) node.span.start (trees_in node.children)
   suffix_shape = suffix_children suffix_opened.inside
 
   pub suffix_some : trees_in node.children ≢ NoTrees
   suffix_some = then_some _ _ _ _ _ _ suffix_shape
 
   module _ (first : Branch) (is : trees_in node.children ≡ trees_from_branch first) where
-    suffix_here : Then_is file (codes "Primary") rule.primary (SuffixRest file node.span.end) node.span.start (trees_from_branch first)
-    suffix_here = subst (Then_is file (codes "Primary") rule.primary (SuffixRest file node.span.end) node.span.start) is suffix_shape
+    suffix_here : Then_is file (codes "Primary") primary_rule (SuffixRest file node.span.end) node.span.start (trees_from_branch first)
+    suffix_here = subst (Then_is file (codes "Primary") primary_rule (SuffixRest file node.span.end) node.span.start) is suffix_shape
 
     pub suffix_primary : IsNode file (codes "Primary") first
     suffix_primary = suffix_here.2
@@ -259,7 +260,7 @@ module _ (file : List ℕ) (node : Branch) (m : IsNode file (codes "Suffix") nod
         → HasBadCount file (tree_of_branch node) fault
     suffix_first_bad =
         bad-more file (tree_of_branch first) (tree_of_branch node) (bad_counts file (trees_in first.rest))
-        (node-counts file rule.suffix node.rule node.span.start node.span.end (trees_in node.children) suffix_opened.is refl
+        (node-counts file suffix_rule node.rule node.span.start node.span.end (trees_in node.children) suffix_opened.is refl
         ∙ (ap (bad_counts file) is
         ∙ counts-first file first.rule first.span.start first.span.end (trees_in first.children) (trees_in first.rest)))
 
@@ -268,17 +269,17 @@ module _ (file : List ℕ) (node : Branch) (m : IsNode file (codes "Suffix") nod
       pub suffix_plain : (before : ℕ) (f : Form) (last : ℕ) → Builds file before (tree_of_branch first) f last
           → Builds file before (tree_of_branch node) f last
       suffix_plain before f last says =
-          node-passes file rule.suffix node.rule node.span.start node.span.end (trees_in node.children) suffix_opened.is refl
+          node-passes file suffix_rule node.rule node.span.start node.span.end (trees_in node.children) suffix_opened.is refl
           (λ l. refl) (subst (λ t. Builds file before t f last) (sym (one_child node first is none)) says)
 
       pub suffix_plain_nests : nesting (tree_of_branch node) ≡ nesting (tree_of_branch first)
       suffix_plain_nests =
-          node-nesting rule.suffix node.rule node.span.start node.span.end (trees_in node.children) suffix_opened.is refl
+          node-nesting suffix_rule node.rule node.span.start node.span.end (trees_in node.children) suffix_opened.is refl
           ∙ ap nesting (one_child node first is none)
 
       pub suffix_plain_counts : bad_counts file (tree_of_branch node) ≡ bad_counts file (tree_of_branch first)
       suffix_plain_counts =
-          node-counts file rule.suffix node.rule node.span.start node.span.end (trees_in node.children) suffix_opened.is refl
+          node-counts file suffix_rule node.rule node.span.start node.span.end (trees_in node.children) suffix_opened.is refl
           ∙ ap (bad_counts file) (one_child node first is none)
 
     -- with one
@@ -287,11 +288,11 @@ module _ (file : List ℕ) (node : Branch) (m : IsNode file (codes "Suffix") nod
         pub none : trees_in second.rest ≡ NoTrees
         pub sign : IsSign file second
         pub start : second.span.start ≡ first.span.end
-        pub plain : second.rule ≢ rule.count → (sign_form second.rule ≡ sign.sign) × (bad_counts file (tree_of_branch second) ≡ [])
-        pub counted : second.rule ≡ rule.count → IsNode file (codes "COUNT") second × (Rattle.peg_metagrammar.specs.Denotation.counted_form (count_spelled (drop second.span.start file)) ≡ sign.sign)
+        pub plain : second.rule ≢ count_rule → (sign_form second.rule ≡ sign.sign) × (bad_counts file (tree_of_branch second) ≡ [])
+        pub counted : second.rule ≡ count_rule → IsNode file (codes "COUNT") second × (Rattle.peg_metagrammar.specs.Denotation.counted_form (count_spelled (drop second.span.start file)) ≡ sign.sign)
 
       -- from the position of the token
-      plain_suffix : (number : ℕ) → number ≢ rule.count → second.rule ≡ number → trees_in second.rest ≡ NoTrees
+      plain_suffix : (number : ℕ) → number ≢ count_rule → second.rule ≡ number → trees_in second.rest ≡ NoTrees
           → second.span.start ≡ first.span.end → IsPlainSign file second → SuffixSign
       plain_suffix number other is none start it = record {
         none = none;
@@ -301,7 +302,7 @@ module _ (file : List ℕ) (node : Branch) (m : IsNode file (codes "Suffix") nod
         counted = λ known. absurd (other (sym is ∙ known));
       }
 
-      count_suffix : second.rule ≡ rule.count → trees_in second.rest ≡ NoTrees → second.span.start ≡ first.span.end
+      count_suffix : second.rule ≡ count_rule → trees_in second.rest ≡ NoTrees → second.span.start ≡ first.span.end
           → IsNode file (codes "COUNT") second → IsCountSign file second → SuffixSign
       count_suffix is none start m it = record {
         none = none;
@@ -311,23 +312,23 @@ module _ (file : List ℕ) (node : Branch) (m : IsNode file (codes "Suffix") nod
         counted = λ known. (m, it.form);
       }
 
-      from_plain : (k : TokenKind) (sign : Form → Extent → Form) → (number_of k ≢ rule.count) → sign_form (number_of k) ≡ sign
+      from_plain : (k : TokenKind) (sign : Form → Extent → Form) → (number_of k ≢ count_rule) → sign_form (number_of k) ≡ sign
           → ((position : ℕ) (pieces : List Denotation) → bad_count (number_of k) position pieces ≡ [])
           → ((before end last : ℕ) (pieces : List Denotation) → Rattle.peg_metagrammar.specs.Denotation.node_spelled file (number_of k) before second.span.start end last pieces ≡ Sign sign ∷ [])
           → Then_is file (rule_of_kind k) (number_of k) (Ends node.span.end) first.span.end (trees_from_branch second) → SuffixSign
       from_plain k sign other form fine spells here =
           plain_suffix (number_of k) other here.0 here.3.1 here.1 (plain_from k sign form spells fine here.2)
 
-      from_count : Then_is file (codes "COUNT") rule.count (Ends node.span.end) first.span.end (trees_from_branch second) → SuffixSign
+      from_count : Then_is file (codes "COUNT") count_rule (Ends node.span.end) first.span.end (trees_from_branch second) → SuffixSign
       from_count here = count_suffix here.0 here.3.1 here.1 here.2 (count_from here.2)
 
-      from_question : Then_is file (codes "QUESTION") rule.question (Ends node.span.end) first.span.end (trees_from_branch second) → SuffixSign
+      from_question : Then_is file (codes "QUESTION") question_rule (Ends node.span.end) first.span.end (trees_from_branch second) → SuffixSign
       from_question = from_plain kind.Question form.Optional (λ same. cc) refl (λ position pieces. refl) (λ before end last pieces. refl)
 
-      from_star : Then_is file (codes "STAR") rule.star (Ends node.span.end) first.span.end (trees_from_branch second) → SuffixSign
+      from_star : Then_is file (codes "STAR") star_rule (Ends node.span.end) first.span.end (trees_from_branch second) → SuffixSign
       from_star = from_plain kind.Star form.Star (λ same. cc) refl (λ position pieces. refl) (λ before end last pieces. refl)
 
-      from_plus : Then_is file (codes "PLUS") rule.plus (Ends node.span.end) first.span.end (trees_from_branch second) → SuffixSign
+      from_plus : Then_is file (codes "PLUS") plus_rule (Ends node.span.end) first.span.end (trees_from_branch second) → SuffixSign
       from_plus = from_plain kind.Plus form.Plus (λ same. cc) refl (λ position pieces. refl) (λ before end last pieces. refl)
 
       moved : (name : List ℕ) (number : ℕ) → Then_is file name number (Ends node.span.end) first.span.end (trees_in first.rest)
@@ -370,7 +371,7 @@ module _ (file : List ℕ) (node : Branch) (m : IsNode file (codes "Suffix") nod
 
       pub suffix_nests : nesting (tree_of_branch node) ≡ nesting (tree_of_branch first)
       suffix_nests =
-          node-nesting rule.suffix node.rule node.span.start node.span.end (trees_in node.children) suffix_opened.is refl
+          node-nesting suffix_rule node.rule node.span.start node.span.end (trees_in node.children) suffix_opened.is refl
           ∙ (ap nesting suffix_whole
           ∙ (nesting-first first.rule first.span.start first.span.end (trees_in first.children) (tree_of_branch second)
           ∙ (ap (λ n. max (nesting (tree_of_branch first)) n) suffix_sign.sign.flat ∙ omega arith)))
@@ -378,6 +379,6 @@ module _ (file : List ℕ) (node : Branch) (m : IsNode file (codes "Suffix") nod
       pub suffix_counts : bad_counts file (tree_of_branch node)
           ≡ bad_counts file (tree_of_branch first) ++ bad_counts file (tree_of_branch second)
       suffix_counts =
-          node-counts file rule.suffix node.rule node.span.start node.span.end (trees_in node.children) suffix_opened.is refl
+          node-counts file suffix_rule node.rule node.span.start node.span.end (trees_in node.children) suffix_opened.is refl
           ∙ (ap (bad_counts file) suffix_whole
           ∙ counts-first file first.rule first.span.start first.span.end (trees_in first.children) (tree_of_branch second))

@@ -6,7 +6,7 @@ use Rattle.peg_tree.specs.Trees.{Trees, NoTrees, Tree}
 use Rattle.peg_tree.specs.declared.forest.Branch.{Branch}
 use Rattle.peg_semantics.specs.Form.{Form}
 use Rattle.peg_metagrammar.specs.Figure.{sequence_body, expression_body}
-use Rattle.peg_metagrammar.specs.FigureRules as rule
+use Rattle.peg_metagrammar.specs.FigureRules.{expression_rule, sequence_rule}
 use Rattle.peg_metagrammar.specs.Nesting.{nesting}
 use Rattle.peg_metagrammar.specs.Denotation.{sequence_spelled, choice_spelled, bad_counts}
 use Rattle.peg_bootstrap.specs.declared.fault.DefinitionsFault.{DefinitionsFault}
@@ -39,7 +39,7 @@ module _ (file : List ℕ) (node : Branch) (before left : ℕ) (behind : before 
   -- ---- Sequence
 
   module _ (m : IsNode file (codes "Sequence") node) where
-    sequence_opened : Opened file rule.sequence sequence_body node.rule node.span.start node.span.end (trees_in node.children)
+    sequence_opened : Opened file sequence_rule sequence_body node.rule node.span.start node.span.end (trees_in node.children)
     sequence_opened = opened (codes "Sequence") sequence-meaning_of.1 m
 
     abbrev Items : List Form → (count last : ℕ) → Trees → Type 0
@@ -80,12 +80,12 @@ module _ (file : List ℕ) (node : Branch) (before left : ℕ) (behind : before 
 
       pub item_deep : left < nesting (tree_of_branch item) → left < nesting (tree_of_branch node)
       item_deep deep =
-          subst (λ n. left < n) (sym (node-nesting rule.sequence node.rule node.span.start node.span.end (trees_in node.children) sequence_opened.is refl))
+          subst (λ n. left < n) (sym (node-nesting sequence_rule node.rule node.span.start node.span.end (trees_in node.children) sequence_opened.is refl))
           (so_far-deep item.rule item.span.start item.span.end (trees_in item.children) (trees_in item.rest) item_walk deep)
 
       pub item_bad : (fault : DefinitionsFault) → HasBadCount file (tree_of_branch item) fault → HasBadCount file (tree_of_branch node) fault
       item_bad fault bad =
-          bad-same file (trees_in node.children) (tree_of_branch node) (node-counts file rule.sequence node.rule node.span.start node.span.end (trees_in node.children) sequence_opened.is refl) fault
+          bad-same file (trees_in node.children) (tree_of_branch node) (node-counts file sequence_rule node.rule node.span.start node.span.end (trees_in node.children) sequence_opened.is refl) fault
           (so_far-bad item.rule item.span.start item.span.end (trees_in item.children) (trees_in item.rest) item_walk fault bad)
 
     module _ {list : List Form} {count last : ℕ} {rest : Trees} (walk : Items list count last rest) (none : rest ≡ NoTrees) where
@@ -99,21 +99,21 @@ module _ (file : List ℕ) (node : Branch) (before left : ℕ) (behind : before 
 
       pub items_nest : nesting (tree_of_branch node) ≤ left
       items_nest =
-          subst (λ n. n ≤ left) (sym (node-nesting rule.sequence node.rule node.span.start node.span.end (trees_in node.children) sequence_opened.is refl))
+          subst (λ n. n ≤ left) (sym (node-nesting sequence_rule node.rule node.span.start node.span.end (trees_in node.children) sequence_opened.is refl))
           (omega (arith, items_walk.limit))
 
       pub items_fine : bad_counts file (tree_of_branch node) ≡ []
       items_fine =
-          node-counts file rule.sequence node.rule node.span.start node.span.end (trees_in node.children) sequence_opened.is refl
+          node-counts file sequence_rule node.rule node.span.start node.span.end (trees_in node.children) sequence_opened.is refl
           ∙ items_walk.counts
 
   -- ---- Expression
 
   module _ (m : IsNode file (codes "Expression") node) where
-    expression_opened : Opened file rule.expression expression_body node.rule node.span.start node.span.end (trees_in node.children)
+    expression_opened : Opened file expression_rule expression_body node.rule node.span.start node.span.end (trees_in node.children)
     expression_opened = opened (codes "Expression") expression-meaning_of.1 m
 
-    expression_shape : Then_is file (codes "Sequence") rule.sequence (Alternatives file node.span.end) node.span.start (trees_in node.children)
+    expression_shape : Then_is file (codes "Sequence") sequence_rule (Alternatives file node.span.end) node.span.start (trees_in node.children)
     expression_shape = expression_children expression_opened.inside
 
     abbrev Choices : List Form → (count last : ℕ) → Trees → Type 0
@@ -123,8 +123,8 @@ module _ (file : List ℕ) (node : Branch) (before left : ℕ) (behind : before 
     expression_some = then_some _ _ _ _ _ _ expression_shape
 
     module _ (first : Branch) (is : trees_in node.children ≡ trees_from_branch first) where
-      first_here : Then_is file (codes "Sequence") rule.sequence (Alternatives file node.span.end) node.span.start (trees_from_branch first)
-      first_here = subst (Then_is file (codes "Sequence") rule.sequence (Alternatives file node.span.end) node.span.start) is expression_shape
+      first_here : Then_is file (codes "Sequence") sequence_rule (Alternatives file node.span.end) node.span.start (trees_from_branch first)
+      first_here = subst (Then_is file (codes "Sequence") sequence_rule (Alternatives file node.span.end) node.span.start) is expression_shape
 
       pub first_sequence : IsNode file (codes "Sequence") first
       first_sequence = first_here.2
@@ -147,7 +147,7 @@ module _ (file : List ℕ) (node : Branch) (before left : ℕ) (behind : before 
 
       pub first_bad : (fault : DefinitionsFault) → HasBadCount file (tree_of_branch first) fault → HasBadCount file (tree_of_branch node) fault
       first_bad fault bad =
-          bad-same file (trees_in node.children) (tree_of_branch node) (node-counts file rule.expression node.rule node.span.start node.span.end (trees_in node.children) expression_opened.is refl) fault
+          bad-same file (trees_in node.children) (tree_of_branch node) (node-counts file expression_rule node.rule node.span.start node.span.end (trees_in node.children) expression_opened.is refl) fault
           (so_far-bad first.rule first.span.start first.span.end (trees_in first.children) (trees_in first.rest)
           (subst (SoFar file before left (trees_in node.children) [] before) is (so_far-none file before left (trees_in node.children))) fault bad)
 
@@ -201,12 +201,12 @@ module _ (file : List ℕ) (node : Branch) (before left : ℕ) (behind : before 
 
         pub next_deep : left < nesting (tree_of_branch next) → left < nesting (tree_of_branch node)
         next_deep deep =
-            subst (λ n. left < n) (sym (node-nesting rule.expression node.rule node.span.start node.span.end (trees_in node.children) expression_opened.is refl))
+            subst (λ n. left < n) (sym (node-nesting expression_rule node.rule node.span.start node.span.end (trees_in node.children) expression_opened.is refl))
             (so_far-deep next.rule next.span.start next.span.end (trees_in next.children) (trees_in next.rest) slash_walk deep)
 
         pub next_bad : (fault : DefinitionsFault) → HasBadCount file (tree_of_branch next) fault → HasBadCount file (tree_of_branch node) fault
         next_bad fault bad =
-            bad-same file (trees_in node.children) (tree_of_branch node) (node-counts file rule.expression node.rule node.span.start node.span.end (trees_in node.children) expression_opened.is refl) fault
+            bad-same file (trees_in node.children) (tree_of_branch node) (node-counts file expression_rule node.rule node.span.start node.span.end (trees_in node.children) expression_opened.is refl) fault
             (so_far-bad next.rule next.span.start next.span.end (trees_in next.children) (trees_in next.rest) slash_walk fault bad)
 
     module _ {list : List Form} {count last : ℕ} {rest : Trees} (walk : Choices list count last rest) (none : rest ≡ NoTrees) where
@@ -220,10 +220,10 @@ module _ (file : List ℕ) (node : Branch) (before left : ℕ) (behind : before 
 
       pub choices_nest : nesting (tree_of_branch node) ≤ left
       choices_nest =
-          subst (λ n. n ≤ left) (sym (node-nesting rule.expression node.rule node.span.start node.span.end (trees_in node.children) expression_opened.is refl))
+          subst (λ n. n ≤ left) (sym (node-nesting expression_rule node.rule node.span.start node.span.end (trees_in node.children) expression_opened.is refl))
           (omega (arith, choices_walk.limit))
 
       pub choices_fine : bad_counts file (tree_of_branch node) ≡ []
       choices_fine =
-          node-counts file rule.expression node.rule node.span.start node.span.end (trees_in node.children) expression_opened.is refl
+          node-counts file expression_rule node.rule node.span.start node.span.end (trees_in node.children) expression_opened.is refl
           ∙ choices_walk.counts

@@ -6,7 +6,8 @@ use Rattle.peg_tree.specs.Trees.{Trees, NoTrees, Tree}
 use Rattle.peg_tree.specs.declared.forest.Branch.{Branch}
 use Rattle.peg_semantics.specs.Form.{Form, Name}
 use Rattle.peg_metagrammar.specs.Figure.{primary_body}
-use Rattle.peg_metagrammar.specs.FigureRules as rule
+use Rattle.peg_metagrammar.specs.FigureRules.{expression_rule, primary_rule, identifier_rule, literal_rule}
+use Rattle.peg_metagrammar.specs.FigureRules.{class_rule, open_sign_rule, close_rule}
 use Rattle.peg_metagrammar.specs.Nesting.{nesting, has_open}
 use Rattle.peg_metagrammar.specs.Denotation.{Denotation, Word, text_end, spelled, bad_count, bad_counts}
 use Rattle.peg_metagrammar.proofs.FigureNames.{primary-meaning_of}
@@ -24,7 +25,7 @@ use Rattle.peg_lexer.proofs.KindRules.{number_of}
 use Rattle.peg_bootstrap.proofs.TokenNodes.{Token, token}
 
 module _ (file : List ℕ) (node : Branch) (m : IsNode file (codes "Primary") node) where
-  primary_opened : Opened file rule.primary primary_body node.rule node.span.start node.span.end (trees_in node.children)
+  primary_opened : Opened file primary_rule primary_body node.rule node.span.start node.span.end (trees_in node.children)
   primary_opened = opened (codes "Primary") primary-meaning_of.1 m
 
   primary_shape : PrimaryChildren file node.span.end node.span.start (trees_in node.children)
@@ -58,7 +59,7 @@ module _ (file : List ℕ) (node : Branch) (m : IsNode file (codes "Primary") no
         → Then_is file name number next node.span.start (trees_in node.children) → first.rule ≡ number
     rule_from name number next shape = (subst (Then_is file name number next node.span.start) is shape).0
 
-    pub primary_word : first.rule ≡ rule.identifier → OneToken kind.Ident
+    pub primary_word : first.rule ≡ identifier_rule → OneToken kind.Ident
     primary_word known = by primary_shape
       where
         by : PrimaryChildren file node.span.end node.span.start (trees_in node.children) → OneToken kind.Ident
@@ -68,7 +69,7 @@ module _ (file : List ℕ) (node : Branch) (m : IsNode file (codes "Primary") no
         by (PrimaryChildren.class shape) = absurd (let bad : 11 ≡ 7 = sym (rule_from _ _ _ shape) ∙ known in cc)
         by (PrimaryChildren.dot shape) = absurd (let bad : 25 ≡ 7 = sym (rule_from _ _ _ shape) ∙ known in cc)
 
-    pub primary_literal : first.rule ≡ rule.literal → OneToken kind.Literal
+    pub primary_literal : first.rule ≡ literal_rule → OneToken kind.Literal
     primary_literal known = by primary_shape
       where
         by : PrimaryChildren file node.span.end node.span.start (trees_in node.children) → OneToken kind.Literal
@@ -78,7 +79,7 @@ module _ (file : List ℕ) (node : Branch) (m : IsNode file (codes "Primary") no
         by (PrimaryChildren.class shape) = absurd (let bad : 11 ≡ 10 = sym (rule_from _ _ _ shape) ∙ known in cc)
         by (PrimaryChildren.dot shape) = absurd (let bad : 25 ≡ 10 = sym (rule_from _ _ _ shape) ∙ known in cc)
 
-    pub primary_class : first.rule ≡ rule.class → OneToken kind.Class
+    pub primary_class : first.rule ≡ class_rule → OneToken kind.Class
     primary_class known = by primary_shape
       where
         by : PrimaryChildren file node.span.end node.span.start (trees_in node.children) → OneToken kind.Class
@@ -88,8 +89,8 @@ module _ (file : List ℕ) (node : Branch) (m : IsNode file (codes "Primary") no
         by (PrimaryChildren.literal shape) = absurd (let bad : 10 ≡ 11 = sym (rule_from _ _ _ shape) ∙ known in cc)
         by (PrimaryChildren.dot shape) = absurd (let bad : 25 ≡ 11 = sym (rule_from _ _ _ shape) ∙ known in cc)
 
-    pub primary_dot : first.rule ≢ rule.identifier → first.rule ≢ rule.open_sign → first.rule ≢ rule.literal
-        → first.rule ≢ rule.class → OneToken kind.Dot
+    pub primary_dot : first.rule ≢ identifier_rule → first.rule ≢ open_sign_rule → first.rule ≢ literal_rule
+        → first.rule ≢ class_rule → OneToken kind.Dot
     primary_dot a b c d = by primary_shape
       where
         by : PrimaryChildren file node.span.end node.span.start (trees_in node.children) → OneToken kind.Dot
@@ -100,11 +101,11 @@ module _ (file : List ℕ) (node : Branch) (m : IsNode file (codes "Primary") no
         by (PrimaryChildren.class shape) = absurd (d (rule_from _ _ _ shape))
 
     module _ {k : TokenKind} (one : OneToken k) where
-      pub primary_says : (before : ℕ) (f : Form) (last : ℕ) → ((l : ℕ) → Rattle.peg_metagrammar.specs.Denotation.node_spelled file rule.primary before node.span.start node.span.end l
+      pub primary_says : (before : ℕ) (f : Form) (last : ℕ) → ((l : ℕ) → Rattle.peg_metagrammar.specs.Denotation.node_spelled file primary_rule before node.span.start node.span.end l
           (Rattle.peg_metagrammar.specs.Denotation.Expression f ∷ []) ≡ Rattle.peg_metagrammar.specs.Denotation.Expression f ∷ [])
           → Builds file before (tree_of_branch first) f last → Builds file before (tree_of_branch node) f last
       primary_says before f last passes says =
-          node-passes file rule.primary node.rule node.span.start node.span.end (trees_in node.children) primary_opened.is refl
+          node-passes file primary_rule node.rule node.span.start node.span.end (trees_in node.children) primary_opened.is refl
           passes (subst (λ t. Builds file before t f last) (sym (one_child node first is one.none)) says)
 
       pub primary_name_says : (before : ℕ) (name : List ℕ) (span : Extent) (last : ℕ)
@@ -115,7 +116,7 @@ module _ (file : List ℕ) (node : Branch) (m : IsNode file (codes "Primary") no
           (ap (spelled file before) (one_child node first is one.none) ∙ pieces)
           (ap (text_end before) (one_child node first is one.none) ∙ ends)
 
-      pub primary_flat : (number_of k == rule.open_sign) ≡ false → nesting (tree_of_branch node) ≡ 0
+      pub primary_flat : (number_of k == open_sign_rule) ≡ false → nesting (tree_of_branch node) ≡ 0
       primary_flat apart =
           let t = token file k first.rule first.span.start first.span.end (trees_in first.children) one.match in
           let child = one_child node first is one.none in
@@ -126,12 +127,12 @@ module _ (file : List ℕ) (node : Branch) (m : IsNode file (codes "Primary") no
           → bad_counts file (tree_of_branch node) ≡ []
       primary_fine fine =
           let t = token file k first.rule first.span.start first.span.end (trees_in first.children) one.match in
-          node-counts file rule.primary node.rule node.span.start node.span.end (trees_in node.children) primary_opened.is refl
+          node-counts file primary_rule node.rule node.span.start node.span.end (trees_in node.children) primary_opened.is refl
           ∙ (ap (bad_counts file) (one_child node first is one.none) ∙ (t.counts ∙ fine first.span.start t.piece.spells))
 
   -- ---- parentheses
 
-  pub opens_from : (first : Branch) → trees_in node.children ≡ trees_from_branch first → first.rule ≡ rule.open_sign
+  pub opens_from : (first : Branch) → trees_in node.children ≡ trees_from_branch first → first.rule ≡ open_sign_rule
       → IsTrue (has_open (trees_in node.children))
   opens_from first is known =
       subst (λ t. IsTrue (has_open t)) (sym is)
@@ -139,9 +140,9 @@ module _ (file : List ℕ) (node : Branch) (m : IsNode file (codes "Primary") no
 
   module _ (opens : IsTrue (has_open (trees_in node.children))) where
     abbrev Inside : ℕ → Trees → Type 0
-    Inside = Then_is file (codes "Expression") rule.expression (Then_is file (codes "CLOSE") rule.close (Ends node.span.end))
+    Inside = Then_is file (codes "Expression") expression_rule (Then_is file (codes "CLOSE") close_rule (Ends node.span.end))
 
-    no_open : (k : TokenKind) → (number_of k == rule.open_sign) ≡ false
+    no_open : (k : TokenKind) → (number_of k == open_sign_rule) ≡ false
         → Then_is file (rule_of_kind k) (number_of k) (Ends node.span.end) node.span.start (trees_in node.children) → ⊥
     no_open k apart shape = by (trees_in node.children) opens shape
       where
@@ -152,11 +153,11 @@ module _ (file : List ℕ) (node : Branch) (m : IsNode file (codes "Primary") no
             let whole : has_open (Tree r s e c rest) ≡ false = ap (λ t. has_open (Tree r s e c t)) here.3.1 ∙ none in
             (let bad : false ≡ true = sym whole ∙ h in cc)
 
-    parenthesized_shape : Then_is file (codes "OPEN") rule.open_sign Inside node.span.start (trees_in node.children)
+    parenthesized_shape : Then_is file (codes "OPEN") open_sign_rule Inside node.span.start (trees_in node.children)
     parenthesized_shape = by primary_shape
       where
         by : PrimaryChildren file node.span.end node.span.start (trees_in node.children)
-            → Then_is file (codes "OPEN") rule.open_sign Inside node.span.start (trees_in node.children)
+            → Then_is file (codes "OPEN") open_sign_rule Inside node.span.start (trees_in node.children)
         by (PrimaryChildren.parentheses shape) = shape
         by (PrimaryChildren.name shape) = absurd (no_open kind.Ident refl shape)
         by (PrimaryChildren.literal shape) = absurd (no_open kind.Literal refl shape)
@@ -169,8 +170,8 @@ module _ (file : List ℕ) (node : Branch) (m : IsNode file (codes "Primary") no
         primary-nesting node.rule node.span.start node.span.end (trees_in node.children) true primary_opened.is opens
 
     module _ (opening : Branch) (is : trees_in node.children ≡ trees_from_branch opening) where
-      open_here : Then_is file (codes "OPEN") rule.open_sign Inside node.span.start (trees_from_branch opening)
-      open_here = subst (Then_is file (codes "OPEN") rule.open_sign Inside node.span.start) is parenthesized_shape
+      open_here : Then_is file (codes "OPEN") open_sign_rule Inside node.span.start (trees_from_branch opening)
+      open_here = subst (Then_is file (codes "OPEN") open_sign_rule Inside node.span.start) is parenthesized_shape
 
       open_token : Token file kind.Open opening.rule opening.span.start opening.span.end (trees_in opening.children)
       open_token = token file kind.Open opening.rule opening.span.start opening.span.end (trees_in opening.children) open_here.2
@@ -192,8 +193,8 @@ module _ (file : List ℕ) (node : Branch) (m : IsNode file (codes "Primary") no
         closing_some = then_some _ _ _ _ _ _ inside_here.3
 
         module _ (closing : Branch) (closing_is : trees_in inside.rest ≡ trees_from_branch closing) where
-          closing_here : Then_is file (codes "CLOSE") rule.close (Ends node.span.end) inside.span.end (trees_from_branch closing)
-          closing_here = subst (Then_is file (codes "CLOSE") rule.close (Ends node.span.end) inside.span.end) closing_is inside_here.3
+          closing_here : Then_is file (codes "CLOSE") close_rule (Ends node.span.end) inside.span.end (trees_from_branch closing)
+          closing_here = subst (Then_is file (codes "CLOSE") close_rule (Ends node.span.end) inside.span.end) closing_is inside_here.3
 
           closing_token : Token file kind.Close closing.rule closing.span.start closing.span.end (trees_in closing.children)
           closing_token = token file kind.Close closing.rule closing.span.start closing.span.end (trees_in closing.children) closing_here.2
@@ -232,7 +233,7 @@ module _ (file : List ℕ) (node : Branch) (m : IsNode file (codes "Primary") no
 
           pub inside_counts : bad_counts file (tree_of_branch node) ≡ bad_counts file (tree_of_branch inside)
           inside_counts =
-              node-counts file rule.primary node.rule node.span.start node.span.end (trees_in node.children) primary_opened.is refl
+              node-counts file primary_rule node.rule node.span.start node.span.end (trees_in node.children) primary_opened.is refl
               ∙ (ap (bad_counts file) all_is
               ∙ (counts-behind file opening.rule opening.span.start opening.span.end (trees_in opening.children)
               (Tree inside.rule inside.span.start inside.span.end (trees_in inside.children) (tree_of_branch closing)) open_token.counts

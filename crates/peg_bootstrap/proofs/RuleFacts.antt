@@ -7,7 +7,8 @@ use Rattle.peg_tree.specs.declared.forest.Branch.{Branch}
 use Rattle.peg_semantics.specs.Form.{Form}
 use Rattle.peg_semantics.specs.Rules.{Rule}
 use Rattle.peg_metagrammar.specs.Figure.{definition_body, grammar_body, end_of_file_body}
-use Rattle.peg_metagrammar.specs.FigureRules as rule
+use Rattle.peg_metagrammar.specs.FigureRules.{grammar_rule, definition_rule, expression_rule, identifier_rule}
+use Rattle.peg_metagrammar.specs.FigureRules.{leftarrow_rule, spacing_rule, end_of_file_rule}
 use Rattle.peg_metagrammar.specs.Nesting.{nesting, max_open}
 use Rattle.peg_metagrammar.specs.Denotation.{Word, Definition, rules_denoted, text_end, spelled, rules_spelled, bad_counts}
 use Rattle.peg_bootstrap.specs.declared.fault.DefinitionsFault.{DefinitionsFault}
@@ -30,24 +31,24 @@ use Rattle.peg_bootstrap.proofs.Walks.{Defining}
 -- ---- Definition
 
 module _ (file : List ℕ) (node : Branch) (m : IsNode file (codes "Definition") node) where
-  definition_opened : Opened file rule.definition definition_body node.rule node.span.start node.span.end (trees_in node.children)
+  definition_opened : Opened file definition_rule definition_body node.rule node.span.start node.span.end (trees_in node.children)
   definition_opened = opened (codes "Definition") definition-meaning_of.1 m
 
   abbrev Body : ℕ → Trees → Type 0
-  Body = Then_is file (codes "Expression") rule.expression (Ends node.span.end)
+  Body = Then_is file (codes "Expression") expression_rule (Ends node.span.end)
 
   abbrev Arrow : ℕ → Trees → Type 0
-  Arrow = Then_is file (codes "LEFTARROW") rule.leftarrow Body
+  Arrow = Then_is file (codes "LEFTARROW") leftarrow_rule Body
 
-  definition_shape : Then_is file (codes "Identifier") rule.identifier Arrow node.span.start (trees_in node.children)
+  definition_shape : Then_is file (codes "Identifier") identifier_rule Arrow node.span.start (trees_in node.children)
   definition_shape = definition_children definition_opened.inside
 
   pub name_some : trees_in node.children ≢ NoTrees
   name_some = then_some _ _ _ _ _ _ definition_shape
 
   module _ (name : Branch) (is : trees_in node.children ≡ trees_from_branch name) where
-    name_here : Then_is file (codes "Identifier") rule.identifier Arrow node.span.start (trees_from_branch name)
-    name_here = subst (Then_is file (codes "Identifier") rule.identifier Arrow node.span.start) is definition_shape
+    name_here : Then_is file (codes "Identifier") identifier_rule Arrow node.span.start (trees_from_branch name)
+    name_here = subst (Then_is file (codes "Identifier") identifier_rule Arrow node.span.start) is definition_shape
 
     pub name_identifier : IsNode file (codes "Identifier") name
     name_identifier = name_here.2
@@ -103,14 +104,14 @@ module _ (file : List ℕ) (node : Branch) (m : IsNode file (codes "Definition")
             let below = nesting-first name.rule name.span.start name.span.end (trees_in name.children)
             (Tree arrow.rule arrow.span.start arrow.span.end (trees_in arrow.children) (tree_of_branch body)) in
             let next = nesting-first arrow.rule arrow.span.start arrow.span.end (trees_in arrow.children) (tree_of_branch body) in
-            node-nesting rule.definition node.rule node.span.start node.span.end (trees_in node.children) definition_opened.is refl
+            node-nesting definition_rule node.rule node.span.start node.span.end (trees_in node.children) definition_opened.is refl
             ∙ (ap nesting all_is ∙ (let sum : nesting (Tree name.rule name.span.start name.span.end (trees_in name.children)
             (Tree arrow.rule arrow.span.start arrow.span.end (trees_in arrow.children) (tree_of_branch body))) ≡ nesting (tree_of_branch body) =
             omega (arith, below, next, name_token.flat, arrow_token.flat) in sum))
 
         pub rule_counts : bad_counts file (tree_of_branch node) ≡ bad_counts file (tree_of_branch body)
         rule_counts =
-            node-counts file rule.definition node.rule node.span.start node.span.end (trees_in node.children) definition_opened.is refl
+            node-counts file definition_rule node.rule node.span.start node.span.end (trees_in node.children) definition_opened.is refl
             ∙ (ap (bad_counts file) all_is
             ∙ (counts-behind file name.rule name.span.start name.span.end (trees_in name.children)
             (Tree arrow.rule arrow.span.start arrow.span.end (trees_in arrow.children) (tree_of_branch body)) name_token.counts
@@ -122,33 +123,33 @@ module _ (file : List ℕ) (node : Branch) (m : IsNode file (codes "Definition")
 pub tree_some : (file : List ℕ) (tree : Trees) → IsTreeOf file tree → tree ≢ NoTrees
 tree_some file tree m none =
     let node = node_matched grammar-meaning_of.1 m.1 in
-    let bad : NoTrees ≡ Tree rule.grammar 0 m.0 node.children NoTrees = sym none ∙ node.is in
+    let bad : NoTrees ≡ Tree grammar_rule 0 m.0 node.children NoTrees = sym none ∙ node.is in
     cc
 
 module _ (file : List ℕ) (tree : Trees) (m : IsTreeOf file tree) (root : Branch) (is : tree ≡ trees_from_branch root) where
-  grammar_node : Node file (codes "Grammar") rule.grammar grammar_body 0 m.0 tree
+  grammar_node : Node file (codes "Grammar") grammar_rule grammar_body 0 m.0 tree
   grammar_node = node_matched grammar-meaning_of.1 m.1
 
   grammar_same : grammar_node.children ≡ trees_in root.children
   grammar_same =
-      let one : trees_from_branch root ≡ Tree rule.grammar 0 m.0 grammar_node.children NoTrees = sym is ∙ grammar_node.is in cc
+      let one : trees_from_branch root ≡ Tree grammar_rule 0 m.0 grammar_node.children NoTrees = sym is ∙ grammar_node.is in cc
 
-  tree_is : tree ≡ Tree rule.grammar 0 m.0 (trees_in root.children) NoTrees
-  tree_is = grammar_node.is ∙ ap (λ t. Tree rule.grammar 0 m.0 t NoTrees) grammar_same
+  tree_is : tree ≡ Tree grammar_rule 0 m.0 (trees_in root.children) NoTrees
+  tree_is = grammar_node.is ∙ ap (λ t. Tree grammar_rule 0 m.0 t NoTrees) grammar_same
 
   abbrev Rules : ℕ → Trees → Type 0
-  Rules = Then_is file (codes "Definition") rule.definition (Definitions file m.0)
+  Rules = Then_is file (codes "Definition") definition_rule (Definitions file m.0)
 
-  grammar_shape : Then_is file (codes "Spacing") rule.spacing Rules 0 (trees_in root.children)
+  grammar_shape : Then_is file (codes "Spacing") spacing_rule Rules 0 (trees_in root.children)
   grammar_shape =
-      subst (Then_is file (codes "Spacing") rule.spacing Rules 0) grammar_same (grammar_children grammar_node.inside)
+      subst (Then_is file (codes "Spacing") spacing_rule Rules 0) grammar_same (grammar_children grammar_node.inside)
 
   pub spacing_some : trees_in root.children ≢ NoTrees
   spacing_some = then_some _ _ _ _ _ _ grammar_shape
 
   module _ (gap : Branch) (gap_is : trees_in root.children ≡ trees_from_branch gap) where
-    gap_here : Then_is file (codes "Spacing") rule.spacing Rules 0 (trees_from_branch gap)
-    gap_here = subst (Then_is file (codes "Spacing") rule.spacing Rules 0) gap_is grammar_shape
+    gap_here : Then_is file (codes "Spacing") spacing_rule Rules 0 (trees_from_branch gap)
+    gap_here = subst (Then_is file (codes "Spacing") spacing_rule Rules 0) gap_is grammar_shape
 
     pub rules_some : trees_in gap.rest ≢ NoTrees
     rules_some = then_some _ _ _ _ _ _ gap_here.3
@@ -163,9 +164,9 @@ module _ (file : List ℕ) (tree : Trees) (m : IsTreeOf file tree) (root : Branc
       first_rule : Rules gap.span.end (trees_from_branch node)
       first_rule = subst (Rules gap.span.end) node_is gap_here.3
 
-      whole_is : tree ≡ Tree rule.grammar 0 m.0 (Tree gap.rule gap.span.start gap.span.end (trees_in gap.children) (trees_from_branch node)) NoTrees
+      whole_is : tree ≡ Tree grammar_rule 0 m.0 (Tree gap.rule gap.span.start gap.span.end (trees_in gap.children) (trees_from_branch node)) NoTrees
       whole_is =
-          tree_is ∙ ap (λ t. Tree rule.grammar 0 m.0 t NoTrees)
+          tree_is ∙ ap (λ t. Tree grammar_rule 0 m.0 t NoTrees)
           (gap_is ∙ ap (Tree gap.rule gap.span.start gap.span.end (trees_in gap.children)) node_is)
 
       pub rules_none : Defining file tree [] (trees_from_branch node)
@@ -175,7 +176,7 @@ module _ (file : List ℕ) (tree : Trees) (m : IsTreeOf file tree) (root : Branc
           let flat : nesting (tree_of_branch gap) ≡ 0 = ap nesting gap_same ∙ it.flat in
           let nests = nesting-first gap.rule gap.span.start gap.span.end (trees_in gap.children) (trees_from_branch node) in
           let count : nesting tree ≡ nesting (trees_from_branch node) =
-          ap nesting whole_is ∙ (let sum : nesting (Tree rule.grammar 0 m.0 children NoTrees) ≡ nesting (trees_from_branch node) = omega (arith, nests, flat) in sum) in
+          ap nesting whole_is ∙ (let sum : nesting (Tree grammar_rule 0 m.0 children NoTrees) ≡ nesting (trees_from_branch node) = omega (arith, nests, flat) in sum) in
           record {
             end = m.0;
             position = gap.span.end;
@@ -197,7 +198,7 @@ module _ (file : List ℕ) (tree : Trees) (m : IsTreeOf file tree) (root : Branc
 
 module _ (file : List ℕ) (tree : Trees) (list : List Rule) (node : Branch) (walk : Defining file tree list (trees_from_branch node)) where
   -- one more definition, and the node after it
-  pub rules_one : node.rule ≡ rule.definition → (next : Branch) → trees_in node.rest ≡ trees_from_branch next → (more : Rule)
+  pub rules_one : node.rule ≡ definition_rule → (next : Branch) → trees_in node.rest ≡ trees_from_branch next → (more : Rule)
       → ((before : ℕ) → spelled file before (tree_of_branch node) ≡ Definition more ∷ []) → nesting (tree_of_branch node) ≤ max_open
       → bad_counts file (tree_of_branch node) ≡ [] → Defining file tree (list ++ more ∷ []) (trees_from_branch next)
   rules_one known next next_is more says within fine = by walk.shape
@@ -215,9 +216,9 @@ module _ (file : List ℕ) (tree : Trees) (list : List Rule) (node : Branch) (wa
   -- after the last definition the file ends
   record FileEnds : Type 0 where
     pub none : trees_from_branch node ≡ Tree node.rule node.span.start node.span.end NoTrees NoTrees
-    pub is : node.rule ≡ rule.end_of_file
+    pub is : node.rule ≡ end_of_file_rule
 
-  file_ends : node.rule ≢ rule.definition → FileEnds
+  file_ends : node.rule ≢ definition_rule → FileEnds
   unfolding end_of_file_body
   file_ends apart = by walk.shape
     where
@@ -232,16 +233,16 @@ module _ (file : List ℕ) (tree : Trees) (list : List Rule) (node : Branch) (wa
             is = it.is;
           }
 
-  last_is : node.rule ≢ rule.definition → trees_from_branch node ≡ Tree rule.end_of_file node.span.start node.span.end NoTrees NoTrees
+  last_is : node.rule ≢ definition_rule → trees_from_branch node ≡ Tree end_of_file_rule node.span.start node.span.end NoTrees NoTrees
   last_is apart =
       let ends = file_ends apart in
       ends.none ∙ ap (λ n. Tree n node.span.start node.span.end NoTrees NoTrees) ends.is
 
-  pub rules_all : node.rule ≢ rule.definition → list ≡ rules_spelled file tree
+  pub rules_all : node.rule ≢ definition_rule → list ≡ rules_spelled file tree
   rules_all apart =
       sym (walk.so_far.spells ∙ (ap (λ t. list ++ rules_denoted (spelled file walk.so_far.last t)) (last_is apart) ∙ append-nil list))
 
-  pub rules_nest : node.rule ≢ rule.definition → nesting tree ≤ max_open
+  pub rules_nest : node.rule ≢ definition_rule → nesting tree ≤ max_open
   rules_nest apart =
       let flat : nesting (trees_from_branch node) ≡ 0 = ap nesting (last_is apart) in
       omega (arith, walk.so_far.limit, flat)
@@ -252,5 +253,5 @@ module _ (file : List ℕ) (tree : Trees) (list : List Rule) (node : Branch) (wa
       bad-more file (tree_of_branch node) tree (bad_counts file (trees_in node.rest))
       (walk.so_far.counts ∙ counts-first file node.rule node.span.start node.span.end (trees_in node.children) (trees_in node.rest))
 
-  pub rules_fine : node.rule ≢ rule.definition → bad_counts file tree ≡ []
+  pub rules_fine : node.rule ≢ definition_rule → bad_counts file tree ≡ []
   rules_fine apart = walk.so_far.counts ∙ ap (bad_counts file) (last_is apart)

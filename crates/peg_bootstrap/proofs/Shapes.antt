@@ -7,7 +7,11 @@ use Rattle.peg_semantics.specs.Record.{Recognition, Matched}
 use Rattle.peg_semantics.specs.Rules.{meaning_of}
 use Rattle.peg_semantics.proofs.Derivations.{Derives, DerivesItems}
 use Rattle.peg_metagrammar.specs.Figure.{figure, grammar_body, definition_body, expression_body, sequence_body, prefix_body, suffix_body, primary_body}
-use Rattle.peg_metagrammar.specs.FigureRules as rule
+use Rattle.peg_metagrammar.specs.FigureRules.{definition_rule, expression_rule, sequence_rule, prefix_rule}
+use Rattle.peg_metagrammar.specs.FigureRules.{suffix_rule, primary_rule, identifier_rule, literal_rule, class_rule}
+use Rattle.peg_metagrammar.specs.FigureRules.{leftarrow_rule, slash_rule, and_sign_rule, not_sign_rule, question_rule}
+use Rattle.peg_metagrammar.specs.FigureRules.{star_rule, plus_rule, count_rule, open_sign_rule, close_rule, dot_rule}
+use Rattle.peg_metagrammar.specs.FigureRules.{spacing_rule, end_of_file_rule}
 use Rattle.peg_metagrammar.specs.Notation.{Matches}
 use Rattle.peg_metagrammar.proofs.FigureNames.{definition-meaning_of, expression-meaning_of, sequence-meaning_of, prefix-meaning_of, suffix-meaning_of, primary-meaning_of, identifier-meaning_of, literal-meaning_of, class-meaning_of, leftarrow-meaning_of, slash-meaning_of, and_sign-meaning_of, not_sign-meaning_of, question-meaning_of, star-meaning_of, plus-meaning_of, count-meaning_of, open_sign-meaning_of, close-meaning_of, dot-meaning_of, spacing-meaning_of, end_of_file-meaning_of}
 use Rattle.peg_bootstrap.proofs.Inversions.{Node, node_of, first_of, items_of, none_of, first_matched, either_of, only_of, optional_of, plus_of, not_of}
@@ -64,7 +68,7 @@ followed-none (Tree r start end children rest) = ap (Tree r start end children) 
 abbrev pub Prefixes : List ℕ → (end position : ℕ) → Trees → Type 0
 Prefixes file end position NoTrees = position ≡ end
 Prefixes file end position (Tree number start middle children rest) =
-    (number ≡ rule.prefix) × (start ≡ position)
+    (number ≡ prefix_rule) × (start ≡ position)
     × Matches file (codes "Prefix") start middle (Tree number start middle children NoTrees) × Prefixes file end middle rest
 
 no_prefixes : (file : List ℕ) (position end : ℕ) (trees : Trees) → Matched position NoTrees ≡ Matched end trees
@@ -98,8 +102,8 @@ abbrev pub Alternatives : List ℕ → (end position : ℕ) → Trees → Type 0
 Alternatives file end position NoTrees = position ≡ end
 Alternatives file end position (Tree slash start middle children NoTrees) = ⊥
 Alternatives file end position (Tree slash start middle children (Tree number second last below rest)) =
-    (slash ≡ rule.slash) × (start ≡ position) × Matches file (codes "SLASH") start middle (Tree slash start middle children NoTrees)
-    × (number ≡ rule.sequence) × (second ≡ middle)
+    (slash ≡ slash_rule) × (start ≡ position) × Matches file (codes "SLASH") start middle (Tree slash start middle children NoTrees)
+    × (number ≡ sequence_rule) × (second ≡ middle)
     × Matches file (codes "Sequence") second last (Tree number second last below NoTrees) × Alternatives file end last rest
 
 no_alternatives : (file : List ℕ) (position end : ℕ) (trees : Trees) → Matched position NoTrees ≡ Matched end trees
@@ -111,7 +115,7 @@ no_alternatives file position end trees is =
 
 -- a slash and a sequence in front of alternatives
 one_alternative : (file : List ℕ) (end position : ℕ) (rest : Trees) (trees : Trees) (middle : ℕ)
-    → Then_is file (codes "SLASH") rule.slash (Then_is file (codes "Sequence") rule.sequence (Ends middle)) position trees
+    → Then_is file (codes "SLASH") slash_rule (Then_is file (codes "Sequence") sequence_rule (Ends middle)) position trees
     → Alternatives file end middle rest → Alternatives file end position (followed_by trees rest)
 one_alternative file end position rest NoTrees middle is behind = absurd is
 one_alternative file end position rest (Tree slash start mid children NoTrees) middle is behind = absurd is.3
@@ -128,13 +132,13 @@ alternatives {file} {position = position} (Derives.star_none d) end trees is = n
 alternatives {file} {position = position} (Derives.star_more {middle = middle} {end = last} {first = one} {more = more} {trees = all} d rest t) end trees is =
     let ends : last ≡ end = cc in
     let same : trees ≡ all = cc in
-    let pair = name_then slash-meaning_of.1 (Then_is file (codes "Sequence") rule.sequence (Ends middle)) (items_of d) middle one refl
+    let pair = name_then slash-meaning_of.1 (Then_is file (codes "Sequence") sequence_rule (Ends middle)) (items_of d) middle one refl
     (λ n more items. name_then sequence-meaning_of.1 (Ends middle) items middle more refl (λ n more none. at_end more none)) in
     subst (Alternatives file end position) (sym (same ∙ t))
     (one_alternative file end position more one middle pair (subst (λ n. Alternatives file n middle more) ends (alternatives rest last more refl)))
 
 pub expression_children : {file : List ℕ} {position end : ℕ} {trees : Trees} → Derives figure file expression_body position (Matched end trees)
-    → Then_is file (codes "Sequence") rule.sequence (Alternatives file end) position trees
+    → Then_is file (codes "Sequence") sequence_rule (Alternatives file end) position trees
 unfolding expression_body
 expression_children {file} {end = end} {trees} d =
     name_then sequence-meaning_of.1 (Alternatives file end) (items_of d) end trees refl (λ middle more items.
@@ -147,10 +151,10 @@ expression_children {file} {end = end} {trees} d =
 -- ---- Prefix and Suffix
 
 pub data PrefixChildren (file : List ℕ) (end position : ℕ) (trees : Trees) : Type 0 where
-  plain : Then_is file (codes "Suffix") rule.suffix (Ends end) position trees → PrefixChildren file end position trees
-  and_before : Then_is file (codes "AND") rule.and_sign (Then_is file (codes "Suffix") rule.suffix (Ends end)) position trees
+  plain : Then_is file (codes "Suffix") suffix_rule (Ends end) position trees → PrefixChildren file end position trees
+  and_before : Then_is file (codes "AND") and_sign_rule (Then_is file (codes "Suffix") suffix_rule (Ends end)) position trees
       → PrefixChildren file end position trees
-  not_before : Then_is file (codes "NOT") rule.not_sign (Then_is file (codes "Suffix") rule.suffix (Ends end)) position trees
+  not_before : Then_is file (codes "NOT") not_sign_rule (Then_is file (codes "Suffix") suffix_rule (Ends end)) position trees
       → PrefixChildren file end position trees
 
 pub prefix_children : {file : List ℕ} {position end : ℕ} {trees : Trees} → Derives figure file prefix_body position (Matched end trees)
@@ -158,19 +162,19 @@ pub prefix_children : {file : List ℕ} {position end : ℕ} {trees : Trees} →
 unfolding prefix_body
 prefix_children {file} {position} {end} {trees} d =
     let sign = first_of (items_of d) end trees refl in
-    let suffix : Then_is file (codes "Suffix") rule.suffix (Ends end) sign.middle sign.more =
+    let suffix : Then_is file (codes "Suffix") suffix_rule (Ends end) sign.middle sign.more =
     name_then suffix-meaning_of.1 (Ends end) sign.rest end sign.more refl (λ n more none. at_end more none) in
     elim (optional_of sign.item sign.middle sign.one refl) [
       | inr none ↦ PrefixChildren.plain
-          (subst (λ n. Then_is file (codes "Suffix") rule.suffix (Ends end) n trees) (sym none.0)
-          (subst (Then_is file (codes "Suffix") rule.suffix (Ends end) sign.middle)
+          (subst (λ n. Then_is file (codes "Suffix") suffix_rule (Ends end) n trees) (sym none.0)
+          (subst (Then_is file (codes "Suffix") suffix_rule (Ends end) sign.middle)
           (sym (sign.is ∙ ap (λ (y : Trees). followed_by y sign.more) none.1)) suffix))
       | inl some ↦ elim (either_of (first_matched some) sign.middle sign.one refl) [
         | inl one ↦ PrefixChildren.and_before
-            (subst (Then_is file (codes "AND") rule.and_sign (Then_is file (codes "Suffix") rule.suffix (Ends end)) position) (sym sign.is)
+            (subst (Then_is file (codes "AND") and_sign_rule (Then_is file (codes "Suffix") suffix_rule (Ends end)) position) (sym sign.is)
             (node_then _ sign.more (node_of and_sign-meaning_of.1 one sign.middle sign.one refl) suffix))
         | inr other ↦ PrefixChildren.not_before
-            (subst (Then_is file (codes "NOT") rule.not_sign (Then_is file (codes "Suffix") rule.suffix (Ends end)) position) (sym sign.is)
+            (subst (Then_is file (codes "NOT") not_sign_rule (Then_is file (codes "Suffix") suffix_rule (Ends end)) position) (sym sign.is)
             (node_then _ sign.more (node_of not_sign-meaning_of.1 (only_of other) sign.middle sign.one refl) suffix))
       ]
     ]
@@ -178,13 +182,13 @@ prefix_children {file} {position} {end} {trees} d =
 -- nothing, or an operator
 pub data SuffixRest (file : List ℕ) (end position : ℕ) (trees : Trees) : Type 0 where
   nothing : Ends end position trees → SuffixRest file end position trees
-  question : Then_is file (codes "QUESTION") rule.question (Ends end) position trees → SuffixRest file end position trees
-  star : Then_is file (codes "STAR") rule.star (Ends end) position trees → SuffixRest file end position trees
-  plus : Then_is file (codes "PLUS") rule.plus (Ends end) position trees → SuffixRest file end position trees
-  count : Then_is file (codes "COUNT") rule.count (Ends end) position trees → SuffixRest file end position trees
+  question : Then_is file (codes "QUESTION") question_rule (Ends end) position trees → SuffixRest file end position trees
+  star : Then_is file (codes "STAR") star_rule (Ends end) position trees → SuffixRest file end position trees
+  plus : Then_is file (codes "PLUS") plus_rule (Ends end) position trees → SuffixRest file end position trees
+  count : Then_is file (codes "COUNT") count_rule (Ends end) position trees → SuffixRest file end position trees
 
 pub suffix_children : {file : List ℕ} {position end : ℕ} {trees : Trees} → Derives figure file suffix_body position (Matched end trees)
-    → Then_is file (codes "Primary") rule.primary (SuffixRest file end) position trees
+    → Then_is file (codes "Primary") primary_rule (SuffixRest file end) position trees
 unfolding suffix_body
 suffix_children {file} {end = end} {trees} d =
     name_then primary-meaning_of.1 (SuffixRest file end) (items_of d) end trees refl (λ middle more items.
@@ -214,12 +218,12 @@ suffix_children {file} {end = end} {trees} d =
 -- ---- Primary
 
 pub data PrimaryChildren (file : List ℕ) (end position : ℕ) (trees : Trees) : Type 0 where
-  name : Then_is file (codes "Identifier") rule.identifier (Ends end) position trees → PrimaryChildren file end position trees
-  parentheses : Then_is file (codes "OPEN") rule.open_sign (Then_is file (codes "Expression") rule.expression
-      (Then_is file (codes "CLOSE") rule.close (Ends end))) position trees → PrimaryChildren file end position trees
-  literal : Then_is file (codes "Literal") rule.literal (Ends end) position trees → PrimaryChildren file end position trees
-  class : Then_is file (codes "Class") rule.class (Ends end) position trees → PrimaryChildren file end position trees
-  dot : Then_is file (codes "DOT") rule.dot (Ends end) position trees → PrimaryChildren file end position trees
+  name : Then_is file (codes "Identifier") identifier_rule (Ends end) position trees → PrimaryChildren file end position trees
+  parentheses : Then_is file (codes "OPEN") open_sign_rule (Then_is file (codes "Expression") expression_rule
+      (Then_is file (codes "CLOSE") close_rule (Ends end))) position trees → PrimaryChildren file end position trees
+  literal : Then_is file (codes "Literal") literal_rule (Ends end) position trees → PrimaryChildren file end position trees
+  class : Then_is file (codes "Class") class_rule (Ends end) position trees → PrimaryChildren file end position trees
+  dot : Then_is file (codes "DOT") dot_rule (Ends end) position trees → PrimaryChildren file end position trees
 
 pub primary_children : {file : List ℕ} {position end : ℕ} {trees : Trees} → Derives figure file primary_body position (Matched end trees)
     → PrimaryChildren file end position trees
@@ -249,8 +253,8 @@ primary_children {file} {position} {end} {trees} d =
 -- ---- Definition and Grammar
 
 pub definition_children : {file : List ℕ} {position end : ℕ} {trees : Trees} → Derives figure file definition_body position (Matched end trees)
-    → Then_is file (codes "Identifier") rule.identifier (Then_is file (codes "LEFTARROW") rule.leftarrow
-    (Then_is file (codes "Expression") rule.expression (Ends end))) position trees
+    → Then_is file (codes "Identifier") identifier_rule (Then_is file (codes "LEFTARROW") leftarrow_rule
+    (Then_is file (codes "Expression") expression_rule (Ends end))) position trees
 unfolding definition_body
 definition_children {file} {end = end} {trees} d =
     name_then identifier-meaning_of.1 _ (items_of d) end trees refl
@@ -261,9 +265,9 @@ definition_children {file} {end = end} {trees} d =
 abbrev pub Definitions : List ℕ → (end position : ℕ) → Trees → Type 0
 Definitions file end position NoTrees = ⊥
 Definitions file end position (Tree number start middle children rest) =
-    ((number ≡ rule.definition) × (start ≡ position)
+    ((number ≡ definition_rule) × (start ≡ position)
     × Matches file (codes "Definition") start middle (Tree number start middle children NoTrees) × Definitions file end middle rest)
-    ⊎ Then_is file (codes "EndOfFile") rule.end_of_file (Ends end) position (Tree number start middle children rest)
+    ⊎ Then_is file (codes "EndOfFile") end_of_file_rule (Ends end) position (Tree number start middle children rest)
 
 -- trees of definitions, in front of the end of the file
 definitions : {file : List ℕ} {inner outer : Extent} {position : ℕ} {x : Recognition}
@@ -284,23 +288,23 @@ definitions {file} {position = position} (Derives.star_more {middle = mid} {end 
     (inl (refl, refl, node.match, next))
 
 -- the end of the file, with nothing after it
-file_end : (file : List ℕ) (end position : ℕ) (trees : Trees) → Then_is file (codes "EndOfFile") rule.end_of_file (Ends end) position trees
+file_end : (file : List ℕ) (end position : ℕ) (trees : Trees) → Then_is file (codes "EndOfFile") end_of_file_rule (Ends end) position trees
     → Definitions file end position trees
 file_end file end position NoTrees is = absurd is
 file_end file end position (Tree number start middle children rest) is = inr is
 
 pub grammar_children : {file : List ℕ} {position end : ℕ} {trees : Trees} → Derives figure file grammar_body position (Matched end trees)
-    → Then_is file (codes "Spacing") rule.spacing (Then_is file (codes "Definition") rule.definition (Definitions file end)) position trees
+    → Then_is file (codes "Spacing") spacing_rule (Then_is file (codes "Definition") definition_rule (Definitions file end)) position trees
 unfolding grammar_body
 grammar_children {file} {end = end} {trees} d =
     name_then spacing-meaning_of.1 _ (items_of d) end trees refl (λ middle more items.
     let plus = first_of items end more refl in
     let rules = plus_of plus.item plus.middle plus.one refl in
-    let last : Then_is file (codes "EndOfFile") rule.end_of_file (Ends end) plus.middle plus.more =
+    let last : Then_is file (codes "EndOfFile") end_of_file_rule (Ends end) plus.middle plus.more =
     name_then end_of_file-meaning_of.1 (Ends end) plus.rest end plus.more refl (λ n more none. at_end more none) in
     let node = node_of definition-meaning_of.1 rules.item rules.middle rules.one refl in
     let next = definitions rules.rest plus.middle rules.more refl end plus.more (file_end file end plus.middle plus.more last) in
-    subst (Then_is file (codes "Definition") rule.definition (Definitions file end) middle)
+    subst (Then_is file (codes "Definition") definition_rule (Definitions file end) middle)
     (sym (plus.is ∙ ap (λ (y : Trees). followed_by y plus.more)
     (rules.is ∙ ap (λ (y : Trees). followed_by y rules.more) node.is)))
     (refl, refl, node.match, next))

@@ -9,7 +9,7 @@ use Rattle.peg_semantics.specs.Form.{Form, Forms, Name, Seq, End, Then}
 use Rattle.peg_semantics.specs.Record.{Failed, Matched}
 use Rattle.peg_semantics.proofs.Derivations.{Derives, DerivesItems, one_result}
 use Rattle.peg_metagrammar.specs.Figure.{figure, identifier_body, literal_body, class_body, count_body}
-use Rattle.peg_metagrammar.specs.FigureRules as rule
+use Rattle.peg_metagrammar.specs.FigureRules.{spacing_rule}
 use Rattle.peg_metagrammar.specs.Nesting.{nesting, has_open}
 use Rattle.peg_metagrammar.specs.Notation.{Matches}
 use Rattle.peg_metagrammar.specs.Denotation.{text_end, node_spelled, spelled, bad_count, bad_counts}
@@ -52,7 +52,7 @@ spaced_items End last end trees d = absurd last
 spaced_items {file} (Then item End) {position} last end trees d =
     let first = first_of d end trees refl in
     let none = none_of first.rest end first.more refl in
-    let node : Node file (codes "Spacing") rule.spacing _ position first.middle first.one =
+    let node : Node file (codes "Spacing") spacing_rule _ position first.middle first.one =
     node_of spacing-meaning_of.1 (subst (λ (e : Form). Derives figure file e position (Matched first.middle first.one)) last.1 first.item)
     first.middle first.one refl in
     subst Spaced (sym (first.is ∙ (ap (followed_by first.one) none.1 ∙ (followed-none first.one ∙ node.is)))) (λ p before. refl)
@@ -71,7 +71,7 @@ pub record SpacedNode (wanted rule position end : ℕ) (children : Trees) : Type
   pub below : Spaced children
   pub text : (before : ℕ) → text_end before (Tree rule position end children NoTrees) ≡ text_end before children
 
-spaced_from : {file used : List ℕ} {number position end r : ℕ} {body : Form} {children : Trees} → (number == rule.spacing) ≡ false
+spaced_from : {file used : List ℕ} {number position end r : ℕ} {body : Form} {children : Trees} → (number == spacing_rule) ≡ false
     → (node : Node file used number body position end (Tree r position end children NoTrees)) → Spaced node.children
     → SpacedNode number r position end children
 spaced_from {number = number} {position} {end} {r} {children = children} apart node last =
@@ -85,7 +85,7 @@ spaced_from {number = number} {position} {end} {r} {children = children} apart n
     }
 
 spaced_node : {file used : List ℕ} {number position end : ℕ} {items : Forms} {span : Extent} {r : ℕ} {children : Trees}
-    → (number == rule.spacing) ≡ false → EndsSpaced items
+    → (number == spacing_rule) ≡ false → EndsSpaced items
     → Node file used number (Seq items span) position end (Tree r position end children NoTrees) → SpacedNode number r position end children
 spaced_node {end = end} apart last node = spaced_from apart node (spaced_seq last end node.children node.inside)
 

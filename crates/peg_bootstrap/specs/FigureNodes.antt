@@ -1,7 +1,7 @@
 -- Describes code: nodes of a metagrammar tree over a file.
 use Rattle.std.specs.Prelude.{ℕ, List, if◌then◌else◌, ◌==◌}
 use Rattle.peg_bytes.specs.Extent.{Extent}
-use Rattle.peg_metagrammar.specs.FigureRules as figure
+use Rattle.peg_metagrammar.specs.FigureRules.{and_sign_rule, not_sign_rule, question_rule, star_rule}
 use Rattle.peg_metagrammar.specs.Notation.{Matches, IsFirstBadCount}
 use Rattle.peg_semantics.specs.Form.{Form, And, Not, Optional, Star, Plus}
 use Rattle.peg_tree.specs.Branches.{tree_of_branch}
@@ -22,10 +22,10 @@ last_start position (Tree rule start end children rest) = last_start start rest
 -- the expression that the operator of this rule makes of another one
 abbrev pub sign_form : (rule : ℕ) → Form → Extent → Form
 sign_form rule =
-    if rule == figure.and_sign then And
-    else (if rule == figure.not_sign then Not
-    else (if rule == figure.question then Optional
-    else (if rule == figure.star then Star else Plus)))
+    if rule == and_sign_rule then And
+    else (if rule == not_sign_rule then Not
+    else (if rule == question_rule then Optional
+    else (if rule == star_rule then Star else Plus)))
 
 -- a fault that names a count names the first one of the trees that is out of range
 abbrev pub HasBadCount : List ℕ → Trees → DefinitionsFault → Type 0

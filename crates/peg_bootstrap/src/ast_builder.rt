@@ -12,10 +12,10 @@ use crate::expressions::{
     BuiltExpr, Expressions, RuleName, any_of, class_of, literal_of, with_operator,
 };
 use crate::fault::DefinitionsFault;
-use crate::rules::{CLASS, COUNT, IDENTIFIER, LITERAL, OPEN, SUFFIX};
 use peg_bytes::Span;
 use peg_grammar::Expr;
 use peg_lexer::{class_of_token, count_bounds, literal_bytes, name_text};
+use peg_metagrammar::rule_numbers::{CLASS, COUNT, IDENTIFIER, LITERAL, OPEN, SUFFIX};
 use peg_tree::Branch;
 use std::alloc::{AllocError, Global};
 

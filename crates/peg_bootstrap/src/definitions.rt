@@ -10,9 +10,9 @@ ghost use Rattle.peg_tree.specs.Branches.{tree_of_branch};
 use crate::ast_builder::{AstBuilder, token_end};
 use crate::fault::DefinitionsFault;
 use crate::nesting::nests_within;
-use crate::rules::DEFINITION;
 use peg_grammar::Definition;
 use peg_metagrammar::MAX_OPEN;
+use peg_metagrammar::rule_numbers::DEFINITION;
 use peg_tree::{Branch, Tree};
 use std::alloc::Global;
 

@@ -7,9 +7,10 @@ ghost use Rattle.peg_semantics.specs.Form.{Name, Literal, Class, Any};
 ghost use Rattle.peg_grammar.specs.Written.{form_of};
 ghost use Rattle.peg_bootstrap.specs.FigureNodes.{sign_form};
 
-use crate::rules::{AND, NOT, QUESTION, STAR};
 use peg_bytes::{ByteSet, Span};
 use peg_grammar::Expr;
+use peg_metagrammar::rule_numbers::{AND, NOT, QUESTION, STAR};
+use peg_metagrammar::{choice_of, sequence_of};
 use std::alloc::{AllocError, Global};
 
 /// An expression that a node denotes.
@@ -133,22 +134,11 @@ impl Expressions {
             ≡ sequence_spelled before (between start self.last) (map form_of self.list.items) }
         ensures last { result.last ≡ self.last }
     {
-        let Expressions { mut list, last } = self;
-        let expression = if list.len() > 1 {
-            Expr::Seq {
-                items: list,
-                span: Span::new(start, last),
-            }
-        } else {
-            match list.pop() {
-                Some(only) => only,
-                None => Expr::Seq {
-                    items: list,
-                    span: Span::new(before, before),
-                },
-            }
-        };
-        BuiltExpr { expression, last }
+        let Expressions { list, last } = self;
+        BuiltExpr {
+            expression: sequence_of(list, before, start, last),
+            last,
+        }
     }
 
     /// Returns the choice of a first expression and these, from the offset `start`. Without these it is the first one
@@ -165,15 +155,9 @@ impl Expressions {
         ensures last { IfOk result (λ part. part.last ≡ self.last) }
     {
         let Expressions { list, last } = self;
-        let expression = if list.is_empty() {
-            first
-        } else {
-            Expr::Choice {
-                first: Box::new(alloc, first)?,
-                rest: list,
-                span: Span::new(start, last),
-            }
-        };
-        Ok(BuiltExpr { expression, last })
+        Ok(BuiltExpr {
+            expression: choice_of(alloc, first, list, start, last)?,
+            last,
+        })
     }
 }

@@ -6,7 +6,6 @@ mod definitions;
 mod expressions;
 mod fault;
 mod nesting;
-mod rules;
 
 pub use definitions::definitions_of;
 pub use fault::DefinitionsFault;

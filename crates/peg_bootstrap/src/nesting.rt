@@ -3,7 +3,7 @@ ghost use Rattle.std.specs.Prelude.{◌≡◌, ◌≤◌, ◌↔◌, IsTrue};
 ghost use Rattle.peg_metagrammar.specs.Nesting.{nesting, has_open};
 ghost use Rattle.peg_tree.specs.Branches.{trees_in};
 
-use crate::rules::{OPEN, PRIMARY};
+use peg_metagrammar::rule_numbers::{OPEN, PRIMARY};
 use peg_tree::Forest;
 
 /// Returns whether at most `left` parentheses of the trees are open at once. The recursion is as deep as the trees, a

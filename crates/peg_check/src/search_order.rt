@@ -8,11 +8,18 @@ ghost use Rattle.peg_check.specs.declared.dependency.Dependency.{Dependency};
 use crate::dependency::Dependency;
 use std::alloc::{AllocError, Global};
 
-/// A visit of a form: entering it, or leaving it after all its dependencies were entered.
+/// A visit of the form with this number.
 #[derive(Clone, Copy)]
 pub(crate) struct Visit {
     number: u32,
-    leaves: bool,
+    kind: VisitKind,
+}
+
+/// Whether a visit enters a form, or exits it after all its dependencies were entered.
+#[derive(Clone, Copy)]
+pub(crate) enum VisitKind {
+    Enter,
+    Exit,
 }
 
 /// Returns the forms in postorder. The dependencies of a form come before it, except for those on a cycle with it.
@@ -29,8 +36,8 @@ pub(crate) fn postorder(
     let mut order = Vec::new(alloc);
     let mut entered = vec![in alloc; false; well_formedness.len()]?;
     let mut visits = entered_all(alloc, well_formedness.len())?;
-    'visits: while let Some(Visit { number, leaves }) = visits.pop() {
-        if leaves {
+    'visits: while let Some(Visit { number, kind }) = visits.pop() {
+        if matches!(kind, VisitKind::Exit) {
             order.push(number)?;
             continue;
         }
@@ -60,11 +67,11 @@ fn enter(number: u32) -> Visit
 {
     Visit {
         number,
-        leaves: false,
+        kind: VisitKind::Enter,
     }
 }
 
-// Pushes the visit that leaves a form, then those that enter its dependencies.
+// Pushes the visit that exits a form, then those that enter its dependencies.
 fn visit_parts(dep: Dependency, number: u32, visits: &mut Vec<Visit>) -> Result<(), AllocError>
     ensures fit { OnOk result ((count : ℕ) → number < count → DepFits count dep → AreVisits count visits.old.items
         → AreVisits count visits.new.items) }
@@ -72,7 +79,7 @@ fn visit_parts(dep: Dependency, number: u32, visits: &mut Vec<Visit>) -> Result<
 {
     visits.push(Visit {
         number,
-        leaves: true,
+        kind: VisitKind::Exit,
     })?;
     match dep {
         Dependency::Constant(_) => {}

@@ -1,12 +1,13 @@
 -- The classes of the metagrammar, as tests of a byte.
-use Rattle.std.proofs.Common.{◌≡◌, ℕ, ◌<◌, ◌≤◌, Bool, true, false, ◌&&◌, ◌||◌, ◌==◌, nat_le, List, [], ◌∷◌, arith, refl, sym, ap, ◌∙◌, inl, inr, lit<}
+use Rattle.std.proofs.Common.{◌≡◌, ℕ, ◌<◌, ◌≤◌, Bool, true, false, is_some, Some, if◌then◌else◌, ◌&&◌, ◌||◌, ◌==◌, nat_le, List, [], ◌∷◌, arith, refl, sym, ap, ◌∙◌, inl, inr, lit<}
 use Rattle.std.proofs.lemmas.Bool.{cases_lt}
 use Rattle.std.proofs.lemmas.Bool.Decides.{nat_tests}
 use Rattle.std.proofs.lemmas.List.{get_or_past}
 use Rattle.std.proofs.lemmas.List.FromFn.{length-map-range_with_len, get_or-map-range_with_len}
 use Rattle.peg_bytes.specs.ByteSet.{has}
-use Rattle.peg_lexer.specs.Lexical.{begins_name, is_simple_escape, is_hexadecimal, is_quote}
+use Rattle.peg_lexer.specs.Lexical.{begins_name, is_hexadecimal, is_quote}
 use Rattle.peg_metagrammar.specs.Ranges.{Range, range, holds, in_ranges, class_of}
+use Rattle.peg_metagrammar.specs.SimpleEscapes.{SimpleEscape, simple_escapes, byte_escaped, is_simple_escape, escaped_ranges}
 
 -- all ranges are ranges of bytes
 abbrev pub AreSmall : List Range → Type 0
@@ -66,19 +67,21 @@ has_hexadecimal byte =
     has-class_of (range 48 57 ∷ range 97 102 ∷ range 65 70 ∷ []) (lit< tt, (lit< tt, (lit< tt, tt))) byte
     ∙ ap (λ t. holds byte (range 48 57) || (holds byte (range 97 102) || t)) (last_range (range 65 70) byte)
 
-pub has_sign : (byte : ℕ) → has (class_of (range 110 110 ∷ range 114 114 ∷ range 116 116 ∷ range 39 39 ∷ range 34 34 ∷
-    range 91 91 ∷ range 93 93 ∷ range 92 92 ∷ [])) byte ≡ is_simple_escape byte
+-- the ranges of escaped bytes contain exactly the bytes of the escapes
+ranges-escape : (escapes : List SimpleEscape) (byte : ℕ) → in_ranges (escaped_ranges escapes) byte
+    ≡ is_some (byte_escaped escapes byte)
+ranges-escape [] byte = refl
+ranges-escape (e ∷ rest) byte =
+    ap (λ t. t || in_ranges (escaped_ranges rest) byte) (one_byte e.escaped byte)
+    ∙ by (byte == e.escaped) (ranges-escape rest byte)
+  where
+    by : (t : Bool) → in_ranges (escaped_ranges rest) byte ≡ is_some (byte_escaped rest byte)
+        → (t || in_ranges (escaped_ranges rest) byte) ≡ is_some (if t then Some e.byte else byte_escaped rest byte)
+    by true others = refl
+    by false others = others
+
+pub has_sign : (byte : ℕ) → has (class_of (escaped_ranges simple_escapes)) byte ≡ is_simple_escape byte
 has_sign byte =
-    has-class_of (range 110 110 ∷ range 114 114 ∷ range 116 116 ∷ range 39 39 ∷ range 34 34 ∷ range 91 91 ∷
-    range 93 93 ∷
-    range 92 92 ∷ []) (
-      lit< tt,
-      (
-        lit< tt,
-        (
-          lit< tt,
-          (lit< tt, (lit< tt, (lit< tt, (lit< tt, (lit< tt, tt))))),
-        ),
-      ),
-    ) byte
-    ∙ simp (one_byte, or-false)
+    has-class_of (escaped_ranges simple_escapes)
+    (lit< tt, (lit< tt, (lit< tt, (lit< tt, (lit< tt, (lit< tt, (lit< tt, (lit< tt, tt)))))))) byte
+    ∙ ranges-escape simple_escapes byte

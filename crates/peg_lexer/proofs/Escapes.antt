@@ -2,10 +2,11 @@
 use Rattle.std.proofs.Common.{◌≡◌, ℕ, suc, ◌+◌, ◌≤◌, Bool, true, false, if◌then◌else◌, nat_eq, List, [], ◌∷◌, length, take, drop, get_or, codes}
 use Rattle.std.proofs.Common.{Option, None, Some, option_map, option_and_then, refl, sym, ap, ◌∙◌, arith}
 use Rattle.std.specs.List.{starts_with}
-use Rattle.peg_lexer.specs.Lexical.{is_simple_escape, hexadecimal_digits, three_digits, two_digits, char}
+use Rattle.peg_lexer.specs.Lexical.{hexadecimal_digits, three_digits, two_digits, char}
 use Rattle.peg_lexer.specs.LexicalCode.{escaped_char}
 use Rattle.peg_lexer.specs.Matchers.{PrefixMatch, plain, concat_matches, satisfy, or_piece}
 use Rattle.peg_metagrammar.specs.Denotation.{Byte, byte_spelled}
+use Rattle.peg_metagrammar.specs.SimpleEscapes.{is_simple_escape}
 use Rattle.peg_lexer.proofs.PieceLemmas.{from, from-drop}
 
 -- the character that consists of a backslash and a match after it; and the character of a match

@@ -1,6 +1,8 @@
 -- The metagrammar rule of each kind of token.
 use Rattle.std.proofs.Common.{◌≡◌, ℕ, List, [], None, refl}
-use Rattle.peg_metagrammar.specs.FigureRules as rule
+use Rattle.peg_metagrammar.specs.FigureRules.{identifier_rule, literal_rule, class_rule, leftarrow_rule, slash_rule}
+use Rattle.peg_metagrammar.specs.FigureRules.{and_sign_rule, not_sign_rule, question_rule, star_rule, plus_rule}
+use Rattle.peg_metagrammar.specs.FigureRules.{count_rule, open_sign_rule, close_rule, dot_rule}
 use Rattle.peg_lexer.specs.Lexical.{matcher_of, identifier, literal, quoted, class, count}
 use Rattle.peg_lexer.specs.Tokens.{rule_of_kind}
 use Rattle.peg_lexer.specs.declared.token.TokenKind.{TokenKind}
@@ -10,20 +12,20 @@ use Rattle.peg_lexer.proofs.TokenRules as rules
 
 -- the number of the metagrammar rule of a kind
 abbrev pub number_of : TokenKind → ℕ
-number_of Ident = rule.identifier
-number_of Literal = rule.literal
-number_of Class = rule.class
-number_of Arrow = rule.leftarrow
-number_of Slash = rule.slash
-number_of And = rule.and_sign
-number_of Not = rule.not_sign
-number_of Question = rule.question
-number_of Star = rule.star
-number_of Plus = rule.plus
-number_of Count = rule.count
-number_of Open = rule.open_sign
-number_of Close = rule.close
-number_of Dot = rule.dot
+number_of Ident = identifier_rule
+number_of Literal = literal_rule
+number_of Class = class_rule
+number_of Arrow = leftarrow_rule
+number_of Slash = slash_rule
+number_of And = and_sign_rule
+number_of Not = not_sign_rule
+number_of Question = question_rule
+number_of Star = star_rule
+number_of Plus = plus_rule
+number_of Count = count_rule
+number_of Open = open_sign_rule
+number_of Close = close_rule
+number_of Dot = dot_rule
 
 -- the rule of each kind, as a function of the next bytes
 pub takes-kind : (file : List ℕ) (kind : TokenKind) → TakesToken file (number_of kind) (rule_of_kind kind)

@@ -6,7 +6,7 @@ use Rattle.peg_semantics.specs.Record.{Matched}
 use Rattle.peg_semantics.proofs.Derivations.{Derives}
 use Rattle.peg_semantics.specs.Form.{Name}
 use Rattle.peg_metagrammar.specs.Figure.{figure, end_of_line_body, space_body, comment_body, spacing_body}
-use Rattle.peg_metagrammar.specs.FigureRules as rule
+use Rattle.peg_metagrammar.specs.FigureRules.{spacing_rule, comment_rule, space_rule, end_of_line_rule}
 use Rattle.peg_lexer.specs.Lexical.{end_of_line, space, comment, in_comment, space_or_comment, spacing}
 use Rattle.peg_lexer.specs.Matchers.{PrefixMatch, seq_matcher, star, not_followed, many}
 use Rattle.peg_metagrammar.specs.Denotation.{spelled, text_end, bad_counts}
@@ -28,7 +28,7 @@ end_of_line-some =
     has-or_matcher (has-literal_bytes (codes "\r\n") (lit< tt)) (has-or_matcher (has-literal_bytes (codes "\n") (lit< tt))
     (has-literal_bytes (codes "\r") (lit< tt)))
 
-end_of_line-nodes : Nodes rule.end_of_line (λ text inner. inner)
+end_of_line-nodes : Nodes end_of_line_rule (λ text inner. inner)
 end_of_line-nodes = record { spells = λ file before start end last inner. refl; no_spacing = refl; no_primary = refl; no_count = refl }
 
 pub takes-end_of_line : (file : List ℕ) (start end : ℕ)
@@ -50,7 +50,7 @@ unfolding space
 space-some =
     has-or_matcher (has-literal_bytes (codes " ") (lit< tt)) (has-or_matcher (has-literal_bytes (codes "\t") (lit< tt)) end_of_line-some)
 
-space-nodes : Nodes rule.space (λ text inner. inner)
+space-nodes : Nodes space_rule (λ text inner. inner)
 space-nodes = record { spells = λ file before start end last inner. refl; no_spacing = refl; no_primary = refl; no_count = refl }
 
 pub takes-space : (file : List ℕ) (start end : ℕ) → Takes file (Name (codes "Space") (between start end)) space
@@ -76,7 +76,7 @@ pub comment-some : HasBytes comment
 unfolding comment
 comment-some = has-first (seq_matcher (star in_comment) end_of_line) (has-literal_bytes (codes "#") (lit< tt))
 
-comment-nodes : Nodes rule.comment (λ text inner. inner)
+comment-nodes : Nodes comment_rule (λ text inner. inner)
 comment-nodes = record { spells = λ file before start end last inner. refl; no_spacing = refl; no_primary = refl; no_count = refl }
 
 pub takes-comment : (file : List ℕ) (start end : ℕ) → Takes file (Name (codes "Comment") (between start end)) comment
@@ -134,7 +134,7 @@ finds-spacing file span p =
     let blanks : PrefixMatch = many space_or_comment (drop p file) in
     let it = inside.some p blanks refl in
     record {
-      trees = Tree rule.spacing p (p + blanks.length) it.trees NoTrees;
+      trees = Tree spacing_rule p (p + blanks.length) it.trees NoTrees;
       derives = Derives.name_matched spacing-meaning_of.1 it.derives refl;
       spells = λ before.
           append-nil (spelled file before it.trees) ∙ (it.spelled.spells before

@@ -13,7 +13,7 @@ use Rattle.peg_semantics.specs.Rules.{Meaning, meaning_of}
 use Rattle.peg_semantics.proofs.Derivations.{Derives, DerivesItems, DerivesFirst}
 use Rattle.peg_semantics.proofs.ResultSteps.{begins_with, passes_any}
 use Rattle.peg_metagrammar.specs.Figure.{figure}
-use Rattle.peg_metagrammar.specs.FigureRules as rule
+use Rattle.peg_metagrammar.specs.FigureRules.{primary_rule, count_rule, spacing_rule}
 use Rattle.peg_lexer.specs.Matchers.{PrefixMatch, Matcher, plain, concat_matches, literal_bytes, satisfy, seq_matcher, or_piece, or_matcher, none_of, not_followed, optional_matcher, many, star}
 use Rattle.peg_metagrammar.specs.Ranges.{Range, class_of}
 use Rattle.peg_metagrammar.specs.Denotation.{Denotation, text_end, part, node_spelled, spelled, numerals_in, bounds_spelled, bounds_in_range, bad_count, bad_counts}
@@ -25,13 +25,13 @@ use Rattle.peg_lexer.proofs.PieceLemmas.{many-none, many-some}
 pub text_end-seq_matcher : (before : ℕ) (a b : Trees) → text_end before (followed_by a b) ≡ text_end (text_end before a) b
 text_end-seq_matcher before NoTrees b = refl
 text_end-seq_matcher before (Tree r start end children rest) b =
-    text_end-seq_matcher (if r == rule.spacing then start else text_end before children) rest b
+    text_end-seq_matcher (if r == spacing_rule then start else text_end before children) rest b
 
 pub spelled-seq_matcher : (file : List ℕ) (before : ℕ) (a b : Trees) → spelled file before (followed_by a b)
     ≡ spelled file before a ++ spelled file (text_end before a) b
 spelled-seq_matcher file before NoTrees b = refl
 spelled-seq_matcher file before (Tree r start end children rest) b =
-    let after : ℕ = if r == rule.spacing then start else text_end before children in
+    let after : ℕ = if r == spacing_rule then start else text_end before children in
     let node : List Denotation = node_spelled file r before start end (text_end before children)
     (spelled file before children) in
     ap (λ (more : List Denotation). node ++ more) (spelled-seq_matcher file after rest b)
@@ -40,7 +40,7 @@ spelled-seq_matcher file before (Tree r start end children rest) b =
 pub nesting-seq_matcher : (a b : Trees) → nesting (followed_by a b) ≡ max (nesting a) (nesting b)
 nesting-seq_matcher NoTrees b = omega arith
 nesting-seq_matcher (Tree r start end children rest) b =
-    let own : ℕ = (if r == rule.primary && has_open children then 1 else 0) + nesting children in
+    let own : ℕ = (if r == primary_rule && has_open children then 1 else 0) + nesting children in
     omega (arith, nesting-seq_matcher rest b)
 
 pub bad_counts-seq_matcher : (file : List ℕ) (a b : Trees)
@@ -417,9 +417,9 @@ noded spell find rest = option_map (node_of spell rest) (find rest)
 pub record Nodes (number : ℕ) (spell : List ℕ → List Denotation → List Denotation) : Type 0 where
   pub spells : (file : List ℕ) (before start end last : ℕ) (inner : List Denotation)
       → node_spelled file number before start end last inner ≡ spell (part file start end) inner
-  pub no_spacing : (number == rule.spacing) ≡ false
-  pub no_primary : (number == rule.primary) ≡ false
-  pub no_count : (number == rule.count) ≡ false
+  pub no_spacing : (number == spacing_rule) ≡ false
+  pub no_primary : (number == primary_rule) ≡ false
+  pub no_count : (number == count_rule) ≡ false
 
 -- a matcher with the same results
 pub takes-same : {file : List ℕ} {e : Form} {find other : Matcher} → ((rest : List ℕ) → find rest ≡ other rest)

@@ -3,8 +3,9 @@ use Rattle.std.proofs.Common.{ℕ, true, List, [], ◌∷◌, refl, codes, lit<}
 use Rattle.peg_bytes.specs.Extent.{Extent, between}
 use Rattle.peg_semantics.specs.Form.{Name, Class}
 use Rattle.peg_metagrammar.specs.Figure.{ident_start_body, ident_cont_body, char_body, range_body, hexadecimal_class, number_body}
-use Rattle.peg_metagrammar.specs.FigureRules as rule
-use Rattle.peg_lexer.specs.Lexical.{begins_name, is_digit, in_name, identifier, is_simple_escape, is_leading_octal, is_hexadecimal, backslash, octal_digit, hex_digit, hexadecimal_digits, three_digits, two_digits, char, is_quote, quoted_char, quoted, literal, range, classed_range, class, digit, number, count}
+use Rattle.peg_metagrammar.specs.SimpleEscapes.{is_simple_escape}
+use Rattle.peg_metagrammar.specs.FigureRules.{ident_start_rule, ident_cont_rule, range_rule, char_rule, number_rule}
+use Rattle.peg_lexer.specs.Lexical.{begins_name, is_digit, in_name, identifier, is_leading_octal, is_hexadecimal, backslash, octal_digit, hex_digit, hexadecimal_digits, three_digits, two_digits, char, is_quote, quoted_char, quoted, literal, range, classed_range, class, digit, number, count}
 use Rattle.peg_lexer.specs.Matchers.{satisfy, literal_bytes, seq_matcher, not_followed}
 use Rattle.peg_metagrammar.specs.Ranges as ranges
 use Rattle.peg_metagrammar.specs.Ranges.{class_of}
@@ -16,7 +17,7 @@ use Rattle.peg_lexer.proofs.Takes.{Takes, IsLong, Nodes, takes-literal_bytes, ta
 
 -- ---- names
 
-ident_start-nodes : Nodes rule.ident_start (λ text inner. inner)
+ident_start-nodes : Nodes ident_start_rule (λ text inner. inner)
 ident_start-nodes = record { spells = λ file before start end last inner. refl; no_spacing = refl; no_primary = refl; no_count = refl }
 
 pub takes-ident_start : (file : List ℕ) (start end : ℕ)
@@ -26,7 +27,7 @@ takes-ident_start file start end =
     takes-name (between start end) _ ident_start-meaning_of.1 ident_start-nodes
     (takes-class file _ _ begins_name has_name_start)
 
-ident_cont-nodes : Nodes rule.ident_cont (λ text inner. inner)
+ident_cont-nodes : Nodes ident_cont_rule (λ text inner. inner)
 ident_cont-nodes = record { spells = λ file before start end last inner. refl; no_spacing = refl; no_primary = refl; no_count = refl }
 
 pub takes-ident_cont : (file : List ℕ) (start end : ℕ) → Takes file
@@ -48,7 +49,7 @@ identifier-fits = fits-seq_matcher (fits-one begins_name) (fits-star in_name-lon
 
 -- ---- characters
 
-char-nodes : Nodes rule.char (λ text inner. Byte (byte_spelled text) ∷ [])
+char-nodes : Nodes char_rule (λ text inner. Byte (byte_spelled text) ∷ [])
 char-nodes = record { spells = λ file before start end last inner. refl; no_spacing = refl; no_primary = refl; no_count = refl }
 
 -- an octal digit
@@ -126,7 +127,7 @@ literal-fits = fits-or_matcher (quoted-fits 39) (quoted-fits 34)
 
 -- ---- classes
 
-range-nodes : Nodes rule.range (λ text inner. Bytes (range_spelled (bytes_in inner)) ∷ [])
+range-nodes : Nodes range_rule (λ text inner. Bytes (range_spelled (bytes_in inner)) ∷ [])
 range-nodes = record { spells = λ file before start end last inner. refl; no_spacing = refl; no_primary = refl; no_count = refl }
 
 pub takes-range : (file : List ℕ) (start end : ℕ) → Takes file (Name (codes "Range") (between start end)) range
@@ -162,7 +163,7 @@ class-fits =
 
 -- ---- counts
 
-number-nodes : Nodes rule.number (λ text inner. Numeral (decimal text) ∷ [])
+number-nodes : Nodes number_rule (λ text inner. Numeral (decimal text) ∷ [])
 number-nodes = record { spells = λ file before start end last inner. refl; no_spacing = refl; no_primary = refl; no_count = refl }
 
 pub digit-long : IsLong digit

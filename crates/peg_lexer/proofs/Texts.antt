@@ -9,7 +9,7 @@ use Rattle.peg_semantics.specs.Record.{Failed, Matched}
 use Rattle.peg_semantics.specs.Rules.{Meaning, meaning_of}
 use Rattle.peg_semantics.proofs.Derivations.{Derives, DerivesItems, DerivesFirst}
 use Rattle.peg_metagrammar.specs.Figure.{figure}
-use Rattle.peg_metagrammar.specs.FigureRules as rule
+use Rattle.peg_metagrammar.specs.FigureRules.{primary_rule, open_sign_rule, spacing_rule}
 use Rattle.peg_lexer.specs.Lexical.{spacing}
 use Rattle.peg_lexer.specs.Matchers.{PrefixMatch, Matcher, concat_matches, seq_matcher, or_piece, or_matcher}
 use Rattle.peg_metagrammar.specs.Denotation.{Denotation, text_end, node_spelled, spelled, bad_count, bad_counts}
@@ -206,7 +206,7 @@ pub record FindsToken (file : List ℕ) (number : ℕ) (used : List ℕ) (span :
   pub spells : (before : ℕ) → spelled file before trees
       ≡ node_spelled file number before p (behind_text file p piece.length) (p + piece.length) piece.spells
   pub flat : nesting trees ≡ 0
-  pub opens : has_open trees ≡ (number == rule.open_sign)
+  pub opens : has_open trees ≡ (number == open_sign_rule)
   pub counts : bad_counts file trees ≡ bad_count number p piece.spells
 
 pub record TakesToken (file : List ℕ) (number : ℕ) (used : List ℕ) (find : Matcher) : Type 0 where
@@ -215,7 +215,7 @@ pub record TakesToken (file : List ℕ) (number : ℕ) (used : List ℕ) (find :
       → FindsToken file number used span p piece
 
 pub takes-token : {file used : List ℕ} {find : Matcher} (m : Meaning) → meaning_of figure used ≡ Some m
-    → (m.rule == rule.spacing) ≡ false → (m.rule == rule.primary) ≡ false → TakesText file m.body find
+    → (m.rule == spacing_rule) ≡ false → (m.rule == primary_rule) ≡ false → TakesText file m.body find
     → TakesToken file m.rule used find
 takes-token {file} {used} {find} m known no_spacing no_primary a = record {
   none = λ span p none. Derives.name_failed known (a.none p none);
@@ -236,7 +236,7 @@ takes-token {file} {used} {find} m known no_spacing no_primary a = record {
         flat =
             ap (λ (t : Bool). max ((if t && has_open it.trees then 1 else 0) + nesting it.trees) 0) no_primary
             ∙ ap (λ n. max (0 + n) 0) it.spelled.flat;
-        opens = or_false (m.rule == rule.open_sign);
+        opens = or_false (m.rule == open_sign_rule);
         counts =
             ap (λ (inner : List Denotation). bad_count m.rule p inner ++ (bad_counts file it.trees ++ []))
             (it.spelled.spells p)

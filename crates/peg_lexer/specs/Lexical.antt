@@ -3,6 +3,7 @@ use Rattle.std.specs.Prelude.{ℕ, Bool, true, ◌==◌, ◌&&◌, ◌||◌, nat
 use Rattle.std.specs.Prelude.{option_map, option_and_then, if◌then◌else◌}
 use Rattle.peg_lexer.specs.Matchers.{PrefixMatch, Matcher, literal_bytes, satisfy, seq_matcher, or_matcher, not_followed, optional_matcher, many, star}
 use Rattle.peg_metagrammar.specs.Denotation.{Byte, Bytes, Numeral, decimal, is_octal, byte_spelled, range_spelled, bytes_in}
+use Rattle.peg_metagrammar.specs.SimpleEscapes.{is_simple_escape}
 use Rattle.peg_lexer.specs.declared.token.TokenKind.{TokenKind}
 use Rattle.peg_lexer.specs.declared.token.TokenKind.TheVariants.{Ident, Literal, Class, Arrow, Slash, And, Not}
 use Rattle.peg_lexer.specs.declared.token.TokenKind.TheVariants.{Question, Star, Plus, Count, Open, Close, Dot}
@@ -43,12 +44,6 @@ unfoldable pub identifier : Matcher
 identifier = seq_matcher (satisfy begins_name) (star in_name)
 
 -- ---- characters
-
--- whether a byte can be escaped by a backslash alone
-abbrev pub is_simple_escape : ℕ → Bool
-is_simple_escape byte =
-    byte == 110 || (byte == 114 || (byte == 116 || (byte == 39 || (byte == 34 ||
-    (byte == 91 || (byte == 93 || byte == 92))))))
 
 abbrev pub is_leading_octal : ℕ → Bool
 is_leading_octal byte = nat_le 48 byte && nat_le byte 50

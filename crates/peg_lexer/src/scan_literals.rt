@@ -1,14 +1,15 @@
 //! The texts of names, literals and classes (Ford 2004, section 2.1).
 ghost use Rattle.std.specs.Prelude.{◌≡◌, ◌<◌, ◌≤◌, ◌+◌, length, option_map, IfSome, IsTrue, is_some};
-ghost use Rattle.peg_lexer.specs.Lexical.{begins_name, is_digit, in_name, identifier, is_simple_escape, is_leading_octal, is_hexadecimal};
+ghost use Rattle.peg_lexer.specs.Lexical.{begins_name, is_digit, in_name, identifier, is_leading_octal, is_hexadecimal};
 ghost use Rattle.peg_lexer.specs.Lexical.{escape};
 ghost use Rattle.peg_lexer.specs.Lexical.{backslash, char, is_quote, quoted_char, up_to_quote, quoted, literal, range};
 ghost use Rattle.peg_lexer.specs.Lexical.{classed_range, class};
 ghost use Rattle.peg_lexer.specs.LexicalCode.{char_piece, item_piece, escaped_char};
 ghost use Rattle.peg_lexer.specs.Matchers.{match_length, satisfy, seq_matcher, many};
-ghost use Rattle.peg_metagrammar.specs.Denotation.{is_octal, hexadecimal_value, simple_escape};
+ghost use Rattle.peg_metagrammar.specs.Denotation.{is_octal, hexadecimal_value};
+ghost use Rattle.peg_metagrammar.specs.SimpleEscapes.{is_simple_escape, simple_escape};
 
-use peg_metagrammar::ByteRange;
+use peg_metagrammar::{ByteRange, unescape};
 
 /// A character: the byte that it denotes, and the length of its text.
 #[derive(Clone, Copy, Debug)]
@@ -281,26 +282,18 @@ fn hexadecimal_digit(digit: u8) -> u8
     }
 }
 
-// The byte that an escape letter denotes.
+// The byte that a simple escape denotes.
 fn unescape_simple(sign: u8) -> u8
     ensures { result ≡ simple_escape sign }
 {
-    match sign {
-        b'n' => b'\n',
-        b'r' => b'\r',
-        b't' => b'\t',
-        _ => sign,
-    }
+    unescape(sign).unwrap_or(sign)
 }
 
-// Whether the byte is an escape letter or another byte that can be escaped by a backslash alone.
+// Whether the byte can be escaped by a backslash alone.
 fn is_simple_escape(byte: u8) -> bool
     ensures { result ≡ is_simple_escape byte }
 {
-    matches!(
-        byte,
-        b'n' | b'r' | b't' | b'\'' | b'"' | b'[' | b']' | b'\\'
-    )
+    unescape(byte).is_some()
 }
 
 // Whether the byte can be the first of three octal digits.

@@ -7,7 +7,7 @@ use Rattle.peg_semantics.specs.Form.{Form, Forms, Count, Literal, Class, Any, Na
 use Rattle.peg_semantics.specs.Form.{counts_written, counts_written_by_all}
 use Rattle.peg_semantics.specs.Grammar.{CountsAreInRange, is_in_range}
 use Rattle.peg_semantics.specs.Rules.{Rule, counts}
-use Rattle.peg_metagrammar.specs.FigureRules as figure
+use Rattle.peg_metagrammar.specs.FigureRules.{count_rule}
 use Rattle.peg_metagrammar.specs.Notation.{IsReading}
 use Rattle.peg_metagrammar.specs.Denotation.{Denotation, Byte, Bytes, Numeral, Word, Sign, Expression, Definition, Bounds}
 use Rattle.peg_metagrammar.specs.Denotation.{numerals_in, expressions_in, rules_denoted, bounds_spelled, counted_form, primary_spelled, signed, sequence_spelled}
@@ -151,7 +151,7 @@ sign-good : (sign : Form → Extent → Form) → ((form : Form) (span : Extent)
 sign-good sign same = ((λ form span good. subst (All IsGood) (sym (same form span)) good), tt)
 
 node-good : (file : List ℕ) (rule before start end last : ℕ) (inner : List Denotation) → Good inner
-    → (rule ≡ figure.count → bounds_in_range (bounds_spelled (numerals_in inner)) ≡ true)
+    → (rule ≡ count_rule → bounds_in_range (bounds_spelled (numerals_in inner)) ≡ true)
     → Good (node_spelled file rule before start end last inner)
 node-good file rule before start end last inner good in_range =
     chosen-good rule 0 rule (node_spellings file before start end last inner) inner (omega arith) (
@@ -459,7 +459,7 @@ not_bad : (start : ℕ) (in_range : Bool) → (if not in_range then start ∷ []
 not_bad start true is = refl
 not_bad start false is = cc
 
-count-in_range : (start : ℕ) (inner : List Denotation) → bad_count figure.count start inner ≡ []
+count-in_range : (start : ℕ) (inner : List Denotation) → bad_count count_rule start inner ≡ []
     → bounds_in_range (bounds_spelled (numerals_in inner)) ≡ true
 count-in_range start inner is = not_bad start (bounds_in_range (bounds_spelled (numerals_in inner))) is
 

@@ -2,3 +2,4 @@ mod ClassSets
 pub mod CountsInRange
 pub mod FigureNames
 pub mod FigureWellFormed
+mod LineStarts

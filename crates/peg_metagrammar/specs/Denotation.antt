@@ -8,8 +8,9 @@ use Rattle.peg_semantics.specs.Form.{Form, Literal, Class, Any, Name, Seq, Choic
 use Rattle.peg_semantics.specs.Form.{Counted, End, forms}
 use Rattle.peg_semantics.specs.Grammar.{greatest_count}
 use Rattle.peg_semantics.specs.Rules.{Rule}
-use Rattle.peg_metagrammar.specs.FigureRules as figure
+use Rattle.peg_metagrammar.specs.FigureRules.{count_rule, spacing_rule}
 use Rattle.peg_metagrammar.specs.Ranges.{Range, range, class_of}
+use Rattle.peg_metagrammar.specs.SimpleEscapes.{simple_escape}
 
 -- one part of what a tree denotes
 pub data Denotation : Type 0 where
@@ -38,10 +39,6 @@ hexadecimal_value digit =
 -- the number that hexadecimal digits denote
 abbrev pub hexadecimal : List ℕ → ℕ
 hexadecimal digits = fold (λ n digit. n * 16 + hexadecimal_value digit) 0 digits
-
--- the byte of an escape letter: n, r and t denote 10, 13 and 9; any other escaped byte denotes itself
-abbrev pub simple_escape : ℕ → ℕ
-simple_escape sign = if sign == 110 then 10 else (if sign == 114 then 13 else (if sign == 116 then 9 else sign))
 
 -- The byte that the text of a Char denotes. A single byte denotes itself. After a backslash come x and hexadecimal
 -- digits, octal digits, or an escape letter. No Char has an empty text.
@@ -154,7 +151,7 @@ definition_spelled pieces = pieces
 abbrev pub text_end : (before : ℕ) → Trees → ℕ
 text_end before NoTrees = before
 text_end before (Tree rule start end children rest) =
-    text_end (if rule == figure.spacing then start else text_end before children) rest
+    text_end (if rule == spacing_rule then start else text_end before children) rest
 
 -- the bytes of the file from `start` to `end`
 abbrev pub part : List ℕ → (start end : ℕ) → List ℕ
@@ -222,7 +219,7 @@ bounds_in_range bounds = nat_le bounds.min bounds.max && nat_le 1 bounds.max && 
 -- the start of a node, as a list, if the node is a COUNT with bounds out of range
 abbrev pub bad_count : (rule start : ℕ) → List Denotation → List ℕ
 bad_count rule start inner =
-    if rule == figure.count && not (bounds_in_range (bounds_spelled (numerals_in inner))) then start ∷ [] else []
+    if rule == count_rule && not (bounds_in_range (bounds_spelled (numerals_in inner))) then start ∷ [] else []
 
 -- the starts of the COUNT nodes with bounds out of range, in written order
 abbrev pub bad_counts : List ℕ → Trees → List ℕ

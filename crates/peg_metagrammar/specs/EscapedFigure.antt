@@ -6,15 +6,15 @@ use Rattle.peg_tree.specs.Trees.{Trees, NoTrees, Tree}
 use Rattle.peg_semantics.specs.Form.{Form, Name, Seq, Choice, Optional, forms}
 use Rattle.peg_semantics.specs.Record.{Record, Matched, IsRecord}
 use Rattle.peg_semantics.specs.Rules.{Rule}
-use Rattle.peg_metagrammar.specs.Figure.{figure}
-use Rattle.peg_metagrammar.specs.FigureRules as figure
+use Rattle.peg_metagrammar.specs.Figure.{figure, on_line}
+use Rattle.peg_metagrammar.specs.FigureRules.{suffix_rule, count_rule, open_sign_rule}
 use Rattle.peg_metagrammar.specs.Denotation.{rules_spelled}
 
 -- Suffix <- Primary (QUESTION / STAR / PLUS)?
 unfoldable pub escaped_suffix : Form
-escaped_suffix = Seq (forms (Name (codes "Primary") (between 188 195) ∷ Optional
-    (Choice (Name (codes "QUESTION") (between 197 205)) (forms (Name (codes "STAR") (between 208 212) ∷
-    Name (codes "PLUS") (between 215 219) ∷ [])) (between 197 219)) (between 196 221) ∷ [])) (between 188 221)
+escaped_suffix = Seq (forms (Name (codes "Primary") (on_line suffix_rule 10 17) ∷ Optional
+    (Choice (Name (codes "QUESTION") (on_line suffix_rule 19 27)) (forms (Name (codes "STAR") (on_line suffix_rule 30 34) ∷
+    Name (codes "PLUS") (on_line suffix_rule 37 41) ∷ [])) (on_line suffix_rule 19 41)) (on_line suffix_rule 18 43) ∷ [])) (on_line suffix_rule 10 43)
 
 -- a rule, with its expression replaced if its name is Suffix
 abbrev pub with_suffix : Form → Rule → Rule
@@ -23,7 +23,7 @@ with_suffix body rule =
 
 -- the rules of the metagrammar without COUNT and Number
 abbrev pub without_counts : List Rule → List Rule
-without_counts rules = take figure.count rules ++ drop figure.open_sign rules
+without_counts rules = take count_rule rules ++ drop open_sign_rule rules
 
 -- the older metagrammar of 29 rules, with hexadecimal escapes in rule Char but without counts
 unfoldable pub escaped_figure : List Rule
@@ -37,7 +37,7 @@ MatchesEscaped file name start end trees =
 -- The trees of the older metagrammar with the rule numbers of the current one, in which the rules after PLUS have
 -- numbers greater by two.
 abbrev pub number_now : ℕ → ℕ
-number_now rule = if nat_lt rule figure.count then rule else rule + 2
+number_now rule = if nat_lt rule count_rule then rule else rule + 2
 
 abbrev pub numbered_now : Trees → Trees
 numbered_now NoTrees = NoTrees

@@ -1,6 +1,6 @@
 -- The text of the metagrammar: Ford's figure 1 (Ford 2004, section 2.1), with counts in rule Suffix and hexadecimal
 -- escapes in rule Char. It has 31 lines, each ended by LF.
-use Rattle.std.specs.Prelude.{ℕ, List, [], ◌∷◌, ◌++◌, flat_map, codes}
+use Rattle.std.specs.Prelude.{ℕ, List, [], ◌∷◌, ◌++◌, flat_map, length, take, codes}
 
 -- the lines of the metagrammar
 unfoldable pub figure_lines : List (List ℕ)
@@ -38,6 +38,14 @@ figure_lines =
     codes "EndOfFile <- !." ∷
     []
 
+-- lines as text, each ended by LF
+abbrev pub text_of_lines : List (List ℕ) → List ℕ
+text_of_lines lines = flat_map (λ line. line ++ 10 ∷ []) lines
+
 -- the text of the metagrammar
 abbrev pub text_of_figure : List ℕ
-text_of_figure = flat_map (λ line. line ++ 10 ∷ []) figure_lines
+text_of_figure = text_of_lines figure_lines
+
+-- the offset of a rule's line: the length of the lines before it
+unfoldable pub line_start : (rule : ℕ) → ℕ
+line_start rule = length (text_of_lines (take rule figure_lines))

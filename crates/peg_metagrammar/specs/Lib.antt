@@ -17,3 +17,5 @@ pub mod Notation
 pub mod Ranges
 pub mod RangesCode
 pub mod Denotation
+pub mod SimpleEscapes
+pub mod EscapesCode

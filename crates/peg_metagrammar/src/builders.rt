@@ -1,89 +1,87 @@
 //! Constructors of expressions with spans, to build grammars in code.
-ghost use Rattle.std.specs.Prelude.{◌≡◌, ℕ, ◌≤◌, ◌<◌, ◌+◌, ◌^◌, ◌==◌, List, [], ◌∷◌, map, IfOk, string_bytes};
-ghost use Rattle.peg_bytes.specs.Extent.{extent, between};
+ghost use Rattle.std.specs.Prelude.{◌≡◌, ℕ, ◌≤◌, ◌<◌, ◌+◌, List, [], ◌∷◌, map, length, IfOk, string_bytes};
+ghost use Rattle.peg_bytes.specs.ByteSet.{bytes_of};
+ghost use Rattle.peg_bytes.specs.Extent.{extent};
 ghost use Rattle.peg_semantics.specs.Form.{Form, Literal, Class, Any, Name, Seq, Choice, Optional, Star, Plus, Not, forms};
-ghost use Rattle.peg_semantics.specs.Rules.{Rule};
 ghost use Rattle.peg_grammar.specs.Written.{form_of, rule_of};
-ghost use Rattle.peg_metagrammar.specs.Figure.{sign_body};
+ghost use Rattle.peg_metagrammar.specs.Figure.{named_rule, sign_body};
 ghost use Rattle.peg_metagrammar.specs.Ranges.{class_of};
 ghost use Rattle.peg_metagrammar.specs.RangesCode.{range_of};
 
+use crate::line::Line;
 use crate::ranges::{ByteRange, set_of_ranges};
-use peg_bytes::Span;
+use peg_bytes::{ByteSet, Span};
 use peg_grammar::{Definition, Expr};
 use std::alloc::{AllocError, Global};
 
-/// Builds the definition of a rule, with the span of its name.
+/// Builds the definition of a rule, whose name starts its line.
 pub(crate) fn definition(
     alloc: Global,
+    rule: u32,
     name: &str,
-    start: u32,
-    end: u32,
     body: Expr,
 ) -> Result<Definition, AllocError>
-    requires { start ≤ end }
-    ensures { IfOk result (λ definition. rule_of definition
-        ≡ record { name = name.now; span = between start end; body = form_of body }) }
+    requires line { rule ≤ 31 }
+    requires short { length name.now < 256 }
+    ensures { IfOk result (λ definition. rule_of definition ≡ named_rule rule name.now (form_of body)) }
 {
+    let line = Line::of_rule(rule);
     Ok(Definition {
         name: String::from_str(alloc, name)?,
-        span: Span::new(start, end),
+        span: line.span(0, name.len() as u8),
         body,
     })
 }
 
 /// Builds a call of a rule.
-pub(crate) fn name(alloc: Global, name: &str, start: u32, end: u32) -> Result<Expr, AllocError>
-    requires { start ≤ end }
-    ensures { IfOk result (λ e. form_of e ≡ Name name.now (between start end)) }
+pub(crate) fn name(alloc: Global, name: &str, span: Span) -> Result<Expr, AllocError>
+    ensures { IfOk result (λ e. form_of e ≡ Name name.now (extent span)) }
 {
     Ok(Expr::Name {
         name: String::from_str(alloc, name)?,
-        span: Span::new(start, end),
+        span,
     })
 }
 
 /// Builds a literal.
-pub(crate) fn literal(alloc: Global, bytes: &[u8], start: u32, end: u32) -> Result<Expr, AllocError>
-    requires { start ≤ end }
-    ensures { IfOk result (λ e. form_of e ≡ Literal bytes.now (between start end)) }
+pub(crate) fn literal(alloc: Global, bytes: &[u8], span: Span) -> Result<Expr, AllocError>
+    ensures { IfOk result (λ e. form_of e ≡ Literal bytes.now (extent span)) }
 {
     Ok(Expr::Literal {
         bytes: bytes.to_vec(alloc)?,
-        span: Span::new(start, end),
+        span,
     })
 }
 
 /// Builds a class from byte ranges.
-pub(crate) fn class(ranges: &[ByteRange], start: u32, end: u32) -> Expr
-    requires { start ≤ end }
-    ensures { form_of result ≡ Class (class_of (map range_of ranges.now)) (between start end) }
+pub(crate) fn class(ranges: &[ByteRange], span: Span) -> Expr
+    ensures { form_of result ≡ Class (class_of (map range_of ranges.now)) (extent span) }
 {
     Expr::Class {
         set: set_of_ranges(ranges),
-        span: Span::new(start, end),
+        span,
     }
+}
+
+/// Builds a class from its set.
+pub(crate) fn class_from_set(set: ByteSet, span: Span) -> Expr
+    ensures { form_of result ≡ Class (bytes_of set) (extent span) }
+{
+    Expr::Class { set, span }
 }
 
 /// Builds a dot.
-pub(crate) fn any(start: u32, end: u32) -> Expr
-    requires { start ≤ end }
-    ensures { form_of result ≡ Any (between start end) }
+pub(crate) fn any(span: Span) -> Expr
+    ensures { form_of result ≡ Any (extent span) }
 {
-    Expr::Any {
-        span: Span::new(start, end),
-    }
+    Expr::Any { span }
 }
 
 /// Builds a sequence.
-pub(crate) fn seq(items: Vec<Expr>, start: u32, end: u32) -> Expr
-    requires { start ≤ end }
-    ensures { form_of result ≡ Seq (forms (map form_of items.items)) (between start end) }
+pub(crate) fn seq(items: Vec<Expr>, span: Span) -> Expr
+    ensures { form_of result ≡ Seq (forms (map form_of items.items)) (extent span) }
 {
-    Expr::Seq {
-        items,
-        span: Span::new(start, end),
-    }
+    Expr::Seq { items, span }
 }
 
 /// Builds an ordered choice.
@@ -91,71 +89,86 @@ pub(crate) fn choice(
     alloc: Global,
     first: Expr,
     rest: Vec<Expr>,
-    start: u32,
-    end: u32,
+    span: Span,
 ) -> Result<Expr, AllocError>
-    requires { start ≤ end }
     ensures { IfOk result (λ e. form_of e
-        ≡ Choice (form_of first) (forms (map form_of rest.items)) (between start end)) }
+        ≡ Choice (form_of first) (forms (map form_of rest.items)) (extent span)) }
 {
     Ok(Expr::Choice {
         first: Box::new(alloc, first)?,
         rest,
-        span: Span::new(start, end),
+        span,
     })
 }
 
 /// Builds an optional expression.
-pub(crate) fn optional(alloc: Global, part: Expr, start: u32, end: u32) -> Result<Expr, AllocError>
-    requires { start ≤ end }
-    ensures { IfOk result (λ e. form_of e ≡ Optional (form_of part) (between start end)) }
+pub(crate) fn optional(alloc: Global, part: Expr, span: Span) -> Result<Expr, AllocError>
+    ensures { IfOk result (λ e. form_of e ≡ Optional (form_of part) (extent span)) }
 {
     Ok(Expr::Optional {
         part: Box::new(alloc, part)?,
-        span: Span::new(start, end),
+        span,
     })
 }
 
 /// Builds a star.
-pub(crate) fn star(alloc: Global, part: Expr, start: u32, end: u32) -> Result<Expr, AllocError>
-    requires { start ≤ end }
-    ensures { IfOk result (λ e. form_of e ≡ Star (form_of part) (between start end)) }
+pub(crate) fn star(alloc: Global, part: Expr, span: Span) -> Result<Expr, AllocError>
+    ensures { IfOk result (λ e. form_of e ≡ Star (form_of part) (extent span)) }
 {
     Ok(Expr::Star {
         part: Box::new(alloc, part)?,
-        span: Span::new(start, end),
+        span,
     })
 }
 
 /// Builds a plus.
-pub(crate) fn plus(alloc: Global, part: Expr, start: u32, end: u32) -> Result<Expr, AllocError>
-    requires { start ≤ end }
-    ensures { IfOk result (λ e. form_of e ≡ Plus (form_of part) (between start end)) }
+pub(crate) fn plus(alloc: Global, part: Expr, span: Span) -> Result<Expr, AllocError>
+    ensures { IfOk result (λ e. form_of e ≡ Plus (form_of part) (extent span)) }
 {
     Ok(Expr::Plus {
         part: Box::new(alloc, part)?,
-        span: Span::new(start, end),
+        span,
     })
 }
 
 /// Builds a not-predicate.
-pub(crate) fn not(alloc: Global, part: Expr, start: u32, end: u32) -> Result<Expr, AllocError>
-    requires { start ≤ end }
-    ensures { IfOk result (λ e. form_of e ≡ Not (form_of part) (between start end)) }
+pub(crate) fn not(alloc: Global, part: Expr, span: Span) -> Result<Expr, AllocError>
+    ensures { IfOk result (λ e. form_of e ≡ Not (form_of part) (extent span)) }
 {
     Ok(Expr::Not {
         part: Box::new(alloc, part)?,
-        span: Span::new(start, end),
+        span,
     })
 }
 
-/// Builds an operator token followed, after one byte, by a call of Spacing.
-pub(crate) fn sign(alloc: Global, text: &[u8], start: u32, end: u32) -> Result<Expr, AllocError>
+/// Builds the definition of an operator token, which is followed, after one byte, by a call of Spacing.
+pub(crate) fn operator(
+    alloc: Global,
+    rule: u32,
+    name: &str,
+    text: &[u8],
+    start: u8,
+    end: u8,
+) -> Result<Definition, AllocError>
+    requires line { rule ≤ 31 }
+    requires short { length name.now < 256 }
     requires order { start ≤ end }
-    requires fits { end + 8 < 2 ^ 32 }
-    ensures { IfOk result (λ e. form_of e ≡ sign_body text.now start end) }
+    requires fits { end + 8 < 256 }
+    ensures { IfOk result (λ definition. rule_of definition
+        ≡ named_rule rule name.now (sign_body rule text.now start end)) }
 {
-    let sign = literal(alloc, text, start, end)?;
-    let spacing = name(alloc, "Spacing", end + 1, end + 8)?;
-    Ok(seq(vec![in alloc; sign, spacing]?, start, end + 8))
+    definition(alloc, rule, name, sign(alloc, rule, text, start, end)?)
+}
+
+// An operator token on a rule's line, followed, after one byte, by a call of Spacing.
+fn sign(alloc: Global, rule: u32, text: &[u8], start: u8, end: u8) -> Result<Expr, AllocError>
+    requires line { rule ≤ 31 }
+    requires order { start ≤ end }
+    requires fits { end + 8 < 256 }
+    ensures { IfOk result (λ e. form_of e ≡ sign_body rule text.now start end) }
+{
+    let line = Line::of_rule(rule);
+    let sign = literal(alloc, text, line.span(start, end))?;
+    let spacing = name(alloc, "Spacing", line.span(end + 1, end + 8))?;
+    Ok(seq(vec![in alloc; sign, spacing]?, line.span(start, end + 8)))
 }

@@ -5,7 +5,7 @@ ghost use Rattle.peg_metagrammar.specs.Figure.{figure};
 ghost use Rattle.peg_metagrammar.specs.Figure.{primary_name, primary_parentheses, literal_single, literal_double};
 ghost use Rattle.peg_metagrammar.specs.Figure.{hexadecimal_class, char_hexadecimal, char_sign, char_three_digits};
 ghost use Rattle.peg_metagrammar.specs.Figure.{char_two_digits, char_alone};
-ghost use Rattle.peg_metagrammar.specs.FigureParts.{first_ten, next_ten, last_eleven};
+ghost use Rattle.peg_metagrammar.specs.FigureParts.{first_eight, second_eight, third_eight, last_seven};
 ghost use Rattle.peg_metagrammar.specs.Figure.{grammar_body, definition_body, expression_body, sequence_body, prefix_body};
 ghost use Rattle.peg_metagrammar.specs.Figure.{suffix_body, primary_body, identifier_body, ident_start_body};
 ghost use Rattle.peg_metagrammar.specs.Figure.{ident_cont_body};
@@ -14,9 +14,17 @@ ghost use Rattle.peg_metagrammar.specs.Figure.{count_body, number_body, spacing_
 ghost use Rattle.peg_metagrammar.specs.Figure.{comment_body, space_body, end_of_line_body, end_of_file_body};
 
 use crate::builders::{
-    any, choice, class, definition, literal, name, not, optional, plus, seq, sign, star,
+    any, choice, class, class_from_set, definition, literal, name, not, operator, optional, plus,
+    seq, star,
 };
+use crate::escapes::escaped_bytes;
+use crate::line::Line;
 use crate::ranges::range;
+use crate::rule_numbers::{
+    AND, CHAR, CLASS, CLOSE, COMMENT, COUNT, DEFINITION, DOT, END_OF_FILE, END_OF_LINE, EXPRESSION,
+    GRAMMAR, IDENT_CONT, IDENT_START, IDENTIFIER, LEFTARROW, LITERAL, NOT, NUMBER, OPEN, PLUS,
+    PREFIX, PRIMARY, QUESTION, RANGE, SEQUENCE, SLASH, SPACE, SPACING, STAR, SUFFIX,
+};
 use peg_grammar::{Definition, Expr};
 use std::alloc::{AllocError, Global};
 
@@ -26,67 +34,77 @@ use std::alloc::{AllocError, Global};
 pub fn figure(alloc: Global) -> Result<Vec<Definition>, AllocError>
     ensures { IfOk result (λ definitions. rules_of definitions.items ≡ figure) }
 {
-    let mut rules = first_ten(alloc)?;
-    rules.append(&mut next_ten(alloc)?)?;
-    rules.append(&mut last_eleven(alloc)?)?;
+    let mut rules = first_eight(alloc)?;
+    rules.append(&mut second_eight(alloc)?)?;
+    rules.append(&mut third_eight(alloc)?)?;
+    rules.append(&mut last_seven(alloc)?)?;
     Ok(rules)
 }
 
-// The first ten rules: grammars, expressions and names.
+// The first eight rules: grammars, expressions and names.
 #[tactic(auto, unfolding(crate::specs::Figure::figure))]
-fn first_ten(alloc: Global) -> Result<Vec<Definition>, AllocError>
-    ensures { IfOk result (λ definitions. rules_of definitions.items ≡ first_ten) }
+fn first_eight(alloc: Global) -> Result<Vec<Definition>, AllocError>
+    ensures { IfOk result (λ definitions. rules_of definitions.items ≡ first_eight) }
 {
     Ok(vec![in alloc;
-        definition(alloc, "Grammar", 0, 7, grammar_body(alloc)?)?,
-        definition(alloc, "Definition", 41, 51, definition_body(alloc)?)?,
-        definition(alloc, "Expression", 87, 97, expression_body(alloc)?)?,
-        definition(alloc, "Sequence", 128, 136, sequence_body(alloc)?)?,
-        definition(alloc, "Prefix", 148, 154, prefix_body(alloc)?)?,
-        definition(alloc, "Suffix", 178, 184, suffix_body(alloc)?)?,
-        definition(alloc, "Primary", 230, 237, primary_body(alloc)?)?,
-        definition(alloc, "Identifier", 311, 321, identifier_body(alloc)?)?,
-        definition(alloc, "IdentStart", 355, 365, ident_start_body(alloc)?)?,
-        definition(alloc, "IdentCont", 379, 388, ident_cont_body(alloc)?)?,
+        definition(alloc, GRAMMAR, "Grammar", grammar_body(alloc)?)?,
+        definition(alloc, DEFINITION, "Definition", definition_body(alloc)?)?,
+        definition(alloc, EXPRESSION, "Expression", expression_body(alloc)?)?,
+        definition(alloc, SEQUENCE, "Sequence", sequence_body(alloc)?)?,
+        definition(alloc, PREFIX, "Prefix", prefix_body(alloc)?)?,
+        definition(alloc, SUFFIX, "Suffix", suffix_body(alloc)?)?,
+        definition(alloc, PRIMARY, "Primary", primary_body(alloc)?)?,
+        definition(alloc, IDENTIFIER, "Identifier", identifier_body(alloc)?)?,
     ]?)
 }
 
-// The next ten rules: literals, classes and operators.
+// The next eight rules: names, literals, classes and operators.
 #[tactic(auto, unfolding(crate::specs::Figure::figure))]
-fn next_ten(alloc: Global) -> Result<Vec<Definition>, AllocError>
-    ensures { IfOk result (λ definitions. rules_of definitions.items ≡ next_ten) }
+fn second_eight(alloc: Global) -> Result<Vec<Definition>, AllocError>
+    ensures { IfOk result (λ definitions. rules_of definitions.items ≡ second_eight) }
 {
     Ok(vec![in alloc;
-        definition(alloc, "Literal", 411, 418, literal_body(alloc)?)?,
-        definition(alloc, "Class", 482, 487, class_body(alloc)?)?,
-        definition(alloc, "Range", 521, 526, range_body(alloc)?)?,
-        definition(alloc, "Char", 551, 555, char_body(alloc)?)?,
-        definition(alloc, "LEFTARROW", 661, 670, sign(alloc, b"<-", 674, 678)?)?,
-        definition(alloc, "SLASH", 687, 692, sign(alloc, b"/", 696, 699)?)?,
-        definition(alloc, "AND", 708, 711, sign(alloc, b"&", 715, 718)?)?,
-        definition(alloc, "NOT", 727, 730, sign(alloc, b"!", 734, 737)?)?,
-        definition(alloc, "QUESTION", 746, 754, sign(alloc, b"?", 758, 761)?)?,
-        definition(alloc, "STAR", 770, 774, sign(alloc, b"*", 778, 781)?)?,
+        definition(alloc, IDENT_START, "IdentStart", ident_start_body(alloc)?)?,
+        definition(alloc, IDENT_CONT, "IdentCont", ident_cont_body(alloc)?)?,
+        definition(alloc, LITERAL, "Literal", literal_body(alloc)?)?,
+        definition(alloc, CLASS, "Class", class_body(alloc)?)?,
+        definition(alloc, RANGE, "Range", range_body(alloc)?)?,
+        definition(alloc, CHAR, "Char", char_body(alloc)?)?,
+        operator(alloc, LEFTARROW, "LEFTARROW", b"<-", 13, 17)?,
+        operator(alloc, SLASH, "SLASH", b"/", 9, 12)?,
     ]?)
 }
 
-// The last eleven rules: counts, operators and spacing.
+// The next eight rules: operators and counts.
 #[tactic(auto, unfolding(crate::specs::Figure::figure))]
-fn last_eleven(alloc: Global) -> Result<Vec<Definition>, AllocError>
-    ensures { IfOk result (λ definitions. rules_of definitions.items ≡ last_eleven) }
+fn third_eight(alloc: Global) -> Result<Vec<Definition>, AllocError>
+    ensures { IfOk result (λ definitions. rules_of definitions.items ≡ third_eight) }
 {
     Ok(vec![in alloc;
-        definition(alloc, "PLUS", 790, 794, sign(alloc, b"+", 798, 801)?)?,
-        definition(alloc, "COUNT", 810, 815, count_body(alloc)?)?,
-        definition(alloc, "Number", 856, 862, number_body(alloc)?)?,
-        definition(alloc, "OPEN", 873, 877, sign(alloc, b"(", 881, 884)?)?,
-        definition(alloc, "CLOSE", 893, 898, sign(alloc, b")", 902, 905)?)?,
-        definition(alloc, "DOT", 914, 917, sign(alloc, b".", 921, 924)?)?,
-        definition(alloc, "Spacing", 933, 940, spacing_body(alloc)?)?,
-        definition(alloc, "Comment", 963, 970, comment_body(alloc)?)?,
-        definition(alloc, "Space", 1004, 1009, space_body(alloc)?)?,
-        definition(alloc, "EndOfLine", 1036, 1045, end_of_line_body(alloc)?)?,
-        definition(alloc, "EndOfFile", 1070, 1079, end_of_file_body(alloc)?)?,
+        operator(alloc, AND, "AND", b"&", 7, 10)?,
+        operator(alloc, NOT, "NOT", b"!", 7, 10)?,
+        operator(alloc, QUESTION, "QUESTION", b"?", 12, 15)?,
+        operator(alloc, STAR, "STAR", b"*", 8, 11)?,
+        operator(alloc, PLUS, "PLUS", b"+", 8, 11)?,
+        definition(alloc, COUNT, "COUNT", count_body(alloc)?)?,
+        definition(alloc, NUMBER, "Number", number_body(alloc)?)?,
+        operator(alloc, OPEN, "OPEN", b"(", 8, 11)?,
+    ]?)
+}
+
+// The last seven rules: operators and spacing.
+#[tactic(auto, unfolding(crate::specs::Figure::figure))]
+fn last_seven(alloc: Global) -> Result<Vec<Definition>, AllocError>
+    ensures { IfOk result (λ definitions. rules_of definitions.items ≡ last_seven) }
+{
+    Ok(vec![in alloc;
+        operator(alloc, CLOSE, "CLOSE", b")", 9, 12)?,
+        operator(alloc, DOT, "DOT", b".", 7, 10)?,
+        definition(alloc, SPACING, "Spacing", spacing_body(alloc)?)?,
+        definition(alloc, COMMENT, "Comment", comment_body(alloc)?)?,
+        definition(alloc, SPACE, "Space", space_body(alloc)?)?,
+        definition(alloc, END_OF_LINE, "EndOfLine", end_of_line_body(alloc)?)?,
+        definition(alloc, END_OF_FILE, "EndOfFile", end_of_file_body(alloc)?)?,
     ]?)
 }
 
@@ -95,14 +113,18 @@ fn last_eleven(alloc: Global) -> Result<Vec<Definition>, AllocError>
 fn grammar_body(alloc: Global) -> Result<Expr, AllocError>
     ensures { IfOk result (λ body. form_of body ≡ grammar_body) }
 {
+    let line = Line::of_rule(GRAMMAR);
     Ok(seq(
         vec![in alloc;
-            name(alloc, "Spacing", 11, 18)?,
-            plus(alloc, name(alloc, "Definition", 19, 29)?, 19, 30)?,
-            name(alloc, "EndOfFile", 31, 40)?,
+            name(alloc, "Spacing", line.span(11, 18))?,
+            plus(
+                alloc,
+                name(alloc, "Definition", line.span(19, 29))?,
+                line.span(19, 30)
+            )?,
+            name(alloc, "EndOfFile", line.span(31, 40))?,
         ]?,
-        11,
-        40,
+        line.span(11, 40),
     ))
 }
 
@@ -111,14 +133,14 @@ fn grammar_body(alloc: Global) -> Result<Expr, AllocError>
 fn definition_body(alloc: Global) -> Result<Expr, AllocError>
     ensures { IfOk result (λ body. form_of body ≡ definition_body) }
 {
+    let line = Line::of_rule(DEFINITION);
     Ok(seq(
         vec![in alloc;
-            name(alloc, "Identifier", 55, 65)?,
-            name(alloc, "LEFTARROW", 66, 75)?,
-            name(alloc, "Expression", 76, 86)?,
+            name(alloc, "Identifier", line.span(14, 24))?,
+            name(alloc, "LEFTARROW", line.span(25, 34))?,
+            name(alloc, "Expression", line.span(35, 45))?,
         ]?,
-        55,
-        86,
+        line.span(14, 45),
     ))
 }
 
@@ -127,19 +149,18 @@ fn definition_body(alloc: Global) -> Result<Expr, AllocError>
 fn expression_body(alloc: Global) -> Result<Expr, AllocError>
     ensures { IfOk result (λ body. form_of body ≡ expression_body) }
 {
+    let line = Line::of_rule(EXPRESSION);
     let slash_sequence = seq(
         vec![in alloc;
-            name(alloc, "SLASH", 111, 116)?,
-            name(alloc, "Sequence", 117, 125)?,
+            name(alloc, "SLASH", line.span(24, 29))?,
+            name(alloc, "Sequence", line.span(30, 38))?,
         ]?,
-        111,
-        125,
+        line.span(24, 38),
     );
-    let more = star(alloc, slash_sequence, 110, 127)?;
+    let more = star(alloc, slash_sequence, line.span(23, 40))?;
     Ok(seq(
-        vec![in alloc; name(alloc, "Sequence", 101, 109)?, more]?,
-        101,
-        127,
+        vec![in alloc; name(alloc, "Sequence", line.span(14, 22))?, more]?,
+        line.span(14, 40),
     ))
 }
 
@@ -148,7 +169,12 @@ fn expression_body(alloc: Global) -> Result<Expr, AllocError>
 fn sequence_body(alloc: Global) -> Result<Expr, AllocError>
     ensures { IfOk result (λ body. form_of body ≡ sequence_body) }
 {
-    star(alloc, name(alloc, "Prefix", 140, 146)?, 140, 147)
+    let line = Line::of_rule(SEQUENCE);
+    star(
+        alloc,
+        name(alloc, "Prefix", line.span(12, 18))?,
+        line.span(12, 19),
+    )
 }
 
 // Prefix <- (AND / NOT)? Suffix
@@ -156,18 +182,17 @@ fn sequence_body(alloc: Global) -> Result<Expr, AllocError>
 fn prefix_body(alloc: Global) -> Result<Expr, AllocError>
     ensures { IfOk result (λ body. form_of body ≡ prefix_body) }
 {
+    let line = Line::of_rule(PREFIX);
     let sign = choice(
         alloc,
-        name(alloc, "AND", 159, 162)?,
-        vec![in alloc; name(alloc, "NOT", 165, 168)?]?,
-        159,
-        168,
+        name(alloc, "AND", line.span(11, 14))?,
+        vec![in alloc; name(alloc, "NOT", line.span(17, 20))?]?,
+        line.span(11, 20),
     )?;
-    let maybe_sign = optional(alloc, sign, 158, 170)?;
+    let maybe_sign = optional(alloc, sign, line.span(10, 22))?;
     Ok(seq(
-        vec![in alloc; maybe_sign, name(alloc, "Suffix", 171, 177)?]?,
-        158,
-        177,
+        vec![in alloc; maybe_sign, name(alloc, "Suffix", line.span(23, 29))?]?,
+        line.span(10, 29),
     ))
 }
 
@@ -176,22 +201,21 @@ fn prefix_body(alloc: Global) -> Result<Expr, AllocError>
 fn suffix_body(alloc: Global) -> Result<Expr, AllocError>
     ensures { IfOk result (λ body. form_of body ≡ suffix_body) }
 {
+    let line = Line::of_rule(SUFFIX);
     let sign = choice(
         alloc,
-        name(alloc, "QUESTION", 197, 205)?,
+        name(alloc, "QUESTION", line.span(19, 27))?,
         vec![in alloc;
-            name(alloc, "STAR", 208, 212)?,
-            name(alloc, "PLUS", 215, 219)?,
-            name(alloc, "COUNT", 222, 227)?,
+            name(alloc, "STAR", line.span(30, 34))?,
+            name(alloc, "PLUS", line.span(37, 41))?,
+            name(alloc, "COUNT", line.span(44, 49))?,
         ]?,
-        197,
-        227,
+        line.span(19, 49),
     )?;
-    let maybe_sign = optional(alloc, sign, 196, 229)?;
+    let maybe_sign = optional(alloc, sign, line.span(18, 51))?;
     Ok(seq(
-        vec![in alloc; name(alloc, "Primary", 188, 195)?, maybe_sign]?,
-        188,
-        229,
+        vec![in alloc; name(alloc, "Primary", line.span(10, 17))?, maybe_sign]?,
+        line.span(10, 51),
     ))
 }
 
@@ -200,17 +224,17 @@ fn suffix_body(alloc: Global) -> Result<Expr, AllocError>
 fn primary_body(alloc: Global) -> Result<Expr, AllocError>
     ensures { IfOk result (λ body. form_of body ≡ primary_body) }
 {
+    let line = Line::of_rule(PRIMARY);
     choice(
         alloc,
         primary_name(alloc)?,
         vec![in alloc;
             primary_parentheses(alloc)?,
-            name(alloc, "Literal", 289, 296)?,
-            name(alloc, "Class", 299, 304)?,
-            name(alloc, "DOT", 307, 310)?,
+            name(alloc, "Literal", line.span(59, 66))?,
+            name(alloc, "Class", line.span(69, 74))?,
+            name(alloc, "DOT", line.span(77, 80))?,
         ]?,
-        241,
-        310,
+        line.span(11, 80),
     )
 }
 
@@ -218,13 +242,17 @@ fn primary_body(alloc: Global) -> Result<Expr, AllocError>
 fn primary_name(alloc: Global) -> Result<Expr, AllocError>
     ensures { IfOk result (λ part. form_of part ≡ primary_name) }
 {
+    let line = Line::of_rule(PRIMARY);
     Ok(seq(
         vec![in alloc;
-            name(alloc, "Identifier", 241, 251)?,
-            not(alloc, name(alloc, "LEFTARROW", 253, 262)?, 252, 262)?,
+            name(alloc, "Identifier", line.span(11, 21))?,
+            not(
+                alloc,
+                name(alloc, "LEFTARROW", line.span(23, 32))?,
+                line.span(22, 32)
+            )?,
         ]?,
-        241,
-        262,
+        line.span(11, 32),
     ))
 }
 
@@ -232,14 +260,14 @@ fn primary_name(alloc: Global) -> Result<Expr, AllocError>
 fn primary_parentheses(alloc: Global) -> Result<Expr, AllocError>
     ensures { IfOk result (λ part. form_of part ≡ primary_parentheses) }
 {
+    let line = Line::of_rule(PRIMARY);
     Ok(seq(
         vec![in alloc;
-            name(alloc, "OPEN", 265, 269)?,
-            name(alloc, "Expression", 270, 280)?,
-            name(alloc, "CLOSE", 281, 286)?,
+            name(alloc, "OPEN", line.span(35, 39))?,
+            name(alloc, "Expression", line.span(40, 50))?,
+            name(alloc, "CLOSE", line.span(51, 56))?,
         ]?,
-        265,
-        286,
+        line.span(35, 56),
     ))
 }
 
@@ -248,14 +276,18 @@ fn primary_parentheses(alloc: Global) -> Result<Expr, AllocError>
 fn identifier_body(alloc: Global) -> Result<Expr, AllocError>
     ensures { IfOk result (λ body. form_of body ≡ identifier_body) }
 {
+    let line = Line::of_rule(IDENTIFIER);
     Ok(seq(
         vec![in alloc;
-            name(alloc, "IdentStart", 325, 335)?,
-            star(alloc, name(alloc, "IdentCont", 336, 345)?, 336, 346)?,
-            name(alloc, "Spacing", 347, 354)?,
+            name(alloc, "IdentStart", line.span(14, 24))?,
+            star(
+                alloc,
+                name(alloc, "IdentCont", line.span(25, 34))?,
+                line.span(25, 35)
+            )?,
+            name(alloc, "Spacing", line.span(36, 43))?,
         ]?,
-        325,
-        354,
+        line.span(14, 43),
     ))
 }
 
@@ -264,10 +296,10 @@ fn identifier_body(alloc: Global) -> Result<Expr, AllocError>
 fn ident_start_body(alloc: Global) -> Result<Expr, AllocError>
     ensures { IfOk result (λ body. form_of body ≡ ident_start_body) }
 {
+    let line = Line::of_rule(IDENT_START);
     Ok(class(
         &[range(b'a', b'z'), range(b'A', b'Z'), range(b'_', b'_')],
-        369,
-        378,
+        line.span(14, 23),
     ))
 }
 
@@ -276,12 +308,12 @@ fn ident_start_body(alloc: Global) -> Result<Expr, AllocError>
 fn ident_cont_body(alloc: Global) -> Result<Expr, AllocError>
     ensures { IfOk result (λ body. form_of body ≡ ident_cont_body) }
 {
+    let line = Line::of_rule(IDENT_CONT);
     choice(
         alloc,
-        name(alloc, "IdentStart", 392, 402)?,
-        vec![in alloc; class(&[range(b'0', b'9')], 405, 410)]?,
-        392,
-        410,
+        name(alloc, "IdentStart", line.span(13, 23))?,
+        vec![in alloc; class(&[range(b'0', b'9')], line.span(26, 31))]?,
+        line.span(13, 31),
     )
 }
 
@@ -290,12 +322,12 @@ fn ident_cont_body(alloc: Global) -> Result<Expr, AllocError>
 fn literal_body(alloc: Global) -> Result<Expr, AllocError>
     ensures { IfOk result (λ body. form_of body ≡ literal_body) }
 {
+    let line = Line::of_rule(LITERAL);
     choice(
         alloc,
         literal_single(alloc)?,
         vec![in alloc; literal_double(alloc)?]?,
-        422,
-        481,
+        line.span(11, 70),
     )
 }
 
@@ -303,24 +335,27 @@ fn literal_body(alloc: Global) -> Result<Expr, AllocError>
 fn literal_single(alloc: Global) -> Result<Expr, AllocError>
     ensures { IfOk result (λ part. form_of part ≡ literal_single) }
 {
+    let line = Line::of_rule(LITERAL);
     let one_char = seq(
         vec![in alloc;
-            not(alloc, class(&[range(b'\'', b'\'')], 428, 431), 427, 431)?,
-            name(alloc, "Char", 432, 436)?,
+            not(
+                alloc,
+                class(&[range(b'\'', b'\'')], line.span(17, 20)),
+                line.span(16, 20)
+            )?,
+            name(alloc, "Char", line.span(21, 25))?,
         ]?,
-        427,
-        436,
+        line.span(16, 25),
     );
-    let chars = star(alloc, one_char, 426, 438)?;
+    let chars = star(alloc, one_char, line.span(15, 27))?;
     Ok(seq(
         vec![in alloc;
-            class(&[range(b'\'', b'\'')], 422, 425),
+            class(&[range(b'\'', b'\'')], line.span(11, 14)),
             chars,
-            class(&[range(b'\'', b'\'')], 439, 442),
-            name(alloc, "Spacing", 443, 450)?,
+            class(&[range(b'\'', b'\'')], line.span(28, 31)),
+            name(alloc, "Spacing", line.span(32, 39))?,
         ]?,
-        422,
-        450,
+        line.span(11, 39),
     ))
 }
 
@@ -328,24 +363,27 @@ fn literal_single(alloc: Global) -> Result<Expr, AllocError>
 fn literal_double(alloc: Global) -> Result<Expr, AllocError>
     ensures { IfOk result (λ part. form_of part ≡ literal_double) }
 {
+    let line = Line::of_rule(LITERAL);
     let one_char = seq(
         vec![in alloc;
-            not(alloc, class(&[range(b'"', b'"')], 459, 462), 458, 462)?,
-            name(alloc, "Char", 463, 467)?,
+            not(
+                alloc,
+                class(&[range(b'"', b'"')], line.span(48, 51)),
+                line.span(47, 51)
+            )?,
+            name(alloc, "Char", line.span(52, 56))?,
         ]?,
-        458,
-        467,
+        line.span(47, 56),
     );
-    let chars = star(alloc, one_char, 457, 469)?;
+    let chars = star(alloc, one_char, line.span(46, 58))?;
     Ok(seq(
         vec![in alloc;
-            class(&[range(b'"', b'"')], 453, 456),
+            class(&[range(b'"', b'"')], line.span(42, 45)),
             chars,
-            class(&[range(b'"', b'"')], 470, 473),
-            name(alloc, "Spacing", 474, 481)?,
+            class(&[range(b'"', b'"')], line.span(59, 62)),
+            name(alloc, "Spacing", line.span(63, 70))?,
         ]?,
-        453,
-        481,
+        line.span(42, 70),
     ))
 }
 
@@ -354,24 +392,27 @@ fn literal_double(alloc: Global) -> Result<Expr, AllocError>
 fn class_body(alloc: Global) -> Result<Expr, AllocError>
     ensures { IfOk result (λ body. form_of body ≡ class_body) }
 {
+    let line = Line::of_rule(CLASS);
     let one_range = seq(
         vec![in alloc;
-            not(alloc, literal(alloc, b"]", 497, 500)?, 496, 500)?,
-            name(alloc, "Range", 501, 506)?,
+            not(
+                alloc,
+                literal(alloc, b"]", line.span(15, 18))?,
+                line.span(14, 18)
+            )?,
+            name(alloc, "Range", line.span(19, 24))?,
         ]?,
-        496,
-        506,
+        line.span(14, 24),
     );
-    let ranges = star(alloc, one_range, 495, 508)?;
+    let ranges = star(alloc, one_range, line.span(13, 26))?;
     Ok(seq(
         vec![in alloc;
-            literal(alloc, b"[", 491, 494)?,
+            literal(alloc, b"[", line.span(9, 12))?,
             ranges,
-            literal(alloc, b"]", 509, 512)?,
-            name(alloc, "Spacing", 513, 520)?,
+            literal(alloc, b"]", line.span(27, 30))?,
+            name(alloc, "Spacing", line.span(31, 38))?,
         ]?,
-        491,
-        520,
+        line.span(9, 38),
     ))
 }
 
@@ -380,21 +421,20 @@ fn class_body(alloc: Global) -> Result<Expr, AllocError>
 fn range_body(alloc: Global) -> Result<Expr, AllocError>
     ensures { IfOk result (λ body. form_of body ≡ range_body) }
 {
+    let line = Line::of_rule(RANGE);
     let from_to = seq(
         vec![in alloc;
-            name(alloc, "Char", 530, 534)?,
-            literal(alloc, b"-", 535, 538)?,
-            name(alloc, "Char", 539, 543)?,
+            name(alloc, "Char", line.span(9, 13))?,
+            literal(alloc, b"-", line.span(14, 17))?,
+            name(alloc, "Char", line.span(18, 22))?,
         ]?,
-        530,
-        543,
+        line.span(9, 22),
     );
     choice(
         alloc,
         from_to,
-        vec![in alloc; name(alloc, "Char", 546, 550)?]?,
-        530,
-        550,
+        vec![in alloc; name(alloc, "Char", line.span(25, 29))?]?,
+        line.span(9, 29),
     )
 }
 
@@ -403,6 +443,7 @@ fn range_body(alloc: Global) -> Result<Expr, AllocError>
 fn char_body(alloc: Global) -> Result<Expr, AllocError>
     ensures { IfOk result (λ body. form_of body ≡ char_body) }
 {
+    let line = Line::of_rule(CHAR);
     choice(
         alloc,
         char_hexadecimal(alloc)?,
@@ -412,8 +453,7 @@ fn char_body(alloc: Global) -> Result<Expr, AllocError>
             char_two_digits(alloc)?,
             char_alone(alloc)?,
         ]?,
-        559,
-        660,
+        line.span(8, 109),
     )
 }
 
@@ -421,26 +461,26 @@ fn char_body(alloc: Global) -> Result<Expr, AllocError>
 fn char_hexadecimal(alloc: Global) -> Result<Expr, AllocError>
     ensures { IfOk result (λ part. form_of part ≡ char_hexadecimal) }
 {
+    let line = Line::of_rule(CHAR);
     Ok(seq(
         vec![in alloc;
-            literal(alloc, b"\\x", 559, 564)?,
-            hexadecimal_class(565, 576),
-            hexadecimal_class(576, 587),
+            literal(alloc, b"\\x", line.span(8, 13))?,
+            hexadecimal_class(14, 25),
+            hexadecimal_class(25, 36),
         ]?,
-        559,
-        587,
+        line.span(8, 36),
     ))
 }
 
 // [0-9a-fA-F]
-fn hexadecimal_class(start: u32, end: u32) -> Expr
+fn hexadecimal_class(start: u8, end: u8) -> Expr
     requires { start ≤ end }
     ensures { form_of result ≡ hexadecimal_class start end }
 {
+    let line = Line::of_rule(CHAR);
     class(
         &[range(b'0', b'9'), range(b'a', b'f'), range(b'A', b'F')],
-        start,
-        end,
+        line.span(start, end),
     )
 }
 
@@ -448,24 +488,11 @@ fn hexadecimal_class(start: u32, end: u32) -> Expr
 fn char_sign(alloc: Global) -> Result<Expr, AllocError>
     ensures { IfOk result (λ part. form_of part ≡ char_sign) }
 {
-    let signs = class(
-        &[
-            range(b'n', b'n'),
-            range(b'r', b'r'),
-            range(b't', b't'),
-            range(b'\'', b'\''),
-            range(b'"', b'"'),
-            range(b'[', b'['),
-            range(b']', b']'),
-            range(b'\\', b'\\'),
-        ],
-        595,
-        608,
-    );
+    let line = Line::of_rule(CHAR);
+    let signs = class_from_set(escaped_bytes(), line.span(44, 57));
     Ok(seq(
-        vec![in alloc; literal(alloc, b"\\", 590, 594)?, signs]?,
-        590,
-        608,
+        vec![in alloc; literal(alloc, b"\\", line.span(39, 43))?, signs]?,
+        line.span(39, 57),
     ))
 }
 
@@ -473,15 +500,15 @@ fn char_sign(alloc: Global) -> Result<Expr, AllocError>
 fn char_three_digits(alloc: Global) -> Result<Expr, AllocError>
     ensures { IfOk result (λ part. form_of part ≡ char_three_digits) }
 {
+    let line = Line::of_rule(CHAR);
     Ok(seq(
         vec![in alloc;
-            literal(alloc, b"\\", 611, 615)?,
-            class(&[range(b'0', b'2')], 616, 621),
-            class(&[range(b'0', b'7')], 621, 626),
-            class(&[range(b'0', b'7')], 626, 631),
+            literal(alloc, b"\\", line.span(60, 64))?,
+            class(&[range(b'0', b'2')], line.span(65, 70)),
+            class(&[range(b'0', b'7')], line.span(70, 75)),
+            class(&[range(b'0', b'7')], line.span(75, 80)),
         ]?,
-        611,
-        631,
+        line.span(60, 80),
     ))
 }
 
@@ -489,14 +516,18 @@ fn char_three_digits(alloc: Global) -> Result<Expr, AllocError>
 fn char_two_digits(alloc: Global) -> Result<Expr, AllocError>
     ensures { IfOk result (λ part. form_of part ≡ char_two_digits) }
 {
+    let line = Line::of_rule(CHAR);
     Ok(seq(
         vec![in alloc;
-            literal(alloc, b"\\", 634, 638)?,
-            class(&[range(b'0', b'7')], 639, 644),
-            optional(alloc, class(&[range(b'0', b'7')], 644, 649), 644, 650)?,
+            literal(alloc, b"\\", line.span(83, 87))?,
+            class(&[range(b'0', b'7')], line.span(88, 93)),
+            optional(
+                alloc,
+                class(&[range(b'0', b'7')], line.span(93, 98)),
+                line.span(93, 99)
+            )?,
         ]?,
-        634,
-        650,
+        line.span(83, 99),
     ))
 }
 
@@ -504,13 +535,17 @@ fn char_two_digits(alloc: Global) -> Result<Expr, AllocError>
 fn char_alone(alloc: Global) -> Result<Expr, AllocError>
     ensures { IfOk result (λ part. form_of part ≡ char_alone) }
 {
+    let line = Line::of_rule(CHAR);
     Ok(seq(
         vec![in alloc;
-            not(alloc, literal(alloc, b"\\", 654, 658)?, 653, 658)?,
-            any(659, 660),
+            not(
+                alloc,
+                literal(alloc, b"\\", line.span(103, 107))?,
+                line.span(102, 107)
+            )?,
+            any(line.span(108, 109)),
         ]?,
-        653,
-        660,
+        line.span(102, 109),
     ))
 }
 
@@ -519,25 +554,24 @@ fn char_alone(alloc: Global) -> Result<Expr, AllocError>
 fn count_body(alloc: Global) -> Result<Expr, AllocError>
     ensures { IfOk result (λ body. form_of body ≡ count_body) }
 {
+    let line = Line::of_rule(COUNT);
     let comma_number = seq(
         vec![in alloc;
-            literal(alloc, b",", 831, 834)?,
-            name(alloc, "Number", 835, 841)?,
+            literal(alloc, b",", line.span(21, 24))?,
+            name(alloc, "Number", line.span(25, 31))?,
         ]?,
-        831,
-        841,
+        line.span(21, 31),
     );
-    let second = optional(alloc, comma_number, 830, 843)?;
+    let second = optional(alloc, comma_number, line.span(20, 33))?;
     Ok(seq(
         vec![in alloc;
-            literal(alloc, b"{", 819, 822)?,
-            name(alloc, "Number", 823, 829)?,
+            literal(alloc, b"{", line.span(9, 12))?,
+            name(alloc, "Number", line.span(13, 19))?,
             second,
-            literal(alloc, b"}", 844, 847)?,
-            name(alloc, "Spacing", 848, 855)?,
+            literal(alloc, b"}", line.span(34, 37))?,
+            name(alloc, "Spacing", line.span(38, 45))?,
         ]?,
-        819,
-        855,
+        line.span(9, 45),
     ))
 }
 
@@ -546,7 +580,12 @@ fn count_body(alloc: Global) -> Result<Expr, AllocError>
 fn number_body(alloc: Global) -> Result<Expr, AllocError>
     ensures { IfOk result (λ body. form_of body ≡ number_body) }
 {
-    plus(alloc, class(&[range(b'0', b'9')], 866, 871), 866, 872)
+    let line = Line::of_rule(NUMBER);
+    plus(
+        alloc,
+        class(&[range(b'0', b'9')], line.span(10, 15)),
+        line.span(10, 16),
+    )
 }
 
 // Spacing <- (Space / Comment)*
@@ -554,14 +593,14 @@ fn number_body(alloc: Global) -> Result<Expr, AllocError>
 fn spacing_body(alloc: Global) -> Result<Expr, AllocError>
     ensures { IfOk result (λ body. form_of body ≡ spacing_body) }
 {
+    let line = Line::of_rule(SPACING);
     let blank = choice(
         alloc,
-        name(alloc, "Space", 945, 950)?,
-        vec![in alloc; name(alloc, "Comment", 953, 960)?]?,
-        945,
-        960,
+        name(alloc, "Space", line.span(12, 17))?,
+        vec![in alloc; name(alloc, "Comment", line.span(20, 27))?]?,
+        line.span(12, 27),
     )?;
-    star(alloc, blank, 944, 962)
+    star(alloc, blank, line.span(11, 29))
 }
 
 // Comment <- '#' (!EndOfLine .)* EndOfLine
@@ -569,23 +608,26 @@ fn spacing_body(alloc: Global) -> Result<Expr, AllocError>
 fn comment_body(alloc: Global) -> Result<Expr, AllocError>
     ensures { IfOk result (λ body. form_of body ≡ comment_body) }
 {
+    let line = Line::of_rule(COMMENT);
     let text_byte = seq(
         vec![in alloc;
-            not(alloc, name(alloc, "EndOfLine", 980, 989)?, 979, 989)?,
-            any(990, 991),
+            not(
+                alloc,
+                name(alloc, "EndOfLine", line.span(17, 26))?,
+                line.span(16, 26)
+            )?,
+            any(line.span(27, 28)),
         ]?,
-        979,
-        991,
+        line.span(16, 28),
     );
-    let text = star(alloc, text_byte, 978, 993)?;
+    let text = star(alloc, text_byte, line.span(15, 30))?;
     Ok(seq(
         vec![in alloc;
-            literal(alloc, b"#", 974, 977)?,
+            literal(alloc, b"#", line.span(11, 14))?,
             text,
-            name(alloc, "EndOfLine", 994, 1003)?,
+            name(alloc, "EndOfLine", line.span(31, 40))?,
         ]?,
-        974,
-        1003,
+        line.span(11, 40),
     ))
 }
 
@@ -594,15 +636,15 @@ fn comment_body(alloc: Global) -> Result<Expr, AllocError>
 fn space_body(alloc: Global) -> Result<Expr, AllocError>
     ensures { IfOk result (λ body. form_of body ≡ space_body) }
 {
+    let line = Line::of_rule(SPACE);
     choice(
         alloc,
-        literal(alloc, b" ", 1013, 1016)?,
+        literal(alloc, b" ", line.span(9, 12))?,
         vec![in alloc;
-            literal(alloc, b"\t", 1019, 1023)?,
-            name(alloc, "EndOfLine", 1026, 1035)?,
+            literal(alloc, b"\t", line.span(15, 19))?,
+            name(alloc, "EndOfLine", line.span(22, 31))?,
         ]?,
-        1013,
-        1035,
+        line.span(9, 31),
     )
 }
 
@@ -611,15 +653,15 @@ fn space_body(alloc: Global) -> Result<Expr, AllocError>
 fn end_of_line_body(alloc: Global) -> Result<Expr, AllocError>
     ensures { IfOk result (λ body. form_of body ≡ end_of_line_body) }
 {
+    let line = Line::of_rule(END_OF_LINE);
     choice(
         alloc,
-        literal(alloc, b"\r\n", 1049, 1055)?,
+        literal(alloc, b"\r\n", line.span(13, 19))?,
         vec![in alloc;
-            literal(alloc, b"\n", 1058, 1062)?,
-            literal(alloc, b"\r", 1065, 1069)?,
+            literal(alloc, b"\n", line.span(22, 26))?,
+            literal(alloc, b"\r", line.span(29, 33))?,
         ]?,
-        1049,
-        1069,
+        line.span(13, 33),
     )
 }
 
@@ -628,5 +670,6 @@ fn end_of_line_body(alloc: Global) -> Result<Expr, AllocError>
 fn end_of_file_body(alloc: Global) -> Result<Expr, AllocError>
     ensures { IfOk result (λ body. form_of body ≡ end_of_file_body) }
 {
-    not(alloc, any(1084, 1085), 1083, 1085)
+    let line = Line::of_rule(END_OF_FILE);
+    not(alloc, any(line.span(14, 15)), line.span(13, 15))
 }

@@ -12,7 +12,7 @@ use Rattle.peg_semantics.specs.Rules.{Rule, Meaning, meaning_from, meaning_of}
 use Rattle.peg_semantics.proofs.Derivations.{Derives, DerivesItems, DerivesFirst}
 use Rattle.peg_metagrammar.specs.EscapedFigure.{escaped_figure, escaped_suffix, number_now, numbered_now}
 use Rattle.peg_metagrammar.specs.Figure.{figure}
-use Rattle.peg_metagrammar.specs.FigureRules as rule
+use Rattle.peg_metagrammar.specs.FigureRules.{count_rule, open_sign_rule}
 use Rattle.peg_notation.proofs.Meanings.{Meant, meaning_of-changed, without, all_without, not_false, turned, meant_without, leads_elsewhere}
 
 -- ---- trees
@@ -173,13 +173,13 @@ over_two k v w one two ys used m first second is =
 -- ---- the two metagrammars
 
 abbrev before_counts : List Rule
-before_counts = take rule.count figure
+before_counts = take count_rule figure
 
 abbrev of_counts : List Rule
-of_counts = take 2 (drop rule.count figure)
+of_counts = take 2 (drop count_rule figure)
 
 abbrev behind_counts : List Rule
-behind_counts = drop rule.open_sign figure
+behind_counts = drop open_sign_rule figure
 
 -- no rule after those of counts has their names
 no_count : (k v : ℕ) (used : List ℕ) (m : Meaning) → meaning_from k v behind_counts used ≡ Some m

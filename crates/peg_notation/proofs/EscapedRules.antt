@@ -13,7 +13,8 @@ use Rattle.peg_semantics.proofs.Derivations.{Derives, DerivesItems, DerivesFirst
 use Rattle.peg_semantics.proofs.ResultSteps.{starts_with-rest}
 use Rattle.peg_metagrammar.specs.EscapedFigure.{escaped_figure, escaped_suffix, MatchesEscaped, number_now, numbered_now, IsEscapedReading}
 use Rattle.peg_metagrammar.specs.Figure.{figure, grammar_body, definition_body, expression_body, sequence_body, prefix_body, suffix_body, primary_body, identifier_body, ident_start_body, ident_cont_body, literal_body, class_body, range_body, char_body, count_body, spacing_body, comment_body, space_body, end_of_line_body, end_of_file_body}
-use Rattle.peg_metagrammar.specs.FigureRules as rule
+use Rattle.peg_metagrammar.specs.FigureRules.{grammar_rule, definition_rule, expression_rule, sequence_rule}
+use Rattle.peg_metagrammar.specs.FigureRules.{prefix_rule, suffix_rule, primary_rule, count_rule}
 use Rattle.peg_metagrammar.specs.Notation.{Matches, IsReading}
 use Rattle.peg_metagrammar.specs.Ranges.{class_of}
 use Rattle.peg_metagrammar.specs.Denotation.{spelled, numerals_in, bounds_spelled, bounds_in_range, bad_counts}
@@ -304,7 +305,7 @@ module _ (file : List ℕ) where
       matched≢failed (is ∙ ap (prepend_trees NoTrees) failed)
 
   prefix_meant : (t : ℕ) × (meaning_of escaped_figure (codes "Prefix")
-      ≡ Some (record { rule = rule.prefix; terminal = t; body = prefix_body }))
+      ≡ Some (record { rule = prefix_rule; terminal = t; body = prefix_body }))
   unfolding escaped_figure figure
   prefix_meant = (_, refl)
 
@@ -312,7 +313,7 @@ module _ (file : List ℕ) where
       → Old (Name (codes "Prefix") span) p (Matched end trees) → ⊥
   unfolding prefix_body
   prefix_found {p = p} h (Derives.name_matched {meaning = m} {end = last} {trees = inside} found d t) =
-      let one : Meaning = record { rule = rule.prefix; terminal = prefix_meant.0; body = prefix_body } in
+      let one : Meaning = record { rule = prefix_rule; terminal = prefix_meant.0; body = prefix_body } in
       let both : Some m ≡ Some one = sym found ∙ prefix_meant.1 in
       let same : m ≡ one = cc in
       no_prefix h (subst (λ (z : Meaning). Old z.body p (Matched last inside)) same d)
@@ -409,22 +410,22 @@ module _ (file : List ℕ) where
       → Carried file used m k
   unfolding escaped_figure figure
   body_carries used k m IsHalting.is_grammar found =
-      same_body (codes "Grammar") m rule.grammar _ _ grammar_body grammar_body refl found grammar-meaning_of.1 refl grammar_carried
+      same_body (codes "Grammar") m grammar_rule _ _ grammar_body grammar_body refl found grammar-meaning_of.1 refl grammar_carried
   body_carries used k m IsHalting.is_definition found =
-      same_body (codes "Definition") m rule.definition _ _ definition_body definition_body refl found definition-meaning_of.1 refl
+      same_body (codes "Definition") m definition_rule _ _ definition_body definition_body refl found definition-meaning_of.1 refl
       definition_carried
   body_carries used k m IsHalting.is_expression found =
-      same_body (codes "Expression") m rule.expression _ _ expression_body expression_body refl found expression-meaning_of.1 refl
+      same_body (codes "Expression") m expression_rule _ _ expression_body expression_body refl found expression-meaning_of.1 refl
       expression_carried
   body_carries used k m IsHalting.is_sequence found =
-      same_body (codes "Sequence") m rule.sequence _ _ sequence_body sequence_body refl found sequence-meaning_of.1 refl
+      same_body (codes "Sequence") m sequence_rule _ _ sequence_body sequence_body refl found sequence-meaning_of.1 refl
       sequence_carried
   body_carries used k m IsHalting.is_prefix found =
-      same_body (codes "Prefix") m rule.prefix _ _ prefix_body prefix_body refl found prefix-meaning_of.1 refl prefix_carried
+      same_body (codes "Prefix") m prefix_rule _ _ prefix_body prefix_body refl found prefix-meaning_of.1 refl prefix_carried
   body_carries used k m IsHalting.is_suffix found =
-      same_body (codes "Suffix") m rule.suffix _ _ escaped_suffix suffix_body refl found suffix-meaning_of.1 refl suffix_carried
+      same_body (codes "Suffix") m suffix_rule _ _ escaped_suffix suffix_body refl found suffix-meaning_of.1 refl suffix_carried
   body_carries used k m IsHalting.is_primary found =
-      same_body (codes "Primary") m rule.primary _ _ primary_body primary_body refl found primary-meaning_of.1 refl primary_carried
+      same_body (codes "Primary") m primary_rule _ _ primary_body primary_body refl found primary-meaning_of.1 refl primary_carried
 
   -- ---- files
 
@@ -440,10 +441,10 @@ module _ (file : List ℕ) where
       ]
 
   -- no rule of the escaped metagrammar is COUNT
-  no_count : (n : ℕ) → (number_now n == rule.count) ≡ false
-  no_count n = by (nat_lt n rule.count) refl
+  no_count : (n : ℕ) → (number_now n == count_rule) ≡ false
+  no_count n = by (nat_lt n count_rule) refl
     where
-      by : (t : Bool) → nat_lt n rule.count ≡ t → ((if t then n else n + 2) == rule.count) ≡ false
+      by : (t : Bool) → nat_lt n count_rule ≡ t → ((if t then n else n + 2) == count_rule) ≡ false
       by true less = grind (arith, nat_tests)
       by false less = grind (arith, nat_tests)
 

@@ -8,8 +8,8 @@ use Rattle.peg_semantics.specs.Form as form
 use Rattle.peg_semantics.specs.Form.{Form, Name}
 use Rattle.peg_semantics.specs.Record.{Failed, Matched}
 use Rattle.peg_semantics.proofs.Derivations.{Derives, DerivesItems}
-use Rattle.peg_metagrammar.specs.Figure.{figure, sequence_body, expression_body}
-use Rattle.peg_metagrammar.specs.FigureRules as rule
+use Rattle.peg_metagrammar.specs.Figure.{figure, sequence_body, expression_body, on_line}
+use Rattle.peg_metagrammar.specs.FigureRules.{expression_rule, sequence_rule, slash_rule}
 use Rattle.peg_lexer.specs.Lexical.{matcher_of}
 use Rattle.peg_lexer.specs.Matchers.{PrefixMatch}
 use Rattle.peg_notation.specs.Reader.{ReadError, Unexpected, TooDeepAt, BadCountAt, FormRead, FormsRead, Reading, place_of, starts_with_arrow, kind_begins, begins_prefix, and_read, many_forms, is_bad_count, suffix_sign, with_suffix, then_suffix, primary, suffix, prefix, whole_sequence, sequence, is_slash, starts_with_slash, after_tokens, alternative, whole_choice, expression, expression_in}
@@ -122,13 +122,13 @@ begun_stuck file inner p at (_ ∷ more) (Stream.next k piece lexeme found is re
 -- ---- Sequence
 
 prefix_rounds : (file : List ℕ) (inner : Option Reading) → Good file inner
-    → Rounds file (Name (codes "Prefix") (between 140 146)) (between 140 147) begins_prefix
+    → Rounds file (Name (codes "Prefix") (on_line sequence_rule 12 18)) (on_line sequence_rule 12 19) begins_prefix
     (λ before. prefix file inner)
 prefix_rounds file inner good = record {
   none = λ p lexemes stream none.
       let it = none_begins file inner p lexemes stream none in
       subst (λ (x : Result FormRead ReadError). ExactAny file (codes "Prefix") p lexemes x) it.1
-      (prefix-exact file inner good p lexemes stream) (between 140 146);
+      (prefix-exact file inner good p lexemes stream) (on_line sequence_rule 12 18);
   one = λ before p lexemes stream begins.
       by p lexemes stream begins (prefix file inner lexemes) refl
       (prefix-exact file inner good p lexemes stream);
@@ -136,12 +136,12 @@ prefix_rounds file inner good = record {
   where
     by : (p : ℕ) (lexemes : List Lexeme) → Stream file p lexemes → begins_prefix lexemes ≡ true → (x : Result FormRead ReadError)
         → prefix file inner lexemes ≡ x → ExactAny file (codes "Prefix") p lexemes x
-        → ExactRound file (Name (codes "Prefix") (between 140 146)) (between 140 147) p lexemes x
+        → ExactRound file (Name (codes "Prefix") (on_line sequence_rule 12 18)) (on_line sequence_rule 12 19) p lexemes x
     by p lexemes stream begins (Ok part) is e = record {
       end = e.end;
       trees = e.trees;
       left = e.left;
-      derives = e.derives (between 140 146);
+      derives = e.derives (on_line sequence_rule 12 18);
       spells = e.spells;
       ends = e.ends;
       nests = e.nests;
@@ -150,7 +150,7 @@ prefix_rounds file inner good = record {
     by p lexemes stream begins (Err (Unexpected at)) is fails = record {
       end = p;
       trees = NoTrees;
-      derives = Derives.star_none (fails (between 140 146));
+      derives = Derives.star_none (fails (on_line sequence_rule 12 18));
       stuck = begun_stuck file inner p at lexemes stream begins is;
     }
     by p lexemes stream begins (Err (TooDeepAt at)) is e = tt
@@ -170,8 +170,8 @@ sequence-exact file inner good before p lexemes stream =
     by (many_forms begins_prefix (λ b. prefix file inner) before lexemes)
     (rounds (prefix_rounds file inner good) (length lexemes) before p lexemes (omega arith) stream refl)
   where
-    by : (x : Result FormsRead ReadError) → ExactMany file (Name (codes "Prefix") (between 140 146))
-        (between 140 147) before p lexemes x → ExactAt file (codes "Sequence") before p lexemes
+    by : (x : Result FormsRead ReadError) → ExactMany file (Name (codes "Prefix") (on_line sequence_rule 12 18))
+        (on_line sequence_rule 12 19) before p lexemes x → ExactAt file (codes "Sequence") before p lexemes
         (and_read x (λ (parts : FormsRead). Ok (whole_sequence before (place_of (length file) lexemes) parts)))
     by (Ok parts) m =
         subst (λ start. ReadsAt file (codes "Sequence") before p lexemes (whole_sequence before start parts))
@@ -182,7 +182,7 @@ sequence-exact file inner good before p lexemes stream =
         m.ends m.nests m.left)
     by (Err (Unexpected at)) stops = record {
       end = stops.end;
-      trees = Tree rule.sequence p stops.end stops.trees NoTrees;
+      trees = Tree sequence_rule p stops.end stops.trees NoTrees;
       derives = λ span. Derives.name_matched sequence-meaning_of.1 stops.derives refl;
       stuck = stops.stuck;
     }
@@ -194,8 +194,8 @@ sequence-exact file inner good before p lexemes stream =
 -- a slash and a sequence
 abbrev slash_sequence : Form
 slash_sequence =
-    form.Seq (form.Then (Name (codes "SLASH") (between 111 116)) (form.Then
-    (Name (codes "Sequence") (between 117 125)) form.End)) (between 111 125)
+    form.Seq (form.Then (Name (codes "SLASH") (on_line expression_rule 24 29)) (form.Then
+    (Name (codes "Sequence") (on_line expression_rule 30 38)) form.End)) (on_line expression_rule 24 38)
 
 no_slash : {file : List ℕ} {p : ℕ} → ((span : Extent) → Derives figure file (Name (codes "SLASH") span) p Failed)
     → Derives figure file slash_sequence p Failed
@@ -218,11 +218,11 @@ stuck_slash file q stuck span =
 
 one_alternative : (file : List ℕ) (p : ℕ) (piece : PrefixMatch) (rest : List Lexeme) → matcher_of kind.Slash (drop p file)
     ≡ Some piece → (x : Result FormRead ReadError) → ExactAt file (codes "Sequence") (p + piece.length)
-    (behind_text file p piece.length) rest x → ExactRound file slash_sequence (between 110 127) p
+    (behind_text file p piece.length) rest x → ExactRound file slash_sequence (on_line expression_rule 23 40) p
     (lexeme_at kind.Slash p piece.length ∷ rest) (and_read x (λ (part : FormRead). Ok (after_tokens 1 part)))
 one_alternative file p piece rest found (Ok part) e =
-    let s : FindsToken file rule.slash (codes "SLASH") (between 111 116) p piece = here kind.Slash piece
-    (between 111 116) found in
+    let s : FindsToken file slash_rule (codes "SLASH") (on_line expression_rule 24 29) p piece = here kind.Slash piece
+    (on_line expression_rule 24 29) found in
     let blank : piece.spells ≡ [] = (blank-literal_bytes (codes "/")).blank (drop p file) piece found in
     record {
       end = e.end;
@@ -232,7 +232,7 @@ one_alternative file p piece rest found (Ok part) e =
           subst (λ n. Stream file e.end (drop n (lexeme_at kind.Slash p piece.length ∷ rest))) (sym one) e.left;
       derives =
           Derives.sequence (DerivesItems.items_then s.derives (DerivesItems.items_then
-          (e.derives (between 117 125)) DerivesItems.items_none refl)
+          (e.derives (on_line expression_rule 30 38)) DerivesItems.items_none refl)
           (ap (λ (t : Trees). Matched e.end (followed_by s.trees t)) (sym (followed-none e.trees))));
       spells = λ b.
           spelled-seq_matcher file b s.trees e.trees
@@ -243,14 +243,14 @@ one_alternative file p piece rest found (Ok part) e =
       some = omega arith;
     }
 one_alternative file p piece rest found (Err (Unexpected at)) stops =
-    let s : FindsToken file rule.slash (codes "SLASH") (between 111 116) p piece = here kind.Slash piece
-    (between 111 116) found in
+    let s : FindsToken file slash_rule (codes "SLASH") (on_line expression_rule 24 29) p piece = here kind.Slash piece
+    (on_line expression_rule 24 29) found in
     record {
       end = stops.end;
       trees = followed_by (followed_by s.trees (followed_by stops.trees NoTrees)) NoTrees;
       derives =
           Derives.star_more (Derives.sequence (DerivesItems.items_then s.derives
-          (DerivesItems.items_then (stops.derives (between 117 125)) DerivesItems.items_none refl) refl))
+          (DerivesItems.items_then (stops.derives (on_line expression_rule 30 38)) DerivesItems.items_none refl) refl))
           (Derives.star_none (no_slash (stuck_slash file stops.end stops.stuck))) refl;
       stuck = stops.stuck;
     }
@@ -258,7 +258,7 @@ one_alternative file p piece rest found (Err (TooDeepAt at)) e = tt
 one_alternative file p piece rest found (Err (BadCountAt at)) e = tt
 
 alternative_rounds : (file : List ℕ) (inner : Option Reading) → Good file inner
-    → Rounds file slash_sequence (between 110 127) starts_with_slash (alternative file inner)
+    → Rounds file slash_sequence (on_line expression_rule 23 40) starts_with_slash (alternative file inner)
 unfolding alternative
 alternative_rounds file inner good = record {
   none = λ p lexemes stream none. fails p lexemes stream none;
@@ -274,16 +274,16 @@ alternative_rounds file inner good = record {
         ∙ (ap (λ (l : Lexeme). is_slash l.kind) (sym is) ∙ none) in cc))
 
     reads : (before p : ℕ) (lexemes : List Lexeme) → Stream file p lexemes
-        → starts_with_slash lexemes ≡ true → ExactRound file slash_sequence (between 110 127) p lexemes
+        → starts_with_slash lexemes ≡ true → ExactRound file slash_sequence (on_line expression_rule 23 40) p lexemes
         (alternative file inner before lexemes)
     reads before p [] stream begins = cc
     reads before p (_ ∷ more) (Stream.next k piece lexeme found is rest) begins =
-        subst (λ (l : Lexeme). ExactRound file slash_sequence (between 110 127) p (l ∷
+        subst (λ (l : Lexeme). ExactRound file slash_sequence (on_line expression_rule 23 40) p (l ∷
         more) (and_read (sequence file inner l.text.end more) (λ (part : FormRead). Ok (after_tokens 1 part)))) (sym is)
         (by k found (ap (λ (l : Lexeme). is_slash l.kind) (sym is) ∙ begins))
       where
         by : (k : TokenKind) → matcher_of k (drop p file) ≡ Some piece → is_slash k ≡ true
-            → ExactRound file slash_sequence (between 110 127) p (lexeme_at k p piece.length ∷
+            → ExactRound file slash_sequence (on_line expression_rule 23 40) p (lexeme_at k p piece.length ∷
             more) (and_read (sequence file inner (p + piece.length) more) (λ (part : FormRead). Ok (after_tokens 1 part)))
         by kind.Slash there slash =
             one_alternative file p piece more there (sequence file inner (p + piece.length) more)
@@ -307,7 +307,7 @@ alternative_rounds file inner good = record {
 -- a sequence and the alternatives after it
 both_parts : (file : List ℕ) (before p : ℕ) (lexemes : List Lexeme) (first : FormRead)
     → (e : ReadsAt file (codes "Sequence") before p lexemes first) → (x : Result FormsRead ReadError)
-    → ExactMany file slash_sequence (between 110 127) first.last e.end (drop first.token_count lexemes) x
+    → ExactMany file slash_sequence (on_line expression_rule 23 40) first.last e.end (drop first.token_count lexemes) x
     → ExactAt file (codes "Expression") before p lexemes (and_read x (λ (more : FormsRead). Ok (whole_choice p first more)))
 unfolding expression_body
 both_parts file before p lexemes first e (Ok more) m =
@@ -327,7 +327,7 @@ both_parts file before p lexemes first e (Ok more) m =
     (subst (λ (l : List Lexeme). Stream file m.end l) (drop-drop more.token_count first.token_count lexemes) m.left)
 both_parts file before p lexemes first e (Err (Unexpected at)) stops = record {
   end = stops.end;
-  trees = Tree rule.expression p stops.end (followed_by e.trees (followed_by stops.trees NoTrees)) NoTrees;
+  trees = Tree expression_rule p stops.end (followed_by e.trees (followed_by stops.trees NoTrees)) NoTrees;
   derives = λ span. Derives.name_matched expression-meaning_of.1
       (Derives.sequence
       (DerivesItems.items_then (e.derives _)
@@ -359,7 +359,7 @@ expression-exact file inner good before p lexemes stream =
         (drop first.token_count lexemes)) m)
     by (Err (Unexpected at)) stops = record {
       end = stops.end;
-      trees = Tree rule.expression p stops.end (followed_by stops.trees NoTrees) NoTrees;
+      trees = Tree expression_rule p stops.end (followed_by stops.trees NoTrees) NoTrees;
       derives = λ span. Derives.name_matched expression-meaning_of.1
           (Derives.sequence (DerivesItems.items_then (stops.derives _)
           (DerivesItems.items_then (Derives.star_none

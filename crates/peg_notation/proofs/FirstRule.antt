@@ -7,8 +7,8 @@ use Rattle.peg_semantics.specs.Form.{Form, Forms, Name, Seq, Plus, End, Then}
 use Rattle.peg_semantics.specs.Record.{Recognition, Failed, Matched, prepend_trees}
 use Rattle.peg_semantics.specs.Rules.{Rule, Meaning, meaning_of}
 use Rattle.peg_semantics.proofs.Derivations.{Derives, DerivesItems, derived, one_result}
-use Rattle.peg_metagrammar.specs.Figure.{figure, grammar_body, definition_body}
-use Rattle.peg_metagrammar.specs.FigureRules as rule
+use Rattle.peg_metagrammar.specs.Figure.{figure, grammar_body, definition_body, on_line}
+use Rattle.peg_metagrammar.specs.FigureRules.{grammar_rule, definition_rule, leftarrow_rule}
 use Rattle.peg_lexer.specs.Lexical.{matcher_of}
 use Rattle.peg_lexer.specs.Matchers.{PrefixMatch}
 use Rattle.peg_metagrammar.specs.Notation.{IsReading}
@@ -85,7 +85,7 @@ arrow-blank file span p end trees d before = by (matcher_of kind.Arrow (drop p f
     by None none =
         let bad : Matched end trees ≡ Failed = one_result d ((takes-kind file kind.Arrow).none span p none) in cc
     by (Some piece) found =
-        let it : FindsToken file rule.leftarrow (codes "LEFTARROW") span p piece = here kind.Arrow piece span found in
+        let it : FindsToken file leftarrow_rule (codes "LEFTARROW") span p piece = here kind.Arrow piece span found in
         let both = one_result d it.derives in
         let same : trees ≡ it.trees = cc in
         ap (spelled file before) same ∙ (it.spells before ∙ (blank-literal_bytes (codes "<-")).blank (drop p file) piece found)
@@ -115,7 +115,7 @@ definition-spells file span p end trees d before =
     let names : spelled file before a.first ≡ Word (part file p last) (between p last) ∷ [] =
     ap (spelled file before) name.is in
     let arrows : spelled file behind_name b.first ≡ [] =
-    arrow-blank file (between 66 75) a.middle b.middle b.first b.here_is behind_name in
+    arrow-blank file (on_line definition_rule 25 34) a.middle b.middle b.first b.here_is behind_name in
     let bodies : spelled file behind_arrow c.first ≡ Expression form ∷ [] = ap (spelled file behind_arrow) body.is in
     let nothing : spelled file (text_end behind_arrow c.first) c.more ≡ [] =
     ap (spelled file (text_end behind_arrow c.first)) (in_nothing c.there_is) in
@@ -176,7 +176,7 @@ IsReading-some file rules reading none =
     let rest = in_items gap.there_is in
     let plus = in_plus rest.here_is in
     let behind_gap = text_end 0 gap.first in
-    let one = definition-spells file (between 19 29) gap.middle plus.middle plus.first plus.here_is behind_gap in
+    let one = definition-spells file (on_line grammar_rule 19 29) gap.middle plus.middle plus.first plus.here_is behind_gap in
     let others = spelled file (text_end behind_gap plus.first) plus.more in
     let last = spelled file (text_end behind_gap rest.first) rest.more in
     let definitions : spelled file behind_gap rest.first ≡ Definition one.0 ∷ others =

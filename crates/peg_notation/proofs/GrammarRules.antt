@@ -9,8 +9,9 @@ use Rattle.peg_semantics.specs.Form.{Form, Name, Star}
 use Rattle.peg_semantics.specs.Record.{Failed, Matched}
 use Rattle.peg_semantics.specs.Rules.{Rule}
 use Rattle.peg_semantics.proofs.Derivations.{Derives, DerivesItems, any_here, any_at_end}
-use Rattle.peg_metagrammar.specs.Figure.{figure, definition_body, grammar_body, end_of_file_body}
-use Rattle.peg_metagrammar.specs.FigureRules as rule
+use Rattle.peg_metagrammar.specs.Figure.{figure, definition_body, grammar_body, end_of_file_body, on_line}
+use Rattle.peg_metagrammar.specs.FigureRules.{grammar_rule, definition_rule, identifier_rule, leftarrow_rule}
+use Rattle.peg_metagrammar.specs.FigureRules.{end_of_file_rule}
 use Rattle.peg_lexer.specs.Lexical.{matcher_of, spacing}
 use Rattle.peg_lexer.specs.Matchers.{PrefixMatch}
 use Rattle.peg_notation.specs.Reader.{ReadError, Unexpected, TooDeepAt, BadCountAt, FormRead, starts_with_arrow, is_arrow, and_read, expression_in, RuleRead, RulesRead, and_rules, rule_read, definition_after, definition_of, definition, definitions_after, grammar}
@@ -45,7 +46,7 @@ not_ended {file} {p} k piece found span = by (drop p file) refl
 
 -- at the end it does
 pub ended_here : {file : List ℕ} {p : ℕ} → p ≡ length file → (span : Extent)
-    → Derives figure file (Name (codes "EndOfFile") span) p (Matched p (Tree rule.end_of_file p p NoTrees NoTrees))
+    → Derives figure file (Name (codes "EndOfFile") span) p (Matched p (Tree end_of_file_rule p p NoTrees NoTrees))
 unfolding end_of_file_body
 ended_here {file} {p} last span =
     Derives.name_matched end_of_file-meaning_of.1 (Derives.not_matched (any_at_end (drop_all p file (omega arith)))) refl
@@ -98,10 +99,10 @@ definition_read : (file : List ℕ) (p : ℕ) (piece : PrefixMatch) → matcher_
 unfolding definition_body
 definition_read file p piece found arrow there rest (Ok body) e =
     let q : ℕ = behind_text file p piece.length in
-    let i : FindsToken file rule.identifier (codes "Identifier") (between 55 65) p piece = here kind.Ident piece
-    (between 55 65) found in
-    let a : FindsToken file rule.leftarrow (codes "LEFTARROW") (between 66 75) q arrow = here kind.Arrow arrow
-    (between 66 75) there in
+    let i : FindsToken file identifier_rule (codes "Identifier") (on_line definition_rule 14 24) p piece = here kind.Ident piece
+    (on_line definition_rule 14 24) found in
+    let a : FindsToken file leftarrow_rule (codes "LEFTARROW") (on_line definition_rule 25 34) q arrow = here kind.Arrow arrow
+    (on_line definition_rule 25 34) there in
     let blank : arrow.spells ≡ [] = (blank-literal_bytes (codes "<-")).blank (drop q file) arrow there in
     let inside : Trees = followed_by i.trees (followed_by a.trees e.trees) in
     let spelling : (b : ℕ) → spelled file b inside ≡ Word (part file p (p + piece.length))
@@ -115,14 +116,14 @@ definition_read file p piece found arrow there rest (Ok body) e =
     ∙ ap (λ (pieces : List Denotation). pieces ++ Expression body.form ∷ []) (i.spells b)) in
     record {
       end = e.end;
-      trees = Tree rule.definition p e.end inside NoTrees;
+      trees = Tree definition_rule p e.end inside NoTrees;
       left =
           let two : 2 + body.token_count ≡ suc (suc body.token_count) = omega arith in
           subst (λ n. Stream file e.end (drop n (lexeme_at kind.Ident p piece.length ∷
           lexeme_at kind.Arrow q arrow.length ∷ rest))) (sym two) e.left;
       derives = λ span. Derives.name_matched definition-meaning_of.1
           (Derives.sequence (DerivesItems.items_then i.derives (DerivesItems.items_then a.derives
-          (DerivesItems.items_then (e.derives (between 76 86)) DerivesItems.items_none refl) refl)
+          (DerivesItems.items_then (e.derives (on_line definition_rule 35 45)) DerivesItems.items_none refl) refl)
           (ap (λ (t : Trees). Matched e.end (followed_by i.trees (followed_by a.trees t)))
           (sym (followed-none e.trees))))) refl;
       spells = λ b. append-nil (definition_spelled (spelled file b inside)) ∙ ap definition_spelled (spelling b);
@@ -141,13 +142,13 @@ definition_read file p piece found arrow there rest (Ok body) e =
 definition_read file p piece found arrow there rest (Err (Unexpected at)) stops =
     inr (record {
       end = stops.end;
-      trees = Tree rule.definition p stops.end (followed_by ((here kind.Ident piece (between 55 65) found).trees)
-          (followed_by ((here kind.Arrow arrow (between 66 75) there).trees)
+      trees = Tree definition_rule p stops.end (followed_by ((here kind.Ident piece (on_line definition_rule 14 24) found).trees)
+          (followed_by ((here kind.Arrow arrow (on_line definition_rule 25 34) there).trees)
           (followed_by stops.trees NoTrees))) NoTrees;
       derives = λ span. Derives.name_matched definition-meaning_of.1
-          (Derives.sequence (DerivesItems.items_then ((here kind.Ident piece (between 55 65) found).derives)
-          (DerivesItems.items_then ((here kind.Arrow arrow (between 66 75) there).derives)
-          (DerivesItems.items_then (stops.derives (between 76 86)) DerivesItems.items_none refl) refl) refl)) refl;
+          (Derives.sequence (DerivesItems.items_then ((here kind.Ident piece (on_line definition_rule 14 24) found).derives)
+          (DerivesItems.items_then ((here kind.Arrow arrow (on_line definition_rule 25 34) there).derives)
+          (DerivesItems.items_then (stops.derives (on_line definition_rule 35 45)) DerivesItems.items_none refl) refl) refl)) refl;
       stuck = stops.stuck;
     })
 definition_read file p piece found arrow there rest (Err (TooDeepAt at)) e = tt
@@ -248,7 +249,7 @@ stuck_name file q stuck span =
 -- definitions up to the end of the file
 pub record ReadsRules (file : List ℕ) (p : ℕ) (read : RulesRead) : Type 0 where
   pub trees : Trees
-  pub derives : Derives figure file (Star (Name (codes "Definition") (between 19 29)) (between 19 30)) p
+  pub derives : Derives figure file (Star (Name (codes "Definition") (on_line grammar_rule 19 29)) (on_line grammar_rule 19 30)) p
       (Matched (length file) trees)
   pub spells : (before : ℕ) → spelled file before trees ≡ map Definition read.rules
   pub nests : nesting trees ≡ read.depth
@@ -257,7 +258,7 @@ pub record ReadsRules (file : List ℕ) (p : ℕ) (read : RulesRead) : Type 0 wh
 pub record StopsEarly (file : List ℕ) (p : ℕ) : Type 0 where
   pub end : ℕ
   pub trees : Trees
-  pub derives : Derives figure file (Star (Name (codes "Definition") (between 19 29)) (between 19 30)) p
+  pub derives : Derives figure file (Star (Name (codes "Definition") (on_line grammar_rule 19 29)) (on_line grammar_rule 19 30)) p
       (Matched end trees)
   pub more : (span : Extent) → Derives figure file (Name (codes "EndOfFile") span) end Failed
 
@@ -282,7 +283,7 @@ more_rules : (file : List ℕ) (p : ℕ) (lexemes : List Lexeme) (first : RuleRe
     → ExactRules file p (and_read x (λ (more : RulesRead). Ok (and_rules first more)))
 more_rules file p lexemes first e (Ok more) m = record {
   trees = followed_by e.trees m.trees;
-  derives = Derives.star_more (e.derives (between 19 29)) m.derives refl;
+  derives = Derives.star_more (e.derives (on_line grammar_rule 19 29)) m.derives refl;
   spells = λ b.
       spelled-seq_matcher file b e.trees m.trees
       ∙ (ap (λ (pieces : List Denotation). spelled file b e.trees ++ pieces) (m.spells (text_end b e.trees))
@@ -292,7 +293,7 @@ more_rules file p lexemes first e (Ok more) m = record {
 more_rules file p lexemes first e (Err (Unexpected at)) stops = record {
   end = stops.end;
   trees = followed_by e.trees stops.trees;
-  derives = Derives.star_more (e.derives (between 19 29)) stops.derives refl;
+  derives = Derives.star_more (e.derives (on_line grammar_rule 19 29)) stops.derives refl;
   more = stops.more;
 }
 more_rules file p lexemes first e (Err (TooDeepAt at)) m = tt
@@ -303,8 +304,8 @@ rules_stop : (file : List ℕ) (p : ℕ) → Stops file (codes "Definition") p �
 rules_stop file p stops = record {
   end = stops.end;
   trees = followed_by stops.trees NoTrees;
-  derives = Derives.star_more (stops.derives (between 19 29))
-      (Derives.star_none (no_name (stuck_name file stops.end stops.stuck) (between 19 29))) refl;
+  derives = Derives.star_more (stops.derives (on_line grammar_rule 19 29))
+      (Derives.star_none (no_name (stuck_name file stops.end stops.stuck) (on_line grammar_rule 19 29))) refl;
   more = not_ended stops.stuck.kind stops.stuck.piece stops.stuck.found;
 }
 
@@ -315,9 +316,9 @@ unfolding definitions_after
 definitions file bound n p [] few (Stream.ended last) = record {
   trees = NoTrees;
   derives =
-      subst (λ end. Derives figure file (Star (Name (codes "Definition") (between 19 29)) (between 19 30)) p
+      subst (λ end. Derives figure file (Star (Name (codes "Definition") (on_line grammar_rule 19 29)) (on_line grammar_rule 19 30)) p
       (Matched end NoTrees)) last (Derives.star_none
-      (no_name (λ span. none_here kind.Ident span last) (between 19 29)));
+      (no_name (λ span. none_here kind.Ident span last) (on_line grammar_rule 19 29)));
   spells = λ b. refl;
   nests = refl;
 }
@@ -338,7 +339,7 @@ definitions file bound (suc n) p (l ∷ rest) few stream =
     stops_here k piece found fails = record {
       end = p;
       trees = NoTrees;
-      derives = Derives.star_none (fails (between 19 29));
+      derives = Derives.star_none (fails (on_line grammar_rule 19 29));
       more = not_ended k piece found;
     }
 
@@ -387,12 +388,12 @@ first_place file = 0 + (spacing (drop 0 file)).length
 
 -- no definition, or something else after the last one
 grammar_fails : (file : List ℕ) → DerivesItems figure file
-    (form.Then (form.Plus (Name (codes "Definition") (between 19 29)) (between 19 30))
-    (form.Then (Name (codes "EndOfFile") (between 31 40)) form.End)) (first_place file) Failed → (span : Extent)
+    (form.Then (form.Plus (Name (codes "Definition") (on_line grammar_rule 19 29)) (on_line grammar_rule 19 30))
+    (form.Then (Name (codes "EndOfFile") (on_line grammar_rule 31 40)) form.End)) (first_place file) Failed → (span : Extent)
     → Derives figure file (Name (codes "Grammar") span) 0 Failed
 unfolding grammar_body
 grammar_fails file items span =
-    let gap : FindsSpacing file (between 11 18) 0 = finds-spacing file (between 11 18) 0 in
+    let gap : FindsSpacing file (on_line grammar_rule 11 18) 0 = finds-spacing file (on_line grammar_rule 11 18) 0 in
     Derives.name_failed grammar-meaning_of.1 (Derives.sequence (DerivesItems.items_then gap.derives items refl))
 
 -- one definition and those after it, up to the end
@@ -401,9 +402,9 @@ grammar_read : (file : List ℕ) (lexemes : List Lexeme) (first : RuleRead)
     → ExactFile file (and_read x (λ (more : RulesRead). Ok (and_rules first more)))
 unfolding grammar_body
 grammar_read file lexemes first e (Ok more) m =
-    let gap : FindsSpacing file (between 11 18) 0 = finds-spacing file (between 11 18) 0 in
+    let gap : FindsSpacing file (on_line grammar_rule 11 18) 0 = finds-spacing file (on_line grammar_rule 11 18) 0 in
     let all : Trees = followed_by e.trees m.trees in
-    let last : Trees = Tree rule.end_of_file (length file) (length file) NoTrees NoTrees in
+    let last : Trees = Tree end_of_file_rule (length file) (length file) NoTrees NoTrees in
     let inside : Trees = followed_by gap.trees (followed_by all last) in
     let spelling : spelled file 0 inside ≡ map Definition (first.rule ∷ more.rules) =
     spelled-seq_matcher file 0 gap.trees (followed_by all last)
@@ -417,12 +418,12 @@ grammar_read file lexemes first e (Ok more) m =
     ∙ ap (λ (pieces : List Denotation). pieces ++ map Definition more.rules) (e.spells (text_end 0 gap.trees))))))) in
     record {
       end = length file;
-      trees = Tree rule.grammar 0 (length file) inside NoTrees;
+      trees = Tree grammar_rule 0 (length file) inside NoTrees;
       derives = λ span. Derives.name_matched grammar-meaning_of.1
           (Derives.sequence (DerivesItems.items_then gap.derives (DerivesItems.items_then
-          (Derives.plus_matched (e.derives (between 19 29)) m.derives refl)
+          (Derives.plus_matched (e.derives (on_line grammar_rule 19 29)) m.derives refl)
           (DerivesItems.items_then (ended_here refl
-          (between 31 40)) DerivesItems.items_none refl) refl) refl)) refl;
+          (on_line grammar_rule 31 40)) DerivesItems.items_none refl) refl) refl)) refl;
       spells = sym (ap rules_denoted (append-nil (spelled file 0 inside) ∙ spelling) ∙ rules-all (first.rule ∷ more.rules));
       nests =
           omega (
@@ -437,8 +438,8 @@ grammar_read file lexemes first e (Ok more) m =
           );
     }
 grammar_read file lexemes first e (Err (Unexpected at)) stops =
-    grammar_fails file (DerivesItems.items_then (Derives.plus_matched (e.derives (between 19 29)) stops.derives refl)
-    (DerivesItems.items_failed (stops.more (between 31 40))) refl)
+    grammar_fails file (DerivesItems.items_then (Derives.plus_matched (e.derives (on_line grammar_rule 19 29)) stops.derives refl)
+    (DerivesItems.items_failed (stops.more (on_line grammar_rule 31 40))) refl)
 grammar_read file lexemes first e (Err (TooDeepAt at)) m = tt
 grammar_read file lexemes first e (Err (BadCountAt at)) m = tt
 
@@ -448,7 +449,7 @@ pub grammar-exact : (file : List ℕ) (bound : ℕ) (lexemes : List Lexeme) → 
 unfolding grammar definitions_after
 grammar-exact file bound [] (Stream.ended last) =
     grammar_fails file (DerivesItems.items_failed (Derives.plus_failed
-    (no_name (λ span. none_here kind.Ident span last) (between 19 29))))
+    (no_name (λ span. none_here kind.Ident span last) (on_line grammar_rule 19 29))))
 grammar-exact file bound (l ∷ rest) stream =
     step (definition file bound (l ∷ rest)) (definition-exact file bound (first_place file) (l ∷ rest) stream)
     (λ part_read e.
@@ -469,11 +470,11 @@ grammar-exact file bound (l ∷ rest) stream =
         grammar_read file (l ∷ rest) part_read e (definitions_after file bound rest (part_read.token_count - 1))
         (later part_read e)
     step (Err (Unexpected at)) (inl fails) later =
-        grammar_fails file (DerivesItems.items_failed (Derives.plus_failed (fails (between 19 29))))
+        grammar_fails file (DerivesItems.items_failed (Derives.plus_failed (fails (on_line grammar_rule 19 29))))
     step (Err (Unexpected at)) (inr stops) later =
-        grammar_fails file (DerivesItems.items_then (Derives.plus_matched (stops.derives (between 19 29))
-        (Derives.star_none (no_name (stuck_name file stops.end stops.stuck) (between 19 29))) refl)
+        grammar_fails file (DerivesItems.items_then (Derives.plus_matched (stops.derives (on_line grammar_rule 19 29))
+        (Derives.star_none (no_name (stuck_name file stops.end stops.stuck) (on_line grammar_rule 19 29))) refl)
         (DerivesItems.items_failed (not_ended stops.stuck.kind stops.stuck.piece stops.stuck.found
-        (between 31 40))) refl)
+        (on_line grammar_rule 31 40))) refl)
     step (Err (TooDeepAt at)) e later = tt
     step (Err (BadCountAt at)) e later = tt

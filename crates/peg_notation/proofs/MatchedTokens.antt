@@ -12,7 +12,8 @@ use Rattle.peg_semantics.proofs.Derivations.{Derives, DerivesItems, DerivesFirst
 use Rattle.peg_semantics.proofs.ResultSteps.{begins_with, passes_any}
 use Rattle.peg_semantics.proofs.TerminalLemmas.{record_in-ends}
 use Rattle.peg_metagrammar.specs.Figure.{figure, grammar_body, definition_body, expression_body, sequence_body, prefix_body, suffix_body, primary_body, end_of_file_body}
-use Rattle.peg_metagrammar.specs.FigureRules as rule
+use Rattle.peg_metagrammar.specs.FigureRules.{grammar_rule, primary_rule, count_rule, open_sign_rule}
+use Rattle.peg_metagrammar.specs.FigureRules.{end_of_file_rule}
 use Rattle.peg_metagrammar.specs.Nesting.{nesting, has_open}
 use Rattle.peg_metagrammar.specs.Notation.{Matches, FigureMatches}
 use Rattle.peg_metagrammar.specs.Denotation.{text_end, spelled, numerals_in, bounds_spelled, bounds_in_range, bad_counts}
@@ -131,7 +132,7 @@ primary-takes = (
 -- what a rule's body matches: only that of Primary matches parentheses
 abbrev TakesBody : Meaning → Type 0
 TakesBody m =
-    (OfTokens m.body ⊎ (IsPrimaryChoice m.body × (m.rule ≡ rule.primary))) × ((m.rule == rule.count) ≡ false)
+    (OfTokens m.body ⊎ (IsPrimaryChoice m.body × (m.rule ≡ primary_rule))) × ((m.rule == count_rule) ≡ false)
 
 -- a name has one meaning
 meant_body : (name used : List ℕ) (m known : Meaning) → used ≡ name → meaning_of figure name ≡ Some known
@@ -241,7 +242,7 @@ behind_stands first Failed rest = tt
 behind_stands first (Matched end more) rest = both_stand first rest refl
 
 -- a node of a rule other than COUNT has the counts of its children
-node-counts : (file : List ℕ) (number position end : ℕ) (inside : Trees) → (number == rule.count) ≡ false
+node-counts : (file : List ℕ) (number position end : ℕ) (inside : Trees) → (number == count_rule) ≡ false
     → bad_counts file (Tree number position end inside NoTrees) ≡ bad_counts file inside
 node-counts file number position end inside no_count =
     ap (λ (t : Bool). (if t && not (bounds_in_range (bounds_spelled (numerals_in (spelled file position inside)))) then position ∷ []
@@ -249,13 +250,13 @@ node-counts file number position end inside no_count =
     ∙ append-nil (bad_counts file inside)
 
 -- the trees of a rule's node nest at least as deep as those inside
-node_stands : {file : List ℕ} {position end : ℕ} {inside tree : Trees} (number : ℕ) → (number == rule.count) ≡ false
+node_stands : {file : List ℕ} {position end : ℕ} {inside tree : Trees} (number : ℕ) → (number == count_rule) ≡ false
     → Stand file position end inside → tree ≡ Tree number position end inside NoTrees → Stand file position end tree
 node_stands {file} {position} {end} {inside = inside} number no_count x is = record {
   list = x.list;
   stand = x.stand;
   even = x.even;
-  deep = omega (arith, x.deep, ap nesting is, by (number == rule.primary && has_open inside));
+  deep = omega (arith, x.deep, ap nesting is, by (number == primary_rule && has_open inside));
   counts = ap (bad_counts file) is ∙ (node-counts file number position end inside no_count ∙ x.counts);
 }
   where
@@ -282,7 +283,7 @@ one_token : {file : List ℕ} {span : Extent} {position end : ℕ} {trees : Tree
 one_token {trees = trees} k d = Lexemes.one (trees, matches (elsewhere (between 0 0) d), refl) Lexemes.none
 
 -- COUNT alone is the rule of counts
-count-number : (k : TokenKind) → (number_of k == rule.count) ≡ is_count k
+count-number : (k : TokenKind) → (number_of k == count_rule) ≡ is_count k
 count-number kind.Ident = refl
 count-number kind.Literal = refl
 count-number kind.Class = refl
@@ -402,7 +403,7 @@ open-tree : {file : List ℕ} {first : Extent} {position end : ℕ} {trees : Tre
     → Derives figure file (Name (codes "OPEN") first) position (Matched end trees) → has_open trees ≡ true
 open-tree {position = position} {end = end} (Derives.name_matched {meaning = m} {trees = inside} found d t) =
     let same : Some m ≡ Some _ = sym found ∙ open_sign-meaning_of.1 in
-    let number : m.rule ≡ rule.open_sign = cc in
+    let number : m.rule ≡ open_sign_rule = cc in
     ap has_open t ∙ ap (λ n. has_open (Tree n position end inside NoTrees)) number
 
 opened_stands : {file : List ℕ} {first : Extent} {position middle : ℕ} {one : Trees}
@@ -427,14 +428,14 @@ in_primary file position Failed s = tt
 in_primary file position (Matched end trees) s = inl s
 
 -- a Primary's tree
-primary_stands : {file : List ℕ} {position end : ℕ} {inside tree : Trees} (number : ℕ) → (number == rule.count) ≡ false
-    → number ≡ rule.primary → InPrimary file position (Matched end inside) → tree ≡ Tree number position end inside NoTrees
+primary_stands : {file : List ℕ} {position end : ℕ} {inside tree : Trees} (number : ℕ) → (number == count_rule) ≡ false
+    → number ≡ primary_rule → InPrimary file position (Matched end inside) → tree ≡ Tree number position end inside NoTrees
     → Stand file position end tree
 primary_stands number no_count primary (inl s) is = node_stands number no_count s is
 primary_stands {file} {position} {end} {inside} number no_count primary (inr s) is =
-    let test : (number == rule.primary && has_open inside) ≡ true =
-    λ i. primary i == rule.primary && s.opening i in
-    let one : max ((if number == rule.primary && has_open inside then 1 else 0) + nesting inside) 0
+    let test : (number == primary_rule && has_open inside) ≡ true =
+    λ i. primary i == primary_rule && s.opening i in
+    let one : max ((if number == primary_rule && has_open inside then 1 else 0) + nesting inside) 0
     ≡ max (1 + nesting inside) 0 = ap (λ (t : Bool). max ((if t then 1 else 0) + nesting inside) 0) test in
     record {
       list = s.list;
@@ -700,7 +701,7 @@ has_tokens file end trees m =
           );
       counts =
           ap (bad_counts file) whole.2
-          ∙ (node-counts file rule.grammar 0 end whole.0 refl
+          ∙ (node-counts file grammar_rule 0 end whole.0 refl
           ∙ (ap (bad_counts file) gap.is
           ∙ (bad_counts-seq_matcher file gap.one gap.more
           ∙ (ap (λ (l : List ℕ). l ++ bad_counts file gap.more) (spacing-fine gap.item)
@@ -708,7 +709,7 @@ has_tokens file end trees m =
           ∙ (bad_counts-seq_matcher file rules.one rules.more
           ∙ (ap (λ (l : List ℕ). bad_counts file rules.one ++ l) (ap (bad_counts file) last.is ∙ (ap (λ (t : Trees). bad_counts file (followed_by last.one t)) (no_items last.rest)
           ∙ (ap (λ (t : Trees). bad_counts file (followed_by t NoTrees)) inside.2
-          ∙ ap (λ (t : Trees). bad_counts file (followed_by (Tree rule.end_of_file rules.middle last.middle t NoTrees) NoTrees)) (not_leaves inside.1))))
+          ∙ ap (λ (t : Trees). bad_counts file (followed_by (Tree end_of_file_rule rules.middle last.middle t NoTrees) NoTrees)) (not_leaves inside.1))))
           ∙ (append-nil (bad_counts file rules.one) ∙ tokens.counts))))))));
     }
 

@@ -8,8 +8,9 @@ use Rattle.peg_semantics.specs.Form as form
 use Rattle.peg_semantics.specs.Form.{Form, Name}
 use Rattle.peg_semantics.specs.Record.{Failed, Matched}
 use Rattle.peg_semantics.proofs.Derivations.{Derives, DerivesItems, DerivesFirst}
-use Rattle.peg_metagrammar.specs.Figure.{figure, suffix_body, prefix_body}
-use Rattle.peg_metagrammar.specs.FigureRules as rule
+use Rattle.peg_metagrammar.specs.Figure.{figure, suffix_body, prefix_body, on_line}
+use Rattle.peg_metagrammar.specs.FigureRules.{prefix_rule, suffix_rule, and_sign_rule, not_sign_rule, question_rule}
+use Rattle.peg_metagrammar.specs.FigureRules.{star_rule, plus_rule, count_rule}
 use Rattle.peg_lexer.specs.Lexical.{matcher_of}
 use Rattle.peg_lexer.specs.Matchers.{PrefixMatch}
 use Rattle.peg_notation.specs.Reader.{ReadError, Unexpected, TooDeepAt, BadCountAt, FormRead, Reading, place_of, and_read, pieces_of, bounds_of_lexeme, is_bad_count, primary, with_token, then_suffix, suffix, with_prefix, prefix_of, prefix_sign, prefix}
@@ -115,8 +116,8 @@ suffix_read file p lexemes part e (_ ∷ rest) same (Stream.next k piece lexeme 
         ≡ lexeme_at k e.end piece.length ∷ rest → ExactAny file (codes "Suffix") p lexemes
         (with_token file p part (lexeme_at k e.end piece.length))
     by kind.Question at_end left_is =
-        let it : FindsToken file rule.question (codes "QUESTION")
-        (between 197 205) e.end piece = here kind.Question piece (between 197 205) at_end in
+        let it : FindsToken file question_rule (codes "QUESTION")
+        (on_line suffix_rule 19 27) e.end piece = here kind.Question piece (on_line suffix_rule 19 27) at_end in
         one_suffix file p lexemes part e form.Optional rest it it.spells
         (Derives.sequence (DerivesItems.items_then (e.derives _)
         (DerivesItems.items_then (Derives.optional_some (Derives.choice
@@ -125,8 +126,8 @@ suffix_read file p lexemes part e (_ ∷ rest) same (Stream.next k piece lexeme 
         (sym (followed-none it.trees)))))
         (next_left kind.Question left_is)
     by kind.Star at_end left_is =
-        let it : FindsToken file rule.star (codes "STAR") (between 208 212) e.end piece = here kind.Star piece
-        (between 208 212) at_end in
+        let it : FindsToken file star_rule (codes "STAR") (on_line suffix_rule 30 34) e.end piece = here kind.Star piece
+        (on_line suffix_rule 30 34) at_end in
         one_suffix file p lexemes part e form.Star rest it it.spells
         (Derives.sequence (DerivesItems.items_then (e.derives _)
         (DerivesItems.items_then (Derives.optional_some (Derives.choice
@@ -136,8 +137,8 @@ suffix_read file p lexemes part e (_ ∷ rest) same (Stream.next k piece lexeme 
         (sym (followed-none it.trees)))))
         (next_left kind.Star left_is)
     by kind.Plus at_end left_is =
-        let it : FindsToken file rule.plus (codes "PLUS") (between 215 219) e.end piece = here kind.Plus piece
-        (between 215 219) at_end in
+        let it : FindsToken file plus_rule (codes "PLUS") (on_line suffix_rule 37 41) e.end piece = here kind.Plus piece
+        (on_line suffix_rule 37 41) at_end in
         one_suffix file p lexemes part e form.Plus rest it it.spells
         (Derives.sequence (DerivesItems.items_then (e.derives _)
         (DerivesItems.items_then (Derives.optional_some (Derives.choice
@@ -148,8 +149,8 @@ suffix_read file p lexemes part e (_ ∷ rest) same (Stream.next k piece lexeme 
         (sym (followed-none it.trees)))))
         (next_left kind.Plus left_is)
     by kind.Count at_end left_is =
-        let it : FindsToken file rule.count (codes "COUNT") (between 222 227) e.end piece = here kind.Count piece
-        (between 222 227) at_end in
+        let it : FindsToken file count_rule (codes "COUNT") (on_line suffix_rule 44 49) e.end piece = here kind.Count piece
+        (on_line suffix_rule 44 49) at_end in
         let pieces : pieces_of file (lexeme_at kind.Count e.end piece.length) ≡ piece.spells =
         pieces_here file kind.Count e.end piece at_end in
         let sign = counted_form (bounds_of_lexeme file (lexeme_at kind.Count e.end piece.length)) in
@@ -224,8 +225,8 @@ no_prefix file p lexemes ands nots (Err (BadCountAt at)) e = tt
 one_prefix : (file : List ℕ) (p : ℕ) (lexeme : Lexeme)
     (more : List Lexeme) {number : ℕ} {used : List ℕ} {span : Extent} {piece : PrefixMatch} (sign : Form → Extent → Form)
     → (it : FindsToken file number used span p piece) → ((before : ℕ) → spelled file before it.trees ≡ Sign sign ∷ [])
-    → Derives figure file (form.Optional (form.Choice (Name (codes "AND") (between 159 162))
-    (form.Then (Name (codes "NOT") (between 165 168)) form.End) (between 159 168)) (between 158 170)) p
+    → Derives figure file (form.Optional (form.Choice (Name (codes "AND") (on_line prefix_rule 11 14))
+    (form.Then (Name (codes "NOT") (on_line prefix_rule 17 20)) form.End) (on_line prefix_rule 11 20)) (on_line prefix_rule 10 22)) p
     (Matched (behind_text file p piece.length) it.trees) → (x : Result FormRead ReadError)
     → ExactAny file (codes "Suffix") (behind_text file p piece.length) more x
     → ExactAny file (codes "Prefix") p (lexeme ∷ more) (and_read x (λ (part : FormRead). Ok (with_prefix p sign part)))
@@ -274,14 +275,14 @@ prefix-exact file inner good p (_ ∷ more) (Stream.next k piece lexeme found is
         → ExactAny file (codes "Prefix") p (lexeme_at k p piece.length ∷
         more) (prefix_of file inner (lexeme_at k p piece.length) more (prefix_sign k))
     by kind.And there =
-        let it : FindsToken file rule.and_sign (codes "AND") (between 159 162) p piece = here kind.And piece
-        (between 159 162) there in
+        let it : FindsToken file and_sign_rule (codes "AND") (on_line prefix_rule 11 14) p piece = here kind.And piece
+        (on_line prefix_rule 11 14) there in
         one_prefix file p (lexeme_at kind.And p piece.length) more form.And it it.spells
         (Derives.optional_some (Derives.choice (DerivesFirst.alternative_matched it.derives)))
         (suffix file inner more) (suffix-exact file inner good (behind_text file p piece.length) more rest)
     by kind.Not there =
-        let it : FindsToken file rule.not_sign (codes "NOT") (between 165 168) p piece = here kind.Not piece
-        (between 165 168) there in
+        let it : FindsToken file not_sign_rule (codes "NOT") (on_line prefix_rule 17 20) p piece = here kind.Not piece
+        (on_line prefix_rule 17 20) there in
         one_prefix file p (lexeme_at kind.Not p piece.length) more form.Not it it.spells
         (Derives.optional_some (Derives.choice (DerivesFirst.alternative_failed
         (not_here kind.Not piece kind.And _ there (λ x. cc)) (DerivesFirst.alternative_last it.derives))))

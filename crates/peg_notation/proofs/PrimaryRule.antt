@@ -8,8 +8,9 @@ use Rattle.peg_semantics.specs.Form as form
 use Rattle.peg_semantics.specs.Form.{Form, Name, Not, End, Then}
 use Rattle.peg_semantics.specs.Record.{Failed, Matched}
 use Rattle.peg_semantics.proofs.Derivations.{Derives, DerivesItems, DerivesFirst}
-use Rattle.peg_metagrammar.specs.Figure.{figure, primary_body}
-use Rattle.peg_metagrammar.specs.FigureRules as rule
+use Rattle.peg_metagrammar.specs.Figure.{figure, primary_body, on_line}
+use Rattle.peg_metagrammar.specs.FigureRules.{primary_rule, identifier_rule, literal_rule, class_rule, open_sign_rule}
+use Rattle.peg_metagrammar.specs.FigureRules.{close_rule, dot_rule}
 use Rattle.peg_lexer.specs.Lexical.{matcher_of}
 use Rattle.peg_lexer.specs.Matchers.{PrefixMatch}
 use Rattle.peg_metagrammar.specs.Ranges.{class_of}
@@ -33,7 +34,7 @@ use Rattle.peg_lexer.proofs.Texts.{FindsToken, behind_text}
 -- a match of the body is one tree
 matched : {file : List ℕ} {p end : ℕ} {trees : Trees} → Derives figure file primary_body p (Matched end trees)
     → (span : Extent) → Derives figure file (Name (codes "Primary") span) p
-    (Matched end (Tree rule.primary p end trees NoTrees))
+    (Matched end (Tree primary_rule p end trees NoTrees))
 matched d span = Derives.name_matched primary-meaning_of.1 d refl
 
 -- all five alternatives fail
@@ -62,7 +63,7 @@ other_fails k piece found a b c d e =
 
 -- a primary of one token
 of_token : {file : List ℕ} {p : ℕ} {k : TokenKind} {span : Extent} {piece : PrefixMatch} {more : List Lexeme} (value : Form)
-    → (it : FindsToken file (number_of k) (rule_of_kind k) span p piece) → (number_of k == rule.open_sign) ≡ false
+    → (it : FindsToken file (number_of k) (rule_of_kind k) span p piece) → (number_of k == open_sign_rule) ≡ false
     → ((before : ℕ) → primary_spelled (node_spelled file (number_of k) before p (behind_text file p piece.length)
     (p + piece.length) piece.spells) ≡ Expression value ∷ [])
     → Derives figure file primary_body p (Matched (behind_text file p piece.length) it.trees)
@@ -71,7 +72,7 @@ of_token : {file : List ℕ} {p : ℕ} {k : TokenKind} {span : Extent} {piece : 
     more) (record { form = value; token_count = 1; last = p + piece.length; depth = 0 })
 of_token {file} {p} {k} {span} {piece} {more} value it closed_form spelling d left = record {
   end = behind_text file p piece.length;
-  trees = Tree rule.primary p (behind_text file p piece.length) it.trees NoTrees;
+  trees = Tree primary_rule p (behind_text file p piece.length) it.trees NoTrees;
   left = left;
   derives = matched d;
   spells = λ before.
@@ -151,8 +152,8 @@ name_primary file p piece more inner found rest =
         (lexeme_at kind.Ident p piece.length ∷ more) (primary_of file inner
         (lexeme_at kind.Ident p piece.length) more kind.Ident)
     read none =
-        let it : FindsToken file rule.identifier (codes "Identifier") (between 241 251) p piece = here kind.Ident piece
-        (between 241 251) found in
+        let it : FindsToken file identifier_rule (codes "Identifier") (on_line primary_rule 11 21) p piece = here kind.Ident piece
+        (on_line primary_rule 11 21) found in
         rw none.0 (of_token (form.Name (part file p (p + piece.length)) (between p (p + piece.length))) it refl
         (λ before. refl)
         (Derives.choice (DerivesFirst.alternative_matched (Derives.sequence
@@ -173,8 +174,8 @@ literal_primary : (file : List ℕ) (p : ℕ) (piece : PrefixMatch) (more : List
     more) (primary_of file inner (lexeme_at kind.Literal p piece.length) more kind.Literal)
 unfolding primary_body
 literal_primary file p piece more inner found rest =
-    let it : FindsToken file rule.literal (codes "Literal") (between 289 296) p piece = here kind.Literal piece
-    (between 289 296) found in
+    let it : FindsToken file literal_rule (codes "Literal") (on_line primary_rule 59 66) p piece = here kind.Literal piece
+    (on_line primary_rule 59 66) found in
     of_token (form.Literal (bytes_in (pieces_of file (lexeme_at kind.Literal p piece.length)))
     (between p (p + piece.length))) it refl
     (λ before. ap (λ pieces. Expression (form.Literal (bytes_in pieces) (between p (p + piece.length))) ∷ [])
@@ -191,8 +192,8 @@ class_primary : (file : List ℕ) (p : ℕ) (piece : PrefixMatch) (more : List L
     more) (primary_of file inner (lexeme_at kind.Class p piece.length) more kind.Class)
 unfolding primary_body
 class_primary file p piece more inner found rest =
-    let it : FindsToken file rule.class (codes "Class") (between 299 304) p piece = here kind.Class piece
-    (between 299 304) found in
+    let it : FindsToken file class_rule (codes "Class") (on_line primary_rule 69 74) p piece = here kind.Class piece
+    (on_line primary_rule 69 74) found in
     of_token (form.Class (class_of (ranges_in (pieces_of file (lexeme_at kind.Class p piece.length))))
     (between p (p + piece.length))) it refl
     (λ before. ap (λ pieces. Expression (form.Class (class_of (ranges_in pieces)) (between p (p + piece.length))) ∷ [])
@@ -210,8 +211,8 @@ dot_primary : (file : List ℕ) (p : ℕ) (piece : PrefixMatch) (more : List Lex
     more) (primary_of file inner (lexeme_at kind.Dot p piece.length) more kind.Dot)
 unfolding primary_body
 dot_primary file p piece more inner found rest =
-    let it : FindsToken file rule.dot (codes "DOT") (between 307 310) p piece = here kind.Dot piece
-    (between 307 310) found in
+    let it : FindsToken file dot_rule (codes "DOT") (on_line primary_rule 77 80) p piece = here kind.Dot piece
+    (on_line primary_rule 77 80) found in
     of_token (form.Any (between p (p + piece.length))) it refl (λ before. refl)
     (Derives.choice (DerivesFirst.alternative_failed (Derives.sequence
     (DerivesItems.items_failed (not_here kind.Dot piece kind.Ident _ found (λ e. cc))))
@@ -256,10 +257,10 @@ parentheses : (file : List ℕ) (p : ℕ) (piece : PrefixMatch) (more : List Lex
     more) (record { form = part.form; token_count = part.token_count + 2; last = e.end + closing.length; depth = part.depth + 1 })
 unfolding primary_body
 parentheses file p piece more part found e closing rest there left_is left =
-    let o : FindsToken file rule.open_sign (codes "OPEN") (between 265 269) p piece = here kind.Open piece
-    (between 265 269) found in
-    let c : FindsToken file rule.close (codes "CLOSE") (between 281 286) e.end closing = here kind.Close closing
-    (between 281 286) there in
+    let o : FindsToken file open_sign_rule (codes "OPEN") (on_line primary_rule 35 39) p piece = here kind.Open piece
+    (on_line primary_rule 35 39) found in
+    let c : FindsToken file close_rule (codes "CLOSE") (on_line primary_rule 51 56) e.end closing = here kind.Close closing
+    (on_line primary_rule 51 56) there in
     let end : ℕ = behind_text file e.end closing.length in
     let inside : Trees = followed_by o.trees (followed_by e.trees (followed_by c.trees NoTrees)) in
     let o_blank : piece.spells ≡ [] = (blank-literal_bytes (codes "(")).blank (drop p file) piece found in
@@ -300,7 +301,7 @@ parentheses file p piece more part found e closing rest there left_is left =
     ) in
     record {
       end = end;
-      trees = Tree rule.primary p end inside NoTrees;
+      trees = Tree primary_rule p end inside NoTrees;
       left =
           subst (λ (lexemes : List Lexeme). Stream file end lexemes)
           (sym (behind_both (lexeme_at kind.Open p piece.length) more part.token_count ∙ ap (drop 1) left_is)) left;

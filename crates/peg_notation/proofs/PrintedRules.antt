@@ -18,7 +18,9 @@ use Rattle.peg_semantics.proofs.ResultSteps.{begins_with, passes_any, starts_wit
 use Rattle.peg_metagrammar.specs.Ranges.{range, class_of, in_ranges}
 use Rattle.peg_metagrammar.specs.EscapedFigure.{escaped_figure, escaped_suffix, MatchesEscaped, numbered_now}
 use Rattle.peg_metagrammar.specs.Figure.{figure, grammar_body, definition_body, expression_body, sequence_body, prefix_body, suffix_body, primary_body, identifier_body, ident_start_body, ident_cont_body, literal_body, class_body, range_body, char_body, spacing_body, comment_body, space_body, end_of_line_body, end_of_file_body}
-use Rattle.peg_metagrammar.specs.FigureRules as rule
+use Rattle.peg_metagrammar.specs.FigureRules.{grammar_rule, definition_rule, expression_rule, sequence_rule}
+use Rattle.peg_metagrammar.specs.FigureRules.{prefix_rule, suffix_rule, primary_rule, literal_rule, class_rule}
+use Rattle.peg_metagrammar.specs.FigureRules.{range_rule}
 use Rattle.peg_metagrammar.specs.Notation.{Matches, IsReading}
 use Rattle.peg_semantics.specs.Rules.{Rule}
 use Rattle.peg_notation.specs.PrintedFigure.{printed_char, printed_figure, MatchesPrinted, IsPrintedReading}
@@ -691,25 +693,25 @@ module _ (file : List ℕ) where
       → Carries file m.body k
   unfolding escaped_figure figure escaped_suffix
   body_carries used k m IsHalting.is_grammar found =
-      same_body (codes "Grammar") m rule.grammar _ grammar_body refl found grammar_carried
+      same_body (codes "Grammar") m grammar_rule _ grammar_body refl found grammar_carried
   body_carries used k m IsHalting.is_definition found =
-      same_body (codes "Definition") m rule.definition _ definition_body refl found definition_carried
+      same_body (codes "Definition") m definition_rule _ definition_body refl found definition_carried
   body_carries used k m IsHalting.is_expression found =
-      same_body (codes "Expression") m rule.expression _ expression_body refl found expression_carried
+      same_body (codes "Expression") m expression_rule _ expression_body refl found expression_carried
   body_carries used k m IsHalting.is_sequence found =
-      same_body (codes "Sequence") m rule.sequence _ sequence_body refl found sequence_carried
+      same_body (codes "Sequence") m sequence_rule _ sequence_body refl found sequence_carried
   body_carries used k m IsHalting.is_prefix found =
-      same_body (codes "Prefix") m rule.prefix _ prefix_body refl found prefix_carried
+      same_body (codes "Prefix") m prefix_rule _ prefix_body refl found prefix_carried
   body_carries used k m IsHalting.is_suffix found =
-      same_body (codes "Suffix") m rule.suffix _ escaped_suffix refl found suffix_carried
+      same_body (codes "Suffix") m suffix_rule _ escaped_suffix refl found suffix_carried
   body_carries used k m IsHalting.is_primary found =
-      same_body (codes "Primary") m rule.primary _ primary_body refl found primary_carried
+      same_body (codes "Primary") m primary_rule _ primary_body refl found primary_carried
   body_carries used k m IsHalting.is_literal found =
-      same_body (codes "Literal") m rule.literal _ literal_body refl found literal_carried
+      same_body (codes "Literal") m literal_rule _ literal_body refl found literal_carried
   body_carries used k m IsHalting.is_class found =
-      same_body (codes "Class") m rule.class _ class_body refl found class_carried
+      same_body (codes "Class") m class_rule _ class_body refl found class_carried
   body_carries used k m IsHalting.is_range found =
-      same_body (codes "Range") m rule.range _ range_body refl found range_carried
+      same_body (codes "Range") m range_rule _ range_body refl found range_carried
 
   -- ---- files
 

@@ -9,7 +9,8 @@ use Rattle.peg_semantics.specs.Form.{Name}
 use Rattle.peg_semantics.specs.Record.{Failed, Matched}
 use Rattle.peg_semantics.proofs.Derivations.{Derives, DerivesItems, DerivesFirst, derived, one_result}
 use Rattle.peg_semantics.proofs.ResultSteps.{begins_with, passes_any}
-use Rattle.peg_metagrammar.specs.Denotation.{is_octal, octal, simple_escape, hexadecimal, byte_spelled, part}
+use Rattle.peg_metagrammar.specs.Denotation.{is_octal, octal, hexadecimal, byte_spelled, part}
+use Rattle.peg_metagrammar.specs.SimpleEscapes.{simple_escape}
 use Rattle.peg_notation.specs.PrintedFigure.{MatchesPrinted, printed_figure, printed_byte}
 use Rattle.peg_notation.proofs.PrintedRules.{Old, no_escape, printed-meaning_of}
 

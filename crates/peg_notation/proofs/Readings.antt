@@ -9,7 +9,7 @@ use Rattle.peg_semantics.specs.Record.{Failed, Matched}
 use Rattle.peg_semantics.specs.Rules.{Meaning, meaning_of}
 use Rattle.peg_semantics.proofs.Derivations.{Derives}
 use Rattle.peg_metagrammar.specs.Figure.{figure}
-use Rattle.peg_metagrammar.specs.FigureRules as rule
+use Rattle.peg_metagrammar.specs.FigureRules.{primary_rule, open_sign_rule, spacing_rule}
 use Rattle.peg_lexer.specs.Lexical.{matcher_of}
 use Rattle.peg_lexer.specs.Matchers.{PrefixMatch}
 use Rattle.peg_notation.specs.Reader.{ReadError, Unexpected, TooDeepAt, BadCountAt, FormRead, Reading, place_of}
@@ -28,7 +28,7 @@ followed-none (Tree r start end children rest) = ap (Tree r start end children) 
 
 pub has_open-followed : (a b : Trees) → has_open (followed_by a b) ≡ (has_open a || has_open b)
 has_open-followed NoTrees b = refl
-has_open-followed (Tree r start end children rest) b = by (r == rule.open_sign) (has_open-followed rest b)
+has_open-followed (Tree r start end children rest) b = by (r == open_sign_rule) (has_open-followed rest b)
   where
     by : (t : Bool) → has_open (followed_by rest b) ≡ (has_open rest || has_open b)
         → (t || has_open (followed_by rest b)) ≡ ((t || has_open rest) || has_open b)
@@ -100,7 +100,7 @@ Good file (Some read) =
 
 -- a match of a rule's body is one tree of the rule
 pub node_any : {file used : List ℕ} {p end : ℕ} {t : Trees} {lexemes : List Lexeme} (m : Meaning) → meaning_of figure used
-    ≡ Some m → (m.rule == rule.spacing) ≡ false → (m.rule == rule.primary) ≡ false
+    ≡ Some m → (m.rule == spacing_rule) ≡ false → (m.rule == primary_rule) ≡ false
     → Derives figure file m.body p (Matched end t) → (part : FormRead)
     → ((before : ℕ) → node_spelled file m.rule before p end part.last (spelled file before t) ≡ Expression part.form ∷
     []) → ((before : ℕ) → text_end before t ≡ part.last) → nesting t ≡ part.depth → 0 < part.token_count
@@ -121,7 +121,7 @@ node_any {file} {used} {p} {end} {t} {lexemes} m known no_spacing no_primary d p
 }
 
 pub node_at : {file used : List ℕ} {p end : ℕ} {t : Trees} {lexemes : List Lexeme} (before : ℕ) (m : Meaning)
-    → meaning_of figure used ≡ Some m → (m.rule == rule.spacing) ≡ false → (m.rule == rule.primary) ≡ false
+    → meaning_of figure used ≡ Some m → (m.rule == spacing_rule) ≡ false → (m.rule == primary_rule) ≡ false
     → Derives figure file m.body p (Matched end t) → (part : FormRead)
     → node_spelled file m.rule before p end part.last (spelled file before t) ≡ Expression part.form ∷ []
     → text_end before t ≡ part.last → nesting t ≡ part.depth → Stream file end (drop part.token_count lexemes)

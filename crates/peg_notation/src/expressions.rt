@@ -5,8 +5,8 @@ ghost use Rattle.peg_grammar.specs.Written.{form_of};
 ghost use Rattle.peg_notation.specs.Reader.{whole_sequence, whole_choice, no_more};
 ghost use Rattle.peg_notation.specs.ReaderCode.{form_seen, forms_seen, with_form};
 
-use peg_bytes::Span;
 use peg_grammar::Expr;
+use peg_metagrammar::{choice_of, sequence_of};
 use std::alloc::{AllocError, Global};
 
 /// An expression that was read.
@@ -62,27 +62,13 @@ impl ParsedExprs {
         ensures { form_seen result ≡ whole_sequence before start (forms_seen self) }
     {
         let ParsedExprs {
-            mut expressions,
+            expressions,
             token_count,
             last,
             depth,
         } = self;
-        let expression = if expressions.len() > 1 {
-            Expr::Seq {
-                items: expressions,
-                span: Span::new(start, last),
-            }
-        } else {
-            match expressions.pop() {
-                Some(only) => only,
-                None => Expr::Seq {
-                    items: expressions,
-                    span: Span::new(before, before),
-                },
-            }
-        };
         ParsedExpr {
-            expression,
+            expression: sequence_of(expressions, before, start, last),
             token_count,
             last,
             depth,
@@ -109,15 +95,7 @@ impl ParsedExprs {
         } = self;
         let token_count = first.token_count + token_count;
         let depth = first.depth.max(depth);
-        let expression = if expressions.is_empty() {
-            first.expression
-        } else {
-            Expr::Choice {
-                first: Box::new(alloc, first.expression)?,
-                rest: expressions,
-                span: Span::new(start, last),
-            }
-        };
+        let expression = choice_of(alloc, first.expression, expressions, start, last)?;
         Ok(ParsedExpr {
             expression,
             token_count,

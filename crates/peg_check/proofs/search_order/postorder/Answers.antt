@@ -16,9 +16,9 @@ taken c =
     All-pop (λ (visit : Visit). visit.number < length c.args.well_formedness.now) c.visits.visits.items c.pop.new.self.items
     (Some c.in-Some.field-0) c.in-Some.ensures.items c.visits.invariant.visits
 
-pub visits-preserved-then-leaves : goal.visits-preserved-then-leaves
-visits-preserved-then-leaves c =
-    let at = (goal.at.visits-preserved-then-leaves c).In-Some in
+pub visits-preserved-then-matches : goal.visits-preserved-then-matches
+visits-preserved-then-matches c =
+    let at = (goal.at.visits-preserved-then-matches c).In-Some in
     let n = length c.args.well_formedness.now in
     record {
       count = c.visits.invariant.count;
