@@ -3,3 +3,4 @@ pub mod ByteSet
 pub mod EndsLine
 pub mod Extent
 pub mod Place
+pub mod SetPool

@@ -3,8 +3,10 @@
 
 mod byte_set;
 mod line_column;
+mod set_pool;
 mod span;
 
 pub use byte_set::ByteSet;
 pub use line_column::{LineColumn, place};
+pub use set_pool::SetPool;
 pub use span::Span;

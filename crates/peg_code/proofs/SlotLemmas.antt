@@ -3,9 +3,10 @@ use Rattle.std.proofs.Common.{◌≡◌, ℕ, zero, suc, ◌+◌, ◌≤◌, All
 use Rattle.std.proofs.lemmas.List.{get_or_append_left, map-append}
 use Rattle.std.proofs.lemmas.List.Elements.{All-push, All-weaker}
 use Rattle.peg_bytes.specs.ByteSet.{bytes_of}
+use Rattle.peg_bytes.specs.SetPool.{AddsSets}
 use Rattle.peg_bytes.specs.declared.byte_set.ByteSet.{ByteSet}
 use Rattle.peg_code.specs.Instructions.{Instruction, Test}
-use Rattle.peg_code.specs.Slots.{AddsCodeSets, IsPackedCode, CodeSlotFits, unpacked_code, unpacked_instruction}
+use Rattle.peg_code.specs.Slots.{IsPackedCode, CodeSlotFits, unpacked_code, unpacked_instruction}
 use Rattle.peg_code.specs.declared.packed_code.Slot.{Slot}
 use Rattle.peg_code.specs.declared.packed_code.Slot.TheVariants as slot
 use Rattle.peg_code.specs.declared.packed_code.PackedCode.TheInside.{Inside}
@@ -40,23 +41,23 @@ fits-more count now more slot.End fits = tt
 
 -- ---- one more instruction
 
-module _ (old new : Inside) (s : Slot) (is : IsPackedCode old) (adds : AddsCodeSets old.sets.items new.sets.items)
+module _ (old new : Inside) (s : Slot) (is : IsPackedCode old) (adds : AddsSets old.sets new.sets)
     (put : new.slots.items ≡ old.slots.items ++ s ∷ []) where
-  longer : length new.sets.items ≡ length old.sets.items + length adds.more
-  longer = ap length adds.added ∙ length-append old.sets.items adds.more
+  longer : length new.sets ≡ length old.sets + length adds.more
+  longer = ap length adds.added ∙ length-append old.sets adds.more
 
-  pub IsPacked-push : CodeSlotFits (length new.sets.items) s → IsPackedCode new
+  pub IsPacked-push : CodeSlotFits (length new.sets) s → IsPackedCode new
   IsPacked-push fits =
-      let P : Slot → Type 0 = CodeSlotFits (length new.sets.items) in
+      let P : Slot → Type 0 = CodeSlotFits (length new.sets) in
       record {
-        fit = subst (All P) (sym put) (All-push P old.slots.items s (All-weaker (CodeSlotFits (length old.sets.items)) P (fits-more (length old.sets.items) (length new.sets.items) (omega (arith, longer))) old.slots.items is.fit) fits);
+        fit = subst (All P) (sym put) (All-push P old.slots.items s (All-weaker (CodeSlotFits (length old.sets)) P (fits-more (length old.sets) (length new.sets) (omega (arith, longer))) old.slots.items is.fit) fits);
         few = omega (arith, longer, adds.few, is.few, ap length put, length-append old.slots.items (s ∷ []));
       }
 
-  pub unpacked-push : (i : Instruction) → unpacked_instruction new.sets.items s ≡ i
-      → unpacked_code new.sets.items new.slots.items ≡ unpacked_code old.sets.items old.slots.items ++ i ∷ []
+  pub unpacked-push : (i : Instruction) → unpacked_instruction new.sets s ≡ i
+      → unpacked_code new.sets new.slots.items ≡ unpacked_code old.sets old.slots.items ++ i ∷ []
   unpacked-push i holds =
-      ap (unpacked_code new.sets.items) put
-      ∙ (map-append (unpacked_instruction new.sets.items) old.slots.items (s ∷ [])
+      ap (unpacked_code new.sets) put
+      ∙ (map-append (unpacked_instruction new.sets) old.slots.items (s ∷ [])
       ∙ ((λ j. unpacked_code (adds.added j) old.slots.items ++ holds j ∷ [])
-      ∙ ap (λ (code : List Instruction). code ++ i ∷ []) (unpacked-more old.sets.items adds.more old.slots.items is.fit)))
+      ∙ ap (λ (code : List Instruction). code ++ i ∷ []) (unpacked-more old.sets adds.more old.slots.items is.fit)))

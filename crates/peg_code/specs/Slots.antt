@@ -1,19 +1,16 @@
 -- Describes code: instructions with their sets in a separate list.
 use Rattle.std.specs.Prelude.{◌≡◌, ℕ, ◌<◌, ◌≤◌, All, List, [], ◌++◌, length, map, slice_index_or}
 use Rattle.peg_bytes.specs.ByteSet.{bytes_of}
+use Rattle.peg_bytes.specs.SetPool.{set_at}
 use Rattle.peg_bytes.specs.declared.byte_set.ByteSet.{ByteSet}
 use Rattle.peg_code.specs.Instructions.{Instruction, Test, Call, Ret, Choice, Commit, FailTwice, End}
 use Rattle.peg_code.specs.declared.packed_code.Slot.{Slot}
 use Rattle.peg_code.specs.declared.packed_code.Slot.TheVariants as slot
 use Rattle.peg_code.specs.declared.packed_code.PackedCode.TheInside.{Inside}
 
--- the set with a number, or the empty set if there is none
-abbrev pub code_set_at : List ByteSet → ℕ → ByteSet
-code_set_at sets number = slice_index_or sets number (record { words = [] })
-
 -- the instruction of a slot with these sets
 abbrev pub unpacked_instruction : List ByteSet → Slot → Instruction
-unpacked_instruction sets (slot.Test set terminal) = Test (bytes_of (code_set_at sets set)) terminal
+unpacked_instruction sets (slot.Test set terminal) = Test (bytes_of (set_at sets set)) terminal
 unpacked_instruction sets (slot.Call rule) = Call rule
 unpacked_instruction sets slot.Ret = Ret
 unpacked_instruction sets (slot.Choice target) = Choice target
@@ -36,11 +33,5 @@ CodeSlotFits count slot.End = Unit {0}
 
 -- the set of each slot exists, and there are no more sets than slots
 pub record IsPackedCode (packed : Inside) : Type 0 where
-  pub fit : All (CodeSlotFits (length packed.sets.items)) packed.slots.items
-  pub few : length packed.sets.items ≤ length packed.slots.items
-
--- at most one set was appended
-pub record AddsCodeSets (old new : List ByteSet) : Type 0 where
-  pub more : List ByteSet
-  pub added : new ≡ old ++ more
-  pub few : length more ≤ 1
+  pub fit : All (CodeSlotFits (length packed.sets)) packed.slots.items
+  pub few : length packed.sets ≤ length packed.slots.items

@@ -3,10 +3,11 @@ ghost use Rattle.std.specs.Prelude.{◌≡◌, ◌<◌, ◌≤◌, [], ◌∷◌
 ghost use Rattle.peg_code.specs.Compiled.{max_instructions};
 ghost use Rattle.peg_code.specs.Instrs.{instruction_of};
 ghost use Rattle.peg_code.specs.InstrRefs.{instruction_of_op};
-ghost use Rattle.peg_code.specs.Slots.{AddsCodeSets, CodeSlotFits, unpacked_instruction};
+ghost use Rattle.peg_bytes.specs.SetPool.{AddsSets};
+ghost use Rattle.peg_code.specs.Slots.{CodeSlotFits, unpacked_instruction};
 
 use crate::{Instr, InstrRef};
-use peg_bytes::ByteSet;
+use peg_bytes::SetPool;
 use std::alloc::{AllocError, Global};
 use std::marker::Model;
 
@@ -28,7 +29,7 @@ const _: () = prove!(size_of::<Slot>() == 12);
 #[derive(Debug, Drop)]
 pub(crate) struct PackedCode {
     slots: Vec<Slot>,
-    sets: Vec<ByteSet>,
+    sets: SetPool,
 }
 
 impl Model for PackedCode {
@@ -43,7 +44,7 @@ impl Model for PackedCode {
 
     ghost use Rattle.peg_code.specs.Slots.{unpacked_code, IsPackedCode};
 
-    ghost view = { λ packed. unpacked_code packed.sets.items packed.slots.items };
+    ghost view = { λ packed. unpacked_code packed.sets packed.slots.items };
 
     ghost invariant = { IsPackedCode };
 }
@@ -55,7 +56,7 @@ impl PackedCode {
     {
         Ok(PackedCode {
             slots: Vec::with_capacity(alloc, capacity)?,
-            sets: Vec::new(alloc),
+            sets: SetPool::new(alloc),
         })
     }
 
@@ -85,7 +86,7 @@ impl PackedCode {
     {
         match self.slots[pc as usize] {
             Slot::Test { set, terminal } => InstrRef::Test {
-                set: &self.sets[set as usize],
+                set: self.sets.get(set),
                 terminal,
             },
             Slot::Call(rule) => InstrRef::Call(rule),
@@ -98,17 +99,17 @@ impl PackedCode {
     }
 }
 
-// The slot of an instruction. Its set is appended to `sets` unless the last set is equal.
-fn slot_of(sets: &mut Vec<ByteSet>, instr: Instr) -> Result<Slot, AllocError>
-    requires { length sets.old.items ≤ max_instructions }
-    ensures added { OnOk result (AddsCodeSets sets.old.items sets.new.items) }
-    ensures unchanged { OnErr result (sets.new.items ≡ sets.old.items) }
-    ensures fits { IfOk result (λ slot. CodeSlotFits (length sets.new.items) slot) }
-    ensures slot { IfOk result (λ slot. unpacked_instruction sets.new.items slot ≡ instruction_of instr) }
+// The slot of an instruction. Its set is added to `sets`.
+fn slot_of(sets: &mut SetPool, instr: Instr) -> Result<Slot, AllocError>
+    requires { length sets.old ≤ max_instructions }
+    ensures added { OnOk result (AddsSets sets.old sets.new) }
+    ensures unchanged { OnErr result (sets.new ≡ sets.old) }
+    ensures fits { IfOk result (λ slot. CodeSlotFits (length sets.new) slot) }
+    ensures slot { IfOk result (λ slot. unpacked_instruction sets.new slot ≡ instruction_of instr) }
 {
     Ok(match instr {
         Instr::Test { set, terminal } => Slot::Test {
-            set: number_of(sets, set)?,
+            set: sets.add(set)?,
             terminal,
         },
         Instr::Call(rule) => Slot::Call(rule),
@@ -118,19 +119,4 @@ fn slot_of(sets: &mut Vec<ByteSet>, instr: Instr) -> Result<Slot, AllocError>
         Instr::FailTwice => Slot::FailTwice,
         Instr::End => Slot::End,
     })
-}
-
-// The index of a set, which is appended unless the last set is equal.
-fn number_of(sets: &mut Vec<ByteSet>, set: ByteSet) -> Result<u32, AllocError>
-    requires { length sets.old.items ≤ max_instructions }
-    ensures added { OnOk result (AddsCodeSets sets.old.items sets.new.items) }
-    ensures unchanged { OnErr result (sets.new.items ≡ sets.old.items) }
-    ensures number { IfOk result (λ number. slice_get sets.new.items number ≡ Some set) }
-{
-    let count = sets.len() as u32;
-    if sets.last() == Some(&set) {
-        return Ok(count - 1);
-    }
-    sets.push(set)?;
-    Ok(count)
 }

@@ -3,8 +3,9 @@ use Rattle.std.proofs.Common.{◌≡◌, ℕ, zero, suc, ◌+◌, ◌≤◌, All
 use Rattle.std.proofs.Common.{refl, ap, ◌∙◌, subst, sym, arith, length-append}
 use Rattle.std.proofs.lemmas.List.{get_or_append_left, map-append}
 use Rattle.std.proofs.lemmas.List.Elements.{All-push, All-weaker}
+use Rattle.peg_bytes.specs.SetPool.{AddsSets}
 use Rattle.peg_bytes.specs.declared.byte_set.ByteSet.{ByteSet}
-use Rattle.peg_core.specs.Slots.{AddsSets, IsPacked, ItemFits, SlotFits, unpacked, unpacked_item, unpacked_slot}
+use Rattle.peg_core.specs.Slots.{IsPacked, ItemFits, SlotFits, unpacked, unpacked_item, unpacked_slot}
 use Rattle.peg_core.specs.declared.node.Node.TheVariants.{Test}
 use Rattle.peg_core.specs.declared.node.Entry.{Entry}
 use Rattle.peg_core.specs.declared.packed.Slot.{Slot}
@@ -49,28 +50,28 @@ fits-more count now more (slot.Not part) fits = tt
 
 -- ---- one more node
 
-module _ (old new : Inside) (item : PackedEntry) (is : IsPacked old) (adds : AddsSets old.sets.items new.sets.items)
+module _ (old new : Inside) (item : PackedEntry) (is : IsPacked old) (adds : AddsSets old.sets new.sets)
     (put : new.slots.items ≡ old.slots.items ++ item ∷ []) where
-  longer : length new.sets.items ≡ length old.sets.items + length adds.more
-  longer = ap length adds.added ∙ length-append old.sets.items adds.more
+  longer : length new.sets ≡ length old.sets + length adds.more
+  longer = ap length adds.added ∙ length-append old.sets adds.more
 
-  pub IsPacked-push : ItemFits (length new.sets.items) item → IsPacked new
+  pub IsPacked-push : ItemFits (length new.sets) item → IsPacked new
   IsPacked-push fits =
-      let Was : PackedEntry → Type 0 = ItemFits (length old.sets.items) in
-      let P : PackedEntry → Type 0 = ItemFits (length new.sets.items) in
-      let more : length old.sets.items ≤ length new.sets.items = omega (arith, longer) in
-      let wider = λ (i : PackedEntry). fits-more (length old.sets.items) (length new.sets.items) more i.slot in
+      let Was : PackedEntry → Type 0 = ItemFits (length old.sets) in
+      let P : PackedEntry → Type 0 = ItemFits (length new.sets) in
+      let more : length old.sets ≤ length new.sets = omega (arith, longer) in
+      let wider = λ (i : PackedEntry). fits-more (length old.sets) (length new.sets) more i.slot in
       let kept : All P old.slots.items = All-weaker Was P wider old.slots.items is.fit in
       record {
         fit = subst (All P) (sym put) (All-push P old.slots.items item kept fits);
         few = omega (arith, longer, adds.few, is.few, ap length put, length-append old.slots.items (item ∷ []));
       }
 
-  pub unpacked-push : (next : Entry) → unpacked_item new.sets.items item ≡ next
-      → unpacked new.sets.items new.slots.items ≡ unpacked old.sets.items old.slots.items ++ next ∷ []
+  pub unpacked-push : (next : Entry) → unpacked_item new.sets item ≡ next
+      → unpacked new.sets new.slots.items ≡ unpacked old.sets old.slots.items ++ next ∷ []
   unpacked-push next holds =
-      let same = unpacked-more old.sets.items adds.more old.slots.items is.fit in
-      ap (unpacked new.sets.items) put
-      ∙ (map-append (unpacked_item new.sets.items) old.slots.items (item ∷ [])
+      let same = unpacked-more old.sets adds.more old.slots.items is.fit in
+      ap (unpacked new.sets) put
+      ∙ (map-append (unpacked_item new.sets) old.slots.items (item ∷ [])
       ∙ ((λ j. unpacked (adds.added j) old.slots.items ++ holds j ∷ [])
       ∙ ap (λ (nodes : List Entry). nodes ++ next ∷ []) same))

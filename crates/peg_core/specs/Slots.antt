@@ -1,5 +1,6 @@
 -- Describes code: nodes with their sets in a separate list.
 use Rattle.std.specs.Prelude.{◌≡◌, ℕ, ◌<◌, ◌≤◌, All, List, [], ◌++◌, length, map, slice_index_or}
+use Rattle.peg_bytes.specs.SetPool.{set_at}
 use Rattle.peg_bytes.specs.declared.byte_set.ByteSet.{ByteSet}
 use Rattle.peg_core.specs.declared.node.Node.{Node}
 use Rattle.peg_core.specs.declared.node.Node.TheVariants.{Empty, Test, Rule, Seq, Choice, Star, Not}
@@ -8,10 +9,6 @@ use Rattle.peg_core.specs.declared.packed.Slot.{Slot}
 use Rattle.peg_core.specs.declared.packed.Slot.TheVariants as slot
 use Rattle.peg_core.specs.declared.packed.PackedEntry.{PackedEntry}
 use Rattle.peg_core.specs.declared.packed.PackedNodes.TheInside.{Inside}
-
--- the set with a number, or the empty set if there is none
-abbrev pub set_at : List ByteSet → ℕ → ByteSet
-set_at sets number = slice_index_or sets number (record { words = [] })
 
 -- the node of a slot with these sets
 abbrev pub unpacked_slot : List ByteSet → Slot → Node
@@ -45,11 +42,5 @@ ItemFits count item = SlotFits count item.slot
 
 -- the set of each slot exists, and there are no more sets than slots
 pub record IsPacked (packed : Inside) : Type 0 where
-  pub fit : All (ItemFits (length packed.sets.items)) packed.slots.items
-  pub few : length packed.sets.items ≤ length packed.slots.items
-
--- at most one set was appended
-pub record AddsSets (old new : List ByteSet) : Type 0 where
-  pub more : List ByteSet
-  pub added : new ≡ old ++ more
-  pub few : length more ≤ 1
+  pub fit : All (ItemFits (length packed.sets)) packed.slots.items
+  pub few : length packed.sets ≤ length packed.slots.items

@@ -2,10 +2,11 @@
 ghost use Rattle.std.specs.Prelude.{◌≡◌, ◌<◌, ◌≤◌, [], ◌∷◌, ◌++◌, length, option_map, slice_get};
 ghost use Rattle.std.specs.Prelude.{IfOk, OnErr, OnOk, Some};
 ghost use Rattle.peg_core.specs.Layout.{max_forms};
-ghost use Rattle.peg_core.specs.Slots.{AddsSets, SlotFits, unpacked_slot};
+ghost use Rattle.peg_bytes.specs.SetPool.{AddsSets};
+ghost use Rattle.peg_core.specs.Slots.{SlotFits, unpacked_slot};
 
 use crate::node::{Entry, Node};
-use peg_bytes::{ByteSet, Span};
+use peg_bytes::{SetPool, Span};
 use std::alloc::{AllocError, Global};
 use std::marker::Model;
 
@@ -34,7 +35,7 @@ const _: () = prove!(size_of::<PackedEntry>() == 20);
 #[derive(Debug, Drop)]
 pub(crate) struct PackedNodes {
     slots: Vec<PackedEntry>,
-    sets: Vec<ByteSet>,
+    sets: SetPool,
 }
 
 impl Model for PackedNodes {
@@ -45,7 +46,7 @@ impl Model for PackedNodes {
 
     ghost use Rattle.peg_core.specs.Slots.{unpacked, IsPacked};
 
-    ghost view = { λ packed. unpacked packed.sets.items packed.slots.items };
+    ghost view = { λ packed. unpacked packed.sets packed.slots.items };
 
     ghost invariant = { IsPacked };
 }
@@ -57,7 +58,7 @@ impl PackedNodes {
     {
         PackedNodes {
             slots: Vec::new(alloc),
-            sets: Vec::new(alloc),
+            sets: SetPool::new(alloc),
         }
     }
 
@@ -92,7 +93,7 @@ impl PackedNodes {
         match self.slots[number as usize].slot {
             Slot::Empty => Node::Empty,
             Slot::Test { set, terminal } => Node::Test {
-                set: self.sets[set as usize],
+                set: *self.sets.get(set),
                 terminal,
             },
             Slot::Rule(rule) => Node::Rule(rule),
@@ -112,18 +113,18 @@ impl PackedNodes {
     }
 }
 
-// The slot of a node. Its set is appended to `sets` unless the last set is equal.
-fn slot_of(sets: &mut Vec<ByteSet>, node: Node) -> Result<Slot, AllocError>
-    requires { length sets.old.items ≤ max_forms }
-    ensures added { OnOk result (AddsSets sets.old.items sets.new.items) }
-    ensures unchanged { OnErr result (sets.new.items ≡ sets.old.items) }
-    ensures fits { IfOk result (λ slot. SlotFits (length sets.new.items) slot) }
-    ensures slot { IfOk result (λ slot. unpacked_slot sets.new.items slot ≡ node) }
+// The slot of a node. Its set is added to `sets`.
+fn slot_of(sets: &mut SetPool, node: Node) -> Result<Slot, AllocError>
+    requires { length sets.old ≤ max_forms }
+    ensures added { OnOk result (AddsSets sets.old sets.new) }
+    ensures unchanged { OnErr result (sets.new ≡ sets.old) }
+    ensures fits { IfOk result (λ slot. SlotFits (length sets.new) slot) }
+    ensures slot { IfOk result (λ slot. unpacked_slot sets.new slot ≡ node) }
 {
     Ok(match node {
         Node::Empty => Slot::Empty,
         Node::Test { set, terminal } => Slot::Test {
-            set: number_of(sets, set)?,
+            set: sets.add(set)?,
             terminal,
         },
         Node::Rule(rule) => Slot::Rule(rule),
@@ -132,19 +133,4 @@ fn slot_of(sets: &mut Vec<ByteSet>, node: Node) -> Result<Slot, AllocError>
         Node::Star(part) => Slot::Star(part),
         Node::Not(part) => Slot::Not(part),
     })
-}
-
-// The index of a set, which is appended unless the last set is equal.
-fn number_of(sets: &mut Vec<ByteSet>, set: ByteSet) -> Result<u32, AllocError>
-    requires { length sets.old.items ≤ max_forms }
-    ensures added { OnOk result (AddsSets sets.old.items sets.new.items) }
-    ensures unchanged { OnErr result (sets.new.items ≡ sets.old.items) }
-    ensures number { IfOk result (λ number. slice_get sets.new.items number ≡ Some set) }
-{
-    let count = sets.len() as u32;
-    if sets.last() == Some(&set) {
-        return Ok(count - 1);
-    }
-    sets.push(set)?;
-    Ok(count)
 }
