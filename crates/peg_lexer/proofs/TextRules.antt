@@ -5,7 +5,7 @@ use Rattle.peg_semantics.specs.Form.{Name, Class}
 use Rattle.peg_metagrammar.specs.Figure.{ident_start_body, ident_cont_body, char_body, range_body, hexadecimal_class, number_body}
 use Rattle.peg_metagrammar.specs.SimpleEscapes.{is_simple_escape}
 use Rattle.peg_metagrammar.specs.FigureRules.{ident_start_rule, ident_cont_rule, range_rule, char_rule, number_rule}
-use Rattle.peg_lexer.specs.Lexical.{begins_name, is_digit, in_name, identifier, is_leading_octal, is_hexadecimal, backslash, octal_digit, hex_digit, hexadecimal_digits, three_digits, two_digits, char, is_quote, quoted_char, quoted, literal, range, classed_range, class, digit, number, count}
+use Rattle.peg_lexer.specs.Lexical.{begins_name, is_digit, in_name, identifier, is_leading_octal, is_hexadecimal, backslash, octal_digit, hex_digit, hexadecimal_digits, three_digits, two_digits, char, is_quote, quoted_char, quoted, literal, range_matcher, classed_range, class, digit, number, count}
 use Rattle.peg_lexer.specs.Matchers.{satisfy, literal_bytes, seq_matcher, not_followed}
 use Rattle.peg_metagrammar.specs.Ranges as ranges
 use Rattle.peg_metagrammar.specs.Ranges.{class_of}
@@ -130,8 +130,8 @@ literal-fits = fits-or_matcher (quoted-fits 39) (quoted-fits 34)
 range-nodes : Nodes range_rule (λ text inner. Bytes (range_spelled (bytes_in inner)) ∷ [])
 range-nodes = record { spells = λ file before start end last inner. refl; no_spacing = refl; no_primary = refl; no_count = refl }
 
-pub takes-range : (file : List ℕ) (start end : ℕ) → Takes file (Name (codes "Range") (between start end)) range
-unfolding range range_body
+pub takes-range : (file : List ℕ) (start end : ℕ) → Takes file (Name (codes "Range") (between start end)) range_matcher
+unfolding range_matcher range_body
 takes-range file start end =
     takes-node (between start end) _ range-meaning_of.1 range-nodes
     (takes-choice _
@@ -139,14 +139,14 @@ takes-range file start end =
     (takes-last (takes-char file _ _)))))
     (takes-only (takes-char file _ _))))
 
-pub range-fits : Fits range
-unfolding range
+pub range-fits : Fits range_matcher
+unfolding range_matcher
 range-fits =
     fits-noded (λ text inner. Bytes (range_spelled (bytes_in inner)) ∷ [])
     (fits-or_matcher (fits-seq_matcher char-fits (fits-seq_matcher (fits-literal_bytes (codes "-")) char-fits)) char-fits)
 
-pub range-some : HasBytes range
-unfolding range
+pub range-some : HasBytes range_matcher
+unfolding range_matcher
 range-some =
     has-noded (λ text inner. Bytes (range_spelled (bytes_in inner)) ∷ [])
     (has-or_matcher (has-first (seq_matcher (literal_bytes (codes "-")) char) char-some) char-some)

@@ -120,8 +120,8 @@ literal = or_matcher (quoted 39) (quoted 34)
 abbrev pub range_text : Matcher
 range_text = or_matcher (seq_matcher char (seq_matcher (literal_bytes (codes "-")) char)) char
 
-unfoldable pub range : Matcher
-range rest =
+unfoldable pub range_matcher : Matcher
+range_matcher rest =
     option_map (λ (piece : PrefixMatch). record {
       spells = Bytes (range_spelled (bytes_in piece.spells)) ∷
           [];
@@ -130,7 +130,7 @@ range rest =
 
 -- a range, if the closing bracket does not come next
 abbrev pub classed_range : Matcher
-classed_range = seq_matcher (not_followed (literal_bytes (codes "]"))) range
+classed_range = seq_matcher (not_followed (literal_bytes (codes "]"))) range_matcher
 
 unfoldable pub class : Matcher
 class = seq_matcher (literal_bytes (codes "[")) (seq_matcher (star classed_range) (literal_bytes (codes "]")))

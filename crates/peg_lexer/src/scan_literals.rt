@@ -2,7 +2,7 @@
 ghost use Rattle.std.specs.Prelude.{◌≡◌, ◌<◌, ◌≤◌, ◌+◌, length, option_map, IfSome, IsTrue, is_some};
 ghost use Rattle.peg_lexer.specs.Lexical.{begins_name, is_digit, in_name, identifier, is_leading_octal, is_hexadecimal};
 ghost use Rattle.peg_lexer.specs.Lexical.{escape};
-ghost use Rattle.peg_lexer.specs.Lexical.{backslash, char, is_quote, quoted_char, up_to_quote, quoted, literal, range};
+ghost use Rattle.peg_lexer.specs.Lexical.{backslash, char, is_quote, quoted_char, up_to_quote, quoted, literal, range_matcher};
 ghost use Rattle.peg_lexer.specs.Lexical.{classed_range, class};
 ghost use Rattle.peg_lexer.specs.LexicalCode.{char_piece, item_piece, escaped_char};
 ghost use Rattle.peg_lexer.specs.Matchers.{match_length, satisfy, seq_matcher, many};
@@ -190,9 +190,9 @@ pub(crate) fn classed_range(rest: &[u8]) -> Option<Item>
 }
 
 // A range: two characters separated by a dash, or one character.
-#[tactic(auto, unfolding(crate::specs::Lexical::range))]
+#[tactic(auto, unfolding(crate::specs::Lexical::range_matcher))]
 fn range_at(rest: &[u8]) -> Option<Item>
-    ensures value { option_map item_piece result ≡ range rest.now }
+    ensures value { option_map item_piece result ≡ range_matcher rest.now }
     ensures some { IfSome result (λ item. 0 < item.length) }
     ensures fits { IfSome result (λ item. item.length ≤ length rest.now) }
 {

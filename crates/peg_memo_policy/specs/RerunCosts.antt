@@ -4,5 +4,5 @@ use Rattle.peg_memo_policy.specs.declared.rerun_cost.RerunCost.{RerunCost}
 use Rattle.peg_memo_policy.specs.declared.rerun_costs.RerunCosts as code
 
 -- the cost of each rule, in order
-abbrev pub rules_of : code.RerunCosts → List RerunCost
-rules_of costs = costs.rules.items
+abbrev pub costs_of : code.RerunCosts → List RerunCost
+costs_of costs = costs.rules.items

@@ -26,12 +26,12 @@ pub struct RerunCosts {
 }
 
 impl RerunCosts {
-    ghost use Rattle.peg_memo_policy.specs.RerunCosts.{rules_of};
+    ghost use Rattle.peg_memo_policy.specs.RerunCosts.{costs_of};
 
     /// Computes the costs of a program's rules. Takes time linear in the number of instructions. The only error is a
     /// failed allocation.
     pub fn new(alloc: Global, program: &Program) -> Result<RerunCosts, AllocError>
-        ensures { IfOk result (λ costs. length (rules_of costs) ≡ length program.now.core.bodies) }
+        ensures { IfOk result (λ costs. length (costs_of costs) ≡ length program.now.core.bodies) }
     {
         let mut walk = Walk {
             alloc,
@@ -48,7 +48,7 @@ impl RerunCosts {
 
     /// Returns the cost of each rule, in order. Takes constant time.
     pub fn rules(&self) -> &[RerunCost]
-        ensures { result.now ≡ rules_of self.now }
+        ensures { result.now ≡ costs_of self.now }
     {
         self.rules.as_slice()
     }

@@ -17,8 +17,8 @@ escaped_suffix = Seq (forms (Name (codes "Primary") (on_line suffix_rule 10 17) 
     Name (codes "PLUS") (on_line suffix_rule 37 41) ∷ [])) (on_line suffix_rule 19 41)) (on_line suffix_rule 18 43) ∷ [])) (on_line suffix_rule 10 43)
 
 -- a rule, with its expression replaced if its name is Suffix
-abbrev pub with_suffix : Form → Rule → Rule
-with_suffix body rule =
+abbrev pub with_suffix_body : Form → Rule → Rule
+with_suffix_body body rule =
     if bytes_eq rule.name (codes "Suffix") then record { name = rule.name; span = rule.span; body = body } else rule
 
 -- the rules of the metagrammar without COUNT and Number
@@ -27,7 +27,7 @@ without_counts rules = take count_rule rules ++ drop open_sign_rule rules
 
 -- the older metagrammar of 29 rules, with hexadecimal escapes in rule Char but without counts
 unfoldable pub escaped_figure : List Rule
-escaped_figure = without_counts (map (with_suffix escaped_suffix) figure)
+escaped_figure = without_counts (map (with_suffix_body escaped_suffix) figure)
 
 -- a rule of the older metagrammar matches the file from `start` to `end` and leaves these trees
 abbrev pub MatchesEscaped : List ℕ → (name : List ℕ) → (start end : ℕ) → Trees → Type 0

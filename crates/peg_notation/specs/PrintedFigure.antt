@@ -6,6 +6,7 @@ use Rattle.peg_tree.specs.Trees.{Trees}
 use Rattle.peg_semantics.specs.Form.{Form, Name, Choice, forms}
 use Rattle.peg_semantics.specs.Record.{Record, Matched, IsRecord}
 use Rattle.peg_semantics.specs.Rules.{Rule}
+use Rattle.peg_metagrammar.specs.FigureRules.{char_rule}
 use Rattle.peg_metagrammar.specs.EscapedFigure.{escaped_figure, numbered_now}
 use Rattle.peg_metagrammar.specs.Figure.{char_sign, char_three_digits, char_two_digits, char_alone, on_line}
 use Rattle.peg_metagrammar.specs.Denotation.{is_octal, octal, rules_spelled}
