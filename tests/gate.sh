@@ -16,7 +16,7 @@ program=crates/pegtool/out/pegtool
 [ -x "$program" ] || { echo "no program was built"; failed=$((failed + 1)); }
 scripts() { # runs each script on the built program
   local script
-  for script in "tests/same.py" "tests/check.sh $program" "tests/furthest.py $program" "tests/by_evaluator.sh" \
+  for script in "tests/check.sh $program" "tests/furthest.py $program" "tests/by_evaluator.sh" \
     "tests/deep.py $program" "tests/oom/each_growth.sh $program" "tests/oom/each_call.sh" \
     "tools/commands.py $program" "tools/crates.py --check" "crates/peg_fuzz/out/peg_fuzz 2004 3000"; do
     echo "== $script"

@@ -1,6 +1,7 @@
 //! Runs of the command `check`, against results worked by hand from Ford's rules for well-formed expressions.
+use peg_fixtures::nest_rule;
 use peg_tool::{Command, Device, run_tool};
-use std::alloc::{AllocError, Global};
+use std::alloc::Global;
 use std::process::Abort;
 use std::test::Fail;
 
@@ -175,25 +176,15 @@ fn files_and_grammars_are_refused_before(rt: HostRuntime) -> Result<(), Fail> {
     )
 }
 
-// A rule A of `'a'` in `depth` parentheses.
-fn nested(alloc: Global, depth: usize) -> Result<Vec<u8>, AllocError> {
-    let mut file = Vec::from_slice(alloc, b"A <- ")?;
-    for _ in 0..depth {
-        file.push(b'(')?;
-    }
-    file.extend_from_slice(b"'a'")?;
-    for _ in 0..depth {
-        file.push(b')')?;
-    }
-    file.push(b'\n')?;
-    Ok(file)
-}
-
 #[test]
 fn two_hundred_parentheses_may_be_open(rt: HostRuntime) -> Result<(), Fail> {
     let alloc = rt.alloc();
-    let file = nested(alloc, 200)?;
+    let file = nest_rule(alloc, 200, b"'a'", ")")?;
     accepts(&rt, alloc, &[(file.as_slice(), 1)])?;
     let line = "{\"at\":205,\"column\":206,\"line\":1,\"refusal\":\"TooNested\"}";
-    refuses(&rt, alloc, &[(nested(alloc, 201)?.as_slice(), line)])
+    refuses(
+        &rt,
+        alloc,
+        &[(nest_rule(alloc, 201, b"'a'", ")")?.as_slice(), line)],
+    )
 }

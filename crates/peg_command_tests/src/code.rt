@@ -1,4 +1,5 @@
 //! Runs of the command `code`: listings worked by hand from the layout, and grammars whose code is too large.
+use peg_fixtures::nest_rule;
 use peg_tool::{Command, Device, ParseOptions, run_tool};
 use std::alloc::{AllocError, Global};
 use std::process::Abort;
@@ -80,17 +81,8 @@ fn refused_files_have_no_code(rt: HostRuntime) -> Result<(), Fail> {
 }
 
 // A rule of `count` nested pluses around a byte.
-fn pluses(alloc: Global, count: u32) -> Result<String, AllocError> {
-    let mut file = String::from_str(alloc, "A <- ")?;
-    for _open in 1..count {
-        file.push_str("(")?;
-    }
-    file.push_str("'a'+")?;
-    for _open in 1..count {
-        file.push_str(")+")?;
-    }
-    file.push_str("\n")?;
-    Ok(file)
+fn pluses(alloc: Global, count: usize) -> Result<Vec<u8>, AllocError> {
+    nest_rule(alloc, count, b"'a'", ")+")
 }
 
 #[test]
@@ -109,11 +101,11 @@ fn code_that_is_too_large_is_refused(rt: HostRuntime) -> Result<(), Fail> {
     };
     let large = pluses(alloc, 25)?;
     for command in [Command::Check, Command::Code, parse] {
-        tells(&rt, alloc, &command, large.as_bytes(), line, 2)?;
+        tells(&rt, alloc, &command, &large, line, 2)?;
     }
     let over = pluses(alloc, 19)?;
-    tells(&rt, alloc, &Command::Check, over.as_bytes(), line, 2)?;
+    tells(&rt, alloc, &Command::Check, &over, line, 2)?;
     let within = pluses(alloc, 18)?;
     let accepted = "{\"result\":\"accepted\",\"rules\":1}";
-    tells(&rt, alloc, &Command::Check, within.as_bytes(), accepted, 0)
+    tells(&rt, alloc, &Command::Check, &within, accepted, 0)
 }

@@ -1,6 +1,7 @@
 //! Grammar files read twice: by the hand-written reader, and by the metagrammar. Both return the same definitions, or
 //! both reject the file.
-use crate::examples::GRAMMARS;
+use peg_fixtures::grammars::{ARITHMETIC, CSV, INI, JSON, NOTATION, URI};
+use peg_fixtures::nest_rule;
 use peg_notation::{NotationFault, figure, figure_text, read};
 use peg_tool::{Command, Device, FigureFault, ParseOptions, read_by_figure, run_tool};
 use std::alloc::{AllocError, Global};
@@ -40,20 +41,6 @@ fn assert_fronts(rt: &impl Abort, alloc: Global, file: &[u8]) -> Result<(), Fail
         assert!(rt; by_hand == by_figure, "of {length} bytes");
     }
     Ok(())
-}
-
-// A rule whose body is `'a'` in `depth` parentheses.
-fn nested(alloc: Global, depth: usize) -> Result<Vec<u8>, AllocError> {
-    let mut file = Vec::new(alloc);
-    file.extend_from_slice(b"A <- ")?;
-    for _ in 0..depth {
-        file.push(b'(')?;
-    }
-    file.extend_from_slice(b"'a'")?;
-    for _ in 0..depth {
-        file.push(b')')?;
-    }
-    Ok(file)
 }
 
 #[test]
@@ -130,14 +117,15 @@ fn files_are_read_alike(rt: HostRuntime) -> Result<(), Fail> {
 
 #[test]
 fn examples_are_read_alike(rt: HostRuntime) -> Result<(), Fail> {
-    assert_read(&rt, rt.alloc(), &GRAMMARS)
+    let files = [ARITHMETIC, CSV, INI, JSON, NOTATION, URI];
+    assert_read(&rt, rt.alloc(), &files)
 }
 
 #[test]
 fn fronts_are_read_alike(rt: HostRuntime) -> Result<(), Fail> {
     assert_fronts(&rt, rt.alloc(), figure_text())?;
-    assert_fronts(&rt, rt.alloc(), GRAMMARS[0])?;
-    assert_fronts(&rt, rt.alloc(), GRAMMARS[2])
+    assert_fronts(&rt, rt.alloc(), ARITHMETIC)?;
+    assert_fronts(&rt, rt.alloc(), INI)
 }
 
 #[test]
@@ -149,8 +137,11 @@ fn files_that_the_figure_refuses(rt: HostRuntime) -> Result<(), Fail> {
     assert_eq!(rt; fault(b"A <- 'x' #end"), Some(FigureFault::NotInFigure));
     assert_eq!(rt; fault(b"A <- '\\x4g'"), Some(FigureFault::NotInFigure));
     assert_eq!(rt; fault(b"A <- '\\X41'"), Some(FigureFault::NotInFigure));
-    assert_eq!(rt; fault(&nested(alloc, 201)?), Some(FigureFault::TooNested));
-    assert_eq!(rt; fault(&nested(alloc, 200)?), None);
+    assert_eq!(rt;
+        fault(&nest_rule(alloc, 201, b"'a'", ")")?),
+        Some(FigureFault::TooNested)
+    );
+    assert_eq!(rt; fault(&nest_rule(alloc, 200, b"'a'", ")")?), None);
     let mut spaces = vec![in alloc; b' '; 1_048_577]?;
     assert_eq!(rt; fault(&spaces), Some(FigureFault::FileTooLong));
     spaces.truncate(1_048_576);
@@ -201,7 +192,7 @@ fn the_figure_tells_what_it_does_not_match_before_a_count(rt: HostRuntime) -> Re
     assert_eq!(rt; faults(b"A <- 'x'{0} )"), (bad, unmatched));
     let syntax = Some(NotationFault::Syntax { at: 5 });
     assert_eq!(rt; faults(b"A <- ) 'x'{0}"), (syntax, unmatched));
-    let mut file = nested(alloc, 201)?;
+    let mut file = nest_rule(alloc, 201, b"'a'", ")")?;
     file.extend_from_slice(b"{0}")?;
     let deep = Some(NotationFault::TooNested { at: 205 });
     assert_eq!(rt; faults(&file), (deep, Some(FigureFault::TooNested)));

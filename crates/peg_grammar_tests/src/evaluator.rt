@@ -1,6 +1,7 @@
 //! Tests of the evaluator on small grammars. The expected values were worked by hand from the recognition table, the
 //! terminal numbers and the furthest failure.
-use crate::outcomes::{assert_cases, failed, matched};
+use crate::outcomes::assert_cases;
+use peg_fixtures::{failed, matched};
 use std::test::Fail;
 
 #[test]

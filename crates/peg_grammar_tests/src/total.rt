@@ -7,8 +7,9 @@ ghost use Rattle.peg_grammar.specs.GrammarRules.{rules_in};
 ghost use Rattle.peg_semantics.specs.WellFormed.{IsWellFormedGrammar};
 ghost use Rattle.peg_grammar.specs.Written.{form_of};
 
-use crate::outcomes::{Case, assert_case, assert_outcome, failed, matched};
+use crate::outcomes::{assert_case, assert_outcome};
 use peg_bytes::Span;
+use peg_fixtures::{Case, failed, matched};
 use peg_grammar::{Definition, Expr, Grammar, TotalFault, plain_total};
 use std::alloc::{AllocError, Global};
 use std::process::Abort;
@@ -118,7 +119,7 @@ fn assert_totals(
 {
     for case in cases {
         let outcome = plain_total(alloc, grammar, case.text, 0)?;
-        assert_outcome(rt, alloc, &outcome, *case)?;
+        assert_outcome(rt, &outcome, *case);
         assert_case(rt, alloc, grammar, *case)?;
     }
     Ok(())

@@ -1,19 +1,16 @@
 //! The language a^n b^n c^n, which isn't context-free; its grammar uses predicates.
-use crate::outcomes::{Case, assert_outcome, failed, matched};
+use crate::outcomes::assert_outcome;
 use crate::pairs::program_of;
 use crate::runs::run_plain;
 use peg_bytes::Span;
 use peg_code::Program;
+use peg_fixtures::grammars::COUNTS;
+use peg_fixtures::{Case, failed, matched};
 use peg_machine::Answer;
 use peg_tree::{Parsed, Tree};
 use std::alloc::{AllocError, Global};
 use std::process::Abort;
 use std::test::Fail;
-
-const COUNTS: &[u8] = b"\
-    D <- &(A !'b') 'a'* B !.\n\
-    A <- 'a' A 'b' / ''\n\
-    B <- 'b' B 'c' / ''\n";
 
 // Runs a program from its first rule.
 fn run_first(
@@ -30,7 +27,7 @@ fn run_first(
 fn assert_told(rt: &impl Abort, alloc: Global, case: Case, wanted: Span) -> Result<(), Fail> {
     let program = program_of(alloc, COUNTS)?;
     let answer = run_first(rt, alloc, &program, case.text)?;
-    assert_outcome(rt, alloc, &answer.outcome, case)?;
+    assert_outcome(rt, &answer.outcome, case);
     for terminal in &answer.outcome.expected {
         assert!(rt; *terminal < program.terminals());
         assert_eq!(rt; program.terminal_span(*terminal), wanted);

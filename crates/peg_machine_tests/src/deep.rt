@@ -1,9 +1,11 @@
 //! Runs that are deeper and longer than the native stack would allow.
 use crate::pairs::program_of;
 use crate::runs::run_plain;
+use peg_fixtures::grammars::RIGHT;
+use peg_fixtures::{nest, repeat_then};
 use peg_machine::{Answer, RunFault};
 use peg_tree::Parsed;
-use std::alloc::{AllocError, Global};
+use std::alloc::Global;
 use std::process::Abort;
 use std::test::Fail;
 
@@ -14,13 +16,6 @@ fn run_first(rt: &impl Abort, alloc: Global, file: &[u8], text: &[u8]) -> Result
     let program = program_of(alloc, file)?;
     assert!(rt; program.rules() > 0);
     Ok(run_plain(alloc, &program, text, None)?)
-}
-
-// A byte repeated `count` times, followed by other bytes.
-fn many_and(alloc: Global, byte: u8, count: usize, end: &[u8]) -> Result<Vec<u8>, AllocError> {
-    let mut text = vec![in alloc; byte; count]?;
-    text.extend_from_slice(end)?;
-    Ok(text)
 }
 
 // Checks a match: its end, the number of nodes and levels of its tree, and the furthest failure.
@@ -47,8 +42,8 @@ fn assert_matched(
 #[test]
 fn a_million_uses_one_in_the_other_match(rt: HostRuntime) -> Result<(), Fail> {
     let alloc = rt.alloc();
-    let text = many_and(alloc, b'a', MILLION, b"b")?;
-    let answer = run_first(&rt, alloc, b"S <- 'a' S / 'b'", &text)?;
+    let text = repeat_then(alloc, b'a', MILLION, b"b")?;
+    let answer = run_first(&rt, alloc, RIGHT, &text)?;
     assert_matched(&rt, &answer, 1_000_001, 1_000_001, 1_000_000, &[0]);
     Ok(())
 }
@@ -56,8 +51,8 @@ fn a_million_uses_one_in_the_other_match(rt: HostRuntime) -> Result<(), Fail> {
 #[test]
 fn a_million_uses_one_in_the_other_fail(rt: HostRuntime) -> Result<(), Fail> {
     let alloc = rt.alloc();
-    let text = many_and(alloc, b'a', MILLION, b"")?;
-    let answer = run_first(&rt, alloc, b"S <- 'a' S / 'b'", &text)?;
+    let text = repeat_then(alloc, b'a', MILLION, b"")?;
+    let answer = run_first(&rt, alloc, RIGHT, &text)?;
     assert!(rt; matches!(answer.outcome.result, Parsed::Failed));
     assert_eq!(rt; answer.outcome.far, 1_000_000);
     assert_eq!(rt; answer.outcome.expected.as_slice(), [0, 1].as_slice());
@@ -67,9 +62,7 @@ fn a_million_uses_one_in_the_other_fail(rt: HostRuntime) -> Result<(), Fail> {
 #[test]
 fn a_million_parentheses_match(rt: HostRuntime) -> Result<(), Fail> {
     let alloc = rt.alloc();
-    let closed = many_and(alloc, b')', MILLION, b"")?;
-    let mut text = many_and(alloc, b'(', MILLION, b"x")?;
-    text.extend_from_slice(&closed)?;
+    let text = nest(alloc, MILLION, "(", b"x", ")")?;
     let answer = run_first(&rt, alloc, b"S <- '(' S ')' / 'x'", &text)?;
     assert_matched(&rt, &answer, 2_000_001, 1_000_001, 1_000_000, &[0]);
     Ok(())
@@ -78,7 +71,7 @@ fn a_million_parentheses_match(rt: HostRuntime) -> Result<(), Fail> {
 #[test]
 fn a_star_goes_over_a_million_bytes(rt: HostRuntime) -> Result<(), Fail> {
     let alloc = rt.alloc();
-    let text = many_and(alloc, b'x', 1_048_576, b"")?;
+    let text = repeat_then(alloc, b'x', 1_048_576, b"")?;
     let answer = run_first(&rt, alloc, b"S <- .* !.", &text)?;
     assert_matched(&rt, &answer, 1_048_576, 1, 1_048_576, &[0, 1]);
     Ok(())
@@ -87,7 +80,7 @@ fn a_star_goes_over_a_million_bytes(rt: HostRuntime) -> Result<(), Fail> {
 #[test]
 fn a_text_over_the_limit_is_told(rt: HostRuntime) -> Result<(), Fail> {
     let alloc = rt.alloc();
-    let program = program_of(alloc, b"S <- 'a' S / 'b'")?;
+    let program = program_of(alloc, RIGHT)?;
     assert!(rt; program.rules() > 0);
     let text = vec![in alloc; 0u8; 67_108_865]?;
     let allocation_failed = run_plain(alloc, &program, &text, Some(0));

@@ -7,8 +7,6 @@ mod counts;
 #[cfg(test)]
 mod deep;
 #[cfg(test)]
-mod dice;
-#[cfg(test)]
 mod examples;
 #[cfg(test)]
 mod forgetful;

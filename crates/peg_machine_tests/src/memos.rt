@@ -1,24 +1,17 @@
 //! Runs with memos and with tracers, against results worked by hand.
 ghost use Rattle.std.specs.Prelude.{◌<◌, length, IfOk};
 
-use crate::outcomes::{assert_alike, assert_outcome, failed, matched};
+use crate::outcomes::{assert_alike, assert_outcome};
 use crate::pairs::{pair_of, program_of, same_outcome_with_memos};
 use crate::runs::{run_forgetting, run_from, run_plain, run_selecting, run_with};
 use peg_code::Program;
+use peg_fixtures::grammars::{COUNTS, RIGHT, TWICE};
+use peg_fixtures::{failed, matched, nest};
 use peg_machine::{ListWatch, NoWatch, RunFault};
 use peg_tree::{Parsed, Tree};
 use std::alloc::{AllocError, Global};
 use std::process::Abort;
 use std::test::Fail;
-
-const RIGHT: &[u8] = b"S <- 'a' S / 'b'";
-
-const TWICE: &[u8] = b"A <- '(' A ')' 'x' / '(' A ')' 'y' / 'a'";
-
-const COUNTS: &[u8] = b"\
-    D <- &(A !'b') 'a'* B !.\n\
-    A <- 'a' A 'b' / ''\n\
-    B <- 'b' B 'c' / ''\n";
 
 // The program of a file with a well-formed grammar and at least one rule.
 fn some_program(rt: &impl Abort, alloc: Global, file: &[u8]) -> Result<Program, Fail>
@@ -75,7 +68,7 @@ fn a_memo_of_one_result_saves_six_steps(rt: HostRuntime) -> Result<(), Fail> {
     assert_eq!(rt; answer.steps, 19);
     let nodes = &[(0, 0, 4, 1), (0, 1, 2, 0)];
     let case = matched(text, 4, 3, &[2], nodes);
-    assert_outcome(&rt, alloc, &answer.outcome, case)?;
+    assert_outcome(&rt, &answer.outcome, case);
     let allocation_failed = run_with(alloc, &program, text, 0, 1, &mut NoWatch, Some(18));
     assert!(rt; matches!(allocation_failed, Err(RunFault::StepLimit)));
     Ok(())
@@ -83,12 +76,7 @@ fn a_memo_of_one_result_saves_six_steps(rt: HostRuntime) -> Result<(), Fail> {
 
 /// Returns `count` parentheses around an `a`, each followed by `y`.
 pub(crate) fn parentheses(alloc: Global, count: usize) -> Result<Vec<u8>, AllocError> {
-    let mut text = vec![in alloc; b'('; count]?;
-    text.push(b'a')?;
-    for _ in 0..count {
-        text.extend_from_slice(b")y")?;
-    }
-    Ok(text)
+    nest(alloc, count, "(", b"a", ")y")
 }
 
 // Checks that the tree is a chain of nodes. Each one starts one byte later and ends two bytes earlier than its parent.
@@ -189,7 +177,7 @@ fn a_missing_byte_is_told_with_each_memo(rt: HostRuntime) -> Result<(), Fail> {
     let pair = pair_of(alloc, COUNTS)?;
     let case = failed(b"aabbc", 5, &[7]);
     let outcome = same_outcome_with_memos(&rt, alloc, &pair, case.text, 0)?;
-    assert_outcome(&rt, alloc, &outcome, case)?;
+    assert_outcome(&rt, &outcome, case);
     Ok(())
 }
 

@@ -1,7 +1,7 @@
 //! Each prefix of a text of 2,048 bytes, by three of the example grammars: the machine's outcomes are those of the
 //! evaluator.
-use crate::examples::{ARITHMETIC, CSV, JSON};
 use crate::pairs::{pair_of, same_outcome};
+use peg_fixtures::grammars::{ARITHMETIC, CSV, JSON};
 use std::alloc::{AllocError, Global};
 use std::process::Abort;
 use std::test::Fail;

@@ -1,8 +1,8 @@
 //! Small random grammars and texts. The machine's outcomes are those of the evaluator, with each memo.
 ghost use Rattle.std.specs.Prelude.{◌<◌, ◌≤◌};
 
-use crate::dice::Rng;
 use crate::pairs::{Pair, accepted_pair, same_outcome_with_memos};
+use peg_fixtures::Rng;
 use peg_tree::Parsed;
 use std::alloc::{AllocError, Global};
 use std::process::Abort;
@@ -47,21 +47,21 @@ struct Counts {
 }
 
 // A terminal, or a call of one of `rules` rules.
-fn add_leaf(dice: &mut Rng, file: &mut Vec<u8>, rules: usize) -> Result<(), AllocError>
+fn add_leaf(rng: &mut Rng, file: &mut Vec<u8>, rules: usize) -> Result<(), AllocError>
     requires some { 0 < rules }
     requires few { rules ≤ 4 }
 {
-    if dice.below(3) == 0 {
-        file.extend_from_slice(NAMES[dice.below(rules)])?;
+    if rng.below(3) == 0 {
+        file.extend_from_slice(NAMES[rng.below(rules)])?;
     } else {
-        file.extend_from_slice(TERMINALS[dice.below(12)])?;
+        file.extend_from_slice(TERMINALS[rng.below(12)])?;
     }
     Ok(())
 }
 
 // An expression of a bounded number of levels. The recursion is as deep as these.
 fn add_expression(
-    dice: &mut Rng,
+    rng: &mut Rng,
     file: &mut Vec<u8>,
     rules: usize,
     levels: u32,
@@ -70,22 +70,22 @@ fn add_expression(
     requires few { rules ≤ 4 }
 {
     if levels == 0 {
-        return add_leaf(dice, file, rules);
+        return add_leaf(rng, file, rules);
     }
-    match dice.below(8) {
-        0 => add_leaf(dice, file, rules),
+    match rng.below(8) {
+        0 => add_leaf(rng, file, rules),
         1 | 2 => {
-            let (before, behind) = SIGNS[dice.below(5)];
+            let (before, behind) = SIGNS[rng.below(5)];
             file.extend_from_slice(before)?;
-            add_expression(dice, file, rules, levels - 1)?;
+            add_expression(rng, file, rules, levels - 1)?;
             file.extend_from_slice(behind)?;
             Ok(())
         }
         _ => {
             file.push(b'(')?;
-            add_expression(dice, file, rules, levels - 1)?;
-            file.extend_from_slice(JOINTS[dice.below(2)])?;
-            add_expression(dice, file, rules, levels - 1)?;
+            add_expression(rng, file, rules, levels - 1)?;
+            file.extend_from_slice(JOINTS[rng.below(2)])?;
+            add_expression(rng, file, rules, levels - 1)?;
             file.push(b')')?;
             Ok(())
         }
@@ -93,23 +93,23 @@ fn add_expression(
 }
 
 // A grammar file of one to four rules.
-pub(crate) fn some_file(alloc: Global, dice: &mut Rng) -> Result<Vec<u8>, AllocError> {
-    let rules = dice.below(4) + 1;
+pub(crate) fn some_file(alloc: Global, rng: &mut Rng) -> Result<Vec<u8>, AllocError> {
+    let rules = rng.below(4) + 1;
     let mut file = Vec::new(alloc);
     for rule in 0..rules {
         file.extend_from_slice(NAMES[rule])?;
         file.extend_from_slice(b" <- ")?;
-        add_expression(dice, &mut file, rules, LEVELS)?;
+        add_expression(rng, &mut file, rules, LEVELS)?;
         file.push(b'\n')?;
     }
     Ok(file)
 }
 
 // A text of letters that occur in the grammars.
-pub(crate) fn some_text(alloc: Global, dice: &mut Rng) -> Result<Vec<u8>, AllocError> {
+pub(crate) fn some_text(alloc: Global, rng: &mut Rng) -> Result<Vec<u8>, AllocError> {
     let mut text = Vec::new(alloc);
-    for _ in 0..dice.below(MOST_BYTES + 1) {
-        text.push(b"abc"[dice.below(3)])?;
+    for _ in 0..rng.below(MOST_BYTES + 1) {
+        text.push(b"abc"[rng.below(3)])?;
     }
     Ok(text)
 }
@@ -140,12 +140,12 @@ fn compare(
 fn compare_texts(
     rt: &impl Abort,
     alloc: Global,
-    dice: &mut Rng,
+    rng: &mut Rng,
     pair: &Pair,
     counts: &mut Counts,
 ) -> Result<(), Fail> {
     for _ in 0..TEXTS {
-        let text = some_text(alloc, dice)?;
+        let text = some_text(alloc, rng)?;
         compare(rt, alloc, pair, &text, counts)?;
     }
     Ok(())
@@ -154,13 +154,13 @@ fn compare_texts(
 #[test]
 fn grammars_by_chance_have_the_outcomes_of_the_evaluator(rt: HostRuntime) -> Result<(), Fail> {
     let alloc = rt.alloc();
-    let mut dice = Rng::new(2004);
+    let mut rng = Rng::new(2004);
     let mut counts = Counts::default();
     for _ in 0..GRAMMARS {
-        let file = some_file(alloc, &mut dice)?;
+        let file = some_file(alloc, &mut rng)?;
         if let Some(pair) = accepted_pair(alloc, &file)? {
             counts.grammars = counts.grammars.saturating_add(1);
-            compare_texts(&rt, alloc, &mut dice, &pair, &mut counts)?;
+            compare_texts(&rt, alloc, &mut rng, &pair, &mut counts)?;
         }
     }
     assert!(rt; counts.grammars >= 300, "{}", counts.grammars);

@@ -7,14 +7,13 @@ use crate::outcomes::assert_alike;
 use crate::pairs::program_of;
 use crate::runs::{run_from, run_plain};
 use peg_code::Program;
+use peg_fixtures::grammars::TWICE;
 use peg_machine::{Answer, ListWatch, NoWatch, RunFault, Watch, run};
 use peg_memo::{Found, Keep, LruMemo};
 use peg_tree::Parsed;
 use std::alloc::{AllocError, Global};
 use std::process::Abort;
 use std::test::Fail;
-
-const TWICE: &[u8] = b"A <- '(' A ')' 'x' / '(' A ')' 'y' / 'a'";
 
 // A memo that stores all results except the one with this number, for which it reports a failure.
 #[derive(Drop)]

@@ -1,9 +1,10 @@
 //! Runs on small grammars. The expected values were worked by hand from the recognition table, the terminal numbers,
 //! the furthest failure and the code.
-use crate::outcomes::{Case, assert_outcome, failed, matched};
+use crate::outcomes::assert_outcome;
 use crate::pairs::program_of;
 use crate::runs::run_plain;
 use peg_code::Program;
+use peg_fixtures::{Case, failed, matched};
 use peg_machine::{Answer, RunFault};
 use std::alloc::Global;
 use std::process::Abort;
@@ -26,7 +27,7 @@ fn assert_cases(rt: &impl Abort, alloc: Global, file: &[u8], cases: &[Case]) -> 
     let program = program_of(alloc, file)?;
     for case in cases {
         let answer = run_within(rt, alloc, &program, case.text, None)?;
-        assert_outcome(rt, alloc, &answer.outcome, *case)?;
+        assert_outcome(rt, &answer.outcome, *case);
     }
     Ok(())
 }
@@ -48,7 +49,7 @@ fn assert_steps(
         Some(u64::MAX),
     ] {
         let answer = run_within(rt, alloc, &program, case.text, most)?;
-        assert_outcome(rt, alloc, &answer.outcome, case)?;
+        assert_outcome(rt, &answer.outcome, case);
         assert_eq!(rt; answer.steps, steps, "of {most:?}");
     }
     for fewer in [0, 1, steps.saturating_sub(1)] {

@@ -1,9 +1,10 @@
 //! The pairs that a run traces, compared with the calls of an evaluator of written expressions.
-use crate::dice::Rng;
 use crate::pairs::{Pair, accepted_pair, pair_of};
 use crate::random::{some_file, some_text};
 use crate::runs::{run_from, run_with};
 use peg_bytes::ByteSet;
+use peg_fixtures::Rng;
+use peg_fixtures::grammars::{COUNTS, TWICE};
 use peg_grammar::{Expr, Grammar};
 use peg_machine::ListWatch;
 use std::alloc::Global;
@@ -244,14 +245,11 @@ fn assert_uses(rt: &impl Abort, alloc: Global, pair: &Pair, text: &[u8]) -> Resu
 #[test]
 fn uses_of_small_grammars_are_shown(rt: HostRuntime) -> Result<(), Fail> {
     let alloc = rt.alloc();
-    let twice = pair_of(alloc, b"A <- '(' A ')' 'x' / '(' A ')' 'y' / 'a'")?;
+    let twice = pair_of(alloc, TWICE)?;
     for text in [&b"(a)y"[..], b"((a)y)y", b"((a", b""] {
         assert_uses(&rt, alloc, &twice, text)?;
     }
-    let counts = pair_of(
-        alloc,
-        b"D <- &(A !'b') 'a'* B !.\nA <- 'a' A 'b' / ''\nB <- 'b' B 'c' / ''\n",
-    )?;
+    let counts = pair_of(alloc, COUNTS)?;
     for text in [&b"aabbcc"[..], b"aabbc", b"abc", b"b"] {
         assert_uses(&rt, alloc, &counts, text)?;
     }
@@ -261,11 +259,11 @@ fn uses_of_small_grammars_are_shown(rt: HostRuntime) -> Result<(), Fail> {
 #[test]
 fn uses_of_grammars_by_chance_are_shown(rt: HostRuntime) -> Result<(), Fail> {
     let alloc = rt.alloc();
-    let mut dice = Rng::new(2002);
+    let mut rng = Rng::new(2002);
     for _ in 0..GRAMMARS {
-        let file = some_file(alloc, &mut dice)?;
+        let file = some_file(alloc, &mut rng)?;
         if let Some(pair) = accepted_pair(alloc, &file)? {
-            let text = some_text(alloc, &mut dice)?;
+            let text = some_text(alloc, &mut rng)?;
             assert_uses(&rt, alloc, &pair, &text)?;
         }
     }

@@ -1,5 +1,6 @@
 //! Tests of the lexer and of the metagrammar. The expected values were worked by hand from the metagrammar.
 use peg_bytes::Span;
+use peg_fixtures::grammars::NOTATION;
 use peg_notation::{
     Bounds, LexFault, MAX_FILE_BYTES, Token, TokenKind, count_bounds, figure, figure_text, lex,
 };
@@ -9,41 +10,6 @@ use std::test::Fail;
 
 // A token: its kind, its start, and its end.
 type Seen = (TokenKind, u32, u32);
-
-// The metagrammar's text (Ford 2004, section 2.1, with hexadecimal digits in Char, and with counts).
-const FIGURE: &[u8] = b"\
-    Grammar <- Spacing Definition+ EndOfFile\n\
-    Definition <- Identifier LEFTARROW Expression\n\
-    Expression <- Sequence (SLASH Sequence)*\n\
-    Sequence <- Prefix*\n\
-    Prefix <- (AND / NOT)? Suffix\n\
-    Suffix <- Primary (QUESTION / STAR / PLUS / COUNT)?\n\
-    Primary <- Identifier !LEFTARROW / OPEN Expression CLOSE / Literal / Class / DOT\n\
-    Identifier <- IdentStart IdentCont* Spacing\n\
-    IdentStart <- [a-zA-Z_]\n\
-    IdentCont <- IdentStart / [0-9]\n\
-    Literal <- ['] (!['] Char)* ['] Spacing / [\"] (![\"] Char)* [\"] Spacing\n\
-    Class <- '[' (!']' Range)* ']' Spacing\n\
-    Range <- Char '-' Char / Char\n\
-    Char <- '\\\\x' [0-9a-fA-F][0-9a-fA-F] / '\\\\' [nrt'\"\\[\\]\\\\] / '\\\\' [0-2][0-7][0-7] \
-    / '\\\\' [0-7][0-7]? / !'\\\\' .\n\
-    LEFTARROW <- '<-' Spacing\n\
-    SLASH <- '/' Spacing\n\
-    AND <- '&' Spacing\n\
-    NOT <- '!' Spacing\n\
-    QUESTION <- '?' Spacing\n\
-    STAR <- '*' Spacing\n\
-    PLUS <- '+' Spacing\n\
-    COUNT <- '{' Number (',' Number)? '}' Spacing\n\
-    Number <- [0-9]+\n\
-    OPEN <- '(' Spacing\n\
-    CLOSE <- ')' Spacing\n\
-    DOT <- '.' Spacing\n\
-    Spacing <- (Space / Comment)*\n\
-    Comment <- '#' (!EndOfLine .)* EndOfLine\n\
-    Space <- ' ' / '\\t' / EndOfLine\n\
-    EndOfLine <- '\\r\\n' / '\\n' / '\\r'\n\
-    EndOfFile <- !.\n";
 
 fn seen(token: &Token) -> Seen {
     (token.kind, token.span.start, token.span.end)
@@ -466,7 +432,7 @@ fn the_figures_text_has_its_tokens(rt: HostRuntime) -> Result<(), Fail> {
 #[test]
 fn the_figure_has_its_text_and_names_where_they_stand(rt: HostRuntime) -> Result<(), Fail> {
     let text = figure_text();
-    assert_eq!(rt; text, FIGURE);
+    assert_eq!(rt; text, NOTATION);
     let rules = figure(rt.alloc())?;
     assert_eq!(rt; rules.len(), 31);
     for rule in &rules {

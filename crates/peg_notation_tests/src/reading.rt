@@ -1,4 +1,5 @@
 //! Tests of the reader. The expected values were worked by hand from the metagrammar.
+use peg_fixtures::nest_rule;
 use peg_grammar::{Definition, Expr};
 use peg_notation::{MAX_FILE_BYTES, MAX_OPEN, NotationFault, figure, figure_text, read};
 use std::alloc::{AllocError, Global};
@@ -64,16 +65,9 @@ fn long_count(alloc: Global, digit: u8, last: u8) -> Result<Vec<u8>, AllocError>
     Ok(file)
 }
 
-// A rule whose body is `'a'` in `depth` parentheses, and a line end.
-fn add_nested(file: &mut Vec<u8>, depth: usize) -> Result<(), AllocError> {
-    file.extend_from_slice(b"A <- ")?;
-    for _ in 0..depth {
-        file.push(b'(')?;
-    }
-    file.extend_from_slice(b"'a'")?;
-    for _ in 0..depth {
-        file.push(b')')?;
-    }
+// Adds a rule whose body is `'a'` in `depth` parentheses, and a line end.
+fn add_nested(file: &mut Vec<u8>, alloc: Global, depth: usize) -> Result<(), AllocError> {
+    file.extend_from_slice(&nest_rule(alloc, depth, b"'a'", ")")?)?;
     file.push(b'\n')?;
     Ok(())
 }
@@ -311,10 +305,10 @@ fn of_a_count_and_another_fault_the_first_is_told(rt: HostRuntime) -> Result<(),
     ];
     assert_refused(&rt, alloc, &others);
     let mut file = Vec::from_slice(alloc, b"B <- 'x'{0} ")?;
-    add_nested(&mut file, MAX_OPEN + 1)?;
+    add_nested(&mut file, alloc, MAX_OPEN + 1)?;
     assert_bad_counts(&rt, alloc, &[(file.as_slice(), 8)]);
     let mut other = Vec::new(alloc);
-    add_nested(&mut other, MAX_OPEN + 1)?;
+    add_nested(&mut other, alloc, MAX_OPEN + 1)?;
     other.extend_from_slice(b"B <- 'x'{0}")?;
     assert_eq!(rt;
         read(alloc, &other).err(),
@@ -406,12 +400,12 @@ fn a_class_holds_the_bytes_of_its_ranges(rt: HostRuntime) -> Result<(), Fail> {
 fn two_hundred_parentheses_may_be_open(rt: HostRuntime) -> Result<(), Fail> {
     let alloc = rt.alloc();
     let mut file = Vec::new(alloc);
-    add_nested(&mut file, MAX_OPEN)?;
-    add_nested(&mut file, MAX_OPEN)?;
+    add_nested(&mut file, alloc, MAX_OPEN)?;
+    add_nested(&mut file, alloc, MAX_OPEN)?;
     assert_eq!(rt; read(alloc, &file)?.len(), 2);
     // Each of these lines has 409 bytes, and the first parenthesis of a rule is its byte 5.
     assert_eq!(rt; file.len(), 818);
-    add_nested(&mut file, MAX_OPEN + 1)?;
+    add_nested(&mut file, alloc, MAX_OPEN + 1)?;
     let fault = read(alloc, &file).err();
     assert_eq!(rt; fault, Some(NotationFault::TooNested { at: 818 + 5 + 200 }));
     Ok(())
@@ -421,14 +415,14 @@ fn two_hundred_parentheses_may_be_open(rt: HostRuntime) -> Result<(), Fail> {
 fn what_comes_first_is_told(rt: HostRuntime) -> Result<(), Fail> {
     let alloc = rt.alloc();
     let mut file = Vec::new(alloc);
-    add_nested(&mut file, MAX_OPEN + 1)?;
+    add_nested(&mut file, alloc, MAX_OPEN + 1)?;
     file.push(b')')?;
     let deep = Some(NotationFault::TooNested { at: 205 });
     assert_eq!(rt; read(alloc, &file).err(), deep, "deep, and then no syntax");
     file.truncate(206);
     assert_eq!(rt; read(alloc, &file).err(), deep, "deep, and then the end");
     let mut other = Vec::from_slice(alloc, b"A <- ? ")?;
-    add_nested(&mut other, MAX_OPEN + 1)?;
+    add_nested(&mut other, alloc, MAX_OPEN + 1)?;
     let fault = Some(NotationFault::Syntax { at: 5 });
     assert_eq!(rt;
         read(alloc, &other).err(),

@@ -1,4 +1,5 @@
 //! The examples of the document on formats, byte for byte.
+use peg_fixtures::nest_rule;
 use peg_tool::{Command, Device, ParseOptions, run_tool};
 use std::alloc::Global;
 use std::process::Abort;
@@ -147,16 +148,6 @@ fn refused_files_tell_where(rt: HostRuntime) -> Result<(), Fail> {
     Ok(())
 }
 
-// A <- 'a' in 201 parentheses, and a line end
-fn nested(alloc: Global) -> Result<Vec<u8>, Fail> {
-    let mut file = b"A <- ".to_vec(alloc)?;
-    file.extend_from_slice(&vec![in alloc; b'('; 201]?)?;
-    file.extend_from_slice(b"'a'")?;
-    file.extend_from_slice(&vec![in alloc; b')'; 201]?)?;
-    file.push(b'\n')?;
-    Ok(file)
-}
-
 #[test]
 fn files_over_a_limit_are_refused(rt: HostRuntime) -> Result<(), Fail> {
     let alloc = rt.alloc();
@@ -164,7 +155,7 @@ fn files_over_a_limit_are_refused(rt: HostRuntime) -> Result<(), Fail> {
         &rt,
         alloc,
         &Command::Check,
-        &nested(alloc)?,
+        &nest_rule(alloc, 201, b"'a'", ")")?,
         b"",
         "{\"at\":205,\"column\":206,\"line\":1,\"refusal\":\"TooNested\"}",
         2,

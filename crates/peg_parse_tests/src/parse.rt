@@ -1,5 +1,7 @@
 //! Parses by the tool over a grammar file and a text, byte for byte.
 use crate::formats::{parse, replies};
+use peg_fixtures::grammars::COUNTS;
+use peg_fixtures::repeat_then;
 use std::alloc::Global;
 use std::process::Abort;
 use std::test::Fail;
@@ -16,9 +18,6 @@ fn parses(
     let command = parse(None, false, false);
     replies(rt, alloc, &command, file, text, line, status)
 }
-
-// The language a^n b^n c^n.
-const COUNTS: &[u8] = b"D <- &(A !'b') 'a'* B !.\nA <- 'a' A 'b' / ''\nB <- 'b' B 'c' / ''\n";
 
 #[test]
 fn texts_are_counted(rt: HostRuntime) -> Result<(), Fail> {
@@ -127,19 +126,12 @@ fn a_start_and_the_whole_text_may_be_asked_for(rt: HostRuntime) -> Result<(), Fa
     )
 }
 
-// The text for S <- 'a' S / 'b': `length` times `a` and a `b`
-fn chain(alloc: Global, length: usize) -> Result<Vec<u8>, Fail> {
-    let mut text = vec![in alloc; b'a'; length]?;
-    text.push(b'b')?;
-    Ok(text)
-}
-
 const CHAIN: &[u8] = b"S <- 'a' S / 'b'\n";
 
 #[test]
 fn rows_have_no_greatest_level(rt: HostRuntime) -> Result<(), Fail> {
     let alloc = rt.alloc();
-    let text = chain(alloc, 60)?;
+    let text = repeat_then(alloc, b'a', 60, b"b")?;
     parses(&rt, alloc, CHAIN, &text, "{\"refusal\":\"TooDeep\"}", 6)?;
     let mut line = String::from_str(
         alloc,
@@ -170,7 +162,14 @@ fn sixty_levels_are_nested(rt: HostRuntime) -> Result<(), Fail> {
         line.push_str(&format!(in alloc; "],\"end\":60,\"rule\":\"S\",\"start\":{start}}}")?)?;
     }
     line.push('}')?;
-    parses(&rt, alloc, CHAIN, &chain(alloc, 59)?, &line, 0)
+    parses(
+        &rt,
+        alloc,
+        CHAIN,
+        &repeat_then(alloc, b'a', 59, b"b")?,
+        &line,
+        0,
+    )
 }
 
 #[test]

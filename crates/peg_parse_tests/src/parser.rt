@@ -1,4 +1,5 @@
 //! Calls of the parser: answers and refusals as a caller gets them.
+use peg_fixtures::grammars::COUNTS;
 use peg_tool::{Fault, ParseFault, ParseOptions, Parser, answer_json, refusal_json};
 use std::alloc::Global;
 use std::process::Abort;
@@ -6,12 +7,6 @@ use std::test::Fail;
 
 // Memo capacities, on which no answer depends.
 const MEMOS: [u32; 3] = [0, 1, 4096];
-
-// The language a^n b^n c^n.
-const COUNTS: &[u8] = b"\
-    D <- &(A !'b') 'a'* B !.\n\
-    A <- 'a' A 'b' / ''\n\
-    B <- 'b' B 'c' / ''\n";
 
 // Parses a text from a rule, at each memo capacity, and compares the answers.
 fn tells(

@@ -2,13 +2,12 @@
 ghost use Rattle.std.specs.Prelude.{◌<◌};
 
 use crate::formats::replies;
+use peg_fixtures::grammars::TWICE;
+use peg_fixtures::nest;
 use peg_tool::{Command, ParseFault, ParseOptions, Parser};
 use std::alloc::Global;
 use std::process::Abort;
 use std::test::Fail;
-
-// Two alternatives with the same prefix: without a memo each level of parentheses doubles the steps.
-const TWICE: &[u8] = b"A <- '(' A ')' 'x' / '(' A ')' 'y' / 'a'\n";
 
 // The options of a parse from the first rule, with a memo capacity and a step limit.
 fn options(memo: u32, steps: u64) -> ParseOptions<'static> {
@@ -97,17 +96,7 @@ fn the_parser_takes_no_more_steps_than_allowed(rt: HostRuntime) -> Result<(), Fa
     Ok(())
 }
 
-// `count` parentheses around an `a`, each closed by `)y`.
-fn parentheses(alloc: Global, count: u32) -> Result<Vec<u8>, Fail> {
-    let mut text = vec![in alloc; b'('; count as usize]?;
-    text.push(b'a')?;
-    for _ in 0..count {
-        text.extend_from_slice(b")y")?;
-    }
-    Ok(text)
-}
-
-// The line of such a text, with a list of nodes. Each node starts a byte after its parent and ends two bytes before
+// The line of an `a` in `count` parentheses, each closed by `)y`, with a list of nodes. Each node starts a byte after its parent and ends two bytes before
 // it.
 fn nested_line(alloc: Global, count: u32) -> Result<String, Fail>
     requires { count < 1000 }
@@ -131,7 +120,7 @@ fn nested_line(alloc: Global, count: u32) -> Result<String, Fail>
 fn a_memo_saves_what_parentheses_take_twice(rt: HostRuntime) -> Result<(), Fail> {
     let alloc = rt.alloc();
     for (count, steps, fewer) in [(30, 367, 366), (100, 1207, 1206)] {
-        let text = parentheses(alloc, count)?;
+        let text = nest(alloc, count as usize, "(", b"a", ")y")?;
         let line = nested_line(alloc, count)?;
         for memo in [1, 4096] {
             answers(&rt, alloc, TWICE, &text, options(memo, steps), true, &line)?;
@@ -143,7 +132,7 @@ fn a_memo_saves_what_parentheses_take_twice(rt: HostRuntime) -> Result<(), Fail>
 
 #[test]
 fn a_limit_ends_what_would_not_end_in_time(rt: HostRuntime) -> Result<(), Fail> {
-    let text = parentheses(rt.alloc(), 100)?;
+    let text = nest(rt.alloc(), 100, "(", b"a", ")y")?;
     gives_up(&rt, rt.alloc(), TWICE, &text, options(0, 100_000), false)?;
     gives_up(&rt, rt.alloc(), TWICE, &text, options(0, 100_000), true)
 }

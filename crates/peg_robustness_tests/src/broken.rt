@@ -1,6 +1,7 @@
 //! Runs whose input or output fails in mid-stream.
 ghost use Rattle.std.specs.Prelude.{◌≡◌, None, false};
 
+use peg_fixtures::grammars::COUNTS;
 use peg_tool::{
     Command, Device, DeviceFault, ParseOptions, Sink, Source, ToolFault, run_joined, run_tool,
 };
@@ -261,12 +262,6 @@ fn assert_reads(
     }
     Ok(())
 }
-
-// The language a^n b^n c^n.
-const COUNTS: &[u8] = b"\
-    D <- &(A !'b') 'a'* B !.\n\
-    A <- 'a' A 'b' / ''\n\
-    B <- 'b' B 'c' / ''\n";
 
 #[test]
 fn a_parse_tells_a_failed_read_of_either(rt: HostRuntime) -> Result<(), Fail> {

@@ -1,0 +1,30 @@
+//! Tests of spans, offsets by line and column and sets of bytes, of parse trees and their JSON, of memos, and of sources,
+//! sinks and transfers.
+#![tactic(auto)]
+
+#[cfg(test)]
+mod any_memo;
+#[cfg(test)]
+mod byte_set;
+#[cfg(test)]
+mod device;
+#[cfg(test)]
+mod line_column;
+#[cfg(test)]
+mod lru_memo;
+#[cfg(test)]
+mod made;
+#[cfg(test)]
+mod no_memo;
+#[cfg(test)]
+mod pieces;
+#[cfg(test)]
+mod sent;
+#[cfg(test)]
+mod separator;
+#[cfg(test)]
+mod span;
+#[cfg(test)]
+mod transfer;
+#[cfg(test)]
+mod trees;

@@ -1,5 +1,0 @@
-//! Tests of the parser of arguments.
-#![tactic(auto)]
-
-#[cfg(test)]
-mod words;
