@@ -10,7 +10,7 @@ use peg_grammar::Grammar;
 use peg_machine::{Answer, NoWatch, RunFault, run as run_program, run_with_shortcuts};
 use peg_memo::NoMemo;
 use peg_notation::read;
-use peg_shortcut::Shortcuts;
+use peg_shortcut::{CallMode, Shortcuts};
 use peg_tree::Parsed;
 use std::alloc::Global;
 use std::time::Instant;
@@ -93,7 +93,7 @@ pub(crate) fn run_again(
         return println!(rt; "no rule");
     }
     let start = Instant::now(&rt)?;
-    let mut shortcuts = Shortcuts::new(alloc, &program, text.len() / 16, true);
+    let mut shortcuts = Shortcuts::new(alloc, &program, text.len() / 16, CallMode::Enter);
     let first = run_by_table(alloc, &mut shortcuts, &program, text.as_slice());
     let new = start.elapsed(&rt)?.as_micros();
     let start = Instant::now(&rt)?;

@@ -1,6 +1,6 @@
 //! Shortcuts of small grammars, against results worked by hand.
 use crate::stages::program_of;
-use peg_shortcut::{Exit, NONE, NewNode, Pushed, Shortcut, Shortcuts, UNKNOWN};
+use peg_shortcut::{CallMode, Exit, Lookup, NewNode, Pushed, Shortcut, Shortcuts};
 use std::alloc::Global;
 use std::process::Abort;
 use std::test::Fail;
@@ -49,12 +49,12 @@ fn assert_shortcut(
     rt: &impl Abort,
     alloc: Global,
     file: &[u8],
-    enters_calls: bool,
+    call_mode: CallMode,
     byte: u8,
     wanted: Wanted<'_>,
 ) -> Result<(), Fail> {
     let program = program_of(alloc, file)?;
-    let shortcut = Shortcut::compute(alloc, &program, enters_calls, 1, byte)?;
+    let shortcut = Shortcut::compute(alloc, &program, call_mode, 1, byte)?;
     assert_eq!(rt; (shortcut.pc, shortcut.popped_choices), (1, 0));
     assert_eq!(rt; shortcut.rounds, wanted.rounds);
     assert_eq!(rt; shortcut.failed.as_slice(), wanted.failed);
@@ -71,8 +71,22 @@ fn at(pc: u32, consumed: bool) -> Exit {
 #[test]
 fn a_star_goes_round_or_on(rt: HostRuntime) -> Result<(), Fail> {
     let alloc = rt.alloc();
-    assert_shortcut(&rt, alloc, STAR, false, b'a', bare(3, &[], at(1, true)))?;
-    assert_shortcut(&rt, alloc, STAR, true, b'c', bare(2, &[0], at(4, false)))
+    assert_shortcut(
+        &rt,
+        alloc,
+        STAR,
+        CallMode::Stop,
+        b'a',
+        bare(3, &[], at(1, true)),
+    )?;
+    assert_shortcut(
+        &rt,
+        alloc,
+        STAR,
+        CallMode::Enter,
+        b'c',
+        bare(2, &[0], at(4, false)),
+    )
 }
 
 #[test]
@@ -86,16 +100,44 @@ fn a_choice_leaves_its_way_or_takes_it(rt: HostRuntime) -> Result<(), Fail> {
         nodes: &[],
         exit: at(3, true),
     };
-    assert_shortcut(&rt, alloc, RIGHT, false, b'a', left)?;
-    assert_shortcut(&rt, alloc, RIGHT, false, b'b', bare(3, &[0], at(6, true)))?;
-    assert_shortcut(&rt, alloc, RIGHT, true, b'c', bare(3, &[0, 1], Exit::Fail))
+    assert_shortcut(&rt, alloc, RIGHT, CallMode::Stop, b'a', left)?;
+    assert_shortcut(
+        &rt,
+        alloc,
+        RIGHT,
+        CallMode::Stop,
+        b'b',
+        bare(3, &[0], at(6, true)),
+    )?;
+    assert_shortcut(
+        &rt,
+        alloc,
+        RIGHT,
+        CallMode::Enter,
+        b'c',
+        bare(3, &[0, 1], Exit::Fail),
+    )
 }
 
 #[test]
 fn a_predicate_fails_or_lets_the_byte_be_taken(rt: HostRuntime) -> Result<(), Fail> {
     let alloc = rt.alloc();
-    assert_shortcut(&rt, alloc, BUT, false, b'b', bare(3, &[], Exit::Fail))?;
-    assert_shortcut(&rt, alloc, BUT, true, b'a', bare(3, &[0], at(5, true)))
+    assert_shortcut(
+        &rt,
+        alloc,
+        BUT,
+        CallMode::Stop,
+        b'b',
+        bare(3, &[], Exit::Fail),
+    )?;
+    assert_shortcut(
+        &rt,
+        alloc,
+        BUT,
+        CallMode::Enter,
+        b'a',
+        bare(3, &[0], at(5, true)),
+    )
 }
 
 #[test]
@@ -113,9 +155,23 @@ fn a_call_is_gone_through_or_stops_it(rt: HostRuntime) -> Result<(), Fail> {
         nodes: &row,
         exit: at(2, true),
     };
-    assert_shortcut(&rt, alloc, CALL, true, b'a', ended)?;
-    assert_shortcut(&rt, alloc, CALL, true, b'c', bare(2, &[1], Exit::Fail))?;
-    assert_shortcut(&rt, alloc, CALL, false, b'a', bare(0, &[], at(1, false)))
+    assert_shortcut(&rt, alloc, CALL, CallMode::Enter, b'a', ended)?;
+    assert_shortcut(
+        &rt,
+        alloc,
+        CALL,
+        CallMode::Enter,
+        b'c',
+        bare(2, &[1], Exit::Fail),
+    )?;
+    assert_shortcut(
+        &rt,
+        alloc,
+        CALL,
+        CallMode::Stop,
+        b'a',
+        bare(0, &[], at(1, false)),
+    )
 }
 
 #[test]
@@ -137,27 +193,38 @@ fn a_use_that_has_not_ended_stays_on_the_stack(rt: HostRuntime) -> Result<(), Fa
         nodes: &row,
         exit: at(5, true),
     };
-    assert_shortcut(&rt, rt.alloc(), LONGER, true, b'a', open)
+    assert_shortcut(&rt, rt.alloc(), LONGER, CallMode::Enter, b'a', open)
 }
 
 // Whether the table has a shortcut from an instruction on a byte.
 fn is_found(shortcuts: &Shortcuts<'_>, pc: u32, byte: u8) -> bool {
-    shortcuts.get(shortcuts.cell(pc, byte), pc, byte).is_some()
+    matches!(shortcuts.lookup(pc, byte), Lookup::Found(_))
+}
+
+// Whether the shortcut from an instruction on a byte hasn't been computed yet.
+fn is_unmet(shortcuts: &Shortcuts<'_>, pc: u32, byte: u8) -> bool {
+    matches!(shortcuts.lookup(pc, byte), Lookup::Unmet)
+}
+
+// Whether the shortcut from the first instruction on a byte is known on another one.
+fn is_shared(shortcuts: &Shortcuts<'_>, byte: u8, other: u8) -> bool {
+    match shortcuts.lookup(1, byte) {
+        Lookup::Found(cached) => cached.bytes.contains(other),
+        Lookup::Unmet | Lookup::None => false,
+    }
 }
 
 #[test]
 fn a_table_knows_what_it_has_found(rt: HostRuntime) -> Result<(), Fail> {
     let alloc = rt.alloc();
     let program = program_of(alloc, STAR)?;
-    let mut shortcuts = Shortcuts::new(alloc, &program, 2, false);
-    assert_eq!(rt; shortcuts.cell(1, b'a'), UNKNOWN);
-    assert!(rt; !is_found(&shortcuts, 1, b'a'));
+    let mut shortcuts = Shortcuts::new(alloc, &program, 2, CallMode::Stop);
+    assert!(rt; is_unmet(&shortcuts, 1, b'a'));
     shortcuts.find(1, b'a');
     assert!(rt; is_found(&shortcuts, 1, b'a'));
-    assert!(rt; !is_found(&shortcuts, 1, b'b'));
-    assert_eq!(rt; shortcuts.cell(1, b'b'), UNKNOWN);
+    assert!(rt; is_unmet(&shortcuts, 1, b'b'));
     shortcuts.find(2, b'a');
-    assert!(rt; !is_found(&shortcuts, 2, b'a'));
+    assert!(rt; matches!(shortcuts.lookup(2, b'a'), Lookup::None));
     Ok(())
 }
 
@@ -173,15 +240,17 @@ fn a_table_finds_after_so_many_meetings(rt: HostRuntime) -> Result<(), Fail> {
     let alloc = rt.alloc();
     let program = program_of(alloc, STAR)?;
     for (after, met) in [(0, 0), (2, 2), (126, 126), (u16::MAX, 126)] {
-        let mut shortcuts = Shortcuts::new(alloc, &program, usize::MAX, false).with_threshold(
-            after,
-        );
+        let mut shortcuts = Shortcuts::new(
+            alloc,
+            &program,
+            usize::MAX,
+            CallMode::Stop,
+        ).with_threshold(after);
         meet_often(&mut shortcuts, b'a', met);
-        assert!(rt; !is_found(&shortcuts, 1, b'a'));
-        assert!(rt; shortcuts.cell(1, b'a') < NONE);
+        assert!(rt; is_unmet(&shortcuts, 1, b'a'));
         meet_often(&mut shortcuts, b'a', 1);
         assert!(rt; is_found(&shortcuts, 1, b'a'));
-        assert_eq!(rt; shortcuts.cell(1, b'b'), UNKNOWN);
+        assert!(rt; is_unmet(&shortcuts, 1, b'b'));
     }
     Ok(())
 }
@@ -190,12 +259,12 @@ fn a_table_finds_after_so_many_meetings(rt: HostRuntime) -> Result<(), Fail> {
 fn a_table_for_no_instruction_finds_none(rt: HostRuntime) -> Result<(), Fail> {
     let alloc = rt.alloc();
     let program = program_of(alloc, STAR)?;
-    let mut shortcuts = Shortcuts::new(alloc, &program, 0, true);
+    let mut shortcuts = Shortcuts::new(alloc, &program, 0, CallMode::Enter);
     assert!(rt; !shortcuts.may_have(1));
-    assert!(rt; shortcuts.cell(1, b'a') != UNKNOWN);
+    assert!(rt; matches!(shortcuts.lookup(1, b'a'), Lookup::None));
     shortcuts.find(1, b'a');
-    assert!(rt; !is_found(&shortcuts, 1, b'a'));
-    let shortcuts = Shortcuts::new(alloc, &program, 2, true);
+    assert!(rt; matches!(shortcuts.lookup(1, b'a'), Lookup::None));
+    let shortcuts = Shortcuts::new(alloc, &program, 2, CallMode::Enter);
     assert!(rt; shortcuts.may_have(1));
     assert!(rt; !shortcuts.may_have(2));
     Ok(())
@@ -205,14 +274,14 @@ fn a_table_for_no_instruction_finds_none(rt: HostRuntime) -> Result<(), Fail> {
 fn bytes_on_which_the_same_is_done_share_a_shortcut(rt: HostRuntime) -> Result<(), Fail> {
     let alloc = rt.alloc();
     let program = program_of(alloc, PAIR)?;
-    let mut shortcuts = Shortcuts::new(alloc, &program, usize::MAX, false);
+    let mut shortcuts = Shortcuts::new(alloc, &program, usize::MAX, CallMode::Stop);
     for byte in [b'a', b'b', b'c', b'd'] {
         shortcuts.find(1, byte);
         assert!(rt; is_found(&shortcuts, 1, byte));
     }
-    assert_eq!(rt; shortcuts.cell(1, b'a'), shortcuts.cell(1, b'b'));
-    assert_eq!(rt; shortcuts.cell(1, b'c'), shortcuts.cell(1, b'd'));
-    assert!(rt; shortcuts.cell(1, b'a') != shortcuts.cell(1, b'c'));
-    assert!(rt; shortcuts.get(shortcuts.cell(1, b'a'), 1, b'c').is_none());
+    assert!(rt; is_shared(&shortcuts, b'a', b'b'));
+    assert!(rt; is_shared(&shortcuts, b'c', b'd'));
+    assert!(rt; !is_shared(&shortcuts, b'a', b'c'));
+    assert!(rt; !is_shared(&shortcuts, b'c', b'a'));
     Ok(())
 }

@@ -4,7 +4,7 @@ ghost use Rattle.std.specs.Prelude.{◌≡◌, ◌+◌, ◌∷◌, ◌<◌, [], 
 ghost use Rattle.std.specs.FinMap as map;
 ghost use Rattle.peg_code.specs.Instructions.{Call, Ret};
 ghost use Rattle.peg_semantics.specs.Record.{Record, Test, RuleCall};
-ghost use Rattle.peg_machine.specs.RunInvariant.{after_hit, after_call, Trace, RunInvariant, ReturnKeepsInvariant};
+ghost use Rattle.peg_machine.specs.RunInvariant.{after_hit, after_traced_call, Trace, RunInvariant, ReturnKeepsInvariant};
 ghost use Rattle.peg_machine.specs.OpenRows.{opened};
 ghost use Rattle.peg_machine.specs.MemoInvariant.{stored_result, IsOffered, IsTouched, MemoState};
 ghost use Rattle.peg_machine.specs.Running.{RunContext};
@@ -53,7 +53,7 @@ pub fn a_hit_or_a_call()
         → slice_get context.code pc ≡ Some (Call rule) → (0 < memo.capacity
         → map.get memo.entries (rule, position) ≡ None)
         → (entry : ℕ) × (slice_get entries rule ≡ Some entry)
-        × RunInvariant context (after_call (record { rule = rule; position = position }) trace) tests memo
+        × RunInvariant context (after_traced_call (record { rule = rule; position = position }) trace) tests memo
         (RunsAt entry position (opened rows (record { rule = rule; position = position })))
         (record {
           frame = record { pair = record { rule = rule; position = position }; return_pc = pc + 1; before = rows };

@@ -135,7 +135,7 @@ pub fn a_call_backtracks_or_fails()
     ensures gives_up { (context : RunContext) (task : CallTask) (fails : IsBacktrackingTask context task)
         → task.choice_points ≡ []
         → (fails.answer.result ≡ Failed) × (task.to_come ≡ only_steps 0) }
-    ensures enters_calls { (context : RunContext) (task caller : CallTask) (older : List CallTask)
+    ensures caller_fails { (context : RunContext) (task caller : CallTask) (older : List CallTask)
         (falling : IsBacktracking context task (caller ∷ older)) → task.choice_points ≡ []
         → IsBacktracking context (resume_task context caller task.frame.pair falling.0.answer) older }
 {}

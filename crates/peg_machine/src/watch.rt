@@ -1,7 +1,7 @@
 //! Tracers: receivers of the rule calls of a run.
 ghost use Rattle.std.specs.Prelude.{◌≡◌, ◌∷◌, ◌++◌, [], map, false, true, Bool, IsTrue, List, OnErr, OnOk};
 ghost use Rattle.peg_semantics.specs.Record.{RuleCall};
-ghost use Rattle.peg_machine.specs.Watched.{call_at, call_of};
+ghost use Rattle.peg_machine.specs.Watched.{traced_call, call_of};
 
 use std::alloc::{AllocError, Global};
 use std::marker::Model;
@@ -24,7 +24,7 @@ pub trait Watch {
 
     /// Records that the body of a rule runs from a position. An `Err` leaves the calls recorded so far.
     fn begin(&mut self, rule: u32, position: u32) -> Result<(), AllocError>
-        ensures ok { OnOk result (IsTrue records → traced self.new ≡ traced self.old ++ call_at rule position ∷ []) }
+        ensures ok { OnOk result (IsTrue records → traced self.new ≡ traced self.old ++ traced_call rule position ∷ []) }
         ensures err { OnErr result (IsTrue records → traced self.new ≡ traced self.old) };
 }
 

@@ -6,7 +6,7 @@ use peg_code::Program;
 use peg_machine::{Answer, NoWatch, RunFault, Watch, run, run_with_shortcuts};
 use peg_memo::{LruMemo, NoMemo};
 use peg_memo_policy::{RerunCosts, SelectiveMemo};
-use peg_shortcut::Shortcuts;
+use peg_shortcut::{CallMode, Shortcuts};
 use std::alloc::Global;
 
 /// Runs without a memo, from a rule, with shortcuts for every instruction. They go through calls if the tracer is
@@ -21,7 +21,12 @@ pub(crate) fn run_from<W: Watch>(
 ) -> Result<Answer, RunFault>
     requires { start < length program.now.core.bodies }
 {
-    let mut shortcuts = Shortcuts::new(alloc, program, usize::MAX, !watch.is_active());
+    let call_mode = if watch.is_active() {
+        CallMode::Stop
+    } else {
+        CallMode::Enter
+    };
+    let mut shortcuts = Shortcuts::new(alloc, program, usize::MAX, call_mode);
     run_with_shortcuts(
         alloc,
         &mut shortcuts,
@@ -73,7 +78,7 @@ pub(crate) fn run_step_by_step(
 ) -> Result<Answer, RunFault>
     requires { start < length program.now.core.bodies }
 {
-    let mut none = Shortcuts::new(alloc, program, 0, true);
+    let mut none = Shortcuts::new(alloc, program, 0, CallMode::Enter);
     run_with_shortcuts(
         alloc,
         &mut none,
@@ -112,7 +117,7 @@ pub(crate) fn run_with<W: Watch>(
     requires some { 1 ≤ capacity }
 {
     let mut memo = LruMemo::new(alloc, capacity)?;
-    let mut shortcuts = Shortcuts::new(alloc, program, usize::MAX, false);
+    let mut shortcuts = Shortcuts::new(alloc, program, usize::MAX, CallMode::Stop);
     run_with_shortcuts(
         alloc,
         &mut shortcuts,

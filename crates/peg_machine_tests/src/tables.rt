@@ -6,7 +6,7 @@ use crate::pairs::program_of;
 use crate::runs::{run_looked_at, run_step_by_step, run_without_memo};
 use peg_code::Program;
 use peg_machine::ListWatch;
-use peg_shortcut::Shortcuts;
+use peg_shortcut::{CallMode, Lookup, Shortcuts};
 use std::alloc::{AllocError, Global};
 use std::process::Abort;
 use std::test::Fail;
@@ -39,7 +39,7 @@ fn text_for_calls(alloc: Global) -> Result<Vec<u8>, AllocError> {
 }
 
 fn is_found(shortcuts: &Shortcuts<'_>, pc: u32, byte: u8) -> bool {
-    shortcuts.get(shortcuts.cell(pc, byte), pc, byte).is_some()
+    matches!(shortcuts.lookup(pc, byte), Lookup::Found(_))
 }
 
 // Checks that a run with a table has the outcome and the steps of a run without shortcuts.
@@ -84,7 +84,7 @@ fn a_table_at_its_cap_changes_no_answer(rt: HostRuntime) -> Result<(), Fail> {
     let alloc = rt.alloc();
     let program = program_of(alloc, &file_of_calls(alloc)?)?;
     assert!(rt; program.rules() > 0);
-    let mut shortcuts = Shortcuts::new(alloc, &program, usize::MAX, true);
+    let mut shortcuts = Shortcuts::new(alloc, &program, usize::MAX, CallMode::Enter);
     find_all(&mut shortcuts);
     assert!(rt; is_found(&shortcuts, 1, b'a'));
     assert!(rt; is_found(&shortcuts, 2_857, b't'));
@@ -100,7 +100,7 @@ fn a_table_of_few_instructions_changes_no_answer(rt: HostRuntime) -> Result<(), 
     let program = program_of(alloc, file)?;
     assert!(rt; program.rules() > 0);
     for most in 0..=program.len() as usize {
-        let mut shortcuts = Shortcuts::new(alloc, &program, most, true);
+        let mut shortcuts = Shortcuts::new(alloc, &program, most, CallMode::Enter);
         assert_same_by(&rt, alloc, &mut shortcuts, &program, b"abc;(u(cc;)yb;)(x)")?;
         assert_same_by(&rt, alloc, &mut shortcuts, &program, b"a;((ww)bc;")?;
     }
@@ -113,9 +113,12 @@ fn a_table_that_finds_late_changes_no_answer(rt: HostRuntime) -> Result<(), Fail
     let program = program_of(alloc, b"S <- (A / '(' S ')')* A <- [a-c]+ ';' / !'x' [u-z]")?;
     assert!(rt; program.rules() > 0);
     for threshold in 0..12 {
-        let mut shortcuts = Shortcuts::new(alloc, &program, usize::MAX, true).with_threshold(
-            threshold,
-        );
+        let mut shortcuts = Shortcuts::new(
+            alloc,
+            &program,
+            usize::MAX,
+            CallMode::Enter,
+        ).with_threshold(threshold);
         assert_same_by(&rt, alloc, &mut shortcuts, &program, b"abc;(u(cc;)yb;)(x)")?;
         assert_same_by(&rt, alloc, &mut shortcuts, &program, b"a;((ww)bc;")?;
     }
@@ -147,7 +150,7 @@ fn a_watch_that_looks_is_shown_each_use(rt: HostRuntime) -> Result<(), Fail> {
     let alloc = rt.alloc();
     let program = program_of(alloc, b"S <- 'a' S / 'b'")?;
     assert!(rt; program.rules() > 0);
-    let mut shortcuts = Shortcuts::new(alloc, &program, usize::MAX, true);
+    let mut shortcuts = Shortcuts::new(alloc, &program, usize::MAX, CallMode::Enter);
     assert_shown(&rt, alloc, &mut shortcuts, &program)?;
     assert_shown(&rt, alloc, &mut shortcuts, &program)
 }

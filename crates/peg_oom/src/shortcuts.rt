@@ -7,7 +7,7 @@ use crate::runs::{is_part, whole};
 use peg_code::Program;
 use peg_machine::{Answer, ListWatch, NoWatch, RunFault, run, run_with_shortcuts};
 use peg_memo::{LruMemo, NoMemo};
-use peg_shortcut::{CachedShortcut, Shortcut, Shortcuts};
+use peg_shortcut::{CachedShortcut, CallMode, Lookup, Shortcut, Shortcuts};
 use std::alloc::{AllocError, Global};
 use std::fmt::Debug;
 use std::io;
@@ -31,7 +31,7 @@ const EARLIER: &[u8] = b"w(";
 pub(crate) fn call(rt: &impl Print, alloc: Global, word: &str) -> io::Result<bool> {
     match word {
         "shortcut_of" => found(rt, alloc)?,
-        "run_by_through" => enters_calls(rt, alloc)?,
+        "run_by_through" => entering(rt, alloc)?,
         "run_by_stopping" => stopping(rt, alloc)?,
         "run_by_kept" => kept(rt, alloc)?,
         _ => return Ok(false),
@@ -43,7 +43,7 @@ pub(crate) fn call(rt: &impl Print, alloc: Global, word: &str) -> io::Result<boo
 fn found(rt: &impl Print, alloc: Global) -> io::Result<()> {
     let Pair { program, .. } = &compiled(alloc, SUMS)?;
     let borrowed = Borrowed::of(alloc, program)?;
-    let answer = Shortcut::compute(alloc, program, true, program.entry(0), b'w');
+    let answer = Shortcut::compute(alloc, program, CallMode::Enter, program.entry(0), b'w');
     report(rt, &borrowed, answer.is_err(), &answer)
 }
 
@@ -56,9 +56,9 @@ fn is_within(one: &CachedShortcut, other: &CachedShortcut) -> bool {
 fn are_in(shortcuts: &Shortcuts<'_>, whole: &Shortcuts<'_>, program: &Program) -> bool {
     for pc in 0..program.len() {
         for byte in 0..=u8::MAX {
-            if let Some(kept) = shortcuts.get(shortcuts.cell(pc, byte), pc, byte) {
-                match whole.get(whole.cell(pc, byte), pc, byte) {
-                    Some(other) if is_within(kept, other) => (),
+            if let Lookup::Found(kept) = shortcuts.lookup(pc, byte) {
+                match whole.lookup(pc, byte) {
+                    Lookup::Found(other) if is_within(kept, other) => (),
                     _ => return false,
                 }
             }
@@ -92,10 +92,15 @@ fn find_all(shortcuts: &mut Shortcuts<'_>, program: &Program, byte: u8)
 }
 
 // A table with the shortcuts on these bytes for which no allocation failed.
-fn table<'a>(alloc: Global, program: &'a Program, enters_calls: bool, bytes: &[u8]) -> Shortcuts<'a>
+fn table<'a>(
+    alloc: Global,
+    program: &'a Program,
+    call_mode: CallMode,
+    bytes: &[u8],
+) -> Shortcuts<'a>
     ensures { result.program.now ≡ program.now }
 {
-    let mut shortcuts = Shortcuts::new(alloc, program, usize::MAX, enters_calls);
+    let mut shortcuts = Shortcuts::new(alloc, program, usize::MAX, call_mode);
     for byte in bytes {
         find_all(&mut shortcuts, program, *byte);
     }
@@ -128,12 +133,12 @@ fn run_plain(
 fn filled<'a>(
     alloc: Global,
     program: &'a Program,
-    enters_calls: bool,
+    call_mode: CallMode,
     bytes: &[u8],
 ) -> Result<Shortcuts<'a>, AllocError>
     requires { 0 < length program.now.core.bodies }
 {
-    let mut shortcuts = table(alloc, program, enters_calls, bytes);
+    let mut shortcuts = table(alloc, program, call_mode, bytes);
     match run_plain(alloc, &mut shortcuts, program, TEXT) {
         Ok(_) => Ok(shortcuts),
         Err(_) => Err(AllocError),
@@ -144,13 +149,13 @@ fn filled<'a>(
 fn all_of<'a>(
     alloc: Global,
     program: &'a Program,
-    enters_calls: bool,
+    call_mode: CallMode,
     bytes: &[u8],
 ) -> Result<Shortcuts<'a>, AllocError>
     requires { 0 < length program.now.core.bodies }
 {
-    let first = filled(alloc, program, enters_calls, bytes)?;
-    let second = filled(alloc, program, enters_calls, bytes)?;
+    let first = filled(alloc, program, call_mode, bytes)?;
+    let second = filled(alloc, program, call_mode, bytes)?;
     one_of(first, second, program)
 }
 
@@ -179,20 +184,20 @@ fn run_and_report<B: Debug>(
 }
 
 // The call builds the table. If an allocation fails the table has fewer shortcuts, and the answer is the same.
-fn enters_calls(rt: &impl Print, alloc: Global) -> io::Result<()> {
+fn entering(rt: &impl Print, alloc: Global) -> io::Result<()> {
     let Pair { program, .. } = &compiled(alloc, SUMS)?;
-    let whole = all_of(alloc, program, true, b"")?;
+    let whole = all_of(alloc, program, CallMode::Enter, b"")?;
     let mut borrowed = Borrowed::of(alloc, program)?;
-    let mut shortcuts = Shortcuts::new(alloc, program, usize::MAX, true);
+    let mut shortcuts = Shortcuts::new(alloc, program, usize::MAX, CallMode::Enter);
     run_and_report(rt, alloc, &mut borrowed, &mut shortcuts, &whole, program)
 }
 
 // The table already has the shortcuts of other texts.
 fn kept(rt: &impl Print, alloc: Global) -> io::Result<()> {
     let Pair { program, .. } = &compiled(alloc, SUMS)?;
-    let whole = all_of(alloc, program, true, EARLIER)?;
-    let first = table(alloc, program, true, EARLIER);
-    let second = table(alloc, program, true, EARLIER);
+    let whole = all_of(alloc, program, CallMode::Enter, EARLIER)?;
+    let first = table(alloc, program, CallMode::Enter, EARLIER);
+    let second = table(alloc, program, CallMode::Enter, EARLIER);
     let mut shortcuts = one_of(first, second, program)?;
     let mut borrowed = Borrowed::of(alloc, program)?;
     run_and_report(rt, alloc, &mut borrowed, &mut shortcuts, &whole, program)
@@ -218,13 +223,13 @@ fn has_part(whole: &ListWatch, watch: &ListWatch) -> bool {
 fn stopping(rt: &impl Print, alloc: Global) -> io::Result<()> {
     let pair = compiled(alloc, SUMS)?;
     let program = &pair.program;
-    let all = all_of(alloc, program, false, b"")?;
+    let all = all_of(alloc, program, CallMode::Stop, b"")?;
     let whole = whole(alloc, &pair, TEXT)?;
     let traced = traced(alloc, &pair)?;
     let mut memo = LruMemo::new(alloc, 1024)?;
     let mut borrowed = Borrowed::of(alloc, program)?;
     let mut watch = ListWatch::new(alloc);
-    let mut shortcuts = Shortcuts::new(alloc, program, usize::MAX, false);
+    let mut shortcuts = Shortcuts::new(alloc, program, usize::MAX, CallMode::Stop);
     let answer = run_with_shortcuts(
         alloc,
         &mut shortcuts,

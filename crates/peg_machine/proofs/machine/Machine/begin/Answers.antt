@@ -3,7 +3,7 @@ use Rattle.std.proofs.lemmas.List.{length-map, map-append}
 use Rattle.peg_semantics.specs.Record.{RuleCall}
 use Rattle.peg_tree.specs.Rows.{Row, row_of}
 use Rattle.peg_machine.specs.Entries.{Entry, CallEntry}
-use Rattle.peg_machine.specs.RunInvariant.{after_call}
+use Rattle.peg_machine.specs.RunInvariant.{after_traced_call}
 use Rattle.peg_machine.specs.Machine.{entry_of, state_of, context_of}
 use Rattle.peg_machine.specs.MachineStates.{IsActive}
 use Rattle.peg_machine.specs.OpenRows.{opened}
@@ -49,15 +49,15 @@ returns-clause-post g c = λ trace memo runs unheld.
     ∙ ap (λ (n : ℕ). rows ++ row_from c.args.rule n c.new.result.end ∷ []) c.new.ensures.start
     ∙ ap (λ (n : ℕ). rows ++ row_from c.args.rule old.position n ∷ []) c.new.ensures.end in
     inl (subst
-    (λ (at : ℕ). IsActive context (after_call pair trace) (RunsAt at old.position (map row_of c.push-2.new.self.items))
+    (λ (at : ℕ). IsActive context (after_traced_call pair trace) (RunsAt at old.position (map row_of c.push-2.new.self.items))
     (record (state_of old memo) { rows = map row_of c.push-2.new.self.items; entries = map entry_of c.push.new.self.items }))
     entry
     (subst
-    (λ (entries : List Entry). IsActive context (after_call pair trace) (RunsAt next.0 old.position (map row_of c.push-2.new.self.items))
+    (λ (entries : List Entry). IsActive context (after_traced_call pair trace) (RunsAt next.0 old.position (map row_of c.push-2.new.self.items))
     (record (state_of old memo) { rows = map row_of c.push-2.new.self.items; entries = entries }))
     (sym entries)
     (subst
-    (λ (rows : List Row). IsActive context (after_call pair trace) (RunsAt next.0 old.position rows)
+    (λ (rows : List Row). IsActive context (after_traced_call pair trace) (RunsAt next.0 old.position rows)
     (record (state_of old memo) {
       rows = rows;
       entries = map entry_of old.stack.items ++ CallEntry pair (old.pc + 1) (length (map row_of old.rows.items)) ∷ [];
