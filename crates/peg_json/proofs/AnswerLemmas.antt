@@ -1,10 +1,10 @@
 -- The parts of a printed answer: the spans of terminals, in order; no object contains a float.
-use Rattle.std.proofs.Common.{◌≡◌, ℕ, ◌+◌, ◌<◌, Bool, true, false, ◌||◌, List, [], ◌∷◌, ◌++◌, length, map, Some, codes}
+use Rattle.std.proofs.Common.{◌≡◌, ℕ, ◌+◌, ◌<◌, Bool, false, ◌||◌, List, [], ◌∷◌, ◌++◌, length, map, Some}
 use Rattle.std.proofs.Common.{refl, sym, ap, ◌∙◌, arith, slice_get, slice_index_or, get_or, inl, inr}
 use Rattle.std.proofs.lemmas.Bool.{cases_Bool, false≢true}
 use Rattle.std.proofs.lemmas.List.{get_or-map, length-map}
 use Rattle.std.proofs.lemmas.Option.{get_or_from_slice_get}
-use Rattle.serde_json.specs.Data.{Data, array, member, no_items, no_members}
+use Rattle.serde_json.specs.Data.{Data}
 use Rattle.serde_json.specs.View.{items_of}
 use Rattle.serde_json.specs.Written.{has_float, items_have_float, members_have_float}
 use Rattle.peg_bytes.specs.Extent.{Extent, between}
@@ -14,6 +14,8 @@ use Rattle.peg_tree.specs.Json.{nested_data, rows_data}
 use Rattle.peg_tree.specs.Trees.{Trees, NoTrees, Tree}
 use Rattle.peg_json.specs.Parses.{extents_at}
 use Rattle.peg_json.specs.Reply.{extent_data, failed_data, matched_data, tree_member}
+use Rattle.peg_json.specs.declared.tree_form.TreeForm.{TreeForm}
+use Rattle.peg_json.specs.declared.tree_form.TreeForm.TheVariants.{Nested, Rows}
 
 -- the span of a terminal
 pub place_at : (rules : List Rule) (terminals : List ℕ) (i : ℕ) (place : Extent) → i < length terminals
@@ -35,7 +37,8 @@ length-places rules terminals =
 
 -- ---- no floats
 
-expected-without_floats : (expected : List Extent) → items_have_float (items_of (map extent_data expected)) ≡ false
+-- no printed list of spans contains a float
+pub expected-without_floats : (expected : List Extent) → items_have_float (items_of (map extent_data expected)) ≡ false
 expected-without_floats [] = refl
 expected-without_floats (extent ∷ expected) = expected-without_floats expected
 
@@ -66,11 +69,11 @@ rows-without_floats names level (Tree rule start end children rest) =
     append-without_floats (rows_data names (1 + level) children) (rows_data names level rest)
     (rows-without_floats names (1 + level) children) (rows-without_floats names level rest)
 
-tree-without_floats : (rows : Bool) (names : List (List ℕ)) (trees : Trees)
-    → members_have_float (tree_member rows names trees) ≡ false
-tree-without_floats true names trees = ap (λ (b : Bool). b || false) (rows-without_floats names 1 trees)
-tree-without_floats false names NoTrees = refl
-tree-without_floats false names (Tree rule start end children rest) =
+tree-without_floats : (form : TreeForm) (names : List (List ℕ)) (trees : Trees)
+    → members_have_float (tree_member form names trees) ≡ false
+tree-without_floats Rows names trees = ap (λ (b : Bool). b || false) (rows-without_floats names 1 trees)
+tree-without_floats Nested names NoTrees = refl
+tree-without_floats Nested names (Tree rule start end children rest) =
     ap (λ (b : Bool). (b || false) || false) (nested-without_floats names children)
 
 -- no printed failure contains a float
@@ -78,13 +81,9 @@ pub failed-without_floats : (far : ℕ) (expected : List Extent) → has_float (
 failed-without_floats far expected = ap (λ (b : Bool). b || false) (expected-without_floats expected)
 
 -- no printed match contains a float
-pub match-without_floats : (partial : Bool) (end far : ℕ) (expected : List Extent) (rows : Bool) (names : List (List ℕ))
-    (tree : Trees) → has_float (matched_data partial end far expected (tree_member rows names tree)) ≡ false
-match-without_floats partial end far expected rows names tree =
-    ap (λ (b : Bool). b || members_have_float (tree_member rows names tree)) (expected-without_floats expected)
-    ∙ tree-without_floats rows names tree
-
--- no printed match with an empty list contains a float
-pub empty-without_floats : (partial : Bool) (end far : ℕ) (expected : List Extent)
-    → has_float (matched_data partial end far expected (member (codes "rows") (array no_items) no_members)) ≡ false
-empty-without_floats partial end far expected = ap (λ (b : Bool). b || false) (expected-without_floats expected)
+pub match-without_floats : (partial : Bool) (end far : ℕ) (expected : List Extent) (form : TreeForm)
+    (names : List (List ℕ)) (tree : Trees)
+    → has_float (matched_data partial end far expected (tree_member form names tree)) ≡ false
+match-without_floats partial end far expected form names tree =
+    ap (λ (b : Bool). b || members_have_float (tree_member form names tree)) (expected-without_floats expected)
+    ∙ tree-without_floats form names tree

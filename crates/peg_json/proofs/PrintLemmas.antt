@@ -1,22 +1,23 @@
 -- Lines of replies.
-use Rattle.std.proofs.Common.{◌≡◌, ℕ, Bool, true, false, List, [], ◌∷◌, ◌++◌, IfOk, Result, Ok, Err, inr, refl, ap, ◌∙◌}
+use Rattle.std.proofs.Common.{◌≡◌, ℕ, Bool, List, [], ◌∷◌, ◌++◌, IfOk, Result, Ok, Err, inr, refl, ap, ◌∙◌}
 use Rattle.std.specs.declared.alloc.AllocError.{AllocError}
 use Rattle.serde_json.specs.Written.{compact_text}
 use Rattle.peg_semantics.specs.Rules.{Rule}
 use Rattle.peg_tree.specs.declared.outcome.Outcome.{Outcome}
-use Rattle.peg_json.specs.Lines.{IsLineOf, IsReply, line_bytes, line_text}
+use Rattle.peg_json.specs.Lines.{IsLineOf, IsReply, line_bytes}
 use Rattle.peg_json.specs.Parses.{PrintsOutcome, outcome_reply}
-use Rattle.peg_json.specs.Reply.{Reply, printed, status_of}
+use Rattle.peg_json.specs.Reply.{Reply, printed, printed_line, status_of}
 use Rattle.peg_json.specs.Statuses.{status_code}
 use Rattle.peg_json.specs.declared.line.Line.{Line}
 use Rattle.peg_json.specs.declared.status.Status.{Status}
+use Rattle.peg_json.specs.declared.tree_form.TreeForm.TheVariants.{Nested, Rows}
 
 -- the line and the exit status of one reply
-pub text-reply : (line : Line) (file text : List ℕ) (status : Status) (reply : Reply) → line_text line ≡ text
+pub text-reply : (line : Line) (file text : List ℕ) (status : Status) (reply : Reply) → line_bytes line ≡ text ++ 10 ∷ []
     → line.status ≡ status → text ≡ compact_text (printed file reply) → status_code status ≡ status_of reply
     → IsReply file reply (line_bytes line) (status_code line.status)
 text-reply line file text status reply is ends of_reply same =
-    (ap (λ (l : List ℕ). l ++ 10 ∷ []) (is ∙ of_reply), ap status_code ends ∙ same)
+    (is ∙ ap (λ (l : List ℕ). l ++ 10 ∷ []) of_reply, ap status_code ends ∙ same)
 
 -- the line of a reply is the line of some reply of its kind
 pub reply-kind : (result : Result Line AllocError) (file : List ℕ) (Kind : Reply → Type 0) (reply : Reply)
@@ -36,12 +37,11 @@ kind-weaker (Err why) file Kind More more is = tt
 -- the line of an outcome whose tree is a list of nodes
 pub outcome-line : (result : Result Line AllocError) (file : List ℕ) (rules : List Rule) (outcome : Outcome) (len : ℕ)
     (all : Bool) (status : Status)
-    → IfOk result (λ line. line_text line ≡ compact_text (printed file (outcome_reply rules outcome len all true)))
-    → IfOk result (λ line. line.status ≡ status) → status_code status ≡ status_of (outcome_reply rules outcome len all true)
-    → IfOk result (λ line. IsLineOf file (PrintsOutcome rules outcome len all true) (line_bytes line) (status_code line.status))
+    → IfOk result (λ line. line_bytes line ≡ printed_line file (outcome_reply rules outcome len all Rows))
+    → IfOk result (λ line. line.status ≡ status) → status_code status ≡ status_of (outcome_reply rules outcome len all Rows)
+    → IfOk result (λ line. IsLineOf file (PrintsOutcome rules outcome len all Rows) (line_bytes line) (status_code line.status))
 outcome-line (Ok line) file rules outcome len all status is ends same =
-    let reply = outcome_reply rules outcome len all true in
-    reply-kind (Ok line) file (PrintsOutcome rules outcome len all true) reply
-    (text-reply line file (line_text line) status reply refl ends is same)
-    (inr (λ nested. absurd (let bad : true ≡ false = nested in cc), refl))
+    let reply = outcome_reply rules outcome len all Rows in
+    reply-kind (Ok line) file (PrintsOutcome rules outcome len all Rows) reply (is, ap status_code ends ∙ same)
+    (inr (λ nested. absurd (let bad : Rows ≡ Nested = nested in cc), refl))
 outcome-line (Err why) file rules outcome len all status is ends same = tt

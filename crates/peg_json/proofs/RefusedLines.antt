@@ -8,7 +8,7 @@ use Rattle.peg_parser.specs.Faults.{IsTrueRefusal, out_of_memory, of_cause, Refu
 use Rattle.peg_parser.specs.declared.refusal.Refusal.{Refusal}
 use Rattle.peg_parser.specs.declared.refusal.Refusal.TheVariants as refusal
 use Rattle.peg_json.specs.CauseText.{cause_data, cause_status}
-use Rattle.peg_json.specs.Lines.{IsReply, line_bytes, line_text}
+use Rattle.peg_json.specs.Lines.{IsReply, line_bytes}
 use Rattle.peg_json.specs.Reply.{Refused}
 use Rattle.peg_json.specs.Statuses.{status_code}
 use Rattle.peg_json.specs.declared.line.Line.{Line}
@@ -57,10 +57,10 @@ reported-by_names result file names why same reported is =
 
 -- the line of a fault
 pub fault-reply : (line : Line) (file text : List ℕ) (status : Status) (found : Option Cause)
-    → line_text line ≡ text → line.status ≡ status
+    → line_bytes line ≡ text ++ 10 ∷ [] → line.status ≡ status
     → IfSome found (λ cause. text ≡ compact_text (cause_data file cause))
     → IfSome found (λ cause. status_code status ≡ cause_status cause)
     → IfSome found (λ cause. IsReply file (Refused cause) (line_bytes line) (status_code line.status))
 fault-reply line file text status None is ends tells same = tt
 fault-reply line file text status (Some cause) is ends tells same =
-    (ap (λ (l : List ℕ). l ++ 10 ∷ []) (is ∙ tells), ap status_code ends ∙ same)
+    (is ∙ ap (λ (l : List ℕ). l ++ 10 ∷ []) tells, ap status_code ends ∙ same)

@@ -28,6 +28,7 @@ pub mod FaultCauses
 pub mod Lines
 pub mod Parses
 pub mod Reply
+pub mod RowsHead
 pub mod Sending
 pub mod Statuses
 pub mod TableText

@@ -1,22 +1,25 @@
 -- Lines and exit statuses of replies.
-use Rattle.std.specs.Prelude.{◌≡◌, ℕ, ◌-◌, List, [], ◌∷◌, ◌++◌, Option, None, Some, drop, length, string_bytes, take}
+use Rattle.std.specs.Prelude.{◌≡◌, ℕ, List, [], ◌∷◌, ◌++◌, Option, None, Some, string_bytes}
 use Rattle.peg_tree.specs.FlatTreeLeft.{text_left}
 use Rattle.peg_tree.specs.declared.flat_tree_writer.FlatTreeWriter.{FlatTreeWriter}
 use Rattle.peg_json.specs.Reply.{Reply, printed_line, status_of}
 use Rattle.peg_json.specs.declared.line.Line.{Line}
+use Rattle.peg_json.specs.declared.line.Tail.{Tail}
+use Rattle.peg_json.specs.declared.line.Tail.TheVariants.{LineEnd, ListEnd}
 
--- a text with its nodes: they are inserted in the list at its end, before the closing bracket and brace
-abbrev pub with_rows : (text : List ℕ) → Option FlatTreeWriter → List ℕ
-with_rows text None = text
-with_rows text (Some rows) = take (length text - 2) text ++ (text_left rows ++ drop (length text - 2) text)
+-- the text of the nodes of a line, if it has some
+abbrev pub rows_text : Option FlatTreeWriter → List ℕ
+rows_text None = []
+rows_text (Some rows) = text_left rows
 
--- the bytes of a line without its line end
-abbrev pub line_text : Line → List ℕ
-line_text line = with_rows (string_bytes line.text) line.rows
+-- the end of a line: the line end, byte 10, or the ends of a list and an object before it
+abbrev pub tail_bytes : Tail → List ℕ
+tail_bytes LineEnd = 10 ∷ []
+tail_bytes ListEnd = 93 ∷ 125 ∷ 10 ∷ []
 
--- the bytes of a line with its line end, byte 10
+-- the bytes of a line: its head, its nodes and its tail
 abbrev pub line_bytes : Line → List ℕ
-line_bytes line = line_text line ++ 10 ∷ []
+line_bytes line = string_bytes line.head ++ (rows_text line.rows ++ tail_bytes line.tail)
 
 -- the bytes and the exit status of a reply about a grammar file
 abbrev pub IsReply : (file : List ℕ) → Reply → (line : List ℕ) → (status : ℕ) → Type 0

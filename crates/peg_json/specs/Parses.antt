@@ -17,6 +17,8 @@ use Rattle.peg_parser.specs.StepLimits.{TakesMoreSteps}
 use Rattle.peg_grammar.specs.Limits.{max_text_bytes}
 use Rattle.peg_semantics.specs.Starts.{Recognizes, start_name}
 use Rattle.peg_json.specs.Reply.{Reply, Refused, Failed, Matched}
+use Rattle.peg_json.specs.declared.tree_form.TreeForm.{TreeForm}
+use Rattle.peg_json.specs.declared.tree_form.TreeForm.TheVariants.{Nested}
 
 -- the spans in the grammar file of the terminals with these numbers
 abbrev pub extents_at : List Rule → List ℕ → List Extent
@@ -24,39 +26,39 @@ extents_at rules terminals = map (λ terminal. slice_index_or (extents_of_termin
     terminals
 
 -- The reply to a parse of a text from a start, with an optional step limit. `all` asks for a match of the whole text,
--- and `rows` for the list of nodes. A text that is too long is reported before a start that no rule has.
+-- and `form` is that of the printed tree. A text that is too long is reported before a start that no rule has.
 --
 -- If the parse exceeds the step limit, that may be reported, or the result of the parse.
-pub data ParsesTo (rules : List Rule) (text : List ℕ) (start : Option (List ℕ)) (steps : Option ℕ) (all rows : Bool)
-    : Reply → Type 0 where
-  text_too_long : max_text_bytes < length text → ParsesTo rules text start steps all rows (Refused TextTooLong)
+pub data ParsesTo (rules : List Rule) (text : List ℕ) (start : Option (List ℕ)) (steps : Option ℕ) (all : Bool)
+    (form : TreeForm) : Reply → Type 0 where
+  text_too_long : max_text_bytes < length text → ParsesTo rules text start steps all form (Refused TextTooLong)
   no_such_start : (name : List ℕ) → length text ≤ max_text_bytes → start ≡ Some name → is_defined rules name ≡ false
-      → ParsesTo rules text start steps all rows (Refused (NoSuchStart name))
+      → ParsesTo rules text start steps all form (Refused (NoSuchStart name))
   too_many_steps : length text ≤ max_text_bytes → TakesMoreSteps rules text start steps
-      → ParsesTo rules text start steps all rows (Refused StepLimit)
+      → ParsesTo rules text start steps all form (Refused StepLimit)
   failed : {from : List ℕ} {r : Record} {far : ℕ} {terminals : List ℕ} → length text ≤ max_text_bytes
       → start_name rules start ≡ Some from → Recognizes rules text from r → r.result ≡ recognition.Failed
       → IsFurthest r.tests far terminals
-      → ParsesTo rules text start steps all rows (Failed far (extents_at rules terminals))
+      → ParsesTo rules text start steps all form (Failed far (extents_at rules terminals))
   too_many_levels : {from : List ℕ} {r : Record} {end : ℕ} {tree : Trees} → length text ≤ max_text_bytes
       → start_name rules start ≡ Some from → Recognizes rules text from r → r.result ≡ recognition.Matched end tree
-      → rows ≡ false → max_levels < levels tree → ParsesTo rules text start steps all rows (Refused TooDeep)
+      → form ≡ Nested → max_levels < levels tree → ParsesTo rules text start steps all form (Refused TooDeep)
   matched : {from : List ℕ} {r : Record} {end far : ℕ} {terminals : List ℕ} {tree : Trees}
       → length text ≤ max_text_bytes → start_name rules start ≡ Some from → Recognizes rules text from r
-      → r.result ≡ recognition.Matched end tree → (rows ≡ false → levels tree ≤ max_levels)
+      → r.result ≡ recognition.Matched end tree → (form ≡ Nested → levels tree ≤ max_levels)
       → IsFurthest r.tests far terminals
-      → ParsesTo rules text start steps all rows
-      (Matched (all && nat_lt end (length text)) rows end far (extents_at rules terminals) (names rules) tree)
+      → ParsesTo rules text start steps all form
+      (Matched (all && nat_lt end (length text)) form end far (extents_at rules terminals) (names rules) tree)
 
 -- the reply that prints an outcome, for a text of this length
-abbrev pub result_reply : List Rule → (len : ℕ) → (all rows : Bool) → (far : ℕ) → List Extent → Parsed → Reply
-result_reply rules len all rows far expected parsed.Failed = Failed far expected
-result_reply rules len all rows far expected (parsed.Matched end tree) =
-    Matched (all && nat_lt end len) rows end far expected (names rules) tree
+abbrev pub result_reply : List Rule → (len : ℕ) → (all : Bool) → TreeForm → (far : ℕ) → List Extent → Parsed → Reply
+result_reply rules len all form far expected parsed.Failed = Failed far expected
+result_reply rules len all form far expected (parsed.Matched end tree) =
+    Matched (all && nat_lt end len) form end far expected (names rules) tree
 
-abbrev pub outcome_reply : List Rule → Outcome → (len : ℕ) → (all rows : Bool) → Reply
-outcome_reply rules outcome len all rows =
-    result_reply rules len all rows outcome.far (extents_at rules outcome.expected.items) outcome.result
+abbrev pub outcome_reply : List Rule → Outcome → (len : ℕ) → (all : Bool) → TreeForm → Reply
+outcome_reply rules outcome len all form =
+    result_reply rules len all form outcome.far (extents_at rules outcome.expected.items) outcome.result
 
 -- the tree of an outcome has more levels than the nested form may have
 abbrev pub IsDeep : Parsed → Type 0
@@ -64,7 +66,7 @@ IsDeep parsed.Failed = ⊥
 IsDeep (parsed.Matched end tree) = max_levels < levels tree
 
 -- the reply to an outcome: the outcome, or that its tree is too deep for the nested form
-abbrev pub PrintsOutcome : List Rule → Outcome → (len : ℕ) → (all rows : Bool) → Reply → Type 0
-PrintsOutcome rules outcome len all rows reply =
-    ((rows ≡ false) × IsDeep outcome.result × (reply ≡ Refused TooDeep))
-    ⊎ ((rows ≡ false → ¬ IsDeep outcome.result) × (reply ≡ outcome_reply rules outcome len all rows))
+abbrev pub PrintsOutcome : List Rule → Outcome → (len : ℕ) → (all : Bool) → TreeForm → Reply → Type 0
+PrintsOutcome rules outcome len all form reply =
+    ((form ≡ Nested) × IsDeep outcome.result × (reply ≡ Refused TooDeep))
+    ⊎ ((form ≡ Nested → ¬ IsDeep outcome.result) × (reply ≡ outcome_reply rules outcome len all form))

@@ -14,21 +14,23 @@ use Rattle.peg_parser.specs.Cause.{Cause}
 use Rattle.peg_json.specs.CauseText.{cause_data, cause_status}
 use Rattle.peg_json.specs.CodeText.{code_data}
 use Rattle.peg_json.specs.TableText.{table_data}
+use Rattle.peg_json.specs.declared.tree_form.TreeForm.{TreeForm}
+use Rattle.peg_json.specs.declared.tree_form.TreeForm.TheVariants.{Nested, Rows}
 
 -- A reply of the tool: a refusal, a table of outcomes with the rules' names, or the number of rules of an accepted
 -- grammar. Others are the code with the entry of each rule, a failure, and a match.
 --
 -- A failure is the furthest failure: a position of the text, and the spans of terminals in the grammar file. A match
--- adds to these its end, the rules' names and the tree. `partial` is a match shorter than asked for, and `rows` the
--- list form.
+-- adds to these its end, the rules' names and the tree with its printed form. `partial` is a match shorter than asked
+-- for.
 pub data Reply : Type 0 where
   Refused : Cause → Reply
   Tabled : (names : List (List ℕ)) → (cans : List Can) → Reply
   Accepted : (rules : ℕ) → Reply
   Coded : (code : List Instruction) → (entries : List ℕ) → Reply
   Failed : (far : ℕ) → (expected : List Extent) → Reply
-  Matched : (partial rows : Bool) → (end far : ℕ) → (expected : List Extent) → (names : List (List ℕ)) → (tree : Trees)
-      → Reply
+  Matched : (partial : Bool) → TreeForm → (end far : ℕ) → (expected : List Extent) → (names : List (List ℕ))
+      → (tree : Trees) → Reply
 
 -- the exit status of a reply: 0 success, 1 a failed or partial match, otherwise that of the refusal
 abbrev pub status_of : Reply → ℕ
@@ -37,7 +39,7 @@ status_of (Tabled names cans) = 0
 status_of (Accepted rules) = 0
 status_of (Coded code entries) = 0
 status_of (Failed far expected) = 1
-status_of (Matched partial rows end far expected names tree) = if partial then 1 else 0
+status_of (Matched partial form end far expected names tree) = if partial then 1 else 0
 
 -- the JSON of the span of a terminal
 abbrev pub extent_data : Extent → Data
@@ -55,9 +57,9 @@ abbrev pub tree_rows_data : List (List ℕ) → Trees → Data
 tree_rows_data names tree = array (items_of (rows_data names 1 tree))
 
 -- the last member of the JSON of a match
-abbrev pub tree_member : (rows : Bool) → List (List ℕ) → Trees → Members
-tree_member true names tree = member (codes "rows") (tree_rows_data names tree) no_members
-tree_member false names tree = member (codes "tree") (tree_data names tree) no_members
+abbrev pub tree_member : TreeForm → List (List ℕ) → Trees → Members
+tree_member Rows names tree = member (codes "rows") (tree_rows_data names tree) no_members
+tree_member Nested names tree = member (codes "tree") (tree_data names tree) no_members
 
 -- the `result` of a match: of all that was asked for, or of a part of it
 abbrev pub match_word : (partial : Bool) → List ℕ
@@ -89,8 +91,8 @@ printed file (Tabled names cans) = table_data names cans
 printed file (Accepted rules) = accepted_data rules
 printed file (Coded code entries) = code_data code entries
 printed file (Failed far expected) = failed_data far expected
-printed file (Matched partial rows end far expected names tree) =
-    matched_data partial end far expected (tree_member rows names tree)
+printed file (Matched partial form end far expected names tree) =
+    matched_data partial end far expected (tree_member form names tree)
 
 -- the printed line, with its line end, byte 10
 abbrev pub printed_line : (file : List ℕ) → Reply → List ℕ

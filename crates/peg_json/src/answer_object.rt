@@ -1,6 +1,5 @@
 //! The JSON objects of answers, for a serializer.
 ghost use Rattle.std.specs.Prelude.{◌≡◌, Bool, OnOk};
-ghost use Rattle.serde_json.specs.Data.{array, no_items};
 ghost use Rattle.serde_json.specs.Events.{SendsValue};
 ghost use Rattle.peg_json.specs.Reply.{failed_data, match_word};
 ghost use Rattle.peg_json.specs.Sending.{SendsMatch, spans_of};
@@ -40,21 +39,6 @@ pub(crate) struct Summary<'a> {
     pub expected: ExpectedSpans<'a>,
 }
 
-// An empty list.
-#[derive(Clone, Copy)]
-pub(crate) struct EmptyList;
-
-impl Described for EmptyList {
-    ghost writes = { λ _. SendsValue (array no_items) };
-}
-
-impl Serialize for EmptyList {
-    fn serialize<S: Serializer>(&self, out: &mut S) -> Result<(), S::Error> {
-        out.begin_seq(Some(0))?;
-        out.end_seq()
-    }
-}
-
 // A match with its tree, which is the member `key`.
 #[derive(Drop)]
 pub(crate) struct Match<'a, T> {
@@ -81,7 +65,7 @@ impl<T: Serialize> Serialize for Match<'_, T> {
 }
 
 // The `result` member of a match.
-fn match_word(partial: bool) -> &'static str
+pub(crate) fn match_word(partial: bool) -> &'static str
     ensures { result.now ≡ match_word partial }
 {
     if partial { "partial" } else { "matched" }

@@ -1,5 +1,5 @@
 //! Answers as JSON.
-ghost use Rattle.std.specs.Prelude.{◌≡◌, ◌↔◌, ◌<◌, ℕ, Bool, List, IfOk, false, length, string_bytes};
+ghost use Rattle.std.specs.Prelude.{◌≡◌, ◌↔◌, ◌<◌, ℕ, List, IfOk, false, length, string_bytes};
 ghost use Rattle.serde_json.specs.Written.{compact_text};
 ghost use Rattle.peg_semantics.specs.Rules.{Rule, names};
 ghost use Rattle.peg_grammar.specs.GrammarRules.{rules_in};
@@ -10,7 +10,8 @@ ghost use Rattle.peg_json.specs.Parses.{IsDeep, outcome_reply};
 ghost use Rattle.peg_json.specs.Reply.{failed_data, matched_data, printed, status_of, tree_member};
 ghost use Rattle.peg_json.specs.Sending.{spans_of};
 ghost use Rattle.peg_json.specs.Statuses.{status_code};
-ghost use Rattle.peg_json.specs.TreeForms.{is_rows};
+ghost use Rattle.peg_json.specs.TreeForms.{form_from_rows};
+ghost use Rattle.peg_json.specs.declared.tree_form.TreeForm.{TreeForm};
 
 use crate::answer_object::{Failure, Match, Summary};
 use crate::expected_spans::ExpectedSpans;
@@ -37,7 +38,8 @@ pub fn answer_json(
 ) -> Result<String, JsonFault>
     requires { Fits (parser_rules parser.now) answer.now.outcome }
     ensures text { (file : List ℕ) → IfOk result (λ text. string_bytes text
-        ≡ compact_text (printed file (outcome_reply (parser_rules parser.now) answer.now.outcome text_len all rows))) }
+        ≡ compact_text (printed file
+        (outcome_reply (parser_rules parser.now) answer.now.outcome text_len all (form_from_rows rows)))) }
     ensures too_deep { (result ≡ Err JsonFault.TooDeep) ↔ ((rows ≡ false) × IsDeep answer.now.outcome.result) }
 {
     answer_text(
@@ -61,9 +63,9 @@ pub(crate) fn answer_text(
 ) -> Result<String, JsonFault>
     requires { Fits (parser_rules parser.now) answer.now.outcome }
     ensures text { (file : List ℕ) → IfOk result (λ text. string_bytes text ≡ compact_text
-        (printed file (outcome_reply (parser_rules parser.now) answer.now.outcome text_len all (is_rows form)))) }
+        (printed file (outcome_reply (parser_rules parser.now) answer.now.outcome text_len all form))) }
     ensures too_deep { (result ≡ Err JsonFault.TooDeep)
-        ↔ ((is_rows form ≡ false) × IsDeep answer.now.outcome.result) }
+        ↔ ((form ≡ TreeForm.Nested) × IsDeep answer.now.outcome.result) }
 {
     let outcome = &answer.outcome;
     let expected = ExpectedSpans::new(parser, &outcome.expected);
@@ -107,7 +109,7 @@ fn matched_text(
     requires { RulesBelow (length (rules_in grammar.now)) tree.now }
     ensures { IfOk result (λ text. string_bytes text ≡ compact_text
         (matched_data summary.entry.partial summary.entry.end summary.entry.far (spans_of summary.entry.expected)
-        (tree_member (is_rows form) (names (rules_in grammar.now)) tree.now))) }
+        (tree_member form (names (rules_in grammar.now)) tree.now))) }
 {
     match form {
         TreeForm::Rows => text_of(
@@ -131,8 +133,8 @@ fn matched_text(
 
 /// Returns the exit status of an answer.
 pub(crate) fn answer_status(answer: &Answer, text_len: u32, all: bool) -> Status
-    ensures { (rules : List Rule) (rows : Bool) →
-        status_code result ≡ status_of (outcome_reply rules answer.now.outcome text_len all rows) }
+    ensures { (rules : List Rule) (form : TreeForm) →
+        status_code result ≡ status_of (outcome_reply rules answer.now.outcome text_len all form) }
 {
     match &answer.outcome.result {
         Parsed::Failed => Status::Failed,

@@ -19,13 +19,12 @@ mod tree_form;
 pub use answer_text::answer_json;
 pub use code_text::code_json;
 pub use fault::Fault;
-pub use line::Line;
+pub use line::{Line, Tail};
 pub use lines::{
     accepted_line, answer_line, code_line, long_text_line, no_start_line, refused_line,
     step_limit_line, table_line,
 };
 pub use refusal_text::refusal_json;
-pub use row_lines::rows_line;
 pub use status::Status;
 pub use table_text::table_json;
 pub use tree_form::TreeForm;

@@ -16,7 +16,6 @@ ghost use Rattle.peg_json.specs.Lines.{IsLineOf, IsReply, line_bytes};
 ghost use Rattle.peg_json.specs.Parses.{PrintsOutcome};
 ghost use Rattle.peg_json.specs.Reply.{Accepted, Coded, Refused, Tabled, accepted_data};
 ghost use Rattle.peg_json.specs.Statuses.{status_code};
-ghost use Rattle.peg_json.specs.TreeForms.{is_rows};
 ghost use Rattle.peg_check.specs.Exact.{cans_of};
 
 use crate::answer_text::{answer_status, answer_text};
@@ -24,6 +23,7 @@ use crate::code_text::code_json;
 use crate::fault::Fault;
 use crate::line::Line;
 use crate::refusal_text::refusal_json;
+use crate::row_lines::rows_line;
 use crate::status::Status;
 use crate::table_text::table_json;
 use crate::tree_form::TreeForm;
@@ -105,22 +105,42 @@ fn accepted_value(alloc: Global, rules: u32) -> Result<Value, AllocError>
     json!(in alloc; {"result": "accepted", "rules": rules})
 }
 
-/// Returns the line of an answer, or that its tree is too deep for the nested form. The text has `text_len` bytes.
+/// Returns the line of an answer with its tree in this form, or that the tree is too deep for the form. The text has
+/// `text_len` bytes.
 pub fn answer_line(
+    alloc: Global,
+    parser: &Parser,
+    answer: Answer,
+    text_len: u32,
+    all: bool,
+    form: TreeForm,
+) -> Result<Line, AllocError>
+    requires { Fits (parser_rules parser.now) answer.outcome }
+    ensures { (file : List ℕ) → IfOk result (λ line. IsLineOf file
+        (PrintsOutcome (parser_rules parser.now) answer.outcome text_len all form)
+        (line_bytes line) (status_code line.status)) }
+{
+    match form {
+        TreeForm::Nested => nested_line(alloc, parser, &answer, text_len, all),
+        TreeForm::Rows => rows_line(alloc, parser, answer, text_len, all),
+    }
+}
+
+// The line of an answer whose tree is nested objects, or that the tree is too deep.
+fn nested_line(
     alloc: Global,
     parser: &Parser,
     answer: &Answer,
     text_len: u32,
     all: bool,
-    form: TreeForm,
 ) -> Result<Line, AllocError>
     requires { Fits (parser_rules parser.now) answer.now.outcome }
     ensures { (file : List ℕ) → IfOk result (λ line. IsLineOf file
-        (PrintsOutcome (parser_rules parser.now) answer.now.outcome text_len all (is_rows form))
+        (PrintsOutcome (parser_rules parser.now) answer.now.outcome text_len all TreeForm.Nested)
         (line_bytes line) (status_code line.status)) }
 {
     let status = answer_status(answer, text_len, all);
-    match answer_text(alloc, parser, answer, text_len, all, form) {
+    match answer_text(alloc, parser, answer, text_len, all, TreeForm::Nested) {
         Ok(text) => Ok(Line::new(text, status)),
         Err(JsonFault::TooDeep) => fault_line(alloc, &Fault::TooDeep, &[], &[]),
         Err(JsonFault::Memory) => Err(AllocError),

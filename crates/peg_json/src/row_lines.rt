@@ -1,28 +1,29 @@
 //! The lines of answers whose trees are lists of nodes.
-ghost use Rattle.std.specs.Prelude.{◌≡◌, ◌<◌, ◌&&◌, All, List, ℕ, IfOk, codes, length, nat_lt, string_bytes, true};
-ghost use Rattle.serde_json.specs.Data.{array, member, no_items, no_members};
+ghost use Rattle.std.specs.Prelude.{◌≡◌, ◌<◌, ◌&&◌, All, List, ℕ, IfOk, length, nat_lt, string_bytes};
 ghost use Rattle.serde_json.specs.Written.{compact_text};
 ghost use Rattle.peg_semantics.specs.Terminals.{extents_of_terminals};
 ghost use Rattle.peg_parser.specs.Fits.{Fits};
 ghost use Rattle.peg_parser.specs.Parser.{parser_rules};
-ghost use Rattle.peg_json.specs.Lines.{IsLineOf, line_bytes, line_text};
+ghost use Rattle.peg_json.specs.Lines.{IsLineOf, line_bytes};
 ghost use Rattle.peg_json.specs.Parses.{PrintsOutcome, extents_at, outcome_reply};
-ghost use Rattle.peg_json.specs.Reply.{failed_data, matched_data, printed};
+ghost use Rattle.peg_json.specs.Reply.{expected_data, failed_data, match_word, printed_line};
+ghost use Rattle.peg_json.specs.RowsHead.{rows_head};
 ghost use Rattle.peg_json.specs.Statuses.{status_code};
 
-use crate::answer_object::{EmptyList, Match, Summary};
+use crate::answer_object::match_word;
 use crate::answer_text::{answer_status, failed_text};
 use crate::expected_spans::ExpectedSpans;
 use crate::line::Line;
 use crate::status::Status;
 use crate::text::text_of;
+use crate::tree_form::TreeForm;
 use peg_parser::{Answer, Parser};
 use peg_tree::{FlatTreeWriter, Outcome, Parsed};
 use std::alloc::{AllocError, Global};
 
 /// Returns the line of an answer whose tree is a list of its nodes in preorder. The nodes are formatted piece by piece
-/// later. The text has `text_len` bytes.
-pub fn rows_line(
+/// later.
+pub(crate) fn rows_line(
     alloc: Global,
     parser: &Parser,
     answer: Answer,
@@ -31,7 +32,7 @@ pub fn rows_line(
 ) -> Result<Line, AllocError>
     requires { Fits (parser_rules parser.now) answer.outcome }
     ensures { (file : List ℕ) → IfOk result (λ line. IsLineOf file
-        (PrintsOutcome (parser_rules parser.now) answer.outcome text_len all true)
+        (PrintsOutcome (parser_rules parser.now) answer.outcome text_len all TreeForm.Rows)
         (line_bytes line) (status_code line.status)) }
 {
     let status = answer_status(&answer, text_len, all);
@@ -48,8 +49,8 @@ fn outcome_line(
     status: Status,
 ) -> Result<Line, AllocError>
     requires { Fits (parser_rules parser.now) outcome }
-    ensures text { (file : List ℕ) → IfOk result (λ line. line_text line
-        ≡ compact_text (printed file (outcome_reply (parser_rules parser.now) outcome text_len all true))) }
+    ensures text { (file : List ℕ) → IfOk result (λ line. line_bytes line
+        ≡ printed_line file (outcome_reply (parser_rules parser.now) outcome text_len all TreeForm.Rows)) }
     ensures status { IfOk result (λ line. line.status ≡ status) }
 {
     let Outcome {
@@ -61,9 +62,9 @@ fn outcome_line(
         Parsed::Failed => Ok(Line::new(failure(alloc, parser, far, &expected)?, status)),
         Parsed::Matched { end, tree } => {
             let partial = is_partial(all, end, text_len);
-            let text = empty_text(alloc, parser, partial, end, far, &expected)?;
+            let head = match_head(alloc, parser, partial, end, far, &expected)?;
             let rows = FlatTreeWriter::new(alloc, tree, parser.grammar())?;
-            Ok(Line::with_rows(text, rows, status))
+            Ok(Line::with_rows(head, rows, status))
         }
     }
 }
@@ -89,8 +90,8 @@ fn failure(
     failed_text(alloc, far, ExpectedSpans::new(parser, terminals))
 }
 
-// The JSON of a match with an empty list of nodes.
-fn empty_text(
+// The JSON of a match up to the opening bracket of the list of its nodes.
+fn match_head(
     alloc: Global,
     parser: &Parser,
     partial: bool,
@@ -99,23 +100,32 @@ fn empty_text(
     terminals: &[u32],
 ) -> Result<String, AllocError>
     requires { All (λ terminal. terminal < length (extents_of_terminals (parser_rules parser.now))) terminals.now }
-    ensures { IfOk result (λ text. string_bytes text ≡ compact_text
-        (matched_data partial end far (extents_at (parser_rules parser.now) terminals.now)
-        (member (codes "rows") (array no_items) no_members))) }
+    ensures { IfOk result (λ text. string_bytes text ≡ rows_head (match_word partial) end far
+        (compact_text (expected_data (extents_at (parser_rules parser.now) terminals.now)))) }
 {
-    let expected = ExpectedSpans::new(parser, terminals);
-    let summary = Summary {
-        partial,
-        end,
-        far,
-        expected,
-    };
-    text_of(
-        alloc,
-        &Match {
-            summary,
-            key: "rows",
-            tree: EmptyList,
-        },
+    let expected = expected_text(alloc, parser, terminals)?;
+    rows_head(alloc, match_word(partial), end, far, expected.as_str())
+}
+
+fn rows_head(
+    alloc: Global,
+    word: &str,
+    end: u32,
+    far: u32,
+    expected: &str,
+) -> Result<String, AllocError>
+    ensures { IfOk result (λ text. string_bytes text ≡ rows_head word.now end far expected.now) }
+{
+    format!(in alloc;
+        "{{\"consumed\":{end},\"expected\":{expected},\"far\":{far},\"result\":\"{word}\",\"rows\":["
     )
+}
+
+// The JSON of the spans of the terminals with these numbers.
+fn expected_text(alloc: Global, parser: &Parser, terminals: &[u32]) -> Result<String, AllocError>
+    requires { All (λ terminal. terminal < length (extents_of_terminals (parser_rules parser.now))) terminals.now }
+    ensures { IfOk result (λ text. string_bytes text
+        ≡ compact_text (expected_data (extents_at (parser_rules parser.now) terminals.now))) }
+{
+    text_of(alloc, &ExpectedSpans::new(parser, terminals))
 }

@@ -11,11 +11,11 @@ pub enum TreeForm {
 }
 
 impl TreeForm {
-    ghost use Rattle.peg_json.specs.TreeForms.{is_rows};
+    ghost use Rattle.peg_json.specs.TreeForms.{form_from_rows};
 
     /// Returns `Rows` if `rows` is set, otherwise `Nested`.
     pub fn from_rows(rows: bool) -> TreeForm
-        ensures { is_rows result ≡ rows }
+        ensures { result ≡ form_from_rows rows }
     {
         if rows {
             TreeForm::Rows

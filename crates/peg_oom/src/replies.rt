@@ -9,7 +9,7 @@ use peg_check::table_of;
 use peg_core::desugar;
 use peg_json::{
     Fault, TreeForm, accepted_line, answer_json, answer_line, code_json, code_line, long_text_line,
-    no_start_line, refusal_json, refused_line, rows_line, step_limit_line, table_json, table_line,
+    no_start_line, refusal_json, refused_line, step_limit_line, table_json, table_line,
 };
 use peg_parser::{ParseOptions, Parser, Refusal, grammar_of};
 use peg_tree::JsonFault;
@@ -23,8 +23,8 @@ pub(crate) const WORDS: [&str; 22] = [
     "answer_json_failed",
     "answer_line",
     "answer_line_deep",
-    "rows_line",
-    "rows_line_failed",
+    "answer_line_rows",
+    "answer_line_rows_failed",
     "refusal_json",
     "refused_line_cycle",
     "refused_line_loop",
@@ -51,10 +51,10 @@ pub(crate) fn call(rt: &impl Print, alloc: Global, word: &str) -> io::Result<boo
         "answer_json_rows" => answered(rt, alloc, b"aab", true)?,
         "answer_json_deep" => answered(rt, alloc, &deep(alloc)?, false)?,
         "answer_json_failed" => answered(rt, alloc, b"aa", false)?,
-        "answer_line" => answer_of(rt, alloc, b"aab")?,
-        "answer_line_deep" => answer_of(rt, alloc, &deep(alloc)?)?,
-        "rows_line" => rows_of(rt, alloc, b"aab")?,
-        "rows_line_failed" => rows_of(rt, alloc, b"aa")?,
+        "answer_line" => answer_of(rt, alloc, b"aab", TreeForm::Nested)?,
+        "answer_line_deep" => answer_of(rt, alloc, &deep(alloc)?, TreeForm::Nested)?,
+        "answer_line_rows" => answer_of(rt, alloc, b"aab", TreeForm::Rows)?,
+        "answer_line_rows_failed" => answer_of(rt, alloc, b"aa", TreeForm::Rows)?,
         "table_json" => table_text(rt, alloc)?,
         "table_line" => table_of_line(rt, alloc)?,
         "code_json" => code_text(rt, alloc)?,
@@ -110,26 +110,14 @@ fn answered(rt: &impl Print, alloc: Global, text: &[u8], rows: bool) -> io::Resu
     )
 }
 
-fn answer_of(rt: &impl Print, alloc: Global, text: &[u8]) -> io::Result<()> {
-    let parser = parser(alloc, CHAIN)?;
-    let Ok(parsed) = parser.parse(alloc, text, &OPTIONS) else {
-        return Err(io::Error::from(AllocError));
-    };
-    let borrowed = (parser.grammar(), parser.program(), &parsed);
-    let borrowed = Borrowed::of(alloc, &borrowed)?;
-    let form = TreeForm::Nested;
-    let answer = answer_line(alloc, &parser, &parsed, text.len() as u32, true, form);
-    report(rt, &borrowed, answer.is_err(), &answer)
-}
-
-fn rows_of(rt: &impl Print, alloc: Global, text: &[u8]) -> io::Result<()> {
+fn answer_of(rt: &impl Print, alloc: Global, text: &[u8], form: TreeForm) -> io::Result<()> {
     let parser = parser(alloc, CHAIN)?;
     let Ok(parsed) = parser.parse(alloc, text, &OPTIONS) else {
         return Err(io::Error::from(AllocError));
     };
     let borrowed = (parser.grammar(), parser.program());
     let borrowed = Borrowed::of(alloc, &borrowed)?;
-    let answer = rows_line(alloc, &parser, parsed, text.len() as u32, true);
+    let answer = answer_line(alloc, &parser, parsed, text.len() as u32, true, form);
     report(rt, &borrowed, answer.is_err(), &answer)
 }
 

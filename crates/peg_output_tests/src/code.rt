@@ -12,7 +12,7 @@ fn code_has_instructions_and_entries(rt: HostRuntime) -> Result<(), Fail> {
         "{\"code\":[[\"end\"],[\"call\",1],[\"test\",0,[[48,57],[99,101]]],[\"ret\"],[\"ret\"]],\"entries\":[1,4]}";
     assert_eq!(rt; text.as_str(), expected);
     let line = code_line(alloc, parser.program())?;
-    assert_eq!(rt; line.text.as_str(), expected);
+    assert_eq!(rt; line.head.as_str(), expected);
     assert_eq!(rt; line.status, Status::Done);
     Ok(())
 }

@@ -1,5 +1,5 @@
 //! Lines whose lists of nodes are formatted piece by piece.
-use peg_json::{Line, Status, rows_line};
+use peg_json::{Line, Status, TreeForm, answer_line};
 use peg_parser::{DEFAULT_MEMO, ParseOptions, Parser};
 use std::alloc::Global;
 use std::test::Fail;
@@ -14,17 +14,19 @@ fn told(alloc: Global, file: &[u8], text: &[u8]) -> Result<Line, Fail> {
     };
     let answer = parser.parse(alloc, text, &options)?;
     let text_len = u32::try_from(text.len()).ok().ok_or("a short text")?;
-    Ok(rows_line(alloc, &parser, answer, text_len, true)?)
+    let form = TreeForm::Rows;
+    Ok(answer_line(alloc, &parser, answer, text_len, true, form)?)
 }
 
 #[test]
-fn rows_stand_in_the_last_list(rt: HostRuntime) -> Result<(), Fail> {
+fn rows_stand_between_the_head_and_the_tail(rt: HostRuntime) -> Result<(), Fail> {
     let line = told(rt.alloc(), b"S <- 'a' S / 'b'\n", b"aab")?;
     assert_eq!(rt;
-        line.text.as_str(),
-        "{\"consumed\":3,\"expected\":[[5,8]],\"far\":2,\"result\":\"matched\",\"rows\":[]}"
+        line.head.as_str(),
+        "{\"consumed\":3,\"expected\":[[5,8]],\"far\":2,\"result\":\"matched\",\"rows\":["
     );
     assert_eq!(rt; line.status, Status::Done);
+    assert!(rt; line.tail.bytes() == b"]}\n".as_slice());
     let mut rows = line.rows.ok_or("rows")?;
     rows.fill();
     assert!(rt; rows.piece() == b"[1,\"S\",0,3],[2,\"S\",1,3],[3,\"S\",2,3]".as_slice());
@@ -37,16 +39,17 @@ fn rows_stand_in_the_last_list(rt: HostRuntime) -> Result<(), Fail> {
 fn a_part_and_a_failure_have_status_one(rt: HostRuntime) -> Result<(), Fail> {
     let line = told(rt.alloc(), b"S <- 'a' / 'ab'\n", b"ab")?;
     assert_eq!(rt;
-        line.text.as_str(),
-        "{\"consumed\":1,\"expected\":[],\"far\":0,\"result\":\"partial\",\"rows\":[]}"
+        line.head.as_str(),
+        "{\"consumed\":1,\"expected\":[],\"far\":0,\"result\":\"partial\",\"rows\":["
     );
     assert_eq!(rt; line.status, Status::Failed);
     let line = told(rt.alloc(), b"S <- 'a'\n", b"b")?;
     assert_eq!(rt;
-        line.text.as_str(),
+        line.head.as_str(),
         "{\"expected\":[[5,8]],\"far\":0,\"result\":\"failed\"}"
     );
     assert!(rt; line.rows.is_none());
+    assert!(rt; line.tail.bytes() == b"\n".as_slice());
     assert_eq!(rt; line.status, Status::Failed);
     Ok(())
 }

@@ -13,10 +13,10 @@ fn each_rule_has_an_entry(rt: HostRuntime) -> Result<(), Fail> {
     let table = table_of(alloc, &core)?;
     let line = table_line(alloc, &grammar, &core, &table)?;
     assert!(rt;
-        line.text.as_str()
+        line.head.as_str()
             == "{\"table\":[{\"fails\":false,\"nothing\":true,\"rule\":\"S\",\"something\":true},{\"fails\":false,\"nothing\":false,\"rule\":\"T\",\"something\":false}]}",
         "{}",
-        line.text
+        line.head
     );
     assert_eq!(rt; line.status, Status::Done);
     Ok(())

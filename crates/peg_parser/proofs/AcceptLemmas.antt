@@ -1,5 +1,5 @@
 -- The causes of the stages' faults for a grammar file.
-use Rattle.std.proofs.Common.{◌≡◌, inl, inr, ℕ, true, not, if◌then◌else◌, List, [], ◌∷◌, find, option_map, ap, All, IsErrAnd, IfErr, IfOk, IfSome, OnOk, Result, Ok, Err, Option, None, Some, length, map, ◌<◌, ◌≤◌, refl, subst, sym, ◌∙◌, arith}
+use Rattle.std.proofs.Common.{◌≡◌, inl, inr, ℕ, true, not, if◌then◌else◌, List, [], ◌∷◌, find, option_map, ap, All, IsErrAnd, IfErr, IfOk, IfSome, Result, Ok, Err, Option, None, Some, length, map, ◌<◌, ◌≤◌, refl, subst, sym, ◌∙◌, arith}
 use Rattle.std.proofs.lemmas.List.{length-map}
 use Rattle.std.proofs.lemmas.List.Elements.{All-head, All-tail}
 use Rattle.peg_bytes.specs.Extent.{extent}
@@ -154,16 +154,24 @@ told-means file size why (out_of_memory is) =
 told-means file size why (of_cause cause tells holds starts named) =
     subst (λ (told : Option Cause). IfSome told (RefusalImplies file)) (sym tells) (shows file cause holds)
 
+-- an error equal to a refusal of the file has the refusal's meaning
+pub told-meaning : {X : Type 0} (file : List ℕ) (result : Result X Refusal) (why : Refusal)
+    → IsErrAnd result (λ other. other ≡ why) → HasCause (IsRefusalOf file) (length file) why
+    → IfErr result (RefusalMeaning file)
+told-meaning file (Ok x) why is tells = tt
+told-meaning file (Err other) why is tells =
+    subst (RefusalMeaning file) (sym is) (told-means file (length file) why tells)
+
 -- ---- accepted files
 
 -- the parser of a well-formed grammar of a file is that of an accepted file
-pub accepted-whole : (file : List ℕ) (grammar : Grammar) (result : Result Parser Refusal) → IsRead file (rules_in grammar)
-    → IsAcceptedGrammar (rules_in grammar) → IfOk result (λ parser. parser_rules parser ≡ rules_in grammar)
-    → OnOk result (IsWellFormedGrammar (rules_in grammar)) → OnOk result (code_size (rules_in grammar) ≤ max_instructions)
+pub accepted-whole : (file : List ℕ) (rules : List Rule) (result : Result Parser Refusal) → IsRead file rules
+    → IsAcceptedGrammar rules → IfOk result (λ parser. parser_rules parser ≡ rules)
+    → IsWellFormedGrammar rules → code_size rules ≤ max_instructions
     → IfOk result (λ parser. Accepts file (parser_rules parser))
-accepted-whole file grammar (Ok parser) read taken same formed small =
-    subst (λ (rules : List Rule). Accepts file rules) (sym same)
+accepted-whole file rules (Ok parser) read taken same formed small =
+    subst (Accepts file) (sym same)
     record { read = read; taken = taken; well_formed = formed; small = small }
-accepted-whole file grammar (Err why) read taken same formed small = tt
+accepted-whole file rules (Err why) read taken same formed small = tt
 
 pub ruleset accepting = (told-notation, told-grammar, told-check, told-code, told-early, told-means)

@@ -29,6 +29,7 @@ pub mod Cause
 pub mod Faults
 pub mod Fits
 pub mod Parser
+pub mod ProgramOf
 pub mod ReadsByFigure
 pub mod Refusals
 pub mod StepLimits

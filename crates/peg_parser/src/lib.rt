@@ -1,14 +1,14 @@
 //! Parsers: accepted grammar files, the reasons for rejecting others, and parsing texts.
 #![tactic(auto)]
 
+mod grammar_file;
 pub mod laws;
-mod layers;
 mod meta_reader;
 mod options;
 mod parser;
 mod refusal;
 
-pub use layers::grammar_of;
+pub use grammar_file::grammar_of;
 pub use meta_reader::{FigureFault, read_by_figure};
 pub use options::{DEFAULT_MEMO, ParseOptions};
 pub use parser::{ParseFault, Parser};

@@ -13,15 +13,17 @@ ghost use Rattle.peg_semantics.specs.Terminals.{extents_of_terminals};
 ghost use Rattle.peg_semantics.specs.WellFormed.{IsWellFormedGrammar};
 ghost use Rattle.peg_machine.specs.CoreOutcome.{ExceedsStepLimit};
 
-use crate::layers::{checked_core, grammar_of};
 use crate::options::ParseOptions;
 use crate::refusal::Refusal;
 use peg_bytes::Span;
+use peg_check::check;
 use peg_code::{Program, compile};
+use peg_core::desugar;
 use peg_grammar::{Grammar, MAX_TEXT_BYTES};
 use peg_machine::{Answer, NoWatch, RunFault, run};
 use peg_memo::{Keep, NoMemo};
 use peg_memo_policy::{RerunCosts, SelectiveMemo};
+use peg_notation::read;
 use std::alloc::{AllocError, Global};
 use thiserror::Error;
 
@@ -73,6 +75,7 @@ impl Parser {
     ghost use Rattle.peg_parser.specs.Faults.{RefusalMeaning, HasCause};
     ghost use Rattle.peg_parser.specs.Fits.{Fits};
     ghost use Rattle.peg_parser.specs.Parser.{parser_rules, start_named};
+    ghost use Rattle.peg_parser.specs.ProgramOf.{IsProgramOf};
     ghost use Rattle.peg_parser.specs.Refusals.{IsRefusalOf};
     ghost use Rattle.peg_parser.specs.StepLimits.{TakesMoreSteps};
     ghost use Rattle.peg_grammar.specs.Limits.{max_text_bytes};
@@ -89,35 +92,47 @@ impl Parser {
         ensures refused { IfErr result (HasCause (IsRefusalOf file.now) (length file.now)) }
         ensures wrong { IfErr result (RefusalMeaning file.now) }
     {
-        match grammar_of(alloc, file) {
-            Ok(grammar) => Parser::from_grammar(alloc, grammar),
-            Err(refusal) => Err(refusal),
-        }
-    }
-
-    // The parser of a grammar, if it is well-formed and its code isn't too large.
-    pub(crate) fn from_grammar(alloc: Global, grammar: Grammar) -> Result<Parser, Refusal>
-        ensures rules { IfOk result (λ parser. parser_rules parser ≡ rules_in grammar) }
-        ensures well_formed { OnOk result (IsWellFormedGrammar (rules_in grammar)) }
-        ensures small { OnOk result (code_size (rules_in grammar) ≤ max_instructions) }
-        ensures refused { (file : List ℕ) → IsRead file (rules_in grammar) → IsAcceptedGrammar (rules_in grammar)
-            → All (RuleLiesIn (length file)) (rules_in grammar)
-            → IfErr result (HasCause (IsRefusalOf file) (length file)) }
-        ensures refused_where { IsWellFormedGrammar (rules_in grammar)
-            → code_size (rules_in grammar) ≤ max_instructions → IfErr result (λ why. why ≡ Refusal.Memory) }
-    {
-        match checked_core(alloc, &grammar) {
+        let definitions = read(alloc, file)?;
+        let grammar = Grammar::new(alloc, definitions)?;
+        let core = desugar(alloc, &grammar)?;
+        match check(alloc, core) {
             Ok(checked) => {
                 let program = compile(alloc, checked)?;
-                let costs = RerunCosts::new(alloc, &program)?;
-                Ok(Parser {
-                    grammar,
-                    program,
-                    costs,
-                })
+                Parser::from_program(alloc, grammar, program)
             }
             Err(fault) => Err(Refusal::from_check(fault, grammar)),
         }
+    }
+
+    // The parser of a grammar that isn't from a file, if it is well-formed and its code isn't too large.
+    pub(crate) fn from_grammar(alloc: Global, grammar: Grammar) -> Result<Parser, Refusal>
+        ensures rules { IfOk result (λ parser. parser_rules parser ≡ rules_in grammar) }
+        ensures refused_where { IsWellFormedGrammar (rules_in grammar)
+            → code_size (rules_in grammar) ≤ max_instructions → IfErr result (λ why. why ≡ Refusal.Memory) }
+    {
+        let core = desugar(alloc, &grammar)?;
+        match check(alloc, core) {
+            Ok(checked) => {
+                let program = compile(alloc, checked)?;
+                Parser::from_program(alloc, grammar, program)
+            }
+            Err(fault) => Err(Refusal::from_check(fault, grammar)),
+        }
+    }
+
+    // The parser of a well-formed grammar and its code.
+    fn from_program(alloc: Global, grammar: Grammar, program: Program) -> Result<Parser, Refusal>
+        requires well_formed { IsWellFormedGrammar (rules_in grammar) }
+        requires program { IsProgramOf (rules_in grammar) program }
+        ensures rules { IfOk result (λ parser. parser_rules parser ≡ rules_in grammar) }
+        ensures memory { IfErr result (λ why. why ≡ Refusal.Memory) }
+    {
+        let costs = RerunCosts::new(alloc, &program)?;
+        Ok(Parser {
+            grammar,
+            program,
+            costs,
+        })
     }
 
     /// Returns the grammar of the file. Constant time.

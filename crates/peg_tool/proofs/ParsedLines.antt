@@ -1,5 +1,5 @@
 -- Lines of parses without an answer.
-use Rattle.std.proofs.Common.{◌≡◌, ◌↔◌, ℕ, ◌<◌, ◌≤◌, Bool, inl, inr, List, length, Option, None, Some, Result, Err, IfOk}
+use Rattle.std.proofs.Common.{◌≡◌, ◌↔◌, ℕ, ◌<◌, ◌≤◌, Bool, inl, inr, List, length, Option, None, Some, Result, Err, IfOk, option_map, unwrap_or}
 use Rattle.std.proofs.Common.{refl, sym, ◌∙◌}
 use Rattle.std.proofs.lemmas.Bool.{cases_lt}
 use Rattle.std.specs.declared.alloc.AllocError.{AllocError}
@@ -14,29 +14,36 @@ use Rattle.peg_json.specs.Lines.{IsLineOf, IsReply, line_bytes}
 use Rattle.peg_json.specs.Parses.{ParsesTo, text_too_long}
 use Rattle.peg_json.specs.Reply.{Refused}
 use Rattle.peg_json.specs.Statuses.{status_code}
+use Rattle.peg_json.specs.declared.tree_form.TreeForm.{TreeForm}
 use Rattle.peg_json.specs.declared.line.Line.{Line}
 use Rattle.peg_json.proofs.ParseLemmas.{missing-parses}
 use Rattle.peg_json.proofs.PrintLemmas.{reply-kind}
 
 -- the line for a start that no rule has; a text that is too long is reported first
 pub no_start-line : (result : Result Line AllocError) (file : List ℕ) (rules : List Rule) (text : List ℕ)
-    (start : Option (List ℕ)) (steps : Option ℕ) (all rows : Bool) (name : List ℕ) → start ≡ Some name
+    (start : Option (List ℕ)) (steps : Option ℕ) (all : Bool) (form : TreeForm) (name : List ℕ) → start ≡ Some name
     → start_name rules start ≡ None
     → (max_text_bytes < length text → IfOk result (λ line.
     IsReply file (Refused TextTooLong) (line_bytes line) (status_code line.status)))
     → (length text ≤ max_text_bytes → IfOk result (λ line.
     IsReply file (Refused (NoSuchStart name)) (line_bytes line) (status_code line.status)))
     → IfOk result (λ line.
-    IsLineOf file (ParsesTo rules text start steps all rows) (line_bytes line) (status_code line.status))
-no_start-line result file rules text start steps all rows name named none long missing =
+    IsLineOf file (ParsesTo rules text start steps all form) (line_bytes line) (status_code line.status))
+no_start-line result file rules text start steps all form name named none long missing =
     elim (cases_lt max_text_bytes (length text)) [
       | inl over ↦
-          reply-kind result file (ParsesTo rules text start steps all rows) (Refused TextTooLong) (long over)
+          reply-kind result file (ParsesTo rules text start steps all form) (Refused TextTooLong) (long over)
           (text_too_long over)
       | inr within ↦
-          reply-kind result file (ParsesTo rules text start steps all rows) (Refused (NoSuchStart name))
-          (missing within) (missing-parses rules text start steps all rows name within named none)
+          reply-kind result file (ParsesTo rules text start steps all form) (Refused (NoSuchStart name))
+          (missing within) (missing-parses rules text start steps all form name within named none)
     ]
+
+-- the name that was given
+pub given-name : {R : Type 0} (text : R → List ℕ) (start : Option R) (other : R) (name : List ℕ)
+    → option_map text start ≡ Some name → text (unwrap_or start other) ≡ name
+given-name text None other name is = cc
+given-name text (Some given) other name is = let both : Some (text given) ≡ Some name = is in cc
 
 -- a text that is rejected as too long is too long, since the start was found first
 pub long-text : (result : Result Answer ParseFault) (rules : List Rule) (start : Option (List ℕ)) (size : ℕ)

@@ -5,9 +5,6 @@ use Rattle.std.proofs.lemmas.List.{take_at, drop_at, take-append-le}
 use Rattle.std.proofs.KnownBytes.{Appends-trans}
 use Rattle.std.specs.Io.KnownBytes.{Appends}
 use Rattle.peg_io.specs.Transfer.{AppendsProperPrefix}
-use Rattle.peg_tree.specs.FlatTreeLeft.{text_left}
-use Rattle.peg_tree.specs.declared.flat_tree_writer.FlatTreeWriter.{FlatTreeWriter}
-use Rattle.peg_json.specs.Lines.{with_rows}
 
 -- a fact that holds anyway holds if there is an error
 pub on-err : {X Y P : Type 0} (result : Result X Y) → P → OnErr result P
@@ -35,13 +32,3 @@ prefix-behind old mid new done more first cut =
       omega (arith, cut.1, length-append done more),
       subst (Appends old new) (sym all) (Appends-trans old mid new done (take cut.0 more) first cut.2),
     )
-
--- the parts of a text with the nodes between them
-pub parts-with_rows : (text front back : List ℕ) (place : ℕ) (given : Option FlatTreeWriter) (rows : FlatTreeWriter)
-    → given ≡ Some rows → place ≡ length text - 2 → front ≡ take place text → back ≡ drop place text
-    → front ++ (text_left rows ++ back) ≡ with_rows text given
-parts-with_rows text front back place given rows is here before behind =
-    ap (λ l. l ++ (text_left rows ++ back)) before
-    ∙ ap (λ l. take place text ++ (text_left rows ++ l)) behind
-    ∙ ap (λ n. take n text ++ (text_left rows ++ drop n text)) here
-    ∙ ap (with_rows text) (sym is)

@@ -1,15 +1,17 @@
 -- The result of the program for its arguments.
-use Rattle.std.specs.Prelude.{◌≡◌, ◌⊎◌, ℕ, ◌==◌, List, Option}
-use Rattle.std.specs.Prelude.{option_map, Result, Ok, Err, IfSome, if◌then◌else◌, string_bytes}
+use Rattle.std.specs.Prelude.{◌≡◌, ◌⊎◌, ℕ, List, Option}
+use Rattle.std.specs.Prelude.{option_map, Result, Ok, Err, IfSome, string_bytes}
 use Rattle.std.specs.Io.KnownBytes.{Appends, Keeps}
 use Rattle.peg_io.specs.declared.opener.OpenFault.{OpenFault}
 use Rattle.peg_io.specs.declared.opener.OpenFault.TheVariants as opening
 use Rattle.peg_cli.specs.declared.words.Words.{Words}
 use Rattle.peg_cli.specs.declared.words.Words.TheVariants.{Joined, Help, Table, Check, Code, Parse}
+use Rattle.peg_json.specs.TreeForms.{form_from_rows}
 use Rattle.peg_tool.specs.Replies.{IsPrinted, IsPrintedJoined}
 use Rattle.peg_tool.specs.Task.{TableTask, CheckTask, CodeTask, ParseTask}
 use Rattle.peg_tool.specs.Written.{PrintsInPart}
-use Rattle.peg_tool.specs.declared.write.ToolFault.{ToolFault}
+use Rattle.peg_tool.specs.declared.write.CommandFault.{CommandFault}
+use Rattle.peg_tool.specs.declared.write.CommandFault.TheVariants as command
 use Rattle.peg_tool.specs.declared.program.ProgramFault.{ProgramFault}
 use Rattle.peg_tool.specs.declared.program.ProgramFault.TheVariants.{File, Memory}
 
@@ -40,14 +42,17 @@ CommandOutcome (Code g) holds input old new result = IfSome (holds (string_bytes
     (text : List ℕ) → WritesOrFails (IsPrinted CodeTask file text) old new result)
 CommandOutcome (Parse g t start memo steps all rows) holds input old new result =
     IfSome (holds (string_bytes g)) (λ file. IfSome (holds (string_bytes t)) (λ text.
-    WritesOrFails (IsPrinted (ParseTask (option_map string_bytes start) steps all rows) file text) old new result))
+    WritesOrFails (IsPrinted (ParseTask (option_map string_bytes start) steps all (form_from_rows rows)) file text)
+    old new result))
 
 -- ---- how results are converted
 
--- the result of a run of the tool, whose out-of-memory status is the program's fault
-abbrev pub program_result : Result ℕ ToolFault → Result ℕ ProgramFault
-program_result (Ok status) = if status == 5 then Err Memory else Ok status
-program_result (Err why) = Err File
+-- the result of the program for that of a command
+abbrev pub program_result : Result ℕ CommandFault → Result ℕ ProgramFault
+program_result (Ok status) = Ok status
+program_result (Err command.Read) = Err File
+program_result (Err command.Write) = Err File
+program_result (Err command.Memory) = Err Memory
 
 -- the fault of a file that can't be opened
 abbrev pub open_fault : OpenFault → ProgramFault

@@ -1,5 +1,6 @@
 -- Describes code: the tasks of commands.
 use Rattle.peg_parser.specs.Parser.{start_named}
+use Rattle.peg_json.specs.TreeForms.{form_from_rows}
 use Rattle.peg_tool.specs.Task.{ToolTask, TableTask, CheckTask, CodeTask, ParseTask}
 use Rattle.peg_tool.specs.declared.command.Command.{Command}
 use Rattle.peg_tool.specs.declared.command.Command.TheVariants.{Table, Check, Code, Parse}
@@ -9,4 +10,4 @@ abbrev pub task_of : Command → ToolTask
 task_of Table = TableTask
 task_of Check = CheckTask
 task_of Code = CodeTask
-task_of (Parse options all rows) = ParseTask (start_named options) options.steps all rows
+task_of (Parse options all rows) = ParseTask (start_named options) options.steps all (form_from_rows rows)

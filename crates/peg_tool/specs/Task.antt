@@ -2,33 +2,35 @@
 use Rattle.std.specs.Prelude.{◌≡◌, ℕ, Bool, false, List, Option, None, Some}
 use Rattle.peg_semantics.specs.Rules.{Rule}
 use Rattle.peg_parser.specs.Accepts.{Accepts}
+use Rattle.peg_json.specs.declared.tree_form.TreeForm.{TreeForm}
+use Rattle.peg_json.specs.declared.tree_form.TreeForm.TheVariants.{Nested}
 
 -- A task: print the table of outcomes, check whether the grammar is accepted, print its code, or parse a text. A parse
 -- has a start rule (the first one without a name) and an optional step limit. `all` asks for a match of the whole
--- text, and `rows` for the list of nodes.
+-- text, and `form` is that of the printed tree.
 pub data ToolTask : Type 0 where
   TableTask : ToolTask
   CheckTask : ToolTask
   CodeTask : ToolTask
-  ParseTask : (start : Option (List ℕ)) → (steps : Option ℕ) → (all rows : Bool) → ToolTask
+  ParseTask : (start : Option (List ℕ)) → (steps : Option ℕ) → (all : Bool) → (form : TreeForm) → ToolTask
 
 -- a parse from the first rule without a step limit, where a prefix may match, with a nested tree
 abbrev pub default_task : ToolTask
-default_task = ParseTask None None false false
+default_task = ParseTask None None false Nested
 
 -- whether a task needs the grammar to be accepted
 abbrev pub Checks : ToolTask → Type 0
 Checks TableTask = ⊥
 Checks CheckTask = Unit {0}
 Checks CodeTask = Unit {0}
-Checks (ParseTask start steps all rows) = Unit {0}
+Checks (ParseTask start steps all form) = Unit {0}
 
 -- whether a task is a parse
 abbrev pub IsParse : ToolTask → Type 0
 IsParse TableTask = ⊥
 IsParse CheckTask = ⊥
 IsParse CodeTask = ⊥
-IsParse (ParseTask start steps all rows) = Unit {0}
+IsParse (ParseTask start steps all form) = Unit {0}
 
 -- The text of a task on a grammar file: the unread bytes of its reader. Any text will do for a task that reads none
 -- and for a file that isn't accepted.
@@ -36,4 +38,4 @@ abbrev pub IsTextOf : ToolTask → (file : List ℕ) → Option (List ℕ) → L
 IsTextOf TableTask file left text = Unit {0}
 IsTextOf CheckTask file left text = Unit {0}
 IsTextOf CodeTask file left text = Unit {0}
-IsTextOf (ParseTask start steps all rows) file left text = (rules : List Rule) → Accepts file rules → left ≡ Some text
+IsTextOf (ParseTask start steps all form) file left text = (rules : List Rule) → Accepts file rules → left ≡ Some text

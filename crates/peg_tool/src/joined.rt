@@ -5,11 +5,12 @@ ghost use Rattle.peg_io.specs.Transfer.{ConsumesAtMost};
 ghost use Rattle.peg_json.specs.Statuses.{status_code};
 ghost use Rattle.peg_tool.specs.Replies.{IsPrintedJoined, max_joined_bytes};
 ghost use Rattle.peg_tool.specs.Written.{Prints, PrintsInPart};
+ghost use Rattle.peg_tool.specs.WritesReply.{WritesLine};
 ghost use Rattle.peg_json.specs.Lines.{line_bytes};
 
 use crate::loading::{Loaded, load};
 use crate::parse::parse_line;
-use crate::write::{ToolFault, write_reply};
+use crate::write::{CommandFault, ToolFault, to_tool_result, write_reply};
 use peg_io::{ReadFault, Sink, Source, read_up_to, split};
 use peg_json::{Line, TreeForm};
 use peg_parser::{DEFAULT_MEMO, ParseOptions};
@@ -39,6 +40,24 @@ pub fn run_joined<G: Source, W: Sink>(
     ensures write_fault { IsErrOf result ToolFault.WriteFault ↔ (W.failed output.new ≡ true) }
     ensures partly_written { IfSome (G.left input.old) (λ bytes. IsErrOf result ToolFault.WriteFault
         → PrintsInPart (IsPrintedJoined bytes) (W.written output.old) (W.written output.new)) }
+{
+    to_tool_result(run_input(alloc, input, output))
+}
+
+/// Does the same as `run_joined`, with a failed allocation as an error.
+pub(crate) fn run_input<G: Source, W: Sink>(
+    alloc: Global,
+    input: &mut G,
+    output: &mut W,
+) -> Result<u8, CommandFault>
+    requires input_works { G.failed input.old ≡ false }
+    requires output_works { W.failed output.old ≡ false }
+    ensures answer { IfSome (G.left input.old) (λ bytes.
+        WritesLine (IsPrintedJoined bytes) (W.written output.old) (W.written output.new) result) }
+    ensures held { ConsumesAtMost (G.left input.old) (G.left input.new) max_joined_bytes }
+    ensures read_fault { IsErrOf result CommandFault.Read ↔ (G.failed input.new ≡ true) }
+    ensures nothing_written { IsErrOf result CommandFault.Read → Keeps (W.written output.old) (W.written output.new) }
+    ensures write_fault { IsErrOf result CommandFault.Write ↔ (W.failed output.new ≡ true) }
 {
     let reply = line_of(alloc, input);
     write_reply(output, reply)

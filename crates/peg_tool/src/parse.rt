@@ -1,20 +1,16 @@
 //! The line of a parse.
-ghost use Rattle.std.specs.Prelude.{◌≡◌, ◌≢◌, ℕ, ◌<◌, ◌≤◌, List, None, Some, IfOk, length, option_map, string_bytes};
+ghost use Rattle.std.specs.Prelude.{ℕ, ◌<◌, ◌≤◌, List, IfOk, length, string_bytes};
 ghost use Rattle.peg_parser.specs.Cause.{NoSuchStart, TextTooLong};
-ghost use Rattle.peg_parser.specs.Fits.{Fits};
 ghost use Rattle.peg_parser.specs.Parser.{parser_rules, start_named};
 ghost use Rattle.peg_grammar.specs.Limits.{max_text_bytes};
 ghost use Rattle.peg_json.specs.Lines.{IsLineOf, IsReply, line_bytes};
-ghost use Rattle.peg_json.specs.Parses.{ParsesTo, PrintsOutcome};
+ghost use Rattle.peg_json.specs.Parses.{ParsesTo};
 ghost use Rattle.peg_json.specs.Reply.{Refused};
 ghost use Rattle.peg_json.specs.Statuses.{status_code};
-ghost use Rattle.peg_json.specs.TreeForms.{is_rows};
 
 use peg_grammar::MAX_TEXT_BYTES;
-use peg_json::{
-    Line, TreeForm, answer_line, long_text_line, no_start_line, rows_line, step_limit_line,
-};
-use peg_parser::{Answer, ParseFault, ParseOptions, Parser};
+use peg_json::{Line, TreeForm, answer_line, long_text_line, no_start_line, step_limit_line};
+use peg_parser::{ParseFault, ParseOptions, Parser};
 use std::alloc::{AllocError, Global};
 
 /// Returns the line of a parse of a text. A text that is too long is reported before a start that no rule has.
@@ -27,52 +23,28 @@ pub(crate) fn parse_line(
     form: TreeForm,
 ) -> Result<Line, AllocError>
     ensures { (file : List ℕ) → IfOk result (λ line. IsLineOf file
-        (ParsesTo (parser_rules parser.now) text.now (start_named options.now) options.now.steps all (is_rows form))
+        (ParsesTo (parser_rules parser.now) text.now (start_named options.now) options.now.steps all form)
         (line_bytes line) (status_code line.status)) }
 {
     match parser.parse(alloc, text, options) {
-        Ok(answer) => outcome_reply(alloc, parser, answer, text.len() as u32, all, form),
-        Err(ParseFault::NoSuchStart) => no_start(alloc, text, options.start),
+        Ok(answer) => answer_line(alloc, parser, answer, text.len() as u32, all, form),
+        // A grammar has a first rule, so a start that is missing was given by name.
+        Err(ParseFault::NoSuchStart) => no_start(alloc, text, options.start.unwrap_or("")),
         Err(ParseFault::TextTooLong) => long_text_line(alloc),
         Err(ParseFault::StepLimit) => step_limit_line(alloc),
         Err(ParseFault::Memory) => Err(AllocError),
     }
 }
 
-// The line of an answer.
-fn outcome_reply(
-    alloc: Global,
-    parser: &Parser,
-    answer: Answer,
-    text_len: u32,
-    all: bool,
-    form: TreeForm,
-) -> Result<Line, AllocError>
-    requires { Fits (parser_rules parser.now) answer.outcome }
-    ensures { (file : List ℕ) → IfOk result (λ line. IsLineOf file
-        (PrintsOutcome (parser_rules parser.now) answer.outcome text_len all (is_rows form))
-        (line_bytes line) (status_code line.status)) }
-{
-    match form {
-        TreeForm::Rows => rows_line(alloc, parser, answer, text_len, all),
-        TreeForm::Nested => answer_line(alloc, parser, &answer, text_len, all, form),
-    }
-}
-
 // The line for a start that no rule has, unless the text is too long.
-fn no_start(alloc: Global, text: &[u8], start: Option<&str>) -> Result<Line, AllocError>
-    requires { start ≢ None }
+fn no_start(alloc: Global, text: &[u8], name: &str) -> Result<Line, AllocError>
     ensures long { max_text_bytes < length text.now → (file : List ℕ) → IfOk result
         (λ line. IsReply file (Refused TextTooLong) (line_bytes line) (status_code line.status)) }
-    ensures missing { length text.now ≤ max_text_bytes → (file name : List ℕ)
-        → option_map (λ given. given.now) start.entry ≡ Some name → IfOk result
-        (λ line. IsReply file (Refused (NoSuchStart name)) (line_bytes line) (status_code line.status)) }
+    ensures missing { length text.now ≤ max_text_bytes → (file : List ℕ) → IfOk result
+        (λ line. IsReply file (Refused (NoSuchStart name.now)) (line_bytes line) (status_code line.status)) }
 {
     if text.len() > MAX_TEXT_BYTES {
         return long_text_line(alloc);
     }
-    match start {
-        Some(name) => no_start_line(alloc, name),
-        None => unreachable!(),
-    }
+    no_start_line(alloc, name)
 }

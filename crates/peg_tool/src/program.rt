@@ -6,9 +6,9 @@ ghost use Rattle.peg_tool.specs.Replies.{IsPrinted};
 ghost use Rattle.peg_tool.specs.Task.{IsParse};
 
 use crate::command::Command;
-use crate::joined::run_joined;
-use crate::tool::run_tool;
-use crate::write::ToolFault;
+use crate::joined::run_input;
+use crate::tool::run_command;
+use crate::write::CommandFault;
 use peg_cli::Words;
 use peg_io::{Device, OpenFault, Opener, Sink, Source, write_all_bytes};
 use peg_json::Status;
@@ -76,7 +76,7 @@ pub fn run_words<O: Opener, I: Source, W: Sink>(
     ensures unread { words.now ≢ Words.Joined → input.new ≡ input.old }
 {
     match words {
-        Words::Joined => to_program_result(run_joined(alloc, input, output)),
+        Words::Joined => to_program_result(run_input(alloc, input, output)),
         Words::Help { text } => help(output, text),
         Words::Table { g } => on_file(alloc, files, output, g, &Command::Table),
         Words::Check { g } => on_file(alloc, files, output, g, &Command::Check),
@@ -137,7 +137,8 @@ fn on_file<O: Opener, W: Sink>(
 {
     let mut grammar = files.open(g)?;
     let mut text = Device::new(io::empty());
-    to_program_result(run_tool(alloc, &mut grammar, &mut text, output, command))
+    let ended = run_command(alloc, &mut grammar, &mut text, output, command);
+    to_program_result(ended)
 }
 
 // Runs a command on the grammar file and the text with these names. Both are opened before either is read.
@@ -156,16 +157,18 @@ fn on_files<O: Opener, W: Sink>(
 {
     let mut grammar = files.open(g)?;
     let mut text = files.open(t)?;
-    to_program_result(run_tool(alloc, &mut grammar, &mut text, output, command))
+    let ended = run_command(alloc, &mut grammar, &mut text, output, command);
+    to_program_result(ended)
 }
 
-// Converts the result of the tool: exit status 5 becomes `Memory`.
-fn to_program_result(ended: Result<u8, ToolFault>) -> Result<u8, ProgramFault>
+// Converts the result of a command to that of the program.
+fn to_program_result(ended: Result<u8, CommandFault>) -> Result<u8, ProgramFault>
     ensures { result ≡ program_result ended }
 {
     match ended {
-        Ok(status) if status == Status::Memory.code() => Err(ProgramFault::Memory),
         Ok(status) => Ok(status),
-        Err(_) => Err(ProgramFault::File),
+        Err(CommandFault::Read) => Err(ProgramFault::File),
+        Err(CommandFault::Write) => Err(ProgramFault::File),
+        Err(CommandFault::Memory) => Err(ProgramFault::Memory),
     }
 }

@@ -10,17 +10,17 @@ ghost use Rattle.peg_parser.specs.Accepts.{Accepts};
 ghost use Rattle.peg_parser.specs.Parser.{parser_rules, start_named};
 ghost use Rattle.peg_grammar.specs.Limits.{max_text_bytes};
 ghost use Rattle.peg_json.specs.Statuses.{status_code};
-ghost use Rattle.peg_json.specs.TreeForms.{is_rows};
 ghost use Rattle.peg_tool.specs.Commands.{task_of};
 ghost use Rattle.peg_tool.specs.Replies.{IsPrinted};
 ghost use Rattle.peg_tool.specs.Task.{IsParse, IsTextOf, ParseTask};
 ghost use Rattle.peg_tool.specs.Written.{Prints, PrintsInPart};
+ghost use Rattle.peg_tool.specs.WritesReply.{WritesLine};
 ghost use Rattle.peg_json.specs.Lines.{line_bytes};
 
 use crate::command::Command;
 use crate::loading::{Loaded, check_file, code_file, load, table_file};
 use crate::parse::parse_line;
-use crate::write::{ToolFault, write_reply};
+use crate::write::{CommandFault, ToolFault, to_tool_result, write_reply};
 use peg_grammar::MAX_TEXT_BYTES;
 use peg_io::{ReadFault, Sink, Source, read_up_to};
 use peg_json::{Line, TreeForm};
@@ -60,6 +60,33 @@ pub fn run_tool<G: Source, T: Source, W: Sink>(
     ensures partly_written { IfSome (G.left grammar.old) (λ file. (bytes : List ℕ)
         → IsTextOf (task_of command.now) file (T.left text.old) bytes → IsErrOf result ToolFault.WriteFault
         → PrintsInPart (IsPrinted (task_of command.now) file bytes) (W.written output.old) (W.written output.new)) }
+{
+    to_tool_result(run_command(alloc, grammar, text, output, command))
+}
+
+/// Does the same as `run_tool`, with a failed allocation as an error.
+pub(crate) fn run_command<G: Source, T: Source, W: Sink>(
+    alloc: Global,
+    grammar: &mut G,
+    text: &mut T,
+    output: &mut W,
+    command: &Command<'_>,
+) -> Result<u8, CommandFault>
+    requires grammar_works { G.failed grammar.old ≡ false }
+    requires text_works { T.failed text.old ≡ false }
+    requires output_works { W.failed output.old ≡ false }
+    ensures answer { IfSome (G.left grammar.old) (λ file. (bytes : List ℕ)
+        → IsTextOf (task_of command.now) file (T.left text.old) bytes
+        → WritesLine (IsPrinted (task_of command.now) file bytes) (W.written output.old) (W.written output.new) result) }
+    ensures held { ConsumesAtMost (G.left grammar.old) (G.left grammar.new) (max_file_bytes + 1) }
+    ensures text_held { ConsumesAtMost (T.left text.old) (T.left text.new) (max_text_bytes + 1) }
+    ensures unread { ¬ IsParse (task_of command.now) → text.new ≡ text.old }
+    ensures refused { IfSome (G.left grammar.old) (λ file.
+        ((rules : List Rule) → ¬ Accepts file rules) → text.new ≡ text.old) }
+    ensures read_fault { IsErrOf result CommandFault.Read
+        ↔ ((G.failed grammar.new ≡ true) ⊎ (T.failed text.new ≡ true)) }
+    ensures nothing_written { IsErrOf result CommandFault.Read → Keeps (W.written output.old) (W.written output.new) }
+    ensures write_fault { IsErrOf result CommandFault.Write ↔ (W.failed output.new ≡ true) }
 {
     let reply = line_of(alloc, grammar, text, command);
     write_reply(output, reply)
@@ -109,9 +136,9 @@ fn parse_reply<T: Source>(
     requires short { length file.now ≤ max_offset }
     requires works { T.failed text.old ≡ false }
     ensures answer { (bytes : List ℕ)
-        → IsTextOf (ParseTask (start_named options.now) options.now.steps all (is_rows form)) file.now
+        → IsTextOf (ParseTask (start_named options.now) options.now.steps all form) file.now
         (T.left text.old) bytes → IfOk result (λ line.
-        IsPrinted (ParseTask (start_named options.now) options.now.steps all (is_rows form)) file.now bytes
+        IsPrinted (ParseTask (start_named options.now) options.now.steps all form) file.now bytes
         (line_bytes line) (status_code line.status)) }
     ensures held { ConsumesAtMost (T.left text.old) (T.left text.new) (max_text_bytes + 1) }
     ensures refused { ((rules : List Rule) → ¬ Accepts file.now rules) → text.new ≡ text.old }
@@ -135,7 +162,7 @@ fn read_and_parse<T: Source>(
     requires { T.failed text.old ≡ false }
     ensures answer { (file : List ℕ) → Accepts file (parser_rules parser.now) → IfOk result (λ line.
         IfSome (T.left text.old) (λ bytes.
-        IsPrinted (ParseTask (start_named options.now) options.now.steps all (is_rows form)) file bytes
+        IsPrinted (ParseTask (start_named options.now) options.now.steps all form) file bytes
         (line_bytes line) (status_code line.status))) }
     ensures held { ConsumesAtMost (T.left text.old) (T.left text.new) (max_text_bytes + 1) }
     ensures device { IsErrOf result ReadFault.Device ↔ (T.failed text.new ≡ true) }

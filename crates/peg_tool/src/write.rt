@@ -2,12 +2,13 @@
 ghost use Rattle.std.specs.Prelude.{◌≡◌, ◌↔◌, true, false, is_err, IsErrOf, OnErr, OnOk};
 ghost use Rattle.std.specs.Io.KnownBytes.{Appends};
 ghost use Rattle.peg_io.specs.Transfer.{AppendsProperPrefix};
-ghost use Rattle.peg_json.specs.Lines.{line_bytes, with_rows};
+ghost use Rattle.peg_json.specs.Lines.{line_bytes, rows_text};
 ghost use Rattle.peg_tree.specs.FlatTreeLeft.{text_left};
-ghost use Rattle.peg_tool.specs.WritesReply.{WritesReply};
+ghost use Rattle.peg_tool.specs.WritesReply.{WritesReply, tool_result};
 
+use crate::program::ProgramFault;
 use peg_io::{DeviceFault, ReadFault, Sink, write_all_bytes};
-use peg_json::{Line, Status};
+use peg_json::Line;
 use peg_tree::FlatTreeWriter;
 use thiserror::Error;
 
@@ -22,66 +23,84 @@ pub enum ToolFault {
     WriteFault,
 }
 
-/// Writes the line of a run and returns its exit status. Returns the status for out of memory, with nothing written,
-/// if an allocation failed.
+/// Why a command has no exit status.
+#[derive(Clone, Copy)]
+pub(crate) enum CommandFault {
+    /// A read from an input failed.
+    Read,
+    /// A write to the output failed.
+    Write,
+    /// An allocation failed.
+    Memory,
+}
+
+/// Writes the line of a command and returns its exit status. Writes nothing if there is none.
 pub(crate) fn write_reply<W: Sink>(
     output: &mut W,
     reply: Result<Line, ReadFault>,
-) -> Result<u8, ToolFault>
+) -> Result<u8, CommandFault>
     requires { W.failed output.old ≡ false }
     ensures ends { WritesReply reply (W.written output.old) (W.written output.new) result }
-    ensures write_fault { IsErrOf result ToolFault.WriteFault ↔ (W.failed output.new ≡ true) }
+    ensures write_fault { IsErrOf result CommandFault.Write ↔ (W.failed output.new ≡ true) }
 {
     match reply {
         Ok(line) => {
             let status = line.status;
             match write_line(output, line) {
                 Ok(()) => Ok(status.code()),
-                Err(_) => Err(ToolFault::WriteFault),
+                Err(_) => Err(CommandFault::Write),
             }
         }
-        Err(ReadFault::Memory) => Ok(Status::Memory.code()),
-        Err(ReadFault::Device) => Err(ToolFault::ReadFault),
+        Err(ReadFault::Memory) => Err(CommandFault::Memory),
+        Err(ReadFault::Device) => Err(CommandFault::Read),
     }
 }
 
-// Writes a line and its line end, without copies or allocations.
+/// Converts the result of a command to that of a public call, where out of memory is an exit status.
+pub(crate) fn to_tool_result(ended: Result<u8, CommandFault>) -> Result<u8, ToolFault>
+    ensures { result ≡ tool_result ended }
+{
+    match ended {
+        Ok(status) => Ok(status),
+        Err(CommandFault::Read) => Err(ToolFault::ReadFault),
+        Err(CommandFault::Write) => Err(ToolFault::WriteFault),
+        Err(CommandFault::Memory) => Ok(ProgramFault::Memory.status()),
+    }
+}
+
+// Writes the head of a line, its nodes and its tail, without copies or allocations.
 fn write_line<W: Sink>(output: &mut W, line: Line) -> Result<(), DeviceFault>
     requires { W.failed output.old ≡ false }
     ensures ok { OnOk result (Appends (W.written output.old) (W.written output.new) (line_bytes line)) }
     ensures err { OnErr result (AppendsProperPrefix (W.written output.old) (W.written output.new) (line_bytes line)) }
     ensures failed { W.failed output.new ≡ is_err result }
 {
-    let Line { text, rows, .. } = line;
-    write_text(output, text.as_bytes(), rows)?;
-    write_all_bytes(output, b"\n")
+    let Line {
+        head,
+        rows,
+        tail,
+        ..
+    } = line;
+    write_all_bytes(output, head.as_bytes())?;
+    write_rows(output, rows)?;
+    write_all_bytes(output, tail.bytes())
 }
 
-// Writes a text, with its nodes inserted in the list at its end.
-fn write_text<W: Sink>(
-    output: &mut W,
-    text: &[u8],
-    rows: Option<FlatTreeWriter>,
-) -> Result<(), DeviceFault>
+// Writes the nodes of a line, if it has some.
+fn write_rows<W: Sink>(output: &mut W, rows: Option<FlatTreeWriter>) -> Result<(), DeviceFault>
     requires { W.failed output.old ≡ false }
-    ensures ok { OnOk result (Appends (W.written output.old) (W.written output.new) (with_rows text.now rows)) }
-    ensures err { OnErr result
-        (AppendsProperPrefix (W.written output.old) (W.written output.new) (with_rows text.now rows)) }
+    ensures ok { OnOk result (Appends (W.written output.old) (W.written output.new) (rows_text rows)) }
+    ensures err { OnErr result (AppendsProperPrefix (W.written output.old) (W.written output.new) (rows_text rows)) }
     ensures failed { W.failed output.new ≡ is_err result }
 {
     match rows {
-        None => write_all_bytes(output, text),
-        Some(rows) => {
-            let (front, back) = text.split_at(text.len().saturating_sub(2));
-            write_all_bytes(output, front)?;
-            write_rows(output, rows)?;
-            write_all_bytes(output, back)
-        }
+        None => Ok(()),
+        Some(rows) => write_pieces(output, rows),
     }
 }
 
 // Writes a list of nodes, piece by piece.
-fn write_rows<W: Sink>(output: &mut W, mut rows: FlatTreeWriter) -> Result<(), DeviceFault>
+fn write_pieces<W: Sink>(output: &mut W, mut rows: FlatTreeWriter) -> Result<(), DeviceFault>
     requires { W.failed output.old ≡ false }
     ensures ok { OnOk result (Appends (W.written output.old) (W.written output.new) (text_left rows)) }
     ensures err { OnErr result (AppendsProperPrefix (W.written output.old) (W.written output.new) (text_left rows)) }

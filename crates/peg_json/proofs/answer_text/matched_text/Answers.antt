@@ -1,4 +1,4 @@
-use Rattle.std.proofs.Common.{◌≡◌, IfOk, true, false, codes, string_bytes, subst, sym}
+use Rattle.std.proofs.Common.{◌≡◌, IfOk, codes, string_bytes, subst, sym}
 use Rattle.serde_json.specs.Events.{SendsValue}
 use Rattle.serde_json.specs.Written.{compact_text}
 use Rattle.peg_semantics.specs.Rules.{names}
@@ -6,7 +6,7 @@ use Rattle.peg_grammar.specs.GrammarRules.{rules_in}
 use Rattle.peg_tree.specs.Events.{SendsNested}
 use Rattle.peg_json.specs.Reply.{matched_data, tree_member, tree_rows_data}
 use Rattle.peg_json.specs.Sending.{SendsMatch, spans_of}
-use Rattle.peg_json.specs.TreeForms.{is_rows}
+use Rattle.peg_json.specs.declared.tree_form.TreeForm.TheVariants.{Nested, Rows}
 use Rattle.peg_json.proofs.AnswerLemmas.{match-without_floats}
 use Rattle.peg_json.proofs.Sent.{TellsBy, match-text, nested-text}
 use Rattle.peg_json.proofs.answer_text.matched_text.Goals as goal
@@ -22,9 +22,9 @@ returns-in-Rows c =
     let sent = subst (λ t. TellsBy (SendsMatch reported.partial reported.end reported.far places (codes "rows")
     (SendsValue (tree_rows_data list t))) c.text_of.result) c.new.ensures.tree named in
     subst (λ f. IfOk c.text_of.result (λ text. string_bytes text
-    ≡ compact_text (matched_data reported.partial reported.end reported.far places (tree_member (is_rows f) list tree)))) (sym c.in-Rows.is)
+    ≡ compact_text (matched_data reported.partial reported.end reported.far places (tree_member f list tree)))) (sym c.in-Rows.is)
     (match-text c.text_of.result reported.partial reported.end reported.far places (codes "rows") (tree_rows_data list tree)
-    (match-without_floats reported.partial reported.end reported.far places true list tree) sent)
+    (match-without_floats reported.partial reported.end reported.far places Rows list tree) sent)
 
 pub returns-in-Nested : goal.returns-in-Nested
 returns-in-Nested c =
@@ -38,6 +38,6 @@ returns-in-Nested c =
     let sent = subst (λ t. TellsBy (SendsMatch reported.partial reported.end reported.far places (codes "tree")
     (SendsNested list t)) result) c.new-in-Nested.ensures.tree named in
     subst (λ f. IfOk result (λ text. string_bytes text
-    ≡ compact_text (matched_data reported.partial reported.end reported.far places (tree_member (is_rows f) list tree)))) (sym c.in-Nested.is)
+    ≡ compact_text (matched_data reported.partial reported.end reported.far places (tree_member f list tree)))) (sym c.in-Nested.is)
     (nested-text result reported.partial reported.end reported.far places (codes "tree") list tree
-    (match-without_floats reported.partial reported.end reported.far places false list tree) sent)
+    (match-without_floats reported.partial reported.end reported.far places Nested list tree) sent)

@@ -1,30 +1,18 @@
-use Rattle.std.proofs.Common.{◌≡◌, false, inl, inr, string_bytes, refl, sym, ap, ◌∙◌, Ok, Err}
-use Rattle.peg_parser.specs.Cause.{TooDeep}
+use Rattle.std.proofs.Common.{IfOk, subst, sym}
 use Rattle.peg_parser.specs.Parser.{parser_rules}
-use Rattle.peg_json.specs.Parses.{IsDeep, PrintsOutcome, outcome_reply}
-use Rattle.peg_json.specs.Reply.{Refused}
-use Rattle.peg_tree.specs.declared.nested.JsonFault.{JsonFault}
-use Rattle.peg_json.specs.TreeForms.{is_rows}
-use Rattle.peg_json.proofs.PrintLemmas.{text-reply, reply-kind}
+use Rattle.peg_json.specs.Lines.{IsLineOf, line_bytes}
+use Rattle.peg_json.specs.Parses.{PrintsOutcome}
+use Rattle.peg_json.specs.Statuses.{status_code}
 use Rattle.peg_json.proofs.lines.answer_line.Goals as goal
 
-pub returns-in-Ok : goal.returns-in-Ok
-returns-in-Ok c file =
-    let rules = parser_rules c.args.parser.now in
-    let outcome = c.args.answer.now.outcome in
-    let reply = outcome_reply rules outcome c.args.text_len c.args.all (is_rows c.args.form) in
-    let shallow : ((is_rows c.args.form) ≡ false → ¬ IsDeep outcome.result) =
-    λ nested deep. let both : Ok c.in-Ok.text ≡ Err JsonFault.TooDeep =
-    sym c.in-Ok.is ∙ c.answer_text.ensures.too_deep.1 (nested, deep) in cc in
-    reply-kind (Ok c.new.result) file (PrintsOutcome rules outcome c.args.text_len c.args.all (is_rows c.args.form)) reply
-    (text-reply c.new.result file (string_bytes c.in-Ok.text) c.answer_status-status.result reply c.new.ensures.0
-    c.new.ensures.1 (c.in-Ok.ensures.text file) (c.answer_status-status.ensures rules (is_rows c.args.form)))
-    (inr (shallow, refl))
+pub returns-in-Nested : goal.returns-in-Nested
+returns-in-Nested c file =
+    subst (λ form. IfOk c.nested_line.result (λ line. IsLineOf file
+    (PrintsOutcome (parser_rules c.args.parser.now) c.args.answer.outcome c.args.text_len c.args.all form)
+    (line_bytes line) (status_code line.status))) (sym c.in-Nested.is) (c.nested_line.ensures file)
 
-pub returns-in-Err-TooDeep : goal.returns-in-Err-TooDeep
-returns-in-Err-TooDeep c file =
-    let rules = parser_rules c.args.parser.now in
-    let deep = c.answer_text.ensures.too_deep.0 (c.in-Err-TooDeep.is ∙ ap Err c.in-Err-TooDeep.field-0-is) in
-    reply-kind c.fault_line.result file
-    (PrintsOutcome rules c.args.answer.now.outcome c.args.text_len c.args.all (is_rows c.args.form)) (Refused TooDeep)
-    c.fault_line.ensures (inl (deep.0, deep.1, refl))
+pub returns-in-Rows : goal.returns-in-Rows
+returns-in-Rows c file =
+    subst (λ form. IfOk c.rows_line.result (λ line. IsLineOf file
+    (PrintsOutcome (parser_rules c.args.parser.now) c.args.answer.outcome c.args.text_len c.args.all form)
+    (line_bytes line) (status_code line.status))) (sym c.in-Rows.is) (c.rows_line.ensures file)

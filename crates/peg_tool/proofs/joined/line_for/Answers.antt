@@ -3,6 +3,7 @@ use Rattle.std.proofs.lemmas.Result.{IfOk-weaker}
 use Rattle.peg_parser.specs.Parser.{parser_rules}
 use Rattle.peg_json.specs.Statuses.{status_code}
 use Rattle.peg_json.specs.declared.line.Line.{Line}
+use Rattle.peg_json.specs.declared.tree_form.TreeForm.TheVariants.{Nested}
 use Rattle.peg_tool.specs.Loaded.{IsLoadedFrom}
 use Rattle.peg_tool.specs.Replies.{IsPrintedJoined}
 use Rattle.peg_tool.proofs.RunLemmas.{split-shorter, parsed-printed}
@@ -26,7 +27,7 @@ returns-in-Accepted c =
       file,
       text,
       c.split.ensures,
-      parsed-printed file text rules None None false false (line_bytes line)
+      parsed-printed file text rules None None false Nested (line_bytes line)
           (status_code line.status) judged is,
     ))
     (c.parse_line.ensures file)

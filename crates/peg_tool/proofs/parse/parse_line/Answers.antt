@@ -1,14 +1,15 @@
-use Rattle.std.proofs.Common.{◌≡◌, None, Ok, Err, ap, sym, ◌∙◌, length}
-use Rattle.peg_parser.specs.Cause.{StepLimit, TextTooLong}
+use Rattle.std.proofs.Common.{◌≡◌, IfOk, None, Ok, Err, ap, subst, sym, ◌∙◌, length}
+use Rattle.peg_parser.specs.Cause.{NoSuchStart, StepLimit, TextTooLong}
 use Rattle.peg_parser.specs.Parser.{parser_rules, start_named}
 use Rattle.peg_semantics.specs.Starts.{start_name}
 use Rattle.peg_parser.specs.declared.parser.ParseFault.TheVariants.{NoSuchStart as NoStart}
 use Rattle.peg_json.specs.Parses.{ParsesTo, PrintsOutcome, text_too_long, too_many_steps}
+use Rattle.peg_json.specs.Lines.{IsReply, line_bytes}
 use Rattle.peg_json.specs.Reply.{Refused}
+use Rattle.peg_json.specs.Statuses.{status_code}
 use Rattle.peg_json.proofs.ParseLemmas.{outcome-parses, start-given}
 use Rattle.peg_json.proofs.PrintLemmas.{kind-weaker, reply-kind}
-use Rattle.peg_json.specs.TreeForms.{is_rows}
-use Rattle.peg_tool.proofs.ParsedLines.{no_start-line, long-text, short-text}
+use Rattle.peg_tool.proofs.ParsedLines.{given-name, no_start-line, long-text, short-text}
 use Rattle.peg_tool.proofs.parse.parse_line.Goals as goal
 
 pub returns-in-Ok : goal.returns-in-Ok
@@ -19,11 +20,11 @@ returns-in-Ok c file =
     let steps = c.args.options.now.steps in
     let some : (start_name rules start ≡ None → ⊥) =
     λ none. let both : Ok c.in-Ok.answer ≡ Err NoStart = sym c.in-Ok.is ∙ c.parse.ensures.no_start.1 none in cc in
-    kind-weaker c.outcome_reply.result file (PrintsOutcome rules outcome _ c.args.all (is_rows c.args.form))
-    (ParsesTo rules c.args.text.now start steps c.args.all (is_rows c.args.form))
-    (outcome-parses rules c.args.text.now start steps c.args.all (is_rows c.args.form) outcome c.in-Ok.ensures.short
+    kind-weaker c.answer_line.result file (PrintsOutcome rules outcome _ c.args.all c.args.form)
+    (ParsesTo rules c.args.text.now start steps c.args.all c.args.form)
+    (outcome-parses rules c.args.text.now start steps c.args.all c.args.form outcome c.in-Ok.ensures.short
     some c.in-Ok.ensures.outcome)
-    (c.outcome_reply.ensures file)
+    (c.answer_line.ensures file)
 
 pub returns-in-Err-NoSuchStart : goal.returns-in-Err-NoSuchStart
 returns-in-Err-NoSuchStart c file =
@@ -32,9 +33,13 @@ returns-in-Err-NoSuchStart c file =
     let steps = c.args.options.now.steps in
     let none = c.parse.ensures.no_start.0 (c.in-Err-NoSuchStart.is ∙ ap Err c.in-Err-NoSuchStart.field-0-is) in
     let named = start-given rules start none in
-    no_start-line c.no_start.result file rules c.args.text.now start steps c.args.all (is_rows c.args.form) named.0
+    let same : c.unwrap_or.result.now ≡ named.0 =
+    ap (λ name. name.now) c.unwrap_or.ensures ∙ given-name (λ name. name.now) c.args.options.now.start _ named.0 named.1 in
+    no_start-line c.no_start.result file rules c.args.text.now start steps c.args.all c.args.form named.0
     named.1 none
-    (λ long. c.no_start.ensures.long long file) (λ short. c.no_start.ensures.missing short file named.0 named.1)
+    (λ long. c.no_start.ensures.long long file) (λ short. subst (λ name. IfOk c.no_start.result (λ line.
+    IsReply file (Refused (NoSuchStart name)) (line_bytes line) (status_code line.status))) same
+    (c.no_start.ensures.missing short file))
 
 pub returns-in-Err-TextTooLong : goal.returns-in-Err-TextTooLong
 returns-in-Err-TextTooLong c file =
@@ -43,7 +48,7 @@ returns-in-Err-TextTooLong c file =
     let steps = c.args.options.now.steps in
     let is = c.in-Err-TextTooLong.is ∙ ap Err c.in-Err-TextTooLong.field-0-is in
     reply-kind c.long_text_line.result file
-    (ParsesTo rules c.args.text.now start steps c.args.all (is_rows c.args.form)) (Refused TextTooLong)
+    (ParsesTo rules c.args.text.now start steps c.args.all c.args.form) (Refused TextTooLong)
     (c.long_text_line.ensures file)
     (text_too_long (long-text c.parse.result rules start (length c.args.text.now) is c.parse.ensures.no_start
     c.parse.ensures.long))
@@ -56,6 +61,6 @@ returns-in-Err-StepLimit c file =
     let is = c.in-Err-StepLimit.is ∙ ap Err c.in-Err-StepLimit.field-0-is in
     let more = c.parse.ensures.limited is in
     reply-kind c.step_limit_line.result file
-    (ParsesTo rules c.args.text.now start steps c.args.all (is_rows c.args.form)) (Refused StepLimit)
+    (ParsesTo rules c.args.text.now start steps c.args.all c.args.form) (Refused StepLimit)
     (c.step_limit_line.ensures file)
     (too_many_steps (short-text c.parse.result (length c.args.text.now) is (c.parse.ensures.long more.0 more.1)) more)

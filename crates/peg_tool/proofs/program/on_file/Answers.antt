@@ -7,8 +7,7 @@ returns g c =
     let task = task_of c.args.command.now in
     let held = g.O.Opener.holds c.args.files.now c.args.g.now in
     let old = g.W.Sink.written c.args.output.now in
-    let new = g.W.Sink.written c.run_tool.new.output in
+    let new = g.W.Sink.written c.run_command-ended.new.output in
     alone-outcome task held _ old new c.to_program_result.result c.requires.alone
-    (opened-outcome task held (g.O.File.Source.left c.in_ok-grammar.grammar) _ old new c.run_tool.result c.to_program_result.result
-    c.in_ok-grammar.ensures.bytes c.to_program_result.ensures c.run_tool.ensures.answer c.run_tool.ensures.partly_written
-    c.run_tool.ensures.nothing_written)
+    (opened-outcome task held (g.O.File.Source.left c.in_ok-grammar.grammar) _ old new c.run_command-ended.result
+    c.to_program_result.result c.in_ok-grammar.ensures.bytes c.to_program_result.ensures c.run_command-ended.ensures.answer)

@@ -9,8 +9,7 @@ returns g c =
     let held_text = g.O.Opener.holds c.args.files.now c.args.t.now in
     let text = g.O.File.Source.left c.in_ok-text.text in
     let old = g.W.Sink.written c.args.output.now in
-    let new = g.W.Sink.written c.run_tool.new.output in
+    let new = g.W.Sink.written c.run_command-ended.new.output in
     both-outcome task held held_text text old new c.to_program_result.result c.in_ok-text.ensures.bytes
-    (opened-outcome task held (g.O.File.Source.left c.in_ok-grammar.grammar) text old new c.run_tool.result
-    c.to_program_result.result c.in_ok-grammar.ensures.bytes c.to_program_result.ensures c.run_tool.ensures.answer
-    c.run_tool.ensures.partly_written c.run_tool.ensures.nothing_written)
+    (opened-outcome task held (g.O.File.Source.left c.in_ok-grammar.grammar) text old new c.run_command-ended.result
+    c.to_program_result.result c.in_ok-grammar.ensures.bytes c.to_program_result.ensures c.run_command-ended.ensures.answer)

@@ -1,11 +1,11 @@
-use Rattle.std.proofs.Common.{◌≡◌, ◌∙◌, Bool, ℕ, ◌+◌, ◌<◌, ◌≤◌, List, IfOk, length, subst, sym, ap, arith}
+use Rattle.std.proofs.Common.{◌≡◌, ◌∙◌, ℕ, ◌+◌, ◌<◌, ◌≤◌, List, IfOk, length, subst, sym, ap, arith}
 use Rattle.std.specs.Io.KnownBytes.{IsAtEnd}
 use Rattle.peg_metagrammar.specs.Notation.{max_file_bytes}
 use Rattle.peg_semantics.specs.Rules.{Rule}
 use Rattle.peg_parser.specs.Accepts.{Accepts}
 use Rattle.peg_parser.specs.Parser.{start_named}
 use Rattle.peg_json.specs.Statuses.{status_code}
-use Rattle.peg_json.specs.TreeForms.{is_rows}
+use Rattle.peg_json.specs.declared.tree_form.TreeForm.{TreeForm}
 use Rattle.peg_tool.specs.Commands.{task_of}
 use Rattle.peg_tool.specs.Replies.{IsPrinted}
 use Rattle.peg_tool.specs.Task.{ToolTask, TableTask, CheckTask, CodeTask, ParseTask, IsTextOf}
@@ -74,9 +74,9 @@ returns-clause-answer g c =
     let task = task_of c.args.command.now in
     let start = start_named c.in-Parse.options in
     let steps = c.in-Parse.options.steps in
-    let asked = ParseTask start steps c.in-Parse.all (is_rows c.from_rows-form.result) in
+    let asked = ParseTask start steps c.in-Parse.all c.from_rows-form.result in
     let is : asked ≡ task =
-    ap (λ (rows : Bool). ParseTask start steps c.in-Parse.all rows) c.from_rows-form.ensures
+    ap (λ (form : TreeForm). ParseTask start steps c.in-Parse.all form) c.from_rows-form.ensures
     ∙ sym (ap task_of c.in-Parse.is) in
     let right : (bytes : List ℕ) → IsTextOf task held.items text bytes
     → IfOk c.parse_reply.result (λ line. IsPrinted task held.items bytes (line_bytes line) (status_code line.status)) =

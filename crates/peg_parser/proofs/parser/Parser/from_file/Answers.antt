@@ -1,26 +1,131 @@
-use Rattle.std.proofs.Common.{length}
-use Rattle.std.proofs.lemmas.Result.{IfErr-weaker}
-use Rattle.peg_parser.specs.Faults.{RefusalMeaning, HasCause}
+use Rattle.std.proofs.Common.{◌≡◌, ℕ, ◌<◌, ◌≤◌, ◌∙◌, All, Err, List, ap, length, subst, sym}
+use Rattle.peg_check.specs.Verdicts.{NamesRules}
+use Rattle.peg_code.specs.Code.{program_code}
+use Rattle.peg_code.specs.Compiled.{max_instructions}
+use Rattle.peg_core.specs.CoreParts.{AreCoreFormsOf}
+use Rattle.peg_core.specs.Layout.{bodies_of}
+use Rattle.peg_grammar.specs.GrammarRules.{rules_in}
+use Rattle.peg_grammar.specs.Written.{rules_of}
+use Rattle.peg_notation.specs.Spans.{RuleLiesIn}
+use Rattle.peg_semantics.specs.Rules.{Rule}
+use Rattle.peg_parser.specs.Accepts.{IsRead, IsAcceptedGrammar}
+use Rattle.peg_parser.specs.Faults.{HasCause, of_code, of_grammar, of_notation}
 use Rattle.peg_parser.specs.Refusals.{IsRefusalOf}
-use Rattle.peg_parser.proofs.AcceptLemmas.{accepted-whole, told-early, told-means}
+use Rattle.peg_parser.proofs.AcceptLemmas.{accepted-whole, told-check, told-code, told-early, told-error, told-grammar, told-meaning, told-means, told-notation}
 use Rattle.peg_parser.proofs.parser.Parser.from_file.Goals as goal
+use Rattle.peg_parser.proofs.parser.Parser.from_file.Goals.{After-from_check, In_err-definitions, In_err-grammar, In_ok-grammar, In_ok-core}
 
-pub returns-in-Ok-clause-accepted : goal.returns-in-Ok-clause-accepted
-returns-in-Ok-clause-accepted c =
-    accepted-whole c.args.file.now c.in-Ok.grammar c.from_grammar.result c.in-Ok.ensures.read c.in-Ok.ensures.taken
-    c.from_grammar.ensures.rules c.from_grammar.ensures.well_formed c.from_grammar.ensures.small
+-- the grammar of a file
+record Known (file : List ℕ) (rules : List Rule) : Type 0 where
+  read : IsRead file rules
+  taken : IsAcceptedGrammar rules
+  inside : All (RuleLiesIn (length file)) rules
 
-pub returns-in-Ok-clause-wrong : goal.returns-in-Ok-clause-wrong
-returns-in-Ok-clause-wrong c =
+known : (c : In_ok-grammar) → Known c.args.file.now (rules_in c.in_ok-grammar.grammar)
+known c = subst (Known c.args.file.now) (sym c.in_ok-grammar.ensures.rules) (record {
+  read = record { within = c.in_ok-definitions.ensures.reads.0; reading = c.in_ok-definitions.ensures.reads.1 };
+  taken = record { grammar = c.in_ok-grammar.ensures.grammar; light = c.in_ok-grammar.ensures.light };
+  inside = c.in_ok-definitions.ensures.inside;
+})
+
+-- the core forms are the grammar's
+are : (c : In_ok-core) → AreCoreFormsOf (rules_in c.in_ok-grammar.grammar) c.in_ok-core.core
+are c = record { forms = c.in_ok-core.ensures.forms; bodies = c.in_ok-core.ensures.bodies }
+
+-- ---- the causes of the faults
+
+notation : (c : In_err-definitions)
+    → HasCause (IsRefusalOf c.args.file.now) (length c.args.file.now) (of_notation c.in_err-definitions.field-0.0)
+notation c =
     let file = c.args.file.now in
-    IfErr-weaker c.from_grammar.result (HasCause (IsRefusalOf file) (length file)) (RefusalMeaning file) (told-means file (length file))
-    (c.from_grammar.ensures.refused file c.in-Ok.ensures.read c.in-Ok.ensures.taken c.in-Ok.ensures.inside)
+    let why = c.in_err-definitions.field-0.0 in
+    told-early file (length file) (of_notation why)
+    (told-notation file why c.in_err-definitions.ensures.reads c.in_err-definitions.ensures.inside)
+
+no_grammar : (c : In_err-grammar)
+    → HasCause (IsRefusalOf c.args.file.now) (length c.args.file.now) (of_grammar c.in_err-grammar.field-0.0)
+no_grammar c =
+    let file = c.args.file.now in
+    let why = c.in_err-grammar.field-0.0 in
+    told-early file (length file) (of_grammar why)
+    (told-grammar file (rules_of c.in_ok-definitions.definitions.items) why
+    record { within = c.in_ok-definitions.ensures.reads.0; reading = c.in_ok-definitions.ensures.reads.1 }
+    c.in_ok-definitions.ensures.inside c.in_err-grammar.ensures.refused)
+
+-- ---- the clauses
+
+pub returns-in_err-definitions-clause-refused : goal.returns-in_err-definitions-clause-refused
+returns-in_err-definitions-clause-refused c =
+    let file = c.args.file.now in
+    told-error (IsRefusalOf file) (length file) c.from_residual.result (of_notation c.in_err-definitions.field-0.0)
+    c.from_residual.ensures.1 (notation (goal.at.returns-in_err-definitions-clause-refused c).In_err-definitions)
+
+pub returns-in_err-definitions-clause-wrong : goal.returns-in_err-definitions-clause-wrong
+returns-in_err-definitions-clause-wrong c =
+    told-meaning c.args.file.now c.from_residual.result (of_notation c.in_err-definitions.field-0.0)
+    c.from_residual.ensures.1 (notation (goal.at.returns-in_err-definitions-clause-wrong c).In_err-definitions)
+
+pub returns-in_err-grammar-clause-refused : goal.returns-in_err-grammar-clause-refused
+returns-in_err-grammar-clause-refused c =
+    let file = c.args.file.now in
+    told-error (IsRefusalOf file) (length file) c.from_residual-in_err-grammar.result (of_grammar c.in_err-grammar.field-0.0)
+    c.from_residual-in_err-grammar.ensures.1 (no_grammar (goal.at.returns-in_err-grammar-clause-refused c).In_err-grammar)
+
+pub returns-in_err-grammar-clause-wrong : goal.returns-in_err-grammar-clause-wrong
+returns-in_err-grammar-clause-wrong c =
+    told-meaning c.args.file.now c.from_residual-in_err-grammar.result (of_grammar c.in_err-grammar.field-0.0)
+    c.from_residual-in_err-grammar.ensures.1 (no_grammar (goal.at.returns-in_err-grammar-clause-wrong c).In_err-grammar)
+
+-- the fault of the check is a refusal of the file
+no_check : (c : After-from_check) → Known c.args.file.now (rules_in c.in_ok-grammar.grammar)
+    → AreCoreFormsOf (rules_in c.in_ok-grammar.grammar) c.in_ok-core.core
+    → HasCause (IsRefusalOf c.args.file.now) (length c.args.file.now) c.from_check.result
+no_check c of_file forms =
+    let file = c.args.file.now in
+    let grammar = c.in_ok-grammar.grammar in
+    let fault = c.in-Err.fault in
+    let named = subst (λ (n : ℕ). NamesRules n fault) c.in_ok-core.ensures.count c.in-Err.ensures.named in
+    subst (HasCause (IsRefusalOf file) (length file)) (sym c.from_check.ensures)
+    (told-check file grammar fault (c.in-Err.ensures.grammar_refused (rules_in grammar) forms) named of_file.read
+    of_file.taken of_file.inside)
 
 pub returns-in-Err-clause-refused : goal.returns-in-Err-clause-refused
 returns-in-Err-clause-refused c =
-    told-early c.args.file.now (length c.args.file.now) c.in-Err.refusal c.in-Err.ensures.refused
+    no_check c (known (goal.at.returns-in-Err-clause-refused c).In_ok-grammar)
+    (are (goal.at.returns-in-Err-clause-refused c).In_ok-core)
 
 pub returns-in-Err-clause-wrong : goal.returns-in-Err-clause-wrong
 returns-in-Err-clause-wrong c =
+    told-means c.args.file.now (length c.args.file.now) c.from_check.result
+    (no_check c (known (goal.at.returns-in-Err-clause-wrong c).In_ok-grammar)
+    (are (goal.at.returns-in-Err-clause-wrong c).In_ok-core))
+
+-- the compiler's fault is a refusal of the file
+pub returns-in_err-program-in-Ok-clause-refused : goal.returns-in_err-program-in-Ok-clause-refused
+returns-in_err-program-in-Ok-clause-refused c =
     let file = c.args.file.now in
-    told-means file (length file) c.in-Err.refusal (told-early file (length file) c.in-Err.refusal c.in-Err.ensures.refused)
+    let rules = rules_in c.in_ok-grammar.grammar in
+    let why = c.in_err-program-in-Ok.field-0.0 in
+    let of_file = known (goal.at.returns-in_err-program-in-Ok-clause-refused c).In_ok-grammar in
+    let forms = are (goal.at.returns-in_err-program-in-Ok-clause-refused c).In_ok-core in
+    let bodies = ap bodies_of c.in-Ok.ensures.accepted ∙ c.in_ok-core.ensures.bodies in
+    told-error (IsRefusalOf file) (length file) c.from_residual-in_err-program-in-Ok.result (of_code why)
+    c.from_residual-in_err-program-in-Ok.ensures.1
+    (told-code file rules why of_file.read of_file.taken (c.in-Ok.ensures.grammar rules forms)
+    (λ large. subst (λ bodies. max_instructions < length (program_code bodies)) bodies
+    (c.in_err-program-in-Ok.ensures.too_large (ap Err large))))
+
+pub from_program-requires-clause-well_formed : goal.from_program-requires-clause-well_formed
+from_program-requires-clause-well_formed c =
+    c.in-Ok.ensures.grammar (rules_in c.in_ok-grammar.grammar)
+    (are (goal.at.from_program-requires-clause-well_formed c).In_ok-core)
+
+pub returns-in_ok-program-in-Ok-clause-accepted : goal.returns-in_ok-program-in-Ok-clause-accepted
+returns-in_ok-program-in-Ok-clause-accepted c =
+    let rules = rules_in c.in_ok-grammar.grammar in
+    let of_file = known (goal.at.returns-in_ok-program-in-Ok-clause-accepted c).In_ok-grammar in
+    let forms = are (goal.at.returns-in_ok-program-in-Ok-clause-accepted c).In_ok-core in
+    let bodies = ap bodies_of c.in-Ok.ensures.accepted ∙ c.in_ok-core.ensures.bodies in
+    accepted-whole c.args.file.now rules c.from_program.result of_file.read of_file.taken c.from_program.ensures.rules
+    (c.in-Ok.ensures.grammar rules forms)
+    (subst (λ bodies. length (program_code bodies) ≤ max_instructions) bodies c.in_ok-program-in-Ok.ensures.within)

@@ -1,7 +1,7 @@
 use Rattle.std.proofs.Common.{◌≡◌, ◌+◌, ◌++◌, [], List, ℕ, false, length}
 use Rattle.std.specs.Io.KnownBytes.{Appends}
 use Rattle.peg_tree.specs.FlatTreeLeft.{piece_of, text_left}
-use Rattle.peg_tool.proofs.write.write_rows.Given as goal
+use Rattle.peg_tool.proofs.write.write_pieces.Given as goal
 
 -- the bytes written, the piece and the rest are the text
 abbrev pub invariant-pieces : goal.invariant-pieces

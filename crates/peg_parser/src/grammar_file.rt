@@ -1,10 +1,5 @@
-//! The stages of a grammar file: reading, its grammar, the check.
-ghost use Rattle.std.specs.Prelude.{◌≡◌, All, IfOk, IfErr, OnOk, length};
-ghost use Rattle.peg_check.specs.Verdicts.{IsIllFormedBy, NamesRules};
-ghost use Rattle.peg_core.specs.CoreForm.{core_bodies};
-ghost use Rattle.peg_core.specs.Layout.{bodies_of};
-ghost use Rattle.peg_semantics.specs.Terminals.{extents_of_terminals};
-ghost use Rattle.peg_semantics.specs.WellFormed.{IsWellFormedGrammar};
+//! Grammars of files that need not be well-formed.
+ghost use Rattle.std.specs.Prelude.{All, IfOk, IfErr, length};
 ghost use Rattle.peg_grammar.specs.GrammarRules.{rules_in};
 ghost use Rattle.peg_notation.specs.Spans.{RuleLiesIn};
 ghost use Rattle.peg_parser.specs.Accepts.{IsRead, IsAcceptedGrammar};
@@ -12,8 +7,6 @@ ghost use Rattle.peg_parser.specs.Faults.{HasCause};
 ghost use Rattle.peg_parser.specs.Refusals.{IsNoGrammar};
 
 use crate::refusal::Refusal;
-use peg_check::{CheckFault, Checked, check};
-use peg_core::desugar;
 use peg_grammar::Grammar;
 use peg_notation::read;
 use std::alloc::Global;
@@ -30,16 +23,4 @@ pub fn grammar_of(alloc: Global, file: &[u8]) -> Result<Grammar, Refusal>
     let definitions = read(alloc, file)?;
     let grammar = Grammar::new(alloc, definitions)?;
     Ok(grammar)
-}
-
-/// Returns the checked core forms of a grammar, or why it isn't well-formed.
-pub(crate) fn checked_core(alloc: Global, grammar: &Grammar) -> Result<Checked, CheckFault>
-    ensures well_formed { OnOk result (IsWellFormedGrammar (rules_in grammar.now)) }
-    ensures bodies { IfOk result (λ checked. bodies_of checked.core ≡ core_bodies (rules_in grammar.now)) }
-    ensures spans { IfOk result (λ checked. checked.core.spans ≡ extents_of_terminals (rules_in grammar.now)) }
-    ensures refused { IfErr result (IsIllFormedBy (rules_in grammar.now)) }
-    ensures named { IfErr result (NamesRules (length (rules_in grammar.now))) }
-{
-    let core = desugar(alloc, grammar)?;
-    check(alloc, core)
 }

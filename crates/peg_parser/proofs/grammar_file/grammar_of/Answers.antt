@@ -3,7 +3,7 @@ use Rattle.peg_grammar.specs.Written.{rules_of}
 use Rattle.peg_parser.specs.Faults.{of_notation, of_grammar}
 use Rattle.peg_parser.specs.Refusals.{IsNoGrammar}
 use Rattle.peg_parser.proofs.AcceptLemmas.{told-error, told-notation, told-grammar}
-use Rattle.peg_parser.proofs.layers.grammar_of.Goals as goal
+use Rattle.peg_parser.proofs.grammar_file.grammar_of.Goals as goal
 
 pub returns-in_err-definitions-clause-refused : goal.returns-in_err-definitions-clause-refused
 returns-in_err-definitions-clause-refused c =
