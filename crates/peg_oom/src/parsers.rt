@@ -8,7 +8,7 @@ use peg_parser::{
 use std::alloc::{AllocError, Global};
 use std::io;
 
-pub(crate) const WORDS: [&str; 16] = [
+pub(crate) const WORDS: [&str; 17] = [
     "grammar_of",
     "grammar_of_missing",
     "from_file",
@@ -20,6 +20,7 @@ pub(crate) const WORDS: [&str; 16] = [
     "from_file_large",
     "names",
     "parse",
+    "parse_first_run",
     "parse_memo_1",
     "parse_memo",
     "parse_no_start",
@@ -36,10 +37,11 @@ pub(crate) fn call(rt: &impl Print, alloc: Global, word: &str) -> io::Result<boo
         "grammar_of" => spelled(rt, alloc, COUNTS)?,
         "grammar_of_missing" => spelled(rt, alloc, MISSING)?,
         "names" => names(rt, alloc)?,
-        "parse" => parsed(rt, alloc, None, 0)?,
-        "parse_memo_1" => parsed(rt, alloc, None, 1)?,
-        "parse_memo" => parsed(rt, alloc, Some("A"), DEFAULT_MEMO)?,
-        "parse_no_start" => parsed(rt, alloc, Some("B"), DEFAULT_MEMO)?,
+        "parse" => parsed(rt, alloc, FEW, None, 0)?,
+        "parse_first_run" => parsed(rt, alloc, FEW, None, DEFAULT_MEMO)?,
+        "parse_memo_1" => parsed(rt, alloc, MANY, None, 1)?,
+        "parse_memo" => parsed(rt, alloc, MANY, Some("A"), DEFAULT_MEMO)?,
+        "parse_no_start" => parsed(rt, alloc, FEW, Some("B"), DEFAULT_MEMO)?,
         "read_by_figure" => figured(rt, alloc, COUNTS)?,
         "read_by_figure_fault" => figured(rt, alloc, OPEN)?,
         _ => return Ok(false),
@@ -104,10 +106,21 @@ pub(crate) fn parser(alloc: Global, file: &[u8]) -> Result<Parser, AllocError> {
     }
 }
 
+// Parentheses that a parse matches without a memo, and so many that it needs the memo.
+const FEW: &[u8] = b"((((a)y)y)y)y";
+
+const MANY: &[u8] = b"((((((((((a)y)y)y)y)y)y)y)y)y)y";
+
 // The steps aren't printed: a result that couldn't be stored is computed again.
-fn parsed(rt: &impl Print, alloc: Global, start: Option<&str>, memo: u32) -> io::Result<()> {
+fn parsed(
+    rt: &impl Print,
+    alloc: Global,
+    text: &[u8],
+    start: Option<&str>,
+    memo: u32,
+) -> io::Result<()> {
     let parser = parser(alloc, PREFIX)?;
-    let text = b"((((a)y)y)y)y".to_vec(alloc)?;
+    let text = text.to_vec(alloc)?;
     let borrowed = (parser.grammar(), parser.program(), &text);
     let borrowed = Borrowed::of(alloc, &borrowed)?;
     let steps = None;

@@ -130,6 +130,35 @@ fn a_memo_saves_what_parentheses_take_twice(rt: HostRuntime) -> Result<(), Fail>
     Ok(())
 }
 
+// Parentheses by count, the steps of a parse with a memo, those that the memo alone needs, and one less. Without a memo a count of
+// n takes 18 * 2^n - 11 steps, and with one 12 * n + 7. The run without a memo may take 4,096 steps and 256 for each of
+// the 3 * n + 1 bytes: 11,264 for 9 and 12,032 for 10. Nine parentheses take 9,205 steps, and ten take 18,421.
+const FIRST_RUN: [(usize, u64, u64, u64); 2] = [(9, 9205, 115, 114), (10, 127, 127, 126)];
+
+#[test]
+fn a_parse_runs_without_a_memo_first(rt: HostRuntime) -> Result<(), Fail> {
+    let alloc = rt.alloc();
+    let parser = Parser::from_file(alloc, TWICE)?;
+    for (count, steps, with_memo, fewer) in FIRST_RUN {
+        let text = nest(alloc, count, "(", b"a", ")y")?;
+        let free = ParseOptions {
+            start: None,
+            memo: 4096,
+            steps: None,
+        };
+        assert_eq!(rt; parser.parse(alloc, &text, &free)?.steps, steps);
+        assert_eq!(rt;
+            parser.parse(alloc, &text, &options(4096, steps))?.steps,
+            steps
+        );
+        let answer = parser.parse(alloc, &text, &options(4096, with_memo))?;
+        assert_eq!(rt; answer.steps, with_memo);
+        let fault = parser.parse(alloc, &text, &options(4096, fewer)).err();
+        assert_eq!(rt; fault, Some(ParseFault::StepLimit));
+    }
+    Ok(())
+}
+
 #[test]
 fn a_limit_ends_what_would_not_end_in_time(rt: HostRuntime) -> Result<(), Fail> {
     let text = nest(rt.alloc(), 100, "(", b"a", ")y")?;

@@ -8,6 +8,7 @@ ghost use Rattle.peg_core.specs.Layout.{bodies_of};
 ghost use Rattle.peg_code.specs.Code.{entries_of, program_code};
 ghost use Rattle.peg_code.specs.Compiled.{max_instructions};
 ghost use Rattle.peg_grammar.specs.GrammarRules.{rules_in};
+ghost use Rattle.peg_grammar.specs.Limits.{max_text_bytes};
 ghost use Rattle.peg_grammar.specs.Outcomes.{IsParseOutcome};
 ghost use Rattle.peg_semantics.specs.Terminals.{extents_of_terminals};
 ghost use Rattle.peg_semantics.specs.WellFormed.{IsWellFormedGrammar};
@@ -68,6 +69,24 @@ impl From<AllocError> for ParseFault {
     }
 }
 
+// A parse runs without a memo first, with at most this many steps and so many more for each byte of the text. Ordinary
+// grammars take 3 to 40 steps for each byte, and chains of precedence up to 175.
+const PLAIN_STEPS_BASE: u64 = 4_096;
+
+const PLAIN_STEPS_PER_BYTE: u64 = 256;
+
+// The step limit of the run without a memo: at most the limit of the parse.
+fn plain_steps(bytes: usize, max_steps: Option<u64>) -> u64
+    requires { bytes ≤ max_text_bytes }
+    ensures { (limit : ℕ) → max_steps ≡ Some limit → result ≤ limit }
+{
+    let plain = PLAIN_STEPS_BASE + PLAIN_STEPS_PER_BYTE * bytes as u64;
+    match max_steps {
+        Some(limit) => limit.min(plain),
+        None => plain,
+    }
+}
+
 impl Parser {
     ghost use Rattle.peg_semantics.specs.Rules.{name_of};
     ghost use Rattle.peg_notation.specs.Spans.{RuleLiesIn};
@@ -78,7 +97,6 @@ impl Parser {
     ghost use Rattle.peg_parser.specs.ProgramOf.{IsProgramOf};
     ghost use Rattle.peg_parser.specs.Refusals.{IsRefusalOf};
     ghost use Rattle.peg_parser.specs.StepLimits.{TakesMoreSteps};
-    ghost use Rattle.peg_grammar.specs.Limits.{max_text_bytes};
     ghost use Rattle.peg_semantics.specs.Starts.{start_name};
 
     /// Returns the parser of a grammar file, or why the file is rejected. The tests come in this order: the notation,
@@ -163,6 +181,9 @@ impl Parser {
     /// are those of Ford's recognition relation for the grammar as written (Ford 2004, section 3.3). What the memo
     /// stores doesn't change them (Ford 2002).
     ///
+    /// With a memo, the parse runs without it first, within 4,096 steps and 256 for each byte of the text. If these are
+    /// not enough, it runs again with the memo. The steps of the answer are those of the run that gave it.
+    ///
     /// Returns `NoSuchStart` first, then `TextTooLong`. Returns `StepLimit` only if more steps than `options.steps`
     /// are needed, and `Memory` if an allocation fails. Without a memo, or with one too small, the time may be
     /// exponential in the text's length. No native recursion.
@@ -194,8 +215,37 @@ impl Parser {
         if options.memo == 0 || text.len() > MAX_TEXT_BYTES {
             return self.answer(alloc, text, start, &mut NoMemo, options.steps);
         }
-        let mut memo = SelectiveMemo::new(alloc, options.memo, &self.costs, text)?;
-        self.answer(alloc, text, start, &mut memo, options.steps)
+        let plain_steps = plain_steps(text.len(), options.steps);
+        match self.answer(alloc, text, start, &mut NoMemo, Some(plain_steps)) {
+            Err(ParseFault::StepLimit) => {
+                self.answer_with_memo(alloc, text, start, options.memo, options.steps)
+            }
+            result => result,
+        }
+    }
+
+    // Runs the machine on a text from a rule, with a memo of this capacity.
+    fn answer_with_memo(
+        &self,
+        alloc: Global,
+        text: &[u8],
+        start: u32,
+        capacity: u32,
+        max_steps: Option<u64>,
+    ) -> Result<Answer, ParseFault>
+        requires start { start < length (parser_rules self.now) }
+        requires capacity { 1 ≤ capacity }
+        ensures started { ¬ IsErrOf result ParseFault.NoSuchStart }
+        ensures long { IsErrOf result ParseFault.TextTooLong → max_text_bytes < length text.now }
+        ensures short { OnOk result (length text.now ≤ max_text_bytes) }
+        ensures outcome { IfOk result (λ answer. IsParseOutcome (parser_rules self.now) text.now
+            (name_of (parser_rules self.now) start) answer.outcome) }
+        ensures allowed { IfOk result (λ answer. (limit : ℕ) → max_steps ≡ Some limit → answer.steps ≤ limit) }
+        ensures limited { IsErrOf result ParseFault.StepLimit
+            → ExceedsStepLimit (core_bodies (parser_rules self.now)) text.now start max_steps }
+    {
+        let mut memo = SelectiveMemo::new(alloc, capacity, &self.costs, text)?;
+        self.answer(alloc, text, start, &mut memo, max_steps)
     }
 
     // Runs the machine on a text from a rule, with an empty memo.

@@ -1,4 +1,4 @@
-use Rattle.std.proofs.Common.{◌∙◌, ap, List, ℕ, Result, Ok, Err, IfOk}
+use Rattle.std.proofs.Common.{List, ℕ, Result, Ok, Err, IfOk}
 use Rattle.std.proofs.lemmas.Result.{on_ok_weaker}
 use Rattle.std.specs.FinMap.{len, len-empty}
 use Rattle.peg_semantics.specs.Rules.{name_of}
@@ -26,15 +26,19 @@ pub answer-requires-clause-empty : goal.answer-requires-clause-empty
 answer-requires-clause-empty c = len-empty key_cmp StoredResult
 
 pub answer-requires-2-clause-empty : goal.answer-requires-2-clause-empty
-answer-requires-2-clause-empty c = ap len c.in_ok-memo.ensures ∙ len-empty key_cmp StoredResult
+answer-requires-2-clause-empty c = len-empty key_cmp StoredResult
 
 pub returns-then-options-eq0-clause-fits : goal.returns-then-options-eq0-clause-fits
 returns-then-options-eq0-clause-fits c =
     fits c.args.self.now c.args.text.now c.in-Some.start c.answer.result c.answer.ensures.outcome
 
-pub returns-clause-fits : goal.returns-clause-fits
-returns-clause-fits c =
+pub returns-in_default-answer-2-clause-fits : goal.returns-in_default-answer-2-clause-fits
+returns-in_default-answer-2-clause-fits c =
     fits c.args.self.now c.args.text.now c.in-Some.start c.answer-2.result c.answer-2.ensures.outcome
+
+pub returns-in-Err-StepLimit-clause-fits : goal.returns-in-Err-StepLimit-clause-fits
+returns-in-Err-StepLimit-clause-fits c =
+    fits c.args.self.now c.args.text.now c.in-Some.start c.answer_with_memo.result c.answer_with_memo.ensures.outcome
 
 pub returns-then-options-eq0-clause-limited : goal.returns-then-options-eq0-clause-limited
 returns-then-options-eq0-clause-limited c is =
@@ -48,7 +52,7 @@ returns-then-options-eq0-clause-enough c none =
     (start_named c.args.options.now) c.in-Some.start c.args.options.now.steps c.in-Some.ensures.some
     c.in-Some.ensures.named more)) (c.answer.ensures.enough (λ any. len-empty key_cmp StoredResult))
 
-pub returns-clause-limited : goal.returns-clause-limited
-returns-clause-limited c is =
+pub returns-in-Err-StepLimit-clause-limited : goal.returns-in-Err-StepLimit-clause-limited
+returns-in-Err-StepLimit-clause-limited c is =
     of-start c.args.self.now c.args.text.now (start_named c.args.options.now) c.in-Some.start c.args.options.now.steps
-    c.in-Some.ensures.some c.in-Some.ensures.named (c.answer-2.ensures.limited is)
+    c.in-Some.ensures.some c.in-Some.ensures.named (c.answer_with_memo.ensures.limited is)
