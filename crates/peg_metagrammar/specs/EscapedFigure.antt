@@ -13,8 +13,10 @@ use Rattle.peg_metagrammar.specs.Denotation.{rules_spelled}
 -- Suffix <- Primary (QUESTION / STAR / PLUS)?
 unfoldable pub escaped_suffix : Form
 escaped_suffix = Seq (forms (Name (codes "Primary") (on_line suffix_rule 10 17) ∷ Optional
-    (Choice (Name (codes "QUESTION") (on_line suffix_rule 19 27)) (forms (Name (codes "STAR") (on_line suffix_rule 30 34) ∷
-    Name (codes "PLUS") (on_line suffix_rule 37 41) ∷ [])) (on_line suffix_rule 19 41)) (on_line suffix_rule 18 43) ∷ [])) (on_line suffix_rule 10 43)
+    (Choice (Name (codes "QUESTION") (on_line suffix_rule 19 27)) (forms (Name (codes "STAR")
+    (on_line suffix_rule 30 34) ∷
+    Name (codes "PLUS") (on_line suffix_rule 37 41) ∷ [])) (on_line suffix_rule 19 41))
+    (on_line suffix_rule 18 43) ∷ [])) (on_line suffix_rule 10 43)
 
 -- a rule, with its expression replaced if its name is Suffix
 abbrev pub with_suffix_body : Form → Rule → Rule

@@ -22,18 +22,22 @@ on_line rule start end = between (line_start rule + start) (line_start rule + en
 
 -- Grammar <- Spacing Definition+ EndOfFile
 unfoldable pub grammar_body : Form
-grammar_body = Seq (forms (Name (codes "Spacing") (on_line grammar_rule 11 18) ∷ Plus (Name (codes "Definition") (on_line grammar_rule 19 29))
-    (on_line grammar_rule 19 30) ∷ Name (codes "EndOfFile") (on_line grammar_rule 31 40) ∷ [])) (on_line grammar_rule 11 40)
+grammar_body = Seq (forms (Name (codes "Spacing") (on_line grammar_rule 11 18) ∷
+    Plus (Name (codes "Definition") (on_line grammar_rule 19 29))
+    (on_line grammar_rule 19 30) ∷ Name (codes "EndOfFile") (on_line grammar_rule 31 40) ∷ []))
+    (on_line grammar_rule 11 40)
 
 -- Definition <- Identifier LEFTARROW Expression
 unfoldable pub definition_body : Form
-definition_body = Seq (forms (Name (codes "Identifier") (on_line definition_rule 14 24) ∷ Name (codes "LEFTARROW") (on_line definition_rule 25 34) ∷
+definition_body = Seq (forms (Name (codes "Identifier") (on_line definition_rule 14 24) ∷
+    Name (codes "LEFTARROW") (on_line definition_rule 25 34) ∷
     Name (codes "Expression") (on_line definition_rule 35 45) ∷ [])) (on_line definition_rule 14 45)
 
 -- Expression <- Sequence (SLASH Sequence)*
 unfoldable pub expression_body : Form
 expression_body = Seq (forms (Name (codes "Sequence") (on_line expression_rule 14 22) ∷
-    Star (Seq (forms (Name (codes "SLASH") (on_line expression_rule 24 29) ∷ Name (codes "Sequence") (on_line expression_rule 30 38) ∷
+    Star (Seq (forms (Name (codes "SLASH") (on_line expression_rule 24 29) ∷ Name (codes "Sequence")
+    (on_line expression_rule 30 38) ∷
     [])) (on_line expression_rule 24 38)) (on_line expression_rule 23 40) ∷ [])) (on_line expression_rule 14 40)
 
 -- Sequence <- Prefix*
@@ -43,35 +47,42 @@ sequence_body = Star (Name (codes "Prefix") (on_line sequence_rule 12 18)) (on_l
 -- Prefix <- (AND / NOT)? Suffix
 unfoldable pub prefix_body : Form
 prefix_body = Seq (forms (Optional (Choice (Name (codes "AND") (on_line prefix_rule 11 14))
-    (forms (Name (codes "NOT") (on_line prefix_rule 17 20) ∷ [])) (on_line prefix_rule 11 20)) (on_line prefix_rule 10 22) ∷
+    (forms (Name (codes "NOT") (on_line prefix_rule 17 20) ∷ [])) (on_line prefix_rule 11 20))
+    (on_line prefix_rule 10 22) ∷
     Name (codes "Suffix") (on_line prefix_rule 23 29) ∷ [])) (on_line prefix_rule 10 29)
 
 -- Suffix <- Primary (QUESTION / STAR / PLUS / COUNT)?
 unfoldable pub suffix_body : Form
 suffix_body = Seq (forms (Name (codes "Primary") (on_line suffix_rule 10 17) ∷ Optional
-    (Choice (Name (codes "QUESTION") (on_line suffix_rule 19 27)) (forms (Name (codes "STAR") (on_line suffix_rule 30 34) ∷
-    Name (codes "PLUS") (on_line suffix_rule 37 41) ∷ Name (codes "COUNT") (on_line suffix_rule 44 49) ∷ [])) (on_line suffix_rule 19 49))
+    (Choice (Name (codes "QUESTION") (on_line suffix_rule 19 27)) (forms (Name (codes "STAR")
+    (on_line suffix_rule 30 34) ∷
+    Name (codes "PLUS") (on_line suffix_rule 37 41) ∷ Name (codes "COUNT") (on_line suffix_rule 44 49) ∷
+    [])) (on_line suffix_rule 19 49))
     (on_line suffix_rule 18 51) ∷ [])) (on_line suffix_rule 10 51)
 
 -- Identifier !LEFTARROW
 abbrev pub primary_name : Form
 primary_name = Seq (forms (Name (codes "Identifier") (on_line primary_rule 11 21) ∷
-    Not (Name (codes "LEFTARROW") (on_line primary_rule 23 32)) (on_line primary_rule 22 32) ∷ [])) (on_line primary_rule 11 32)
+    Not (Name (codes "LEFTARROW") (on_line primary_rule 23 32)) (on_line primary_rule 22 32) ∷ []))
+    (on_line primary_rule 11 32)
 
 -- OPEN Expression CLOSE
 abbrev pub primary_parentheses : Form
-primary_parentheses = Seq (forms (Name (codes "OPEN") (on_line primary_rule 35 39) ∷ Name (codes "Expression") (on_line primary_rule 40 50) ∷
+primary_parentheses = Seq (forms (Name (codes "OPEN") (on_line primary_rule 35 39) ∷
+    Name (codes "Expression") (on_line primary_rule 40 50) ∷
     Name (codes "CLOSE") (on_line primary_rule 51 56) ∷ [])) (on_line primary_rule 35 56)
 
 -- Primary <- Identifier !LEFTARROW / OPEN Expression CLOSE / Literal / Class / DOT
 unfoldable pub primary_body : Form
 primary_body = Choice primary_name (forms (primary_parentheses ∷ Name (codes "Literal") (on_line primary_rule 59 66) ∷
-    Name (codes "Class") (on_line primary_rule 69 74) ∷ Name (codes "DOT") (on_line primary_rule 77 80) ∷ [])) (on_line primary_rule 11 80)
+    Name (codes "Class") (on_line primary_rule 69 74) ∷ Name (codes "DOT") (on_line primary_rule 77 80) ∷
+    [])) (on_line primary_rule 11 80)
 
 -- Identifier <- IdentStart IdentCont* Spacing
 unfoldable pub identifier_body : Form
 identifier_body = Seq (forms (Name (codes "IdentStart") (on_line identifier_rule 14 24) ∷
-    Star (Name (codes "IdentCont") (on_line identifier_rule 25 34)) (on_line identifier_rule 25 35) ∷ Name (codes "Spacing") (on_line identifier_rule 36 43) ∷
+    Star (Name (codes "IdentCont") (on_line identifier_rule 25 34)) (on_line identifier_rule 25 35) ∷
+    Name (codes "Spacing") (on_line identifier_rule 36 43) ∷
     [])) (on_line identifier_rule 14 43)
 
 -- IdentStart <- [a-zA-Z_]
@@ -86,17 +97,21 @@ ident_cont_body = Choice (Name (codes "IdentStart") (on_line ident_cont_rule 13 
 -- ['] (!['] Char)* ['] Spacing
 abbrev pub literal_single : Form
 literal_single = Seq (forms (Class (class_of (range 39 39 ∷ [])) (on_line literal_rule 11 14) ∷
-    Star (Seq (forms (Not (Class (class_of (range 39 39 ∷ [])) (on_line literal_rule 17 20)) (on_line literal_rule 16 20) ∷
+    Star (Seq (forms (Not (Class (class_of (range 39 39 ∷ [])) (on_line literal_rule 17 20))
+    (on_line literal_rule 16 20) ∷
     Name (codes "Char") (on_line literal_rule 21 25) ∷ [])) (on_line literal_rule 16 25)) (on_line literal_rule 15 27) ∷
-    Class (class_of (range 39 39 ∷ [])) (on_line literal_rule 28 31) ∷ Name (codes "Spacing") (on_line literal_rule 32 39) ∷
+    Class (class_of (range 39 39 ∷ [])) (on_line literal_rule 28 31) ∷ Name (codes "Spacing")
+    (on_line literal_rule 32 39) ∷
     [])) (on_line literal_rule 11 39)
 
 -- ["] (!["] Char)* ["] Spacing
 abbrev pub literal_double : Form
 literal_double = Seq (forms (Class (class_of (range 34 34 ∷ [])) (on_line literal_rule 42 45) ∷
-    Star (Seq (forms (Not (Class (class_of (range 34 34 ∷ [])) (on_line literal_rule 48 51)) (on_line literal_rule 47 51) ∷
+    Star (Seq (forms (Not (Class (class_of (range 34 34 ∷ [])) (on_line literal_rule 48 51))
+    (on_line literal_rule 47 51) ∷
     Name (codes "Char") (on_line literal_rule 52 56) ∷ [])) (on_line literal_rule 47 56)) (on_line literal_rule 46 58) ∷
-    Class (class_of (range 34 34 ∷ [])) (on_line literal_rule 59 62) ∷ Name (codes "Spacing") (on_line literal_rule 63 70) ∷
+    Class (class_of (range 34 34 ∷ [])) (on_line literal_rule 59 62) ∷ Name (codes "Spacing")
+    (on_line literal_rule 63 70) ∷
     [])) (on_line literal_rule 42 70)
 
 -- Literal <- ['] (!['] Char)* ['] Spacing / ["] (!["] Char)* ["] Spacing
@@ -113,13 +128,16 @@ class_body = Seq (forms (Literal (codes "[") (on_line class_rule 9 12) ∷ Star
 
 -- Range <- Char '-' Char / Char
 unfoldable pub range_body : Form
-range_body = Choice (Seq (forms (Name (codes "Char") (on_line range_rule 9 13) ∷ Literal (codes "-") (on_line range_rule 14 17) ∷
-    Name (codes "Char") (on_line range_rule 18 22) ∷ [])) (on_line range_rule 9 22)) (forms (Name (codes "Char") (on_line range_rule 25 29) ∷
+range_body = Choice (Seq (forms (Name (codes "Char") (on_line range_rule 9 13) ∷ Literal (codes "-")
+    (on_line range_rule 14 17) ∷
+    Name (codes "Char") (on_line range_rule 18 22) ∷ [])) (on_line range_rule 9 22))
+    (forms (Name (codes "Char") (on_line range_rule 25 29) ∷
     [])) (on_line range_rule 9 29)
 
 -- [0-9a-fA-F], with a given span on the line of Char
 abbrev pub hexadecimal_class : (start end : ℕ) → Form
-hexadecimal_class start end = Class (class_of (range 48 57 ∷ range 97 102 ∷ range 65 70 ∷ [])) (on_line char_rule start end)
+hexadecimal_class start end = Class (class_of (range 48 57 ∷ range 97 102 ∷ range 65 70 ∷ []))
+    (on_line char_rule start end)
 
 -- '\\x' [0-9a-fA-F][0-9a-fA-F]
 abbrev pub char_hexadecimal : Form
@@ -134,19 +152,22 @@ char_sign = Seq (forms (Literal (codes "\\") (on_line char_rule 39 43) ∷
 -- '\\' [0-2][0-7][0-7]
 abbrev pub char_three_digits : Form
 char_three_digits = Seq (forms (Literal (codes "\\") (on_line char_rule 60 64) ∷
-    Class (class_of (range 48 50 ∷ [])) (on_line char_rule 65 70) ∷ Class (class_of (range 48 55 ∷ [])) (on_line char_rule 70 75) ∷
+    Class (class_of (range 48 50 ∷ [])) (on_line char_rule 65 70) ∷ Class (class_of (range 48 55 ∷ []))
+    (on_line char_rule 70 75) ∷
     Class (class_of (range 48 55 ∷ [])) (on_line char_rule 75 80) ∷ [])) (on_line char_rule 60 80)
 
 -- '\\' [0-7][0-7]?
 abbrev pub char_two_digits : Form
 char_two_digits = Seq (forms (Literal (codes "\\") (on_line char_rule 83 87) ∷
     Class (class_of (range 48 55 ∷ [])) (on_line char_rule 88 93) ∷
-    Optional (Class (class_of (range 48 55 ∷ [])) (on_line char_rule 93 98)) (on_line char_rule 93 99) ∷ [])) (on_line char_rule 83 99)
+    Optional (Class (class_of (range 48 55 ∷ [])) (on_line char_rule 93 98)) (on_line char_rule 93 99) ∷
+    [])) (on_line char_rule 83 99)
 
 -- !'\\' .
 abbrev pub char_alone : Form
 char_alone =
-    Seq (forms (Not (Literal (codes "\\") (on_line char_rule 103 107)) (on_line char_rule 102 107) ∷ Any (on_line char_rule 108 109) ∷ []))
+    Seq (forms (Not (Literal (codes "\\") (on_line char_rule 103 107)) (on_line char_rule 102 107) ∷ Any
+    (on_line char_rule 108 109) ∷ []))
     (on_line char_rule 102 109)
 
 -- Char <- '\\x' [0-9a-fA-F][0-9a-fA-F] / '\\' [nrt'"\[\]\\] / '\\' [0-2][0-7][0-7] / '\\' [0-7][0-7]? / !'\\' .
@@ -189,8 +210,10 @@ plus_body = sign_body plus_rule (codes "+") 8 11
 
 -- COUNT <- '{' Number (',' Number)? '}' Spacing
 unfoldable pub count_body : Form
-count_body = Seq (forms (Literal (codes "{") (on_line count_rule 9 12) ∷ Name (codes "Number") (on_line count_rule 13 19) ∷
-    Optional (Seq (forms (Literal (codes ",") (on_line count_rule 21 24) ∷ Name (codes "Number") (on_line count_rule 25 31) ∷ []))
+count_body = Seq (forms (Literal (codes "{") (on_line count_rule 9 12) ∷ Name (codes "Number")
+    (on_line count_rule 13 19) ∷
+    Optional (Seq (forms (Literal (codes ",") (on_line count_rule 21 24) ∷ Name (codes "Number")
+    (on_line count_rule 25 31) ∷ []))
     (on_line count_rule 21 31)) (on_line count_rule 20 33) ∷ Literal (codes "}") (on_line count_rule 34 37) ∷
     Name (codes "Spacing") (on_line count_rule 38 45) ∷ [])) (on_line count_rule 9 45)
 
@@ -212,24 +235,29 @@ dot_body = sign_body dot_rule (codes ".") 7 10
 
 -- Spacing <- (Space / Comment)*
 unfoldable pub spacing_body : Form
-spacing_body = Star (Choice (Name (codes "Space") (on_line spacing_rule 12 17)) (forms (Name (codes "Comment") (on_line spacing_rule 20 27) ∷
+spacing_body = Star (Choice (Name (codes "Space") (on_line spacing_rule 12 17))
+    (forms (Name (codes "Comment") (on_line spacing_rule 20 27) ∷
     [])) (on_line spacing_rule 12 27)) (on_line spacing_rule 11 29)
 
 -- Comment <- '#' (!EndOfLine .)* EndOfLine
 unfoldable pub comment_body : Form
 comment_body = Seq (forms (Literal (codes "#") (on_line comment_rule 11 14) ∷ Star
-    (Seq (forms (Not (Name (codes "EndOfLine") (on_line comment_rule 17 26)) (on_line comment_rule 16 26) ∷ Any (on_line comment_rule 27 28) ∷
-    [])) (on_line comment_rule 16 28)) (on_line comment_rule 15 30) ∷ Name (codes "EndOfLine") (on_line comment_rule 31 40) ∷ [])) (on_line comment_rule 11 40)
+    (Seq (forms (Not (Name (codes "EndOfLine") (on_line comment_rule 17 26)) (on_line comment_rule 16 26) ∷
+    Any (on_line comment_rule 27 28) ∷
+    [])) (on_line comment_rule 16 28)) (on_line comment_rule 15 30) ∷ Name (codes "EndOfLine")
+    (on_line comment_rule 31 40) ∷ [])) (on_line comment_rule 11 40)
 
 -- Space <- ' ' / '\t' / EndOfLine
 unfoldable pub space_body : Form
 space_body = Choice (Literal (codes " ") (on_line space_rule 9 12))
-    (forms (Literal (codes "\t") (on_line space_rule 15 19) ∷ Name (codes "EndOfLine") (on_line space_rule 22 31) ∷ [])) (on_line space_rule 9 31)
+    (forms (Literal (codes "\t") (on_line space_rule 15 19) ∷ Name (codes "EndOfLine") (on_line space_rule 22 31) ∷
+    [])) (on_line space_rule 9 31)
 
 -- EndOfLine <- '\r\n' / '\n' / '\r'
 unfoldable pub end_of_line_body : Form
 end_of_line_body = Choice (Literal (codes "\r\n") (on_line end_of_line_rule 13 19))
-    (forms (Literal (codes "\n") (on_line end_of_line_rule 22 26) ∷ Literal (codes "\r") (on_line end_of_line_rule 29 33) ∷ [])) (on_line end_of_line_rule 13 33)
+    (forms (Literal (codes "\n") (on_line end_of_line_rule 22 26) ∷ Literal (codes "\r")
+    (on_line end_of_line_rule 29 33) ∷ [])) (on_line end_of_line_rule 13 33)
 
 -- EndOfFile <- !.
 unfoldable pub end_of_file_body : Form

@@ -14,7 +14,8 @@ use Rattle.peg_metagrammar.specs.SimpleEscapes.{simple_escape}
 
 -- Char <- '\\' [nrt'"\[\]\\] / '\\' [0-2][0-7][0-7] / '\\' [0-7][0-7]? / !'\\' .
 abbrev pub printed_char : Form
-printed_char = Choice char_sign (forms (char_three_digits ∷ char_two_digits ∷ char_alone ∷ [])) (on_line char_rule 39 109)
+printed_char = Choice char_sign (forms (char_three_digits ∷ char_two_digits ∷ char_alone ∷ []))
+    (on_line char_rule 39 109)
 
 -- a rule, with this expression as its body if it is Char
 abbrev pub with_char : Form → Rule → Rule

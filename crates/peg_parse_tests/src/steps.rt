@@ -130,9 +130,11 @@ fn a_memo_saves_what_parentheses_take_twice(rt: HostRuntime) -> Result<(), Fail>
     Ok(())
 }
 
-// Parentheses by count, the steps of a parse with a memo, those that the memo alone needs, and one less. Without a memo a count of
-// n takes 18 * 2^n - 11 steps, and with one 12 * n + 7. The run without a memo may take 4,096 steps and 256 for each of
-// the 3 * n + 1 bytes: 11,264 for 9 and 12,032 for 10. Nine parentheses take 9,205 steps, and ten take 18,421.
+// Parentheses by count, the steps of a parse with a memo, those that the memo alone needs, and one less.
+//
+// Without a memo a count of n takes 18 * 2^n - 11 steps, and with one 12 * n + 7. The run without a memo may take 4,096
+// steps and 256 for each of the 3 * n + 1 bytes: 11,264 for 9 and 12,032 for 10. Nine parentheses take 9,205 steps, and
+// ten take 18,421.
 const FIRST_RUN: [(usize, u64, u64, u64); 2] = [(9, 9205, 115, 114), (10, 127, 127, 126)];
 
 #[test]
