@@ -57,16 +57,16 @@ takes-octal : (file : List ℕ) (span : Extent) → Takes file (Class (class_of 
 takes-octal file span = takes-class file _ span is_octal (has_range 48 55 (lit< tt))
 
 -- a hexadecimal digit
-takes-hexadecimal : (file : List ℕ) (start end : ℕ) → Takes file (hexadecimal_class start end) hex_digit
-takes-hexadecimal file start end = takes-class file _ _ is_hexadecimal has_hexadecimal
+takes-hexadecimal : (file : List ℕ) (line start end : ℕ) → Takes file (hexadecimal_class line start end) hex_digit
+takes-hexadecimal file line start end = takes-class file _ _ is_hexadecimal has_hexadecimal
 
 pub takes-char : (file : List ℕ) (start end : ℕ) → Takes file (Name (codes "Char") (between start end)) char
 unfolding char char_body
 takes-char file start end =
     takes-node (between start end) _ char-meaning_of.1 char-nodes
     (takes-choice _
-    (takes-or (takes-seq _ (takes-then (takes-literal_bytes file _ _) (takes-then (takes-hexadecimal file _ _)
-    (takes-last (takes-hexadecimal file _ _)))))
+    (takes-or (takes-seq _ (takes-then (takes-literal_bytes file _ _) (takes-then (takes-hexadecimal file _ _ _)
+    (takes-last (takes-hexadecimal file _ _ _)))))
     (takes-or (takes-seq _ (takes-then (takes-literal_bytes file _ _) (takes-last (takes-class file _ _ is_simple_escape has_sign))))
     (takes-or (takes-seq _ (takes-then (takes-literal_bytes file _ _) (takes-then
     (takes-class file _ _ is_leading_octal (has_range 48 50 (lit< tt)))

@@ -16,252 +16,322 @@ use Rattle.peg_metagrammar.specs.FigureRules.{space_rule, end_of_line_rule, end_
 use Rattle.peg_metagrammar.specs.Ranges.{range, class_of}
 use Rattle.peg_metagrammar.specs.SimpleEscapes.{simple_escapes, escaped_ranges}
 
--- a span of the metagrammar's text, by the rule on whose line it is and the offsets on that line
+-- a span on a line that starts at an offset, by offsets on that line
+abbrev pub line_span : (line start end : ℕ) → Extent
+line_span line start end = between (line + start) (line + end)
+
+-- a span of the metagrammar's text, by the rule on whose line it is
 abbrev pub on_line : (rule start end : ℕ) → Extent
-on_line rule start end = between (line_start rule + start) (line_start rule + end)
+on_line rule start end = line_span (line_start rule) start end
+
+-- ---- the rules, each on a line that starts at a given offset
 
 -- Grammar <- Spacing Definition+ EndOfFile
+abbrev pub grammar_on : (line : ℕ) → Form
+grammar_on line = Seq (forms (Name (codes "Spacing") (line_span line 11 18) ∷
+    Plus (Name (codes "Definition") (line_span line 19 29))
+    (line_span line 19 30) ∷ Name (codes "EndOfFile") (line_span line 31 40) ∷ []))
+    (line_span line 11 40)
+
 unfoldable pub grammar_body : Form
-grammar_body = Seq (forms (Name (codes "Spacing") (on_line grammar_rule 11 18) ∷
-    Plus (Name (codes "Definition") (on_line grammar_rule 19 29))
-    (on_line grammar_rule 19 30) ∷ Name (codes "EndOfFile") (on_line grammar_rule 31 40) ∷ []))
-    (on_line grammar_rule 11 40)
+grammar_body = grammar_on (line_start grammar_rule)
 
 -- Definition <- Identifier LEFTARROW Expression
+abbrev pub definition_on : (line : ℕ) → Form
+definition_on line = Seq (forms (Name (codes "Identifier") (line_span line 14 24) ∷
+    Name (codes "LEFTARROW") (line_span line 25 34) ∷
+    Name (codes "Expression") (line_span line 35 45) ∷ [])) (line_span line 14 45)
+
 unfoldable pub definition_body : Form
-definition_body = Seq (forms (Name (codes "Identifier") (on_line definition_rule 14 24) ∷
-    Name (codes "LEFTARROW") (on_line definition_rule 25 34) ∷
-    Name (codes "Expression") (on_line definition_rule 35 45) ∷ [])) (on_line definition_rule 14 45)
+definition_body = definition_on (line_start definition_rule)
 
 -- Expression <- Sequence (SLASH Sequence)*
+abbrev pub expression_on : (line : ℕ) → Form
+expression_on line = Seq (forms (Name (codes "Sequence") (line_span line 14 22) ∷
+    Star (Seq (forms (Name (codes "SLASH") (line_span line 24 29) ∷ Name (codes "Sequence")
+    (line_span line 30 38) ∷
+    [])) (line_span line 24 38)) (line_span line 23 40) ∷ [])) (line_span line 14 40)
+
 unfoldable pub expression_body : Form
-expression_body = Seq (forms (Name (codes "Sequence") (on_line expression_rule 14 22) ∷
-    Star (Seq (forms (Name (codes "SLASH") (on_line expression_rule 24 29) ∷ Name (codes "Sequence")
-    (on_line expression_rule 30 38) ∷
-    [])) (on_line expression_rule 24 38)) (on_line expression_rule 23 40) ∷ [])) (on_line expression_rule 14 40)
+expression_body = expression_on (line_start expression_rule)
 
 -- Sequence <- Prefix*
+abbrev pub sequence_on : (line : ℕ) → Form
+sequence_on line = Star (Name (codes "Prefix") (line_span line 12 18)) (line_span line 12 19)
+
 unfoldable pub sequence_body : Form
-sequence_body = Star (Name (codes "Prefix") (on_line sequence_rule 12 18)) (on_line sequence_rule 12 19)
+sequence_body = sequence_on (line_start sequence_rule)
 
 -- Prefix <- (AND / NOT)? Suffix
+abbrev pub prefix_on : (line : ℕ) → Form
+prefix_on line = Seq (forms (Optional (Choice (Name (codes "AND") (line_span line 11 14))
+    (forms (Name (codes "NOT") (line_span line 17 20) ∷ [])) (line_span line 11 20))
+    (line_span line 10 22) ∷
+    Name (codes "Suffix") (line_span line 23 29) ∷ [])) (line_span line 10 29)
+
 unfoldable pub prefix_body : Form
-prefix_body = Seq (forms (Optional (Choice (Name (codes "AND") (on_line prefix_rule 11 14))
-    (forms (Name (codes "NOT") (on_line prefix_rule 17 20) ∷ [])) (on_line prefix_rule 11 20))
-    (on_line prefix_rule 10 22) ∷
-    Name (codes "Suffix") (on_line prefix_rule 23 29) ∷ [])) (on_line prefix_rule 10 29)
+prefix_body = prefix_on (line_start prefix_rule)
 
 -- Suffix <- Primary (QUESTION / STAR / PLUS / COUNT)?
+abbrev pub suffix_on : (line : ℕ) → Form
+suffix_on line = Seq (forms (Name (codes "Primary") (line_span line 10 17) ∷ Optional
+    (Choice (Name (codes "QUESTION") (line_span line 19 27)) (forms (Name (codes "STAR")
+    (line_span line 30 34) ∷
+    Name (codes "PLUS") (line_span line 37 41) ∷ Name (codes "COUNT") (line_span line 44 49) ∷
+    [])) (line_span line 19 49))
+    (line_span line 18 51) ∷ [])) (line_span line 10 51)
+
 unfoldable pub suffix_body : Form
-suffix_body = Seq (forms (Name (codes "Primary") (on_line suffix_rule 10 17) ∷ Optional
-    (Choice (Name (codes "QUESTION") (on_line suffix_rule 19 27)) (forms (Name (codes "STAR")
-    (on_line suffix_rule 30 34) ∷
-    Name (codes "PLUS") (on_line suffix_rule 37 41) ∷ Name (codes "COUNT") (on_line suffix_rule 44 49) ∷
-    [])) (on_line suffix_rule 19 49))
-    (on_line suffix_rule 18 51) ∷ [])) (on_line suffix_rule 10 51)
+suffix_body = suffix_on (line_start suffix_rule)
 
 -- Identifier !LEFTARROW
-abbrev pub primary_name : Form
-primary_name = Seq (forms (Name (codes "Identifier") (on_line primary_rule 11 21) ∷
-    Not (Name (codes "LEFTARROW") (on_line primary_rule 23 32)) (on_line primary_rule 22 32) ∷ []))
-    (on_line primary_rule 11 32)
+abbrev pub primary_name : (line : ℕ) → Form
+primary_name line = Seq (forms (Name (codes "Identifier") (line_span line 11 21) ∷
+    Not (Name (codes "LEFTARROW") (line_span line 23 32)) (line_span line 22 32) ∷ []))
+    (line_span line 11 32)
 
 -- OPEN Expression CLOSE
-abbrev pub primary_parentheses : Form
-primary_parentheses = Seq (forms (Name (codes "OPEN") (on_line primary_rule 35 39) ∷
-    Name (codes "Expression") (on_line primary_rule 40 50) ∷
-    Name (codes "CLOSE") (on_line primary_rule 51 56) ∷ [])) (on_line primary_rule 35 56)
+abbrev pub primary_parentheses : (line : ℕ) → Form
+primary_parentheses line = Seq (forms (Name (codes "OPEN") (line_span line 35 39) ∷
+    Name (codes "Expression") (line_span line 40 50) ∷
+    Name (codes "CLOSE") (line_span line 51 56) ∷ [])) (line_span line 35 56)
 
 -- Primary <- Identifier !LEFTARROW / OPEN Expression CLOSE / Literal / Class / DOT
+abbrev pub primary_on : (line : ℕ) → Form
+primary_on line = Choice (primary_name line) (forms (primary_parentheses line ∷ Name (codes "Literal") (line_span line 59 66) ∷
+    Name (codes "Class") (line_span line 69 74) ∷ Name (codes "DOT") (line_span line 77 80) ∷
+    [])) (line_span line 11 80)
+
 unfoldable pub primary_body : Form
-primary_body = Choice primary_name (forms (primary_parentheses ∷ Name (codes "Literal") (on_line primary_rule 59 66) ∷
-    Name (codes "Class") (on_line primary_rule 69 74) ∷ Name (codes "DOT") (on_line primary_rule 77 80) ∷
-    [])) (on_line primary_rule 11 80)
+primary_body = primary_on (line_start primary_rule)
 
 -- Identifier <- IdentStart IdentCont* Spacing
+abbrev pub identifier_on : (line : ℕ) → Form
+identifier_on line = Seq (forms (Name (codes "IdentStart") (line_span line 14 24) ∷
+    Star (Name (codes "IdentCont") (line_span line 25 34)) (line_span line 25 35) ∷
+    Name (codes "Spacing") (line_span line 36 43) ∷
+    [])) (line_span line 14 43)
+
 unfoldable pub identifier_body : Form
-identifier_body = Seq (forms (Name (codes "IdentStart") (on_line identifier_rule 14 24) ∷
-    Star (Name (codes "IdentCont") (on_line identifier_rule 25 34)) (on_line identifier_rule 25 35) ∷
-    Name (codes "Spacing") (on_line identifier_rule 36 43) ∷
-    [])) (on_line identifier_rule 14 43)
+identifier_body = identifier_on (line_start identifier_rule)
 
 -- IdentStart <- [a-zA-Z_]
+abbrev pub ident_start_on : (line : ℕ) → Form
+ident_start_on line = Class (class_of (range 97 122 ∷ range 65 90 ∷ range 95 95 ∷ [])) (line_span line 14 23)
+
 unfoldable pub ident_start_body : Form
-ident_start_body = Class (class_of (range 97 122 ∷ range 65 90 ∷ range 95 95 ∷ [])) (on_line ident_start_rule 14 23)
+ident_start_body = ident_start_on (line_start ident_start_rule)
 
 -- IdentCont <- IdentStart / [0-9]
+abbrev pub ident_cont_on : (line : ℕ) → Form
+ident_cont_on line = Choice (Name (codes "IdentStart") (line_span line 13 23))
+    (forms (Class (class_of (range 48 57 ∷ [])) (line_span line 26 31) ∷ [])) (line_span line 13 31)
+
 unfoldable pub ident_cont_body : Form
-ident_cont_body = Choice (Name (codes "IdentStart") (on_line ident_cont_rule 13 23))
-    (forms (Class (class_of (range 48 57 ∷ [])) (on_line ident_cont_rule 26 31) ∷ [])) (on_line ident_cont_rule 13 31)
+ident_cont_body = ident_cont_on (line_start ident_cont_rule)
 
 -- ['] (!['] Char)* ['] Spacing
-abbrev pub literal_single : Form
-literal_single = Seq (forms (Class (class_of (range 39 39 ∷ [])) (on_line literal_rule 11 14) ∷
-    Star (Seq (forms (Not (Class (class_of (range 39 39 ∷ [])) (on_line literal_rule 17 20))
-    (on_line literal_rule 16 20) ∷
-    Name (codes "Char") (on_line literal_rule 21 25) ∷ [])) (on_line literal_rule 16 25)) (on_line literal_rule 15 27) ∷
-    Class (class_of (range 39 39 ∷ [])) (on_line literal_rule 28 31) ∷ Name (codes "Spacing")
-    (on_line literal_rule 32 39) ∷
-    [])) (on_line literal_rule 11 39)
+abbrev pub literal_single : (line : ℕ) → Form
+literal_single line = Seq (forms (Class (class_of (range 39 39 ∷ [])) (line_span line 11 14) ∷
+    Star (Seq (forms (Not (Class (class_of (range 39 39 ∷ [])) (line_span line 17 20))
+    (line_span line 16 20) ∷
+    Name (codes "Char") (line_span line 21 25) ∷ [])) (line_span line 16 25)) (line_span line 15 27) ∷
+    Class (class_of (range 39 39 ∷ [])) (line_span line 28 31) ∷ Name (codes "Spacing")
+    (line_span line 32 39) ∷
+    [])) (line_span line 11 39)
 
 -- ["] (!["] Char)* ["] Spacing
-abbrev pub literal_double : Form
-literal_double = Seq (forms (Class (class_of (range 34 34 ∷ [])) (on_line literal_rule 42 45) ∷
-    Star (Seq (forms (Not (Class (class_of (range 34 34 ∷ [])) (on_line literal_rule 48 51))
-    (on_line literal_rule 47 51) ∷
-    Name (codes "Char") (on_line literal_rule 52 56) ∷ [])) (on_line literal_rule 47 56)) (on_line literal_rule 46 58) ∷
-    Class (class_of (range 34 34 ∷ [])) (on_line literal_rule 59 62) ∷ Name (codes "Spacing")
-    (on_line literal_rule 63 70) ∷
-    [])) (on_line literal_rule 42 70)
+abbrev pub literal_double : (line : ℕ) → Form
+literal_double line = Seq (forms (Class (class_of (range 34 34 ∷ [])) (line_span line 42 45) ∷
+    Star (Seq (forms (Not (Class (class_of (range 34 34 ∷ [])) (line_span line 48 51))
+    (line_span line 47 51) ∷
+    Name (codes "Char") (line_span line 52 56) ∷ [])) (line_span line 47 56)) (line_span line 46 58) ∷
+    Class (class_of (range 34 34 ∷ [])) (line_span line 59 62) ∷ Name (codes "Spacing")
+    (line_span line 63 70) ∷
+    [])) (line_span line 42 70)
 
 -- Literal <- ['] (!['] Char)* ['] Spacing / ["] (!["] Char)* ["] Spacing
+abbrev pub literal_on : (line : ℕ) → Form
+literal_on line = Choice (literal_single line) (forms (literal_double line ∷ [])) (line_span line 11 70)
+
 unfoldable pub literal_body : Form
-literal_body = Choice literal_single (forms (literal_double ∷ [])) (on_line literal_rule 11 70)
+literal_body = literal_on (line_start literal_rule)
 
 -- Class <- '[' (!']' Range)* ']' Spacing
+abbrev pub class_on : (line : ℕ) → Form
+class_on line = Seq (forms (Literal (codes "[") (line_span line 9 12) ∷ Star
+    (Seq (forms (Not (Literal (codes "]") (line_span line 15 18)) (line_span line 14 18) ∷
+    Name (codes "Range") (line_span line 19 24) ∷
+    [])) (line_span line 14 24)) (line_span line 13 26) ∷ Literal (codes "]") (line_span line 27 30) ∷
+    Name (codes "Spacing") (line_span line 31 38) ∷ [])) (line_span line 9 38)
+
 unfoldable pub class_body : Form
-class_body = Seq (forms (Literal (codes "[") (on_line class_rule 9 12) ∷ Star
-    (Seq (forms (Not (Literal (codes "]") (on_line class_rule 15 18)) (on_line class_rule 14 18) ∷
-    Name (codes "Range") (on_line class_rule 19 24) ∷
-    [])) (on_line class_rule 14 24)) (on_line class_rule 13 26) ∷ Literal (codes "]") (on_line class_rule 27 30) ∷
-    Name (codes "Spacing") (on_line class_rule 31 38) ∷ [])) (on_line class_rule 9 38)
+class_body = class_on (line_start class_rule)
 
 -- Range <- Char '-' Char / Char
-unfoldable pub range_body : Form
-range_body = Choice (Seq (forms (Name (codes "Char") (on_line range_rule 9 13) ∷ Literal (codes "-")
-    (on_line range_rule 14 17) ∷
-    Name (codes "Char") (on_line range_rule 18 22) ∷ [])) (on_line range_rule 9 22))
-    (forms (Name (codes "Char") (on_line range_rule 25 29) ∷
-    [])) (on_line range_rule 9 29)
+abbrev pub range_on : (line : ℕ) → Form
+range_on line = Choice (Seq (forms (Name (codes "Char") (line_span line 9 13) ∷ Literal (codes "-")
+    (line_span line 14 17) ∷
+    Name (codes "Char") (line_span line 18 22) ∷ [])) (line_span line 9 22))
+    (forms (Name (codes "Char") (line_span line 25 29) ∷
+    [])) (line_span line 9 29)
 
--- [0-9a-fA-F], with a given span on the line of Char
-abbrev pub hexadecimal_class : (start end : ℕ) → Form
-hexadecimal_class start end = Class (class_of (range 48 57 ∷ range 97 102 ∷ range 65 70 ∷ []))
-    (on_line char_rule start end)
+unfoldable pub range_body : Form
+range_body = range_on (line_start range_rule)
+
+-- [0-9a-fA-F], with a given span on its line
+abbrev pub hexadecimal_class : (line start end : ℕ) → Form
+hexadecimal_class line start end = Class (class_of (range 48 57 ∷ range 97 102 ∷ range 65 70 ∷ []))
+    (line_span line start end)
 
 -- '\\x' [0-9a-fA-F][0-9a-fA-F]
-abbrev pub char_hexadecimal : Form
-char_hexadecimal = Seq (forms (Literal (codes "\\x") (on_line char_rule 8 13) ∷ hexadecimal_class 14 25 ∷
-    hexadecimal_class 25 36 ∷ [])) (on_line char_rule 8 36)
+abbrev pub char_hexadecimal : (line : ℕ) → Form
+char_hexadecimal line = Seq (forms (Literal (codes "\\x") (line_span line 8 13) ∷ hexadecimal_class line 14 25 ∷
+    hexadecimal_class line 25 36 ∷ [])) (line_span line 8 36)
 
 -- '\\' [nrt'"\[\]\\]
-abbrev pub char_sign : Form
-char_sign = Seq (forms (Literal (codes "\\") (on_line char_rule 39 43) ∷
-    Class (class_of (escaped_ranges simple_escapes)) (on_line char_rule 44 57) ∷ [])) (on_line char_rule 39 57)
+abbrev pub char_sign : (line : ℕ) → Form
+char_sign line = Seq (forms (Literal (codes "\\") (line_span line 39 43) ∷
+    Class (class_of (escaped_ranges simple_escapes)) (line_span line 44 57) ∷ [])) (line_span line 39 57)
 
 -- '\\' [0-2][0-7][0-7]
-abbrev pub char_three_digits : Form
-char_three_digits = Seq (forms (Literal (codes "\\") (on_line char_rule 60 64) ∷
-    Class (class_of (range 48 50 ∷ [])) (on_line char_rule 65 70) ∷ Class (class_of (range 48 55 ∷ []))
-    (on_line char_rule 70 75) ∷
-    Class (class_of (range 48 55 ∷ [])) (on_line char_rule 75 80) ∷ [])) (on_line char_rule 60 80)
+abbrev pub char_three_digits : (line : ℕ) → Form
+char_three_digits line = Seq (forms (Literal (codes "\\") (line_span line 60 64) ∷
+    Class (class_of (range 48 50 ∷ [])) (line_span line 65 70) ∷ Class (class_of (range 48 55 ∷ []))
+    (line_span line 70 75) ∷
+    Class (class_of (range 48 55 ∷ [])) (line_span line 75 80) ∷ [])) (line_span line 60 80)
 
 -- '\\' [0-7][0-7]?
-abbrev pub char_two_digits : Form
-char_two_digits = Seq (forms (Literal (codes "\\") (on_line char_rule 83 87) ∷
-    Class (class_of (range 48 55 ∷ [])) (on_line char_rule 88 93) ∷
-    Optional (Class (class_of (range 48 55 ∷ [])) (on_line char_rule 93 98)) (on_line char_rule 93 99) ∷
-    [])) (on_line char_rule 83 99)
+abbrev pub char_two_digits : (line : ℕ) → Form
+char_two_digits line = Seq (forms (Literal (codes "\\") (line_span line 83 87) ∷
+    Class (class_of (range 48 55 ∷ [])) (line_span line 88 93) ∷
+    Optional (Class (class_of (range 48 55 ∷ [])) (line_span line 93 98)) (line_span line 93 99) ∷
+    [])) (line_span line 83 99)
 
 -- !'\\' .
-abbrev pub char_alone : Form
-char_alone =
-    Seq (forms (Not (Literal (codes "\\") (on_line char_rule 103 107)) (on_line char_rule 102 107) ∷ Any
-    (on_line char_rule 108 109) ∷ []))
-    (on_line char_rule 102 109)
+abbrev pub char_alone : (line : ℕ) → Form
+char_alone line =
+    Seq (forms (Not (Literal (codes "\\") (line_span line 103 107)) (line_span line 102 107) ∷ Any
+    (line_span line 108 109) ∷ []))
+    (line_span line 102 109)
 
 -- Char <- '\\x' [0-9a-fA-F][0-9a-fA-F] / '\\' [nrt'"\[\]\\] / '\\' [0-2][0-7][0-7] / '\\' [0-7][0-7]? / !'\\' .
-unfoldable pub char_body : Form
-char_body = Choice char_hexadecimal (forms (char_sign ∷ char_three_digits ∷ char_two_digits ∷ char_alone ∷ []))
-    (on_line char_rule 8 109)
+abbrev pub char_on : (line : ℕ) → Form
+char_on line = Choice (char_hexadecimal line)
+    (forms (char_sign line ∷ char_three_digits line ∷ char_two_digits line ∷ char_alone line ∷ []))
+    (line_span line 8 109)
 
--- an operator token on a rule's line, and one byte after it a call of Spacing
-abbrev pub sign_body : (rule : ℕ) → List ℕ → (start end : ℕ) → Form
-sign_body rule text start end = Seq (forms (Literal text (on_line rule start end) ∷
-    Name (codes "Spacing") (on_line rule (end + 1) (end + 8)) ∷ [])) (on_line rule start (end + 8))
+unfoldable pub char_body : Form
+char_body = char_on (line_start char_rule)
+
+-- an operator token, and one byte after it a call of Spacing
+abbrev pub sign_on : (line : ℕ) → List ℕ → (start end : ℕ) → Form
+sign_on line text start end = Seq (forms (Literal text (line_span line start end) ∷
+    Name (codes "Spacing") (line_span line (end + 1) (end + 8)) ∷ [])) (line_span line start (end + 8))
 
 -- LEFTARROW <- '<-' Spacing
 abbrev pub leftarrow_body : Form
-leftarrow_body = sign_body leftarrow_rule (codes "<-") 13 17
+leftarrow_body = sign_on (line_start leftarrow_rule) (codes "<-") 13 17
 
 -- SLASH <- '/' Spacing
 abbrev pub slash_body : Form
-slash_body = sign_body slash_rule (codes "/") 9 12
+slash_body = sign_on (line_start slash_rule) (codes "/") 9 12
 
 -- AND <- '&' Spacing
 abbrev pub and_sign_body : Form
-and_sign_body = sign_body and_sign_rule (codes "&") 7 10
+and_sign_body = sign_on (line_start and_sign_rule) (codes "&") 7 10
 
 -- NOT <- '!' Spacing
 abbrev pub not_sign_body : Form
-not_sign_body = sign_body not_sign_rule (codes "!") 7 10
+not_sign_body = sign_on (line_start not_sign_rule) (codes "!") 7 10
 
 -- QUESTION <- '?' Spacing
 abbrev pub question_body : Form
-question_body = sign_body question_rule (codes "?") 12 15
+question_body = sign_on (line_start question_rule) (codes "?") 12 15
 
 -- STAR <- '*' Spacing
 abbrev pub star_body : Form
-star_body = sign_body star_rule (codes "*") 8 11
+star_body = sign_on (line_start star_rule) (codes "*") 8 11
 
 -- PLUS <- '+' Spacing
 abbrev pub plus_body : Form
-plus_body = sign_body plus_rule (codes "+") 8 11
+plus_body = sign_on (line_start plus_rule) (codes "+") 8 11
 
 -- COUNT <- '{' Number (',' Number)? '}' Spacing
+abbrev pub count_on : (line : ℕ) → Form
+count_on line = Seq (forms (Literal (codes "{") (line_span line 9 12) ∷ Name (codes "Number")
+    (line_span line 13 19) ∷
+    Optional (Seq (forms (Literal (codes ",") (line_span line 21 24) ∷ Name (codes "Number")
+    (line_span line 25 31) ∷ []))
+    (line_span line 21 31)) (line_span line 20 33) ∷ Literal (codes "}") (line_span line 34 37) ∷
+    Name (codes "Spacing") (line_span line 38 45) ∷ [])) (line_span line 9 45)
+
 unfoldable pub count_body : Form
-count_body = Seq (forms (Literal (codes "{") (on_line count_rule 9 12) ∷ Name (codes "Number")
-    (on_line count_rule 13 19) ∷
-    Optional (Seq (forms (Literal (codes ",") (on_line count_rule 21 24) ∷ Name (codes "Number")
-    (on_line count_rule 25 31) ∷ []))
-    (on_line count_rule 21 31)) (on_line count_rule 20 33) ∷ Literal (codes "}") (on_line count_rule 34 37) ∷
-    Name (codes "Spacing") (on_line count_rule 38 45) ∷ [])) (on_line count_rule 9 45)
+count_body = count_on (line_start count_rule)
 
 -- Number <- [0-9]+
+abbrev pub number_on : (line : ℕ) → Form
+number_on line = Plus (Class (class_of (range 48 57 ∷ [])) (line_span line 10 15)) (line_span line 10 16)
+
 unfoldable pub number_body : Form
-number_body = Plus (Class (class_of (range 48 57 ∷ [])) (on_line number_rule 10 15)) (on_line number_rule 10 16)
+number_body = number_on (line_start number_rule)
 
 -- OPEN <- '(' Spacing
 abbrev pub open_sign_body : Form
-open_sign_body = sign_body open_sign_rule (codes "(") 8 11
+open_sign_body = sign_on (line_start open_sign_rule) (codes "(") 8 11
 
 -- CLOSE <- ')' Spacing
 abbrev pub close_body : Form
-close_body = sign_body close_rule (codes ")") 9 12
+close_body = sign_on (line_start close_rule) (codes ")") 9 12
 
 -- DOT <- '.' Spacing
 abbrev pub dot_body : Form
-dot_body = sign_body dot_rule (codes ".") 7 10
+dot_body = sign_on (line_start dot_rule) (codes ".") 7 10
 
 -- Spacing <- (Space / Comment)*
+abbrev pub spacing_on : (line : ℕ) → Form
+spacing_on line = Star (Choice (Name (codes "Space") (line_span line 12 17))
+    (forms (Name (codes "Comment") (line_span line 20 27) ∷
+    [])) (line_span line 12 27)) (line_span line 11 29)
+
 unfoldable pub spacing_body : Form
-spacing_body = Star (Choice (Name (codes "Space") (on_line spacing_rule 12 17))
-    (forms (Name (codes "Comment") (on_line spacing_rule 20 27) ∷
-    [])) (on_line spacing_rule 12 27)) (on_line spacing_rule 11 29)
+spacing_body = spacing_on (line_start spacing_rule)
 
 -- Comment <- '#' (!EndOfLine .)* EndOfLine
+abbrev pub comment_on : (line : ℕ) → Form
+comment_on line = Seq (forms (Literal (codes "#") (line_span line 11 14) ∷ Star
+    (Seq (forms (Not (Name (codes "EndOfLine") (line_span line 17 26)) (line_span line 16 26) ∷
+    Any (line_span line 27 28) ∷
+    [])) (line_span line 16 28)) (line_span line 15 30) ∷ Name (codes "EndOfLine")
+    (line_span line 31 40) ∷ [])) (line_span line 11 40)
+
 unfoldable pub comment_body : Form
-comment_body = Seq (forms (Literal (codes "#") (on_line comment_rule 11 14) ∷ Star
-    (Seq (forms (Not (Name (codes "EndOfLine") (on_line comment_rule 17 26)) (on_line comment_rule 16 26) ∷
-    Any (on_line comment_rule 27 28) ∷
-    [])) (on_line comment_rule 16 28)) (on_line comment_rule 15 30) ∷ Name (codes "EndOfLine")
-    (on_line comment_rule 31 40) ∷ [])) (on_line comment_rule 11 40)
+comment_body = comment_on (line_start comment_rule)
 
 -- Space <- ' ' / '\t' / EndOfLine
+abbrev pub space_on : (line : ℕ) → Form
+space_on line = Choice (Literal (codes " ") (line_span line 9 12))
+    (forms (Literal (codes "\t") (line_span line 15 19) ∷ Name (codes "EndOfLine") (line_span line 22 31) ∷
+    [])) (line_span line 9 31)
+
 unfoldable pub space_body : Form
-space_body = Choice (Literal (codes " ") (on_line space_rule 9 12))
-    (forms (Literal (codes "\t") (on_line space_rule 15 19) ∷ Name (codes "EndOfLine") (on_line space_rule 22 31) ∷
-    [])) (on_line space_rule 9 31)
+space_body = space_on (line_start space_rule)
 
 -- EndOfLine <- '\r\n' / '\n' / '\r'
+abbrev pub end_of_line_on : (line : ℕ) → Form
+end_of_line_on line = Choice (Literal (codes "\r\n") (line_span line 13 19))
+    (forms (Literal (codes "\n") (line_span line 22 26) ∷ Literal (codes "\r")
+    (line_span line 29 33) ∷ [])) (line_span line 13 33)
+
 unfoldable pub end_of_line_body : Form
-end_of_line_body = Choice (Literal (codes "\r\n") (on_line end_of_line_rule 13 19))
-    (forms (Literal (codes "\n") (on_line end_of_line_rule 22 26) ∷ Literal (codes "\r")
-    (on_line end_of_line_rule 29 33) ∷ [])) (on_line end_of_line_rule 13 33)
+end_of_line_body = end_of_line_on (line_start end_of_line_rule)
 
 -- EndOfFile <- !.
+abbrev pub end_of_file_on : (line : ℕ) → Form
+end_of_file_on line = Not (Any (line_span line 14 15)) (line_span line 13 15)
+
 unfoldable pub end_of_file_body : Form
-end_of_file_body = Not (Any (on_line end_of_file_rule 14 15)) (on_line end_of_file_rule 13 15)
+end_of_file_body = end_of_file_on (line_start end_of_file_rule)
 
 -- ---- the metagrammar
 

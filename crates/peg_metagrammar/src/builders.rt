@@ -4,7 +4,8 @@ ghost use Rattle.peg_bytes.specs.ByteSet.{bytes_of};
 ghost use Rattle.peg_bytes.specs.Extent.{extent};
 ghost use Rattle.peg_semantics.specs.Form.{Form, Literal, Class, Any, Name, Seq, Choice, Optional, Star, Plus, Not, forms};
 ghost use Rattle.peg_grammar.specs.Written.{form_of, rule_of};
-ghost use Rattle.peg_metagrammar.specs.Figure.{named_rule, sign_body};
+ghost use Rattle.peg_metagrammar.specs.Figure.{named_rule, sign_on};
+ghost use Rattle.peg_metagrammar.specs.FigureText.{line_start};
 ghost use Rattle.peg_metagrammar.specs.Ranges.{class_of};
 ghost use Rattle.peg_metagrammar.specs.RangesCode.{range_of};
 
@@ -155,7 +156,7 @@ pub(crate) fn operator(
     requires order { start ≤ end }
     requires fits { end + 8 < 256 }
     ensures { IfOk result (λ definition. rule_of definition
-        ≡ named_rule rule name.now (sign_body rule text.now start end)) }
+        ≡ named_rule rule name.now (sign_on (line_start rule) text.now start end)) }
 {
     definition(alloc, rule, name, sign(alloc, rule, text, start, end)?)
 }
@@ -165,7 +166,7 @@ fn sign(alloc: Global, rule: u32, text: &[u8], start: u8, end: u8) -> Result<Exp
     requires line { rule ≤ 31 }
     requires order { start ≤ end }
     requires fits { end + 8 < 256 }
-    ensures { IfOk result (λ e. form_of e ≡ sign_body rule text.now start end) }
+    ensures { IfOk result (λ e. form_of e ≡ sign_on (line_start rule) text.now start end) }
 {
     let line = Line::of_rule(rule);
     let sign = literal(alloc, text, line.span(start, end))?;

@@ -3,15 +3,13 @@ ghost use Rattle.std.specs.Prelude.{◌≡◌, ◌≤◌, IfOk};
 ghost use Rattle.peg_grammar.specs.Written.{form_of, rules_of};
 ghost use Rattle.peg_metagrammar.specs.Figure.{figure};
 ghost use Rattle.peg_metagrammar.specs.Figure.{primary_name, primary_parentheses, literal_single, literal_double};
-ghost use Rattle.peg_metagrammar.specs.Figure.{hexadecimal_class, char_hexadecimal, char_sign, char_three_digits};
-ghost use Rattle.peg_metagrammar.specs.Figure.{char_two_digits, char_alone};
+ghost use Rattle.peg_metagrammar.specs.Figure.{char_hexadecimal, char_sign, char_three_digits, char_two_digits};
+ghost use Rattle.peg_metagrammar.specs.Figure.{char_alone, hexadecimal_class, grammar_on, definition_on};
+ghost use Rattle.peg_metagrammar.specs.Figure.{expression_on, sequence_on, prefix_on, suffix_on, primary_on};
+ghost use Rattle.peg_metagrammar.specs.Figure.{identifier_on, ident_start_on, ident_cont_on, literal_on, class_on};
+ghost use Rattle.peg_metagrammar.specs.Figure.{range_on, char_on, count_on, number_on, spacing_on, comment_on};
+ghost use Rattle.peg_metagrammar.specs.Figure.{space_on, end_of_line_on, end_of_file_on};
 ghost use Rattle.peg_metagrammar.specs.FigureParts.{first_eight, second_eight, third_eight, last_seven};
-ghost use Rattle.peg_metagrammar.specs.Figure.{grammar_body, definition_body, expression_body, sequence_body, prefix_body};
-ghost use Rattle.peg_metagrammar.specs.Figure.{suffix_body, primary_body, identifier_body, ident_start_body};
-ghost use Rattle.peg_metagrammar.specs.Figure.{ident_cont_body};
-ghost use Rattle.peg_metagrammar.specs.Figure.{literal_body, class_body, range_body, char_body};
-ghost use Rattle.peg_metagrammar.specs.Figure.{count_body, number_body, spacing_body};
-ghost use Rattle.peg_metagrammar.specs.Figure.{comment_body, space_body, end_of_line_body, end_of_file_body};
 
 use crate::builders::{
     any, choice, class, class_from_set, definition, literal, name, not, operator, optional, plus,
@@ -42,41 +40,106 @@ pub fn figure(alloc: Global) -> Result<Vec<Definition>, AllocError>
 }
 
 // The first eight rules: grammars, expressions and names.
-#[tactic(auto, unfolding(crate::specs::Figure::figure))]
+#[tactic(auto, unfolding(crate::specs::Figure::figure, crate::specs::Figure::grammar_body, crate::specs::Figure::definition_body, crate::specs::Figure::expression_body, crate::specs::Figure::sequence_body, crate::specs::Figure::prefix_body, crate::specs::Figure::suffix_body, crate::specs::Figure::primary_body, crate::specs::Figure::identifier_body))]
 fn first_eight(alloc: Global) -> Result<Vec<Definition>, AllocError>
     ensures { IfOk result (λ definitions. rules_of definitions.items ≡ first_eight) }
 {
     Ok(vec![in alloc;
-        definition(alloc, GRAMMAR, "Grammar", grammar_body(alloc)?)?,
-        definition(alloc, DEFINITION, "Definition", definition_body(alloc)?)?,
-        definition(alloc, EXPRESSION, "Expression", expression_body(alloc)?)?,
-        definition(alloc, SEQUENCE, "Sequence", sequence_body(alloc)?)?,
-        definition(alloc, PREFIX, "Prefix", prefix_body(alloc)?)?,
-        definition(alloc, SUFFIX, "Suffix", suffix_body(alloc)?)?,
-        definition(alloc, PRIMARY, "Primary", primary_body(alloc)?)?,
-        definition(alloc, IDENTIFIER, "Identifier", identifier_body(alloc)?)?,
+        definition(
+            alloc,
+            GRAMMAR,
+            "Grammar",
+            grammar_body(alloc, Line::of_rule(GRAMMAR))?
+        )?,
+        definition(
+            alloc,
+            DEFINITION,
+            "Definition",
+            definition_body(alloc, Line::of_rule(DEFINITION))?
+        )?,
+        definition(
+            alloc,
+            EXPRESSION,
+            "Expression",
+            expression_body(alloc, Line::of_rule(EXPRESSION))?
+        )?,
+        definition(
+            alloc,
+            SEQUENCE,
+            "Sequence",
+            sequence_body(alloc, Line::of_rule(SEQUENCE))?
+        )?,
+        definition(
+            alloc,
+            PREFIX,
+            "Prefix",
+            prefix_body(alloc, Line::of_rule(PREFIX))?
+        )?,
+        definition(
+            alloc,
+            SUFFIX,
+            "Suffix",
+            suffix_body(alloc, Line::of_rule(SUFFIX))?
+        )?,
+        definition(
+            alloc,
+            PRIMARY,
+            "Primary",
+            primary_body(alloc, Line::of_rule(PRIMARY))?
+        )?,
+        definition(
+            alloc,
+            IDENTIFIER,
+            "Identifier",
+            identifier_body(alloc, Line::of_rule(IDENTIFIER))?
+        )?,
     ]?)
 }
 
 // The next eight rules: names, literals, classes and operators.
-#[tactic(auto, unfolding(crate::specs::Figure::figure))]
+#[tactic(auto, unfolding(crate::specs::Figure::figure, crate::specs::Figure::ident_start_body, crate::specs::Figure::ident_cont_body, crate::specs::Figure::literal_body, crate::specs::Figure::class_body, crate::specs::Figure::range_body, crate::specs::Figure::char_body))]
 fn second_eight(alloc: Global) -> Result<Vec<Definition>, AllocError>
     ensures { IfOk result (λ definitions. rules_of definitions.items ≡ second_eight) }
 {
     Ok(vec![in alloc;
-        definition(alloc, IDENT_START, "IdentStart", ident_start_body(alloc)?)?,
-        definition(alloc, IDENT_CONT, "IdentCont", ident_cont_body(alloc)?)?,
-        definition(alloc, LITERAL, "Literal", literal_body(alloc)?)?,
-        definition(alloc, CLASS, "Class", class_body(alloc)?)?,
-        definition(alloc, RANGE, "Range", range_body(alloc)?)?,
-        definition(alloc, CHAR, "Char", char_body(alloc)?)?,
+        definition(
+            alloc,
+            IDENT_START,
+            "IdentStart",
+            ident_start_body(alloc, Line::of_rule(IDENT_START))?
+        )?,
+        definition(
+            alloc,
+            IDENT_CONT,
+            "IdentCont",
+            ident_cont_body(alloc, Line::of_rule(IDENT_CONT))?
+        )?,
+        definition(
+            alloc,
+            LITERAL,
+            "Literal",
+            literal_body(alloc, Line::of_rule(LITERAL))?
+        )?,
+        definition(
+            alloc,
+            CLASS,
+            "Class",
+            class_body(alloc, Line::of_rule(CLASS))?
+        )?,
+        definition(
+            alloc,
+            RANGE,
+            "Range",
+            range_body(alloc, Line::of_rule(RANGE))?
+        )?,
+        definition(alloc, CHAR, "Char", char_body(alloc, Line::of_rule(CHAR))?)?,
         operator(alloc, LEFTARROW, "LEFTARROW", b"<-", 13, 17)?,
         operator(alloc, SLASH, "SLASH", b"/", 9, 12)?,
     ]?)
 }
 
 // The next eight rules: operators and counts.
-#[tactic(auto, unfolding(crate::specs::Figure::figure))]
+#[tactic(auto, unfolding(crate::specs::Figure::figure, crate::specs::Figure::count_body, crate::specs::Figure::number_body))]
 fn third_eight(alloc: Global) -> Result<Vec<Definition>, AllocError>
     ensures { IfOk result (λ definitions. rules_of definitions.items ≡ third_eight) }
 {
@@ -86,34 +149,67 @@ fn third_eight(alloc: Global) -> Result<Vec<Definition>, AllocError>
         operator(alloc, QUESTION, "QUESTION", b"?", 12, 15)?,
         operator(alloc, STAR, "STAR", b"*", 8, 11)?,
         operator(alloc, PLUS, "PLUS", b"+", 8, 11)?,
-        definition(alloc, COUNT, "COUNT", count_body(alloc)?)?,
-        definition(alloc, NUMBER, "Number", number_body(alloc)?)?,
+        definition(
+            alloc,
+            COUNT,
+            "COUNT",
+            count_body(alloc, Line::of_rule(COUNT))?
+        )?,
+        definition(
+            alloc,
+            NUMBER,
+            "Number",
+            number_body(alloc, Line::of_rule(NUMBER))?
+        )?,
         operator(alloc, OPEN, "OPEN", b"(", 8, 11)?,
     ]?)
 }
 
 // The last seven rules: operators and spacing.
-#[tactic(auto, unfolding(crate::specs::Figure::figure))]
+#[tactic(auto, unfolding(crate::specs::Figure::figure, crate::specs::Figure::spacing_body, crate::specs::Figure::comment_body, crate::specs::Figure::space_body, crate::specs::Figure::end_of_line_body, crate::specs::Figure::end_of_file_body))]
 fn last_seven(alloc: Global) -> Result<Vec<Definition>, AllocError>
     ensures { IfOk result (λ definitions. rules_of definitions.items ≡ last_seven) }
 {
     Ok(vec![in alloc;
         operator(alloc, CLOSE, "CLOSE", b")", 9, 12)?,
         operator(alloc, DOT, "DOT", b".", 7, 10)?,
-        definition(alloc, SPACING, "Spacing", spacing_body(alloc)?)?,
-        definition(alloc, COMMENT, "Comment", comment_body(alloc)?)?,
-        definition(alloc, SPACE, "Space", space_body(alloc)?)?,
-        definition(alloc, END_OF_LINE, "EndOfLine", end_of_line_body(alloc)?)?,
-        definition(alloc, END_OF_FILE, "EndOfFile", end_of_file_body(alloc)?)?,
+        definition(
+            alloc,
+            SPACING,
+            "Spacing",
+            spacing_body(alloc, Line::of_rule(SPACING))?
+        )?,
+        definition(
+            alloc,
+            COMMENT,
+            "Comment",
+            comment_body(alloc, Line::of_rule(COMMENT))?
+        )?,
+        definition(
+            alloc,
+            SPACE,
+            "Space",
+            space_body(alloc, Line::of_rule(SPACE))?
+        )?,
+        definition(
+            alloc,
+            END_OF_LINE,
+            "EndOfLine",
+            end_of_line_body(alloc, Line::of_rule(END_OF_LINE))?
+        )?,
+        definition(
+            alloc,
+            END_OF_FILE,
+            "EndOfFile",
+            end_of_file_body(alloc, Line::of_rule(END_OF_FILE))?
+        )?,
     ]?)
 }
 
 // Grammar <- Spacing Definition+ EndOfFile
-#[tactic(auto, unfolding(crate::specs::Figure::grammar_body))]
-fn grammar_body(alloc: Global) -> Result<Expr, AllocError>
-    ensures { IfOk result (λ body. form_of body ≡ grammar_body) }
+fn grammar_body(alloc: Global, line: Line) -> Result<Expr, AllocError>
+    ensures { IfOk result (λ body. form_of body ≡ grammar_on line.start) }
 {
-    let line = Line::of_rule(GRAMMAR);
     Ok(seq(
         vec![in alloc;
             name(alloc, "Spacing", line.span(11, 18))?,
@@ -129,11 +225,9 @@ fn grammar_body(alloc: Global) -> Result<Expr, AllocError>
 }
 
 // Definition <- Identifier LEFTARROW Expression
-#[tactic(auto, unfolding(crate::specs::Figure::definition_body))]
-fn definition_body(alloc: Global) -> Result<Expr, AllocError>
-    ensures { IfOk result (λ body. form_of body ≡ definition_body) }
+fn definition_body(alloc: Global, line: Line) -> Result<Expr, AllocError>
+    ensures { IfOk result (λ body. form_of body ≡ definition_on line.start) }
 {
-    let line = Line::of_rule(DEFINITION);
     Ok(seq(
         vec![in alloc;
             name(alloc, "Identifier", line.span(14, 24))?,
@@ -145,11 +239,9 @@ fn definition_body(alloc: Global) -> Result<Expr, AllocError>
 }
 
 // Expression <- Sequence (SLASH Sequence)*
-#[tactic(auto, unfolding(crate::specs::Figure::expression_body))]
-fn expression_body(alloc: Global) -> Result<Expr, AllocError>
-    ensures { IfOk result (λ body. form_of body ≡ expression_body) }
+fn expression_body(alloc: Global, line: Line) -> Result<Expr, AllocError>
+    ensures { IfOk result (λ body. form_of body ≡ expression_on line.start) }
 {
-    let line = Line::of_rule(EXPRESSION);
     let slash_sequence = seq(
         vec![in alloc;
             name(alloc, "SLASH", line.span(24, 29))?,
@@ -165,11 +257,9 @@ fn expression_body(alloc: Global) -> Result<Expr, AllocError>
 }
 
 // Sequence <- Prefix*
-#[tactic(auto, unfolding(crate::specs::Figure::sequence_body))]
-fn sequence_body(alloc: Global) -> Result<Expr, AllocError>
-    ensures { IfOk result (λ body. form_of body ≡ sequence_body) }
+fn sequence_body(alloc: Global, line: Line) -> Result<Expr, AllocError>
+    ensures { IfOk result (λ body. form_of body ≡ sequence_on line.start) }
 {
-    let line = Line::of_rule(SEQUENCE);
     star(
         alloc,
         name(alloc, "Prefix", line.span(12, 18))?,
@@ -178,11 +268,9 @@ fn sequence_body(alloc: Global) -> Result<Expr, AllocError>
 }
 
 // Prefix <- (AND / NOT)? Suffix
-#[tactic(auto, unfolding(crate::specs::Figure::prefix_body))]
-fn prefix_body(alloc: Global) -> Result<Expr, AllocError>
-    ensures { IfOk result (λ body. form_of body ≡ prefix_body) }
+fn prefix_body(alloc: Global, line: Line) -> Result<Expr, AllocError>
+    ensures { IfOk result (λ body. form_of body ≡ prefix_on line.start) }
 {
-    let line = Line::of_rule(PREFIX);
     let sign = choice(
         alloc,
         name(alloc, "AND", line.span(11, 14))?,
@@ -197,11 +285,9 @@ fn prefix_body(alloc: Global) -> Result<Expr, AllocError>
 }
 
 // Suffix <- Primary (QUESTION / STAR / PLUS / COUNT)?
-#[tactic(auto, unfolding(crate::specs::Figure::suffix_body))]
-fn suffix_body(alloc: Global) -> Result<Expr, AllocError>
-    ensures { IfOk result (λ body. form_of body ≡ suffix_body) }
+fn suffix_body(alloc: Global, line: Line) -> Result<Expr, AllocError>
+    ensures { IfOk result (λ body. form_of body ≡ suffix_on line.start) }
 {
-    let line = Line::of_rule(SUFFIX);
     let sign = choice(
         alloc,
         name(alloc, "QUESTION", line.span(19, 27))?,
@@ -220,16 +306,14 @@ fn suffix_body(alloc: Global) -> Result<Expr, AllocError>
 }
 
 // Primary <- Identifier !LEFTARROW / OPEN Expression CLOSE / Literal / Class / DOT
-#[tactic(auto, unfolding(crate::specs::Figure::primary_body))]
-fn primary_body(alloc: Global) -> Result<Expr, AllocError>
-    ensures { IfOk result (λ body. form_of body ≡ primary_body) }
+fn primary_body(alloc: Global, line: Line) -> Result<Expr, AllocError>
+    ensures { IfOk result (λ body. form_of body ≡ primary_on line.start) }
 {
-    let line = Line::of_rule(PRIMARY);
     choice(
         alloc,
-        primary_name(alloc)?,
+        primary_name(alloc, line)?,
         vec![in alloc;
-            primary_parentheses(alloc)?,
+            primary_parentheses(alloc, line)?,
             name(alloc, "Literal", line.span(59, 66))?,
             name(alloc, "Class", line.span(69, 74))?,
             name(alloc, "DOT", line.span(77, 80))?,
@@ -239,10 +323,9 @@ fn primary_body(alloc: Global) -> Result<Expr, AllocError>
 }
 
 // Identifier !LEFTARROW
-fn primary_name(alloc: Global) -> Result<Expr, AllocError>
-    ensures { IfOk result (λ part. form_of part ≡ primary_name) }
+fn primary_name(alloc: Global, line: Line) -> Result<Expr, AllocError>
+    ensures { IfOk result (λ part. form_of part ≡ primary_name line.start) }
 {
-    let line = Line::of_rule(PRIMARY);
     Ok(seq(
         vec![in alloc;
             name(alloc, "Identifier", line.span(11, 21))?,
@@ -257,10 +340,9 @@ fn primary_name(alloc: Global) -> Result<Expr, AllocError>
 }
 
 // OPEN Expression CLOSE
-fn primary_parentheses(alloc: Global) -> Result<Expr, AllocError>
-    ensures { IfOk result (λ part. form_of part ≡ primary_parentheses) }
+fn primary_parentheses(alloc: Global, line: Line) -> Result<Expr, AllocError>
+    ensures { IfOk result (λ part. form_of part ≡ primary_parentheses line.start) }
 {
-    let line = Line::of_rule(PRIMARY);
     Ok(seq(
         vec![in alloc;
             name(alloc, "OPEN", line.span(35, 39))?,
@@ -272,11 +354,9 @@ fn primary_parentheses(alloc: Global) -> Result<Expr, AllocError>
 }
 
 // Identifier <- IdentStart IdentCont* Spacing
-#[tactic(auto, unfolding(crate::specs::Figure::identifier_body))]
-fn identifier_body(alloc: Global) -> Result<Expr, AllocError>
-    ensures { IfOk result (λ body. form_of body ≡ identifier_body) }
+fn identifier_body(alloc: Global, line: Line) -> Result<Expr, AllocError>
+    ensures { IfOk result (λ body. form_of body ≡ identifier_on line.start) }
 {
-    let line = Line::of_rule(IDENTIFIER);
     Ok(seq(
         vec![in alloc;
             name(alloc, "IdentStart", line.span(14, 24))?,
@@ -292,11 +372,9 @@ fn identifier_body(alloc: Global) -> Result<Expr, AllocError>
 }
 
 // IdentStart <- [a-zA-Z_]
-#[tactic(auto, unfolding(crate::specs::Figure::ident_start_body))]
-fn ident_start_body(alloc: Global) -> Result<Expr, AllocError>
-    ensures { IfOk result (λ body. form_of body ≡ ident_start_body) }
+fn ident_start_body(alloc: Global, line: Line) -> Result<Expr, AllocError>
+    ensures { IfOk result (λ body. form_of body ≡ ident_start_on line.start) }
 {
-    let line = Line::of_rule(IDENT_START);
     Ok(class(
         &[range(b'a', b'z'), range(b'A', b'Z'), range(b'_', b'_')],
         line.span(14, 23),
@@ -304,11 +382,9 @@ fn ident_start_body(alloc: Global) -> Result<Expr, AllocError>
 }
 
 // IdentCont <- IdentStart / [0-9]
-#[tactic(auto, unfolding(crate::specs::Figure::ident_cont_body))]
-fn ident_cont_body(alloc: Global) -> Result<Expr, AllocError>
-    ensures { IfOk result (λ body. form_of body ≡ ident_cont_body) }
+fn ident_cont_body(alloc: Global, line: Line) -> Result<Expr, AllocError>
+    ensures { IfOk result (λ body. form_of body ≡ ident_cont_on line.start) }
 {
-    let line = Line::of_rule(IDENT_CONT);
     choice(
         alloc,
         name(alloc, "IdentStart", line.span(13, 23))?,
@@ -318,24 +394,21 @@ fn ident_cont_body(alloc: Global) -> Result<Expr, AllocError>
 }
 
 // Literal <- ['] (!['] Char)* ['] Spacing / ["] (!["] Char)* ["] Spacing
-#[tactic(auto, unfolding(crate::specs::Figure::literal_body))]
-fn literal_body(alloc: Global) -> Result<Expr, AllocError>
-    ensures { IfOk result (λ body. form_of body ≡ literal_body) }
+fn literal_body(alloc: Global, line: Line) -> Result<Expr, AllocError>
+    ensures { IfOk result (λ body. form_of body ≡ literal_on line.start) }
 {
-    let line = Line::of_rule(LITERAL);
     choice(
         alloc,
-        literal_single(alloc)?,
-        vec![in alloc; literal_double(alloc)?]?,
+        literal_single(alloc, line)?,
+        vec![in alloc; literal_double(alloc, line)?]?,
         line.span(11, 70),
     )
 }
 
 // ['] (!['] Char)* ['] Spacing
-fn literal_single(alloc: Global) -> Result<Expr, AllocError>
-    ensures { IfOk result (λ part. form_of part ≡ literal_single) }
+fn literal_single(alloc: Global, line: Line) -> Result<Expr, AllocError>
+    ensures { IfOk result (λ part. form_of part ≡ literal_single line.start) }
 {
-    let line = Line::of_rule(LITERAL);
     let one_char = seq(
         vec![in alloc;
             not(
@@ -360,10 +433,9 @@ fn literal_single(alloc: Global) -> Result<Expr, AllocError>
 }
 
 // ["] (!["] Char)* ["] Spacing
-fn literal_double(alloc: Global) -> Result<Expr, AllocError>
-    ensures { IfOk result (λ part. form_of part ≡ literal_double) }
+fn literal_double(alloc: Global, line: Line) -> Result<Expr, AllocError>
+    ensures { IfOk result (λ part. form_of part ≡ literal_double line.start) }
 {
-    let line = Line::of_rule(LITERAL);
     let one_char = seq(
         vec![in alloc;
             not(
@@ -388,11 +460,9 @@ fn literal_double(alloc: Global) -> Result<Expr, AllocError>
 }
 
 // Class <- '[' (!']' Range)* ']' Spacing
-#[tactic(auto, unfolding(crate::specs::Figure::class_body))]
-fn class_body(alloc: Global) -> Result<Expr, AllocError>
-    ensures { IfOk result (λ body. form_of body ≡ class_body) }
+fn class_body(alloc: Global, line: Line) -> Result<Expr, AllocError>
+    ensures { IfOk result (λ body. form_of body ≡ class_on line.start) }
 {
-    let line = Line::of_rule(CLASS);
     let one_range = seq(
         vec![in alloc;
             not(
@@ -417,11 +487,9 @@ fn class_body(alloc: Global) -> Result<Expr, AllocError>
 }
 
 // Range <- Char '-' Char / Char
-#[tactic(auto, unfolding(crate::specs::Figure::range_body))]
-fn range_body(alloc: Global) -> Result<Expr, AllocError>
-    ensures { IfOk result (λ body. form_of body ≡ range_body) }
+fn range_body(alloc: Global, line: Line) -> Result<Expr, AllocError>
+    ensures { IfOk result (λ body. form_of body ≡ range_on line.start) }
 {
-    let line = Line::of_rule(RANGE);
     let from_to = seq(
         vec![in alloc;
             name(alloc, "Char", line.span(9, 13))?,
@@ -439,45 +507,41 @@ fn range_body(alloc: Global) -> Result<Expr, AllocError>
 }
 
 // Char <- '\\x' [0-9a-fA-F][0-9a-fA-F] / '\\' [nrt'"\[\]\\] / '\\' [0-2][0-7][0-7] / '\\' [0-7][0-7]? / !'\\' .
-#[tactic(auto, unfolding(crate::specs::Figure::char_body))]
-fn char_body(alloc: Global) -> Result<Expr, AllocError>
-    ensures { IfOk result (λ body. form_of body ≡ char_body) }
+fn char_body(alloc: Global, line: Line) -> Result<Expr, AllocError>
+    ensures { IfOk result (λ body. form_of body ≡ char_on line.start) }
 {
-    let line = Line::of_rule(CHAR);
     choice(
         alloc,
-        char_hexadecimal(alloc)?,
+        char_hexadecimal(alloc, line)?,
         vec![in alloc;
-            char_sign(alloc)?,
-            char_three_digits(alloc)?,
-            char_two_digits(alloc)?,
-            char_alone(alloc)?,
+            char_sign(alloc, line)?,
+            char_three_digits(alloc, line)?,
+            char_two_digits(alloc, line)?,
+            char_alone(alloc, line)?,
         ]?,
         line.span(8, 109),
     )
 }
 
 // '\\x' [0-9a-fA-F][0-9a-fA-F]
-fn char_hexadecimal(alloc: Global) -> Result<Expr, AllocError>
-    ensures { IfOk result (λ part. form_of part ≡ char_hexadecimal) }
+fn char_hexadecimal(alloc: Global, line: Line) -> Result<Expr, AllocError>
+    ensures { IfOk result (λ part. form_of part ≡ char_hexadecimal line.start) }
 {
-    let line = Line::of_rule(CHAR);
     Ok(seq(
         vec![in alloc;
             literal(alloc, b"\\x", line.span(8, 13))?,
-            hexadecimal_class(14, 25),
-            hexadecimal_class(25, 36),
+            hexadecimal_class(line, 14, 25),
+            hexadecimal_class(line, 25, 36),
         ]?,
         line.span(8, 36),
     ))
 }
 
 // [0-9a-fA-F]
-fn hexadecimal_class(start: u8, end: u8) -> Expr
+fn hexadecimal_class(line: Line, start: u8, end: u8) -> Expr
     requires { start ≤ end }
-    ensures { form_of result ≡ hexadecimal_class start end }
+    ensures { form_of result ≡ hexadecimal_class line.start start end }
 {
-    let line = Line::of_rule(CHAR);
     class(
         &[range(b'0', b'9'), range(b'a', b'f'), range(b'A', b'F')],
         line.span(start, end),
@@ -485,10 +549,9 @@ fn hexadecimal_class(start: u8, end: u8) -> Expr
 }
 
 // '\\' [nrt'"\[\]\\]
-fn char_sign(alloc: Global) -> Result<Expr, AllocError>
-    ensures { IfOk result (λ part. form_of part ≡ char_sign) }
+fn char_sign(alloc: Global, line: Line) -> Result<Expr, AllocError>
+    ensures { IfOk result (λ part. form_of part ≡ char_sign line.start) }
 {
-    let line = Line::of_rule(CHAR);
     let signs = class_from_set(escaped_bytes(), line.span(44, 57));
     Ok(seq(
         vec![in alloc; literal(alloc, b"\\", line.span(39, 43))?, signs]?,
@@ -497,10 +560,9 @@ fn char_sign(alloc: Global) -> Result<Expr, AllocError>
 }
 
 // '\\' [0-2][0-7][0-7]
-fn char_three_digits(alloc: Global) -> Result<Expr, AllocError>
-    ensures { IfOk result (λ part. form_of part ≡ char_three_digits) }
+fn char_three_digits(alloc: Global, line: Line) -> Result<Expr, AllocError>
+    ensures { IfOk result (λ part. form_of part ≡ char_three_digits line.start) }
 {
-    let line = Line::of_rule(CHAR);
     Ok(seq(
         vec![in alloc;
             literal(alloc, b"\\", line.span(60, 64))?,
@@ -513,10 +575,9 @@ fn char_three_digits(alloc: Global) -> Result<Expr, AllocError>
 }
 
 // '\\' [0-7][0-7]?
-fn char_two_digits(alloc: Global) -> Result<Expr, AllocError>
-    ensures { IfOk result (λ part. form_of part ≡ char_two_digits) }
+fn char_two_digits(alloc: Global, line: Line) -> Result<Expr, AllocError>
+    ensures { IfOk result (λ part. form_of part ≡ char_two_digits line.start) }
 {
-    let line = Line::of_rule(CHAR);
     Ok(seq(
         vec![in alloc;
             literal(alloc, b"\\", line.span(83, 87))?,
@@ -532,10 +593,9 @@ fn char_two_digits(alloc: Global) -> Result<Expr, AllocError>
 }
 
 // !'\\' .
-fn char_alone(alloc: Global) -> Result<Expr, AllocError>
-    ensures { IfOk result (λ part. form_of part ≡ char_alone) }
+fn char_alone(alloc: Global, line: Line) -> Result<Expr, AllocError>
+    ensures { IfOk result (λ part. form_of part ≡ char_alone line.start) }
 {
-    let line = Line::of_rule(CHAR);
     Ok(seq(
         vec![in alloc;
             not(
@@ -550,11 +610,9 @@ fn char_alone(alloc: Global) -> Result<Expr, AllocError>
 }
 
 // COUNT <- '{' Number (',' Number)? '}' Spacing
-#[tactic(auto, unfolding(crate::specs::Figure::count_body))]
-fn count_body(alloc: Global) -> Result<Expr, AllocError>
-    ensures { IfOk result (λ body. form_of body ≡ count_body) }
+fn count_body(alloc: Global, line: Line) -> Result<Expr, AllocError>
+    ensures { IfOk result (λ body. form_of body ≡ count_on line.start) }
 {
-    let line = Line::of_rule(COUNT);
     let comma_number = seq(
         vec![in alloc;
             literal(alloc, b",", line.span(21, 24))?,
@@ -576,11 +634,9 @@ fn count_body(alloc: Global) -> Result<Expr, AllocError>
 }
 
 // Number <- [0-9]+
-#[tactic(auto, unfolding(crate::specs::Figure::number_body))]
-fn number_body(alloc: Global) -> Result<Expr, AllocError>
-    ensures { IfOk result (λ body. form_of body ≡ number_body) }
+fn number_body(alloc: Global, line: Line) -> Result<Expr, AllocError>
+    ensures { IfOk result (λ body. form_of body ≡ number_on line.start) }
 {
-    let line = Line::of_rule(NUMBER);
     plus(
         alloc,
         class(&[range(b'0', b'9')], line.span(10, 15)),
@@ -589,11 +645,9 @@ fn number_body(alloc: Global) -> Result<Expr, AllocError>
 }
 
 // Spacing <- (Space / Comment)*
-#[tactic(auto, unfolding(crate::specs::Figure::spacing_body))]
-fn spacing_body(alloc: Global) -> Result<Expr, AllocError>
-    ensures { IfOk result (λ body. form_of body ≡ spacing_body) }
+fn spacing_body(alloc: Global, line: Line) -> Result<Expr, AllocError>
+    ensures { IfOk result (λ body. form_of body ≡ spacing_on line.start) }
 {
-    let line = Line::of_rule(SPACING);
     let blank = choice(
         alloc,
         name(alloc, "Space", line.span(12, 17))?,
@@ -604,11 +658,9 @@ fn spacing_body(alloc: Global) -> Result<Expr, AllocError>
 }
 
 // Comment <- '#' (!EndOfLine .)* EndOfLine
-#[tactic(auto, unfolding(crate::specs::Figure::comment_body))]
-fn comment_body(alloc: Global) -> Result<Expr, AllocError>
-    ensures { IfOk result (λ body. form_of body ≡ comment_body) }
+fn comment_body(alloc: Global, line: Line) -> Result<Expr, AllocError>
+    ensures { IfOk result (λ body. form_of body ≡ comment_on line.start) }
 {
-    let line = Line::of_rule(COMMENT);
     let text_byte = seq(
         vec![in alloc;
             not(
@@ -632,11 +684,9 @@ fn comment_body(alloc: Global) -> Result<Expr, AllocError>
 }
 
 // Space <- ' ' / '\t' / EndOfLine
-#[tactic(auto, unfolding(crate::specs::Figure::space_body))]
-fn space_body(alloc: Global) -> Result<Expr, AllocError>
-    ensures { IfOk result (λ body. form_of body ≡ space_body) }
+fn space_body(alloc: Global, line: Line) -> Result<Expr, AllocError>
+    ensures { IfOk result (λ body. form_of body ≡ space_on line.start) }
 {
-    let line = Line::of_rule(SPACE);
     choice(
         alloc,
         literal(alloc, b" ", line.span(9, 12))?,
@@ -649,11 +699,9 @@ fn space_body(alloc: Global) -> Result<Expr, AllocError>
 }
 
 // EndOfLine <- '\r\n' / '\n' / '\r'
-#[tactic(auto, unfolding(crate::specs::Figure::end_of_line_body))]
-fn end_of_line_body(alloc: Global) -> Result<Expr, AllocError>
-    ensures { IfOk result (λ body. form_of body ≡ end_of_line_body) }
+fn end_of_line_body(alloc: Global, line: Line) -> Result<Expr, AllocError>
+    ensures { IfOk result (λ body. form_of body ≡ end_of_line_on line.start) }
 {
-    let line = Line::of_rule(END_OF_LINE);
     choice(
         alloc,
         literal(alloc, b"\r\n", line.span(13, 19))?,
@@ -666,10 +714,8 @@ fn end_of_line_body(alloc: Global) -> Result<Expr, AllocError>
 }
 
 // EndOfFile <- !.
-#[tactic(auto, unfolding(crate::specs::Figure::end_of_file_body))]
-fn end_of_file_body(alloc: Global) -> Result<Expr, AllocError>
-    ensures { IfOk result (λ body. form_of body ≡ end_of_file_body) }
+fn end_of_file_body(alloc: Global, line: Line) -> Result<Expr, AllocError>
+    ensures { IfOk result (λ body. form_of body ≡ end_of_file_on line.start) }
 {
-    let line = Line::of_rule(END_OF_FILE);
     not(alloc, any(line.span(14, 15)), line.span(13, 15))
 }

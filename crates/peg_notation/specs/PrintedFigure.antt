@@ -7,6 +7,7 @@ use Rattle.peg_semantics.specs.Form.{Form, Name, Choice, forms}
 use Rattle.peg_semantics.specs.Record.{Record, Matched, IsRecord}
 use Rattle.peg_semantics.specs.Rules.{Rule}
 use Rattle.peg_metagrammar.specs.FigureRules.{char_rule}
+use Rattle.peg_metagrammar.specs.FigureText.{line_start}
 use Rattle.peg_metagrammar.specs.EscapedFigure.{escaped_figure, numbered_now}
 use Rattle.peg_metagrammar.specs.Figure.{char_sign, char_three_digits, char_two_digits, char_alone, on_line}
 use Rattle.peg_metagrammar.specs.Denotation.{is_octal, octal, rules_spelled}
@@ -14,7 +15,9 @@ use Rattle.peg_metagrammar.specs.SimpleEscapes.{simple_escape}
 
 -- Char <- '\\' [nrt'"\[\]\\] / '\\' [0-2][0-7][0-7] / '\\' [0-7][0-7]? / !'\\' .
 abbrev pub printed_char : Form
-printed_char = Choice char_sign (forms (char_three_digits ∷ char_two_digits ∷ char_alone ∷ []))
+printed_char =
+    let line = line_start char_rule in
+    Choice (char_sign line) (forms (char_three_digits line ∷ char_two_digits line ∷ char_alone line ∷ []))
     (on_line char_rule 39 109)
 
 -- a rule, with this expression as its body if it is Char

@@ -133,9 +133,9 @@ fn a_memo_saves_what_parentheses_take_twice(rt: HostRuntime) -> Result<(), Fail>
 // Parentheses by count, the steps of a parse with a memo, those that the memo alone needs, and one less.
 //
 // Without a memo a count of n takes 18 * 2^n - 11 steps, and with one 12 * n + 7. The run without a memo may take 4,096
-// steps and 256 for each of the 3 * n + 1 bytes: 11,264 for 9 and 12,032 for 10. Nine parentheses take 9,205 steps, and
-// ten take 18,421.
-const FIRST_RUN: [(usize, u64, u64, u64); 2] = [(9, 9205, 115, 114), (10, 127, 127, 126)];
+// steps and 64 for each of the 3 * n + 1 bytes: 5,696 for 8 and 5,888 for 9. Eight parentheses take 4,597 steps, and
+// nine take 9,205.
+const FIRST_RUN: [(usize, u64, u64, u64); 2] = [(8, 4597, 103, 102), (9, 115, 115, 114)];
 
 #[test]
 fn a_parse_runs_without_a_memo_first(rt: HostRuntime) -> Result<(), Fail> {

@@ -69,11 +69,11 @@ impl From<AllocError> for ParseFault {
     }
 }
 
-// A parse runs without a memo first, with at most this many steps and so many more for each byte of the text. Ordinary
-// grammars take 3 to 40 steps for each byte, and chains of precedence up to 175.
+// A parse runs without a memo first, with at most this many steps and so many more for each byte of the text. Data
+// formats take 5 to 10 steps for each byte, grammar files about 20, and programs in C 40 to 60.
 const PLAIN_STEPS_BASE: u64 = 4_096;
 
-const PLAIN_STEPS_PER_BYTE: u64 = 256;
+const PLAIN_STEPS_PER_BYTE: u64 = 64;
 
 // The step limit of the run without a memo: at most the limit of the parse.
 fn plain_steps(bytes: usize, max_steps: Option<u64>) -> u64
@@ -181,7 +181,7 @@ impl Parser {
     /// are those of Ford's recognition relation for the grammar as written (Ford 2004, section 3.3). What the memo
     /// stores doesn't change them (Ford 2002).
     ///
-    /// With a memo, the parse runs without it first, within 4,096 steps and 256 for each byte of the text. If these are
+    /// With a memo, the parse runs without it first, within 4,096 steps and 64 for each byte of the text. If these are
     /// not enough, it runs again with the memo. The steps of the answer are those of the run that gave it.
     ///
     /// Returns `NoSuchStart` first, then `TextTooLong`. Returns `StepLimit` only if more steps than `options.steps`
