@@ -106,7 +106,7 @@ pub(crate) fn parser(alloc: Global, file: &[u8]) -> Result<Parser, AllocError> {
     }
 }
 
-// Parentheses that a parse matches without a memo, and so many that it needs the memo.
+// Parentheses that a parse matches without a memo, and more of them, for which it needs the memo.
 const FEW: &[u8] = b"((((a)y)y)y)y";
 
 const MANY: &[u8] = b"((((((((((a)y)y)y)y)y)y)y)y)y)y";

@@ -69,8 +69,8 @@ impl From<AllocError> for ParseFault {
     }
 }
 
-// A parse runs without a memo first, with at most this many steps and so many more for each byte of the text. Data
-// formats take 5 to 10 steps for each byte, grammar files about 20, and programs in C 40 to 60.
+// A parse runs without a memo first. That run may take `PLAIN_STEPS_BASE` steps, and `PLAIN_STEPS_PER_BYTE` for each byte
+// of the text. Data formats take 5 to 10 steps for each byte, grammar files about 20, and programs in C 40 to 60.
 const PLAIN_STEPS_BASE: u64 = 4_096;
 
 const PLAIN_STEPS_PER_BYTE: u64 = 64;
