@@ -1,7 +1,8 @@
 #!/usr/bin/env bash
 # The gate, which `make test` runs. `rt ci` proves each crate and its tests from nothing, tries the must-fail edits, and
 # runs the tests and the programs. Then the scripts run on the built programs: the examples, failed allocations of runs
-# and of single calls, the commands in the documents, their generated parts and links, and fuzzing. The last line counts all.
+# and of single calls, the commands in the documents, their generated parts and links, and fuzzing.
+# The last line counts all.
 set -u
 cd "$(dirname "$0")/.." || exit 1
 log=$(mktemp)

@@ -8,22 +8,13 @@ listed as well. The product crates are those above the heading `tests` in crates
 
 import re
 import sys
-from pathlib import Path
 
-TOP = Path(__file__).resolve().parent.parent
+from generated import TOP, product_crates, run
+
 TRUST = TOP / "docs" / "TRUST.md"
-BEGIN = "<!-- contracts: written by tools/contracts.py -->"
-END = "<!-- contracts end -->"
 
-BLOCK = re.compile(r"^(?:pub )?(impl|trait)\b(?:<[^>]*>)? ?(.*?)(?:<.*)? ?(?:for .*)?\{?$")
 FUNCTION = re.compile(r"^(\s*)(pub )?(?:const )?fn (\w+)")
 CLAUSE = re.compile(r"^\s*ensures(?: (\w+))?(?: \*)? ?(?:\{|$)")
-
-
-def product_crates():
-    """The crates before the heading `tests`, in order."""
-    lines = (TOP / "crates.txt").read_text(encoding="utf-8").split("\n# tests\n")[0].splitlines()
-    return [line.split(":")[0] for line in lines if line and not line.startswith("#")]
 
 
 def owner_of(line):
@@ -70,7 +61,7 @@ def functions_of(crate):
     return found
 
 
-def listing():
+def listing(_head):
     """The list, as Markdown."""
     lines = []
     for crate in product_crates():
@@ -85,22 +76,5 @@ def listing():
     return "\n".join(lines)
 
 
-def main():
-    text = TRUST.read_text(encoding="utf-8")
-    head, _, rest = text.partition(BEGIN)
-    _, _, tail = rest.partition(END)
-    new = f"{head}{BEGIN}\n\n{listing()}\n{END}{tail}"
-    if "--write" in sys.argv:
-        TRUST.write_text(new, encoding="utf-8")
-    elif "--check" in sys.argv:
-        if new != text:
-            print("docs/TRUST.md: the list of public functions differs from the sources; run tools/contracts.py --write")
-            return 1
-        print("docs/TRUST.md: the list of public functions is that of the sources")
-    else:
-        print(listing())
-    return 0
-
-
 if __name__ == "__main__":
-    sys.exit(main())
+    sys.exit(run(TRUST, "contracts", "contracts.py", listing))

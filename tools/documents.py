@@ -1,9 +1,9 @@
 #!/usr/bin/env python3
 """Checks the documents: each link leads to a file and a heading, and each limit is stated in docs/USAGE.md alone.
 
-The limits are the numbers of at least four digits in the table "Limits" of docs/USAGE.md, and the defaults in its tables
-of options of at least four digits. With --sentences the average and the greatest number of words in a sentence of each document are printed;
-that is no check. Prints each fault, and exits with 1 if there is one.
+The limits are the numbers of at least four digits in the table "Limits" of docs/USAGE.md, and the defaults of at least
+four digits in its tables of options. With --sentences the average and the greatest number of words in a sentence of each
+document are printed; that is no check. Prints each fault, and exits with 1 if there is one.
 """
 
 import re
