@@ -39,14 +39,14 @@ CASES = [
 ]
 
 
-def told(*words):
+def output_of(*words):
     return json.loads(subprocess.run([PROGRAM, *words], capture_output=True, check=True).stdout)
 
 
 def listing(grammar, path):
     """The code of a grammar, as plain.c reads it."""
-    code = told("code", grammar)
-    names = [entry["rule"] for entry in told("table", grammar)["table"]]
+    code = output_of("code", grammar)
+    names = [entry["rule"] for entry in output_of("table", grammar)["table"]]
     terminals = 1 + max((one[1] for one in code["code"] if one[0] == "test"), default=-1)
     letters = {"test": "T", "call": "C", "ret": "R", "choice": "H", "commit": "M", "failtwice": "F", "end": "E"}
     with open(path, "w") as file:
@@ -68,7 +68,7 @@ def rows_in(path):
 
 
 def microseconds(*words):
-    """What a program tells of its runs, as its last numbers."""
+    """The numbers that a program prints of its runs."""
     return [int(number) for number in re.findall(rb"\d+", subprocess.run(words, capture_output=True, check=True).stdout)]
 
 

@@ -15,7 +15,7 @@ root = sys.argv[1]
 
 
 def stat(pid):
-    """What the system tells of a process, behind its name."""
+    """The fields that the system gives for a process, after its name."""
     with open(f"/proc/{pid}/stat", encoding="utf-8") as file:
         return file.read().rpartition(")")[2].split()
 

@@ -8,23 +8,23 @@ def place(data, at):  # the line, the column, and where the line begins
     return len(ends), at - ends[-1] + 1, ends[-1]
 
 def refusal(name, data, answer):
-    told = " ".join([answer["refusal"], *answer.get("path", []), answer.get("rule", answer.get("name", ""))]).rstrip()
-    if "path" in answer:  # no place is told: that of the first rule's definition is looked for
+    reason = " ".join([answer["refusal"], *answer.get("path", []), answer.get("rule", answer.get("name", ""))]).rstrip()
+    if "path" in answer:  # LeftRecursion has no offset: the definition of the path's first rule is shown
         answer["at"] = re.search(rb"\b%s(?:\s|#.*)*<-" % answer["path"][0].encode(), data).start()
     at = answer.get("at", answer.get("start"))
-    if at is None: return f"{name}: {told}"
+    if at is None: return f"{name}: {reason}"
     line, column, start = place(data, at)
     shown = re.split(rb"[\r\n]", data[start:])[0].decode(errors="replace")
     below = re.sub(r"\S", " ", data[start:at].decode(errors="replace"))
-    return f"{name}:{line}:{column}: {told}\n{shown}\n{below}^"
+    return f"{name}:{line}:{column}: {reason}\n{shown}\n{below}^"
 
 def failure(name, data, grammar, answer):
-    at, told = answer["far"], [grammar[start:end].decode(errors="replace") for start, end in answer["expected"]]
+    at, wanted = answer["far"], [grammar[start:end].decode(errors="replace") for start, end in answer["expected"]]
     if answer["result"] == "partial" and answer["consumed"] >= at:  # the end failed where the match ends
-        at, told = answer["consumed"], (told if answer["consumed"] == at else []) + ["[]"]
-    told = dict.fromkeys("the end" if terminal == "[]" else terminal for terminal in told) or ["something else"]
+        at, wanted = answer["consumed"], (wanted if answer["consumed"] == at else []) + ["[]"]
+    wanted = dict.fromkeys("the end" if terminal == "[]" else terminal for terminal in wanted) or ["something else"]
     found = repr(data[at:at + 4].decode(errors="replace")[0]) if at < len(data) else "the end"
-    return "%s:%d:%d: expected %s, found %s" % (name, *place(data, at)[:2], " or ".join(told), found)
+    return "%s:%d:%d: expected %s, found %s" % (name, *place(data, at)[:2], " or ".join(wanted), found)
 
 sys.argv[2:] or sys.exit(__doc__)
 status, grammar, program = 0, open(sys.argv[1], "rb").read(), os.environ.get("PEGTOOL", "pegtool")

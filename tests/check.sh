@@ -16,16 +16,16 @@ fault() {
   faults=$((faults + 1))
 }
 
-run() { # the wanted status, the input, and the words: the line goes to $folder/line, the rest to $folder/told
+run() { # the wanted status, the input, and the words: the line goes to $folder/line, the messages to $folder/stderr
   status=0
-  "$program" "${@:3}" < "$2" > "$folder/line" 2> "$folder/told" || status=$?
+  "$program" "${@:3}" < "$2" > "$folder/line" 2> "$folder/stderr" || status=$?
   [ "$status" = "$1" ] || fault "status $status and not $1: ${*:3} < $2"
 }
 
 file_fault() { # the words: a file fault comes, and nothing on standard output
   run 4 /dev/null "$@"
   [ ! -s "$folder/line" ] || fault "a line: $*"
-  [ "$(cat "$folder/told")" = "pegtool: file fault" ] || fault "no file fault is told: $*"
+  [ "$(cat "$folder/stderr")" = "pegtool: file fault" ] || fault "no file fault is reported: $*"
 }
 
 is_json() { # the last line is to go on into a reader of JSON, as all_json sees to at the end
@@ -34,7 +34,7 @@ is_json() { # the last line is to go on into a reader of JSON, as all_json sees 
 }
 
 all_json() { # the lines that were kept go on into a reader of JSON
-  python3 - "$folder/lines" "$folder/words" > "$folder/told" << 'END' || fault "the lines of JSON can't be read"
+  python3 - "$folder/lines" "$folder/words" > "$folder/invalid" << 'END' || fault "the lines of JSON can't be read"
 import json, sys
 for line, words in zip(*(open(name, encoding="utf-8") for name in sys.argv[1:]), strict=True):
     try:
@@ -42,19 +42,19 @@ for line, words in zip(*(open(name, encoding="utf-8") for name in sys.argv[1:]),
     except ValueError:
         print(words, end="")
 END
-  while read -r words; do fault "no JSON: $words"; done < "$folder/told"
+  while read -r words; do fault "no JSON: $words"; done < "$folder/invalid"
 }
 
 unwritten() { # the words, with an output that can't be written as standard output
   status=0
-  "$program" "$@" 2> "$folder/told" < /dev/null || status=$?
+  "$program" "$@" 2> "$folder/stderr" < /dev/null || status=$?
   [ "$status" = 4 ] || fault "status $status and not 4, with no output: $*"
-  [ "$(cat "$folder/told")" = "pegtool: file fault" ] || fault "no file fault is told, with no output: $*"
+  [ "$(cat "$folder/stderr")" = "pegtool: file fault" ] || fault "no file fault is reported, with no output: $*"
 }
 
 prints() { # the wanted status, the wanted lines, and the words of a script
   status=0
-  PEGTOOL=$program "${@:3}" > "$folder/line" 2> "$folder/told" < /dev/null || status=$?
+  PEGTOOL=$program "${@:3}" > "$folder/line" 2> "$folder/stderr" < /dev/null || status=$?
   [ "$status" = "$1" ] || fault "status $status and not $1: ${*:3}"
   [ "$(cat "$folder/line")" = "$2" ] || fault "not the lines that are wanted: ${*:3}"
 }
@@ -123,7 +123,7 @@ for words in "parse json.peg" "parse json.peg text --memo 1000001" "parse json.p
   "parse json.peg text --steps 0" "parse json.peg text --steps 1000000000001" "tables json.peg"; do
   # shellcheck disable=SC2086
   run 3 /dev/null $words
-  grep -q '^error: ' "$folder/told" || fault "nothing is told: $words"
+  grep -q '^error: ' "$folder/stderr" || fault "nothing is reported: $words"
 done
 run 0 /dev/null --help
 run 0 /dev/null parse --help
@@ -139,7 +139,7 @@ for words in "--help" "check --help" "table --help" "code --help" "parse --help"
   [ -n "$example" ] || fault "no example: $words"
   status=0
   # shellcheck disable=SC2086
-  (cd "$folder/own" && "$program" $example > ../line 2> ../told < /dev/null) || status=$?
+  (cd "$folder/own" && "$program" $example > ../line 2> ../stderr < /dev/null) || status=$?
   case "$example" in
     *--start*) wanted=1 ;;
     *) wanted=0 ;;
@@ -193,7 +193,7 @@ prints 1 "$folder/text:1:1: expected something else, found 'a'" ./explain.py "$f
 
 all_json
 
-# What is told of other notations (docs/NOTATION.md): what the line has to hold, and the grammar.
+# What is reported of other notations (docs/NOTATION.md): what the line has to hold, and the grammar.
 while IFS=$'\t' read -r wanted grammar; do
   printf '%b' "$grammar" > "$folder/other.peg"
   "$program" check "$folder/other.peg" > "$folder/line"

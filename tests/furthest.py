@@ -44,8 +44,8 @@ def terminals_of(grammar):
     return found
 
 
-def told(text):
-    """The place and the terminals that the program tells of a text."""
+def printed(text):
+    """The furthest offset and the terminals that the program prints for a text."""
     grammar = os.path.dirname(text) + ".peg"
     line = json.loads(subprocess.run([PROGRAM, "parse", grammar, text], stdout=subprocess.PIPE).stdout)
     names = terminals_of(grammar)
@@ -60,7 +60,7 @@ def main():
              if name.startswith("no_match")}
     faults = [f"{text}: in only one of furthest.txt and examples/" for text in sorted(texts ^ held.keys())]
     for text in sorted(texts & held.keys()):
-        answer = told(text)
+        answer = printed(text)
         if answer != held[text]:
             faults.append(f"{text}: by hand {held[text]}, by the program {answer}")
     for fault in faults:

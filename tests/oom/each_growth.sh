@@ -15,14 +15,14 @@ refuse() { # what the run is called, its input, and its words
   ends=$?
   for n in $(seq 1 100000); do
     rm -f "$work/met"
-    got=$(LD_PRELOAD="$work/refuse.so" REFUSE_NTH=$n REFUSE_MET="$work/met" "$program" "${@:3}" < "$2" 2> "$work/told")
+    got=$(LD_PRELOAD="$work/refuse.so" REFUSE_NTH=$n REFUSE_MET="$work/met" "$program" "${@:3}" < "$2" 2> "$work/stderr")
     status=$?
     if [ ! -e "$work/met" ]; then
       [ "$status" = "$ends" ] && [ "$got" = "$want" ] || { echo "$1: WRONG without a refusal"; faults=$((faults + 1)); }
       echo "$1: $((n - 1)) allocations"
       return
     fi
-    case "$status:$got:$(cat "$work/told")" in
+    case "$status:$got:$(cat "$work/stderr")" in
       "5::pegtool: out of memory" | "$ends:$want:"*) ;;
       *) echo "$1, allocation $n: WRONG, status $status: $got"; faults=$((faults + 1)) ;;
     esac

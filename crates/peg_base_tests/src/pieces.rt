@@ -14,7 +14,7 @@ fn tree_of(rows: Vec<TreeNode>) -> Result<Tree, Fail> {
 }
 
 // The pieces of a tree's text, concatenated, and their number.
-fn told(alloc: Global, rows: Vec<TreeNode>) -> Result<(Vec<u8>, usize), Fail> {
+fn text_in_pieces(alloc: Global, rows: Vec<TreeNode>) -> Result<(Vec<u8>, usize), Fail> {
     let tree = tree_of(rows)?;
     if !tree.fits(Grammar.count()) {
         return Err("no rule".into());
@@ -34,7 +34,7 @@ fn told(alloc: Global, rows: Vec<TreeNode>) -> Result<(Vec<u8>, usize), Fail> {
 #[test]
 fn a_small_tree_is_one_piece(rt: HostRuntime) -> Result<(), Fail> {
     let alloc = rt.alloc();
-    let (text, pieces) = told(alloc, small(alloc)?)?;
+    let (text, pieces) = text_in_pieces(alloc, small(alloc)?)?;
     let expected = b"[1,\"list\",0,9],[2,\"word\",0,3],[2,\"word\",4,9],[3,\"word\",5,8]";
     assert!(rt; text.as_slice() == expected.as_slice());
     assert_eq!(rt; pieces, 1);
@@ -42,9 +42,9 @@ fn a_small_tree_is_one_piece(rt: HostRuntime) -> Result<(), Fail> {
 }
 
 #[test]
-fn a_large_tree_is_told_in_pieces(rt: HostRuntime) -> Result<(), Fail> {
+fn a_large_tree_is_written_in_pieces(rt: HostRuntime) -> Result<(), Fail> {
     let alloc = rt.alloc();
-    let (text, pieces) = told(alloc, chain(alloc, 10_000)?)?;
+    let (text, pieces) = text_in_pieces(alloc, chain(alloc, 10_000)?)?;
     let tree = tree_of(chain(alloc, 10_000)?)?;
     if !tree.fits(Grammar.count()) {
         return Err("no rule".into());
@@ -82,7 +82,7 @@ fn numbers_have_all_their_digits(rt: HostRuntime) -> Result<(), Fail> {
         let node = format!(in alloc; ",[2,\"word\",0,{place}]")?;
         expected.push_str(node.as_str())?;
     }
-    let (text, _) = told(alloc, rows)?;
+    let (text, _) = text_in_pieces(alloc, rows)?;
     assert!(rt; text.as_slice() == expected.as_bytes());
     Ok(())
 }

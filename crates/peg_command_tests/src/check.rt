@@ -6,7 +6,7 @@ use std::process::Abort;
 use std::test::Fail;
 
 // Checks a file, and compares the line, without its line end, and the exit status.
-fn tells(rt: &impl Abort, alloc: Global, file: &[u8], line: &str, status: u8) -> Result<(), Fail> {
+fn assert_line(rt: &impl Abort, alloc: Global, file: &[u8], line: &str, status: u8) -> Result<(), Fail> {
     let mut written = Vec::new(alloc);
     let ended = run_tool(
         alloc,
@@ -25,7 +25,7 @@ fn tells(rt: &impl Abort, alloc: Global, file: &[u8], line: &str, status: u8) ->
 fn accepts(rt: &impl Abort, alloc: Global, files: &[(&[u8], usize)]) -> Result<(), Fail> {
     for (file, rules) in files {
         let line = format!(in alloc; "{{\"result\":\"accepted\",\"rules\":{rules}}}")?;
-        tells(rt, alloc, file, line.as_str(), 0)?;
+        assert_line(rt, alloc, file, line.as_str(), 0)?;
     }
     Ok(())
 }
@@ -33,7 +33,7 @@ fn accepts(rt: &impl Abort, alloc: Global, files: &[(&[u8], usize)]) -> Result<(
 // Checks that each file is rejected with this line.
 fn refuses(rt: &impl Abort, alloc: Global, files: &[(&[u8], &str)]) -> Result<(), Fail> {
     for (file, line) in files {
-        tells(rt, alloc, file, line, 2)?;
+        assert_line(rt, alloc, file, line, 2)?;
     }
     Ok(())
 }
@@ -42,7 +42,7 @@ fn refuses(rt: &impl Abort, alloc: Global, files: &[(&[u8], &str)]) -> Result<()
 fn recurs(rt: &impl Abort, alloc: Global, files: &[(&[u8], &str)]) -> Result<(), Fail> {
     for (file, path) in files {
         let line = format!(in alloc; "{{\"path\":[{path}],\"refusal\":\"LeftRecursion\"}}")?;
-        tells(rt, alloc, file, line.as_str(), 2)?;
+        assert_line(rt, alloc, file, line.as_str(), 2)?;
     }
     Ok(())
 }
@@ -57,7 +57,7 @@ fn loops(
         let line = format!(in alloc;
             "{{\"column\":{column},\"end\":{end},\"line\":{line},\"refusal\":\"EmptyLoop\",\"rule\":\"{rule}\",\"start\":{start}}}"
         )?;
-        tells(rt, alloc, file, line.as_str(), 2)?;
+        assert_line(rt, alloc, file, line.as_str(), 2)?;
     }
     Ok(())
 }
@@ -77,7 +77,7 @@ fn well_formed_grammars_are_accepted(rt: HostRuntime) -> Result<(), Fail> {
 }
 
 #[test]
-fn left_recursion_is_told_by_its_path(rt: HostRuntime) -> Result<(), Fail> {
+fn left_recursion_is_reported_by_its_path(rt: HostRuntime) -> Result<(), Fail> {
     let files: [(&[u8], &str); 18] = [
         (b"A <- A\n", "\"A\""),
         (b"A <- B 'x'\nB <- 'y'? A\n", "\"A\",\"B\""),
@@ -105,7 +105,7 @@ fn left_recursion_is_told_by_its_path(rt: HostRuntime) -> Result<(), Fail> {
 }
 
 #[test]
-fn empty_loops_are_told_by_their_place(rt: HostRuntime) -> Result<(), Fail> {
+fn empty_loops_are_reported_by_their_place(rt: HostRuntime) -> Result<(), Fail> {
     let files: [(&[u8], &str, u32, u32, u32, u32); 12] = [
         (b"A <- ('a'*)*\n", "A", 1, 6, 5, 12),
         (b"A <- ('')+\n", "A", 1, 6, 5, 10),

@@ -6,7 +6,7 @@ use std::process::Abort;
 use std::test::Fail;
 
 // Runs a command on a file, and compares the line, without its line end, and the exit status.
-fn tells(
+fn assert_line(
     rt: &impl Abort,
     alloc: Global,
     command: &Command<'_>,
@@ -53,7 +53,7 @@ fn code_is_listed(rt: HostRuntime) -> Result<(), Fail> {
         ),
     ];
     for (file, line) in cases {
-        tells(&rt, rt.alloc(), &Command::Code, file, line, 0)?;
+        assert_line(&rt, rt.alloc(), &Command::Code, file, line, 0)?;
     }
     Ok(())
 }
@@ -75,7 +75,7 @@ fn refused_files_have_no_code(rt: HostRuntime) -> Result<(), Fail> {
         ),
     ];
     for (file, line) in cases {
-        tells(&rt, rt.alloc(), &Command::Code, file, line, 2)?;
+        assert_line(&rt, rt.alloc(), &Command::Code, file, line, 2)?;
     }
     Ok(())
 }
@@ -101,11 +101,11 @@ fn code_that_is_too_large_is_refused(rt: HostRuntime) -> Result<(), Fail> {
     };
     let large = pluses(alloc, 25)?;
     for command in [Command::Check, Command::Code, parse] {
-        tells(&rt, alloc, &command, &large, line, 2)?;
+        assert_line(&rt, alloc, &command, &large, line, 2)?;
     }
     let over = pluses(alloc, 19)?;
-    tells(&rt, alloc, &Command::Check, &over, line, 2)?;
+    assert_line(&rt, alloc, &Command::Check, &over, line, 2)?;
     let within = pluses(alloc, 18)?;
     let accepted = "{\"result\":\"accepted\",\"rules\":1}";
-    tells(&rt, alloc, &Command::Check, &within, accepted, 0)
+    assert_line(&rt, alloc, &Command::Check, &within, accepted, 0)
 }

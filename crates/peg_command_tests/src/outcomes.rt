@@ -232,7 +232,7 @@ fn entry(alloc: Global, name: &str, outcomes: &str) -> Result<String, AllocError
 }
 
 // Checks the entries of a file's table.
-fn tells(rt: &impl Abort, alloc: Global, file: &[u8], entries: &[String]) -> Result<(), Fail> {
+fn assert_line(rt: &impl Abort, alloc: Global, file: &[u8], entries: &[String]) -> Result<(), Fail> {
     let mut written = Vec::new(alloc);
     run_tool(
         alloc,
@@ -261,13 +261,13 @@ fn can(rt: &impl Abort, alloc: Global, rows: &[(&str, &str)]) -> Result<(), Fail
     for (expression, outcomes) in rows {
         let mut file = Vec::new(alloc);
         let mut entries = Vec::new(alloc);
-        for (name, body, told) in KINDS {
+        for (name, body, printed) in KINDS {
             add_rule(&mut file, name, body)?;
-            entries.push(entry(alloc, name, told)?)?;
+            entries.push(entry(alloc, name, printed)?)?;
         }
         add_rule(&mut file, "R", expression)?;
         entries.push(entry(alloc, "R", outcomes)?)?;
-        tells(rt, alloc, &file, &entries)?;
+        assert_line(rt, alloc, &file, &entries)?;
     }
     Ok(())
 }

@@ -5,7 +5,7 @@ use std::process::Abort;
 use std::test::Fail;
 
 // Runs the command `table` on a file, and compares the line and the exit status.
-fn tells(rt: &impl Abort, alloc: Global, file: &[u8], line: &str, status: u8) -> Result<(), Fail> {
+fn assert_line(rt: &impl Abort, alloc: Global, file: &[u8], line: &str, status: u8) -> Result<(), Fail> {
     let mut written = Vec::new(alloc);
     let ended = run_tool(
         alloc,
@@ -40,7 +40,7 @@ fn tables_have_an_entry_for_each_rule(rt: HostRuntime) -> Result<(), Fail> {
         ),
     ];
     for (file, line) in cases {
-        tells(&rt, rt.alloc(), file, line, 0)?;
+        assert_line(&rt, rt.alloc(), file, line, 0)?;
     }
     Ok(())
 }
@@ -66,10 +66,10 @@ fn refused_files_have_no_table(rt: HostRuntime) -> Result<(), Fail> {
         ),
     ];
     for (file, line) in cases {
-        tells(&rt, rt.alloc(), file, line, 2)?;
+        assert_line(&rt, rt.alloc(), file, line, 2)?;
     }
     let spaces = vec![in rt.alloc(); b' '; 1_048_577]?;
-    tells(
+    assert_line(
         &rt,
         rt.alloc(),
         &spaces,

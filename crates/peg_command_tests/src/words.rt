@@ -49,7 +49,7 @@ fn leads(
     ended: Result<u8, ProgramFault>,
 ) -> Result<(), Fail> {
     let mut output = Vec::new(alloc);
-    let told = run_words(
+    let printed = run_words(
         alloc,
         &Shelf,
         &mut Device::new(b"S <- 'a'\n%%\na".as_slice()),
@@ -57,7 +57,7 @@ fn leads(
         words,
     );
     assert!(rt; output.as_slice() == written.as_bytes(), "{written}");
-    assert_eq!(rt; told, ended, "{written}");
+    assert_eq!(rt; printed, ended, "{written}");
     Ok(())
 }
 
@@ -172,8 +172,8 @@ fn faults_have_a_text_and_a_status(rt: HostRuntime) -> Result<(), Fail> {
         (ProgramFault::Memory, "pegtool: out of memory", 5),
     ];
     for (fault, text, status) in cases {
-        let told = format!(in rt.alloc(); "{fault}")?;
-        assert!(rt; told.as_str() == text, "{told}");
+        let printed = format!(in rt.alloc(); "{fault}")?;
+        assert!(rt; printed.as_str() == text, "{printed}");
         assert_eq!(rt; fault.status(), status);
     }
     Ok(())

@@ -9,11 +9,11 @@ use std::test::Fail;
 fn verdict(alloc: Global, file: &[u8]) -> Result<String, Fail> {
     match check(alloc, core_of(alloc, file)?) {
         Ok(_) => Ok(String::from_str(alloc, "fine")?),
-        Err(fault) => Ok(told(alloc, &fault)?),
+        Err(fault) => Ok(verdict_of_fault(alloc, &fault)?),
     }
 }
 
-fn told(alloc: Global, fault: &CheckFault) -> Result<String, AllocError> {
+fn verdict_of_fault(alloc: Global, fault: &CheckFault) -> Result<String, AllocError> {
     match fault {
         CheckFault::EmptyLoop { rule, span } => {
             format!(in alloc; "loop {rule} {} {}", span.start, span.end)

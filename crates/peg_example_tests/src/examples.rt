@@ -44,7 +44,7 @@ fn assert_example(rt: &impl Abort, alloc: Global, example: &Example) -> Result<(
 }
 
 // Runs a command on a file, and returns its line and its exit status.
-fn told(alloc: Global, file: &[u8], command: Command) -> Result<(Vec<u8>, u8), Fail> {
+fn line_and_status(alloc: Global, file: &[u8], command: Command) -> Result<(Vec<u8>, u8), Fail> {
     let mut written = Vec::new(alloc);
     let ended = run_tool(
         alloc,
@@ -68,9 +68,9 @@ fn every_grammar_has_a_table_and_is_accepted(rt: HostRuntime) -> Result<(), Fail
         (URI, 15),
     ];
     for (file, rules) in grammars {
-        let (_, status) = told(alloc, file, Command::Table)?;
+        let (_, status) = line_and_status(alloc, file, Command::Table)?;
         assert_eq!(rt; status, 0, "of {file:?}");
-        let (line, status) = told(alloc, file, Command::Check)?;
+        let (line, status) = line_and_status(alloc, file, Command::Check)?;
         let wanted = format!(in alloc; "{{\"result\":\"accepted\",\"rules\":{rules}}}\n")?;
         assert!(rt; line.as_slice() == wanted.as_bytes(), "{wanted}");
         assert_eq!(rt; status, 0, "of {file:?}");
@@ -94,7 +94,7 @@ fn can(rt: &impl Abort, alloc: Global, grammar: &[u8], rules: &[(&str, &str)]) -
         wanted.push_str(entry.as_str())?;
     }
     wanted.push_str("]}\n")?;
-    let (line, _) = told(alloc, grammar, Command::Table)?;
+    let (line, _) = line_and_status(alloc, grammar, Command::Table)?;
     assert!(rt; line.as_slice() == wanted.as_bytes(), "{line:?}");
     Ok(())
 }

@@ -59,7 +59,7 @@ fn the_figure_reads_itself(rt: HostRuntime) -> Result<(), Fail> {
 fn the_figure_is_accepted_and_parses_itself(rt: HostRuntime) -> Result<(), Fail> {
     let text = figure_text();
     assert_eq!(rt; text.len(), FIGURE_BYTES);
-    let checked = told(&rt, rt.alloc(), &Command::Check)?;
+    let checked = printed_by(&rt, rt.alloc(), &Command::Check)?;
     assert_eq!(rt;
         checked.as_str(),
         "{\"result\":\"accepted\",\"rules\":31}\n"
@@ -74,7 +74,7 @@ fn the_figure_is_accepted_and_parses_itself(rt: HostRuntime) -> Result<(), Fail>
         all: true,
         rows: true,
     };
-    let line = told(&rt, rt.alloc(), &parse)?;
+    let line = printed_by(&rt, rt.alloc(), &parse)?;
     assert!(rt; line.starts_with("{\"consumed\":1086,\"expected\":[["));
     let behind = "]],\"far\":1086,\"result\":\"matched\",\"rows\":[[1,\"Grammar\",0,1086],";
     assert!(rt; line.contains(behind));
@@ -82,7 +82,7 @@ fn the_figure_is_accepted_and_parses_itself(rt: HostRuntime) -> Result<(), Fail>
 }
 
 // The output of a command on the metagrammar's text, as the grammar file and as the text.
-fn told(rt: &impl Abort, alloc: Global, command: &Command<'_>) -> Result<String, Fail> {
+fn printed_by(rt: &impl Abort, alloc: Global, command: &Command<'_>) -> Result<String, Fail> {
     let mut written = Vec::new(alloc);
     let status = run_tool(
         alloc,
@@ -184,7 +184,7 @@ fn both_readers_refuse_a_count_at_its_brace(rt: HostRuntime) -> Result<(), Fail>
 }
 
 #[test]
-fn the_figure_tells_what_it_does_not_match_before_a_count(rt: HostRuntime) -> Result<(), Fail> {
+fn the_figure_reports_what_it_does_not_match_before_a_count(rt: HostRuntime) -> Result<(), Fail> {
     let alloc = rt.alloc();
     let faults = |file: &[u8]| (read(alloc, file).err(), read_by_figure(alloc, file).err());
     let unmatched = Some(FigureFault::NotInFigure);

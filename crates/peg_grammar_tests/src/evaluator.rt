@@ -189,7 +189,7 @@ fn a_reversed_range_and_an_empty_class_hold_no_byte(rt: HostRuntime) -> Result<(
 }
 
 #[test]
-fn failed_terminals_are_told_once_and_in_written_order(rt: HostRuntime) -> Result<(), Fail> {
+fn failed_terminals_are_reported_once_and_in_written_order(rt: HostRuntime) -> Result<(), Fail> {
     let cases = [failed(b"d", 0, &[0, 1, 2])];
     assert_cases(
         &rt,

@@ -56,7 +56,7 @@ fn a_duplicate_is_named_where_it_stands(rt: HostRuntime) -> Result<(), Fail> {
 }
 
 #[test]
-fn the_first_undefined_name_is_told(rt: HostRuntime) -> Result<(), Fail> {
+fn the_first_undefined_name_is_reported(rt: HostRuntime) -> Result<(), Fail> {
     let file = b"S <-S /T/U";
     assert_eq!(rt; weight(&read(rt.alloc(), file)?), 5);
     assert_undefined(&rt, rt.alloc(), file, Span::new(7, 8))
@@ -94,7 +94,7 @@ fn counted(alloc: Global, part: Expr, min: u8, max: u8, span: Span) -> Result<Ex
 
 // Of two nested counts the one out of range is reported. If both are out of range, it is the outer one.
 #[test]
-fn the_first_count_out_of_range_is_told(rt: HostRuntime) -> Result<(), Fail> {
+fn the_first_count_out_of_range_is_reported(rt: HostRuntime) -> Result<(), Fail> {
     let alloc = rt.alloc();
     let (inner, outer) = (Span::new(6, 12), Span::new(5, 18));
     let cases = [
@@ -115,11 +115,11 @@ fn the_first_count_out_of_range_is_told(rt: HostRuntime) -> Result<(), Fail> {
             inner,
         )?;
         let body = counted(alloc, part, least, most, outer)?;
-        let told = match Grammar::new(alloc, only_rule(alloc, body)?) {
+        let reported = match Grammar::new(alloc, only_rule(alloc, body)?) {
             Err(GrammarFault::BadCount { span }) => Some(span),
             _ => None,
         };
-        assert_eq!(rt; told, wanted);
+        assert_eq!(rt; reported, wanted);
     }
     Ok(())
 }

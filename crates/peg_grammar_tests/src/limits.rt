@@ -23,7 +23,7 @@ fn depth_is_used_below_what_the_cases_need(rt: HostRuntime) -> Result<(), Fail> 
 
 // S <- T / T, T <- [] / [] / .., with many alternatives
 #[test]
-fn many_alternatives_that_fail_at_one_place_are_all_told(rt: HostRuntime) -> Result<(), Fail> {
+fn many_alternatives_that_fail_at_one_place_are_all_reported(rt: HostRuntime) -> Result<(), Fail> {
     let alloc = rt.alloc();
     let mut file = Vec::from_slice(alloc, b"S<-T/T T<-[]")?;
     for _ in 1..300_000 {

@@ -154,7 +154,7 @@ fn runs_match_without_a_bound(rt: HostRuntime) -> Result<(), Fail> {
 }
 
 #[test]
-fn a_text_beyond_the_limit_is_told(rt: HostRuntime) -> Result<(), Fail> {
+fn a_text_beyond_the_limit_is_reported(rt: HostRuntime) -> Result<(), Fail> {
     let alloc = rt.alloc();
     let grammar = nested_grammar(alloc)?;
     let text = vec![in alloc; b'c'; 67_108_865]?;

@@ -24,7 +24,7 @@ fn run_first(
 }
 
 // Checks the outcome on a text, and the span in the file of the one expected terminal.
-fn assert_told(rt: &impl Abort, alloc: Global, case: Case, wanted: Span) -> Result<(), Fail> {
+fn assert_reported(rt: &impl Abort, alloc: Global, case: Case, wanted: Span) -> Result<(), Fail> {
     let program = program_of(alloc, COUNTS)?;
     let answer = run_first(rt, alloc, &program, case.text)?;
     assert_outcome(rt, &answer.outcome, case);
@@ -39,13 +39,13 @@ fn assert_told(rt: &impl Abort, alloc: Global, case: Case, wanted: Span) -> Resu
 fn equal_counts_match(rt: HostRuntime) -> Result<(), Fail> {
     let nodes = &[(0, 0, 6, 1), (2, 2, 6, 1), (2, 3, 5, 1), (2, 4, 4, 0)];
     let case = matched(b"aabbcc", 6, 6, &[2], nodes);
-    assert_told(&rt, rt.alloc(), case, Span { start: 23, end: 24 })
+    assert_reported(&rt, rt.alloc(), case, Span { start: 23, end: 24 })
 }
 
 #[test]
-fn a_missing_byte_at_the_end_is_told(rt: HostRuntime) -> Result<(), Fail> {
+fn a_missing_byte_at_the_end_is_reported(rt: HostRuntime) -> Result<(), Fail> {
     let case = failed(b"aabbc", 5, &[7]);
-    assert_told(&rt, rt.alloc(), case, Span { start: 56, end: 59 })
+    assert_reported(&rt, rt.alloc(), case, Span { start: 56, end: 59 })
 }
 
 // A text with `count` of each byte.

@@ -78,7 +78,7 @@ fn a_star_goes_over_a_million_bytes(rt: HostRuntime) -> Result<(), Fail> {
 }
 
 #[test]
-fn a_text_over_the_limit_is_told(rt: HostRuntime) -> Result<(), Fail> {
+fn a_text_over_the_limit_is_reported(rt: HostRuntime) -> Result<(), Fail> {
     let alloc = rt.alloc();
     let program = program_of(alloc, RIGHT)?;
     assert!(rt; program.rules() > 0);

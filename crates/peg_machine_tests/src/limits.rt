@@ -8,8 +8,8 @@ use std::process::Abort;
 use std::test::Fail;
 
 // The steps of an answer; `None` if the limit was reached.
-fn steps_of(told: Result<Answer, RunFault>) -> Result<Option<u64>, Fail> {
-    match told {
+fn steps_of(ended: Result<Answer, RunFault>) -> Result<Option<u64>, Fail> {
+    match ended {
         Ok(answer) => Ok(Some(answer.steps)),
         Err(RunFault::StepLimit) => Ok(None),
         Err(fault) => Err(Fail::from(fault)),

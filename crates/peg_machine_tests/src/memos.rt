@@ -172,7 +172,7 @@ fn a_hundred_parentheses_take_few_steps_with_a_memo(rt: HostRuntime) -> Result<(
 }
 
 #[test]
-fn a_missing_byte_is_told_with_each_memo(rt: HostRuntime) -> Result<(), Fail> {
+fn a_missing_byte_is_reported_with_each_memo(rt: HostRuntime) -> Result<(), Fail> {
     let alloc = rt.alloc();
     let pair = pair_of(alloc, COUNTS)?;
     let case = failed(b"aabbc", 5, &[7]);

@@ -78,7 +78,7 @@ pub(crate) fn program_of(alloc: Global, file: &[u8]) -> Result<Program, Fail> {
 }
 
 // Checks that two outcomes of a text from a start are the same; the message describes the parse.
-fn assert_told_alike(
+fn assert_same_report(
     rt: &impl Abort,
     alloc: Global,
     pair: &Pair,
@@ -105,9 +105,9 @@ pub(crate) fn same_outcome(
     assert!(rt; start < pair.grammar.rules());
     let wanted = plain_total(alloc, &pair.grammar, text, start)?;
     let answer = run_from(alloc, &pair.program, text, start, &mut NoWatch, None)?;
-    assert_told_alike(rt, alloc, pair, text, start, &answer.outcome, &wanted)?;
+    assert_same_report(rt, alloc, pair, text, start, &answer.outcome, &wanted)?;
     let plain = run_step_by_step(alloc, &pair.program, text, start, None)?;
-    assert_told_alike(rt, alloc, pair, text, start, &plain.outcome, &wanted)?;
+    assert_same_report(rt, alloc, pair, text, start, &plain.outcome, &wanted)?;
     assert_eq!(rt; answer.steps, plain.steps);
     Ok(wanted)
 }
@@ -133,14 +133,14 @@ pub(crate) fn same_outcome_with_memos(
             &mut NoWatch,
             None,
         )?;
-        assert_told_alike(rt, alloc, pair, text, start, &answer.outcome, &wanted)?;
+        assert_same_report(rt, alloc, pair, text, start, &answer.outcome, &wanted)?;
     }
     for capacity in [1, 4096] {
         let answer = run_selecting(alloc, &pair.program, text, start, capacity, None)?;
-        assert_told_alike(rt, alloc, pair, text, start, &answer.outcome, &wanted)?;
+        assert_same_report(rt, alloc, pair, text, start, &answer.outcome, &wanted)?;
     }
     let answer = run_forgetting(alloc, &pair.program, text, start)?;
-    assert_told_alike(rt, alloc, pair, text, start, &answer.outcome, &wanted)?;
+    assert_same_report(rt, alloc, pair, text, start, &answer.outcome, &wanted)?;
     Ok(wanted)
 }
 

@@ -102,7 +102,7 @@ fn the_steps_of_uses_that_are_given_up_are_counted(rt: HostRuntime) -> Result<()
 }
 
 #[test]
-fn a_place_in_the_file_is_told_of_each_expected_terminal(rt: HostRuntime) -> Result<(), Fail> {
+fn a_place_in_the_file_is_reported_of_each_expected_terminal(rt: HostRuntime) -> Result<(), Fail> {
     let alloc = rt.alloc();
     let program = program_of(alloc, b"S <- 'a' S / 'b'")?;
     let answer = run_within(&rt, alloc, &program, b"aab", None)?;

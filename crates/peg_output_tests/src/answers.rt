@@ -17,7 +17,7 @@ struct Asked {
 }
 
 // The JSON of the answer to a parse of a text by a grammar file.
-fn told(
+fn answer_text(
     alloc: Global,
     file: &[u8],
     text: &[u8],
@@ -35,7 +35,7 @@ fn told(
     Ok(answer_json(alloc, &parser, &answer, text_len, all, rows))
 }
 
-fn is_told(
+fn assert_answer(
     rt: &impl Abort,
     alloc: Global,
     file: &[u8],
@@ -43,7 +43,7 @@ fn is_told(
     asked: Asked,
     line: &str,
 ) -> Result<(), Fail> {
-    let text = told(alloc, file, text, asked)?.ok().ok_or("an answer")?;
+    let text = answer_text(alloc, file, text, asked)?.ok().ok_or("an answer")?;
     assert!(rt; text.as_str() == line, "{text}");
     Ok(())
 }
@@ -55,7 +55,7 @@ fn a_match_has_its_tree(rt: HostRuntime) -> Result<(), Fail> {
     let listed =
         "{\"consumed\":3,\"expected\":[[5,8]],\"far\":2,\"result\":\"matched\",\"rows\":[[1,\"S\",0,3],[2,\"S\",1,3],[3,\"S\",2,3]]}";
     for all in [false, true] {
-        is_told(
+        assert_answer(
             &rt,
             rt.alloc(),
             NESTED,
@@ -63,7 +63,7 @@ fn a_match_has_its_tree(rt: HostRuntime) -> Result<(), Fail> {
             Asked { all, rows: false },
             nested,
         )?;
-        is_told(
+        assert_answer(
             &rt,
             rt.alloc(),
             NESTED,
@@ -79,20 +79,20 @@ fn a_match_has_its_tree(rt: HostRuntime) -> Result<(), Fail> {
 fn a_failure_tells_its_terminals(rt: HostRuntime) -> Result<(), Fail> {
     let line = "{\"expected\":[[5,8],[13,16]],\"far\":0,\"result\":\"failed\"}";
     for all in [false, true] {
-        is_told(&rt, rt.alloc(), NESTED, b"", Asked { all, rows: all }, line)?;
+        assert_answer(&rt, rt.alloc(), NESTED, b"", Asked { all, rows: all }, line)?;
     }
     Ok(())
 }
 
 #[test]
-fn a_part_is_told_where_all_is_asked_for(rt: HostRuntime) -> Result<(), Fail> {
+fn a_part_is_reported_where_all_is_asked_for(rt: HostRuntime) -> Result<(), Fail> {
     let file = b"S <- 'a' / 'ab'\n";
     let matched =
         "{\"consumed\":1,\"expected\":[],\"far\":0,\"result\":\"matched\",\"tree\":{\"children\":[],\"end\":1,\"rule\":\"S\",\"start\":0}}";
     let partial =
         "{\"consumed\":1,\"expected\":[],\"far\":0,\"result\":\"partial\",\"tree\":{\"children\":[],\"end\":1,\"rule\":\"S\",\"start\":0}}";
     let rows = false;
-    is_told(
+    assert_answer(
         &rt,
         rt.alloc(),
         file,
@@ -100,7 +100,7 @@ fn a_part_is_told_where_all_is_asked_for(rt: HostRuntime) -> Result<(), Fail> {
         Asked { all: false, rows },
         matched,
     )?;
-    is_told(
+    assert_answer(
         &rt,
         rt.alloc(),
         file,
@@ -111,19 +111,19 @@ fn a_part_is_told_where_all_is_asked_for(rt: HostRuntime) -> Result<(), Fail> {
 }
 
 #[test]
-fn a_tree_of_61_levels_is_told_by_its_rows(rt: HostRuntime) -> Result<(), Fail> {
+fn a_tree_of_61_levels_is_reported_by_its_rows(rt: HostRuntime) -> Result<(), Fail> {
     let alloc = rt.alloc();
-    for (levels, rows, tells) in [(60, false, true), (61, false, false), (61, true, true)] {
-        match told(
+    for (levels, rows, printed) in [(60, false, true), (61, false, false), (61, true, true)] {
+        match answer_text(
             alloc,
             NESTED,
             &repeat_then(alloc, b'a', levels - 1, b"b")?,
             Asked { all: true, rows },
         )? {
-            Ok(_) => assert!(rt; tells, "{levels}"),
+            Ok(_) => assert!(rt; printed, "{levels}"),
             Err(fault) => {
                 assert_eq!(rt; fault, JsonFault::TooDeep);
-                assert!(rt; !tells, "{levels}");
+                assert!(rt; !printed, "{levels}");
             }
         }
     }
@@ -145,7 +145,7 @@ fn rows_of_61_levels_count_up(rt: HostRuntime) -> Result<(), Fail> {
         all: true,
         rows: true,
     };
-    is_told(
+    assert_answer(
         &rt,
         alloc,
         NESTED,

@@ -5,7 +5,7 @@ use std::alloc::Global;
 use std::test::Fail;
 
 // The line of a parse of a text by a grammar file.
-fn told(alloc: Global, file: &[u8], text: &[u8]) -> Result<Line, Fail> {
+fn line_of(alloc: Global, file: &[u8], text: &[u8]) -> Result<Line, Fail> {
     let parser = Parser::from_file(alloc, file)?;
     let options = ParseOptions {
         start: None,
@@ -20,7 +20,7 @@ fn told(alloc: Global, file: &[u8], text: &[u8]) -> Result<Line, Fail> {
 
 #[test]
 fn rows_stand_between_the_head_and_the_tail(rt: HostRuntime) -> Result<(), Fail> {
-    let line = told(rt.alloc(), b"S <- 'a' S / 'b'\n", b"aab")?;
+    let line = line_of(rt.alloc(), b"S <- 'a' S / 'b'\n", b"aab")?;
     assert_eq!(rt;
         line.head.as_str(),
         "{\"consumed\":3,\"expected\":[[5,8]],\"far\":2,\"result\":\"matched\",\"rows\":["
@@ -37,13 +37,13 @@ fn rows_stand_between_the_head_and_the_tail(rt: HostRuntime) -> Result<(), Fail>
 
 #[test]
 fn a_part_and_a_failure_have_status_one(rt: HostRuntime) -> Result<(), Fail> {
-    let line = told(rt.alloc(), b"S <- 'a' / 'ab'\n", b"ab")?;
+    let line = line_of(rt.alloc(), b"S <- 'a' / 'ab'\n", b"ab")?;
     assert_eq!(rt;
         line.head.as_str(),
         "{\"consumed\":1,\"expected\":[],\"far\":0,\"result\":\"partial\",\"rows\":["
     );
     assert_eq!(rt; line.status, Status::Failed);
-    let line = told(rt.alloc(), b"S <- 'a'\n", b"b")?;
+    let line = line_of(rt.alloc(), b"S <- 'a'\n", b"b")?;
     assert_eq!(rt;
         line.head.as_str(),
         "{\"expected\":[[5,8]],\"far\":0,\"result\":\"failed\"}"

@@ -137,7 +137,7 @@ fn parse_has_its_options(rt: HostRuntime) -> Result<(), Fail> {
 }
 
 // The text printed instead of running a command, and whether it is help.
-fn told(alloc: Global, words: &[&str]) -> Option<(bool, String)> {
+fn text_of_words(alloc: Global, words: &[&str]) -> Option<(bool, String)> {
     match read(alloc, words) {
         Ok(Words::Help { text }) => Some((true, text)),
         Err(WordsFault::Usage { text }) => Some((false, text)),
@@ -148,18 +148,18 @@ fn told(alloc: Global, words: &[&str]) -> Option<(bool, String)> {
 // Checks that the arguments ask for help, and that its text contains this part.
 fn helps(rt: &impl Abort, alloc: Global, line: &str, part: &str) -> Result<(), Fail> {
     let words: Vec<&str> = line.split(' ').collect(alloc)?;
-    let (is_help, text) = told(alloc, &words).ok_or("no text")?;
+    let (is_help, text) = text_of_words(alloc, &words).ok_or("no text")?;
     assert!(rt; is_help && text.contains(part), "{text}");
     Ok(())
 }
 
 #[test]
-fn help_is_told(rt: HostRuntime) -> Result<(), Fail> {
+fn help_is_printed(rt: HostRuntime) -> Result<(), Fail> {
     let cases = [
         ("-h", "Usage: pegtool <COMMAND>"),
         ("--help", "Example: pegtool parse grammar.peg text"),
         ("--help", "may be written as `\\xHH`"),
-        ("--help", "`e{2,4}` two to four times"),
+        ("--help", "`e{2,4}` two to four"),
         ("check --help", "Usage: pegtool check <G>"),
         ("check --help", "Example: pegtool check grammar.peg"),
         ("table --help", "Usage: pegtool table <G>"),
@@ -169,10 +169,10 @@ fn help_is_told(rt: HostRuntime) -> Result<(), Fail> {
         ("parse --help", "Usage: pegtool parse [OPTIONS] <G> <T>"),
         ("parse --help", "[default: 4096]"),
         ("parse --help", "--steps <N>"),
-        ("parse --help", "--memo 0 is faster"),
+        ("parse --help", "--memo 0 never uses it"),
         (
             "parse --help",
-            "StepLimit, ask with a greater --steps or --memo",
+            "StepLimit, which needs\na greater --steps or --memo",
         ),
         (
             "parse --help",
@@ -188,7 +188,7 @@ fn help_is_told(rt: HostRuntime) -> Result<(), Fail> {
 // Checks that the arguments in a text, separated by spaces, are rejected with a message that contains this part.
 fn refused(rt: &impl Abort, alloc: Global, line: &str, part: &str) -> Result<(), Fail> {
     let words: Vec<&str> = line.split(' ').collect(alloc)?;
-    let (is_help, text) = told(alloc, &words).ok_or("no text")?;
+    let (is_help, text) = text_of_words(alloc, &words).ok_or("no text")?;
     assert!(rt; !is_help && text.contains(part), "{text}");
     assert!(rt; text.contains("--help"), "{text}");
     Ok(())

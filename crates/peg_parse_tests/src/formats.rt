@@ -39,7 +39,7 @@ pub(crate) fn parse(start: Option<&str>, all: bool, rows: bool) -> Command<'_> {
 }
 
 #[test]
-fn matches_are_told_by_trees_or_rows(rt: HostRuntime) -> Result<(), Fail> {
+fn matches_are_reported_by_trees_or_rows(rt: HostRuntime) -> Result<(), Fail> {
     let file = b"S <- 'a' S / 'b'\n";
     replies(
         &rt,

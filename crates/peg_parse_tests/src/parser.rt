@@ -9,7 +9,7 @@ use std::test::Fail;
 const MEMOS: [u32; 3] = [0, 1, 4096];
 
 // Parses a text from a rule, at each memo capacity, and compares the answers.
-fn tells(
+fn assert_line(
     rt: &impl Abort,
     alloc: Global,
     file: &[u8],
@@ -22,31 +22,31 @@ fn tells(
     for memo in MEMOS {
         let steps = None;
         let answer = parser.parse(alloc, text, &ParseOptions { start, memo, steps })?;
-        let told = answer_json(alloc, &parser, &answer, text_len, false, false)?;
-        assert!(rt; told.as_str() == line, "{told} at {memo}");
+        let printed = answer_json(alloc, &parser, &answer, text_len, false, false)?;
+        assert!(rt; printed.as_str() == line, "{printed} at {memo}");
     }
     Ok(())
 }
 
 #[test]
-fn a_match_is_told_with_its_tree(rt: HostRuntime) -> Result<(), Fail> {
+fn a_match_is_reported_with_its_tree(rt: HostRuntime) -> Result<(), Fail> {
     let line =
         "{\"consumed\":6,\"expected\":[[23,24]],\"far\":6,\"result\":\"matched\",\"tree\":{\"children\":[{\"children\":[{\"children\":[{\"children\":[],\"end\":4,\"rule\":\"B\",\"start\":4}],\"end\":5,\"rule\":\"B\",\"start\":3}],\"end\":6,\"rule\":\"B\",\"start\":2}],\"end\":6,\"rule\":\"D\",\"start\":0}}";
-    tells(&rt, rt.alloc(), COUNTS, None, b"aabbcc", line)?;
-    tells(&rt, rt.alloc(), COUNTS, Some("D"), b"aabbcc", line)
+    assert_line(&rt, rt.alloc(), COUNTS, None, b"aabbcc", line)?;
+    assert_line(&rt, rt.alloc(), COUNTS, Some("D"), b"aabbcc", line)
 }
 
 #[test]
-fn a_failure_is_told_with_its_furthest_place(rt: HostRuntime) -> Result<(), Fail> {
+fn a_failure_is_reported_with_its_furthest_place(rt: HostRuntime) -> Result<(), Fail> {
     let line = "{\"expected\":[[56,59]],\"far\":5,\"result\":\"failed\"}";
-    tells(&rt, rt.alloc(), COUNTS, None, b"aabbc", line)
+    assert_line(&rt, rt.alloc(), COUNTS, None, b"aabbc", line)
 }
 
 #[test]
 fn a_parse_starts_from_the_rule_that_is_named(rt: HostRuntime) -> Result<(), Fail> {
     let line =
         "{\"consumed\":2,\"expected\":[[50,53]],\"far\":1,\"result\":\"matched\",\"tree\":{\"children\":[{\"children\":[],\"end\":1,\"rule\":\"B\",\"start\":1}],\"end\":2,\"rule\":\"B\",\"start\":0}}";
-    tells(&rt, rt.alloc(), COUNTS, Some("B"), b"bc", line)
+    assert_line(&rt, rt.alloc(), COUNTS, Some("B"), b"bc", line)
 }
 
 // Checks that no parse starts from this name, at any memo capacity.
@@ -64,7 +64,7 @@ fn starts_nowhere(rt: &impl Abort, alloc: Global, parser: &Parser, name: &str) -
 }
 
 #[test]
-fn a_start_that_is_no_rule_is_told_by_its_name(rt: HostRuntime) -> Result<(), Fail> {
+fn a_start_that_is_no_rule_is_reported_by_its_name(rt: HostRuntime) -> Result<(), Fail> {
     let alloc = rt.alloc();
     let file = b"S <- 'a'\n".as_slice();
     let parser = Parser::from_file(alloc, file)?;
@@ -93,8 +93,8 @@ fn a_start_that_is_no_rule_is_told_by_its_name(rt: HostRuntime) -> Result<(), Fa
     ];
     for (name, line) in cases {
         starts_nowhere(&rt, alloc, &parser, name)?;
-        let told = refusal_json(alloc, &Fault::NoSuchStart(name), file, &["S"])?;
-        assert!(rt; told.as_str() == line, "{told}");
+        let printed = refusal_json(alloc, &Fault::NoSuchStart(name), file, &["S"])?;
+        assert!(rt; printed.as_str() == line, "{printed}");
     }
     Ok(())
 }

@@ -309,7 +309,7 @@ impl Write for Full {
 }
 
 #[test]
-fn a_writer_that_takes_no_byte_is_told(rt: HostRuntime) -> Result<(), Fail> {
+fn a_writer_that_takes_no_byte_is_reported(rt: HostRuntime) -> Result<(), Fail> {
     let mut output = Device::new(Full);
     let ended = run_tool(
         rt.alloc(),

@@ -37,7 +37,7 @@ fn refuses_second(
 }
 
 #[test]
-fn syntax_is_told_by_its_line(rt: HostRuntime) -> Result<(), Fail> {
+fn syntax_is_reported_by_its_line(rt: HostRuntime) -> Result<(), Fail> {
     let wanted = [
         "{\"at\":14,\"column\":6,\"line\":2,\"refusal\":\"Syntax\"}",
         "{\"at\":15,\"column\":6,\"line\":2,\"refusal\":\"Syntax\"}",
@@ -48,7 +48,7 @@ fn syntax_is_told_by_its_line(rt: HostRuntime) -> Result<(), Fail> {
 }
 
 #[test]
-fn a_parenthesis_too_many_is_told_by_its_line(rt: HostRuntime) -> Result<(), Fail> {
+fn a_parenthesis_too_many_is_reported_by_its_line(rt: HostRuntime) -> Result<(), Fail> {
     let alloc = rt.alloc();
     let mut second = Vec::from_slice(alloc, b"B <- ")?;
     second.resize(5 + 201, b'(')?;
@@ -63,7 +63,7 @@ fn a_parenthesis_too_many_is_told_by_its_line(rt: HostRuntime) -> Result<(), Fai
 }
 
 #[test]
-fn a_name_twice_is_told_by_its_line(rt: HostRuntime) -> Result<(), Fail> {
+fn a_name_twice_is_reported_by_its_line(rt: HostRuntime) -> Result<(), Fail> {
     let wanted = [
         "{\"column\":1,\"end\":10,\"line\":2,\"name\":\"A\",\"refusal\":\"Duplicate\",\"start\":9}",
         "{\"column\":1,\"end\":11,\"line\":2,\"name\":\"A\",\"refusal\":\"Duplicate\",\"start\":10}",
@@ -73,7 +73,7 @@ fn a_name_twice_is_told_by_its_line(rt: HostRuntime) -> Result<(), Fail> {
 }
 
 #[test]
-fn a_missing_name_is_told_by_its_line(rt: HostRuntime) -> Result<(), Fail> {
+fn a_missing_name_is_reported_by_its_line(rt: HostRuntime) -> Result<(), Fail> {
     let wanted = [
         "{\"column\":3,\"end\":14,\"line\":2,\"name\":\"Far\",\"refusal\":\"Undefined\",\"start\":11}",
         "{\"column\":3,\"end\":15,\"line\":2,\"name\":\"Far\",\"refusal\":\"Undefined\",\"start\":12}",
@@ -83,7 +83,7 @@ fn a_missing_name_is_told_by_its_line(rt: HostRuntime) -> Result<(), Fail> {
 }
 
 #[test]
-fn an_empty_loop_is_told_by_its_line(rt: HostRuntime) -> Result<(), Fail> {
+fn an_empty_loop_is_reported_by_its_line(rt: HostRuntime) -> Result<(), Fail> {
     let wanted = [
         "{\"column\":6,\"end\":21,\"line\":2,\"refusal\":\"EmptyLoop\",\"rule\":\"B\",\"start\":14}",
         "{\"column\":6,\"end\":22,\"line\":2,\"refusal\":\"EmptyLoop\",\"rule\":\"B\",\"start\":15}",
@@ -94,8 +94,8 @@ fn an_empty_loop_is_told_by_its_line(rt: HostRuntime) -> Result<(), Fail> {
 
 #[test]
 fn a_left_cycle_has_no_line(rt: HostRuntime) -> Result<(), Fail> {
-    let told = "{\"path\":[\"B\"],\"refusal\":\"LeftRecursion\"}";
-    refuses_second(&rt, rt.alloc(), b"B <- 'y'? B", [told, told, told])
+    let expected = "{\"path\":[\"B\"],\"refusal\":\"LeftRecursion\"}";
+    refuses_second(&rt, rt.alloc(), b"B <- 'y'? B", [expected, expected, expected])
 }
 
 #[test]

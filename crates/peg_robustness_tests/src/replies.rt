@@ -22,9 +22,9 @@ fn replies(
         &mut Device::new(&mut written),
         command,
     )?;
-    let told = written.as_slice();
+    let bytes = written.as_slice();
     assert!(rt;
-        told.strip_suffix(b"\n".as_slice()) == Some(line.as_bytes()),
+        bytes.strip_suffix(b"\n".as_slice()) == Some(line.as_bytes()),
         "{line} of {file:?}"
     );
     assert_eq!(rt; ended, status, "{line} of {file:?}");
