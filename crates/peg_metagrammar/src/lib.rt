@@ -10,6 +10,7 @@ pub mod laws;
 mod line;
 mod nesting;
 mod ranges;
+mod rule_lines;
 pub mod rule_numbers;
 mod rules;
 

@@ -1,23 +1,20 @@
 //! The metagrammar as definitions, rule by rule.
-ghost use Rattle.std.specs.Prelude.{◌≡◌, ◌≤◌, IfOk};
+ghost use Rattle.std.specs.Prelude.{◌≡◌, IfOk};
 ghost use Rattle.peg_grammar.specs.Written.{form_of, rules_of};
-ghost use Rattle.peg_metagrammar.specs.Figure.{figure};
-ghost use Rattle.peg_metagrammar.specs.Figure.{primary_name, primary_parentheses, literal_single, literal_double};
-ghost use Rattle.peg_metagrammar.specs.Figure.{char_hexadecimal, char_sign, char_three_digits, char_two_digits};
-ghost use Rattle.peg_metagrammar.specs.Figure.{char_alone, hexadecimal_class, grammar_on, definition_on};
-ghost use Rattle.peg_metagrammar.specs.Figure.{expression_on, sequence_on, prefix_on, suffix_on, primary_on};
-ghost use Rattle.peg_metagrammar.specs.Figure.{identifier_on, ident_start_on, ident_cont_on, literal_on, class_on};
-ghost use Rattle.peg_metagrammar.specs.Figure.{range_on, char_on, count_on, number_on, spacing_on, comment_on};
-ghost use Rattle.peg_metagrammar.specs.Figure.{space_on, end_of_line_on, end_of_file_on};
+ghost use Rattle.peg_metagrammar.specs.Figure.{figure, grammar_body, definition_body, expression_body, sequence_body};
+ghost use Rattle.peg_metagrammar.specs.Figure.{prefix_body, suffix_body, primary_body, identifier_body};
+ghost use Rattle.peg_metagrammar.specs.Figure.{ident_start_body, ident_cont_body, literal_body, class_body};
+ghost use Rattle.peg_metagrammar.specs.Figure.{range_body, char_body, count_body, number_body, spacing_body};
+ghost use Rattle.peg_metagrammar.specs.Figure.{comment_body, space_body, end_of_line_body, end_of_file_body};
 ghost use Rattle.peg_metagrammar.specs.FigureParts.{first_eight, second_eight, third_eight, last_seven};
 
-use crate::builders::{
-    any, choice, class, class_from_set, definition, literal, name, not, operator, optional, plus,
-    seq, star,
-};
-use crate::escapes::escaped_bytes;
+use crate::builders::{definition, operator};
 use crate::line::Line;
-use crate::ranges::range;
+use crate::rule_lines::{
+    char_on, class_on, comment_on, count_on, definition_on, end_of_file_on, end_of_line_on,
+    expression_on, grammar_on, ident_cont_on, ident_start_on, identifier_on, literal_on, number_on,
+    prefix_on, primary_on, range_on, sequence_on, space_on, spacing_on, suffix_on,
+};
 use crate::rule_numbers::{
     AND, CHAR, CLASS, CLOSE, COMMENT, COUNT, DEFINITION, DOT, END_OF_FILE, END_OF_LINE, EXPRESSION,
     GRAMMAR, IDENT_CONT, IDENT_START, IDENTIFIER, LEFTARROW, LITERAL, NOT, NUMBER, OPEN, PLUS,
@@ -40,106 +37,41 @@ pub fn figure(alloc: Global) -> Result<Vec<Definition>, AllocError>
 }
 
 // The first eight rules: grammars, expressions and names.
-#[tactic(auto, unfolding(crate::specs::Figure::figure, crate::specs::Figure::grammar_body, crate::specs::Figure::definition_body, crate::specs::Figure::expression_body, crate::specs::Figure::sequence_body, crate::specs::Figure::prefix_body, crate::specs::Figure::suffix_body, crate::specs::Figure::primary_body, crate::specs::Figure::identifier_body))]
+#[tactic(auto, unfolding(crate::specs::Figure::figure))]
 fn first_eight(alloc: Global) -> Result<Vec<Definition>, AllocError>
     ensures { IfOk result (λ definitions. rules_of definitions.items ≡ first_eight) }
 {
     Ok(vec![in alloc;
-        definition(
-            alloc,
-            GRAMMAR,
-            "Grammar",
-            grammar_body(alloc, Line::of_rule(GRAMMAR))?
-        )?,
-        definition(
-            alloc,
-            DEFINITION,
-            "Definition",
-            definition_body(alloc, Line::of_rule(DEFINITION))?
-        )?,
-        definition(
-            alloc,
-            EXPRESSION,
-            "Expression",
-            expression_body(alloc, Line::of_rule(EXPRESSION))?
-        )?,
-        definition(
-            alloc,
-            SEQUENCE,
-            "Sequence",
-            sequence_body(alloc, Line::of_rule(SEQUENCE))?
-        )?,
-        definition(
-            alloc,
-            PREFIX,
-            "Prefix",
-            prefix_body(alloc, Line::of_rule(PREFIX))?
-        )?,
-        definition(
-            alloc,
-            SUFFIX,
-            "Suffix",
-            suffix_body(alloc, Line::of_rule(SUFFIX))?
-        )?,
-        definition(
-            alloc,
-            PRIMARY,
-            "Primary",
-            primary_body(alloc, Line::of_rule(PRIMARY))?
-        )?,
-        definition(
-            alloc,
-            IDENTIFIER,
-            "Identifier",
-            identifier_body(alloc, Line::of_rule(IDENTIFIER))?
-        )?,
+        definition(alloc, GRAMMAR, "Grammar", grammar_body(alloc)?)?,
+        definition(alloc, DEFINITION, "Definition", definition_body(alloc)?)?,
+        definition(alloc, EXPRESSION, "Expression", expression_body(alloc)?)?,
+        definition(alloc, SEQUENCE, "Sequence", sequence_body(alloc)?)?,
+        definition(alloc, PREFIX, "Prefix", prefix_body(alloc)?)?,
+        definition(alloc, SUFFIX, "Suffix", suffix_body(alloc)?)?,
+        definition(alloc, PRIMARY, "Primary", primary_body(alloc)?)?,
+        definition(alloc, IDENTIFIER, "Identifier", identifier_body(alloc)?)?,
     ]?)
 }
 
 // The next eight rules: names, literals, classes and operators.
-#[tactic(auto, unfolding(crate::specs::Figure::figure, crate::specs::Figure::ident_start_body, crate::specs::Figure::ident_cont_body, crate::specs::Figure::literal_body, crate::specs::Figure::class_body, crate::specs::Figure::range_body, crate::specs::Figure::char_body))]
+#[tactic(auto, unfolding(crate::specs::Figure::figure))]
 fn second_eight(alloc: Global) -> Result<Vec<Definition>, AllocError>
     ensures { IfOk result (λ definitions. rules_of definitions.items ≡ second_eight) }
 {
     Ok(vec![in alloc;
-        definition(
-            alloc,
-            IDENT_START,
-            "IdentStart",
-            ident_start_body(alloc, Line::of_rule(IDENT_START))?
-        )?,
-        definition(
-            alloc,
-            IDENT_CONT,
-            "IdentCont",
-            ident_cont_body(alloc, Line::of_rule(IDENT_CONT))?
-        )?,
-        definition(
-            alloc,
-            LITERAL,
-            "Literal",
-            literal_body(alloc, Line::of_rule(LITERAL))?
-        )?,
-        definition(
-            alloc,
-            CLASS,
-            "Class",
-            class_body(alloc, Line::of_rule(CLASS))?
-        )?,
-        definition(
-            alloc,
-            RANGE,
-            "Range",
-            range_body(alloc, Line::of_rule(RANGE))?
-        )?,
-        definition(alloc, CHAR, "Char", char_body(alloc, Line::of_rule(CHAR))?)?,
+        definition(alloc, IDENT_START, "IdentStart", ident_start_body(alloc)?)?,
+        definition(alloc, IDENT_CONT, "IdentCont", ident_cont_body(alloc)?)?,
+        definition(alloc, LITERAL, "Literal", literal_body(alloc)?)?,
+        definition(alloc, CLASS, "Class", class_body(alloc)?)?,
+        definition(alloc, RANGE, "Range", range_body(alloc)?)?,
+        definition(alloc, CHAR, "Char", char_body(alloc)?)?,
         operator(alloc, LEFTARROW, "LEFTARROW", b"<-", 13, 17)?,
         operator(alloc, SLASH, "SLASH", b"/", 9, 12)?,
     ]?)
 }
 
 // The next eight rules: operators and counts.
-#[tactic(auto, unfolding(crate::specs::Figure::figure, crate::specs::Figure::count_body, crate::specs::Figure::number_body))]
+#[tactic(auto, unfolding(crate::specs::Figure::figure))]
 fn third_eight(alloc: Global) -> Result<Vec<Definition>, AllocError>
     ensures { IfOk result (λ definitions. rules_of definitions.items ≡ third_eight) }
 {
@@ -149,573 +81,192 @@ fn third_eight(alloc: Global) -> Result<Vec<Definition>, AllocError>
         operator(alloc, QUESTION, "QUESTION", b"?", 12, 15)?,
         operator(alloc, STAR, "STAR", b"*", 8, 11)?,
         operator(alloc, PLUS, "PLUS", b"+", 8, 11)?,
-        definition(
-            alloc,
-            COUNT,
-            "COUNT",
-            count_body(alloc, Line::of_rule(COUNT))?
-        )?,
-        definition(
-            alloc,
-            NUMBER,
-            "Number",
-            number_body(alloc, Line::of_rule(NUMBER))?
-        )?,
+        definition(alloc, COUNT, "COUNT", count_body(alloc)?)?,
+        definition(alloc, NUMBER, "Number", number_body(alloc)?)?,
         operator(alloc, OPEN, "OPEN", b"(", 8, 11)?,
     ]?)
 }
 
 // The last seven rules: operators and spacing.
-#[tactic(auto, unfolding(crate::specs::Figure::figure, crate::specs::Figure::spacing_body, crate::specs::Figure::comment_body, crate::specs::Figure::space_body, crate::specs::Figure::end_of_line_body, crate::specs::Figure::end_of_file_body))]
+#[tactic(auto, unfolding(crate::specs::Figure::figure))]
 fn last_seven(alloc: Global) -> Result<Vec<Definition>, AllocError>
     ensures { IfOk result (λ definitions. rules_of definitions.items ≡ last_seven) }
 {
     Ok(vec![in alloc;
         operator(alloc, CLOSE, "CLOSE", b")", 9, 12)?,
         operator(alloc, DOT, "DOT", b".", 7, 10)?,
-        definition(
-            alloc,
-            SPACING,
-            "Spacing",
-            spacing_body(alloc, Line::of_rule(SPACING))?
-        )?,
-        definition(
-            alloc,
-            COMMENT,
-            "Comment",
-            comment_body(alloc, Line::of_rule(COMMENT))?
-        )?,
-        definition(
-            alloc,
-            SPACE,
-            "Space",
-            space_body(alloc, Line::of_rule(SPACE))?
-        )?,
-        definition(
-            alloc,
-            END_OF_LINE,
-            "EndOfLine",
-            end_of_line_body(alloc, Line::of_rule(END_OF_LINE))?
-        )?,
-        definition(
-            alloc,
-            END_OF_FILE,
-            "EndOfFile",
-            end_of_file_body(alloc, Line::of_rule(END_OF_FILE))?
-        )?,
+        definition(alloc, SPACING, "Spacing", spacing_body(alloc)?)?,
+        definition(alloc, COMMENT, "Comment", comment_body(alloc)?)?,
+        definition(alloc, SPACE, "Space", space_body(alloc)?)?,
+        definition(alloc, END_OF_LINE, "EndOfLine", end_of_line_body(alloc)?)?,
+        definition(alloc, END_OF_FILE, "EndOfFile", end_of_file_body(alloc)?)?,
     ]?)
 }
 
 // Grammar <- Spacing Definition+ EndOfFile
-fn grammar_body(alloc: Global, line: Line) -> Result<Expr, AllocError>
-    ensures { IfOk result (λ body. form_of body ≡ grammar_on line.start) }
+#[tactic(auto, unfolding(crate::specs::Figure::grammar_body))]
+fn grammar_body(alloc: Global) -> Result<Expr, AllocError>
+    ensures { IfOk result (λ body. form_of body ≡ grammar_body) }
 {
-    Ok(seq(
-        vec![in alloc;
-            name(alloc, "Spacing", line.span(11, 18))?,
-            plus(
-                alloc,
-                name(alloc, "Definition", line.span(19, 29))?,
-                line.span(19, 30)
-            )?,
-            name(alloc, "EndOfFile", line.span(31, 40))?,
-        ]?,
-        line.span(11, 40),
-    ))
+    grammar_on(alloc, Line::of_rule(GRAMMAR))
 }
 
 // Definition <- Identifier LEFTARROW Expression
-fn definition_body(alloc: Global, line: Line) -> Result<Expr, AllocError>
-    ensures { IfOk result (λ body. form_of body ≡ definition_on line.start) }
+#[tactic(auto, unfolding(crate::specs::Figure::definition_body))]
+fn definition_body(alloc: Global) -> Result<Expr, AllocError>
+    ensures { IfOk result (λ body. form_of body ≡ definition_body) }
 {
-    Ok(seq(
-        vec![in alloc;
-            name(alloc, "Identifier", line.span(14, 24))?,
-            name(alloc, "LEFTARROW", line.span(25, 34))?,
-            name(alloc, "Expression", line.span(35, 45))?,
-        ]?,
-        line.span(14, 45),
-    ))
+    definition_on(alloc, Line::of_rule(DEFINITION))
 }
 
 // Expression <- Sequence (SLASH Sequence)*
-fn expression_body(alloc: Global, line: Line) -> Result<Expr, AllocError>
-    ensures { IfOk result (λ body. form_of body ≡ expression_on line.start) }
+#[tactic(auto, unfolding(crate::specs::Figure::expression_body))]
+fn expression_body(alloc: Global) -> Result<Expr, AllocError>
+    ensures { IfOk result (λ body. form_of body ≡ expression_body) }
 {
-    let slash_sequence = seq(
-        vec![in alloc;
-            name(alloc, "SLASH", line.span(24, 29))?,
-            name(alloc, "Sequence", line.span(30, 38))?,
-        ]?,
-        line.span(24, 38),
-    );
-    let more = star(alloc, slash_sequence, line.span(23, 40))?;
-    Ok(seq(
-        vec![in alloc; name(alloc, "Sequence", line.span(14, 22))?, more]?,
-        line.span(14, 40),
-    ))
+    expression_on(alloc, Line::of_rule(EXPRESSION))
 }
 
 // Sequence <- Prefix*
-fn sequence_body(alloc: Global, line: Line) -> Result<Expr, AllocError>
-    ensures { IfOk result (λ body. form_of body ≡ sequence_on line.start) }
+#[tactic(auto, unfolding(crate::specs::Figure::sequence_body))]
+fn sequence_body(alloc: Global) -> Result<Expr, AllocError>
+    ensures { IfOk result (λ body. form_of body ≡ sequence_body) }
 {
-    star(
-        alloc,
-        name(alloc, "Prefix", line.span(12, 18))?,
-        line.span(12, 19),
-    )
+    sequence_on(alloc, Line::of_rule(SEQUENCE))
 }
 
 // Prefix <- (AND / NOT)? Suffix
-fn prefix_body(alloc: Global, line: Line) -> Result<Expr, AllocError>
-    ensures { IfOk result (λ body. form_of body ≡ prefix_on line.start) }
+#[tactic(auto, unfolding(crate::specs::Figure::prefix_body))]
+fn prefix_body(alloc: Global) -> Result<Expr, AllocError>
+    ensures { IfOk result (λ body. form_of body ≡ prefix_body) }
 {
-    let sign = choice(
-        alloc,
-        name(alloc, "AND", line.span(11, 14))?,
-        vec![in alloc; name(alloc, "NOT", line.span(17, 20))?]?,
-        line.span(11, 20),
-    )?;
-    let maybe_sign = optional(alloc, sign, line.span(10, 22))?;
-    Ok(seq(
-        vec![in alloc; maybe_sign, name(alloc, "Suffix", line.span(23, 29))?]?,
-        line.span(10, 29),
-    ))
+    prefix_on(alloc, Line::of_rule(PREFIX))
 }
 
 // Suffix <- Primary (QUESTION / STAR / PLUS / COUNT)?
-fn suffix_body(alloc: Global, line: Line) -> Result<Expr, AllocError>
-    ensures { IfOk result (λ body. form_of body ≡ suffix_on line.start) }
+#[tactic(auto, unfolding(crate::specs::Figure::suffix_body))]
+fn suffix_body(alloc: Global) -> Result<Expr, AllocError>
+    ensures { IfOk result (λ body. form_of body ≡ suffix_body) }
 {
-    let sign = choice(
-        alloc,
-        name(alloc, "QUESTION", line.span(19, 27))?,
-        vec![in alloc;
-            name(alloc, "STAR", line.span(30, 34))?,
-            name(alloc, "PLUS", line.span(37, 41))?,
-            name(alloc, "COUNT", line.span(44, 49))?,
-        ]?,
-        line.span(19, 49),
-    )?;
-    let maybe_sign = optional(alloc, sign, line.span(18, 51))?;
-    Ok(seq(
-        vec![in alloc; name(alloc, "Primary", line.span(10, 17))?, maybe_sign]?,
-        line.span(10, 51),
-    ))
+    suffix_on(alloc, Line::of_rule(SUFFIX))
 }
 
 // Primary <- Identifier !LEFTARROW / OPEN Expression CLOSE / Literal / Class / DOT
-fn primary_body(alloc: Global, line: Line) -> Result<Expr, AllocError>
-    ensures { IfOk result (λ body. form_of body ≡ primary_on line.start) }
+#[tactic(auto, unfolding(crate::specs::Figure::primary_body))]
+fn primary_body(alloc: Global) -> Result<Expr, AllocError>
+    ensures { IfOk result (λ body. form_of body ≡ primary_body) }
 {
-    choice(
-        alloc,
-        primary_name(alloc, line)?,
-        vec![in alloc;
-            primary_parentheses(alloc, line)?,
-            name(alloc, "Literal", line.span(59, 66))?,
-            name(alloc, "Class", line.span(69, 74))?,
-            name(alloc, "DOT", line.span(77, 80))?,
-        ]?,
-        line.span(11, 80),
-    )
-}
-
-// Identifier !LEFTARROW
-fn primary_name(alloc: Global, line: Line) -> Result<Expr, AllocError>
-    ensures { IfOk result (λ part. form_of part ≡ primary_name line.start) }
-{
-    Ok(seq(
-        vec![in alloc;
-            name(alloc, "Identifier", line.span(11, 21))?,
-            not(
-                alloc,
-                name(alloc, "LEFTARROW", line.span(23, 32))?,
-                line.span(22, 32)
-            )?,
-        ]?,
-        line.span(11, 32),
-    ))
-}
-
-// OPEN Expression CLOSE
-fn primary_parentheses(alloc: Global, line: Line) -> Result<Expr, AllocError>
-    ensures { IfOk result (λ part. form_of part ≡ primary_parentheses line.start) }
-{
-    Ok(seq(
-        vec![in alloc;
-            name(alloc, "OPEN", line.span(35, 39))?,
-            name(alloc, "Expression", line.span(40, 50))?,
-            name(alloc, "CLOSE", line.span(51, 56))?,
-        ]?,
-        line.span(35, 56),
-    ))
+    primary_on(alloc, Line::of_rule(PRIMARY))
 }
 
 // Identifier <- IdentStart IdentCont* Spacing
-fn identifier_body(alloc: Global, line: Line) -> Result<Expr, AllocError>
-    ensures { IfOk result (λ body. form_of body ≡ identifier_on line.start) }
+#[tactic(auto, unfolding(crate::specs::Figure::identifier_body))]
+fn identifier_body(alloc: Global) -> Result<Expr, AllocError>
+    ensures { IfOk result (λ body. form_of body ≡ identifier_body) }
 {
-    Ok(seq(
-        vec![in alloc;
-            name(alloc, "IdentStart", line.span(14, 24))?,
-            star(
-                alloc,
-                name(alloc, "IdentCont", line.span(25, 34))?,
-                line.span(25, 35)
-            )?,
-            name(alloc, "Spacing", line.span(36, 43))?,
-        ]?,
-        line.span(14, 43),
-    ))
+    identifier_on(alloc, Line::of_rule(IDENTIFIER))
 }
 
 // IdentStart <- [a-zA-Z_]
-fn ident_start_body(alloc: Global, line: Line) -> Result<Expr, AllocError>
-    ensures { IfOk result (λ body. form_of body ≡ ident_start_on line.start) }
+#[tactic(auto, unfolding(crate::specs::Figure::ident_start_body))]
+fn ident_start_body(alloc: Global) -> Result<Expr, AllocError>
+    ensures { IfOk result (λ body. form_of body ≡ ident_start_body) }
 {
-    Ok(class(
-        &[range(b'a', b'z'), range(b'A', b'Z'), range(b'_', b'_')],
-        line.span(14, 23),
-    ))
+    ident_start_on(alloc, Line::of_rule(IDENT_START))
 }
 
 // IdentCont <- IdentStart / [0-9]
-fn ident_cont_body(alloc: Global, line: Line) -> Result<Expr, AllocError>
-    ensures { IfOk result (λ body. form_of body ≡ ident_cont_on line.start) }
+#[tactic(auto, unfolding(crate::specs::Figure::ident_cont_body))]
+fn ident_cont_body(alloc: Global) -> Result<Expr, AllocError>
+    ensures { IfOk result (λ body. form_of body ≡ ident_cont_body) }
 {
-    choice(
-        alloc,
-        name(alloc, "IdentStart", line.span(13, 23))?,
-        vec![in alloc; class(&[range(b'0', b'9')], line.span(26, 31))]?,
-        line.span(13, 31),
-    )
+    ident_cont_on(alloc, Line::of_rule(IDENT_CONT))
 }
 
 // Literal <- ['] (!['] Char)* ['] Spacing / ["] (!["] Char)* ["] Spacing
-fn literal_body(alloc: Global, line: Line) -> Result<Expr, AllocError>
-    ensures { IfOk result (λ body. form_of body ≡ literal_on line.start) }
+#[tactic(auto, unfolding(crate::specs::Figure::literal_body))]
+fn literal_body(alloc: Global) -> Result<Expr, AllocError>
+    ensures { IfOk result (λ body. form_of body ≡ literal_body) }
 {
-    choice(
-        alloc,
-        literal_single(alloc, line)?,
-        vec![in alloc; literal_double(alloc, line)?]?,
-        line.span(11, 70),
-    )
-}
-
-// ['] (!['] Char)* ['] Spacing
-fn literal_single(alloc: Global, line: Line) -> Result<Expr, AllocError>
-    ensures { IfOk result (λ part. form_of part ≡ literal_single line.start) }
-{
-    let one_char = seq(
-        vec![in alloc;
-            not(
-                alloc,
-                class(&[range(b'\'', b'\'')], line.span(17, 20)),
-                line.span(16, 20)
-            )?,
-            name(alloc, "Char", line.span(21, 25))?,
-        ]?,
-        line.span(16, 25),
-    );
-    let chars = star(alloc, one_char, line.span(15, 27))?;
-    Ok(seq(
-        vec![in alloc;
-            class(&[range(b'\'', b'\'')], line.span(11, 14)),
-            chars,
-            class(&[range(b'\'', b'\'')], line.span(28, 31)),
-            name(alloc, "Spacing", line.span(32, 39))?,
-        ]?,
-        line.span(11, 39),
-    ))
-}
-
-// ["] (!["] Char)* ["] Spacing
-fn literal_double(alloc: Global, line: Line) -> Result<Expr, AllocError>
-    ensures { IfOk result (λ part. form_of part ≡ literal_double line.start) }
-{
-    let one_char = seq(
-        vec![in alloc;
-            not(
-                alloc,
-                class(&[range(b'"', b'"')], line.span(48, 51)),
-                line.span(47, 51)
-            )?,
-            name(alloc, "Char", line.span(52, 56))?,
-        ]?,
-        line.span(47, 56),
-    );
-    let chars = star(alloc, one_char, line.span(46, 58))?;
-    Ok(seq(
-        vec![in alloc;
-            class(&[range(b'"', b'"')], line.span(42, 45)),
-            chars,
-            class(&[range(b'"', b'"')], line.span(59, 62)),
-            name(alloc, "Spacing", line.span(63, 70))?,
-        ]?,
-        line.span(42, 70),
-    ))
+    literal_on(alloc, Line::of_rule(LITERAL))
 }
 
 // Class <- '[' (!']' Range)* ']' Spacing
-fn class_body(alloc: Global, line: Line) -> Result<Expr, AllocError>
-    ensures { IfOk result (λ body. form_of body ≡ class_on line.start) }
+#[tactic(auto, unfolding(crate::specs::Figure::class_body))]
+fn class_body(alloc: Global) -> Result<Expr, AllocError>
+    ensures { IfOk result (λ body. form_of body ≡ class_body) }
 {
-    let one_range = seq(
-        vec![in alloc;
-            not(
-                alloc,
-                literal(alloc, b"]", line.span(15, 18))?,
-                line.span(14, 18)
-            )?,
-            name(alloc, "Range", line.span(19, 24))?,
-        ]?,
-        line.span(14, 24),
-    );
-    let ranges = star(alloc, one_range, line.span(13, 26))?;
-    Ok(seq(
-        vec![in alloc;
-            literal(alloc, b"[", line.span(9, 12))?,
-            ranges,
-            literal(alloc, b"]", line.span(27, 30))?,
-            name(alloc, "Spacing", line.span(31, 38))?,
-        ]?,
-        line.span(9, 38),
-    ))
+    class_on(alloc, Line::of_rule(CLASS))
 }
 
 // Range <- Char '-' Char / Char
-fn range_body(alloc: Global, line: Line) -> Result<Expr, AllocError>
-    ensures { IfOk result (λ body. form_of body ≡ range_on line.start) }
+#[tactic(auto, unfolding(crate::specs::Figure::range_body))]
+fn range_body(alloc: Global) -> Result<Expr, AllocError>
+    ensures { IfOk result (λ body. form_of body ≡ range_body) }
 {
-    let from_to = seq(
-        vec![in alloc;
-            name(alloc, "Char", line.span(9, 13))?,
-            literal(alloc, b"-", line.span(14, 17))?,
-            name(alloc, "Char", line.span(18, 22))?,
-        ]?,
-        line.span(9, 22),
-    );
-    choice(
-        alloc,
-        from_to,
-        vec![in alloc; name(alloc, "Char", line.span(25, 29))?]?,
-        line.span(9, 29),
-    )
+    range_on(alloc, Line::of_rule(RANGE))
 }
 
 // Char <- '\\x' [0-9a-fA-F][0-9a-fA-F] / '\\' [nrt'"\[\]\\] / '\\' [0-2][0-7][0-7] / '\\' [0-7][0-7]? / !'\\' .
-fn char_body(alloc: Global, line: Line) -> Result<Expr, AllocError>
-    ensures { IfOk result (λ body. form_of body ≡ char_on line.start) }
+#[tactic(auto, unfolding(crate::specs::Figure::char_body))]
+fn char_body(alloc: Global) -> Result<Expr, AllocError>
+    ensures { IfOk result (λ body. form_of body ≡ char_body) }
 {
-    choice(
-        alloc,
-        char_hexadecimal(alloc, line)?,
-        vec![in alloc;
-            char_sign(alloc, line)?,
-            char_three_digits(alloc, line)?,
-            char_two_digits(alloc, line)?,
-            char_alone(alloc, line)?,
-        ]?,
-        line.span(8, 109),
-    )
-}
-
-// '\\x' [0-9a-fA-F][0-9a-fA-F]
-fn char_hexadecimal(alloc: Global, line: Line) -> Result<Expr, AllocError>
-    ensures { IfOk result (λ part. form_of part ≡ char_hexadecimal line.start) }
-{
-    Ok(seq(
-        vec![in alloc;
-            literal(alloc, b"\\x", line.span(8, 13))?,
-            hexadecimal_class(line, 14, 25),
-            hexadecimal_class(line, 25, 36),
-        ]?,
-        line.span(8, 36),
-    ))
-}
-
-// [0-9a-fA-F]
-fn hexadecimal_class(line: Line, start: u8, end: u8) -> Expr
-    requires { start ≤ end }
-    ensures { form_of result ≡ hexadecimal_class line.start start end }
-{
-    class(
-        &[range(b'0', b'9'), range(b'a', b'f'), range(b'A', b'F')],
-        line.span(start, end),
-    )
-}
-
-// '\\' [nrt'"\[\]\\]
-fn char_sign(alloc: Global, line: Line) -> Result<Expr, AllocError>
-    ensures { IfOk result (λ part. form_of part ≡ char_sign line.start) }
-{
-    let signs = class_from_set(escaped_bytes(), line.span(44, 57));
-    Ok(seq(
-        vec![in alloc; literal(alloc, b"\\", line.span(39, 43))?, signs]?,
-        line.span(39, 57),
-    ))
-}
-
-// '\\' [0-2][0-7][0-7]
-fn char_three_digits(alloc: Global, line: Line) -> Result<Expr, AllocError>
-    ensures { IfOk result (λ part. form_of part ≡ char_three_digits line.start) }
-{
-    Ok(seq(
-        vec![in alloc;
-            literal(alloc, b"\\", line.span(60, 64))?,
-            class(&[range(b'0', b'2')], line.span(65, 70)),
-            class(&[range(b'0', b'7')], line.span(70, 75)),
-            class(&[range(b'0', b'7')], line.span(75, 80)),
-        ]?,
-        line.span(60, 80),
-    ))
-}
-
-// '\\' [0-7][0-7]?
-fn char_two_digits(alloc: Global, line: Line) -> Result<Expr, AllocError>
-    ensures { IfOk result (λ part. form_of part ≡ char_two_digits line.start) }
-{
-    Ok(seq(
-        vec![in alloc;
-            literal(alloc, b"\\", line.span(83, 87))?,
-            class(&[range(b'0', b'7')], line.span(88, 93)),
-            optional(
-                alloc,
-                class(&[range(b'0', b'7')], line.span(93, 98)),
-                line.span(93, 99)
-            )?,
-        ]?,
-        line.span(83, 99),
-    ))
-}
-
-// !'\\' .
-fn char_alone(alloc: Global, line: Line) -> Result<Expr, AllocError>
-    ensures { IfOk result (λ part. form_of part ≡ char_alone line.start) }
-{
-    Ok(seq(
-        vec![in alloc;
-            not(
-                alloc,
-                literal(alloc, b"\\", line.span(103, 107))?,
-                line.span(102, 107)
-            )?,
-            any(line.span(108, 109)),
-        ]?,
-        line.span(102, 109),
-    ))
+    char_on(alloc, Line::of_rule(CHAR))
 }
 
 // COUNT <- '{' Number (',' Number)? '}' Spacing
-fn count_body(alloc: Global, line: Line) -> Result<Expr, AllocError>
-    ensures { IfOk result (λ body. form_of body ≡ count_on line.start) }
+#[tactic(auto, unfolding(crate::specs::Figure::count_body))]
+fn count_body(alloc: Global) -> Result<Expr, AllocError>
+    ensures { IfOk result (λ body. form_of body ≡ count_body) }
 {
-    let comma_number = seq(
-        vec![in alloc;
-            literal(alloc, b",", line.span(21, 24))?,
-            name(alloc, "Number", line.span(25, 31))?,
-        ]?,
-        line.span(21, 31),
-    );
-    let second = optional(alloc, comma_number, line.span(20, 33))?;
-    Ok(seq(
-        vec![in alloc;
-            literal(alloc, b"{", line.span(9, 12))?,
-            name(alloc, "Number", line.span(13, 19))?,
-            second,
-            literal(alloc, b"}", line.span(34, 37))?,
-            name(alloc, "Spacing", line.span(38, 45))?,
-        ]?,
-        line.span(9, 45),
-    ))
+    count_on(alloc, Line::of_rule(COUNT))
 }
 
 // Number <- [0-9]+
-fn number_body(alloc: Global, line: Line) -> Result<Expr, AllocError>
-    ensures { IfOk result (λ body. form_of body ≡ number_on line.start) }
+#[tactic(auto, unfolding(crate::specs::Figure::number_body))]
+fn number_body(alloc: Global) -> Result<Expr, AllocError>
+    ensures { IfOk result (λ body. form_of body ≡ number_body) }
 {
-    plus(
-        alloc,
-        class(&[range(b'0', b'9')], line.span(10, 15)),
-        line.span(10, 16),
-    )
+    number_on(alloc, Line::of_rule(NUMBER))
 }
 
 // Spacing <- (Space / Comment)*
-fn spacing_body(alloc: Global, line: Line) -> Result<Expr, AllocError>
-    ensures { IfOk result (λ body. form_of body ≡ spacing_on line.start) }
+#[tactic(auto, unfolding(crate::specs::Figure::spacing_body))]
+fn spacing_body(alloc: Global) -> Result<Expr, AllocError>
+    ensures { IfOk result (λ body. form_of body ≡ spacing_body) }
 {
-    let blank = choice(
-        alloc,
-        name(alloc, "Space", line.span(12, 17))?,
-        vec![in alloc; name(alloc, "Comment", line.span(20, 27))?]?,
-        line.span(12, 27),
-    )?;
-    star(alloc, blank, line.span(11, 29))
+    spacing_on(alloc, Line::of_rule(SPACING))
 }
 
 // Comment <- '#' (!EndOfLine .)* EndOfLine
-fn comment_body(alloc: Global, line: Line) -> Result<Expr, AllocError>
-    ensures { IfOk result (λ body. form_of body ≡ comment_on line.start) }
+#[tactic(auto, unfolding(crate::specs::Figure::comment_body))]
+fn comment_body(alloc: Global) -> Result<Expr, AllocError>
+    ensures { IfOk result (λ body. form_of body ≡ comment_body) }
 {
-    let text_byte = seq(
-        vec![in alloc;
-            not(
-                alloc,
-                name(alloc, "EndOfLine", line.span(17, 26))?,
-                line.span(16, 26)
-            )?,
-            any(line.span(27, 28)),
-        ]?,
-        line.span(16, 28),
-    );
-    let text = star(alloc, text_byte, line.span(15, 30))?;
-    Ok(seq(
-        vec![in alloc;
-            literal(alloc, b"#", line.span(11, 14))?,
-            text,
-            name(alloc, "EndOfLine", line.span(31, 40))?,
-        ]?,
-        line.span(11, 40),
-    ))
+    comment_on(alloc, Line::of_rule(COMMENT))
 }
 
 // Space <- ' ' / '\t' / EndOfLine
-fn space_body(alloc: Global, line: Line) -> Result<Expr, AllocError>
-    ensures { IfOk result (λ body. form_of body ≡ space_on line.start) }
+#[tactic(auto, unfolding(crate::specs::Figure::space_body))]
+fn space_body(alloc: Global) -> Result<Expr, AllocError>
+    ensures { IfOk result (λ body. form_of body ≡ space_body) }
 {
-    choice(
-        alloc,
-        literal(alloc, b" ", line.span(9, 12))?,
-        vec![in alloc;
-            literal(alloc, b"\t", line.span(15, 19))?,
-            name(alloc, "EndOfLine", line.span(22, 31))?,
-        ]?,
-        line.span(9, 31),
-    )
+    space_on(alloc, Line::of_rule(SPACE))
 }
 
 // EndOfLine <- '\r\n' / '\n' / '\r'
-fn end_of_line_body(alloc: Global, line: Line) -> Result<Expr, AllocError>
-    ensures { IfOk result (λ body. form_of body ≡ end_of_line_on line.start) }
+#[tactic(auto, unfolding(crate::specs::Figure::end_of_line_body))]
+fn end_of_line_body(alloc: Global) -> Result<Expr, AllocError>
+    ensures { IfOk result (λ body. form_of body ≡ end_of_line_body) }
 {
-    choice(
-        alloc,
-        literal(alloc, b"\r\n", line.span(13, 19))?,
-        vec![in alloc;
-            literal(alloc, b"\n", line.span(22, 26))?,
-            literal(alloc, b"\r", line.span(29, 33))?,
-        ]?,
-        line.span(13, 33),
-    )
+    end_of_line_on(alloc, Line::of_rule(END_OF_LINE))
 }
 
 // EndOfFile <- !.
-fn end_of_file_body(alloc: Global, line: Line) -> Result<Expr, AllocError>
-    ensures { IfOk result (λ body. form_of body ≡ end_of_file_on line.start) }
+#[tactic(auto, unfolding(crate::specs::Figure::end_of_file_body))]
+fn end_of_file_body(alloc: Global) -> Result<Expr, AllocError>
+    ensures { IfOk result (λ body. form_of body ≡ end_of_file_body) }
 {
-    not(alloc, any(line.span(14, 15)), line.span(13, 15))
+    end_of_file_on(alloc, Line::of_rule(END_OF_FILE))
 }
