@@ -1,4 +1,4 @@
-"""Grammar files that a stranger might send, of about so many bytes each, and the same bytes each time."""
+"""Grammar files that a hostile sender might choose, of about the given number of bytes each, and the same bytes each time."""
 import itertools
 
 FIRST = "abcdefghijklmnopqrstuvwxyzABCDEFGHIJKLMNOPQRSTUVWXYZ_"
@@ -9,7 +9,7 @@ SEED = 0x243F6A8885A308D3
 
 
 def names(length):
-    """Names of so many bytes, in order."""
+    """Names of the given length, in order."""
     return map("".join, itertools.product(FIRST, *[LATER] * (length - 1)))
 
 
@@ -19,7 +19,7 @@ def repeated(front, piece, back, size):
 
 
 def rules(size, step, last):
-    """Rules of four letters that each use the one so many behind; the last one is the given expression, if any."""
+    """Rules of four letters that each call the rule at this distance after it; the last one is the given expression, if any."""
     count = size // 11
     these = list(itertools.islice(names(4), count))
     uses = [these[(at + step) % count] for at in range(count)]
@@ -52,7 +52,7 @@ def word(text):
 
 def colliding(size):
     """Rules whose names of 32 bytes have one hash under the standard library's hasher of fixed seed: what it makes of
-    the first 16 bytes stands behind them, so that a factor is 0 whatever the last 8 are."""
+    the first 16 bytes follows them, so that a factor is 0 whatever the last 8 are."""
     for number in itertools.count():
         front = "A%015d" % number
         made = multiplied(word(front[:8]) ^ (SEED + 32), word(front[8:]) ^ MULTIPLIER).to_bytes(8, "little")

@@ -39,7 +39,7 @@ def run(case, size):
 
 
 def numbers(count):
-    """A list of numbers in JSON, of about so many bytes."""
+    """A list of numbers in JSON, of about that many bytes."""
     return b"[" + b", ".join(b"%d" % (n * 7919 % 1000003) for n in range(count // 8)) + b"]"
 
 
@@ -61,7 +61,7 @@ End <- '\\n'
 
 
 def fields(count):
-    """Lines of CSV, of about so many bytes."""
+    """Lines of CSV, of about that many bytes."""
     line = b'%d,a plain field,"a ""quoted"" one, with a comma",,%d'
     return b"\n".join(line % (n, n * 7919 % 1000003) for n in range(count // 56))
 
@@ -87,12 +87,12 @@ CASES = [
     ("one star over any byte", lambda n: (b"S <- .* !.\n", b"z" * n), (10**5, 10**6, 10**7, 67_108_864)),
     ("numbers in JSON", lambda n: (JSON, numbers(n)), (10**5, 10**6, 10**7, 64 * 10**6)),
     ("fields in CSV", lambda n: (CSV, fields(n)), (10**5, 10**6, 10**7, 60 * 10**6)),
-    ("right recursion, so many levels", lambda n: (RIGHT, b"a" * n + b"b"), (10**4, 10**5, 10**6, 10**7)),
-    ("parentheses, so many levels", lambda n: (NESTED, b"(" * n + b"x" + b")" * n), (10**4, 10**5, 10**6, 10**7)),
-    ("failing through so many frames", lambda n: (RIGHT, b"a" * n), (10**4, 10**5, 10**6, 10**7)),
-    ("so many alternatives that fail", lambda n: (alternatives(n), b""), (300, 3_000, 30_000, 300_000)),
-    ("falling terminals, so many a place, 1,000 places", lambda n: (falling(n), b"z" * 1000), (10, 100, 1000, 10_000)),
-    ("falling terminals, so many 100 times at one place", lambda n: (falling_at_one_place(n), b"z"), (10, 100, 1000, 10_000)),
+    ("right recursion, levels", lambda n: (RIGHT, b"a" * n + b"b"), (10**4, 10**5, 10**6, 10**7)),
+    ("nested parentheses, levels", lambda n: (NESTED, b"(" * n + b"x" + b")" * n), (10**4, 10**5, 10**6, 10**7)),
+    ("failing through frames", lambda n: (RIGHT, b"a" * n), (10**4, 10**5, 10**6, 10**7)),
+    ("alternatives that fail", lambda n: (alternatives(n), b""), (300, 3_000, 30_000, 300_000)),
+    ("failing terminals at each of 1,000 positions", lambda n: (falling(n), b"z" * 1000), (10, 100, 1000, 10_000)),
+    ("failing terminals, 100 times at one position", lambda n: (falling_at_one_place(n), b"z"), (10, 100, 1000, 10_000)),
 ]
 
 print("| What is run | Size | Steps | Rows | Milliseconds | Nanoseconds a step | MiB |")

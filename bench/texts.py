@@ -6,7 +6,7 @@ EXAMPLES = "../examples"
 
 
 def json_text(count):
-    """About so many bytes of JSON: a list of objects with numbers, texts, lists and constants."""
+    """About the given number of bytes of JSON: a list of objects with numbers, texts, lists and constants."""
     dice = random.Random(1)
     parts, length = [], 0
     while length < count:

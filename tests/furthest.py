@@ -29,7 +29,7 @@ def by_hand():
 
 
 def terminals_of(grammar):
-    """What stands at each place of a grammar where a terminal does, as `Rule terminal` or `Rule terminal#2`."""
+    """The terminals of a grammar by their spans, as `Rule terminal` or `Rule terminal#2`."""
     with open(grammar, encoding="ascii") as file:
         pieces = list(PIECE.finditer(file.read()))
     found, rule = {}, ""

@@ -8,11 +8,11 @@ use thiserror::Error;
 pub enum CheckFault {
     /// A star or plus of this rule, at this span of the grammar file, has a part that may succeed without consuming a
     /// byte. It could loop forever.
-    #[error("a star or plus may go round on nothing")]
+    #[error("the part of a star or plus may succeed without consuming a byte")]
     EmptyLoop { rule: u32, span: Span },
     /// There is no such loop, but rules call each other, or one calls itself, before a byte is consumed. Each rule of
     /// `path` is left-called by the one before it, and the first by the last. No rule occurs twice.
-    #[error("rules use one another before anything is consumed")]
+    #[error("rules call one another before a byte is consumed")]
     LeftRecursion { path: Vec<u32> },
     /// An allocation failed.
     #[error("out of memory")]

@@ -49,6 +49,14 @@ impl Checked {
 /// allocation fails.
 ///
 /// Takes time and memory linear in the number of forms, apart from sorting the rules that one rule left-calls.
+///
+/// # Example
+///
+/// ```
+/// let grammar = Grammar::new(alloc, read(alloc, b"S <- S 'a' / 'b'")?)?;
+/// let fault = check(alloc, desugar(alloc, &grammar)?).unwrap_err();
+/// assert!(matches!(fault, CheckFault::LeftRecursion { .. }));
+/// ```
 pub fn check(alloc: Global, core: Core) -> Result<Checked, CheckFault>
     ensures accepted { IfOk result (λ checked. checked.core ≡ core) }
     ensures well_formed { OnOk result (AreWellFormed core) }

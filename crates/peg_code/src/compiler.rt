@@ -22,6 +22,14 @@ pub const MAX_INSTRUCTIONS: u32 = 1_000_000;
 ///
 /// The error is `CodeTooLarge` if the code has more than `MAX_INSTRUCTIONS` instructions, and `Memory` if an
 /// allocation fails.
+///
+/// # Example
+///
+/// ```
+/// let grammar = Grammar::new(alloc, read(alloc, b"S <- 'a' S / 'b'")?)?;
+/// let program = compile(alloc, check(alloc, desugar(alloc, &grammar)?)?)?;
+/// assert_eq!((program.len(), program.entry(0)), (7, 1));
+/// ```
 pub fn compile(alloc: Global, checked: Checked) -> Result<Program, CodeFault>
     ensures program { IfOk result (λ program. program ≡ compiled_of checked.core) }
     ensures within { OnOk result (length (program_code (bodies_of checked.core)) ≤ max_instructions) }

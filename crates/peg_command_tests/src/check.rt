@@ -6,7 +6,13 @@ use std::process::Abort;
 use std::test::Fail;
 
 // Checks a file, and compares the line, without its line end, and the exit status.
-fn assert_line(rt: &impl Abort, alloc: Global, file: &[u8], line: &str, status: u8) -> Result<(), Fail> {
+fn assert_line(
+    rt: &impl Abort,
+    alloc: Global,
+    file: &[u8],
+    line: &str,
+    status: u8,
+) -> Result<(), Fail> {
     let mut written = Vec::new(alloc);
     let ended = run_tool(
         alloc,

@@ -232,7 +232,12 @@ fn entry(alloc: Global, name: &str, outcomes: &str) -> Result<String, AllocError
 }
 
 // Checks the entries of a file's table.
-fn assert_line(rt: &impl Abort, alloc: Global, file: &[u8], entries: &[String]) -> Result<(), Fail> {
+fn assert_line(
+    rt: &impl Abort,
+    alloc: Global,
+    file: &[u8],
+    entries: &[String],
+) -> Result<(), Fail> {
     let mut written = Vec::new(alloc);
     run_tool(
         alloc,

@@ -28,7 +28,7 @@ pub enum PlainFault {
     #[error("the text is too long")]
     TextTooLong,
     /// The cases of recognition nest deeper than the given limit.
-    #[error("the cases of recognition nest too deep")]
+    #[error("the recognition nests too deep")]
     DepthUsed,
     /// An allocation failed.
     #[error("out of memory")]

@@ -10,10 +10,10 @@ pub enum GrammarFault {
     #[error("there is no rule")]
     NoRule,
     /// Two definitions have the same name. `span` is the name in the first definition that repeats an earlier name.
-    #[error("two rules have one name")]
+    #[error("two rules have the same name")]
     Duplicate { name: String, span: Span },
     /// A name is referred to but not defined. `span` is the first such reference.
-    #[error("no rule has a name that is used")]
+    #[error("a name that is referred to has no rule")]
     Undefined { name: String, span: Span },
     /// A count is out of range: `min` is over `max`, or `max` is 0. `span` is the first such counted expression, an
     /// expression before its parts.

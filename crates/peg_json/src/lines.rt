@@ -147,7 +147,7 @@ fn nested_line(
     }
 }
 
-/// Returns the line that reports that no rule has the name of the start.
+/// Returns the line that reports that no rule has the start's name.
 pub fn no_start_line(alloc: Global, name: &str) -> Result<Line, AllocError>
     ensures { (file : List ℕ) → IfOk result (λ line.
         IsReply file (Refused (NoSuchStart name.now)) (line_bytes line) (status_code line.status)) }

@@ -14,7 +14,7 @@ pub enum NotationFault {
     #[error("the grammar file isn't in the notation, at byte {at}")]
     Syntax { at: u32 },
     /// The parenthesis at this offset is the first that opens while `MAX_OPEN` are open.
-    #[error("one parenthesis too many opens at byte {at} of the grammar file")]
+    #[error("too many parentheses are open at byte {at} of the grammar file")]
     TooNested { at: u32 },
     /// The count at this offset is used as a suffix and is out of range. Its minimum is greater than its maximum, or
     /// its maximum is not from 1 to 255.

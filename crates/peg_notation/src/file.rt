@@ -18,6 +18,13 @@ use std::alloc::Global;
 ///
 /// The contract says of `Syntax` that the file isn't in the notation. The offset is that of a lexing error or a token,
 /// or the file's length.
+///
+/// # Example
+///
+/// ```
+/// let definitions = read(alloc, b"S <- 'a' S / 'b'")?;
+/// assert_eq!(definitions[0].name, "S");
+/// ```
 pub fn read(alloc: Global, file: &[u8]) -> Result<Vec<Definition>, NotationFault>
     ensures reads { Reads file.now result }
     ensures inside { AnswerLiesIn (length file.now) result }

@@ -443,7 +443,7 @@ fn each_fault_has_a_text(rt: HostRuntime) -> Result<(), Fail> {
         ),
         (
             NotationFault::TooNested { at: 0 },
-            "one parenthesis too many opens at byte 0 of the grammar file",
+            "too many parentheses are open at byte 0 of the grammar file",
         ),
         (
             NotationFault::BadCount { at: 8 },

@@ -43,7 +43,9 @@ fn assert_answer(
     asked: Asked,
     line: &str,
 ) -> Result<(), Fail> {
-    let text = answer_text(alloc, file, text, asked)?.ok().ok_or("an answer")?;
+    let text = answer_text(alloc, file, text, asked)?
+        .ok()
+        .ok_or("an answer")?;
     assert!(rt; text.as_str() == line, "{text}");
     Ok(())
 }

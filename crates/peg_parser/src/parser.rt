@@ -45,13 +45,13 @@ pub struct Parser {
 #[derive(Clone, Copy, Debug, PartialEq, Eq, Error)]
 pub enum ParseFault {
     /// No rule has the name of the start.
-    #[error("no rule has the name of the start")]
+    #[error("no rule has the start's name")]
     NoSuchStart,
     /// The text has more than 67,108,864 bytes.
     #[error("the text is too long")]
     TextTooLong,
     /// The parse takes more steps than the limit allows.
-    #[error("the parse takes more steps than were allowed")]
+    #[error("the parse takes more steps than the limit allows")]
     StepLimit,
     /// Out of memory.
     #[error("out of memory")]
@@ -104,6 +104,13 @@ impl Parser {
     ///
     /// A file that passes the first three tests is rejected only for a stated limit or if an allocation fails. Linear
     /// in the file, apart from hashing and sorting the left calls of each rule.
+    ///
+    /// # Example
+    ///
+    /// ```
+    /// let parser = Parser::from_file(alloc, b"S <- 'a' S / 'b'")?;
+    /// assert_eq!(parser.grammar().rule_name(0), "S");
+    /// ```
     #[tactic(auto, using(crate::proofs::AcceptLemmas::accepting))]
     pub fn from_file(alloc: Global, file: &[u8]) -> Result<Parser, Refusal>
         ensures accepted { IfOk result (λ parser. Accepts file.now (parser_rules parser)) }
@@ -187,6 +194,17 @@ impl Parser {
     /// Returns `NoSuchStart` first, then `TextTooLong`. Returns `StepLimit` only if more steps than `options.steps`
     /// are needed, and `Memory` if an allocation fails. Without a memo, or with one too small, the time may be
     /// exponential in the text's length. No native recursion.
+    ///
+    /// # Example
+    ///
+    /// ```
+    /// let options = ParseOptions { start: None, memo: DEFAULT_MEMO, steps: None };
+    /// let answer = parser.parse(alloc, b"aab", &options)?;
+    /// match answer.outcome.result {
+    ///     Parsed::Matched { end, tree } => println!("{end} bytes, {} nodes", tree.len()),
+    ///     Parsed::Failed => println!("failed at {}", answer.outcome.far),
+    /// }
+    /// ```
     pub fn parse(
         &self,
         alloc: Global,

@@ -14,10 +14,10 @@ use thiserror::Error;
 #[derive(Debug, Drop, Error)]
 pub enum Refusal {
     /// The file isn't in the notation, or it exceeds a limit of it.
-    #[error("the file isn't in the notation of grammars, or over its limits")]
+    #[error("the file isn't in the notation, or exceeds a limit")]
     Notation(NotationFault),
     /// The definitions aren't a grammar, or the grammar is too large.
-    #[error("the file's definitions are no grammar, or one that is too large")]
+    #[error("the definitions aren't a grammar, or exceed a limit")]
     Grammar(GrammarFault),
     /// The grammar isn't well-formed. The grammar comes along because the fault refers to its rules by number.
     #[error("the grammar isn't well-formed")]

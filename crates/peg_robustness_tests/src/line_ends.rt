@@ -95,7 +95,12 @@ fn an_empty_loop_is_reported_by_its_line(rt: HostRuntime) -> Result<(), Fail> {
 #[test]
 fn a_left_cycle_has_no_line(rt: HostRuntime) -> Result<(), Fail> {
     let expected = "{\"path\":[\"B\"],\"refusal\":\"LeftRecursion\"}";
-    refuses_second(&rt, rt.alloc(), b"B <- 'y'? B", [expected, expected, expected])
+    refuses_second(
+        &rt,
+        rt.alloc(),
+        b"B <- 'y'? B",
+        [expected, expected, expected],
+    )
 }
 
 #[test]
