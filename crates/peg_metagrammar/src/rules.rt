@@ -6,7 +6,8 @@ ghost use Rattle.peg_metagrammar.specs.Figure.{prefix_body, suffix_body, primary
 ghost use Rattle.peg_metagrammar.specs.Figure.{ident_start_body, ident_cont_body, literal_body, class_body};
 ghost use Rattle.peg_metagrammar.specs.Figure.{range_body, char_body, count_body, number_body, spacing_body};
 ghost use Rattle.peg_metagrammar.specs.Figure.{comment_body, space_body, end_of_line_body, end_of_file_body};
-ghost use Rattle.peg_metagrammar.specs.FigureParts.{first_eight, second_eight, third_eight, last_seven};
+ghost use Rattle.peg_metagrammar.specs.FigureParts.{grammar_to_identifier, ident_start_to_slash, and_to_star};
+ghost use Rattle.peg_metagrammar.specs.FigureParts.{plus_to_open, close_and_dot, spacing_to_end_of_file};
 
 use crate::builders::{definition, operator};
 use crate::line::Line;
@@ -29,17 +30,19 @@ use std::alloc::{AllocError, Global};
 pub fn figure(alloc: Global) -> Result<Vec<Definition>, AllocError>
     ensures { IfOk result (λ definitions. rules_of definitions.items ≡ figure) }
 {
-    let mut rules = first_eight(alloc)?;
-    rules.append(&mut second_eight(alloc)?)?;
-    rules.append(&mut third_eight(alloc)?)?;
-    rules.append(&mut last_seven(alloc)?)?;
+    let mut rules = grammar_to_identifier(alloc)?;
+    rules.append(&mut ident_start_to_slash(alloc)?)?;
+    rules.append(&mut and_to_star(alloc)?)?;
+    rules.append(&mut plus_to_open(alloc)?)?;
+    rules.append(&mut close_and_dot(alloc)?)?;
+    rules.append(&mut spacing_to_end_of_file(alloc)?)?;
     Ok(rules)
 }
 
-// The first eight rules: grammars, expressions and names.
+// The eight rules from Grammar to Identifier.
 #[tactic(auto, unfolding(crate::specs::Figure::figure))]
-fn first_eight(alloc: Global) -> Result<Vec<Definition>, AllocError>
-    ensures { IfOk result (λ definitions. rules_of definitions.items ≡ first_eight) }
+fn grammar_to_identifier(alloc: Global) -> Result<Vec<Definition>, AllocError>
+    ensures { IfOk result (λ definitions. rules_of definitions.items ≡ grammar_to_identifier) }
 {
     Ok(vec![in alloc;
         definition(alloc, GRAMMAR, "Grammar", grammar_body(alloc)?)?,
@@ -53,10 +56,10 @@ fn first_eight(alloc: Global) -> Result<Vec<Definition>, AllocError>
     ]?)
 }
 
-// The next eight rules: names, literals, classes and operators.
+// The eight rules from IdentStart to SLASH.
 #[tactic(auto, unfolding(crate::specs::Figure::figure))]
-fn second_eight(alloc: Global) -> Result<Vec<Definition>, AllocError>
-    ensures { IfOk result (λ definitions. rules_of definitions.items ≡ second_eight) }
+fn ident_start_to_slash(alloc: Global) -> Result<Vec<Definition>, AllocError>
+    ensures { IfOk result (λ definitions. rules_of definitions.items ≡ ident_start_to_slash) }
 {
     Ok(vec![in alloc;
         definition(alloc, IDENT_START, "IdentStart", ident_start_body(alloc)?)?,
@@ -70,16 +73,25 @@ fn second_eight(alloc: Global) -> Result<Vec<Definition>, AllocError>
     ]?)
 }
 
-// The next eight rules: operators and counts.
+// The four rules from AND to STAR.
 #[tactic(auto, unfolding(crate::specs::Figure::figure))]
-fn third_eight(alloc: Global) -> Result<Vec<Definition>, AllocError>
-    ensures { IfOk result (λ definitions. rules_of definitions.items ≡ third_eight) }
+fn and_to_star(alloc: Global) -> Result<Vec<Definition>, AllocError>
+    ensures { IfOk result (λ definitions. rules_of definitions.items ≡ and_to_star) }
 {
     Ok(vec![in alloc;
         operator(alloc, AND, "AND", b"&", 7, 10)?,
         operator(alloc, NOT, "NOT", b"!", 7, 10)?,
         operator(alloc, QUESTION, "QUESTION", b"?", 12, 15)?,
         operator(alloc, STAR, "STAR", b"*", 8, 11)?,
+    ]?)
+}
+
+// The four rules from PLUS to OPEN.
+#[tactic(auto, unfolding(crate::specs::Figure::figure))]
+fn plus_to_open(alloc: Global) -> Result<Vec<Definition>, AllocError>
+    ensures { IfOk result (λ definitions. rules_of definitions.items ≡ plus_to_open) }
+{
+    Ok(vec![in alloc;
         operator(alloc, PLUS, "PLUS", b"+", 8, 11)?,
         definition(alloc, COUNT, "COUNT", count_body(alloc)?)?,
         definition(alloc, NUMBER, "Number", number_body(alloc)?)?,
@@ -87,14 +99,23 @@ fn third_eight(alloc: Global) -> Result<Vec<Definition>, AllocError>
     ]?)
 }
 
-// The last seven rules: operators and spacing.
+// CLOSE and DOT.
 #[tactic(auto, unfolding(crate::specs::Figure::figure))]
-fn last_seven(alloc: Global) -> Result<Vec<Definition>, AllocError>
-    ensures { IfOk result (λ definitions. rules_of definitions.items ≡ last_seven) }
+fn close_and_dot(alloc: Global) -> Result<Vec<Definition>, AllocError>
+    ensures { IfOk result (λ definitions. rules_of definitions.items ≡ close_and_dot) }
 {
     Ok(vec![in alloc;
         operator(alloc, CLOSE, "CLOSE", b")", 9, 12)?,
         operator(alloc, DOT, "DOT", b".", 7, 10)?,
+    ]?)
+}
+
+// The five rules from Spacing to EndOfFile.
+#[tactic(auto, unfolding(crate::specs::Figure::figure))]
+fn spacing_to_end_of_file(alloc: Global) -> Result<Vec<Definition>, AllocError>
+    ensures { IfOk result (λ definitions. rules_of definitions.items ≡ spacing_to_end_of_file) }
+{
+    Ok(vec![in alloc;
         definition(alloc, SPACING, "Spacing", spacing_body(alloc)?)?,
         definition(alloc, COMMENT, "Comment", comment_body(alloc)?)?,
         definition(alloc, SPACE, "Space", space_body(alloc)?)?,
