@@ -1,8 +1,8 @@
 #!/usr/bin/env bash
-# Runs `pegtool parse --rows --memo 0` beside the same machine in plain C (plain.c) on texts that it makes, and shows the
-# seconds of the processor of the whole processes, their ratio, and the memory at the peaks. Then the run alone: `run` of
-# peg_machine by the program of crates/peg_bench, where that is built, beside the run of plain.c; and two runs by one table
-# of shortcuts, of which the first makes it. The argument is the program.
+# Runs `pegtool parse --rows --memo 0` and the same machine in C (plain.c) on generated texts. Prints the CPU seconds and
+# the peak memory of the whole processes, and the ratio of the times. Then, if crates/peg_bench is built, the run alone
+# (`run` of peg_machine beside the run of plain.c), with a new table of shortcuts and with one from an earlier run. The
+# argument is the program.
 set -eu
 program=$(realpath -- "${1:-$(dirname "$0")/../crates/pegtool/out/pegtool}")
 cd "$(dirname "$0")"

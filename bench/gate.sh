@@ -1,6 +1,6 @@
 #!/usr/bin/env bash
-# Runs `rt ci` and prints, crate by crate, how many seconds its proof, its tests' proof and its must-fail edits took, by
-# the clock and of the processors. It looks at the provers that run once a second: what takes less isn't seen.
+# Runs `rt ci` and prints for each crate the seconds that its proof, the proof of its tests and its wrong edits took, as
+# wall-clock time and, in parentheses, CPU time. It samples the provers once a second, so shorter ones are missed.
 set -u
 cd "$(dirname "$0")/.." || exit 1
 exec python3 - "$PWD" << 'PYTHON'
@@ -74,7 +74,7 @@ def main():
     for crate in sorted({crate for crate, _ in spent}):
         cells = [f"{clock.get((crate, kind), 0)} ({spent.get((crate, kind), 0):.0f})" for kind in kinds]
         print(f"| {crate} | {' | '.join(cells)} |")
-    print(f"{time.time() - began:.0f} seconds by the clock, {sum(spent.values()):.0f} of the processors")
+    print(f"{time.time() - began:.0f} seconds of wall-clock time, {sum(spent.values()):.0f} of CPU time")
     print(last.split("\n")[-1])
     return gate.returncode
 

@@ -14,7 +14,7 @@ def names(length):
 
 
 def repeated(front, piece, back, size):
-    """A front, a piece as often as there is room, and a back."""
+    """A start, a piece as often as it fits, and an end."""
     return (front + piece * ((size - len(front) - len(back)) // len(piece)) + back).encode()
 
 
@@ -35,7 +35,7 @@ def small_rules(size, back=""):
 
 
 def alike(size):
-    """Rules whose names of 64 bytes differ in the last three alone, each of which uses the next."""
+    """Rules whose names of 64 bytes differ in the last three alone, each of which calls the next."""
     count = size // 131
     these = ["N" * 61 + tail for tail in itertools.islice(names(3), count)]
     return "".join(f"{a}<-{b}\n" for a, b in zip(these, these[1:] + ["."])).encode()
@@ -63,16 +63,16 @@ def colliding(size):
 
 
 KINDS = {
-    "rules that each use the next": lambda n: rules(n, 1, "."),
-    "rules that each use the one before": lambda n: rules(n, -1, "."),
+    "rules that each call the next": lambda n: rules(n, 1, "."),
+    "rules that each call the one before": lambda n: rules(n, -1, "."),
     "a left cycle, forwards": lambda n: rules(n, 1, None),
     "a left cycle, backwards": lambda n: rules(n, -1, None),
     "rules of no expression": small_rules,
     "the same, a name twice at the end": lambda n: small_rules(n, "aaaa<-"),
     "the same, a name missing at the end": lambda n: small_rules(n, "zzzz<-none"),
     "the same, an empty loop at the end": lambda n: small_rules(n, "zzzz<-''*"),
-    "names of 64 bytes alike but for 3": alike,
-    "names of 32 bytes of one hash": colliding,
+    "names of 64 bytes with a common prefix of 61": alike,
+    "names of 32 bytes with the same hash": colliding,
     "a name of half the file": lambda n: b"A" * (n // 2 - 2) + b"<-" + b"A" * (n // 2 - 2),
     "empty alternatives": lambda n: repeated("A<-", "/", "\n", n),
     "alternatives of a dot": lambda n: repeated("A<-.", "/.", "\n", n),
@@ -84,13 +84,13 @@ KINDS = {
     "a literal that isn't closed": lambda n: repeated("A<-'", "a", "\n", n),
     "empty classes": lambda n: repeated("A<-", "[]", "\n", n),
     "a class": lambda n: repeated("A<-[", "ab-z", "]\n", n),
-    "signs of dots": lambda n: repeated("A<-", "!.?", "\n", n),
+    "operators and dots": lambda n: repeated("A<-", "!.?", "\n", n),
     "stars of dots": lambda n: repeated("A<-", ".*", "\n", n),
     "pluses of dots": lambda n: repeated("A<-", ".+", "\n", n),
-    "200 parentheses, again and again": lambda n: repeated("A<-", "(" * 200 + "." + ")" * 200, "\n", n),
+    "groups of 200 nested parentheses": lambda n: repeated("A<-", "(" * 200 + "." + ")" * 200, "\n", n),
     "opening parentheses": lambda n: repeated("A<-", "(", "", n),
-    "200 nested pluses, again and again": lambda n: repeated("A<-", "(" * 200 + "." + ")+" * 200, "\n", n),
-    "200 nested optionals, again and again": lambda n: repeated("A<-", "(" * 200 + "." + ")?" * 200, "\n", n),
+    "groups of 200 nested pluses": lambda n: repeated("A<-", "(" * 200 + "." + ")+" * 200, "\n", n),
+    "groups of 200 nested optionals": lambda n: repeated("A<-", "(" * 200 + "." + ")?" * 200, "\n", n),
     "counts of dots": lambda n: repeated("A<-", ".{0,255}", "\n", n),
     "a count of numbers of half the file": lambda n: b"A<-.{" + b"1" * (n // 2 - 5) + b"," + b"1" * (n // 2 - 5) + b"}\n",
     "counts of counts": lambda n: repeated("A<-", "(((.{255}){255}){255})", "\n", n),

@@ -1,9 +1,7 @@
 #!/usr/bin/env bash
-# Runs every command of `pegtool` on grammar files of just under 1 MiB that a stranger might send (hostile.py): a parse
-# on an empty text, and on 1 MB of the letter a. Shows what `check` says, and for each command the seconds of the
-# processor; for `check` also those on a file of a tenth, and its memory at the peak in MiB; for `code` the megabytes
-# that it prints; and the memory of whichever command takes most. What is over 1 s or 200 MB in `check` is in bold. The
-# argument is the program.
+# Runs each command of `pegtool` on hostile grammar files of just under 1 MiB (hostile.py). `parse` gets an empty text and
+# 1 MB of the letter a. Prints what `check` reports, the CPU seconds of each command, the peak memory of `check`, and the
+# greatest peak of all commands. Over 1 s or 400 MB is in bold. The argument is the program.
 set -eu
 program=$(realpath -- "${1:-$(dirname "$0")/../crates/pegtool/out/pegtool}")
 cd "$(dirname "$0")"
@@ -20,7 +18,7 @@ from runs import written
 
 PROGRAM, FOLDER = sys.argv[1:]
 LIMIT = 1_048_576
-MOST_SECONDS, MOST_BYTES = 1, 200 * 10**6
+MAX_SECONDS, MAX_BYTES = 1, 400 * 10**6
 SAFE = 600
 
 TEXTS = {"empty": b"", "long": b"a" * 10**6}
@@ -38,18 +36,18 @@ def commands(grammar):
 
 
 def run(words):
-    """Seconds of the processor, bytes at the peak, and the front of what was printed."""
+    """CPU seconds, peak memory in bytes, and the first bytes of the output."""
     line = f"{FOLDER}/line"
     with open(line, "wb") as file:
         process = subprocess.Popen(["timeout", str(SAFE), PROGRAM, *words], stdout=file, stderr=subprocess.STDOUT)
         _, _, took = os.wait4(process.pid, 0)
     with open(line, "rb") as file:
         said = file.read(200)
-    return took.ru_utime + took.ru_stime, took.ru_maxrss * 1024, said, os.path.getsize(line)
+    return took.ru_utime + took.ru_stime, took.ru_maxrss * 1024, said
 
 
 def verdict(said):
-    """What a line of check says, in a word."""
+    """The result or the refusal in a line of `check`."""
     for key in ("refusal", "result"):
         at = said.find(f'"{key}":"'.encode())
         if at >= 0:
@@ -61,29 +59,26 @@ def bold(text, over):
     return f"**{text}**" if over else text
 
 
-def row(kind, whole, tenth):
-    """A line of the table: what all commands make of a file, and check of its tenth."""
+def row(kind, whole):
+    """A line of the table: all commands on a file."""
     runs = [run(words) for _, words in commands(whole)]
-    seconds, peak, said, _ = runs[0]
+    peak, said = runs[0][1:]
+    most = max(one[1] for one in runs)
     cells = [
         kind,
         verdict(said),
-        f"{run(['check', tenth])[0]:.2f}",
-        bold(f"{seconds:.2f}", seconds > MOST_SECONDS),
-        bold(f"{peak / 2**20:.0f}", peak > MOST_BYTES),
-        *(f"{one[0]:.2f}" for one in runs[1:]),
-        f"{runs[2][3] / 10**6:.1f}",
-        f"{max(one[1] for one in runs) / 2**20:.0f}",
+        *(bold(f"{one[0]:.2f}", one[0] > MAX_SECONDS) for one in runs),
+        bold(f"{peak / 2**20:.0f}", peak > MAX_BYTES),
+        bold(f"{most / 2**20:.0f}", most > MAX_BYTES),
     ]
     print("| " + " | ".join(cells) + " |", flush=True)
 
 
-HEADS = ["Grammar file", "`check` says", "tenth", "`check`", "MiB", "`table`", "`code`", "empty", "long", "MB", "most"]
+HEADS = ["Grammar file", "Result", "`check`", "`table`", "`code`", "`parse`, empty", "`parse`, 1 MB", "`check`, MiB", "most, MiB"]
 print("| " + " | ".join(HEADS) + " |")
 print("|---" * len(HEADS) + "|")
 for kind, make in KINDS.items():
-    whole, tenth = f"{FOLDER}/whole", f"{FOLDER}/tenth"
+    whole = f"{FOLDER}/whole"
     written(whole, lambda: make(LIMIT))
-    written(tenth, lambda: make(LIMIT // 10))
-    row(kind, whole, tenth)
+    row(kind, whole)
 PYTHON

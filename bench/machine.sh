@@ -1,6 +1,6 @@
 #!/usr/bin/env bash
-# Runs the machine over texts and grammars that grow by tens, and shows steps, rows, the milliseconds of the run alone and
-# the bytes of memory at the peak of the whole process.
+# Runs the machine on texts and grammars that grow by factors of ten. Prints the steps, the nodes, the milliseconds of the
+# run alone, and the peak memory of the whole process.
 set -eu
 cd "$(dirname "$0")/../crates/peg_bench"
 rt run > /dev/null
@@ -77,25 +77,25 @@ def falling(count):
 
 
 def falling_at_one_place(count):
-    """A rule that fails, over rules whose terminals fail from the last to the first: all of it 100 times at one place."""
+    """A rule that fails, over rules whose terminals fail from the last to the first: all of it 100 times at one position."""
     uses = b" / ".join(b"R%d" % n for n in reversed(range(count)))
     rules = b"".join(b"R%d <- 'a'\n" % n for n in range(count))
     return b"S <-" + b" !X" * 100 + b"\nX <- " + uses + b"\n" + rules
 
 
 CASES = [
-    ("one star over any byte", lambda n: (b"S <- .* !.\n", b"z" * n), (10**5, 10**6, 10**7, 67_108_864)),
-    ("numbers in JSON", lambda n: (JSON, numbers(n)), (10**5, 10**6, 10**7, 64 * 10**6)),
-    ("fields in CSV", lambda n: (CSV, fields(n)), (10**5, 10**6, 10**7, 60 * 10**6)),
-    ("right recursion, levels", lambda n: (RIGHT, b"a" * n + b"b"), (10**4, 10**5, 10**6, 10**7)),
-    ("nested parentheses, levels", lambda n: (NESTED, b"(" * n + b"x" + b")" * n), (10**4, 10**5, 10**6, 10**7)),
-    ("failing through frames", lambda n: (RIGHT, b"a" * n), (10**4, 10**5, 10**6, 10**7)),
-    ("alternatives that fail", lambda n: (alternatives(n), b""), (300, 3_000, 30_000, 300_000)),
-    ("failing terminals at each of 1,000 positions", lambda n: (falling(n), b"z" * 1000), (10, 100, 1000, 10_000)),
-    ("failing terminals, 100 times at one position", lambda n: (falling_at_one_place(n), b"z"), (10, 100, 1000, 10_000)),
+    ("one star over any byte", lambda n: (b"S <- .* !.\n", b"z" * n), (10**6, 67_108_864)),
+    ("numbers in JSON", lambda n: (JSON, numbers(n)), (10**6, 64 * 10**6)),
+    ("fields in CSV", lambda n: (CSV, fields(n)), (10**6, 60 * 10**6)),
+    ("right recursion, levels", lambda n: (RIGHT, b"a" * n + b"b"), (10**5, 10**7)),
+    ("nested parentheses, levels", lambda n: (NESTED, b"(" * n + b"x" + b")" * n), (10**5, 10**7)),
+    ("failure through active calls, levels", lambda n: (RIGHT, b"a" * n), (10**5, 10**7)),
+    ("alternatives that fail", lambda n: (alternatives(n), b""), (3_000, 300_000)),
+    ("failing terminals at each of 1,000 positions", lambda n: (falling(n), b"z" * 1000), (100, 10_000)),
+    ("failing terminals, 100 times at one position", lambda n: (falling_at_one_place(n), b"z"), (100, 10_000)),
 ]
 
-print("| What is run | Size | Steps | Rows | Milliseconds | Nanoseconds a step | MiB |")
+print("| Case | Size | Steps | Nodes | Milliseconds | Nanoseconds a step | MiB |")
 print("|---|---|---|---|---|---|---|")
 for name, case, sizes in CASES:
     for size in sizes:

@@ -1,6 +1,6 @@
 #!/usr/bin/env bash
-# Runs `pegtool parse --rows` with and without its memo on texts that it makes, and shows the seconds of the processor of
-# the whole processes, the ratio, and the memory at the peaks; the rows have to be the same. The argument is the program.
+# Runs `pegtool parse --rows` with `--memo 0` and `--memo 4096` on generated texts. Prints the CPU seconds and the peak
+# memory of the whole processes, and the ratio of the times. The output must be the same. The argument is the program.
 set -eu
 program=$(realpath -- "${1:-$(dirname "$0")/../crates/pegtool/out/pegtool}")
 cd "$(dirname "$0")"
@@ -38,7 +38,7 @@ def ladder(count):
     return (f"{FOLDER}/ladder.peg", lambda: b"(" * count + b"1" + b")" * count)
 
 
-# What is parsed, with and without a memo where that comes to an end.
+# Texts on which the plain run ends soon, and texts that need the memo.
 BOTH = {
     "JSON, 1 MB": (f"{EXAMPLES}/json.peg", lambda: json_text(10**6)),
     "JSON, 8 MB": (f"{EXAMPLES}/json.peg", lambda: json_text(8 * 10**6)),
@@ -51,10 +51,10 @@ BOTH = {
     "right recursion, 1,000,000 levels": right(10**6),
 }
 WITH_MEMO = {
-    "alternatives that begin alike, 10 levels": twice(10),
-    "alternatives that begin alike, 100 levels": twice(100),
-    "alternatives that begin alike, 1,000 levels": twice(1000),
-    "alternatives that begin alike, 10,000 levels": twice(10**4),
+    "alternatives with a common prefix, 10 levels": twice(10),
+    "alternatives with a common prefix, 100 levels": twice(100),
+    "alternatives with a common prefix, 1,000 levels": twice(1000),
+    "alternatives with a common prefix, 10,000 levels": twice(10**4),
     "five levels of operators, 10 parentheses": ladder(10),
     "five levels of operators, 100 parentheses": ladder(100),
     "five levels of operators, 1,000 parentheses": ladder(1000),
@@ -67,7 +67,7 @@ def best_of(grammar, text, memo):
     return min(used(words, f"{FOLDER}/line{memo}") for _ in range(RUNS))
 
 
-print("| Text | no memo, seconds | MiB | memo of 4096, seconds | MiB | Ratio |")
+print("| Text | `--memo 0`, seconds | MiB | `--memo 4096`, seconds | MiB | Ratio |")
 print("|---|---|---|---|---|---|")
 for name, (grammar, make) in BOTH.items():
     text = f"{FOLDER}/text"

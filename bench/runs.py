@@ -5,7 +5,7 @@ import sys
 
 
 def written(path, make):
-    """Writes a text, in a process of its own, so that this one stays small."""
+    """Writes a text in a child process, so that the memory of this one stays small."""
     child = os.fork()
     if child == 0:
         with open(path, "wb") as file:
@@ -15,7 +15,7 @@ def written(path, make):
 
 
 def used(words, path):
-    """The seconds of the processor and the bytes at the peak of one run, whose line goes to a file."""
+    """The CPU seconds and the peak memory in bytes of one run, whose output goes to a file."""
     with open(path, "wb") as file:
         process = subprocess.Popen(words, stdout=file)
         _, status, took = os.wait4(process.pid, 0)

@@ -1,7 +1,7 @@
 #!/usr/bin/env bash
-# Writes trees of 10,000 to 6,000,000 rows as JSON: their rows through values of JSON, their rows as they are sent, and
-# nested objects; and shows, of each row, the bytes of the text, and the nanoseconds and the bytes of memory at the peak
-# beside those of a run that only makes the tree.
+# Writes trees of 10,000 to 6,000,000 nodes as JSON: as a list of nodes from values of JSON, as a list of nodes that is
+# serialized directly, and nested. Prints for each node the bytes of text, and the CPU nanoseconds and the bytes of peak
+# memory beyond those of a run that only makes the tree.
 set -eu
 cd "$(dirname "$0")/../crates/peg_bench"
 rt run > /dev/null
@@ -11,7 +11,7 @@ import subprocess
 
 
 def run(word, count):
-    """What a run prints, its seconds of processor time and its bytes of memory at the peak; of three the fastest."""
+    """The CPU seconds, the peak memory in bytes and the printed number of the fastest of three runs."""
     best = None
     for _ in range(3):
         program = subprocess.Popen(["./out/peg_bench", word, str(count)], stdout=subprocess.PIPE)
@@ -22,7 +22,7 @@ def run(word, count):
     return best
 
 
-print("| Form | Rows | Bytes of text a row | Nanoseconds a row | Bytes of memory a row |")
+print("| Form | Nodes | Text, bytes a node | Nanoseconds a node | Memory, bytes a node |")
 print("|---|---|---|---|---|")
 for word in ["values", "rows", "nested"]:
     for count in [10_000, 100_000, 1_000_000, 6_000_000]:

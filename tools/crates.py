@@ -13,9 +13,9 @@ DOCUMENT = f"{TOP}/docs/ARCHITECTURE.md"
 PLACE = re.compile(r"^```crates\n(.*?)^```$", re.M | re.S)
 
 PURPOSE = {
-    "peg_bytes": "places, spans, sets of bytes",
-    "peg_tree": "trees as rows, outcomes",
-    "peg_semantics": "Ford's definitions; nothing runs",
+    "peg_bytes": "lines and columns, spans, sets of bytes",
+    "peg_tree": "trees as lists of nodes, outcomes",
+    "peg_semantics": "Ford's definitions, no code",
     "peg_grammar": "definitions -> a grammar",
     "peg_metagrammar": "the notation as a grammar",
     "peg_lexer": "a grammar file -> tokens",
@@ -24,15 +24,15 @@ PURPOSE = {
     "peg_core": "a grammar -> core forms",
     "peg_check": "core forms -> table, checked grammar",
     "peg_code": "a checked grammar -> a program",
-    "peg_shortcut": "a program, a byte -> what the machine does on it",
-    "peg_memo": "results of rules at places, and back",
-    "peg_memo_policy": "a program -> a memo that keeps what pays",
+    "peg_shortcut": "a program, a byte -> a shortcut",
+    "peg_memo": "results of rules at positions",
+    "peg_memo_policy": "a program -> a memo of the results that pay",
     "peg_io": "files and streams -> bytes, and back",
     "peg_machine": "a program, a text -> outcome, tree, furthest failure",
     "peg_parser": "a grammar file -> a parser or a refusal; a text -> an answer",
     "peg_json": "an answer or a refusal -> a line of JSON, a status",
-    "peg_cli": "words -> a command",
-    "peg_tool": "a command, bytes -> the line that is written, the status",
+    "peg_cli": "arguments -> a command",
+    "peg_tool": "a command, bytes -> a line of output, a status",
     "pegtool": "the program",
 }
 

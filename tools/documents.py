@@ -13,7 +13,9 @@ from pathlib import Path
 TOP = Path(__file__).resolve().parent.parent
 USAGE = TOP / "docs" / "USAGE.md"
 LINK = re.compile(r"\[[^\]]*\]\(([^)\s]+)\)")
-CODE = re.compile(r"^(?: {4}|```).*$|`[^`]*`", re.M)
+FENCED = re.compile(r"^```.*?^```$", re.M | re.S)
+BLOCK = re.compile(r"^ {4}.*$", re.M)
+CODE = re.compile(r"`[^`]*`")
 
 
 def documents():
@@ -60,7 +62,8 @@ def stated_again(path, text, numbers):
 
 def sentence_lengths(text):
     """The numbers of words of a document's sentences. Code and tables are left out."""
-    prose = "\n".join(line for line in CODE.sub("x", text).splitlines() if not line.startswith(("|", "#", "<!--")))
+    text = CODE.sub("x", BLOCK.sub("", FENCED.sub("", text)))
+    prose = "\n".join(line for line in text.splitlines() if not line.startswith(("|", "#", "<!--")))
     sentences = re.split(r"(?<=[.:;?!])\s+|\n\s*\n|\n- ", prose)
     return [len(sentence.split()) for sentence in sentences if len(sentence.split()) > 1]
 

@@ -1,5 +1,4 @@
-//! Tests of spans, offsets by line and column and sets of bytes, of parse trees and their JSON, of memos, and of sources,
-//! sinks and transfers.
+//! Tests of spans, lines and columns, byte sets, parse trees and their JSON, memos, and of sources, sinks and transfers.
 #![tactic(auto)]
 
 #[cfg(test)]
@@ -22,6 +21,8 @@ mod pieces;
 mod sent;
 #[cfg(test)]
 mod separator;
+#[cfg(test)]
+mod set_pool;
 #[cfg(test)]
 mod span;
 #[cfg(test)]

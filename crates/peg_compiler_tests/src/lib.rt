@@ -1,5 +1,5 @@
-//! Tests of what a grammar is compiled to: core forms, the table of outcomes and the check, code, shortcuts, and the memo
-//! policy's costs.
+//! Tests of what a grammar is compiled to: core forms, the table of outcomes, the check, code, shortcuts, and the costs
+//! of the memo policy.
 #![tactic(auto)]
 
 #[cfg(test)]

@@ -1,5 +1,5 @@
 //! Pseudo-random numbers, the same in each run.
-ghost use Rattle.std.specs.Prelude.{◌<◌};
+ghost use Rattle.std.specs.Prelude.{◌≡◌, ◌<◌};
 
 /// Knuth's 64-bit linear congruential generator.
 #[derive(Drop)]
@@ -9,7 +9,9 @@ pub struct Rng {
 
 impl Rng {
     /// Returns the generator that starts with a seed.
-    pub fn new(seed: u64) -> Rng {
+    pub fn new(seed: u64) -> Rng
+        ensures { result.state ≡ seed }
+    {
         Rng { state: seed }
     }
 
