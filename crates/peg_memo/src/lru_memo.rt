@@ -1,6 +1,7 @@
 //! A memo of bounded size that evicts the least recently used entry.
-ghost use Rattle.std.specs.Prelude.{◌≡◌, ◌-◌, ◌<◌, ◌≤◌, ◌↔◌, [], false, length, option_map, take};
-ghost use Rattle.std.specs.Prelude.{IfOk, OnOk, OnErr, IsTrue};
+ghost use Rattle.std.specs.Prelude.{◌≡◌, ◌-◌, ◌<◌, ◌≤◌, ◌⊎◌, ◌↔◌, [], false, length, option_map, take, Some};
+ghost use Rattle.std.specs.Prelude.{if◌then◌else◌, IfOk, IfSome, OnOk, OnErr, IsTrue};
+ghost use Rattle.std.specs.FinMap as map;
 ghost use Rattle.std.specs.List.{IsDistinct};
 ghost use Rattle.std.specs.Map.{keys_of, lookup};
 ghost use Rattle.lru.specs.LruCache.{last_entry, lru_cache, promoted, put_entries};
@@ -52,42 +53,11 @@ impl LruMemo {
         })
     }
 
-    /// Returns whether the memo has no entries.
-    pub fn is_empty(&self) -> bool
-        ensures { IsTrue result ↔ (self.now.pairs ≡ []) }
+    /// Returns whether an allocation of `keep` has failed since the memo was made.
+    pub fn was_refused(&self) -> bool
+        ensures { result ≡ self.now.allocation_failed }
     {
-        self.cache.is_empty()
-    }
-
-    /// Moves the entry of a rule at a position to the front, if there is one.
-    pub fn touch(&mut self, rule: u32, position: u32)
-        ensures { self.new
-            ≡ memo (promoted (key_eq (rule, position)) self.old.pairs) self.old.capacity self.old.allocation_failed }
-    {
-        self.cache.promote(&(rule, position));
-    }
-
-    /// Returns the entry of a rule at a position, if there is one. The order of the entries doesn't change.
-    pub fn find(&self, rule: u32, position: u32) -> Option<Found<'_>>
-        ensures { option_map stored_of result ≡ lookup (key_eq (rule, position)) self.now.pairs }
-    {
-        let kept = self.cache.peek(&(rule, position))?;
-        Some(as_found(kept))
-    }
-
-    /// Stores the result of a rule at a position as the first entry, and replaces an entry that they have. A full memo
-    /// evicts its last entry for a new one. Returns false if an allocation fails; then no entry changes.
-    pub fn keep(&mut self, rule: u32, position: u32, found: Found<'_>) -> bool
-        ensures memo { self.new ≡ after_keep result self.old (rule, position) (stored_of found.entry) }
-        ensures distinct { IsDistinct key_eq (keys_of self.old.pairs) }
-    {
-        // Called for its contract only: no two entries have the same rule and position.
-        let _ = self.cache.len();
-        let kept = put(self.alloc, &mut self.cache, (rule, position), found).is_ok();
-        if !kept {
-            self.allocation_failed = true;
-        }
-        kept
+        self.allocation_failed
     }
 
     /// Evicts the last entry and returns the number of its nodes, or `None` if the memo is empty.
@@ -99,6 +69,42 @@ impl LruMemo {
     {
         let (_, stored) = self.cache.pop_lru()?;
         Some(node_count(&stored))
+    }
+}
+
+// What the trait's methods do, in terms of the pairs in their order.
+impl LruMemo {
+    fn has_no_entries(&self) -> bool
+        ensures { IsTrue result ↔ (self.now.pairs ≡ []) }
+    {
+        self.cache.is_empty()
+    }
+
+    fn promote(&mut self, rule: u32, position: u32)
+        ensures { self.new
+            ≡ memo (promoted (key_eq (rule, position)) self.old.pairs) self.old.capacity self.old.allocation_failed }
+    {
+        self.cache.promote(&(rule, position));
+    }
+
+    fn lookup(&self, rule: u32, position: u32) -> Option<Found<'_>>
+        ensures { option_map stored_of result ≡ lookup (key_eq (rule, position)) self.now.pairs }
+    {
+        let kept = self.cache.peek(&(rule, position))?;
+        Some(as_found(kept))
+    }
+
+    fn store(&mut self, rule: u32, position: u32, found: Found<'_>) -> bool
+        ensures memo { self.new ≡ after_keep result self.old (rule, position) (stored_of found.entry) }
+        ensures distinct { IsDistinct key_eq (keys_of self.old.pairs) }
+    {
+        // Called for its contract only: no two entries have the same rule and position.
+        let _ = self.cache.len();
+        let kept = put(self.alloc, &mut self.cache, (rule, position), found).is_ok();
+        if !kept {
+            self.allocation_failed = true;
+        }
+        kept
     }
 }
 
@@ -126,10 +132,14 @@ impl Keep for LruMemo {
 
     ghost allocation_failed = { λ it. it.allocation_failed };
 
-    fn is_empty(&self) -> bool {
-        LruMemo::is_empty(self)
+    fn is_empty(&self) -> bool
+        ensures pairs { IsTrue result ↔ (self.now.pairs ≡ []) }
+        ensures entries { IsTrue result ↔ (map.len (entries_in self.now.pairs) ≡ 0) }
+    {
+        self.has_no_entries()
     }
 
+    /// Moves the entry of a rule at a position to the front, if there is one.
     fn touch(&mut self, rule: u32, position: u32)
         ensures front { self.new
             ≡ memo (promoted (key_eq (rule, position)) self.old.pairs) self.old.capacity self.old.allocation_failed }
@@ -138,14 +148,37 @@ impl Keep for LruMemo {
         ensures capacity { self.new.capacity ≡ self.old.capacity }
         ensures allocation_failed { IsTrue self.old.allocation_failed → IsTrue self.new.allocation_failed }
     {
-        LruMemo::touch(self, rule, position);
+        self.promote(rule, position);
     }
 
-    fn find(&self, rule: u32, position: u32) -> Option<Found<'_>> {
-        LruMemo::find(self, rule, position)
+    fn find(&self, rule: u32, position: u32) -> Option<Found<'_>>
+        ensures first { option_map stored_of result ≡ lookup (key_eq (rule, position)) self.now.pairs }
+        ensures entries { IfSome result (λ found. map.get (entries_in self.now.pairs) (rule, position) ≡ Some
+            (stored_of found)) }
+        ensures all { 0 < self.now.capacity
+            → option_map stored_of result ≡ map.get (entries_in self.now.pairs) (rule, position) }
+    {
+        self.lookup(rule, position)
     }
 
-    fn keep(&mut self, rule: u32, position: u32, found: Found<'_>) -> bool {
-        LruMemo::keep(self, rule, position, found)
+    /// Stores the result of a rule at a position as the first entry, and replaces an entry that they have. A full memo
+    /// evicts its last entry for a new one. Returns false if an allocation fails; then no entry changes.
+    fn keep(&mut self, rule: u32, position: u32, found: Found<'_>) -> bool
+        ensures memo { self.new ≡ after_keep result self.old (rule, position) (stored_of found.entry) }
+        ensures distinct { IsDistinct key_eq (keys_of self.old.pairs) }
+        ensures part { IsPartOf (entries_in self.new.pairs)
+            (if result then map.insert (entries_in self.old.pairs) (rule, position)
+            (stored_of found.entry) else entries_in self.old.pairs) }
+        ensures kept { IsTrue result
+            → map.get (entries_in self.new.pairs) (rule, position) ≡ Some (stored_of found.entry) }
+        ensures all { 0 < self.old.capacity → self.new.allocation_failed ≡ false
+            → (map.len (entries_in self.old.pairs) < self.old.capacity)
+            ⊎ IsTrue (map.contains_key (entries_in self.old.pairs) (rule, position))
+            → entries_in self.new.pairs
+            ≡ map.insert (entries_in self.old.pairs) (rule, position) (stored_of found.entry) }
+        ensures capacity { self.new.capacity ≡ self.old.capacity }
+        ensures allocation_failed { IsTrue self.old.allocation_failed → IsTrue self.new.allocation_failed }
+    {
+        self.store(rule, position, found)
     }
 }

@@ -62,11 +62,11 @@ impl<'a> SelectiveMemo<'a> {
         ensures part { IsPartOf (entries_by self.new) (entries_by self.old) }
         ensures allocation_failed { IsTrue self.old.memo.allocation_failed → IsTrue self.new.memo.allocation_failed }
     {
-        let size = match Keep::find(&self.memo, rule, position) {
+        let size = match self.memo.find(rule, position) {
             Some(found) => size_of(found, position),
             None => return false,
         };
-        Keep::touch(&mut self.memo, rule, position);
+        self.memo.touch(rule, position);
         self.policy.note_found(rule, position, size);
         true
     }
@@ -109,7 +109,7 @@ impl SelectiveMemo<'_> {
         ensures allocation_failed { IsTrue self.old.memo.allocation_failed → IsTrue self.new.memo.allocation_failed }
     {
         self.evict_until_fits(size.rows);
-        let stored = Keep::keep(&mut self.memo, rule, position, found);
+        let stored = self.memo.keep(rule, position, found);
         if stored {
             self.entry_count = self.entry_count.saturating_add(1);
             self.rows = self.rows.saturating_add(size.rows);
@@ -127,7 +127,7 @@ impl Keep for SelectiveMemo<'_> {
     ghost allocation_failed = { λ it. it.memo.allocation_failed };
 
     fn is_empty(&self) -> bool {
-        Keep::is_empty(&self.memo)
+        self.memo.is_empty()
     }
 
     fn touch(&mut self, rule: u32, position: u32) {
@@ -142,7 +142,7 @@ impl Keep for SelectiveMemo<'_> {
 
     fn find(&self, rule: u32, position: u32) -> Option<Found<'_>> {
         if self.hit {
-            Keep::find(&self.memo, rule, position)
+            self.memo.find(rule, position)
         } else {
             None
         }

@@ -14,9 +14,9 @@ found_held (Some found) stored same = sym same
 pub returns-clause-entries : goal.returns-clause-entries
 returns-clause-entries c =
     let asked : MemoKey = (c.args.rule, c.args.position) in
-    found_held c.find.result _ (c.find.ensures ∙ sym (get-entries_in c.args.self.now.pairs asked))
+    found_held c.lookup.result _ (c.lookup.ensures ∙ sym (get-entries_in c.args.self.now.pairs asked))
 
 pub returns-clause-all : goal.returns-clause-all
 returns-clause-all c = λ _.
     let asked : MemoKey = (c.args.rule, c.args.position) in
-    c.find.ensures ∙ sym (get-entries_in c.args.self.now.pairs asked)
+    c.lookup.ensures ∙ sym (get-entries_in c.args.self.now.pairs asked)

@@ -6,8 +6,8 @@ use Rattle.peg_memo.specs.MemoKey.{key_cmp}
 use Rattle.peg_memo.proofs.HeldPairs.{no_pairs}
 use Rattle.peg_memo.proofs.lru_memo.LruMemoKeep.is_empty.Goals as goal
 
-pub returns : goal.returns
-returns c = (
-  λ empty. ap (λ pairs. map.len (entries_in pairs)) (c.is_empty.ensures.0 empty) ∙ map.len-empty key_cmp StoredResult,
-  λ none. c.is_empty.ensures.1 (no_pairs c.args.self.now.pairs none),
+pub returns-clause-entries : goal.returns-clause-entries
+returns-clause-entries c = (
+  λ empty. ap (λ pairs. map.len (entries_in pairs)) (c.has_no_entries.ensures.0 empty) ∙ map.len-empty key_cmp StoredResult,
+  λ none. c.has_no_entries.ensures.1 (no_pairs c.args.self.now.pairs none),
 )

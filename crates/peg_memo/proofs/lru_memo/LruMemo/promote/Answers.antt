@@ -3,7 +3,7 @@ use Rattle.peg_memo.specs.Memo.{memo}
 use Rattle.peg_memo.specs.Stored.{stored_in}
 use Rattle.peg_memo.specs.MemoKey.{MemoKey, key_eq}
 use Rattle.peg_memo.proofs.Mapped.{promoted-read}
-use Rattle.peg_memo.proofs.lru_memo.LruMemo.touch.Goals as goal
+use Rattle.peg_memo.proofs.lru_memo.LruMemo.promote.Goals as goal
 
 pub returns : goal.returns
 returns c =

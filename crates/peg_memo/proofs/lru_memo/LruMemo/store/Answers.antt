@@ -1,6 +1,6 @@
 use Rattle.peg_memo.specs.Stored.{stored_in}
 use Rattle.peg_memo.proofs.Mapped.{keys_of-read}
-use Rattle.peg_memo.proofs.lru_memo.LruMemo.keep.Goals as goal
+use Rattle.peg_memo.proofs.lru_memo.LruMemo.store.Goals as goal
 
 pub returns-then-not-kept-clause-distinct : goal.returns-then-not-kept-clause-distinct
 returns-then-not-kept-clause-distinct c =

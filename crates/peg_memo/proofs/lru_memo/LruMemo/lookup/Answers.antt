@@ -3,7 +3,7 @@ use Rattle.std.specs.Option.{option_map}
 use Rattle.peg_memo.specs.Stored.{stored_in}
 use Rattle.peg_memo.specs.MemoKey.{MemoKey, key_eq}
 use Rattle.peg_memo.proofs.Mapped.{lookup-read}
-use Rattle.peg_memo.proofs.lru_memo.LruMemo.find.Goals as goal
+use Rattle.peg_memo.proofs.lru_memo.LruMemo.lookup.Goals as goal
 
 pub returns-in_err-kept : goal.returns-in_err-kept
 returns-in_err-kept c =
