@@ -11,7 +11,7 @@
 //! - `Packrat`: why no rule body runs twice at the same position.
 //! - `MemoInvariant` and `RunInvariant`: the invariant of a memo, and of a run with a memo.
 //! - `Entries`, `FailurePositions` and `MachineStates`: the stack and the failed tests in memory, and the invariant on them.
-//! - `CoreOutcome` and `Traced`: what a run has to answer and to trace.
+//! - `CoreOutcome`, `Traced` and `PackratRun`: what a run has to answer and to trace.
 //! - `Machine` and `Watched`: the views of the types of the code.
 #![tactic(auto)]
 
@@ -25,6 +25,7 @@ pub mod laws;
 mod machine;
 pub mod memo_laws;
 pub mod one_byte_laws;
+mod packrat;
 pub mod packrat_laws;
 mod rounds;
 pub mod run_laws;
@@ -37,5 +38,6 @@ mod watch;
 
 pub use answer::Answer;
 pub use fault::RunFault;
+pub use packrat::run_packrat;
 pub use running::{run, run_with_shortcuts};
 pub use watch::{ListWatch, NoWatch, Watch};
