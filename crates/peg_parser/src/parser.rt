@@ -12,7 +12,7 @@ ghost use Rattle.peg_grammar.specs.Limits.{max_text_bytes};
 ghost use Rattle.peg_grammar.specs.Outcomes.{IsParseOutcome};
 ghost use Rattle.peg_semantics.specs.Terminals.{extents_of_terminals};
 ghost use Rattle.peg_semantics.specs.WellFormed.{IsWellFormedGrammar};
-ghost use Rattle.peg_machine.specs.CoreOutcome.{ExceedsStepLimit};
+ghost use Rattle.peg_machine.specs.CoreOutcome.{ExceedsStepLimit, saturated, TakesSteps};
 
 use crate::options::ParseOptions;
 use crate::refusal::Refusal;
@@ -96,7 +96,7 @@ impl Parser {
     ghost use Rattle.peg_parser.specs.Parser.{parser_rules, start_named};
     ghost use Rattle.peg_parser.specs.ProgramOf.{IsProgramOf};
     ghost use Rattle.peg_parser.specs.Refusals.{IsRefusalOf};
-    ghost use Rattle.peg_parser.specs.StepLimits.{TakesMoreSteps};
+    ghost use Rattle.peg_parser.specs.StepLimits.{TakesMoreSteps, TakesPlainSteps};
     ghost use Rattle.peg_semantics.specs.Starts.{start_name};
 
     /// Returns the parser of a grammar file, or why the file is rejected. The tests come in this order: the notation,
@@ -226,6 +226,13 @@ impl Parser {
             → TakesMoreSteps (parser_rules self.now) text.now (start_named options.now) options.now.steps }
         ensures enough { options.now.memo ≡ 0 → OnOk result
             (¬ TakesMoreSteps (parser_rules self.now) text.now (start_named options.now) options.now.steps) }
+
+        // The steps of an answer are at most the plain steps, and without a memo exactly these.
+        ensures steps { IfOk result (λ answer. (count : ℕ) × TakesPlainSteps (parser_rules self.now) text.now
+            (start_named options.now) count × (answer.steps ≤ count)) }
+        ensures exact { options.now.memo ≡ 0 → IfOk result (λ answer. (count : ℕ)
+            × TakesPlainSteps (parser_rules self.now) text.now (start_named options.now) count
+            × (answer.steps ≡ saturated count)) }
     {
         let Some(start) = self.start(options) else {
             return Err(ParseFault::NoSuchStart);
@@ -261,6 +268,8 @@ impl Parser {
         ensures allowed { IfOk result (λ answer. (limit : ℕ) → max_steps ≡ Some limit → answer.steps ≤ limit) }
         ensures limited { IsErrOf result ParseFault.StepLimit
             → ExceedsStepLimit (core_bodies (parser_rules self.now)) text.now start max_steps }
+        ensures steps { IfOk result (λ answer. (count : ℕ)
+            × TakesSteps (core_bodies (parser_rules self.now)) text.now start count × (answer.steps ≤ count)) }
     {
         let mut memo = SelectiveMemo::new(alloc, capacity, &self.costs, text)?;
         self.answer(alloc, text, start, &mut memo, max_steps)
@@ -286,6 +295,11 @@ impl Parser {
             → ExceedsStepLimit (core_bodies (parser_rules self.now)) text.now start max_steps }
         ensures enough { ((any : K) → map.len (K.entries any) ≡ 0)
             → OnOk result (¬ ExceedsStepLimit (core_bodies (parser_rules self.now)) text.now start max_steps) }
+        ensures steps { IfOk result (λ answer. (count : ℕ)
+            × TakesSteps (core_bodies (parser_rules self.now)) text.now start count × (answer.steps ≤ count)) }
+        ensures exact { ((any : K) → map.len (K.entries any) ≡ 0) → IfOk result (λ answer. (count : ℕ)
+            × TakesSteps (core_bodies (parser_rules self.now)) text.now start count
+            × (answer.steps ≡ saturated count)) }
     {
         match run(
             alloc,

@@ -1,6 +1,8 @@
-use Rattle.std.proofs.Common.{◌<◌, ◌∙◌, Err, ap, arith}
+use Rattle.std.proofs.Common.{◌≡◌, ◌≤◌, ◌<◌, ◌∙◌, ℕ, List, Err, ap, arith, subst}
 use Rattle.std.proofs.lemmas.List.Elements.{All-from_get_or}
-use Rattle.peg_parser.proofs.CoreStarts.{length-bodies, parser-outcome}
+use Rattle.peg_core.specs.CoreForm.{CoreForm}
+use Rattle.peg_machine.specs.CoreOutcome.{saturated, TakesSteps}
+use Rattle.peg_parser.proofs.CoreStarts.{length-bodies, parser-outcome, same-bodies}
 use Rattle.peg_parser.proofs.StepLemmas.{of-program, to-program}
 use Rattle.peg_parser.proofs.parser.Parser.answer.Goals as goal
 
@@ -22,3 +24,13 @@ pub returns-in-Err-StepLimit-clause-limited : goal.returns-in-Err-StepLimit-clau
 returns-in-Err-StepLimit-clause-limited g c is =
     of-program c.args.self.now c.args.text.now c.args.start c.args.max_steps
     (c.run.ensures.limited (c.in-Err-StepLimit.is ∙ ap Err c.in-Err-StepLimit.field-0-is))
+
+pub returns-in-Ok-clause-steps : goal.returns-in-Ok-clause-steps
+returns-in-Ok-clause-steps g c =
+    subst (λ (bodies : List CoreForm). (count : ℕ) × TakesSteps bodies c.args.text.now c.args.start count
+    × (c.in-Ok.answer.steps ≤ count)) (same-bodies c.args.self.now) c.in-Ok.ensures.steps
+
+pub returns-in-Ok-clause-exact : goal.returns-in-Ok-clause-exact
+returns-in-Ok-clause-exact g c = λ never.
+    subst (λ (bodies : List CoreForm). (count : ℕ) × TakesSteps bodies c.args.text.now c.args.start count
+    × (c.in-Ok.answer.steps ≡ saturated count)) (same-bodies c.args.self.now) (c.in-Ok.ensures.exact never)

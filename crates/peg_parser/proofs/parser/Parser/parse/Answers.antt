@@ -1,8 +1,9 @@
-use Rattle.std.proofs.Common.{List, ℕ, Result, Ok, Err, IfOk}
+use Rattle.std.proofs.Common.{◌≡◌, ◌≤◌, List, ℕ, Result, Ok, Err, IfOk}
 use Rattle.std.proofs.lemmas.Result.{on_ok_weaker}
 use Rattle.std.specs.FinMap.{len, len-empty}
 use Rattle.peg_semantics.specs.Rules.{name_of}
 use Rattle.peg_grammar.specs.Outcomes.{IsParseOutcome}
+use Rattle.peg_machine.specs.CoreOutcome.{saturated}
 use Rattle.peg_machine.specs.declared.answer.Answer.{Answer}
 use Rattle.peg_memo.specs.StoredResult.{StoredResult}
 use Rattle.peg_memo.specs.MemoKey.{key_cmp}
@@ -11,7 +12,7 @@ use Rattle.peg_parser.specs.Parser.{parser_rules, start_named}
 use Rattle.peg_parser.specs.declared.parser.ParseFault.{ParseFault}
 use Rattle.peg_parser.specs.declared.parser.Parser.{Parser}
 use Rattle.peg_parser.proofs.OutcomeFits.{outcome-fits}
-use Rattle.peg_parser.proofs.StepLemmas.{of-start, to-start}
+use Rattle.peg_parser.proofs.StepLemmas.{of-start, plain-steps, to-start}
 use Rattle.peg_parser.proofs.parser.Parser.parse.Goals as goal
 
 -- an outcome of a grammar fits the grammar
@@ -56,3 +57,29 @@ pub returns-in-Err-StepLimit-clause-limited : goal.returns-in-Err-StepLimit-clau
 returns-in-Err-StepLimit-clause-limited c is =
     of-start c.args.self.now c.args.text.now (start_named c.args.options.now) c.in-Some.start c.args.options.now.steps
     c.in-Some.ensures.some c.in-Some.ensures.named (c.answer_with_memo.ensures.limited is)
+
+-- ---- the steps of an answer
+
+pub returns-then-options-eq0-clause-steps : goal.returns-then-options-eq0-clause-steps
+returns-then-options-eq0-clause-steps c =
+    plain-steps c.args.self.now c.args.text.now (start_named c.args.options.now) c.in-Some.start
+    (λ answer count. answer.steps ≤ count) c.in-Some.ensures.some c.in-Some.ensures.named c.answer.result
+    c.answer.ensures.steps
+
+pub returns-in_default-answer-2-clause-steps : goal.returns-in_default-answer-2-clause-steps
+returns-in_default-answer-2-clause-steps c =
+    plain-steps c.args.self.now c.args.text.now (start_named c.args.options.now) c.in-Some.start
+    (λ answer count. answer.steps ≤ count) c.in-Some.ensures.some c.in-Some.ensures.named c.answer-2.result
+    c.answer-2.ensures.steps
+
+pub returns-in-Err-StepLimit-clause-steps : goal.returns-in-Err-StepLimit-clause-steps
+returns-in-Err-StepLimit-clause-steps c =
+    plain-steps c.args.self.now c.args.text.now (start_named c.args.options.now) c.in-Some.start
+    (λ answer count. answer.steps ≤ count) c.in-Some.ensures.some c.in-Some.ensures.named c.answer_with_memo.result
+    c.answer_with_memo.ensures.steps
+
+pub returns-then-options-eq0-clause-exact : goal.returns-then-options-eq0-clause-exact
+returns-then-options-eq0-clause-exact c none =
+    plain-steps c.args.self.now c.args.text.now (start_named c.args.options.now) c.in-Some.start
+    (λ answer count. answer.steps ≡ saturated count) c.in-Some.ensures.some c.in-Some.ensures.named c.answer.result
+    (c.answer.ensures.exact (λ any. len-empty key_cmp StoredResult))
