@@ -1,13 +1,13 @@
 -- The first tree of a forest, by its node list.
-use Rattle.std.proofs.Common.{◌≡◌, ◌≢◌, ℕ, zero, suc, ◌+◌, ◌-◌, ◌<◌, ◌≤◌, List, [], ◌∷◌, ◌++◌, length, take, drop, get_or, map, refl, sym, ◌∙◌, ap, subst, arith}
+use Rattle.std.proofs.Common.{◌≡◌, ◌≢◌, ℕ, ◌-◌, ◌<◌, ◌≤◌, List, [], ◌∷◌, ◌++◌, length, take, drop, get_or, map, refl, sym, ◌∙◌, ap, subst, arith}
 use Rattle.std.proofs.Math.Seq.{take-append_seam, take-length}
 use Rattle.std.proofs.lemmas.List.{length-append, length-map, length-drop, take-map}
 use Rattle.peg_tree.specs.declared.row.TreeNode.{TreeNode}
-use Rattle.peg_tree.specs.Trees.{Trees, NoTrees, Tree, nodes, followed_by}
-use Rattle.peg_tree.specs.Rows.{Row, row_of, rows_of}
+use Rattle.peg_tree.specs.Trees.{NoTrees, Tree}
+use Rattle.peg_tree.specs.Rows.{row_of, rows_of}
 use Rattle.peg_tree.specs.TreesOfRows.{first_trees, trees_after, trees_of, IsForest}
 use Rattle.peg_tree.specs.TreesCode.{trees_of-rows_of}
-use Rattle.peg_tree.proofs.Forests.{length-rows_of, IsForest-rows_of, IsForest-tail, IsForest-drop, IsForest-size, first_and_after, trees_of-after_tree, map-drop}
+use Rattle.peg_tree.proofs.Forests.{length-rows_of, IsForest-rows_of, IsForest-drop, IsForest-size, trees_of-after_tree, map-drop}
 
 -- the nodes from n on, up to the last
 to_last : (n : ℕ) (rows : List TreeNode) → take (length rows - n) (drop n rows) ≡ drop n rows

@@ -120,6 +120,13 @@ impl Tree {
         Forest::of_rows(&self.rows)
     }
 
+    /// Returns the nodes, in preorder. Constant time.
+    pub fn nodes(&self) -> &[TreeNode]
+        ensures { map row_of result.now ≡ rows_of self.now }
+    {
+        self.rows.as_slice()
+    }
+
     pub(crate) fn rows(&self) -> &[TreeNode]
         ensures tree { IsOneTree (map row_of result.now) }
         ensures same { trees_of (map row_of result.now) ≡ self.now }

@@ -1,4 +1,4 @@
-use Rattle.std.proofs.Common.{◌≡◌, ◌-◌, ◌+◌, ◌≤◌, ◌++◌, length, map, nat_lt, refl, ap, sym, subst, ◌∙◌, arith}
+use Rattle.std.proofs.Common.{◌-◌, ◌+◌, ◌++◌, length, map, nat_lt, refl, ap, sym, subst, ◌∙◌, arith}
 use Rattle.std.specs.Vec.{vec_capacity}
 use Rattle.serde_json.specs.Written.{comma_if}
 use Rattle.peg_tree.specs.RowText.{EachAtMost, levels_from, row_text, text_from}
@@ -7,7 +7,7 @@ use Rattle.peg_tree.specs.TreesOfRows.{trees_of}
 use Rattle.peg_tree.proofs.Forests.{IsForest-from_one_tree, drop_forest, tree_within}
 use Rattle.peg_tree.proofs.JsonRows.{rule_below}
 use Rattle.peg_tree.proofs.Puts.{puts-both, puts-more}
-use Rattle.peg_tree.proofs.RowTexts.{levels-rest, name-fits, room-for_end, text-ended, text-more}
+use Rattle.peg_tree.proofs.RowTexts.{levels-rest, name-fits, room-for_end, text-more}
 use Rattle.peg_tree.proofs.flat_tree_writer.fill_piece.Goals as goal
 
 pub bounds-names-row : goal.bounds-names-row

@@ -1,4 +1,4 @@
-use Rattle.std.proofs.Common.{◌≡◌, ◌+◌, ◌/◌, sym, arith}
+use Rattle.std.proofs.Common.{◌/◌, sym, arith}
 use Rattle.itoa.proofs.Decimal.{length_one, length_two, length_pair}
 use Rattle.peg_tree.proofs.write.few_digits_of.Goals as goal
 

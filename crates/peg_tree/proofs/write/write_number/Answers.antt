@@ -1,4 +1,4 @@
-use Rattle.std.proofs.Common.{◌≡◌, ◌+◌, ◌≤◌, length, refl, arith}
+use Rattle.std.proofs.Common.{◌+◌, arith}
 use Rattle.std.specs.Fmt.{decimal}
 use Rattle.peg_tree.proofs.Puts.{puts-written}
 use Rattle.peg_tree.proofs.write.write_number.Goals as goal

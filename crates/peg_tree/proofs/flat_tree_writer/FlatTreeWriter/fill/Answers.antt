@@ -1,4 +1,4 @@
-use Rattle.std.proofs.Common.{◌≡◌, ◌≤◌, ◌++◌, [], drop, length, map, nat_lt, reverse, take, ap, sym, subst, ◌∙◌, arith}
+use Rattle.std.proofs.Common.{◌≡◌, ◌++◌, [], drop, length, map, nat_lt, reverse, take, ap, sym, subst, ◌∙◌, arith}
 use Rattle.std.proofs.lemmas.List.{length-take-le, with_items_is}
 use Rattle.std.specs.Vec.{vec_capacity}
 use Rattle.peg_tree.specs.Levels.{levels_of_rows}

@@ -1,4 +1,4 @@
-use Rattle.std.proofs.Common.{ap, subst, sym, map}
+use Rattle.std.proofs.Common.{subst, sym, map}
 use Rattle.peg_tree.specs.Rows.{row_of, IsOneTree}
 use Rattle.peg_tree.proofs.Forests.{IsForest-from_one_tree}
 use Rattle.peg_tree.proofs.tree.Tree.forest.Goals as goal
