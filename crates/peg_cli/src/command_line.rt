@@ -120,7 +120,7 @@ const PROGRAM_NOTES: &str = "\
 Without arguments, pegtool reads standard input: a grammar file, a line `%%` and
 a text. It parses the text by the grammar's first rule.
 
-Each run prints one line of JSON. The exit status is:
+A run with an answer or a refusal prints one line of JSON. The exit status is:
   0  success: matched, accepted, printed, or help
   1  no match, or a partial match under --all
   2  the grammar is refused
@@ -190,8 +190,8 @@ depends on the memo.
 
 Status: 0 matched; 1 failed, or partial under --all; 2 the grammar is refused; 3
 wrong arguments, or an unknown start rule; 4 a file can't be opened or read, or
-the output can't be written; 5 out of memory; 6 no answer is printed: TooDeep, the
-tree has more than 60 levels and needs --rows; TextTooLong; StepLimit, which needs
-a greater --steps or --memo.
+the output can't be written; 5 out of memory; 6 a refusal of the parse is printed:
+TooDeep, the tree has more than 60 levels and needs --rows; TextTooLong; or
+StepLimit, which needs a greater --steps or --memo.
 
 Example: pegtool parse grammar.peg text --start Value --all --rows";

@@ -1,5 +1,5 @@
 //! Runs the program for its parsed arguments, and the faults that end it without an answer.
-ghost use Rattle.std.specs.Prelude.{◌≡◌, ◌≢◌, ℕ, false, List, IfSome, string_bytes};
+ghost use Rattle.std.specs.Prelude.{◌≡◌, ◌≢◌, ◌⊎◌, ◌↔◌, ℕ, true, false, List, IfSome, IsErrOf, string_bytes};
 ghost use Rattle.peg_tool.specs.Commands.{task_of};
 ghost use Rattle.peg_tool.specs.CommandOutcome.{CommandOutcome, WritesOrFails, IsHelp, program_result};
 ghost use Rattle.peg_tool.specs.Replies.{IsPrinted};
@@ -74,6 +74,11 @@ pub fn run_words<O: Opener, I: Source, W: Sink>(
         (W.written output.new)
         result }
     ensures unread { words.now ≢ Words.Joined → input.new ≡ input.old }
+
+    // Without words, `File` comes exactly if the input or the output failed; with words, always if the output failed.
+    ensures joined_fault { words.now ≡ Words.Joined → (IsErrOf result ProgramFault.File
+        ↔ ((I.failed input.new ≡ true) ⊎ (W.failed output.new ≡ true))) }
+    ensures write_fault { W.failed output.new ≡ true → IsErrOf result ProgramFault.File }
 {
     match words {
         Words::Joined => to_program_result(run_input(alloc, input, output)),
@@ -110,7 +115,8 @@ pub fn run_words<O: Opener, I: Source, W: Sink>(
 
 fn help<W: Sink>(output: &mut W, text: &str) -> Result<u8, ProgramFault>
     requires { W.failed output.old ≡ false }
-    ensures { WritesOrFails (IsHelp text.now) (W.written output.old) (W.written output.new) result }
+    ensures help { WritesOrFails (IsHelp text.now) (W.written output.old) (W.written output.new) result }
+    ensures fault { IsErrOf result ProgramFault.File ↔ (W.failed output.new ≡ true) }
 {
     if text.is_empty() {
         return Ok(Status::Done.code());
@@ -131,9 +137,10 @@ fn on_file<O: Opener, W: Sink>(
 ) -> Result<u8, ProgramFault>
     requires works { W.failed output.old ≡ false }
     requires alone { ¬ IsParse (task_of command.now) }
-    ensures { IfSome (O.holds files.now g.now) (λ file. (text : List ℕ)
+    ensures leads { IfSome (O.holds files.now g.now) (λ file. (text : List ℕ)
         → WritesOrFails (IsPrinted (task_of command.now) file text) (W.written output.old)
         (W.written output.new) result) }
+    ensures fault { W.failed output.new ≡ true → IsErrOf result ProgramFault.File }
 {
     let mut grammar = files.open(g)?;
     let mut text = Device::new(io::empty());
@@ -151,9 +158,10 @@ fn on_files<O: Opener, W: Sink>(
     command: &Command<'_>,
 ) -> Result<u8, ProgramFault>
     requires { W.failed output.old ≡ false }
-    ensures { IfSome (O.holds files.now g.now) (λ file. IfSome (O.holds files.now t.now) (λ text.
+    ensures leads { IfSome (O.holds files.now g.now) (λ file. IfSome (O.holds files.now t.now) (λ text.
         WritesOrFails (IsPrinted (task_of command.now) file text) (W.written output.old)
         (W.written output.new) result)) }
+    ensures fault { W.failed output.new ≡ true → IsErrOf result ProgramFault.File }
 {
     let mut grammar = files.open(g)?;
     let mut text = files.open(t)?;

@@ -2,8 +2,8 @@ use Rattle.peg_tool.specs.Commands.{task_of}
 use Rattle.peg_tool.proofs.ProgramLemmas.{opened-outcome, alone-outcome}
 use Rattle.peg_tool.proofs.program.on_file.Goals as goal
 
-pub returns : goal.returns
-returns g c =
+pub returns-clause-leads : goal.returns-clause-leads
+returns-clause-leads g c =
     let task = task_of c.args.command.now in
     let held = g.O.Opener.holds c.args.files.now c.args.g.now in
     let old = g.W.Sink.written c.args.output.now in
