@@ -33,6 +33,8 @@ file "S <- 'a' S / 'b'\n" chain.peg
 file 'aab' chain.txt
 file "D <- &(A !'b') 'a'* B !.\nA <- 'a' A 'b' / ''\nB <- 'b' B 'c' / ''\n" counts.peg
 file 'aabbcc' counts.txt
+file "D <- N ('/' N){1,2} !.\nN <- [0-9]{1,3} ''{2}\n" repeats.peg
+file '24/12' repeats.txt
 file "A <- B 'x'\nB <- 'y'? A\n" cycle.peg
 file "A <- ('a'*)*\n" loop.peg
 file "A <- B\nA <- 'x'\n" twice.peg
@@ -56,6 +58,7 @@ refuse 'stored run' crates/pegtool/stdin
 refuse 'parse, nested' /dev/null parse "$work/chain.peg" "$work/chain.txt"
 refuse 'parse, rows' /dev/null parse "$work/chain.peg" "$work/chain.txt" --rows
 refuse 'parse, counts' /dev/null parse "$work/counts.peg" "$work/counts.txt"
+refuse 'parse, repeats' /dev/null parse "$work/repeats.peg" "$work/repeats.txt"
 refuse 'parse, prefix' /dev/null parse "$work/prefix.peg" "$work/prefix.txt" --all
 refuse 'parse, deep, memo of 1' /dev/null parse "$work/prefix.peg" "$work/deep.txt" --rows --memo 1
 refuse 'parse, deep, memo of 4096' /dev/null parse "$work/prefix.peg" "$work/deep.txt" --rows --memo 4096
@@ -63,7 +66,7 @@ refuse 'parse, shortcuts through calls' /dev/null parse "$work/list.peg" "$work/
 refuse 'parse, shortcuts and a memo' /dev/null parse "$work/list.peg" "$work/list.txt" --rows --all
 refuse 'parse, no start' /dev/null parse "$work/chain.peg" "$work/chain.txt" --start T
 refuse 'parse, left cycle' /dev/null parse "$work/cycle.peg" "$work/chain.txt"
-for grammar in chain counts cycle loop plus star twice missing open nested large long; do
+for grammar in chain counts repeats cycle loop plus star twice missing open nested large long; do
   refuse "check, $grammar" /dev/null check "$work/$grammar.peg"
 done
 for grammar in chain counts open; do

@@ -25,6 +25,7 @@ fn the_least_recently_used_goes(rt: HostRuntime) -> Result<(), Fail> {
     assert!(rt; memo.find(0, 1).is_none());
     assert!(rt; fails(&memo, 0, 0));
     assert!(rt; fails(&memo, 0, 2));
+    assert!(rt; !memo.was_refused());
     Ok(())
 }
 

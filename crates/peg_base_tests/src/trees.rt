@@ -28,6 +28,8 @@ fn reads_nodes_by_number(rt: HostRuntime) -> Result<(), Fail> {
     assert_eq!(rt; tree.span(second), Span::new(4, 9));
     assert!(rt; tree.child_count(second) == 1);
     assert_eq!(rt; tree.child(second, 0), 3);
+    assert_eq!(rt; tree.nodes().len(), 4);
+    assert_eq!(rt; tree.nodes()[2], node(2, 4, 9, 2));
     assert!(rt; tree.fits(3));
     assert!(rt; !tree.fits(2));
     Ok(())

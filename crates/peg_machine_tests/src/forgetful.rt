@@ -36,21 +36,21 @@ impl Keep for EvictingMemo {
     ghost allocation_failed = { λ _. false };
 
     fn is_empty(&self) -> bool {
-        Keep::is_empty(&self.memo)
+        self.memo.is_empty()
     }
 
     fn touch(&mut self, rule: u32, position: u32) {
-        Keep::touch(&mut self.memo, rule, position);
+        self.memo.touch(rule, position);
     }
 
     fn find(&self, rule: u32, position: u32) -> Option<Found<'_>> {
-        Keep::find(&self.memo, rule, position)
+        self.memo.find(rule, position)
     }
 
     fn keep(&mut self, rule: u32, position: u32, found: Found<'_>) -> bool {
         self.offered = self.offered.saturating_add(1);
         if self.offered % 3 != 0 {
-            return Keep::keep(&mut self.memo, rule, position, found);
+            return self.memo.keep(rule, position, found);
         }
         if let Ok(memo) = LruMemo::new(self.alloc, CAPACITY) {
             self.memo = memo;

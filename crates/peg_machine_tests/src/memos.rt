@@ -7,7 +7,8 @@ use crate::runs::{run_forgetting, run_from, run_plain, run_selecting, run_with};
 use peg_code::Program;
 use peg_fixtures::grammars::{COUNTS, RIGHT, TWICE};
 use peg_fixtures::{failed, matched, nest};
-use peg_machine::{ListWatch, NoWatch, RunFault};
+use peg_machine::{ListWatch, NoWatch, RunFault, run_packrat};
+use peg_memo::LruMemo;
 use peg_tree::{Parsed, Tree};
 use std::alloc::{AllocError, Global};
 use std::process::Abort;
@@ -53,9 +54,12 @@ fn without_a_memo_a_use_begins_twice(rt: HostRuntime) -> Result<(), Fail> {
 fn with_room_no_use_begins_twice(rt: HostRuntime) -> Result<(), Fail> {
     let alloc = rt.alloc();
     let program = some_program(&rt, alloc, TWICE)?;
+    let mut memo = LruMemo::new(alloc, 5)?;
     let mut watch = ListWatch::new(alloc);
-    run_with(alloc, &program, b"(a)y", 0, 5, &mut watch, None)?;
+    let answer = run_packrat(alloc, &program, b"(a)y", 0, &mut memo, &mut watch, None)?;
+    assert!(rt; matches!(answer.outcome.result, Parsed::Matched { end: 4, .. }));
     assert_eq!(rt; watch.pairs(), [(0, 0), (0, 1)].as_slice());
+    assert!(rt; !memo.was_refused());
     Ok(())
 }
 

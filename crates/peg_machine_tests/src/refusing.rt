@@ -43,20 +43,20 @@ impl Keep for AllBut {
     ghost allocation_failed = { λ _. false };
 
     fn is_empty(&self) -> bool {
-        Keep::is_empty(&self.memo)
+        self.memo.is_empty()
     }
 
     fn touch(&mut self, rule: u32, position: u32) {
-        Keep::touch(&mut self.memo, rule, position);
+        self.memo.touch(rule, position);
     }
 
     fn find(&self, rule: u32, position: u32) -> Option<Found<'_>> {
-        Keep::find(&self.memo, rule, position)
+        self.memo.find(rule, position)
     }
 
     fn keep(&mut self, rule: u32, position: u32, found: Found<'_>) -> bool {
         self.offered = self.offered.saturating_add(1);
-        self.offered != self.number && Keep::keep(&mut self.memo, rule, position, found)
+        self.offered != self.number && self.memo.keep(rule, position, found)
     }
 }
 

@@ -1,13 +1,13 @@
 //! Calls on the bytes of a grammar file: tokens, values, definitions.
 use crate::ending::{Borrowed, report};
-use crate::inputs::{CHAIN, COUNTS, OPEN};
+use crate::inputs::{CHAIN, COUNTS, OPEN, REPEATS};
 use peg_lexer::{LexFault, class_of_token, lex, literal_bytes, name_text};
 use peg_metagrammar::figure;
 use peg_notation::{NotationFault, read};
 use std::alloc::Global;
 use std::io;
 
-pub(crate) const WORDS: [&str; 8] = [
+pub(crate) const WORDS: [&str; 9] = [
     "figure",
     "lex",
     "lex_fault",
@@ -16,6 +16,7 @@ pub(crate) const WORDS: [&str; 8] = [
     "class_bytes",
     "read",
     "read_fault",
+    "read_repeats",
 ];
 
 /// Makes the call that the argument names. Returns whether the name is known here.
@@ -29,6 +30,7 @@ pub(crate) fn call(rt: &impl Print, alloc: Global, word: &str) -> io::Result<boo
         "class_bytes" => class(rt, alloc)?,
         "read" => definitions(rt, alloc, COUNTS)?,
         "read_fault" => definitions(rt, alloc, OPEN)?,
+        "read_repeats" => definitions(rt, alloc, REPEATS)?,
         _ => return Ok(false),
     }
     Ok(true)

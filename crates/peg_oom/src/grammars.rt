@@ -1,8 +1,8 @@
 //! Calls on grammars, core forms, tables, checks, code, and the reference evaluators.
 use crate::ending::{Borrowed, report};
 use crate::inputs::{
-    CHAIN, COUNTS, CYCLE, LOOP, MISSING, PREFIX, Pair, TWICE, checked, compiled, core, definitions,
-    grammar, pluses,
+    CHAIN, COUNTS, CYCLE, LOOP, MISSING, PREFIX, Pair, REPEATS, TWICE, checked, compiled, core,
+    definitions, grammar, pluses,
 };
 use peg_check::{CheckFault, check, table_of};
 use peg_code::{CodeFault, compile};
@@ -11,20 +11,24 @@ use peg_grammar::{Grammar, GrammarFault, PlainFault, TotalFault, plain_match, pl
 use std::alloc::Global;
 use std::io;
 
-pub(crate) const WORDS: [&str; 13] = [
+pub(crate) const WORDS: [&str; 17] = [
     "grammar_new",
     "grammar_new_twice",
     "grammar_new_missing",
+    "grammar_new_repeats",
     "plain_match",
     "plain_match_deep",
     "plain_total",
     "desugar",
+    "desugar_repeats",
     "table_of",
     "check",
     "check_cycle",
     "check_loop",
+    "check_repeats",
     "compile",
     "compile_large",
+    "compile_repeats",
 ];
 
 /// Makes the call that the argument names. Returns whether the name is known here.
@@ -33,16 +37,20 @@ pub(crate) fn call(rt: &impl Print, alloc: Global, word: &str) -> io::Result<boo
         "grammar_new" => made(rt, alloc, COUNTS)?,
         "grammar_new_twice" => made(rt, alloc, TWICE)?,
         "grammar_new_missing" => made(rt, alloc, MISSING)?,
+        "grammar_new_repeats" => made(rt, alloc, REPEATS)?,
         "plain_match" => matched(rt, alloc, 1000)?,
         "plain_match_deep" => matched(rt, alloc, 3)?,
         "plain_total" => total(rt, alloc)?,
-        "desugar" => desugared(rt, alloc)?,
+        "desugar" => desugared(rt, alloc, COUNTS)?,
+        "desugar_repeats" => desugared(rt, alloc, REPEATS)?,
         "table_of" => tabled(rt, alloc)?,
         "check" => judged(rt, alloc, COUNTS)?,
         "check_cycle" => judged(rt, alloc, CYCLE)?,
         "check_loop" => judged(rt, alloc, LOOP)?,
+        "check_repeats" => judged(rt, alloc, REPEATS)?,
         "compile" => coded(rt, alloc, PREFIX)?,
         "compile_large" => coded(rt, alloc, &pluses(alloc)?)?,
+        "compile_repeats" => coded(rt, alloc, REPEATS)?,
         _ => return Ok(false),
     }
     Ok(true)
@@ -84,8 +92,8 @@ fn total(rt: &impl Print, alloc: Global) -> io::Result<()> {
     )
 }
 
-fn desugared(rt: &impl Print, alloc: Global) -> io::Result<()> {
-    let grammar = grammar(alloc, COUNTS)?;
+fn desugared(rt: &impl Print, alloc: Global, file: &[u8]) -> io::Result<()> {
+    let grammar = grammar(alloc, file)?;
     let borrowed = Borrowed::of(alloc, &grammar)?;
     let answer = desugar(alloc, &grammar);
     report(rt, &borrowed, answer.is_err(), &answer)

@@ -32,6 +32,11 @@ pub(crate) const SUMS: &[u8] = b"\
     N <- [0-9]+\n\
     W <- [a-z]+\n";
 
+/// Matches dates such as `24/12` and `1/1/999`: counted repetitions, with and without optional iterations.
+pub(crate) const REPEATS: &[u8] = b"\
+    D <- N ('/' N){1,2} !.\n\
+    N <- [0-9]{1,3} ''{2}\n";
+
 /// Two mutually left-recursive rules.
 pub(crate) const CYCLE: &[u8] = b"A <- B 'x'\nB <- 'y'? A\n";
 

@@ -113,10 +113,11 @@ fn kept(rt: &impl Print, alloc: Global) -> io::Result<()> {
     };
     let mut borrowed = Borrowed::of(alloc, &())?;
     let answers = keep_all(&mut memo);
-    if !holds(&mut memo, &answers) {
+    let refused = memo.was_refused();
+    if !holds(&mut memo, &answers) || refused != answers.contains(&false) {
         borrowed.spoil();
     }
-    report(rt, &borrowed, answers.contains(&false), &answers)
+    report(rt, &borrowed, refused, &answers)
 }
 
 fn costs(rt: &impl Print, alloc: Global) -> io::Result<()> {

@@ -1,6 +1,6 @@
 //! Calls on parsers of grammar files, on parses of texts, and on the reader by the metagrammar.
 use crate::ending::{Borrowed, report};
-use crate::inputs::{CHAIN, COUNTS, CYCLE, LOOP, MISSING, OPEN, PREFIX, TWICE, pluses};
+use crate::inputs::{CHAIN, COUNTS, CYCLE, LOOP, MISSING, OPEN, PREFIX, REPEATS, TWICE, pluses};
 use peg_parser::{
     DEFAULT_MEMO, FigureFault, ParseFault, ParseOptions, Parser, Refusal, grammar_of,
     read_by_figure,
@@ -8,7 +8,7 @@ use peg_parser::{
 use std::alloc::{AllocError, Global};
 use std::io;
 
-pub(crate) const WORDS: [&str; 17] = [
+pub(crate) const WORDS: [&str; 18] = [
     "grammar_of",
     "grammar_of_missing",
     "from_file",
@@ -26,6 +26,7 @@ pub(crate) const WORDS: [&str; 17] = [
     "parse_no_start",
     "read_by_figure",
     "read_by_figure_fault",
+    "read_by_figure_repeats",
 ];
 
 /// Makes the call that the argument names. Returns whether the name is known here.
@@ -44,6 +45,7 @@ pub(crate) fn call(rt: &impl Print, alloc: Global, word: &str) -> io::Result<boo
         "parse_no_start" => parsed(rt, alloc, FEW, Some("B"), DEFAULT_MEMO)?,
         "read_by_figure" => figured(rt, alloc, COUNTS)?,
         "read_by_figure_fault" => figured(rt, alloc, OPEN)?,
+        "read_by_figure_repeats" => figured(rt, alloc, REPEATS)?,
         _ => return Ok(false),
     }
     Ok(true)

@@ -1,4 +1,5 @@
 //! Refusals of grammar files and of parses as JSON.
+use peg_bytes::Span;
 use peg_grammar::GrammarFault;
 use peg_json::{Fault, refusal_json};
 use peg_notation::NotationFault;
@@ -50,6 +51,26 @@ fn limits_of_a_file_are_named(rt: HostRuntime) -> Result<(), Fail> {
     let refusal = Refusal::Grammar(GrammarFault::TooManyParts);
     let text = refusal_json(alloc, &Fault::Refused(&refusal), b"", &[])?;
     is(&rt, &text, "{\"refusal\":\"TooManyParts\"}");
+    Ok(())
+}
+
+// A reader never makes such a definition; other callers of `Grammar::new` may.
+#[test]
+fn a_count_of_definitions_is_named_at_its_expression(rt: HostRuntime) -> Result<(), Fail> {
+    let refusal = Refusal::Grammar(GrammarFault::BadCount {
+        span: Span::new(12, 18),
+    });
+    let text = refusal_json(
+        rt.alloc(),
+        &Fault::Refused(&refusal),
+        b"A <- B\nB <- 'b'{0}\n",
+        &[],
+    )?;
+    is(
+        &rt,
+        &text,
+        "{\"at\":12,\"column\":6,\"line\":2,\"refusal\":\"BadCount\"}",
+    );
     Ok(())
 }
 

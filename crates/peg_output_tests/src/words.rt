@@ -1,5 +1,6 @@
 //! Arguments, and the commands that they denote.
 use peg_cli::{Words, WordsFault, read_words};
+use peg_parser::DEFAULT_MEMO;
 use std::alloc::{AllocError, Global};
 use std::process::Abort;
 use std::test::Fail;
@@ -84,6 +85,11 @@ fn parse(
         all,
         rows,
     })
+}
+
+#[test]
+fn the_default_memo_is_that_of_the_command_line(rt: HostRuntime) {
+    assert_eq!(rt; DEFAULT_MEMO, 4096);
 }
 
 #[test]
