@@ -1,0 +1,10 @@
+mod CallLemmas
+mod ChoiceLemmas
+mod EffectLemmas
+mod HeadLemmas
+mod NeverLemmas
+mod OutcomeLemmas
+mod PartLemmas
+mod ReachLemmas
+mod SameLemmas
+mod StopLemmas

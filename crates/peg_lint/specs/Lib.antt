@@ -1,0 +1,17 @@
+pub use Rattle.peg_bytes.specs.ByteSet
+pub use Rattle.peg_bytes.specs.Extent
+pub use Rattle.peg_semantics.specs.AbstractOutcomes
+pub use Rattle.peg_semantics.specs.Form
+pub use Rattle.peg_semantics.specs.Record
+pub use Rattle.peg_semantics.specs.RuleOutcomes
+pub use Rattle.peg_semantics.specs.Rules
+pub use Rattle.peg_semantics.specs.WellFormed
+pub use Rattle.peg_grammar.specs.GrammarRules
+pub use Rattle.peg_grammar.specs.Written
+pub use Rattle.peg_check.specs.Cans
+pub mod Never
+pub mod Outcomes
+pub mod Warnings
+pub mod Linting
+pub mod Reaching
+pub mod WithoutExtents

@@ -1,0 +1,182 @@
+-- What a warning says of a grammar. Each kind is a theorem about Ford's recognition relation (Ford 2004, section 3.3),
+-- for every text and every position.
+use Rattle.std.specs.Prelude.{◌≡◌, ◌≢◌, ◌⊎◌, ℕ, ◌+◌, ◌<◌, ◌≤◌, List, All, Contains, Option, Some, length, slice_get}
+use Rattle.std.specs.Prelude.{slice_index_or, option_map}
+use Rattle.std.specs.List.Sorted.{IsNonDecreasingBy}
+use Rattle.peg_bytes.specs.Extent.{Extent, extent}
+use Rattle.peg_semantics.specs.Form.{Form, Forms, Literal, Class, Any, Name, Seq, Choice, Optional, Star, Plus, Counted}
+use Rattle.peg_semantics.specs.Form.{And, Not, End, Then}
+use Rattle.peg_semantics.specs.Record.{Record, RuleCall, start_record}
+use Rattle.peg_semantics.specs.Rules.{Rule, name_of}
+use Rattle.peg_semantics.specs.WellFormed.{subexpressions}
+use Rattle.peg_lint.specs.Never.{NeverFails, NeverMatches, MatchesNothing, HasRecordsOf}
+use Rattle.peg_lint.specs.Never.{FailsWhere, HaveSameResults}
+use Rattle.peg_lint.specs.declared.warning.Warning.{Warning}
+use Rattle.peg_lint.specs.declared.warning.WarningKind.{WarningKind}
+use Rattle.peg_lint.specs.declared.warning.WarningKind.TheVariants as kind
+
+-- the extent of an expression in the grammar file
+abbrev pub extent_of : Form → Extent
+extent_of (Literal bytes span) = span
+extent_of (Class set span) = span
+extent_of (Any span) = span
+extent_of (Name name span) = span
+extent_of (Seq items span) = span
+extent_of (Choice first rest span) = span
+extent_of (Optional part span) = span
+extent_of (Star part span) = span
+extent_of (Plus part span) = span
+extent_of (Counted part min max span) = span
+extent_of (And part span) = span
+extent_of (Not part span) = span
+
+-- an expression is that of the rule with this number, or a part of it
+abbrev pub IsPartOfRule : List Rule → (number : ℕ) → Form → Type 0
+IsPartOfRule rules number e =
+    (rule : Rule) × (slice_get rules number ≡ Some rule) × Contains (subexpressions rule.body) e
+
+-- an expression is one of these
+abbrev pub IsAmong : Forms → Form → Type 0
+IsAmong End e = ⊥
+IsAmong (Then first rest) e = (first ≡ e) ⊎ IsAmong rest e
+
+-- one expression comes before another in a list
+abbrev pub ComesBefore : Forms → (earlier later : Form) → Type 0
+ComesBefore End earlier later = ⊥
+ComesBefore (Then first rest) earlier later =
+    ((first ≡ earlier) × IsAmong rest later) ⊎ ComesBefore rest earlier later
+
+-- one expression is an alternative of a choice after another
+abbrev pub IsLaterAlternative : Form → (earlier later : Form) → Type 0
+IsLaterAlternative (Literal bytes span) earlier later = ⊥
+IsLaterAlternative (Class set span) earlier later = ⊥
+IsLaterAlternative (Any span) earlier later = ⊥
+IsLaterAlternative (Name name span) earlier later = ⊥
+IsLaterAlternative (Seq items span) earlier later = ⊥
+IsLaterAlternative (Choice first rest span) earlier later = ComesBefore (Then first rest) earlier later
+IsLaterAlternative (Optional part span) earlier later = ⊥
+IsLaterAlternative (Star part span) earlier later = ⊥
+IsLaterAlternative (Plus part span) earlier later = ⊥
+IsLaterAlternative (Counted part min max span) earlier later = ⊥
+IsLaterAlternative (And part span) earlier later = ⊥
+IsLaterAlternative (Not part span) earlier later = ⊥
+
+-- an expression is `&e` or `!e`
+abbrev pub IsPredicate : Form → Type 0
+IsPredicate (Literal bytes span) = ⊥
+IsPredicate (Class set span) = ⊥
+IsPredicate (Any span) = ⊥
+IsPredicate (Name name span) = ⊥
+IsPredicate (Seq items span) = ⊥
+IsPredicate (Choice first rest span) = ⊥
+IsPredicate (Optional part span) = ⊥
+IsPredicate (Star part span) = ⊥
+IsPredicate (Plus part span) = ⊥
+IsPredicate (Counted part min max span) = ⊥
+IsPredicate (And part span) = Unit {0}
+IsPredicate (Not part span) = Unit {0}
+
+-- An operator is without effect: `e?`, `e*`, `&e` or `!e` always matches nothing, or `e?` has the records of `e`.
+abbrev pub IsWithoutEffect : List Rule → Form → Type 0
+IsWithoutEffect rules (Literal bytes span) = ⊥
+IsWithoutEffect rules (Class set span) = ⊥
+IsWithoutEffect rules (Any span) = ⊥
+IsWithoutEffect rules (Name name span) = ⊥
+IsWithoutEffect rules (Seq items span) = ⊥
+IsWithoutEffect rules (Choice first rest span) = ⊥
+IsWithoutEffect rules (Optional part span) =
+    MatchesNothing rules (Optional part span) ⊎ HasRecordsOf rules (Optional part span) part
+IsWithoutEffect rules (Star part span) = MatchesNothing rules (Star part span)
+IsWithoutEffect rules (Plus part span) = ⊥
+IsWithoutEffect rules (Counted part min max span) = ⊥
+IsWithoutEffect rules (And part span) = MatchesNothing rules (And part span)
+IsWithoutEffect rules (Not part span) = MatchesNothing rules (Not part span)
+
+-- the start rule's record on any text has no call of this rule
+abbrev pub IsNeverCalled : List Rule → (start number : ℕ) → Type 0
+IsNeverCalled rules start number = (text : List ℕ) (n : ℕ) (r : Record)
+    → start_record rules text n (name_of rules start) ≡ Some r → All (λ (call : RuleCall). call.rule ≢ number) r.calls
+
+-- a rule that is never called; the extent is that of its expression
+abbrev pub IsUnusedRule : List Rule → (start number : ℕ) → Extent → Type 0
+IsUnusedRule rules start number span =
+    (rule : Rule) × (slice_get rules number ≡ Some rule) × (extent_of rule.body ≡ span)
+    × IsNeverCalled rules start number
+
+-- a part of a rule at an extent has a property
+abbrev pub IsPartWith : List Rule → (number : ℕ) → Extent → (Form → Type 0) → Type 0
+IsPartWith rules number span Has = (e : Form) × IsPartOfRule rules number e × (extent_of e ≡ span) × Has e
+
+-- an alternative of a choice, after one that never fails; the other extent is that of the one that never fails
+abbrev pub IsNeverTried : List Rule → (number : ℕ) → Extent → Option Extent → Type 0
+IsNeverTried rules number span by =
+    (choice earlier later : Form) × IsPartOfRule rules number choice × IsLaterAlternative choice earlier later
+    × (extent_of later ≡ span) × (Some (extent_of earlier) ≡ by) × NeverFails rules earlier
+
+-- An alternative of a choice that always has the result of an earlier one, so that its own is never taken. The other
+-- extent is that of the earlier one.
+abbrev pub IsSameAlternative : List Rule → (number : ℕ) → Extent → Option Extent → Type 0
+IsSameAlternative rules number span by =
+    (choice earlier later : Form) × IsPartOfRule rules number choice × IsLaterAlternative choice earlier later
+    × (extent_of later ≡ span) × (Some (extent_of earlier) ≡ by) × HaveSameResults rules earlier later
+
+-- An alternative of a choice that fails wherever an earlier one fails, so that its result is never taken. The other
+-- extent is that of the earlier one.
+abbrev pub IsShadowed : List Rule → (number : ℕ) → Extent → Option Extent → Type 0
+IsShadowed rules number span by =
+    (choice earlier later : Form) × IsPartOfRule rules number choice × IsLaterAlternative choice earlier later
+    × (extent_of later ≡ span) × (Some (extent_of earlier) ≡ by) × FailsWhere rules earlier later
+
+-- an expression is the first of these
+abbrev pub IsFirstOf : Forms → Form → Type 0
+IsFirstOf End e = ⊥
+IsFirstOf (Then first rest) e = first ≡ e
+
+-- one expression follows another in a list
+abbrev pub FollowsIn : Forms → (earlier next : Form) → Type 0
+FollowsIn End earlier next = ⊥
+FollowsIn (Then first rest) earlier next =
+    ((first ≡ earlier) × IsFirstOf rest next) ⊎ FollowsIn rest earlier next
+
+-- A sequence that never matches, since an item fails wherever the star or plus before it ends. The extents are those of
+-- the item and of the star or plus.
+abbrev pub IsNeverStopping : List Rule → (number : ℕ) → Extent → Option Extent → Type 0
+IsNeverStopping rules number span by =
+    (items : Forms) × (whole : Extent) × (repeat next : Form) × IsPartOfRule rules number (Seq items whole)
+    × FollowsIn items repeat next × (extent_of next ≡ span) × (Some (extent_of repeat) ≡ by)
+    × NeverMatches rules (Seq items whole)
+
+-- what each kind of warning says
+abbrev pub Says : WarningKind → List Rule → (start number : ℕ) → Extent → Option Extent → Type 0
+Says kind.UnusedRule rules start number span by = IsUnusedRule rules start number span
+Says kind.NeverMatches rules start number span by = IsPartWith rules number span (NeverMatches rules)
+Says kind.NeverTried rules start number span by = IsNeverTried rules number span by
+Says kind.AlwaysFails rules start number span by =
+    IsPartWith rules number span (λ e. IsPredicate e × NeverMatches rules e)
+Says kind.NoEffect rules start number span by = IsPartWith rules number span (IsWithoutEffect rules)
+Says kind.SameAlternative rules start number span by = IsSameAlternative rules number span by
+Says kind.Shadowed rules start number span by = IsShadowed rules number span by
+Says kind.NeverStops rules start number span by = IsNeverStopping rules number span by
+
+-- a warning is true of a grammar with these rules, parsed from this start rule
+abbrev pub IsTrueWarning : List Rule → (start : ℕ) → Warning → Type 0
+IsTrueWarning rules start warning =
+    Says warning.kind rules start warning.rule (extent warning.span) (option_map extent warning.by)
+
+-- the place of a kind among all kinds
+abbrev pub rank_of : WarningKind → ℕ
+rank_of kind.UnusedRule = 0
+rank_of kind.NeverMatches = 1
+rank_of kind.NeverTried = 2
+rank_of kind.AlwaysFails = 3
+rank_of kind.NoEffect = 4
+rank_of kind.SameAlternative = 5
+rank_of kind.Shadowed = 6
+rank_of kind.NeverStops = 7
+
+-- warnings in the order of the starts of their extents, and those with the same start in the order of their kinds
+pub record IsInWrittenOrder (warnings : List Warning) : Type 0 where
+  pub starts : IsNonDecreasingBy (λ warning. warning.span.start) warnings
+  pub kinds : (k : ℕ) (d : Warning) → k + 1 < length warnings
+      → (slice_index_or warnings k d).span.start ≡ (slice_index_or warnings (k + 1) d).span.start
+      → rank_of (slice_index_or warnings k d).kind ≤ rank_of (slice_index_or warnings (k + 1) d).kind

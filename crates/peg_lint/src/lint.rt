@@ -1,0 +1,114 @@
+//! The warnings about a grammar.
+ghost use Rattle.std.specs.Prelude.{◌≡◌, ◌<◌, All, length, map, IfOk, OnOk};
+ghost use Rattle.peg_check.specs.Cans.{can_of};
+ghost use Rattle.peg_check.specs.Exact.{cans_of};
+ghost use Rattle.peg_core.specs.CoreParts.{AreCoreFormsOf};
+ghost use Rattle.peg_grammar.specs.GrammarRules.{rules_in};
+ghost use Rattle.peg_semantics.specs.RuleOutcomes.{AreAbstractOutcomes};
+ghost use Rattle.peg_lint.specs.Linting.{KeepsTrue};
+ghost use Rattle.peg_lint.specs.Warnings.{IsInWrittenOrder, IsTrueWarning};
+
+use crate::expressions::span_of;
+use crate::findings::add_never_matches;
+use crate::order::sort;
+use crate::reach::reached_from;
+use crate::visit::lint_expression;
+use crate::{Warning, WarningKind};
+use peg_check::{Can, Table, table_of};
+use peg_core::Core;
+use peg_grammar::Grammar;
+use std::alloc::{AllocError, Global};
+
+/// Returns the warnings about a grammar whose texts are parsed from a start rule. The core forms are those of the
+/// grammar. Each warning is true of Ford's recognition relation on the grammar as written, for every text and every
+/// position (Ford 2004, section 3.3). In a grammar that is not well-formed an expression may have no record; then a
+/// warning about it says nothing.
+///
+/// The warnings are sorted by the start of their spans, and those with the same start by kind.
+///
+/// Takes memory linear in the grammar. Takes time linear in the grammar, apart from hashing and sorting, and from the
+/// digests of alternatives, which read an expression once for each choice around it. The only error is a failed
+/// allocation.
+///
+/// # Example
+///
+/// ```
+/// let grammar = Grammar::new(alloc, read(alloc, b"S <- 'a'* / 'b'")?)?;
+/// let found = warnings(alloc, &grammar, &desugar(alloc, &grammar)?, 0)?;
+/// assert_eq!(found[0].kind, WarningKind::NeverTried);
+/// ```
+pub fn warnings(
+    alloc: Global,
+    grammar: &Grammar,
+    core: &Core,
+    start: u32,
+) -> Result<Vec<Warning>, AllocError>
+    requires core { AreCoreFormsOf (rules_in grammar.now) core.now }
+    requires start { start < length (rules_in grammar.now) }
+    ensures true_warnings { IfOk result (λ found. All (IsTrueWarning (rules_in grammar.now) start) found.items) }
+    ensures in_order { IfOk result (λ found. IsInWrittenOrder found.items) }
+{
+    let table = table_of(alloc, core)?;
+    let outcomes = rule_outcomes(alloc, core, &table)?;
+    let mut found = Vec::new(alloc);
+    'rules: for rule in 0..grammar.rules() {
+        lint_rule(alloc, grammar, &outcomes, rule, &mut found)?;
+    }
+    add_unused_rules(alloc, grammar, start, &mut found)?;
+    sort(&mut found)?;
+    Ok(found)
+}
+
+// Returns the outcomes of each rule's body, from a table with an entry for each core form.
+fn rule_outcomes(alloc: Global, core: &Core, table: &Table) -> Result<Vec<Can>, AllocError>
+    requires { length table.now ≡ length core.now.forms }
+    ensures { IfOk result (λ outcomes. map can_of outcomes.items ≡ cans_of core.now.bodies table.now) }
+{
+    let mut outcomes = Vec::new(alloc);
+    'bodies: for rule in 0..core.rules() {
+        outcomes.push(table.of(core.body(rule)))?;
+    }
+    Ok(outcomes)
+}
+
+// Adds the warnings about a rule's expression.
+fn lint_rule(
+    alloc: Global,
+    grammar: &Grammar,
+    outcomes: &[Can],
+    rule: u32,
+    found: &mut Vec<Warning>,
+) -> Result<(), AllocError>
+    requires outcomes { AreAbstractOutcomes (rules_in grammar.now) (map can_of outcomes.now) }
+    requires within { rule < length (rules_in grammar.now) }
+    ensures { OnOk result (KeepsTrue (rules_in grammar.now) found.old.items found.new.items) }
+{
+    let body = grammar.body(rule);
+    let can = lint_expression(alloc, grammar, outcomes, rule, body, found)?;
+    add_never_matches(rule, body, can, found)
+}
+
+// Adds a warning for each rule that the start rule does not reach.
+fn add_unused_rules(
+    alloc: Global,
+    grammar: &Grammar,
+    start: u32,
+    found: &mut Vec<Warning>,
+) -> Result<(), AllocError>
+    requires start { start < length (rules_in grammar.now) }
+    requires sound { All (IsTrueWarning (rules_in grammar.now) start) found.old.items }
+    ensures { OnOk result (All (IsTrueWarning (rules_in grammar.now) start) found.new.items) }
+{
+    let marks = reached_from(alloc, grammar, start)?;
+    'rules: for rule in 0..grammar.rules() {
+        if !marks[rule as usize] {
+            found.push(Warning {
+                kind: WarningKind::UnusedRule,
+                rule,
+                span: span_of(grammar.body(rule)),
+                by: None,
+            })?;
+        }
+    }
+    Ok(())
+}
