@@ -1,0 +1,4 @@
+pub mod FieldPairs
+pub mod HandleSteps
+pub mod Options
+pub mod RawBoxSteps

@@ -1,0 +1,91 @@
+-- What the content of a handle gives; a null handle has no content and gives nothing.
+use Rattle.std.specs.Prelude.{ℕ, ◌≤◌, List, [], Option, None, Some}
+use Rattle.peg_parser.specs.Accepts.{Accepts}
+use Rattle.peg_parser.specs.Parser.{parser_rules}
+use Rattle.peg_semantics.specs.Rules.{Rule}
+use Rattle.peg_tree.specs.declared.outcome.Parsed.{Parsed}
+use Rattle.peg_tree.specs.declared.outcome.Parsed.TheVariants as parsed
+use Rattle.peg_handle.specs.Answers.{IsAnswerTo}
+use Rattle.peg_handle.specs.Contents.{content_info, content_json, content_name, content_nodes, content_rules}
+use Rattle.peg_handle.specs.Contents.{content_spans, content_summary}
+use Rattle.peg_handle.specs.Rejections.{IsRejectionOf}
+use Rattle.peg_handle.specs.declared.content.Content.{Content}
+use Rattle.peg_handle.specs.declared.content.Content.TheVariants.{Accepted, Rejected, Answered}
+use Rattle.peg_handle.specs.declared.content.FileSpan.{FileSpan}
+use Rattle.peg_handle.specs.declared.nodes.Node.{Node}
+use Rattle.peg_handle.specs.declared.refusal_info.RefusalInfo.{RefusalInfo}
+use Rattle.peg_handle.specs.declared.summary.Summary.{Summary}
+
+-- the handle holds the parser of this grammar file, which is accepted
+abbrev pub HoldsParserOf : (file : List ℕ) → Option Content → Type 0
+HoldsParserOf file None = ⊥
+HoldsParserOf file (Some (Accepted parser)) = Accepts file (parser_rules parser)
+HoldsParserOf file (Some (Rejected rejection)) = ⊥
+HoldsParserOf file (Some (Answered found)) = ⊥
+
+-- the handle holds the reason why this grammar file is rejected
+abbrev pub HoldsRejectionOf : (file : List ℕ) → Option Content → Type 0
+HoldsRejectionOf file None = ⊥
+HoldsRejectionOf file (Some (Accepted parser)) = ⊥
+HoldsRejectionOf file (Some (Rejected rejection)) = IsRejectionOf file rejection
+HoldsRejectionOf file (Some (Answered found)) = ⊥
+
+-- the handle holds an answer of this grammar to a text from a start
+abbrev pub HoldsAnswerTo : List Rule → (text start : List ℕ) → (memo : ℕ) → Option Content → Type 0
+HoldsAnswerTo rules text start memo None = ⊥
+HoldsAnswerTo rules text start memo (Some (Accepted parser)) = ⊥
+HoldsAnswerTo rules text start memo (Some (Rejected rejection)) = ⊥
+HoldsAnswerTo rules text start memo (Some (Answered found)) = IsAnswerTo rules text start memo found
+
+abbrev pub IsMatched : Parsed → Type 0
+IsMatched parsed.Failed = ⊥
+IsMatched (parsed.Matched end tree) = Unit {0}
+
+-- the handle holds an answer by which a prefix of the text matched
+abbrev pub HoldsMatched : Option Content → Type 0
+HoldsMatched None = ⊥
+HoldsMatched (Some (Accepted parser)) = ⊥
+HoldsMatched (Some (Rejected rejection)) = ⊥
+HoldsMatched (Some (Answered found)) = IsMatched found.answer.outcome.result
+
+-- the handle holds an answer by which no prefix of the text matched
+abbrev pub HoldsFailed : Option Content → Type 0
+HoldsFailed None = ⊥
+HoldsFailed (Some (Accepted parser)) = ⊥
+HoldsFailed (Some (Rejected rejection)) = ⊥
+HoldsFailed (Some (Answered found)) = ¬ IsMatched found.answer.outcome.result
+
+-- the handle holds an answer that took at most this many steps
+abbrev pub HoldsWithin : (limit : ℕ) → Option Content → Type 0
+HoldsWithin limit None = ⊥
+HoldsWithin limit (Some (Accepted parser)) = ⊥
+HoldsWithin limit (Some (Rejected rejection)) = ⊥
+HoldsWithin limit (Some (Answered found)) = found.answer.steps ≤ limit
+
+abbrev pub held_rules : Option Content → Option (List Rule)
+held_rules None = None
+held_rules (Some content) = content_rules content
+
+abbrev pub held_name : Option Content → (rule : ℕ) → List ℕ
+held_name None rule = []
+held_name (Some content) rule = content_name content rule
+
+abbrev pub held_json : Option Content → List ℕ
+held_json None = []
+held_json (Some content) = content_json content
+
+abbrev pub held_info : Option Content → Option RefusalInfo
+held_info None = None
+held_info (Some content) = content_info content
+
+abbrev pub held_summary : Option Content → Option Summary
+held_summary None = None
+held_summary (Some content) = content_summary content
+
+abbrev pub held_nodes : Option Content → List Node
+held_nodes None = []
+held_nodes (Some content) = content_nodes content
+
+abbrev pub held_spans : Option Content → List FileSpan
+held_spans None = []
+held_spans (Some content) = content_spans content

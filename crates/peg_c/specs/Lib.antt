@@ -1,0 +1,2 @@
+pub mod HandleOwns
+pub mod Handles

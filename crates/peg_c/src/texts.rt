@@ -1,0 +1,60 @@
+//! Calls that need no handle.
+ghost use Rattle.std.specs.Prelude.{◌≡◌, ◌≢◌, ◌≤◌, ◌<◌, ◌↔◌, ℕ, length, min, slice_get};
+ghost use Rattle.peg_bytes.specs.Place.{column_at, line_at, max_offset};
+
+use peg_bytes::place;
+use peg_handle::{DONE, OUT_OF_RANGE, copy_text};
+
+// The number of the binary interface. It changes with each change that old programs would not survive.
+const ABI: u32 = 1;
+
+// The version of the library.
+const VERSION: &str = "0.1.0";
+
+/// A position in a file or a text: line and column, both from 1. Columns count bytes.
+#[repr(C)]
+#[derive(Clone, Copy, Debug, PartialEq, Eq)]
+pub struct Location {
+    pub line: u32,
+    pub column: u32,
+}
+
+/// Writes the line and the column of an offset of a file or a text. Linear in the offset.
+#[unsafe(no_mangle)]
+pub extern "C" fn peg_locate(text: &[u8], at: usize, out: &mut Location) -> u32
+    ensures statuses { result ≢ DONE → result ≡ OUT_OF_RANGE }
+    ensures in_range { (result ≡ DONE) ↔ ((at ≤ length text.now) × (at ≤ max_offset)) }
+    ensures line { result ≡ DONE → out.new.line ≡ line_at text.now at }
+    ensures column { result ≡ DONE → out.new.column ≡ column_at text.now at }
+    ensures unchanged { result ≡ OUT_OF_RANGE → out.new ≡ out.old }
+{
+    if at > text.len() || at > 2_147_483_647 {
+        return OUT_OF_RANGE;
+    }
+    let there = place(text, at as u32);
+    *out = Location {
+        line: there.line,
+        column: there.column,
+    };
+    DONE
+}
+
+/// Returns the number of the binary interface.
+#[unsafe(no_mangle)]
+pub extern "C" fn peg_abi() -> u32
+    ensures { result ≡ ABI }
+{
+    ABI
+}
+
+/// Copies the start of the version of the library, as much as fits. Returns the length of the whole version.
+#[unsafe(no_mangle)]
+pub extern "C" fn peg_version(out: &mut [u8]) -> usize
+    ensures length { result ≡ length VERSION.now }
+    ensures copied { (place : ℕ) → place < min (length out.old) result
+        → slice_get out.new place ≡ slice_get VERSION.now place }
+    ensures rest { (place : ℕ) → min (length out.old) result ≤ place
+        → slice_get out.new place ≡ slice_get out.old place }
+{
+    copy_text(VERSION.as_bytes(), out)
+}

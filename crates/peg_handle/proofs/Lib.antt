@@ -1,0 +1,6 @@
+mod AnswerLemmas
+mod LevelLemmas
+mod NodeLemmas
+mod RejectionLemmas
+mod SpanLemmas
+mod StartLemmas

@@ -1,0 +1,31 @@
+-- Starts whose bytes are no rule's name.
+use Rattle.std.proofs.Common.{◌≡◌, ◌≢◌, ℕ, suc, ◌<◌, Bool, true, false, ◌==◌, ◌||◌, List, [], ◌∷◌, None, Some, length}
+use Rattle.std.proofs.Common.{bytes_eq, if◌then◌else◌, refl, sym, ap, ◌∙◌, arith}
+use Rattle.std.proofs.lemmas.Slice.Eq.{bytes_eq-Decides}
+use Rattle.std.specs.List.{list_any}
+use Rattle.peg_semantics.specs.Rules.{Rule, is_defined, name_of, names}
+use Rattle.peg_semantics.specs.Starts.{start_name}
+use Rattle.peg_handle.specs.Starts.{start_of_bytes}
+
+bytes_eq-differ : (first second : List ℕ) → second ≢ first → bytes_eq first second ≡ false
+bytes_eq-differ first second differ = by (bytes_eq first second) refl
+  where
+    by : (equal : Bool) → bytes_eq first second ≡ equal → bytes_eq first second ≡ false
+    by true is = absurd (differ (sym ((bytes_eq-Decides first second).0 is)))
+    by false is = is
+
+is_defined-no_rule : (rules : List Rule) (name : List ℕ)
+    → ((rule : ℕ) → rule < length rules → name_of rules rule ≢ name) → is_defined rules name ≡ false
+is_defined-no_rule [] name differ = refl
+is_defined-no_rule (first ∷ rules) name differ =
+    ap (λ (b : Bool). b || list_any (bytes_eq name) (names rules))
+    (bytes_eq-differ name first.name (differ 0 (omega arith)))
+    ∙ is_defined-no_rule rules name (λ rule within. differ (suc rule) (omega arith))
+
+-- if no rule has the name, there is no start
+pub start_name_no_rule : (rules : List Rule) (start : List ℕ) → (length start == 0) ≡ false
+    → ((rule : ℕ) → rule < length rules → name_of rules rule ≢ start)
+    → start_name rules (start_of_bytes start) ≡ None
+start_name_no_rule rules [] some differ = cc
+start_name_no_rule rules (byte ∷ bytes) some differ =
+    ap (λ (b : Bool). if b then Some (byte ∷ bytes) else None) (is_defined-no_rule rules (byte ∷ bytes) differ)

@@ -1,0 +1,25 @@
+use Rattle.std.proofs.Common.{ℕ, List, Option, option_map, subst, sym}
+use Rattle.peg_handle.specs.Starts.{start_of_bytes}
+use Rattle.peg_parser.specs.Parser.{parser_rules}
+use Rattle.peg_parser.specs.StepLimits.{TakesMoreSteps}
+use Rattle.peg_handle.proofs.AnswerLemmas.{is_answer}
+use Rattle.peg_handle.proofs.parsing.parse.Goals as goal
+
+pub returns-clause-answer : goal.returns-clause-answer
+returns-clause-answer c =
+    is_answer (parser_rules c.args.parser.now) c.args.text.now c.args.start.now c.args.memo
+    (option_map (λ name. name.now) c.in_ok-start.start) c.in_ok-answer.answer c.in_ok-found.found
+    c.in_ok-start.ensures.named c.in_ok-found.ensures.answer c.in_ok-found.ensures.expected
+    c.in_ok-answer.ensures.outcome c.in_ok-answer.ensures.fits c.in_ok-answer.ensures.steps
+    c.in_ok-answer.ensures.exact
+
+pub returns-clause-enough : goal.returns-clause-enough
+returns-clause-enough c no_memo takes =
+    let rules = parser_rules c.args.parser.now in
+    let text = c.args.text.now in
+    let by_start =
+    subst (λ (limit : Option ℕ). TakesMoreSteps rules text (start_of_bytes c.args.start.now) limit)
+    (sym c.limit_from.ensures) takes in
+    c.in_ok-answer.ensures.enough no_memo
+    (subst (λ (start : Option (List ℕ)). TakesMoreSteps rules text start c.limit_from.result)
+    (sym c.in_ok-start.ensures.named) by_start)

@@ -1,0 +1,7 @@
+use Rattle.peg_handle.proofs.reading.read.Goals as goal
+
+pub rejection-requires-clause-cause : goal.rejection-requires-clause-cause
+rejection-requires-clause-cause c = c.in-Err.ensures.refused
+
+pub rejection-requires-clause-meaning : goal.rejection-requires-clause-meaning
+rejection-requires-clause-meaning c = c.in-Err.ensures.wrong

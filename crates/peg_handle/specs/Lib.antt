@@ -1,0 +1,9 @@
+pub mod Answers
+pub mod Contents
+pub mod Levels
+pub mod Nodes
+pub mod ReadFaults
+pub mod RefusalInfos
+pub mod Rejections
+pub mod Starts
+pub mod Summaries

@@ -1,0 +1,33 @@
+//! The content of the C library's handles, and the bodies of its calls. `peg_c` exports them.
+#![tactic(auto)]
+
+mod buffers;
+mod calls;
+mod content;
+mod levels;
+mod nodes;
+mod parsing;
+mod reading;
+mod refusal_info;
+mod rejection;
+mod rule_names;
+mod start;
+mod status;
+mod summary;
+
+pub use buffers::{copy_items, copy_text};
+pub use calls::{
+    copy_json_of, copy_name_of, copy_nodes_of, copy_spans_of, parse_by, write_info,
+    write_rule_count, write_summary,
+};
+pub use content::{Content, FileSpan, Match, Rejection};
+pub use nodes::{Node, copy_nodes};
+pub use parsing::parse;
+pub use reading::{ReadFault, read};
+pub use refusal_info::RefusalInfo;
+pub use rule_names::copy_rule_name;
+pub use status::{
+    DONE, FAILED, NO_SUCH_START, OUT_OF_MEMORY, OUT_OF_RANGE, REFUSED, STEP_LIMIT, TEXT_TOO_LONG,
+    WRONG_HANDLE,
+};
+pub use summary::{Summary, summary_of};

@@ -1,0 +1,209 @@
+/* peg.h: the C interface of Cutzalmi, a verified parser for parsing expression grammars (PEGs).
+ *
+ * A program reads a grammar file, parses texts by it, and copies the nodes of the parse trees into its own memory.
+ * docs/C.md is a tutorial. docs/NOTATION.md describes grammar files, and docs/USAGE.md the limits and pegtool's output.
+ *
+ * Handles
+ *   A handle is a struct of one pointer. A null handle, `PEG_NULL`, holds nothing. Initialise each handle to it before
+ *   the first call. A call that fills a handle releases what it held before; a call that fails leaves it unchanged.
+ *   The caller owns what a handle holds and releases it with `peg_grammar_free` or `peg_match_free`, which leave the
+ *   handle null. Releasing a null handle does nothing. Move a handle by copying the struct and no longer using the old
+ *   one: two copies are two owners, and using both is undefined. A match doesn't depend on its grammar.
+ *
+ * Memory
+ *   The library keeps no pointer to the caller's memory: a grammar file and a text may be freed after the call. Memory
+ *   is requested from malloc, realloc and free. If a request fails, the call returns PEG_OUT_OF_MEMORY, and handles and
+ *   buffers are as they were. The library prints nothing, doesn't end the process and has no global state.
+ *
+ * Pointers
+ *   No pointer may be NULL, not even with a length of 0: pass any valid address, such as that of a string literal.
+ *   Memory that a call writes must be initialised before, for example by `= {0}` or calloc. It must not overlap other
+ *   memory of the same call. Two handles of one call must be different variables.
+ *
+ * Threads
+ *   The library starts no thread. Distinct handles may be used by distinct threads at the same time. A handle is used
+ *   by one call at a time, also where a call only reads it. It stays on the thread that made it: that it may move to
+ *   another thread isn't proved. No function may be called from a signal handler, or in the child of a process with
+ *   threads after fork. All functions may be called from any thread within these rules.
+ *
+ * Results
+ *   Functions that return `uint32_t` return a status, except for `peg_abi`. Functions that return `size_t` return a
+ *   number of items or a length, and 0 for a handle that is null or holds something else.
+ */
+#ifndef PEG_H
+#define PEG_H
+
+#include <stddef.h>
+#include <stdint.h>
+
+#ifdef __cplusplus
+extern "C" {
+#endif
+
+/* The number of the binary interface that this header describes. `peg_abi` returns that of the library. */
+#define PEG_ABI 1u
+
+/* A grammar handle holds a grammar, or the reason why a grammar file was refused. A match handle holds the answer to a
+ * parse. The member is private. */
+typedef struct peg_grammar {
+    void *opaque;
+} peg_grammar;
+
+typedef struct peg_match {
+    void *opaque;
+} peg_match;
+
+/* The initialiser of a null handle. */
+#define PEG_NULL {0}
+
+/* Statuses. The first two are the results of a parse, and PEG_OK that of any call that succeeds. */
+enum peg_status {
+    PEG_OK = 0,            /* the call succeeded; of a parse, a prefix of the text matched */
+    PEG_FAILED = 1,        /* no prefix of the text matched; the match handle has the furthest failure */
+    PEG_REFUSED = 2,       /* the grammar file was refused; the grammar handle has the reason */
+    PEG_NO_SUCH_START = 3, /* no rule has the name of the start */
+    PEG_WRONG_HANDLE = 4,  /* the handle is null, or it holds something else */
+    PEG_OUT_OF_MEMORY = 5, /* a request for memory failed */
+    PEG_STEP_LIMIT = 6,    /* the parse takes more steps than the limit allows */
+    PEG_TEXT_TOO_LONG = 7, /* the text has more than 67,108,864 bytes */
+    PEG_OUT_OF_RANGE = 8   /* the offset is past the end of the text, or past 2,147,483,647 */
+};
+
+/* Why a grammar file was refused. docs/USAGE.md describes the kinds: PEG_FILE_TOO_LONG is FileTooLong there, etc. */
+enum peg_refusal_kind {
+    PEG_FILE_TOO_LONG = 1,
+    PEG_SYNTAX = 2,
+    PEG_TOO_NESTED = 3,
+    PEG_BAD_COUNT = 4,
+    PEG_NO_RULE = 5,
+    PEG_DUPLICATE = 6,
+    PEG_UNDEFINED = 7,
+    PEG_TOO_MANY_PARTS = 8,
+    PEG_EMPTY_LOOP = 9,
+    PEG_LEFT_RECURSION = 10,
+    PEG_CODE_TOO_LARGE = 11
+};
+
+/* The kind of a refusal, and the part of the grammar file that it is about. Offsets are in bytes from 0, line and
+ * column from 1; columns count bytes. If the refusal is about an offset, `end` is `start`. If it is about no part of
+ * the file, all members but `kind` are 0. The names of rules are in the line of `peg_grammar_refusal`. */
+typedef struct peg_refusal_info {
+    uint32_t kind; /* an enum peg_refusal_kind */
+    uint32_t start;
+    uint32_t end;
+    uint32_t line;
+    uint32_t column;
+} peg_refusal_info;
+
+/* A node of a parse tree. Nodes are in preorder: the first child of node i, if it has one, is node i + 1, and the
+ * subtree of node i ends before node i + size. */
+typedef struct peg_node {
+    uint32_t rule;  /* the number of the rule, from 0 */
+    uint32_t start; /* the rule matched the bytes of the text from this offset */
+    uint32_t end;   /* up to, but not including, this one */
+    uint32_t level; /* 1 for the root; a level over 4,294,967,295 is given as that number */
+    uint64_t size;  /* the number of nodes in the subtree, this one included */
+} peg_node;
+
+/* The bytes of a grammar file from offset `start` up to, but not including, offset `end`. */
+typedef struct peg_span {
+    uint32_t start;
+    uint32_t end;
+} peg_span;
+
+/* A position in a file or a text: line and column, both from 1. Columns count bytes; CR LF, LF and CR end a line. */
+typedef struct peg_location {
+    uint32_t line;
+    uint32_t column;
+} peg_location;
+
+/* The summary of an answer. */
+typedef struct peg_summary {
+    uint32_t matched;  /* 1 if a prefix of the text matched, else 0 */
+    uint32_t consumed; /* the length of that prefix, or 0 */
+    uint32_t furthest; /* the greatest offset of the text at which a terminal failed, or 0 if none failed */
+    uint64_t nodes;    /* the number of nodes of the tree; 0 if no prefix matched */
+    uint64_t expected; /* the number of terminals that failed at `furthest` */
+    uint64_t steps;    /* the number of instructions executed */
+} peg_summary;
+
+/* The capacity of the memo that pegtool uses if none is given. */
+#define PEG_DEFAULT_MEMO 4096u
+
+/* ---- grammars */
+
+/* Reads a grammar file and stores the result in `out`.
+ * Returns PEG_OK if the file is accepted; `out` then holds the grammar.
+ * Returns PEG_REFUSED if it is not; `out` then holds the reason.
+ * Returns PEG_OUT_OF_MEMORY if a request for memory failed; `out` is then unchanged.
+ * With the first two, the caller has to release `out` with `peg_grammar_free`. */
+uint32_t peg_grammar_read(const uint8_t *file, size_t file_length, peg_grammar *out);
+
+/* Releases what a handle holds and leaves the handle null. */
+void peg_grammar_free(peg_grammar *grammar);
+
+/* Copies to `out` the line of JSON that `pegtool check` prints for a refused file, without its line end and without a
+ * final null byte. If the line is longer than `out_length`, only its start is copied.
+ * Returns the length of the whole line, or 0 if the handle holds no refusal. */
+size_t peg_grammar_refusal(peg_grammar *grammar, uint8_t *out, size_t out_length);
+
+/* Writes the kind of a refusal, and the part of the file that it is about.
+ * Returns PEG_OK, or PEG_WRONG_HANDLE if the handle holds no refusal; `out` is then unchanged. */
+uint32_t peg_grammar_refusal_info(peg_grammar *grammar, peg_refusal_info *out);
+
+/* Writes the number of rules of a grammar, which is at least 1. Rules are numbered from 0, as in the file.
+ * Returns PEG_OK, or PEG_WRONG_HANDLE if the handle holds no grammar; `out` is then unchanged. */
+uint32_t peg_rule_count(peg_grammar *grammar, uint32_t *out);
+
+/* Copies the name of a rule to `out`, without a final null byte. If the name is longer than `out_length`, only its
+ * start is copied. Returns the length of the whole name, or 0 if there is no such rule or no grammar. */
+size_t peg_rule_name(peg_grammar *grammar, uint32_t rule, uint8_t *out, size_t out_length);
+
+/* ---- parses */
+
+/* Parses a prefix of a text and stores the answer in `out`. `start` is the name of the start rule, or empty for the
+ * first rule. `memo` is the capacity of the memo, which changes no result, only the time and the steps; 0 is none.
+ * `steps` is the greatest number of steps that the parse may take; 0 is no limit. `grammar` is unchanged.
+ * Returns PEG_OK if a prefix matched, and PEG_FAILED if none did. `out` then holds the answer, and the caller has to
+ * release it with `peg_match_free`. To match the whole text, compare `consumed` of the summary with its length.
+ * Otherwise `out` is unchanged. PEG_WRONG_HANDLE: `grammar` holds no grammar. PEG_NO_SUCH_START: no rule has the name.
+ * PEG_TEXT_TOO_LONG: the text is too long, and the start has a rule. PEG_STEP_LIMIT: the parse takes more steps than
+ * `steps`. PEG_OUT_OF_MEMORY: a request for memory failed. */
+uint32_t peg_parse(peg_grammar *grammar, const uint8_t *text, size_t text_length, const uint8_t *start,
+                   size_t start_length, uint32_t memo, uint64_t steps, peg_match *out);
+
+/* Releases what a handle holds and leaves the handle null. */
+void peg_match_free(peg_match *match);
+
+/* Writes the summary of an answer.
+ * Returns PEG_OK, or PEG_WRONG_HANDLE if the handle holds no answer; `out` is then unchanged. */
+uint32_t peg_match_summary(peg_match *match, peg_summary *out);
+
+/* Copies the nodes of the parse tree, from number `from` on, to `out`: as many as there are and fit.
+ * Returns their number, which is 0 if the handle holds no tree. The rest of `out` is unchanged. */
+size_t peg_match_nodes(peg_match *match, size_t from, peg_node *out, size_t out_length);
+
+/* Copies the spans in the grammar file of the terminals that failed at the furthest position, in ascending order of the
+ * terminals, from number `from` on, to `out`: as many as there are and fit.
+ * Returns their number, which is 0 if the handle holds no answer. The rest of `out` is unchanged. */
+size_t peg_match_expected(peg_match *match, size_t from, peg_span *out, size_t out_length);
+
+/* ---- positions, and the library itself */
+
+/* Writes the line and the column of an offset of a file or a text. The time is linear in the offset.
+ * Returns PEG_OK, or PEG_OUT_OF_RANGE if the offset is greater than the length or than 2,147,483,647; `out` is then
+ * unchanged. */
+uint32_t peg_locate(const uint8_t *text, size_t text_length, size_t offset, peg_location *out);
+
+/* Returns the number of the binary interface. If it isn't PEG_ABI, the library doesn't fit this header. */
+uint32_t peg_abi(void);
+
+/* Copies the version of the library to `out`, such as 0.1.0, without a final null byte. If it is longer than
+ * `out_length`, only its start is copied. Returns the length of the whole version. */
+size_t peg_version(uint8_t *out, size_t out_length);
+
+#ifdef __cplusplus
+}
+#endif
+
+#endif

@@ -1,0 +1,104 @@
+#!/usr/bin/env bash
+# Tests the C library: builds it, compiles the C programs against its archive and its shared object, and runs them.
+# Compares rows.c, and rows.rs where there is rustc, with `pegtool parse --rows` for each text of examples/. Runs the
+# programs under valgrind where there is one. Takes the path of pegtool, by default the one that `make run` builds, and
+# flags for `rt lib`. The last line counts the faults.
+set -u
+cd "$(dirname "$0")/.." || exit 1
+program=$(realpath -- "${1:-crates/pegtool/out/pegtool}")
+[ -x "$program" ] || { echo "no program: run make run first"; exit 1; }
+work=$(mktemp -d)
+trap 'rm -rf "$work"' EXIT
+faults=0
+fault() {
+  echo "$1" >&2
+  faults=$((faults + 1))
+}
+
+tools/c_library.sh "${@:2}" || exit 1
+
+# The names that the libraries show are those of the header.
+grep -o '\bpeg_[a-z_]* *(' include/peg.h | tr -d ' (' | sort -u > "$work/declared"
+nm -D --defined-only out/lib/libpeg.so | awk '{ print $3 }' | sort -u > "$work/shared"
+nm -g --defined-only out/lib/libpeg.a 2> /dev/null | awk 'NF == 3 { print $3 }' | sort -u > "$work/static"
+cmp "$work/declared" "$work/shared" || fault "libpeg.so doesn't show the functions of the header"
+cmp "$work/declared" "$work/static" || fault "libpeg.a doesn't show the functions of the header"
+readelf -d out/lib/libpeg.so | grep -q 'SONAME.*libpeg.so.1' || fault "libpeg.so has another soname"
+
+compile() { # the program's name, its file, and more words for gcc
+  gcc -std=c11 -O1 -g -Wall -Wextra -Werror -Iinclude -o "$work/$1" "$2" "${@:3}" || fault "$2 doesn't compile"
+}
+archive=out/lib/libpeg.a
+wrap=-Wl,--wrap=malloc,--wrap=realloc,--wrap=free
+compile rows examples/c/rows.c $archive
+compile rows_shared examples/c/rows.c -Lout/lib -lpeg "-Wl,-rpath,$PWD/out/lib"
+compile lint examples/c/lint.c $archive
+compile misuse tests/c/misuse.c $archive
+compile memory tests/c/memory.c $archive $wrap
+compile threads tests/c/threads.c $archive -pthread
+printf '#include "peg.h"\nint main() { return peg_abi() != PEG_ABI; }\n' > "$work/abi.cc"
+g++ -Wall -Wextra -Werror -Iinclude -o "$work/abi" "$work/abi.cc" $archive || fault "C++ can't include the header"
+"$work/abi" || fault "the library has another interface than the header"
+programs="rows rows_shared"
+if command -v rustc > /dev/null; then
+  rustc --edition 2021 -O -D warnings -L out/lib -l static=peg examples/rust/rows.rs -o "$work/rows_rust" ||
+    fault "rows.rs doesn't compile"
+  programs="$programs rows_rust"
+else
+  echo "rows.rs: skipped, there is no rustc"
+fi
+
+# The rows of each text, beside those of the tool.
+texts=0
+for grammar in examples/*.peg examples/cookbook/*.peg; do
+  for text in "${grammar%.peg}"/*; do
+    want_status=0
+    "$program" parse "$grammar" "$text" --rows > "$work/want" || want_status=$?
+    for rows in $programs; do
+      status=0
+      "$work/$rows" "$grammar" "$text" > "$work/got" || status=$?
+      [ "$status" = "$want_status" ] || fault "$rows: status $status and not $want_status: $grammar $text"
+      cmp "$work/want" "$work/got" || fault "$rows: other rows: $grammar $text"
+    done
+    texts=$((texts + 1))
+  done
+done
+echo "rows: $texts texts"
+
+# A refused file, and the places that lint reports.
+printf 'A <- B\n' > "$work/refused.peg"
+"$program" parse "$work/refused.peg" /dev/null --rows > "$work/want"
+"$work/rows" "$work/refused.peg" /dev/null > "$work/got"
+cmp "$work/want" "$work/got" || fault "other refusal"
+printf '{"a": }' > "$work/text"
+want="$work/text:1:7: expected 'true' or 'false' or 'null' or '{' or '[' or '\"' or '-' or '0' or [1-9] or [ \\t\\r\\n]"
+[ "$("$work/lint" examples/json.peg "$work/text")" = "$want" ] || fault "lint reports something else"
+"$work/lint" examples/json.peg > "$work/got" || fault "lint rejects a grammar"
+[ ! -s "$work/got" ] || fault "lint reports a correct grammar"
+[ "$("$work/lint" "$work/refused.peg" | cut -d: -f 2,3)" = 1:6 ] || fault "lint reports another place of a refusal"
+
+"$work/misuse" || fault "misuse"
+json=$(find examples/json -type f | sort | head -n 1)
+"$work/memory" examples/json.peg "$json" || fault "memory"
+printf '[%s]' "$(seq -s, 4000)" > "$work/long"
+"$work/memory" examples/json.peg "$work/long" || fault "memory of a long text"
+
+"$work/threads" examples/json.peg "$json" || fault "threads"
+
+if command -v valgrind > /dev/null; then
+  under() { # the program and its words: no error and no leak
+    valgrind -q --error-exitcode=99 --leak-check=full "$work/$1" "${@:2}" > "$work/out" 2> "$work/errors"
+    case $? in
+      99) fault "valgrind reports an error: $*"; cat "$work/errors" >&2 ;;
+    esac
+  }
+  under rows examples/json.peg "$json"
+  under lint examples/json.peg "$work/text"
+  under misuse
+  under memory examples/json.peg "$json"
+  valgrind -q --tool=helgrind --error-exitcode=99 "$work/threads" examples/json.peg "$json" > "$work/out" 2>&1 ||
+    { fault "helgrind reports an error"; cat "$work/out" >&2; }
+  echo "valgrind: 5 programs"
+fi
+echo "$faults faults"
+[ "$faults" = 0 ]

@@ -1,0 +1,155 @@
+/* misuse: calls on null handles and on handles that hold something else, empty buffers, and repeated use of a handle.
+ * Prints the number of tests, and ends with 1 if one failed. */
+#include "peg.h"
+
+#include <stdio.h>
+#include <string.h>
+
+static int tests, failures;
+
+#define CHECK(fact)                                                                                                    \
+    do {                                                                                                               \
+        tests++;                                                                                                       \
+        if (!(fact)) {                                                                                                 \
+            failures++;                                                                                                \
+            printf("%s:%d: %s\n", __FILE__, __LINE__, #fact);                                                          \
+        }                                                                                                              \
+    } while (0)
+
+static const uint8_t *bytes(const char *text) {
+    return (const uint8_t *)text;
+}
+
+static uint32_t read_grammar(const char *file, peg_grammar *out) {
+    return peg_grammar_read(bytes(file), strlen(file), out);
+}
+
+static uint32_t parse(peg_grammar *grammar, const char *text, const char *start, uint64_t steps, peg_match *out) {
+    return peg_parse(grammar, bytes(text), strlen(text), bytes(start), strlen(start), PEG_DEFAULT_MEMO, steps, out);
+}
+
+static void null_handles_give_nothing(void) {
+    peg_grammar grammar = PEG_NULL;
+    peg_match match = PEG_NULL;
+    peg_refusal_info info = {9, 9, 9, 9, 9};
+    peg_summary summary = {9, 9, 9, 9, 9, 9};
+    peg_node node = {9, 9, 9, 9, 9};
+    peg_span span = {9, 9};
+    uint8_t byte = 9;
+    uint32_t count = 9;
+    CHECK(parse(&grammar, "a", "", 0, &match) == PEG_WRONG_HANDLE);
+    CHECK(match.opaque == NULL);
+    CHECK(peg_rule_count(&grammar, &count) == PEG_WRONG_HANDLE && count == 9);
+    CHECK(peg_rule_name(&grammar, 0, &byte, 1) == 0 && byte == 9);
+    CHECK(peg_grammar_refusal(&grammar, &byte, 1) == 0 && byte == 9);
+    CHECK(peg_grammar_refusal_info(&grammar, &info) == PEG_WRONG_HANDLE && info.kind == 9);
+    CHECK(peg_match_summary(&match, &summary) == PEG_WRONG_HANDLE && summary.steps == 9);
+    CHECK(peg_match_nodes(&match, 0, &node, 1) == 0 && node.size == 9);
+    CHECK(peg_match_expected(&match, 0, &span, 1) == 0 && span.end == 9);
+    peg_match_free(&match);
+    peg_grammar_free(&grammar);
+    CHECK(grammar.opaque == NULL && match.opaque == NULL);
+}
+
+/* The two types of handles have one form, so a cast can exchange them. */
+static void other_handles_are_reported(void) {
+    peg_grammar grammar = PEG_NULL;
+    peg_match match = PEG_NULL, other = PEG_NULL;
+    peg_refusal_info info = {9, 9, 9, 9, 9};
+    peg_summary summary = {9, 9, 9, 9, 9, 9};
+    peg_node node = {9, 9, 9, 9, 9};
+    uint8_t byte = 9;
+    uint32_t count = 9;
+    CHECK(read_grammar("S <- 'a'", &grammar) == PEG_OK);
+    CHECK(parse(&grammar, "a", "", 0, &match) == PEG_OK);
+    CHECK(parse((peg_grammar *)&match, "a", "", 0, &other) == PEG_WRONG_HANDLE);
+    CHECK(match.opaque != NULL && other.opaque == NULL);
+    CHECK(peg_match_summary((peg_match *)&grammar, &summary) == PEG_WRONG_HANDLE && summary.nodes == 9);
+    CHECK(peg_match_nodes((peg_match *)&grammar, 0, &node, 1) == 0 && node.size == 9);
+    CHECK(peg_grammar_refusal(&grammar, &byte, 1) == 0 && byte == 9);
+    CHECK(peg_grammar_refusal_info(&grammar, &info) == PEG_WRONG_HANDLE && info.kind == 9);
+    CHECK(peg_rule_count((peg_grammar *)&match, &count) == PEG_WRONG_HANDLE && count == 9);
+    peg_match_free(&match);
+    peg_grammar_free(&grammar);
+}
+
+static void refusals_have_their_place(void) {
+    peg_grammar grammar = PEG_NULL;
+    peg_match match = PEG_NULL;
+    peg_refusal_info info = {9, 9, 9, 9, 9};
+    uint8_t line[100] = {0};
+    CHECK(read_grammar("A <- 'a'\nS <- B", &grammar) == PEG_REFUSED);
+    CHECK(peg_grammar_refusal_info(&grammar, &info) == PEG_OK);
+    CHECK(info.kind == PEG_UNDEFINED && info.start == 14 && info.end == 15 && info.line == 2 && info.column == 6);
+    const char *expected = "{\"column\":6,\"end\":15,\"line\":2,\"name\":\"B\",\"refusal\":\"Undefined\",\"start\":14}";
+    size_t length = peg_grammar_refusal(&grammar, line, sizeof line);
+    CHECK(length == strlen(expected) && strcmp((char *)line, expected) == 0);
+    CHECK(parse(&grammar, "a", "", 0, &match) == PEG_WRONG_HANDLE);
+    CHECK(read_grammar("S <- S", &grammar) == PEG_REFUSED);
+    CHECK(peg_grammar_refusal_info(&grammar, &info) == PEG_OK);
+    CHECK(info.kind == PEG_LEFT_RECURSION && info.line == 0 && info.column == 0);
+    CHECK(read_grammar("", &grammar) == PEG_REFUSED);
+    CHECK(read_grammar("S <- (", &grammar) == PEG_REFUSED);
+    CHECK(peg_grammar_refusal_info(&grammar, &info) == PEG_OK && info.kind == PEG_SYNTAX && info.start == 6);
+    peg_grammar_free(&grammar);
+}
+
+static void parses_have_their_statuses(void) {
+    peg_grammar grammar = PEG_NULL;
+    peg_match match = PEG_NULL;
+    peg_summary summary = {9, 9, 9, 9, 9, 9};
+    peg_node nodes[4] = {{9, 9, 9, 9, 9}, {9, 9, 9, 9, 9}, {9, 9, 9, 9, 9}, {9, 9, 9, 9, 9}};
+    CHECK(read_grammar("S <- 'a' S / B\nB <- 'b'", &grammar) == PEG_OK);
+    CHECK(parse(&grammar, "", "", 0, &match) == PEG_FAILED);
+    CHECK(peg_match_summary(&match, &summary) == PEG_OK);
+    CHECK(summary.matched == 0 && summary.consumed == 0 && summary.nodes == 0 && summary.expected == 2);
+    CHECK(peg_match_nodes(&match, 0, nodes, 4) == 0 && nodes[0].size == 9);
+    CHECK(parse(&grammar, "ab", "", 0, &match) == PEG_OK);
+    CHECK(peg_match_summary(&match, &summary) == PEG_OK);
+    CHECK(summary.matched == 1 && summary.consumed == 2 && summary.furthest == 1 && summary.nodes == 3);
+    CHECK(peg_match_nodes(&match, 1, nodes, 4) == 2);
+    CHECK(nodes[0].rule == 0 && nodes[0].start == 1 && nodes[0].end == 2 && nodes[0].level == 2 && nodes[0].size == 2);
+    CHECK(nodes[1].rule == 1 && nodes[1].level == 3 && nodes[1].size == 1 && nodes[2].size == 9);
+    CHECK(peg_match_nodes(&match, 0, nodes, 0) == 0 && peg_match_nodes(&match, 3, nodes, 4) == 0);
+    CHECK(peg_match_nodes(&match, SIZE_MAX, nodes, 4) == 0);
+    CHECK(parse(&grammar, "b", "B", 0, &match) == PEG_OK);
+    CHECK(peg_match_summary(&match, &summary) == PEG_OK && summary.nodes == 1);
+    void *before = match.opaque;
+    CHECK(parse(&grammar, "b", "C", 0, &match) == PEG_NO_SUCH_START && match.opaque == before);
+    CHECK(parse(&grammar, "b", "\xff", 0, &match) == PEG_NO_SUCH_START && match.opaque == before);
+    CHECK(parse(&grammar, "aaaab", "", 2, &match) == PEG_STEP_LIMIT && match.opaque == before);
+    peg_grammar_free(&grammar);
+    CHECK(peg_match_nodes(&match, 0, nodes, 1) == 1 && nodes[0].rule == 1);
+    peg_match_free(&match);
+    peg_match_free(&match);
+}
+
+static void names_and_positions_fit_their_buffers(void) {
+    peg_grammar grammar = PEG_NULL;
+    peg_location place = {9, 9};
+    uint8_t name[5] = "----";
+    uint32_t count = 0;
+    CHECK(read_grammar("Start <- End\nEnd <- 'b'", &grammar) == PEG_OK);
+    CHECK(peg_rule_count(&grammar, &count) == PEG_OK && count == 2);
+    CHECK(peg_rule_name(&grammar, 0, name, 2) == 5 && memcmp(name, "St--", 4) == 0);
+    CHECK(peg_rule_name(&grammar, 1, name, 4) == 3 && memcmp(name, "End-", 4) == 0);
+    CHECK(peg_rule_name(&grammar, 2, name, 4) == 0 && memcmp(name, "End-", 4) == 0);
+    peg_grammar_free(&grammar);
+    CHECK(peg_locate(bytes("a\r\nb"), 4, 3, &place) == PEG_OK && place.line == 2 && place.column == 1);
+    CHECK(peg_locate(bytes("a\r\nb"), 4, 4, &place) == PEG_OK && place.line == 2 && place.column == 2);
+    CHECK(peg_locate(bytes("a\r\nb"), 4, 5, &place) == PEG_OUT_OF_RANGE && place.column == 2);
+    CHECK(peg_locate(bytes(""), 0, 0, &place) == PEG_OK && place.line == 1 && place.column == 1);
+    CHECK(peg_locate(bytes(""), 0, SIZE_MAX, &place) == PEG_OUT_OF_RANGE);
+    CHECK(peg_abi() == PEG_ABI);
+    CHECK(peg_version(name, 4) == 5 && name[0] == '0' && name[1] == '.');
+}
+
+int main(void) {
+    null_handles_give_nothing();
+    other_handles_are_reported();
+    refusals_have_their_place();
+    parses_have_their_statuses();
+    names_and_positions_fit_their_buffers();
+    printf("misuse: %d tests, %d failed\n", tests, failures);
+    return failures != 0;
+}
