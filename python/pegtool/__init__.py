@@ -1,0 +1,41 @@
+"""Parse texts by parsing expression grammars, with the proved parser of Cutzalmi.
+
+    >>> import pegtool
+    >>> grammar = pegtool.Grammar('''
+    ...     Pairs <- Pair ("," Pair)* !.
+    ...     Pair  <- Key "=" Value
+    ...     Key   <- [a-z]+
+    ...     Value <- [0-9]+
+    ... ''')
+    >>> match = grammar.parse("a=1,bc=22")
+    >>> [(pair.find("Key").text, int(pair.find("Value").text)) for pair in match.root]
+    [('a', 1), ('bc', 22)]
+
+Offsets are in bytes from 0. Success, consumed length, tree and furthest failure are those of Ford's relation
+("Parsing Expression Grammars", POPL 2004) for the grammar as written: that is proved of the library that this package
+calls. This package itself is tested.
+"""
+
+from ._errors import GrammarError, NoSuchRuleError, ParseError, PegError, StepLimitError, TextTooLongError
+from ._grammar import DEFAULT_MEMO, Grammar
+from ._library import version
+from ._match import Failure, Match, Node, Row, Rows
+from ._visitor import Visitor
+
+__all__ = [
+    "DEFAULT_MEMO",
+    "Failure",
+    "Grammar",
+    "GrammarError",
+    "Match",
+    "Node",
+    "NoSuchRuleError",
+    "ParseError",
+    "PegError",
+    "Row",
+    "Rows",
+    "StepLimitError",
+    "TextTooLongError",
+    "Visitor",
+    "version",
+]

@@ -1,0 +1,155 @@
+"""The errors of this package, and the texts that they show."""
+
+import re
+from typing import Any, Dict, List, Optional, Tuple
+
+# The greatest number of columns of a source line that a message shows.
+SHOWN_COLUMNS = 120
+
+# The greatest number of expected items that a message lists.
+SHOWN_ITEMS = 8
+
+LINE_END = re.compile(rb"\r\n|\r|\n")
+
+MESSAGES = {
+    "FileTooLong": "the grammar file is too long",
+    "Syntax": "this isn't in the notation of grammar files",
+    "TooNested": "too many parentheses are open here",
+    "BadCount": "this count is out of range",
+    "NoRule": "the grammar has no rule",
+    "Duplicate": "rule {name} is defined twice",
+    "Undefined": "no rule has the name {name}",
+    "TooManyParts": "the grammar has too many parts",
+    "EmptyLoop": "a repetition of rule {rule} can go on without consuming a byte",
+    "LeftRecursion": "left recursion: {path}",
+    "CodeTooLarge": "the code of the grammar is too large",
+}
+
+
+class PegError(Exception):
+    """The base of all errors of this package."""
+
+
+class GrammarError(PegError):
+    """A grammar file is refused.
+
+    `kind` names the cause as `pegtool check` does, for example "Syntax" or "LeftRecursion". `line` and `column` are the
+    position in the file, both from 1, or `None` if the cause has none; columns count bytes. `offset` is the same in
+    bytes from 0. `refusal` is the whole report of pegtool, as a dict. `str(error)` shows the line with a caret.
+    """
+
+    def __init__(self, refusal: Dict[str, Any], source: bytes, name: str) -> None:
+        self.refusal = refusal
+        self.kind: str = refusal["refusal"]
+        self.offset: Optional[int] = refusal.get("at", refusal.get("start"))
+        self.path: List[str] = refusal.get("path", [])
+        if self.offset is None and self.path:
+            self.offset = definition_of(self.path[0], source)
+        self.line: Optional[int] = None
+        self.column: Optional[int] = None
+        words = dict(refusal, path=" -> ".join(self.path + self.path[:1]))
+        self.message = MESSAGES.get(self.kind, self.kind).format_map(words)
+        text = f"{name}: {self.message}"
+        if self.offset is not None:
+            self.line, self.column = line_and_column(source, self.offset)
+            text = f"{name}:{self.line}:{self.column}: {self.message}\n{caret_lines(source, self.offset)}"
+        super().__init__(text)
+
+
+class ParseError(PegError):
+    """A text isn't matched, or not all of it.
+
+    `position` is the offset of the fault in bytes from 0; `line` and `column` are the same, both from 1. `expected`
+    lists what would have been accepted there, as it is written in the grammar. `found` is the character there, or
+    "the end". `consumed` is the length of the longest prefix that matched, or `None` if there is none. `str(error)`
+    shows the line with a caret.
+    """
+
+    def __init__(
+        self, name: str, data: bytes, position: int, expected: List[str], consumed: Optional[int], far: int
+    ) -> None:
+        self.position = position
+        self.expected = expected
+        self.consumed = consumed
+        self.far = far
+        self.found = shown_character(data, position)
+        self.line, self.column = line_and_column(data, position)
+        wanted = listed(expected) if expected else "something else"
+        self.message = f"expected {wanted}, found {self.found}"
+        super().__init__(f"{name}:{self.line}:{self.column}: {self.message}\n{caret_lines(data, position)}")
+
+
+class NoSuchRuleError(PegError, ValueError):
+    """No rule has the name that was given for the start."""
+
+
+class StepLimitError(PegError):
+    """A parse takes more steps than were allowed."""
+
+
+class TextTooLongError(PegError, ValueError):
+    """A text has more than 67,108,864 bytes."""
+
+
+def line_start(data: bytes, position: int) -> Tuple[int, int]:
+    """The number of the line of a position, from 1, and the offset where that line starts."""
+    line, start = 1, 0
+    for end in LINE_END.finditer(data, 0, min(position + 1, len(data))):
+        if end.end() > position:
+            break
+        line, start = line + 1, end.end()
+    return line, start
+
+
+def line_and_column(data: bytes, position: int) -> Tuple[int, int]:
+    """The line and the column of a position, both from 1. Columns count bytes."""
+    line, start = line_start(data, position)
+    return line, position - start + 1
+
+
+def definition_of(rule: str, source: bytes) -> Optional[int]:
+    """The offset of a rule's definition in a grammar file."""
+    found = re.search(rb"(?<![A-Za-z0-9_])" + rule.encode("ascii") + rb"(?:\s|#[^\r\n]*)*<-", source)
+    return found.start() if found else None
+
+
+def shown(data: bytes) -> str:
+    """Bytes as text: what isn't UTF-8 or can't be printed is escaped."""
+    text = data.decode("utf-8", "backslashreplace")
+    return "".join(c if c.isprintable() else c.encode("unicode_escape").decode("ascii") for c in text)
+
+
+def shown_character(data: bytes, position: int) -> str:
+    """The character at a position, in quotes, or "the end"."""
+    if position >= len(data):
+        return "the end"
+    for length in (1, 2, 3, 4):
+        try:
+            return f"'{shown(data[position:position + length].decode('utf-8').encode('utf-8'))}'"
+        except UnicodeDecodeError:
+            pass
+    return f"'{shown(data[position:position + 1])}'"
+
+
+def caret_lines(data: bytes, position: int) -> str:
+    """The source line of a position and a caret below it. A long line is cut around the position."""
+    _, start = line_start(data, position)
+    found = LINE_END.search(data, start)
+    end = found.start() if found else len(data)
+    position = min(position, end) if found else position
+    if end - start > SHOWN_COLUMNS:
+        start = max(start, position - SHOWN_COLUMNS // 2)
+        end = min(end, start + SHOWN_COLUMNS)
+    before = data[start:position].decode("utf-8", "replace")
+    line = data[start:end].decode("utf-8", "replace")
+    below = "".join(c if c == "\t" else " " for c in before)
+    return f"{line}\n{below}^"
+
+
+def listed(items: List[str]) -> str:
+    """Items as in a sentence: `a, b or c`."""
+    if len(items) > SHOWN_ITEMS:
+        items = items[:SHOWN_ITEMS] + [f"{len(items) - SHOWN_ITEMS} more"]
+    if len(items) == 1:
+        return items[0]
+    return f"{', '.join(items[:-1])} or {items[-1]}"

@@ -1,0 +1,202 @@
+"""The C library of Cutzalmi: the declarations of include/peg.h, and handles that stay on the thread that made them."""
+
+import ctypes
+import os
+import threading
+from ctypes import POINTER, byref, c_char_p, c_size_t, c_uint8, c_uint32, c_uint64, c_void_p
+from ctypes.util import find_library
+from typing import Callable, List, Tuple
+
+# The number of the binary interface that this module is written for.
+ABI = 1
+
+OK, FAILED, REFUSED, NO_SUCH_START, WRONG_HANDLE, OUT_OF_MEMORY, STEP_LIMIT, TEXT_TOO_LONG, OUT_OF_RANGE = range(9)
+
+
+class Handle(ctypes.Structure):
+    """A grammar or a match; null at first."""
+
+    _fields_ = [("opaque", c_void_p)]
+
+
+class PegNode(ctypes.Structure):
+    """A node of a parse tree: 24 bytes."""
+
+    _fields_ = [
+        ("rule", c_uint32),
+        ("start", c_uint32),
+        ("end", c_uint32),
+        ("level", c_uint32),
+        ("size", c_uint64),
+    ]
+
+
+class PegSpan(ctypes.Structure):
+    """The start and the end of a part of a grammar file."""
+
+    _fields_ = [("start", c_uint32), ("end", c_uint32)]
+
+
+class PegSummary(ctypes.Structure):
+    """The summary of an answer."""
+
+    _fields_ = [
+        ("matched", c_uint32),
+        ("consumed", c_uint32),
+        ("furthest", c_uint32),
+        ("nodes", c_uint64),
+        ("expected", c_uint64),
+        ("steps", c_uint64),
+    ]
+
+
+DECLARATIONS = {
+    "peg_grammar_read": (c_uint32, c_char_p, c_size_t, POINTER(Handle)),
+    "peg_grammar_free": (None, POINTER(Handle)),
+    "peg_grammar_refusal": (c_size_t, POINTER(Handle), POINTER(c_uint8), c_size_t),
+    "peg_rule_count": (c_uint32, POINTER(Handle), POINTER(c_uint32)),
+    "peg_rule_name": (c_size_t, POINTER(Handle), c_uint32, POINTER(c_uint8), c_size_t),
+    "peg_parse": (
+        c_uint32,
+        POINTER(Handle),
+        c_char_p,
+        c_size_t,
+        c_char_p,
+        c_size_t,
+        c_uint32,
+        c_uint64,
+        POINTER(Handle),
+    ),
+    "peg_match_free": (None, POINTER(Handle)),
+    "peg_match_summary": (c_uint32, POINTER(Handle), POINTER(PegSummary)),
+    "peg_match_nodes": (c_size_t, POINTER(Handle), c_size_t, POINTER(PegNode), c_size_t),
+    "peg_match_expected": (c_size_t, POINTER(Handle), c_size_t, POINTER(PegSpan), c_size_t),
+    "peg_abi": (c_uint32,),
+    "peg_version": (c_size_t, POINTER(c_uint8), c_size_t),
+}
+
+
+def candidates() -> List[str]:
+    """The paths where the library is looked for, in order."""
+    if "PEGTOOL_LIBRARY" in os.environ:
+        return [os.environ["PEGTOOL_LIBRARY"]]
+    here = os.path.dirname(os.path.abspath(__file__))
+    beside = [os.path.join(here, name) for name in ("libpeg.so.1", "libpeg.so")]
+    built = os.path.join(here, os.pardir, os.pardir, "out", "lib", "libpeg.so")
+    installed = os.path.join(here, os.pardir, os.pardir, os.pardir, "libpeg.so.1")
+    found = find_library("peg")
+    return [path for path in (*beside, built, installed) if os.path.exists(path)] + ([found] if found else [])
+
+
+def load() -> ctypes.CDLL:
+    """Loads the library. Raises `ImportError` if there is none, or if it has another binary interface."""
+    for path in candidates():
+        library = ctypes.CDLL(path)
+        for name, (result, *arguments) in DECLARATIONS.items():
+            function = getattr(library, name)
+            function.restype, function.argtypes = result, arguments
+        if library.peg_abi() != ABI:
+            raise ImportError(f"{path} has the binary interface {library.peg_abi()}, and not {ABI}")
+        return library
+    raise ImportError("libpeg.so isn't found; `make lib` builds it, and PEGTOOL_LIBRARY names another place")
+
+
+LIBRARY = load()
+
+
+def copied(copy: Callable[[ctypes.Array, int], int]) -> bytes:
+    """The bytes of a call that copies them to a buffer and returns how many there are."""
+    length = copy((c_uint8 * 1)(), 0)
+    buffer = (c_uint8 * max(length, 1))()
+    copy(buffer, length)
+    return bytes(buffer[:length])
+
+
+def version() -> str:
+    """The version of the library."""
+    return copied(LIBRARY.peg_version).decode("ascii")
+
+
+class Owner:
+    """A thread that owns handles, and the handles that other threads have let go of."""
+
+    def __init__(self) -> None:
+        self.abandoned: List[Handle] = []
+
+    def release(self) -> None:
+        """Frees the handles that other threads have let go of."""
+        while self.abandoned:
+            LIBRARY.peg_grammar_free(byref(self.abandoned.pop()))
+
+
+_threads = threading.local()
+
+
+def this_thread() -> Owner:
+    """The owner that stands for the current thread."""
+    if not hasattr(_threads, "owner"):
+        _threads.owner = Owner()
+    return _threads.owner
+
+
+class GrammarHandle:
+    """A grammar of the library, or a refusal. The thread that made it uses it and frees it.
+
+    If another thread drops the last reference, the handle is freed when its owner makes or uses a grammar the next
+    time. If its owner has ended, it isn't freed.
+    """
+
+    def __init__(self, file: bytes) -> None:
+        self.raw = Handle()
+        self.owner = this_thread()
+        self.owner.release()
+        self.status = LIBRARY.peg_grammar_read(file, len(file), byref(self.raw))
+        if self.status == OUT_OF_MEMORY:
+            raise MemoryError("no memory for a grammar")
+
+    def __del__(self) -> None:
+        if LIBRARY is None:  # the interpreter is ending
+            return
+        if self.owner is getattr(_threads, "owner", None):
+            LIBRARY.peg_grammar_free(byref(self.raw))
+        else:
+            self.owner.abandoned.append(self.raw)
+
+    def refusal(self) -> bytes:
+        """The line of JSON that says why the file was refused."""
+        return copied(lambda out, length: LIBRARY.peg_grammar_refusal(byref(self.raw), out, length))
+
+    def rules(self) -> Tuple[str, ...]:
+        """The names of the rules, in order."""
+        count = c_uint32()
+        LIBRARY.peg_rule_count(byref(self.raw), byref(count))
+        return tuple(self._name(rule) for rule in range(count.value))
+
+    def _name(self, rule: int) -> str:
+        return copied(lambda out, length: LIBRARY.peg_rule_name(byref(self.raw), rule, out, length)).decode("ascii")
+
+    def parse(self, text: bytes, start: bytes, memo: int, steps: int) -> Tuple[int, "RawAnswer"]:
+        """Parses a text. Returns the status, and the answer if there is one."""
+        self.owner.release()
+        found = Handle()
+        try:
+            status = LIBRARY.peg_parse(
+                byref(self.raw), text, len(text), start, len(start), memo, steps, byref(found)
+            )
+            return status, RawAnswer(found)
+        finally:
+            LIBRARY.peg_match_free(byref(found))
+
+
+class RawAnswer:
+    """What a match handle holds, copied: the summary, the packed nodes, and the spans of the expected terminals."""
+
+    def __init__(self, found: Handle) -> None:
+        self.summary = PegSummary()
+        LIBRARY.peg_match_summary(byref(found), byref(self.summary))
+        self.nodes = (PegNode * self.summary.nodes)()
+        if self.summary.nodes:
+            LIBRARY.peg_match_nodes(byref(found), 0, self.nodes, self.summary.nodes)
+        self.expected = (PegSpan * self.summary.expected)()
+        if self.summary.expected:
+            LIBRARY.peg_match_expected(byref(found), 0, self.expected, self.summary.expected)

@@ -1,0 +1,331 @@
+"""The answers to parses: matches with their nodes, and failures."""
+
+import array
+from typing import TYPE_CHECKING, Iterator, List, NamedTuple, Optional, Sequence, Tuple, Union, overload
+
+from ._errors import ParseError
+from ._library import RawAnswer
+
+if TYPE_CHECKING:
+    from ._grammar import Grammar
+
+# A packed node has six 32-bit words: rule, start, end, level, and the size, whose upper word is always 0 here: a match
+# whose nodes don't fit into the memory of the process isn't made.
+WORDS = 6
+RULE, START, END, LEVEL, SIZE = range(5)
+
+# The greatest number of levels of a tree that pegtool prints as nested objects.
+MAX_LEVELS = 60
+
+
+class Row(NamedTuple):
+    """A node as `pegtool parse --rows` prints it. The level of the root is 1, and offsets are in bytes."""
+
+    level: int
+    rule: str
+    start: int
+    end: int
+
+
+class Rows(Sequence[Row]):
+    """The nodes of a match in preorder, over one packed buffer. A `Row` is made only when it is asked for.
+
+    `buffer` is that memory, 24 bytes for each node: the rule's number, start, end and level as 32-bit numbers, and the
+    number of nodes of the subtree as a 64-bit number. `numpy.frombuffer(rows.buffer, Rows.FORMAT)` takes it as it is.
+    """
+
+    # The type of a packed node, as a list of fields for numpy.
+    FORMAT = [("rule", "u4"), ("start", "u4"), ("end", "u4"), ("level", "u4"), ("size", "u8")]
+
+    def __init__(self, match: "Match") -> None:
+        self._match = match
+
+    def __len__(self) -> int:
+        return len(self._match._words) // WORDS
+
+    @overload
+    def __getitem__(self, index: int) -> Row: ...
+
+    @overload
+    def __getitem__(self, index: slice) -> List[Row]: ...
+
+    def __getitem__(self, index: Union[int, slice]) -> Union[Row, List[Row]]:
+        numbers = range(len(self))[index]
+        if isinstance(numbers, range):
+            return [self._row(number) for number in numbers]
+        return self._row(numbers)
+
+    def __iter__(self) -> Iterator[Row]:
+        words, names = self._match._words, self._match.grammar.rules
+        rules = map(names.__getitem__, words[RULE::WORDS])
+        return map(Row._make, zip(words[LEVEL::WORDS], rules, words[START::WORDS], words[END::WORDS]))
+
+    def _row(self, number: int) -> Row:
+        words, names, first = self._match._words, self._match.grammar.rules, WORDS * number
+        return Row(words[first + LEVEL], names[words[first + RULE]], words[first + START], words[first + END])
+
+    @property
+    def buffer(self) -> memoryview:
+        """The packed nodes as bytes, read only."""
+        return self._match._words.cast("B").toreadonly()
+
+    def __buffer__(self, flags: int) -> memoryview:
+        """The packed nodes, for `memoryview(rows)` (Python 3.12)."""
+        return self.buffer
+
+    def __repr__(self) -> str:
+        return f"<Rows of {len(self)} nodes>"
+
+
+class Node:
+    """A node of a parse tree: a rule that matched a part of the text.
+
+    Iterating over a node gives its children, and `node[i]` is the child with that number. Two nodes are equal if they
+    are the same node of the same match.
+    """
+
+    __slots__ = ("_match", "_number")
+
+    def __init__(self, match: "Match", number: int) -> None:
+        self._match = match
+        self._number = number
+
+    @property
+    def number(self) -> int:
+        """The number of the node in preorder, from 0, the root."""
+        return self._number
+
+    @property
+    def rule(self) -> str:
+        """The name of the rule."""
+        match = self._match
+        return match.grammar.rules[match._words[WORDS * self._number]]
+
+    @property
+    def start(self) -> int:
+        """The offset of the first byte that the rule matched."""
+        return self._match._words[WORDS * self._number + START]
+
+    @property
+    def end(self) -> int:
+        """The offset behind the last byte that the rule matched."""
+        return self._match._words[WORDS * self._number + END]
+
+    @property
+    def level(self) -> int:
+        """The level of the node; that of the root is 1."""
+        return self._match._words[WORDS * self._number + LEVEL]
+
+    @property
+    def size(self) -> int:
+        """The number of nodes of the subtree, this one included."""
+        return self._match._words[WORDS * self._number + SIZE]
+
+    @property
+    def bytes(self) -> bytes:
+        """The bytes that the rule matched."""
+        return self._match.data[self.start : self.end]
+
+    @property
+    def text(self) -> Union[str, bytes]:
+        """What the rule matched: `str` if the text was given as `str`, otherwise `bytes`."""
+        return self._match._as_given(self.bytes)
+
+    @property
+    def children(self) -> List["Node"]:
+        """The nodes of the rules that this rule called, in order."""
+        return list(self)
+
+    @property
+    def parent(self) -> Optional["Node"]:
+        """The node above this one; `None` for the root. The first use takes time linear in the tree."""
+        return Node(self._match, self._match._parents()[self._number]) if self._number else None
+
+    def walk(self) -> Iterator["Node"]:
+        """The nodes of the subtree in preorder, this one first."""
+        match = self._match
+        return (Node(match, number) for number in range(self._number, self._number + self.size))
+
+    def find(self, rule: str) -> Optional["Node"]:
+        """The first node of a rule below this one, in preorder; `None` if there is none."""
+        return next(self.find_all(rule), None)
+
+    def find_all(self, rule: str) -> Iterator["Node"]:
+        """All nodes of a rule below this one, in preorder. Raises `ValueError` if no rule has the name."""
+        match, wanted = self._match, self._match.grammar.rules.index(rule)
+        words = match._words
+        numbers = range(self._number + 1, self._number + self.size)
+        return (Node(match, number) for number in numbers if words[WORDS * number] == wanted)
+
+    def __iter__(self) -> Iterator["Node"]:
+        match, number = self._match, self._number + 1
+        end = self._number + self.size
+        while number < end:
+            yield Node(match, number)
+            number += match._words[WORDS * number + SIZE]
+
+    def __len__(self) -> int:
+        return sum(1 for _ in self)
+
+    def __bool__(self) -> bool:
+        return True
+
+    def __getitem__(self, index: int) -> "Node":
+        return self.children[index]
+
+    def __eq__(self, other: object) -> bool:
+        return isinstance(other, Node) and self._match is other._match and self._number == other._number
+
+    def __hash__(self) -> int:
+        return hash((id(self._match), self._number))
+
+    def __repr__(self) -> str:
+        return f"<{self.rule} {self.start}..{self.end}>"
+
+    def pprint(self, width: int = 40) -> str:
+        """The subtree as text, a line for each node: its rule and, cut to `width`, what it matched."""
+        lines = []
+        for node in self.walk():
+            shown = repr(node.text)
+            shown = shown if len(shown) <= width else shown[: width - 3] + "..."
+            lines.append(f"{'  ' * (node.level - self.level)}{node.rule} {shown}")
+        return "\n".join(lines)
+
+
+class _Answer:
+    """What matches and failures have in common."""
+
+    def __init__(self, grammar: "Grammar", given: Union[str, bytes], data: bytes, raw: RawAnswer) -> None:
+        self.grammar = grammar
+        # The text as bytes. All offsets count these.
+        self.data = data
+        # The greatest offset at which a terminal failed, or 0 if none failed.
+        self.far: int = raw.summary.furthest
+        # The number of steps of the parse.
+        self.steps: int = raw.summary.steps
+        # The terminals that failed at `far`, as their offsets in the grammar file.
+        self.expected_spans: List[Tuple[int, int]] = [(span.start, span.end) for span in raw.expected]
+        self._is_text = isinstance(given, str)
+
+    @property
+    def expected(self) -> List[str]:
+        """The terminals that failed at `far`, as they are written in the grammar file, each once."""
+        source = self.grammar.source
+        written = (source[start:end].decode("utf-8", "replace") for start, end in self.expected_spans)
+        return list(dict.fromkeys("the end" if item == "[]" else item for item in written))
+
+    def _as_given(self, part: bytes) -> Union[str, bytes]:
+        return part.decode("utf-8", "replace") if self._is_text else part
+
+    def _spans_json(self) -> str:
+        return ",".join(f"[{start},{end}]" for start, end in self.expected_spans)
+
+
+class Failure(_Answer):
+    """No prefix of the text is matched. A failure is false in conditions."""
+
+    def __bool__(self) -> bool:
+        return False
+
+    def error(self, name: str = "<text>") -> ParseError:
+        """The error that `Grammar.parse` raises for this failure."""
+        return ParseError(name, self.data, self.far, self.expected, None, self.far)
+
+    def to_json(self) -> str:
+        """The line that `pegtool parse` prints."""
+        return f'{{"expected":[{self._spans_json()}],"far":{self.far},"result":"failed"}}'
+
+    def __repr__(self) -> str:
+        return f"<Failure at {self.far}>"
+
+
+class Match(_Answer):
+    """A prefix of the text is matched. A match is true in conditions.
+
+    `rows` has all nodes, and `root` is the node of the start rule.
+    """
+
+    def __init__(self, grammar: "Grammar", given: Union[str, bytes], data: bytes, raw: RawAnswer) -> None:
+        super().__init__(grammar, given, data, raw)
+        # The length of the prefix, in bytes.
+        self.consumed: int = raw.summary.consumed
+        self._words = memoryview(raw.nodes).cast("B").cast("I")
+        self._parent_numbers: Optional[array.array] = None
+
+    @property
+    def root(self) -> Node:
+        """The node of the start rule."""
+        return Node(self, 0)
+
+    @property
+    def rows(self) -> Rows:
+        """All nodes in preorder."""
+        return Rows(self)
+
+    @property
+    def text(self) -> Union[str, bytes]:
+        """The prefix that matched: `str` if the text was given as `str`, otherwise `bytes`."""
+        return self._as_given(self.data[: self.consumed])
+
+    @property
+    def is_whole(self) -> bool:
+        """Whether all of the text is matched."""
+        return self.consumed == len(self.data)
+
+    def error(self, name: str = "<text>") -> ParseError:
+        """The error that `Grammar.parse` raises if this match isn't of the whole text.
+
+        It is at the greater one of `far` and `consumed`. The end of the text was expected where the match ends.
+        """
+        if self.consumed < self.far:
+            return ParseError(name, self.data, self.far, self.expected, self.consumed, self.far)
+        expected = self.expected if self.consumed == self.far else []
+        if "the end" not in expected:
+            expected.append("the end")
+        return ParseError(name, self.data, self.consumed, expected, self.consumed, self.far)
+
+    def to_json(self, rows: bool = False) -> str:
+        """The line that `pegtool parse` prints, with `rows` that of `pegtool parse --rows`.
+
+        Raises `ValueError` if the tree has too many levels to be nested.
+        """
+        head = f'{{"consumed":{self.consumed},"expected":[{self._spans_json()}],"far":{self.far},"result":"matched",'
+        return f"{head}{self._rows_json() if rows else self._tree_json()}}}"
+
+    def _rows_json(self) -> str:
+        rows = (f'[{row.level},"{row.rule}",{row.start},{row.end}]' for row in self.rows)
+        return f'"rows":[{",".join(rows)}]'
+
+    def _tree_json(self) -> str:
+        pieces = []
+        open_rows: List[Row] = []
+        for row in self.rows:
+            if row.level > MAX_LEVELS:
+                raise ValueError(f"the tree has more than {MAX_LEVELS} levels; use rows=True")
+            while len(open_rows) >= row.level:
+                pieces.append(_closed(open_rows.pop()))
+            pieces.append("," if pieces and pieces[-1].endswith("}") else "")
+            pieces.append('{"children":[')
+            open_rows.append(row)
+        pieces.extend(_closed(row) for row in reversed(open_rows))
+        return '"tree":' + "".join(pieces)
+
+    def _parents(self) -> array.array:
+        if self._parent_numbers is None:
+            parents = array.array("Q", [0])
+            above: List[int] = []
+            for number, level in enumerate(self._words[LEVEL::WORDS]):
+                del above[level - 1 :]
+                if above:
+                    parents.append(above[-1])
+                above.append(number)
+            self._parent_numbers = parents
+        return self._parent_numbers
+
+    def __repr__(self) -> str:
+        return f"<Match of {self.consumed} bytes, {len(self.rows)} nodes>"
+
+
+def _closed(row: Row) -> str:
+    """The end of a nested node."""
+    return f'],"end":{row.end},"rule":"{row.rule}","start":{row.start}}}'

@@ -1,0 +1,135 @@
+"""The structure of grammar files: each rule's expression, read by a grammar of the notation."""
+
+from dataclasses import dataclass
+from typing import Dict, List, Optional, Tuple, Union
+
+from ._grammar import Grammar
+from ._match import Node
+from ._visitor import Visitor
+
+# The notation of grammar files, in itself. docs/NOTATION.md describes it.
+NOTATION = r"""
+Grammar    <- Spacing Definition+ !.
+Definition <- Identifier '<-' Spacing Expression
+Expression <- Sequence ('/' Spacing Sequence)*
+Sequence   <- Prefix*
+Prefix     <- Sign? Suffix
+Sign       <- [&!] Spacing
+Suffix     <- Primary Mark?
+Mark       <- ([?*+] / '{' [0-9]+ (',' [0-9]+)? '}') Spacing
+Primary    <- Identifier !'<-' / '(' Spacing Expression ')' Spacing / Terminal
+Identifier <- Word Spacing
+Word       <- [a-zA-Z_] [a-zA-Z_0-9]*
+Terminal   <- Written Spacing
+Written    <- ['] (!['] Char)* ['] / ["] (!["] Char)* ["] / '[' (!']' Range)* ']' / '.'
+Range      <- Char '-' Char / Char
+Char       <- '\\' . / .
+Spacing    <- ([ \t\r\n] / '#' (![\r\n] .)*)*
+"""
+
+
+@dataclass(frozen=True)
+class Terminal:
+    """A literal, a class or a dot, as it is written."""
+
+    text: str
+
+
+@dataclass(frozen=True)
+class Name:
+    """A call of a rule."""
+
+    rule: str
+
+
+@dataclass(frozen=True)
+class Sequence:
+    """Items one after the other; nothing if there are none."""
+
+    items: Tuple["Expression", ...]
+
+
+@dataclass(frozen=True)
+class Choice:
+    """Alternatives, tried in order."""
+
+    items: Tuple["Expression", ...]
+
+
+@dataclass(frozen=True)
+class Repeat:
+    """A part at least `least` and at most `most` times; `None` is without a limit."""
+
+    part: "Expression"
+    least: int
+    most: Optional[int]
+
+
+@dataclass(frozen=True)
+class Predicate:
+    """A part that must follow (`&`), or must not (`!`), and that consumes nothing."""
+
+    sign: str
+    part: "Expression"
+
+
+Expression = Union[Terminal, Name, Sequence, Choice, Repeat, Predicate]
+
+
+class _Reader(Visitor):
+    """Makes expressions from the nodes of the notation's tree."""
+
+    def visit_Grammar(self, node: Node, values: List) -> Dict[str, Expression]:
+        return dict(value for value in values if value is not None)
+
+    def visit_Definition(self, node: Node, values: List) -> Tuple[str, Expression]:
+        name, *_, expression = values
+        return name.rule, expression
+
+    def visit_Expression(self, node: Node, values: List) -> Expression:
+        items = tuple(value for value in values if value is not None)
+        return items[0] if len(items) == 1 else Choice(items)
+
+    def visit_Sequence(self, node: Node, values: List) -> Expression:
+        return values[0] if len(values) == 1 else Sequence(tuple(values))
+
+    def visit_Prefix(self, node: Node, values: List) -> Expression:
+        return Predicate(*values) if len(values) == 2 else values[0]
+
+    def visit_Sign(self, node: Node, values: List) -> str:
+        return str(node.text)[0]
+
+    def visit_Suffix(self, node: Node, values: List) -> Expression:
+        return Repeat(values[0], *values[1]) if len(values) == 2 else values[0]
+
+    def visit_Mark(self, node: Node, values: List) -> Tuple[int, Optional[int]]:
+        mark = str(node.text).strip()
+        if mark[0] != "{":
+            return {"?": (0, 1), "*": (0, None), "+": (1, None)}[mark[0]]
+        bounds = mark[1 : mark.index("}")].split(",")
+        return int(bounds[0]), int(bounds[-1])
+
+    def visit_Primary(self, node: Node, values: List) -> Expression:
+        (expression,) = (value for value in values if value is not None)
+        return expression
+
+    def visit_Identifier(self, node: Node, values: List) -> Name:
+        return values[0]
+
+    def visit_Word(self, node: Node, values: List) -> Name:
+        return Name(str(node.text))
+
+    def visit_Terminal(self, node: Node, values: List) -> Terminal:
+        return values[0]
+
+    def visit_Written(self, node: Node, values: List) -> Terminal:
+        return Terminal(str(node.text))
+
+    def generic_visit(self, node: Node, values: List) -> None:
+        return None
+
+
+def expressions(grammar: Grammar) -> Dict[str, Expression]:
+    """The expression of each rule of a grammar, in order."""
+    text = grammar.source.decode("utf-8", "replace")
+    return _Reader().visit(Grammar(NOTATION, name="notation").parse(text))

@@ -1,0 +1,25 @@
+"""The examples in the package's comments, in docs/PYTHON.md and in README.md."""
+
+import doctest
+import os
+import unittest
+
+import pegtool
+import pegtool._grammar
+import pegtool._visitor
+
+TOP = os.path.abspath(os.path.join(os.path.dirname(__file__), os.pardir, os.pardir))
+GUIDES = [os.path.join(TOP, name) for name in ("README.md", os.path.join("docs", "PYTHON.md"))]
+
+
+def load_tests(loader, tests, pattern):
+    for module in (pegtool, pegtool._grammar, pegtool._visitor):
+        tests.addTests(doctest.DocTestSuite(module, optionflags=doctest.IGNORE_EXCEPTION_DETAIL))
+    tests.addTests(
+        doctest.DocFileSuite(*GUIDES, module_relative=False, optionflags=doctest.IGNORE_EXCEPTION_DETAIL)
+    )
+    return tests
+
+
+if __name__ == "__main__":
+    unittest.main()

@@ -1,0 +1,71 @@
+"""The examples of the repository: the package writes what the program prints.
+
+PEGTOOL names the program; by default it is the one that `make run` builds. Without it these tests are skipped.
+"""
+
+import glob
+import os
+import subprocess
+import unittest
+
+from pegtool import Grammar, GrammarError
+from pegtool._notation import expressions
+from pegtool._railroad import diagram
+
+TOP = os.path.abspath(os.path.join(os.path.dirname(__file__), os.pardir, os.pardir))
+PROGRAM = os.environ.get("PEGTOOL", os.path.join(TOP, "crates", "pegtool", "out", "pegtool"))
+
+
+def grammars():
+    """The grammar files of the examples."""
+    return sorted(glob.glob(os.path.join(TOP, "examples", "**", "*.peg"), recursive=True))
+
+
+def texts(path):
+    """The texts of a grammar file."""
+    return sorted(glob.glob(os.path.join(path[: -len(".peg")], "*")))
+
+
+@unittest.skipUnless(os.access(PROGRAM, os.X_OK), "the program isn't built")
+class Program(unittest.TestCase):
+    def line(self, *words):
+        return subprocess.run([PROGRAM, *words], capture_output=True, check=False).stdout.decode("ascii")
+
+    def test_lines_of_examples_are_those_of_the_program(self):
+        compared = 0
+        for path in grammars():
+            grammar = Grammar.from_file(path)
+            for text in texts(path):
+                with open(text, "rb") as file:
+                    answer = grammar.match(file.read())
+                rows = answer.to_json(rows=True) if answer else answer.to_json()
+                self.assertEqual(rows + "\n", self.line("parse", path, text, "--rows"), text)
+                compared += 1
+        self.assertGreater(compared, 40)
+
+    def test_refusals_are_those_of_the_program(self):
+        for source in (b"A <- [a-]", b"A <- 'x'{0}\n", b"A <- B\n", b"A <- A\n", b"A <- ('a'*)*\n", b"A <- 'a' A <- 'b'"):
+            with self.subTest(source), self.assertRaises(GrammarError) as caught:
+                Grammar(source)
+            printed = subprocess.run(
+                [PROGRAM, "check", "/dev/stdin"], input=source, capture_output=True, check=False
+            ).stdout.decode("ascii")
+            keys = sorted(caught.exception.refusal.items())
+            shown = ",".join(f'"{key}":{value}' for key, value in keys if isinstance(value, int))
+            for part in shown.split(",") if shown else []:
+                self.assertIn(part, printed)
+            self.assertIn(f'"refusal":"{caught.exception.kind}"', printed)
+
+
+class Diagrams(unittest.TestCase):
+    def test_each_rule_of_each_example_has_a_diagram(self):
+        for path in grammars():
+            grammar = Grammar.from_file(path)
+            rules = expressions(grammar)
+            self.assertEqual(tuple(rules), grammar.rules, path)
+            for expression in rules.values():
+                self.assertIn("</svg>", diagram(expression))
+
+
+if __name__ == "__main__":
+    unittest.main()

@@ -1,0 +1,174 @@
+"""Grammars and their errors, against values worked out by hand."""
+
+import os
+import tempfile
+import threading
+import unittest
+
+from pegtool import (
+    Failure,
+    Grammar,
+    GrammarError,
+    Match,
+    NoSuchRuleError,
+    ParseError,
+    StepLimitError,
+    TextTooLongError,
+    version,
+)
+
+CHAIN = b"S <- 'a' S / 'b'\n"
+
+
+class Grammars(unittest.TestCase):
+    def test_rules_are_named_in_order(self):
+        grammar = Grammar("B <- A A\nA <- 'a'\n")
+        self.assertEqual(grammar.rules, ("B", "A"))
+        self.assertEqual(repr(grammar), "<Grammar <grammar>, 2 rules>")
+
+    def test_a_file_is_read_with_its_name(self):
+        with tempfile.TemporaryDirectory() as folder:
+            path = os.path.join(folder, "chain.peg")
+            with open(path, "wb") as file:
+                file.write(CHAIN)
+            self.assertEqual(Grammar.from_file(path).parse("ab").consumed, 2)
+            with open(path, "wb") as file:
+                file.write(b"S <- T\n")
+            with self.assertRaises(GrammarError) as caught:
+                Grammar.from_file(path)
+            self.assertTrue(str(caught.exception).startswith(f"{path}:1:6: no rule has the name T\nS <- T\n     ^"))
+            self.assertRaises(OSError, Grammar.from_file, os.path.join(folder, "missing"))
+
+    def test_the_version_has_three_numbers(self):
+        self.assertRegex(version(), r"^\d+\.\d+\.\d+$")
+
+
+class Refusals(unittest.TestCase):
+    def refusal(self, source):
+        with self.assertRaises(GrammarError) as caught:
+            Grammar(source)
+        return caught.exception
+
+    def test_a_syntax_error_has_its_position(self):
+        error = self.refusal("A <- 'a'\nB <- )\n")
+        self.assertEqual((error.kind, error.offset, error.line, error.column), ("Syntax", 14, 2, 6))
+        self.assertEqual(error.refusal, {"at": 14, "column": 6, "line": 2, "refusal": "Syntax"})
+        self.assertEqual(
+            str(error), "<grammar>:2:6: this isn't in the notation of grammar files\nB <- )\n     ^"
+        )
+
+    def test_names_are_reported(self):
+        error = self.refusal("A <- 'a'\nA <- 'b'\n")
+        self.assertEqual((error.kind, error.line, error.column), ("Duplicate", 2, 1))
+        self.assertEqual(error.message, "rule A is defined twice")
+        error = self.refusal("A <- B\n")
+        self.assertEqual((error.kind, error.offset), ("Undefined", 5))
+
+    def test_an_empty_loop_has_its_rule(self):
+        error = self.refusal("A <- ('a'*)*\n")
+        self.assertEqual((error.kind, error.offset), ("EmptyLoop", 5))
+        self.assertIn("rule A", error.message)
+
+    def test_left_recursion_has_its_path_and_the_first_definition(self):
+        error = self.refusal("S <- A\nA <- B 'x'\nB <- A\n")
+        self.assertEqual((error.kind, error.path), ("LeftRecursion", ["A", "B"]))
+        self.assertEqual(error.message, "left recursion: A -> B -> A")
+        self.assertEqual((error.line, error.column), (2, 1))
+
+    def test_a_file_that_is_too_long_has_no_position(self):
+        error = self.refusal(b" " * 1_048_577)
+        self.assertEqual((error.kind, error.offset, error.line), ("FileTooLong", None, None))
+        self.assertEqual(str(error), "<grammar>: the grammar file is too long")
+
+
+class Parses(unittest.TestCase):
+    def test_a_whole_match(self):
+        match = Grammar(CHAIN).parse("aab")
+        self.assertIsInstance(match, Match)
+        self.assertEqual((match.consumed, match.far, match.expected), (3, 2, ["'a'"]))
+        self.assertTrue(match.is_whole)
+        # 15 steps are counted by hand in docs/USAGE.md.
+        self.assertEqual(match.steps, 15)
+
+    def test_a_failure_is_false(self):
+        failure = Grammar(CHAIN).match("c")
+        self.assertIsInstance(failure, Failure)
+        self.assertFalse(failure)
+        self.assertEqual((failure.far, failure.expected), (0, ["'a'", "'b'"]))
+        self.assertEqual(failure.expected_spans, [(5, 8), (13, 16)])
+
+    def test_a_failure_is_raised_with_its_position(self):
+        with self.assertRaises(ParseError) as caught:
+            Grammar("Line <- Word ('\\n' Word)*\nWord <- [a-z]+\n").parse("ab\nc1", name="notes.txt")
+        error = caught.exception
+        self.assertEqual((error.position, error.line, error.column), (4, 2, 2))
+        self.assertEqual(error.expected, ["'\\n'", "[a-z]", "the end"])
+        self.assertEqual((error.found, error.consumed), ("'1'", 4))
+        self.assertEqual(
+            str(error), "notes.txt:2:2: expected '\\n', [a-z] or the end, found '1'\nc1\n ^"
+        )
+
+    def test_the_furthest_failure_may_be_after_the_match(self):
+        with self.assertRaises(ParseError) as caught:
+            Grammar("S <- 'ab'* 'a'?\n").parse("abac")
+        error = caught.exception
+        self.assertEqual((error.position, error.consumed, error.far), (3, 3, 3))
+        self.assertEqual(error.expected, ["'ab'", "the end"])
+
+    def test_the_end_can_be_found(self):
+        with self.assertRaises(ParseError) as caught:
+            Grammar("S <- 'ab'\n").parse("a")
+        self.assertEqual((caught.exception.position, caught.exception.found), (1, "the end"))
+
+    def test_a_prefix_is_a_match(self):
+        match = Grammar(CHAIN).match("abc")
+        self.assertEqual((match.consumed, match.is_whole, match.text), (2, False, "ab"))
+
+    def test_options(self):
+        grammar = Grammar("A <- B 'x'\nB <- 'b'\n")
+        self.assertEqual(grammar.parse("b", "B").root.rule, "B")
+        self.assertRaises(NoSuchRuleError, grammar.parse, "b", "C")
+        self.assertRaises(NoSuchRuleError, grammar.parse, "b", "")
+        chain = Grammar(CHAIN)
+        self.assertEqual(chain.parse("aab", memo=0, steps=15).steps, 15)
+        self.assertRaises(StepLimitError, chain.parse, "aab", memo=0, steps=14)
+        for options in ({"memo": -1}, {"memo": 1_000_001}, {"steps": 0}, {"steps": 1_000_000_000_001}):
+            self.assertRaises(ValueError, chain.parse, "b", **options)
+        self.assertRaises(TextTooLongError, chain.parse, b"a" * 67_108_865)
+
+    def test_str_is_encoded_and_offsets_count_bytes(self):
+        match = Grammar("S <- ('ü' / [a-z])*\n").parse("aüb")
+        self.assertEqual((match.consumed, match.text), (4, "aüb"))
+        self.assertEqual(Grammar("S <- .*\n").parse(b"\xff\x00").text, b"\xff\x00")
+        self.assertEqual(Grammar("S <- .*\n").parse(bytearray(b"ab")).text, b"ab")
+
+    def test_repeated_work_ends_with_the_default_memo(self):
+        grammar = Grammar("A <- '(' A ')' 'x' / '(' A ')' 'y' / 'a'\n")
+        match = grammar.parse("(" * 100 + "a" + ")y" * 100)
+        self.assertEqual(len(match.rows), 101)
+
+
+class Threads(unittest.TestCase):
+    def test_a_grammar_is_used_by_several_threads(self):
+        grammar, lengths = Grammar(CHAIN), {}
+
+        def parse(count):
+            lengths[count] = [grammar.parse("a" * count + "b").consumed for _ in range(50)]
+
+        threads = [threading.Thread(target=parse, args=(count,)) for count in (1, 10, 100, 1000)]
+        for thread in threads:
+            thread.start()
+        for thread in threads:
+            thread.join()
+        self.assertEqual(lengths, {count: [count + 1] * 50 for count in (1, 10, 100, 1000)})
+
+    def test_a_grammar_of_another_thread_is_let_go_of(self):
+        made = []
+        thread = threading.Thread(target=lambda: made.append(Grammar(CHAIN)))
+        thread.start()
+        thread.join()
+        self.assertEqual(made.pop().parse("b").consumed, 1)
+
+
+if __name__ == "__main__":
+    unittest.main()

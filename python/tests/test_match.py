@@ -1,0 +1,155 @@
+"""Nodes, rows, visitors and the lines of pegtool, against values worked out by hand."""
+
+import struct
+import unittest
+
+from pegtool import Grammar, Row, Rows, Visitor
+
+CHAIN = "S <- 'a' S / 'b'\n"
+SUM = "Sum <- Product ('+' Product)*\nProduct <- Number ('*' Number)*\nNumber <- [0-9]+\n"
+
+
+class Nodes(unittest.TestCase):
+    def setUp(self):
+        self.match = Grammar(SUM).parse("2+3*45")
+        self.root = self.match.root
+
+    def test_nodes_have_rule_extent_and_text(self):
+        shown = [(node.rule, node.start, node.end, node.text, node.level, node.size) for node in self.root.walk()]
+        self.assertEqual(
+            shown,
+            [
+                ("Sum", 0, 6, "2+3*45", 1, 6),
+                ("Product", 0, 1, "2", 2, 2),
+                ("Number", 0, 1, "2", 3, 1),
+                ("Product", 2, 6, "3*45", 2, 3),
+                ("Number", 2, 3, "3", 3, 1),
+                ("Number", 4, 6, "45", 3, 1),
+            ],
+        )
+
+    def test_children_are_iterated_indexed_and_counted(self):
+        self.assertEqual([child.text for child in self.root], ["2", "3*45"])
+        self.assertEqual(self.root[1][-1].bytes, b"45")
+        self.assertEqual((len(self.root), len(self.root[0][0])), (2, 0))
+        self.assertRaises(IndexError, lambda: self.root[2])
+
+    def test_parents_lead_to_the_root(self):
+        last = self.root[1][1]
+        self.assertEqual(last.parent, self.root[1])
+        self.assertEqual(last.parent.parent, self.root)
+        self.assertIsNone(self.root.parent)
+
+    def test_nodes_are_found_by_rule(self):
+        self.assertEqual([node.text for node in self.root.find_all("Number")], ["2", "3", "45"])
+        self.assertEqual(self.root[1].find("Number").text, "3")
+        self.assertIsNone(self.root.find("Sum"))
+        self.assertRaises(ValueError, self.root.find, "Other")
+
+    def test_nodes_are_shown(self):
+        self.assertEqual(repr(self.root[1]), "<Product 2..6>")
+        self.assertEqual(
+            self.root[1].pprint(), "Product '3*45'\n  Number '3'\n  Number '45'"
+        )
+        self.assertEqual(repr(self.match), "<Match of 6 bytes, 6 nodes>")
+
+    def test_nodes_are_compared_by_place(self):
+        self.assertEqual(self.root[0], next(iter(self.root)))
+        self.assertNotEqual(self.root[0], Grammar(SUM).parse("2").root)
+        self.assertEqual(len({self.root, self.match.root}), 1)
+
+
+class RowsOfAMatch(unittest.TestCase):
+    def test_rows_are_a_sequence(self):
+        rows = Grammar(CHAIN).parse("ab").rows
+        self.assertEqual(list(rows), [Row(1, "S", 0, 2), Row(2, "S", 1, 2)])
+        self.assertEqual((len(rows), rows[-1], rows[1:]), (2, (2, "S", 1, 2), [(2, "S", 1, 2)]))
+        self.assertRaises(IndexError, lambda: rows[2])
+
+    def test_rows_are_packed(self):
+        rows = Grammar(CHAIN).parse("ab").rows
+        self.assertEqual(list(struct.iter_unpack("=IIIIQ", rows.buffer)), [(0, 0, 2, 1, 2), (0, 1, 2, 2, 1)])
+        self.assertTrue(rows.buffer.readonly)
+
+    def test_numpy_takes_the_rows(self):
+        try:
+            import numpy
+        except ImportError:
+            self.skipTest("no numpy")
+        rows = Grammar(SUM).parse("2+3*45").rows
+        nodes = numpy.frombuffer(rows.buffer, Rows.FORMAT)
+        self.assertEqual(nodes["level"].tolist(), [1, 2, 3, 2, 3, 3])
+        self.assertEqual(int(nodes["size"].sum()), 6 + 2 + 1 + 3 + 1 + 1)
+
+
+class Lines(unittest.TestCase):
+    def test_the_lines_are_those_of_pegtool(self):
+        # The lines are in docs/USAGE.md.
+        match = Grammar(CHAIN).parse("aab")
+        self.assertEqual(
+            match.to_json(),
+            '{"consumed":3,"expected":[[5,8]],"far":2,"result":"matched","tree":{"children":[{"children":'
+            '[{"children":[],"end":3,"rule":"S","start":2}],"end":3,"rule":"S","start":1}],"end":3,"rule":"S","start":0}}',
+        )
+        self.assertEqual(
+            match.to_json(rows=True),
+            '{"consumed":3,"expected":[[5,8]],"far":2,"result":"matched","rows":[[1,"S",0,3],[2,"S",1,3],[3,"S",2,3]]}',
+        )
+        failure = Grammar(CHAIN).match("")
+        self.assertEqual(failure.to_json(), '{"expected":[[5,8],[13,16]],"far":0,"result":"failed"}')
+
+    def test_siblings_are_separated(self):
+        match = Grammar("A <- B B\nB <- 'b'\n").parse("bb")
+        self.assertEqual(
+            match.to_json(),
+            '{"consumed":2,"expected":[],"far":0,"result":"matched","tree":{"children":[{"children":[],"end":1,'
+            '"rule":"B","start":0},{"children":[],"end":2,"rule":"B","start":1}],"end":2,"rule":"A","start":0}}',
+        )
+
+    def test_a_tree_of_61_levels_is_not_nested(self):
+        grammar = Grammar(CHAIN)
+        self.assertIn('"tree"', grammar.parse("a" * 59 + "b").to_json())
+        self.assertRaises(ValueError, grammar.parse("a" * 60 + "b").to_json)
+        self.assertIn('[61,"S",60,61]', grammar.parse("a" * 60 + "b").to_json(rows=True))
+
+
+class Evaluate(Visitor):
+    def visit_Sum(self, node, values):
+        return sum(values)
+
+    def visit_Product(self, node, values):
+        result = 1
+        for value in values:
+            result *= value
+        return result
+
+    def visit_Number(self, node, values):
+        return int(node.text)
+
+
+class Visitors(unittest.TestCase):
+    def test_values_go_from_the_leaves_up(self):
+        match = Grammar(SUM).parse("2+3*45")
+        self.assertEqual(Evaluate().visit(match), 137)
+        self.assertEqual(Evaluate().visit(match.root[1]), 135)
+
+    def test_other_nodes_have_their_values_or_their_text(self):
+        self.assertEqual(Visitor().visit(Grammar(SUM).parse("2+3*45")), [["2"], ["3", "45"]])
+
+    def test_only_passes_a_value_on(self):
+        class First(Evaluate):
+            visit_Sum = Visitor.only
+
+        self.assertEqual(First().visit(Grammar(SUM).parse("7*8")), 56)
+        self.assertRaises(ValueError, First().visit, Grammar(SUM).parse("7+8"))
+
+    def test_deep_trees_are_visited(self):
+        class Depth(Visitor):
+            def visit_S(self, node, values):
+                return 1 + (values[0] if values else 0)
+
+        self.assertEqual(Depth().visit(Grammar(CHAIN).parse("a" * 50_000 + "b")), 50_001)
+
+
+if __name__ == "__main__":
+    unittest.main()
