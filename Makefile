@@ -2,10 +2,14 @@
 
 PROGRAM := crates/pegtool/out/pegtool
 
-.PHONY: help try run test fuzz fmt drawing
+VERSION := $(shell sed -n 's/.*VERSION: &str = "\(.*\)";/\1/p' crates/peg_c/src/texts.rt)
+PREFIX := /usr/local
+PYTHON_PATH := $(PREFIX)/lib/python3/dist-packages
+
+.PHONY: help try run lib install dist test test-bindings fuzz fmt drawing
 
 help: ## list the targets
-	@sed -n 's/^\([a-z]*\): ## \(.*\)/  make \1|\2/p' Makefile | column -t -s '|'
+	@sed -n 's/^\([a-z-]*\): ## \(.*\)/  make \1|\2/p' Makefile | column -t -s '|'
 
 try: ## run the bundled input without proofs
 	cd crates/pegtool && rt try < stdin
@@ -13,8 +17,30 @@ try: ## run the bundled input without proofs
 run: ## prove and build the program, then run it on the bundled input
 	cd crates/pegtool && rt run < stdin
 
+lib: ## prove and build the C library, into out/lib
+	tools/c_library.sh
+
+install: ## install what make run and make lib built, below PREFIX (and DESTDIR)
+	install -D $(PROGRAM) $(DESTDIR)$(PREFIX)/bin/pegtool
+	install -D -m 644 man/pegtool.1 $(DESTDIR)$(PREFIX)/share/man/man1/pegtool.1
+	install -D -m 644 include/peg.h $(DESTDIR)$(PREFIX)/include/peg.h
+	install -D -m 644 out/lib/libpeg.a $(DESTDIR)$(PREFIX)/lib/libpeg.a
+	install -D out/lib/libpeg.so.1 $(DESTDIR)$(PREFIX)/lib/libpeg.so.1
+	ln -sf libpeg.so.1 $(DESTDIR)$(PREFIX)/lib/libpeg.so
+	install -d $(DESTDIR)$(PREFIX)/lib/pkgconfig $(DESTDIR)$(PYTHON_PATH)/pegtool
+	sed 's#@PREFIX@#$(PREFIX)#; s#@VERSION@#$(VERSION)#' tools/peg.pc.in > $(DESTDIR)$(PREFIX)/lib/pkgconfig/peg.pc
+	install -m 644 python/pegtool/*.py python/pegtool/py.typed $(DESTDIR)$(PYTHON_PATH)/pegtool
+
+dist: ## make a tarball of what make install installs, in out/
+	rm -rf out/dist && $(MAKE) --no-print-directory install DESTDIR=$(CURDIR)/out/dist/pegtool-$(VERSION) PREFIX=/usr
+	tar -C out/dist -czf out/pegtool-$(VERSION).tar.gz pegtool-$(VERSION)
+
 test: ## the gate: proofs, wrong edits, tests, scripts, documents
 	tests/gate.sh
+
+test-bindings: ## test the C library and the Python package against the built program
+	tests/bindings.sh $(PROGRAM)
+	tests/python.sh $(PROGRAM)
 
 fuzz: ## compare the tool with the reference evaluator on random grammars
 	tests/fuzz.sh

@@ -109,6 +109,12 @@ run 0 /dev/null parse c.peg "$folder/text" --rows
 run 6 /dev/null parse cookbook/memo.peg cookbook/memo/match_nested.txt --rows --steps 10000 --memo 0
 run 0 /dev/null parse cookbook/memo.peg cookbook/memo/match_nested.txt --rows --steps 10000
 
+# Without words the memo has its default capacity: without one, 100 parentheses would take 2^100 steps.
+nested=$(printf '(%.0s' {1..100})a$(printf ')y%.0s' {1..100})
+{ printf "A <- '(' A ')' 'x' / '(' A ')' 'y' / 'a'\n%%%%\n"; printf '%s' "$nested"; } > "$folder/input"
+run 6 "$folder/input"
+grep -q '"refusal":"TooDeep"' "$folder/line" || fault "no tree of 101 levels without words"
+
 # A refused grammar, of which the text is opened and not read.
 printf 'A <- A\n' > "$folder/refused.peg"
 run 2 /dev/null check "$folder/refused.peg"
@@ -125,6 +131,8 @@ for words in "parse json.peg" "parse json.peg text --memo 1000001" "parse json.p
   run 3 /dev/null $words
   grep -q '^error: ' "$folder/stderr" || fault "nothing is reported: $words"
 done
+run 3 /dev/null check $'\xff'
+[ "$(head -n 1 "$folder/stderr")" = "error: a word isn't UTF-8" ] || fault "nothing is reported of bytes that aren't UTF-8"
 run 0 /dev/null --help
 run 0 /dev/null parse --help
 
@@ -154,6 +162,12 @@ file_fault table "$folder"
 file_fault parse "$folder/missing" "$folder/text"
 file_fault parse json.peg "$folder/missing"
 file_fault parse json.peg "$folder"
+
+# The grammar is opened first: opening this pipe, which nobody writes, would not end.
+mkfifo "$folder/unwritten"
+status=0
+timeout 10 "$program" parse "$folder/missing" "$folder/unwritten" > "$folder/line" 2> "$folder/stderr" || status=$?
+[ "$status" = 4 ] || fault "status $status and not 4: the text is opened before the grammar"
 
 # Outputs that can't be written: a device that is full, and a pipe that nobody reads.
 mkfifo "$folder/pipe"
@@ -257,6 +271,8 @@ done << 'END'
 END
 
 # What scripts make of trees.
+printf '[a]\nk = 1\nk = 2\n[b]\nk = 3\n' > "$folder/twice.ini"
+prints 1 "$folder/twice.ini:3: k is already set in line 2" ./cookbook/lint.py ini/match_section.txt "$folder/twice.ini"
 prints 0 $'def f ( x ) :\n{ while x > 0 :\n{ x = x - 1\n\n\n} return x\n} pass' ./blocks.py layout/match_blocks.txt
 prints 0 2 cookbook/evaluate.py cookbook/ladder/match_left.txt
 prints 0 512 cookbook/evaluate.py cookbook/ladder/match_right.txt

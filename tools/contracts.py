@@ -3,7 +3,8 @@
 
 With --write the list replaces the part of docs/TRUST.md between its two markers; with --check the exit status is 1 if
 that part differs from the sources. A clause without a name is counted as `ensures`. Functions of public traits are
-listed as well. The product crates are those above the heading `tests` in crates.txt.
+listed as well, and those of a trait's implementation that have clauses of their own. The product crates are those above
+the heading `tests` in crates.txt.
 """
 
 import re
@@ -13,7 +14,7 @@ from generated import TOP, product_crates, run
 
 TRUST = TOP / "docs" / "TRUST.md"
 
-FUNCTION = re.compile(r"^(\s*)(pub )?(?:const )?fn (\w+)")
+FUNCTION = re.compile(r'^(\s*)(pub )?(?:const )?(?:extern "C" )?fn (\w+)')
 CLAUSE = re.compile(r"^\s*ensures(?: (\w+))?(?: \*)? ?(?:\{|$)")
 
 
@@ -28,13 +29,14 @@ def owner_of(line):
 def clauses_after(lines, start):
     """The clause names of the function whose head starts at a line."""
     names = []
-    for line in lines[start:]:
+    for line in map(str.strip, lines[start:]):
         found = CLAUSE.match(line)
         if found:
             names.append(found[1] or "ensures")
-        if re.match(r"^\s*(?:\{.*\}?|.*;)$", line) and not line.lstrip().startswith(("ensures", "requires")):
-            if line.strip() in ("{", "{}") or line.rstrip().endswith(";"):
-                break
+        if line in ("{", "{}") or line.endswith(";"):
+            break
+        if line.endswith(("{", "}")) and re.match(r"(pub |fn |const |\) ->)", line):
+            break
     return names
 
 
@@ -53,11 +55,12 @@ def functions_of(crate):
             function = FUNCTION.match(line)
             if not function or line.lstrip().startswith("//"):
                 continue
-            if (function[2] and not of_trait) or (is_trait and owner):
+            clauses = clauses_after(lines, number)
+            if (function[2] and not of_trait) or (is_trait and owner) or (of_trait and clauses):
                 name = f"{owner}::{function[3]}" if owner else function[3]
                 if path.stem.endswith("laws"):
                     name = f"{path.stem}::{function[3]}"
-                found.append((name, clauses_after(lines, number)))
+                found.append((name, clauses))
     return found
 
 

@@ -10,7 +10,7 @@ TOP = Path(__file__).resolve().parent.parent
 def product_crates():
     """The crates above the heading `tests` in crates.txt, in order."""
     lines = (TOP / "crates.txt").read_text(encoding="utf-8").split("\n# tests\n")[0].splitlines()
-    return [line.split(":")[0] for line in lines if line and not line.startswith("#")]
+    return [line.split(":")[0].split()[0] for line in lines if line and not line.startswith("#")]
 
 
 def run(document, name, script, listing):
