@@ -1,8 +1,9 @@
 -- The calls that a run reports to a tracer.
-use Rattle.std.specs.Prelude.{◌≡◌, ◌≢◌, ◌↔◌, ℕ, ◌+◌, ◌*◌, ◌<◌, ◌≤◌, Bool, false, IsTrue}
+use Rattle.std.specs.Prelude.{◌≡◌, ◌≢◌, ◌↔◌, ◌⊎◌, ℕ, ◌+◌, ◌*◌, ◌<◌, ◌≤◌, Bool, false, IsTrue}
 use Rattle.std.specs.Prelude.{List, ◌∷◌, ◌++◌, Contains, length, Option, Some, Result, Ok, Err}
 use Rattle.std.specs.List.{AllPairs}
-use Rattle.peg_semantics.specs.Record.{Record, RuleCall}
+use Rattle.peg_tree.specs.Trees.{Trees}
+use Rattle.peg_semantics.specs.Record.{Matched as MatchedTo, Record, RuleCall}
 use Rattle.peg_tree.specs.declared.outcome.Parsed.{Parsed}
 use Rattle.peg_tree.specs.declared.outcome.Parsed.TheVariants.{Matched, Failed}
 use Rattle.peg_core.specs.CoreForm.{CoreForm, Rule}
@@ -54,13 +55,22 @@ pub record HasTraced (bodies : List CoreForm) (text : List ℕ) (start capacity 
   pub steps : answer.steps ≡ saturated (own + end_of_run answer.outcome.result)
   pub once : IsFullCapacity bodies text capacity → allocation_failed ≡ false → AllPairs (λ a b. a ≢ b) pairs
 
--- The run has no answer. The pairs are visited, and `StepLimit` comes only if their own steps and one more exceed the
--- limit.
+-- the record of the start is a match
+abbrev pub StartMatches : List CoreForm → List ℕ → (start : ℕ) → Type 0
+StartMatches bodies text start = (n : ℕ) × (r : Record) × (end : ℕ) × (trees : Trees)
+    × (core_record_in bodies text n (Rule start) 0 ≡ Some r) × (r.result ≡ MatchedTo end trees)
+
+-- The own steps of the pairs exceed a limit. If the start matches, one more step is counted, for the end of the run.
+abbrev pub OwnStepsExceed : List CoreForm → List ℕ → (start limit own : ℕ) → Type 0
+OwnStepsExceed bodies text start limit own = (limit < own) ⊎ (StartMatches bodies text start × (limit < own + 1))
+
+-- The run has no answer. The pairs are visited, and `StepLimit` comes only if their own steps exceed the limit.
 pub record HasTracedSoFar (bodies : List CoreForm) (text : List ℕ) (start : ℕ) (max_steps : Option ℕ) (fault : RunFault)
     (pairs : List RuleCall) : Type 0 where
   pub visited : AreVisited bodies text start pairs
   pub limited : fault ≡ StepLimit
-      → (limit : ℕ) × (own : ℕ) × (max_steps ≡ Some limit) × OwnSteps bodies text pairs own × (limit < own + 1)
+      → (limit : ℕ) × (own : ℕ) × (max_steps ≡ Some limit) × OwnSteps bodies text pairs own
+      × OwnStepsExceed bodies text start limit own
 
 abbrev pub Traces : List CoreForm → List ℕ → (start capacity : ℕ) → (allocation_failed : Bool) → (max_steps : Option ℕ)
     → Result Answer RunFault → List RuleCall → Type 0
