@@ -1,7 +1,7 @@
 //! Devices over readers and writers in memory, and over broken ones.
 use peg_io::{Device, DeviceFault, Sink, Source};
 use std::io;
-use std::io::{Cursor, Read, Write};
+use std::io::{Cursor, ErrorKind, Read, Write};
 use std::test::Fail;
 
 // A device that fails at its first call, and accepts no byte later.
@@ -23,6 +23,54 @@ impl Read for Broken {
 impl Write for Broken {
     fn write(&mut self, _buf: &[u8]) -> io::Result<usize> {
         Ok(0)
+    }
+
+    fn flush(&mut self) -> io::Result<()> {
+        Ok(())
+    }
+}
+
+// A device whose calls are interrupted by signals this many times, and then pass one byte on.
+#[derive(Drop)]
+struct Interrupted {
+    signals: u32,
+    // The number of calls since the last byte.
+    calls: u32,
+}
+
+impl Interrupted {
+    fn new(signals: u32) -> Interrupted {
+        Interrupted { signals, calls: 0 }
+    }
+
+    // Counts a call. Fails if a signal interrupts it.
+    fn call(&mut self) -> io::Result<()> {
+        if self.calls < self.signals {
+            self.calls = self.calls.saturating_add(1);
+            return Err(io::Error::from(ErrorKind::Interrupted));
+        }
+        self.calls = 0;
+        Ok(())
+    }
+}
+
+impl Read for Interrupted {
+    fn read(&mut self, buf: &mut [u8]) -> io::Result<usize> {
+        self.call()?;
+        match buf.first_mut() {
+            Some(byte) => {
+                *byte = b'i';
+                Ok(1)
+            }
+            None => Ok(0),
+        }
+    }
+}
+
+impl Write for Interrupted {
+    fn write(&mut self, buf: &[u8]) -> io::Result<usize> {
+        self.call()?;
+        Ok(buf.len().min(1))
     }
 
     fn flush(&mut self) -> io::Result<()> {
@@ -64,5 +112,29 @@ fn a_write_of_nothing_is_a_fault(rt: HostRuntime) -> Result<(), Fail> {
     let mut sink = Device::new(Broken { used: true });
     assert_eq!(rt; Sink::write(&mut sink, b"a"), Err(DeviceFault));
     assert!(rt; Sink::failed(&sink));
+    Ok(())
+}
+
+#[test]
+fn an_interrupted_call_is_repeated(rt: HostRuntime) -> Result<(), Fail> {
+    let mut piece = [0u8; 4];
+    let mut source = Device::new(Interrupted::new(1000));
+    assert_eq!(rt; Source::read(&mut source, &mut piece)?, 1);
+    assert_eq!(rt; Source::read(&mut source, &mut piece)?, 1);
+    assert_eq!(rt; piece[0], b'i');
+    assert!(rt; !Source::failed(&source));
+    let mut sink = Device::new(Interrupted::new(1000));
+    assert_eq!(rt; Sink::write(&mut sink, b"ab")?, 1);
+    assert!(rt; !Sink::failed(&sink));
+    Ok(())
+}
+
+#[test]
+fn a_call_that_is_always_interrupted_fails(rt: HostRuntime) -> Result<(), Fail> {
+    let mut piece = [0u8; 4];
+    let mut source = Device::new(Interrupted::new(u32::MAX));
+    assert_eq!(rt; Source::read(&mut source, &mut piece), Err(DeviceFault));
+    let mut sink = Device::new(Interrupted::new(u32::MAX));
+    assert_eq!(rt; Sink::write(&mut sink, b"ab"), Err(DeviceFault));
     Ok(())
 }

@@ -3,6 +3,7 @@ ghost use Rattle.std.specs.Prelude.{◌≡◌, ℕ, ◌<◌, ◌≤◌, Bool, tr
 ghost use Rattle.std.specs.Prelude.{false, List, Option, length, is_ok, IfOk, if◌then◌else◌};
 ghost use Rattle.std.specs.Io.KnownBytes.{ReadConsumes, WriteAppends};
 
+use crate::retry::{read_again, write_again};
 use std::io::{Read, Write};
 use thiserror::Error;
 
@@ -53,8 +54,8 @@ pub trait Sink {
         ensures { result ≡ failed self.now };
 }
 
-/// A standard reader or writer that remembers whether a call has failed. Each call makes one call of `inner` and never
-/// retries. An interrupted call counts as a failure, and so does a write of 0 bytes.
+/// A standard reader or writer that remembers whether a call has failed. A call that a signal interrupts is repeated. A
+/// write of 0 bytes counts as a failure.
 #[derive(Drop)]
 pub struct Device<D> {
     inner: D,
@@ -97,7 +98,7 @@ impl<D: Read> Source for Device<D> {
     ghost failed = { has_failed };
 
     fn read(&mut self, piece: &mut [u8]) -> Result<usize, DeviceFault> {
-        match self.inner.read(piece) {
+        match read_again(&mut self.inner, piece) {
             Ok(count) => Ok(count),
             Err(_) => Err(self.fail()),
         }
@@ -116,9 +117,9 @@ impl<D: Write> Sink for Device<D> {
     ghost failed = { has_failed };
 
     fn write(&mut self, piece: &[u8]) -> Result<usize, DeviceFault> {
-        match self.inner.write(piece) {
-            Ok(count) if count > 0 => Ok(count),
-            _ => Err(self.fail()),
+        match write_again(&mut self.inner, piece) {
+            Ok(count) => Ok(count),
+            Err(_) => Err(self.fail()),
         }
     }
 

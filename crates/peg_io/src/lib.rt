@@ -4,6 +4,7 @@
 
 mod device;
 mod opener;
+mod retry;
 mod separator;
 mod transfer;
 
