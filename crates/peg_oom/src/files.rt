@@ -19,21 +19,21 @@ pub(crate) const WORDS: [&str; 9] = [
     "read_repeats",
 ];
 
-/// Makes the call that the argument names. Returns whether the name is known here.
-pub(crate) fn call(rt: &impl Print, alloc: Global, word: &str) -> io::Result<bool> {
-    match word {
-        "figure" => the_figure(rt, alloc)?,
-        "lex" => tokens(rt, alloc, COUNTS)?,
-        "lex_fault" => tokens(rt, alloc, OPEN)?,
-        "name_text" => name(rt, alloc)?,
-        "literal_bytes" => literal(rt, alloc)?,
-        "class_bytes" => class(rt, alloc)?,
-        "read" => definitions(rt, alloc, COUNTS)?,
-        "read_fault" => definitions(rt, alloc, OPEN)?,
-        "read_repeats" => definitions(rt, alloc, REPEATS)?,
-        _ => return Ok(false),
-    }
-    Ok(true)
+/// Makes the call that the argument names. Returns nothing if the name is not known here.
+pub(crate) fn call(rt: &impl Print, alloc: Global, word: &str) -> Option<io::Result<()>> {
+    let made = match word {
+        "figure" => the_figure(rt, alloc),
+        "lex" => tokens(rt, alloc, COUNTS),
+        "lex_fault" => tokens(rt, alloc, OPEN),
+        "name_text" => name(rt, alloc),
+        "literal_bytes" => literal(rt, alloc),
+        "class_bytes" => class(rt, alloc),
+        "read" => definitions(rt, alloc, COUNTS),
+        "read_fault" => definitions(rt, alloc, OPEN),
+        "read_repeats" => definitions(rt, alloc, REPEATS),
+        _ => return None,
+    };
+    Some(made)
 }
 
 fn the_figure(rt: &impl Print, alloc: Global) -> io::Result<()> {

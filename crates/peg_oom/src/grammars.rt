@@ -31,29 +31,29 @@ pub(crate) const WORDS: [&str; 17] = [
     "compile_repeats",
 ];
 
-/// Makes the call that the argument names. Returns whether the name is known here.
-pub(crate) fn call(rt: &impl Print, alloc: Global, word: &str) -> io::Result<bool> {
-    match word {
-        "grammar_new" => made(rt, alloc, COUNTS)?,
-        "grammar_new_twice" => made(rt, alloc, TWICE)?,
-        "grammar_new_missing" => made(rt, alloc, MISSING)?,
-        "grammar_new_repeats" => made(rt, alloc, REPEATS)?,
-        "plain_match" => matched(rt, alloc, 1000)?,
-        "plain_match_deep" => matched(rt, alloc, 3)?,
-        "plain_total" => total(rt, alloc)?,
-        "desugar" => desugared(rt, alloc, COUNTS)?,
-        "desugar_repeats" => desugared(rt, alloc, REPEATS)?,
-        "table_of" => tabled(rt, alloc)?,
-        "check" => judged(rt, alloc, COUNTS)?,
-        "check_cycle" => judged(rt, alloc, CYCLE)?,
-        "check_loop" => judged(rt, alloc, LOOP)?,
-        "check_repeats" => judged(rt, alloc, REPEATS)?,
-        "compile" => coded(rt, alloc, PREFIX)?,
-        "compile_large" => coded(rt, alloc, &pluses(alloc)?)?,
-        "compile_repeats" => coded(rt, alloc, REPEATS)?,
-        _ => return Ok(false),
-    }
-    Ok(true)
+/// Makes the call that the argument names. Returns nothing if the name is not known here.
+pub(crate) fn call(rt: &impl Print, alloc: Global, word: &str) -> Option<io::Result<()>> {
+    let made = match word {
+        "grammar_new" => made(rt, alloc, COUNTS),
+        "grammar_new_twice" => made(rt, alloc, TWICE),
+        "grammar_new_missing" => made(rt, alloc, MISSING),
+        "grammar_new_repeats" => made(rt, alloc, REPEATS),
+        "plain_match" => matched(rt, alloc, 1000),
+        "plain_match_deep" => matched(rt, alloc, 3),
+        "plain_total" => total(rt, alloc),
+        "desugar" => desugared(rt, alloc, COUNTS),
+        "desugar_repeats" => desugared(rt, alloc, REPEATS),
+        "table_of" => tabled(rt, alloc),
+        "check" => judged(rt, alloc, COUNTS),
+        "check_cycle" => judged(rt, alloc, CYCLE),
+        "check_loop" => judged(rt, alloc, LOOP),
+        "check_repeats" => judged(rt, alloc, REPEATS),
+        "compile" => coded(rt, alloc, PREFIX),
+        "compile_large" => large(rt, alloc),
+        "compile_repeats" => coded(rt, alloc, REPEATS),
+        _ => return None,
+    };
+    Some(made)
 }
 
 fn made(rt: &impl Print, alloc: Global, file: &[u8]) -> io::Result<()> {
@@ -116,6 +116,11 @@ fn judged(rt: &impl Print, alloc: Global, file: &[u8]) -> io::Result<()> {
         matches!(answer, Err(CheckFault::Memory)),
         &answer,
     )
+}
+
+// Code that is over the limit.
+fn large(rt: &impl Print, alloc: Global) -> io::Result<()> {
+    coded(rt, alloc, &pluses(alloc)?)
 }
 
 fn coded(rt: &impl Print, alloc: Global, file: &[u8]) -> io::Result<()> {

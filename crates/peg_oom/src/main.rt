@@ -56,18 +56,27 @@ fn not_made(rt: &impl Print, why: ErrorKind) -> u8 {
 fn run(rt: &(impl Print + env::Env + AllocGlobal), alloc: std::alloc::Global) -> io::Result<()> {
     let word = env::args(rt)?.nth(1);
     let word = word.as_ref().map_or("", |word| word.as_str());
-    if trees::call(rt, alloc, word)?
-        || files::call(rt, alloc, word)?
-        || grammars::call(rt, alloc, word)?
-        || memos::call(rt, alloc, word)?
-        || runs::call(rt, alloc, word)?
-        || shortcuts::call(rt, alloc, word)?
-        || parsers::call(rt, alloc, word)?
-        || replies::call(rt, alloc, word)?
-        || tools::call(rt, alloc, word)?
-    {
-        return Ok(());
+    match call(rt, alloc, word) {
+        Some(made) => made,
+        None => print_words(rt),
     }
+}
+
+// Makes the call that the argument names, if there is one.
+fn call(rt: &impl Print, alloc: std::alloc::Global, word: &str) -> Option<io::Result<()>> {
+    trees::call(rt, alloc, word)
+        .or_else(|| files::call(rt, alloc, word))
+        .or_else(|| grammars::call(rt, alloc, word))
+        .or_else(|| memos::call(rt, alloc, word))
+        .or_else(|| runs::call(rt, alloc, word))
+        .or_else(|| shortcuts::call(rt, alloc, word))
+        .or_else(|| parsers::call(rt, alloc, word))
+        .or_else(|| replies::call(rt, alloc, word))
+        .or_else(|| tools::call(rt, alloc, word))
+}
+
+// Lists the calls.
+fn print_words(rt: &impl Print) -> io::Result<()> {
     print_all(rt, &trees::WORDS)?;
     print_all(rt, &files::WORDS)?;
     print_all(rt, &grammars::WORDS)?;

@@ -19,17 +19,17 @@ pub(crate) const WORDS: [&str; 5] = [
 // The number of results offered to a memo.
 const RESULTS: u32 = 20;
 
-/// Makes the call that the argument names. Returns whether the name is known here.
-pub(crate) fn call(rt: &impl Print, alloc: Global, word: &str) -> io::Result<bool> {
-    match word {
-        "memo_new" => memo(rt, alloc)?,
-        "memo_keep" => kept(rt, alloc)?,
-        "costs_new" => costs(rt, alloc)?,
-        "selective_new" => selective(rt, alloc)?,
-        "selective_keep" => selected(rt, alloc)?,
-        _ => return Ok(false),
-    }
-    Ok(true)
+/// Makes the call that the argument names. Returns nothing if the name is not known here.
+pub(crate) fn call(rt: &impl Print, alloc: Global, word: &str) -> Option<io::Result<()>> {
+    let made = match word {
+        "memo_new" => memo(rt, alloc),
+        "memo_keep" => kept(rt, alloc),
+        "costs_new" => costs(rt, alloc),
+        "selective_new" => selective(rt, alloc),
+        "selective_keep" => selected(rt, alloc),
+        _ => return None,
+    };
+    Some(made)
 }
 
 fn memo(rt: &impl Print, alloc: Global) -> io::Result<()> {

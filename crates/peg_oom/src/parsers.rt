@@ -29,40 +29,40 @@ pub(crate) const WORDS: [&str; 18] = [
     "read_by_figure_repeats",
 ];
 
-/// Makes the call that the argument names. Returns whether the name is known here.
-pub(crate) fn call(rt: &impl Print, alloc: Global, word: &str) -> io::Result<bool> {
+/// Makes the call that the argument names. Returns nothing if the name is not known here.
+pub(crate) fn call(rt: &impl Print, alloc: Global, word: &str) -> Option<io::Result<()>> {
     if word.starts_with("from_file") {
         return made(rt, alloc, word);
     }
-    match word {
-        "grammar_of" => spelled(rt, alloc, COUNTS)?,
-        "grammar_of_missing" => spelled(rt, alloc, MISSING)?,
-        "names" => names(rt, alloc)?,
-        "parse" => parsed(rt, alloc, FEW, None, 0)?,
-        "parse_first_run" => parsed(rt, alloc, FEW, None, DEFAULT_MEMO)?,
-        "parse_memo_1" => parsed(rt, alloc, MANY, None, 1)?,
-        "parse_memo" => parsed(rt, alloc, MANY, Some("A"), DEFAULT_MEMO)?,
-        "parse_no_start" => parsed(rt, alloc, FEW, Some("B"), DEFAULT_MEMO)?,
-        "read_by_figure" => figured(rt, alloc, COUNTS)?,
-        "read_by_figure_fault" => figured(rt, alloc, OPEN)?,
-        "read_by_figure_repeats" => figured(rt, alloc, REPEATS)?,
-        _ => return Ok(false),
-    }
-    Ok(true)
+    let made = match word {
+        "grammar_of" => spelled(rt, alloc, COUNTS),
+        "grammar_of_missing" => spelled(rt, alloc, MISSING),
+        "names" => names(rt, alloc),
+        "parse" => parsed(rt, alloc, FEW, None, 0),
+        "parse_first_run" => parsed(rt, alloc, FEW, None, DEFAULT_MEMO),
+        "parse_memo_1" => parsed(rt, alloc, MANY, None, 1),
+        "parse_memo" => parsed(rt, alloc, MANY, Some("A"), DEFAULT_MEMO),
+        "parse_no_start" => parsed(rt, alloc, FEW, Some("B"), DEFAULT_MEMO),
+        "read_by_figure" => figured(rt, alloc, COUNTS),
+        "read_by_figure_fault" => figured(rt, alloc, OPEN),
+        "read_by_figure_repeats" => figured(rt, alloc, REPEATS),
+        _ => return None,
+    };
+    Some(made)
 }
 
-fn made(rt: &impl Print, alloc: Global, word: &str) -> io::Result<bool> {
-    match word {
-        "from_file" => accepted(rt, alloc, COUNTS)?,
-        "from_file_cycle" => accepted(rt, alloc, CYCLE)?,
-        "from_file_loop" => accepted(rt, alloc, LOOP)?,
-        "from_file_twice" => accepted(rt, alloc, TWICE)?,
-        "from_file_missing" => accepted(rt, alloc, MISSING)?,
-        "from_file_open" => accepted(rt, alloc, OPEN)?,
-        "from_file_large" => accepted(rt, alloc, &pluses(alloc)?)?,
-        _ => return Ok(false),
-    }
-    Ok(true)
+fn made(rt: &impl Print, alloc: Global, word: &str) -> Option<io::Result<()>> {
+    let made = match word {
+        "from_file" => accepted(rt, alloc, COUNTS),
+        "from_file_cycle" => accepted(rt, alloc, CYCLE),
+        "from_file_loop" => accepted(rt, alloc, LOOP),
+        "from_file_twice" => accepted(rt, alloc, TWICE),
+        "from_file_missing" => accepted(rt, alloc, MISSING),
+        "from_file_open" => accepted(rt, alloc, OPEN),
+        "from_file_large" => large(rt, alloc),
+        _ => return None,
+    };
+    Some(made)
 }
 
 fn spelled(rt: &impl Print, alloc: Global, file: &[u8]) -> io::Result<()> {
@@ -75,6 +75,11 @@ fn spelled(rt: &impl Print, alloc: Global, file: &[u8]) -> io::Result<()> {
         matches!(answer, Err(Refusal::Memory)),
         &answer,
     )
+}
+
+// A grammar whose code is over the limit.
+fn large(rt: &impl Print, alloc: Global) -> io::Result<()> {
+    accepted(rt, alloc, &pluses(alloc)?)
 }
 
 fn accepted(rt: &impl Print, alloc: Global, file: &[u8]) -> io::Result<()> {

@@ -41,44 +41,44 @@ pub(crate) const WORDS: [&str; 22] = [
     "step_limit_line",
 ];
 
-/// Makes the call that the argument names. Returns whether the name is known here.
-pub(crate) fn call(rt: &impl Print, alloc: Global, word: &str) -> io::Result<bool> {
+/// Makes the call that the argument names. Returns nothing if the name is not known here.
+pub(crate) fn call(rt: &impl Print, alloc: Global, word: &str) -> Option<io::Result<()>> {
     if word.starts_with("refus") {
         return refused(rt, alloc, word);
     }
-    match word {
-        "answer_json" => answered(rt, alloc, b"aab", false)?,
-        "answer_json_rows" => answered(rt, alloc, b"aab", true)?,
-        "answer_json_deep" => answered(rt, alloc, &deep(alloc)?, false)?,
-        "answer_json_failed" => answered(rt, alloc, b"aa", false)?,
-        "answer_line" => answer_of(rt, alloc, b"aab", TreeForm::Nested)?,
-        "answer_line_deep" => answer_of(rt, alloc, &deep(alloc)?, TreeForm::Nested)?,
-        "answer_line_rows" => answer_of(rt, alloc, b"aab", TreeForm::Rows)?,
-        "answer_line_rows_failed" => answer_of(rt, alloc, b"aa", TreeForm::Rows)?,
-        "table_json" => table_text(rt, alloc)?,
-        "table_line" => table_of_line(rt, alloc)?,
-        "code_json" => code_text(rt, alloc)?,
-        "code_line" => code_of_line(rt, alloc)?,
-        "accepted_line" => accepted(rt, alloc)?,
-        "no_start_line" => no_start(rt, alloc)?,
-        "long_text_line" => long_text(rt, alloc)?,
-        "step_limit_line" => step_limit(rt, alloc)?,
-        _ => return Ok(false),
-    }
-    Ok(true)
+    let made = match word {
+        "answer_json" => answered(rt, alloc, b"aab", false),
+        "answer_json_rows" => answered(rt, alloc, b"aab", true),
+        "answer_json_deep" => answered_deep(rt, alloc),
+        "answer_json_failed" => answered(rt, alloc, b"aa", false),
+        "answer_line" => answer_of(rt, alloc, b"aab", TreeForm::Nested),
+        "answer_line_deep" => answer_of_deep(rt, alloc),
+        "answer_line_rows" => answer_of(rt, alloc, b"aab", TreeForm::Rows),
+        "answer_line_rows_failed" => answer_of(rt, alloc, b"aa", TreeForm::Rows),
+        "table_json" => table_text(rt, alloc),
+        "table_line" => table_of_line(rt, alloc),
+        "code_json" => code_text(rt, alloc),
+        "code_line" => code_of_line(rt, alloc),
+        "accepted_line" => accepted(rt, alloc),
+        "no_start_line" => no_start(rt, alloc),
+        "long_text_line" => long_text(rt, alloc),
+        "step_limit_line" => step_limit(rt, alloc),
+        _ => return None,
+    };
+    Some(made)
 }
 
-fn refused(rt: &impl Print, alloc: Global, word: &str) -> io::Result<bool> {
-    match word {
-        "refusal_json" => fault(rt, alloc, "T\"\n")?,
-        "refused_line_cycle" => refusal_line(rt, alloc, CYCLE)?,
-        "refused_line_loop" => refusal_line(rt, alloc, LOOP)?,
-        "refused_line_twice" => refusal_line(rt, alloc, TWICE)?,
-        "refused_line_missing" => refusal_line(rt, alloc, MISSING)?,
-        "refused_line_open" => refusal_line(rt, alloc, OPEN)?,
-        _ => return Ok(false),
-    }
-    Ok(true)
+fn refused(rt: &impl Print, alloc: Global, word: &str) -> Option<io::Result<()>> {
+    let made = match word {
+        "refusal_json" => fault(rt, alloc, "T\"\n"),
+        "refused_line_cycle" => refusal_line(rt, alloc, CYCLE),
+        "refused_line_loop" => refusal_line(rt, alloc, LOOP),
+        "refused_line_twice" => refusal_line(rt, alloc, TWICE),
+        "refused_line_missing" => refusal_line(rt, alloc, MISSING),
+        "refused_line_open" => refusal_line(rt, alloc, OPEN),
+        _ => return None,
+    };
+    Some(made)
 }
 
 const OPTIONS: ParseOptions<'static> = ParseOptions {
@@ -92,6 +92,14 @@ fn deep(alloc: Global) -> Result<Vec<u8>, AllocError> {
     let mut text = vec![in alloc; b'a'; 60]?;
     text.push(b'b')?;
     Ok(text)
+}
+
+fn answered_deep(rt: &impl Print, alloc: Global) -> io::Result<()> {
+    answered(rt, alloc, &deep(alloc)?, false)
+}
+
+fn answer_of_deep(rt: &impl Print, alloc: Global) -> io::Result<()> {
+    answer_of(rt, alloc, &deep(alloc)?, TreeForm::Nested)
 }
 
 fn answered(rt: &impl Print, alloc: Global, text: &[u8], rows: bool) -> io::Result<()> {

@@ -33,23 +33,23 @@ const RULES: u32 = 6;
 
 const PLACES: u32 = 512;
 
-/// Makes the call that the argument names. Returns whether the name is known here.
-pub(crate) fn call(rt: &impl Print, alloc: Global, word: &str) -> io::Result<bool> {
-    match word {
-        "run" => alone(rt, alloc, CHAIN, b"aab")?,
-        "run_counts" => alone(rt, alloc, COUNTS, b"aabbcc")?,
-        "run_prefix" => alone(rt, alloc, PREFIX, b"(a)y")?,
-        "run_memo_1" => remembering(rt, alloc, PREFIX, b"(((a)y)y)y", 1)?,
-        "run_memo" => remembering(rt, alloc, PREFIX, b"(((a)y)y)y", 64)?,
-        "run_memo_counts" => remembering(rt, alloc, COUNTS, b"aabbcc", 64)?,
-        "run_selective" => selecting(rt, alloc, PREFIX, b"(((a)y)y)y")?,
-        "run_selective_counts" => selecting(rt, alloc, COUNTS, b"aabbcc")?,
-        "run_watch" => watched(rt, alloc, CHAIN, b"aab", &[(0, 0), (0, 1), (0, 2)])?,
-        "run_watch_prefix" => watched(rt, alloc, PREFIX, b"(a)y", &[(0, 0), (0, 1), (0, 1)])?,
-        "watch_begin" => begun(rt, alloc)?,
-        _ => return Ok(false),
-    }
-    Ok(true)
+/// Makes the call that the argument names. Returns nothing if the name is not known here.
+pub(crate) fn call(rt: &impl Print, alloc: Global, word: &str) -> Option<io::Result<()>> {
+    let made = match word {
+        "run" => alone(rt, alloc, CHAIN, b"aab"),
+        "run_counts" => alone(rt, alloc, COUNTS, b"aabbcc"),
+        "run_prefix" => alone(rt, alloc, PREFIX, b"(a)y"),
+        "run_memo_1" => remembering(rt, alloc, PREFIX, b"(((a)y)y)y", 1),
+        "run_memo" => remembering(rt, alloc, PREFIX, b"(((a)y)y)y", 64),
+        "run_memo_counts" => remembering(rt, alloc, COUNTS, b"aabbcc", 64),
+        "run_selective" => selecting(rt, alloc, PREFIX, b"(((a)y)y)y"),
+        "run_selective_counts" => selecting(rt, alloc, COUNTS, b"aabbcc"),
+        "run_watch" => watched(rt, alloc, CHAIN, b"aab", &[(0, 0), (0, 1), (0, 2)]),
+        "run_watch_prefix" => watched(rt, alloc, PREFIX, b"(a)y", &[(0, 0), (0, 1), (0, 1)]),
+        "watch_begin" => begun(rt, alloc),
+        _ => return None,
+    };
+    Some(made)
 }
 
 fn alone(rt: &impl Print, alloc: Global, file: &[u8], text: &[u8]) -> io::Result<()> {

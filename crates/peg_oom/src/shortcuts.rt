@@ -27,16 +27,16 @@ const TEXT: &[u8] = b"\
 
 const EARLIER: &[u8] = b"w(";
 
-/// Makes the call that the argument names. Returns whether the name is known here.
-pub(crate) fn call(rt: &impl Print, alloc: Global, word: &str) -> io::Result<bool> {
-    match word {
-        "shortcut_of" => found(rt, alloc)?,
-        "run_by_through" => entering(rt, alloc)?,
-        "run_by_stopping" => stopping(rt, alloc)?,
-        "run_by_kept" => kept(rt, alloc)?,
-        _ => return Ok(false),
-    }
-    Ok(true)
+/// Makes the call that the argument names. Returns nothing if the name is not known here.
+pub(crate) fn call(rt: &impl Print, alloc: Global, word: &str) -> Option<io::Result<()>> {
+    let made = match word {
+        "shortcut_of" => found(rt, alloc),
+        "run_by_through" => entering(rt, alloc),
+        "run_by_stopping" => stopping(rt, alloc),
+        "run_by_kept" => kept(rt, alloc),
+        _ => return None,
+    };
+    Some(made)
 }
 
 // From the first rule, on the first byte of a word: five rules are called there.

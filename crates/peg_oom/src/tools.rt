@@ -40,32 +40,32 @@ const ROOM: usize = 4096;
 // The exit status for out of memory.
 const MEMORY: u8 = 5;
 
-/// Makes the call that the argument names. Returns whether the name is known here.
-pub(crate) fn call(rt: &impl Print, alloc: Global, word: &str) -> io::Result<bool> {
+/// Makes the call that the argument names. Returns nothing if the name is not known here.
+pub(crate) fn call(rt: &impl Print, alloc: Global, word: &str) -> Option<io::Result<()>> {
     if word.starts_with("tool_check") {
         return checked(rt, alloc, word);
     }
     if word.starts_with("tool_parse") {
         return parsed(rt, alloc, word);
     }
-    match word {
-        "read_up_to" => bytes(rt, alloc)?,
-        "read_words" => asked(rt, alloc, "parse g t --start A --memo 7 --all --rows")?,
-        "read_words_help" => asked(rt, alloc, "parse --help")?,
-        "read_words_usage" => asked(rt, alloc, "parse g --memo many")?,
-        "tool_table" => tool(rt, alloc, COUNTS, b"", &Command::Table)?,
-        "tool_table_missing" => tool(rt, alloc, MISSING, b"", &Command::Table)?,
-        "tool_code" => tool(rt, alloc, COUNTS, b"", &Command::Code)?,
-        "joined" => joined(rt, alloc, b"S <- 'a' S / 'b'\n%%\naab")?,
-        "joined_open" => joined(rt, alloc, b"A <- [a-]\n%%\naab")?,
-        "words_joined" => led(rt, alloc, "")?,
-        "words_parse" => led(rt, alloc, "parse chain aab --rows")?,
-        _ => return Ok(false),
-    }
-    Ok(true)
+    let made = match word {
+        "read_up_to" => bytes(rt, alloc),
+        "read_words" => asked(rt, alloc, "parse g t --start A --memo 7 --all --rows"),
+        "read_words_help" => asked(rt, alloc, "parse --help"),
+        "read_words_usage" => asked(rt, alloc, "parse g --memo many"),
+        "tool_table" => tool(rt, alloc, COUNTS, b"", &Command::Table),
+        "tool_table_missing" => tool(rt, alloc, MISSING, b"", &Command::Table),
+        "tool_code" => tool(rt, alloc, COUNTS, b"", &Command::Code),
+        "joined" => joined(rt, alloc, b"S <- 'a' S / 'b'\n%%\naab"),
+        "joined_open" => joined(rt, alloc, b"A <- [a-]\n%%\naab"),
+        "words_joined" => led(rt, alloc, ""),
+        "words_parse" => led(rt, alloc, "parse chain aab --rows"),
+        _ => return None,
+    };
+    Some(made)
 }
 
-fn checked(rt: &impl Print, alloc: Global, word: &str) -> io::Result<bool> {
+fn checked(rt: &impl Print, alloc: Global, word: &str) -> Option<io::Result<()>> {
     let file = match word {
         "tool_check" => COUNTS,
         "tool_check_cycle" => CYCLE,
@@ -73,25 +73,23 @@ fn checked(rt: &impl Print, alloc: Global, word: &str) -> io::Result<bool> {
         "tool_check_twice" => TWICE,
         "tool_check_missing" => MISSING,
         "tool_check_open" => OPEN,
-        _ => return Ok(false),
+        _ => return None,
     };
-    tool(rt, alloc, file, b"", &Command::Check)?;
-    Ok(true)
+    Some(tool(rt, alloc, file, b"", &Command::Check))
 }
 
-fn parsed(rt: &impl Print, alloc: Global, word: &str) -> io::Result<bool> {
+fn parsed(rt: &impl Print, alloc: Global, word: &str) -> Option<io::Result<()>> {
     let (start, rows) = match word {
         "tool_parse" => (None, false),
         "tool_parse_rows" => (Some("A"), true),
         "tool_parse_no_start" => (Some("B"), false),
-        _ => return Ok(false),
+        _ => return None,
     };
     let (memo, steps) = (7, None);
     let options = ParseOptions { start, memo, steps };
     let all = true;
     let command = Command::Parse { options, all, rows };
-    tool(rt, alloc, PREFIX, b"((((a)y)y)y)y", &command)?;
-    Ok(true)
+    Some(tool(rt, alloc, PREFIX, b"((((a)y)y)y)y", &command))
 }
 
 fn bytes(rt: &impl Print, alloc: Global) -> io::Result<()> {

@@ -1,5 +1,5 @@
 //! Calls on trees as JSON values, and as text.
-ghost use Rattle.std.specs.Prelude.{◌∷◌, [], codes};
+ghost use Rattle.std.specs.Prelude.{IfOk, ◌∷◌, [], codes};
 ghost use Rattle.peg_tree.specs.Nodes.{RulesBelow};
 
 use crate::ending::{Borrowed, report};
@@ -36,32 +36,19 @@ impl Names for Rules {
     }
 }
 
-/// Makes the call that the argument names, on a tree of a root and two children, or of 61 levels. Returns whether the
-/// name is known here.
-pub(crate) fn call(rt: &impl Print, alloc: Global, word: &str) -> io::Result<bool> {
-    if !WORDS.contains(&word) {
-        return Ok(false);
-    }
-    let rows = if word == "nested_json_deep" {
-        chain(alloc)?
-    } else {
-        vec![in alloc; row(0, 3), row(1, 1), row(1, 1)]?
+/// Makes the call that the argument names, on a tree of a root and two children, or of 61 levels. Returns nothing if the
+/// name is not known here.
+pub(crate) fn call(rt: &impl Print, alloc: Global, word: &str) -> Option<io::Result<()>> {
+    let made = match word {
+        "rows_json" => rows_value(rt, alloc),
+        "nested_json" => nested_family(rt, alloc),
+        "nested_json_deep" => nested_chain(rt, alloc),
+        "tree_rows" => rows_sent(rt, alloc),
+        "nested_tree" => nested_sent(rt, alloc),
+        "rows_text" => rows_filled(rt, alloc),
+        _ => return None,
     };
-    if !one_tree(&rows) {
-        return Ok(false);
-    }
-    let tree = Tree::from_rows(rows);
-    if !tree.fits(Rules.count()) {
-        return Ok(false);
-    }
-    match word {
-        "rows_json" => rows_value(rt, alloc, &tree)?,
-        "tree_rows" => rows_sent(rt, alloc, &tree)?,
-        "nested_tree" => nested_sent(rt, alloc, &tree)?,
-        "rows_text" => rows_filled(rt, alloc, tree)?,
-        _ => nested_value(rt, alloc, &tree)?,
-    }
-    Ok(true)
+    Some(made)
 }
 
 // A node whose subtree has `size` nodes.
@@ -70,21 +57,49 @@ fn row(rule: u32, size: u64) -> TreeNode {
     TreeNode { rule, span, size }
 }
 
+// A root and two children.
+fn family(alloc: Global) -> io::Result<Tree>
+    ensures { IfOk result (RulesBelow 2) }
+{
+    tree_of(vec![in alloc; row(0, 3), row(1, 1), row(1, 1)]?)
+}
+
 // 61 nodes, each the child of the one before.
-fn chain(alloc: Global) -> Result<Vec<TreeNode>, AllocError> {
+fn chain(alloc: Global) -> io::Result<Tree>
+    ensures { IfOk result (RulesBelow 2) }
+{
     let mut rows = Vec::new(alloc);
     for above in 0..61 {
         rows.push(row(0, 61 - above))?;
     }
-    Ok(rows)
+    tree_of(rows)
 }
 
-fn rows_value(rt: &impl Print, alloc: Global, tree: &Tree) -> io::Result<()>
-    requires { RulesBelow 2 tree.now }
+fn tree_of(rows: Vec<TreeNode>) -> io::Result<Tree>
+    ensures { IfOk result (RulesBelow 2) }
 {
-    let borrowed = Borrowed::of(alloc, tree)?;
-    let answer = rows_json(alloc, tree, &Rules);
+    if one_tree(&rows) {
+        let tree = Tree::from_rows(rows);
+        if tree.fits(Rules.count()) {
+            return Ok(tree);
+        }
+    }
+    Err(io::Error::other("not a tree of these rules"))
+}
+
+fn rows_value(rt: &impl Print, alloc: Global) -> io::Result<()> {
+    let tree = family(alloc)?;
+    let borrowed = Borrowed::of(alloc, &tree)?;
+    let answer = rows_json(alloc, &tree, &Rules);
     report(rt, &borrowed, answer.is_err(), &answer)
+}
+
+fn nested_family(rt: &impl Print, alloc: Global) -> io::Result<()> {
+    nested_value(rt, alloc, &family(alloc)?)
+}
+
+fn nested_chain(rt: &impl Print, alloc: Global) -> io::Result<()> {
+    nested_value(rt, alloc, &chain(alloc)?)
 }
 
 fn nested_value(rt: &impl Print, alloc: Global, tree: &Tree) -> io::Result<()>
@@ -101,26 +116,23 @@ fn nested_value(rt: &impl Print, alloc: Global, tree: &Tree) -> io::Result<()>
 }
 
 // The text that a serializer makes of the tree.
-fn rows_sent(rt: &impl Print, alloc: Global, tree: &Tree) -> io::Result<()>
-    requires { RulesBelow 2 tree.now }
-{
-    let borrowed = Borrowed::of(alloc, tree)?;
-    let answer = serde_json::to_string(alloc, &FlatTree::new(alloc, tree, &Rules));
+fn rows_sent(rt: &impl Print, alloc: Global) -> io::Result<()> {
+    let tree = family(alloc)?;
+    let borrowed = Borrowed::of(alloc, &tree)?;
+    let answer = serde_json::to_string(alloc, &FlatTree::new(alloc, &tree, &Rules));
     report(rt, &borrowed, answer.is_err(), &answer)
 }
 
-fn nested_sent(rt: &impl Print, alloc: Global, tree: &Tree) -> io::Result<()>
-    requires { RulesBelow 2 tree.now }
-{
-    let borrowed = Borrowed::of(alloc, tree)?;
-    let answer = serde_json::to_string(alloc, &NestedTree::new(alloc, tree, &Rules));
+fn nested_sent(rt: &impl Print, alloc: Global) -> io::Result<()> {
+    let tree = family(alloc)?;
+    let borrowed = Borrowed::of(alloc, &tree)?;
+    let answer = serde_json::to_string(alloc, &NestedTree::new(alloc, &tree, &Rules));
     report(rt, &borrowed, answer.is_err(), &answer)
 }
 
 // Fills the first piece of the list of nodes too, which doesn't allocate.
-fn rows_filled(rt: &impl Print, alloc: Global, tree: Tree) -> io::Result<()>
-    requires { RulesBelow 2 tree }
-{
+fn rows_filled(rt: &impl Print, alloc: Global) -> io::Result<()> {
+    let tree = family(alloc)?;
     let borrowed = Borrowed::of(alloc, &Rules)?;
     let mut answer = FlatTreeWriter::new(alloc, tree, &Rules);
     if let Ok(text) = &mut answer {
