@@ -4,3 +4,4 @@ mod PlanLemmas
 mod SlotLemmas
 mod TaskLemmas
 mod TestLemmas
+mod WrittenSizeLemmas

@@ -4,7 +4,10 @@ pub use Rattle.peg_check.specs.Verdicts
 pub use Rattle.peg_core.specs.CoreExamples
 pub use Rattle.peg_core.specs.CoreForm
 pub use Rattle.peg_core.specs.Layout
+pub use Rattle.peg_semantics.specs.Form
 pub use Rattle.peg_semantics.specs.Grammar
+pub use Rattle.peg_grammar.specs.GrammarRules
+pub use Rattle.peg_grammar.specs.Written
 pub mod Code
 pub mod CodeExamples
 pub mod Compiled
@@ -16,3 +19,4 @@ pub mod Sizes
 pub mod Programs
 pub mod Slots
 pub mod Tasks
+pub mod WrittenSizes

@@ -10,9 +10,11 @@ mod packed_code;
 mod program;
 mod sizes;
 mod tasks;
+mod written_sizes;
 
 pub use compiler::{MAX_INSTRUCTIONS, compile};
 pub use fault::CodeFault;
 pub use instr::Instr;
 pub use instr_refs::InstrRef;
 pub use program::Program;
+pub use written_sizes::code_size;

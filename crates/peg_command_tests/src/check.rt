@@ -129,6 +129,34 @@ fn empty_loops_are_reported_by_their_place(rt: HostRuntime) -> Result<(), Fail> 
     loops(&rt, rt.alloc(), &files)
 }
 
+// The counts of each file have more than 16,000,000 instructions.
+#[test]
+fn too_much_code_is_reported_after_loops(rt: HostRuntime) -> Result<(), Fail> {
+    let looping: [(&[u8], &str, u32, u32, u32, u32); 2] = [
+        (b"A <- (('a'{255}){255}){255} ''*\n", "A", 1, 29, 28, 31),
+        (
+            b"A <- ((('a'*){0,255}){255}){255}\nB <- ((A{255}){255})+\n",
+            "B",
+            2,
+            6,
+            38,
+            54,
+        ),
+    ];
+    loops(&rt, rt.alloc(), &looping)?;
+    let recursive: [(&[u8], &str); 2] = [
+        (b"A <- (('a'{255}){255}){255} / A\n", "\"A\""),
+        (b"A <- (('a'{255}){255}){0,255} A\n", "\"A\""),
+    ];
+    recurs(&rt, rt.alloc(), &recursive)?;
+    let large = "{\"refusal\":\"CodeTooLarge\"}";
+    let files: [(&[u8], &str); 2] = [
+        (b"A <- (('a'{255}){255}){255} A / 'b'\n", large),
+        (b"A <- (('a'{0,255}){255}){255} 'b'\n", large),
+    ];
+    refuses(&rt, rt.alloc(), &files)
+}
+
 #[test]
 fn files_and_grammars_are_refused_before(rt: HostRuntime) -> Result<(), Fail> {
     let files: [(&[u8], &str); 10] = [

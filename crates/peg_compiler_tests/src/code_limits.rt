@@ -1,7 +1,9 @@
 //! The number of instructions of grammars at the limit, and over it.
 use crate::stages::checked_of;
-use peg_code::{CodeFault, MAX_INSTRUCTIONS, compile};
+use peg_code::{CodeFault, MAX_INSTRUCTIONS, code_size, compile};
 use peg_fixtures::{nest, nest_rule, repeat_then};
+use peg_grammar::Grammar;
+use peg_notation::read;
 use std::alloc::{AllocError, Global};
 use std::process::Abort;
 use std::test::Fail;
@@ -75,5 +77,25 @@ fn empty_expressions_cost_nothing(rt: HostRuntime) -> Result<(), Fail> {
     let before = nest(alloc, 100_000, "'' ", b"'a'", "")?;
     let other = nested_pluses(alloc, 18, &before)?;
     assert_eq!(rt; count_of(alloc, other.as_slice())?, Some(786_432));
+    Ok(())
+}
+
+// Two instructions are `end` and the `ret` of the rule. Each iteration of a count has its part, and an optional one has
+// two more.
+#[test]
+fn sizes_are_known_before_counts_are_unfolded(rt: HostRuntime) -> Result<(), Fail> {
+    let alloc = rt.alloc();
+    let files: [(&[u8], u32); 6] = [
+        (b"S <- 'a' S / 'b'", 7),
+        (b"S <- .{2,5}", 13),
+        (b"S <- ('ab' [c]?){0,3} !.", 26),
+        (b"S <- 'a'+ / &T\nT <- ''{255}", 14),
+        (b"S <- ((.{10}){10}){10}", 1_002),
+        (b"S <- ((.{255}){255}){255}", 1_000_001),
+    ];
+    for (file, size) in files {
+        let grammar = Grammar::new(alloc, read(alloc, file)?)?;
+        assert_eq!(rt; code_size(&grammar), size);
+    }
     Ok(())
 }

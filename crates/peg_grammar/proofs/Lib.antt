@@ -1,4 +1,5 @@
 mod BadCounts
+mod CutLoops
 pub mod LoopLemmas
 mod NameLists
 mod OutcomeLemmas

@@ -1,12 +1,14 @@
 //! Grammars: rules with distinct names and without undefined references.
 ghost use Rattle.std.specs.Prelude.{◌≡◌, ◌≤◌, ◌<◌, length, position, bytes_eq, slice_get, Some, IfOk, IfErr, OnOk};
 ghost use Rattle.std.specs.Prelude.{option_map};
+ghost use Rattle.peg_semantics.specs.CutCounts.{cut_rules};
 ghost use Rattle.peg_semantics.specs.Grammar.{IsGrammar, max_parts};
 ghost use Rattle.peg_grammar.specs.Names.{names_in};
 ghost use Rattle.peg_grammar.specs.Refusal.{IsRefusedBy};
 ghost use Rattle.peg_semantics.specs.Rules.{names as names_of, name_of, weight_of};
 ghost use Rattle.peg_grammar.specs.Written.{form_of, rules_of};
 
+use crate::cut_counts::cut_definitions;
 use crate::name_key::NameKey;
 use crate::names::{checked_names, name_number};
 use crate::{Definition, Expr, GrammarFault, weight};
@@ -77,6 +79,16 @@ impl Grammar {
         ensures { option_map (λ r. r.body) (slice_get (rules_in self.now) rule) ≡ Some (form_of result.now) }
     {
         &self.definitions[rule as usize].body
+    }
+
+    /// Returns the grammar with each number of its counts cut to at most 1. The result has the same names and weight,
+    /// the same abstract outcomes, and the same empty loops and left cycles. Linear in the weight; allocates nothing.
+    pub fn with_cut_counts(self) -> Grammar
+        ensures { rules_in result ≡ cut_rules (rules_in self) }
+    {
+        let Grammar { names, definitions } = self;
+        let definitions = cut_definitions(definitions);
+        Grammar { names, definitions }
     }
 
     pub(crate) fn definitions(&self) -> &[Definition]

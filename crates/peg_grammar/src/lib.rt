@@ -2,6 +2,7 @@
 #![tactic(auto)]
 
 mod counts;
+mod cut_counts;
 mod evaluator;
 mod expr;
 mod fault;

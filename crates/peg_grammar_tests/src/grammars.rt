@@ -43,6 +43,15 @@ fn rules_go_by_names_and_numbers(rt: HostRuntime) -> Result<(), Fail> {
 }
 
 #[test]
+fn cut_counts_are_at_most_one(rt: HostRuntime) -> Result<(), Fail> {
+    let grammar = grammar_of(rt.alloc(), b"S <- 'a'{2,5}\nT <- (S{0,3})")?.with_cut_counts();
+    assert_eq!(rt; grammar.rule_name(1), "T");
+    assert!(rt; matches!(grammar.body(0), Expr::Counted { min: 1, max: 1, .. }));
+    assert!(rt; matches!(grammar.body(1), Expr::Counted { min: 0, max: 1, .. }));
+    Ok(())
+}
+
+#[test]
 fn a_duplicate_is_named_where_it_stands(rt: HostRuntime) -> Result<(), Fail> {
     let refused = refusal_of(rt.alloc(), b"S <- U    T <- U    T <- U")?;
     match &refused {

@@ -1,6 +1,7 @@
 mod AcceptLemmas
 mod CheckLemmas
 mod CoreStarts
+mod CutLemmas
 mod FigureCode
 mod FigureGrammar
 mod FigureReading

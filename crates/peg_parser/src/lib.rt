@@ -2,6 +2,7 @@
 #![tactic(auto)]
 
 mod grammar_file;
+mod large_code;
 pub mod laws;
 mod meta_reader;
 mod options;

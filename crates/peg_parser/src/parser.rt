@@ -14,11 +14,12 @@ ghost use Rattle.peg_semantics.specs.Terminals.{extents_of_terminals};
 ghost use Rattle.peg_semantics.specs.WellFormed.{IsWellFormedGrammar};
 ghost use Rattle.peg_machine.specs.CoreOutcome.{ExceedsStepLimit, saturated, TakesSteps};
 
+use crate::large_code::refusal_of_large_code;
 use crate::options::ParseOptions;
 use crate::refusal::Refusal;
 use peg_bytes::Span;
 use peg_check::check;
-use peg_code::{Program, compile};
+use peg_code::{MAX_INSTRUCTIONS, Program, code_size, compile};
 use peg_core::desugar;
 use peg_grammar::{Grammar, MAX_TEXT_BYTES};
 use peg_machine::{Answer, NoWatch, RunFault, run};
@@ -119,6 +120,9 @@ impl Parser {
     {
         let definitions = read(alloc, file)?;
         let grammar = Grammar::new(alloc, definitions)?;
+        if code_size(&grammar) > MAX_INSTRUCTIONS {
+            return Err(refusal_of_large_code(alloc, grammar));
+        }
         let core = desugar(alloc, &grammar)?;
         match check(alloc, core) {
             Ok(checked) => {

@@ -1,4 +1,7 @@
 pub mod Ascending
+pub mod CutGrammar
+pub mod CutOutcomes
+pub mod CutWellFormed
 pub mod Derivations
 mod EachHasAResult
 pub mod EnoughDepth

@@ -3,6 +3,7 @@ pub use Rattle.peg_bytes.specs.Extent
 pub use Rattle.peg_tree.specs.Nodes
 pub use Rattle.peg_tree.specs.Trees
 pub mod AbstractOutcomes
+pub mod CutCounts
 pub mod Depth
 pub mod Examples
 pub mod Form

@@ -2,7 +2,8 @@
 //! law.
 ghost use Rattle.std.specs.Prelude.{◌≡◌, ◌≢◌, ◌↔◌, ℕ, suc, ◌<◌, ◌≤◌, All, Contains, List, [], ◌∷◌, codes, length};
 ghost use Rattle.std.specs.Prelude.{None, Some};
-ghost use Rattle.peg_semantics.specs.AbstractOutcomes.{CanAll, CanFail, GivesNothing, GivesSomething, OutcomeOf, can_in};
+ghost use Rattle.peg_semantics.specs.AbstractOutcomes.{Can, CanAll, CanFail, GivesNothing, GivesSomething, OutcomeOf, can_in};
+ghost use Rattle.peg_semantics.specs.CutCounts.{cut_counts, cut_rules};
 ghost use Rattle.peg_semantics.specs.Depth.{max_cases};
 ghost use Rattle.peg_semantics.specs.Examples.{Gives, nested, nested_record, abc_grammar, abc_record, ordered};
 ghost use Rattle.peg_semantics.specs.Examples.{ordered_record, repeated_prefix, repeated_prefix_record};
@@ -19,6 +20,7 @@ ghost use Rattle.peg_semantics.specs.Grammar.{IsGrammar, first_bad_count, first_
 ghost use Rattle.peg_semantics.specs.Furthest.{IsFurthest};
 ghost use Rattle.peg_semantics.specs.FurthestPass.{furthest_of};
 ghost use Rattle.peg_semantics.specs.Record.{Failed, Matched, Record, IsRecord, Test, record_in, start_record};
+ghost use Rattle.peg_semantics.specs.RuleOutcomes.{AreAbstractOutcomes};
 ghost use Rattle.peg_semantics.specs.Terminals.{extents_of_terminals};
 ghost use Rattle.peg_semantics.specs.WellFormed.{IsWellFormedIn, IsWellFormed, IsWellFormedGrammar, subexpressions};
 ghost use Rattle.peg_bytes.specs.Extent.{Extent, between};
@@ -186,4 +188,22 @@ pub fn the_loops_agree_with_hand_worked_grammars()
     ensures itself { IsLeftCycle itself (0 ∷ []) }
     ensures counted_itself { IsLeftCycle counted_itself (0 ∷ []) }
     ensures star_of_count { IsEmptyLoop star_of_count 0 (between 5 16) }
+{}
+
+/// Cut counts keep the abstract outcomes of each expression, in each round, and so those of the rules.
+pub fn cut_counts_keep_abstract_outcomes()
+    ensures rounds { (rules : List Rule) (n : ℕ) (e : Form)
+        → can_in (cut_rules rules) n (cut_counts e) ≡ can_in rules n e }
+    ensures rules { (rules : List Rule) (cans : List Can)
+        → (AreAbstractOutcomes (cut_rules rules) cans ↔ AreAbstractOutcomes rules cans) }
+{}
+
+/// Rules with cut counts are a well-formed grammar exactly if the rules are, and they have the same loops.
+pub fn cut_counts_keep_well_formedness()
+    ensures grammar { (rules : List Rule) → IsGrammar rules → IsGrammar (cut_rules rules) }
+    ensures well_formed { (rules : List Rule) → (IsWellFormedGrammar (cut_rules rules) ↔ IsWellFormedGrammar rules) }
+    ensures empty_loops { (rules : List Rule) (rule : ℕ) (span : Extent)
+        → (IsEmptyLoop (cut_rules rules) rule span ↔ IsEmptyLoop rules rule span) }
+    ensures left_cycles { (rules : List Rule) (path : List ℕ)
+        → (IsLeftCycle (cut_rules rules) path ↔ IsLeftCycle rules path) }
 {}

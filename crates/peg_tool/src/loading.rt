@@ -68,19 +68,20 @@ pub(crate) fn table_file(alloc: Global, file: &[u8]) -> Result<Line, AllocError>
         (λ line. IsPrinted TableTask file.now text (line_bytes line) (status_code line.status)) }
 {
     match grammar_of(alloc, file) {
-        Ok(grammar) => table_reply(alloc, &grammar),
+        Ok(grammar) => table_reply(alloc, grammar),
         Err(Refusal::Memory) => Err(AllocError),
         Err(refusal) => refused_line(alloc, file, &refusal),
     }
 }
 
-// The line of a grammar's table of outcomes.
-fn table_reply(alloc: Global, grammar: &Grammar) -> Result<Line, AllocError>
-    requires { IsAcceptedGrammar (rules_in grammar.now) }
-    ensures { (file text : List ℕ) → IsRead file (rules_in grammar.now) → IfOk result
+// The line of a grammar's table of outcomes. Counts are cut to one iteration first, which doesn't change the outcomes.
+fn table_reply(alloc: Global, grammar: Grammar) -> Result<Line, AllocError>
+    requires { IsAcceptedGrammar (rules_in grammar) }
+    ensures { (file text : List ℕ) → IsRead file (rules_in grammar) → IfOk result
         (λ line. IsPrinted TableTask file text (line_bytes line) (status_code line.status)) }
 {
-    let core = desugar(alloc, grammar)?;
+    let cut = grammar.with_cut_counts();
+    let core = desugar(alloc, &cut)?;
     let table = table_of(alloc, &core)?;
-    table_line(alloc, grammar, &core, &table)
+    table_line(alloc, &cut, &core, &table)
 }

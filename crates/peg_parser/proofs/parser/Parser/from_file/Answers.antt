@@ -1,4 +1,4 @@
-use Rattle.std.proofs.Common.{◌≡◌, ℕ, ◌<◌, ◌≤◌, ◌∙◌, All, Err, List, ap, length, subst, sym}
+use Rattle.std.proofs.Common.{ℕ, ◌<◌, ◌≤◌, ◌∙◌, All, Err, List, ap, length, subst, sym}
 use Rattle.peg_check.specs.Verdicts.{NamesRules}
 use Rattle.peg_code.specs.Code.{program_code}
 use Rattle.peg_code.specs.Compiled.{max_instructions}
@@ -13,7 +13,7 @@ use Rattle.peg_parser.specs.Faults.{HasCause, of_code, of_grammar, of_notation}
 use Rattle.peg_parser.specs.Refusals.{IsRefusalOf}
 use Rattle.peg_parser.proofs.AcceptLemmas.{accepted-whole, told-check, told-code, told-early, told-error, told-grammar, told-meaning, told-means, told-notation}
 use Rattle.peg_parser.proofs.parser.Parser.from_file.Goals as goal
-use Rattle.peg_parser.proofs.parser.Parser.from_file.Goals.{After-from_check, In_err-definitions, In_err-grammar, In_ok-grammar, In_ok-core}
+use Rattle.peg_parser.proofs.parser.Parser.from_file.Goals.{After-from_check, After-refusal_of_large_code, In_err-definitions, In_err-grammar, In_ok-grammar, In_ok-core}
 
 -- the grammar of a file
 record Known (file : List ℕ) (rules : List Rule) : Type 0 where
@@ -75,6 +75,22 @@ pub returns-in_err-grammar-clause-wrong : goal.returns-in_err-grammar-clause-wro
 returns-in_err-grammar-clause-wrong c =
     told-meaning c.args.file.now c.from_residual-in_err-grammar.result (of_grammar c.in_err-grammar.field-0.0)
     c.from_residual-in_err-grammar.ensures.1 (no_grammar (goal.at.returns-in_err-grammar-clause-wrong c).In_err-grammar)
+
+-- a grammar with too much code
+large : (c : After-refusal_of_large_code) → Known c.args.file.now (rules_in c.in_ok-grammar.grammar)
+    → HasCause (IsRefusalOf c.args.file.now) (length c.args.file.now) c.refusal_of_large_code.result
+large c of_file = c.refusal_of_large_code.ensures c.args.file.now of_file.read of_file.taken of_file.inside
+
+pub returns-then-code_size-gt-MAX_INSTRUCTIONS-clause-refused :
+    goal.returns-then-code_size-gt-MAX_INSTRUCTIONS-clause-refused
+returns-then-code_size-gt-MAX_INSTRUCTIONS-clause-refused c =
+    large c (known (goal.at.returns-then-code_size-gt-MAX_INSTRUCTIONS-clause-refused c).In_ok-grammar)
+
+pub returns-then-code_size-gt-MAX_INSTRUCTIONS-clause-wrong :
+    goal.returns-then-code_size-gt-MAX_INSTRUCTIONS-clause-wrong
+returns-then-code_size-gt-MAX_INSTRUCTIONS-clause-wrong c =
+    told-means c.args.file.now (length c.args.file.now) c.refusal_of_large_code.result
+    (large c (known (goal.at.returns-then-code_size-gt-MAX_INSTRUCTIONS-clause-wrong c).In_ok-grammar))
 
 -- the fault of the check is a refusal of the file
 no_check : (c : After-from_check) → Known c.args.file.now (rules_in c.in_ok-grammar.grammar)

@@ -1,6 +1,6 @@
 use Rattle.std.proofs.Common.{◌≡◌, ◌≤◌, List, ℕ, Result, Ok, Err, IfOk}
 use Rattle.std.proofs.lemmas.Result.{on_ok_weaker}
-use Rattle.std.specs.FinMap.{len, len-empty}
+use Rattle.std.specs.FinMap.{len-empty}
 use Rattle.peg_semantics.specs.Rules.{name_of}
 use Rattle.peg_grammar.specs.Outcomes.{IsParseOutcome}
 use Rattle.peg_machine.specs.CoreOutcome.{saturated}

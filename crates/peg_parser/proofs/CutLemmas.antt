@@ -1,0 +1,72 @@
+-- The refusal of a grammar with too much code, from the check of the grammar with cut counts.
+use Rattle.std.proofs.Common.{◌≡◌, inl, inr, ℕ, List, All, Some, length, map, refl, subst, sym, ap, ◌∙◌, arith}
+use Rattle.std.proofs.lemmas.List.{length-map}
+use Rattle.peg_bytes.specs.Extent.{extent}
+use Rattle.peg_check.specs.Verdicts.{IsIllFormedBy, NamesRules}
+use Rattle.peg_check.specs.declared.fault.CheckFault.{CheckFault}
+use Rattle.peg_check.specs.declared.fault.CheckFault.TheVariants as check
+use Rattle.peg_grammar.specs.GrammarRules.{rules_in}
+use Rattle.peg_grammar.specs.declared.grammar.Grammar.{Grammar}
+use Rattle.peg_notation.specs.Spans.{RuleLiesIn}
+use Rattle.peg_semantics.specs.CutCounts.{cut_rule, cut_rules}
+use Rattle.peg_semantics.specs.Rules.{Rule, names}
+use Rattle.peg_semantics.proofs.CutGrammar.{names-cut}
+use Rattle.peg_semantics.proofs.CutWellFormed.{well_formed-cut, empty_loop-cut, empty_loop-uncut, left_cycle-uncut}
+use Rattle.peg_tree.specs.Names.{name_at}
+use Rattle.peg_parser.specs.Accepts.{IsRead, IsAcceptedGrammar}
+use Rattle.peg_parser.specs.Cause.{EmptyLoop, LeftRecursion, reference}
+use Rattle.peg_parser.specs.Faults.{from_check, HasCause, out_of_memory, of_cause}
+use Rattle.peg_parser.specs.Refusals.{IsIllFormed, IsRefusalOf, empty_loop, left_recursion}
+use Rattle.peg_parser.proofs.CheckLemmas.{loop-inside}
+use Rattle.peg_parser.proofs.RuleNames.{name-numbered, names-of-path}
+
+-- a fault of the rules with cut counts is one of the rules
+pub ill_formed-uncut : (rules : List Rule) (why : CheckFault) → IsIllFormedBy (cut_rules rules) why
+    → IsIllFormedBy rules why
+ill_formed-uncut rules (check.EmptyLoop number span) ill =
+    (λ formed. ill.0 (well_formed-cut rules formed), empty_loop-uncut rules number (extent span) ill.1)
+ill_formed-uncut rules (check.LeftRecursion path) ill = (
+  λ formed. ill.0 (well_formed-cut rules formed),
+  λ number span loop. ill.1 number span (empty_loop-cut rules number span loop),
+  left_cycle-uncut rules path.items ill.2,
+  ill.3,
+)
+ill_formed-uncut rules check.Memory ill = tt
+
+-- the numbers in a fault of the rules with cut counts are those of rules
+named-uncut : (rules : List Rule) (why : CheckFault) → NamesRules (length (cut_rules rules)) why
+    → NamesRules (length rules) why
+named-uncut rules why named = subst (λ (n : ℕ). NamesRules n why) (length-map rules cut_rule) named
+
+-- the cause of a fault of the check, for a grammar with the names of these rules
+told-named : (file : List ℕ) (rules : List Rule) (grammar : Grammar) (why : CheckFault)
+    → names (rules_in grammar) ≡ names rules → IsIllFormedBy rules why → NamesRules (length rules) why
+    → IsRead file rules → IsAcceptedGrammar rules → All (RuleLiesIn (length file)) rules
+    → HasCause (IsRefusalOf file) (length file) (from_check why grammar)
+told-named file rules grammar (check.EmptyLoop number span) same ill named read taken inside =
+    let lies = loop-inside (length file) rules number (extent span) inside ill.1 in
+    let named_too = subst (λ (l : List (List ℕ)). NamesRules (length l) (check.EmptyLoop number span)) (sym same)
+    (subst (λ (n : ℕ). NamesRules n (check.EmptyLoop number span)) (sym (length-map rules (λ (rule : Rule). rule.name))) named) in
+    of_cause (EmptyLoop (reference (name_at (names rules) number) (extent span)))
+    (ap (λ (l : List (List ℕ)). Some (EmptyLoop (reference (name_at l number) (extent span)))) same)
+    (inr (inl (subst (λ (name : List ℕ). IsIllFormed file (EmptyLoop (reference name (extent span))))
+    (sym (name-numbered rules number named)) (empty_loop number (extent span) read taken ill.0 ill.1))))
+    (omega (arith, lies.0, lies.1)) named_too
+told-named file rules grammar (check.LeftRecursion path) same ill named read taken inside =
+    let named_too = subst (λ (l : List (List ℕ)). NamesRules (length l) (check.LeftRecursion path)) (sym same)
+    (subst (λ (n : ℕ). NamesRules n (check.LeftRecursion path)) (sym (length-map rules (λ (rule : Rule). rule.name))) named) in
+    of_cause (LeftRecursion (map (name_at (names rules)) path.items))
+    (ap (λ (l : List (List ℕ)). Some (LeftRecursion (map (name_at l) path.items))) same)
+    (inr (inl (subst (λ (l : List (List ℕ)). IsIllFormed file (LeftRecursion l))
+    (sym (names-of-path rules path.items named)) (left_recursion path.items read taken ill.0 ill.1 ill.2 ill.3)))) tt
+    named_too
+told-named file rules grammar check.Memory same ill named read taken inside = out_of_memory refl
+
+-- the cause of a fault of the check, for the grammar with cut counts
+pub told-cut : (file : List ℕ) (rules : List Rule) (grammar : Grammar) (why : CheckFault)
+    → rules_in grammar ≡ cut_rules rules → IsIllFormedBy (cut_rules rules) why
+    → NamesRules (length (cut_rules rules)) why → IsRead file rules → IsAcceptedGrammar rules
+    → All (RuleLiesIn (length file)) rules → HasCause (IsRefusalOf file) (length file) (from_check why grammar)
+told-cut file rules grammar why cut ill named read taken inside =
+    told-named file rules grammar why (ap names cut ∙ names-cut rules) (ill_formed-uncut rules why ill)
+    (named-uncut rules why named) read taken inside
