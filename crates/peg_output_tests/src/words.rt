@@ -178,7 +178,7 @@ fn help_is_printed(rt: HostRuntime) -> Result<(), Fail> {
         ("parse --help", "--memo 0 never uses it"),
         (
             "parse --help",
-            "StepLimit, which needs\na greater --steps or --memo",
+            "StepLimit, which needs a greater --steps or --memo",
         ),
         (
             "parse --help",
