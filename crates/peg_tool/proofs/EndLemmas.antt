@@ -11,7 +11,6 @@ use Rattle.peg_tool.specs.WritesReply.{WritesReply, WritesLine, tool_result}
 use Rattle.peg_tool.specs.Written.{Prints, PrintsInPart}
 use Rattle.peg_tool.specs.declared.write.CommandFault.{CommandFault}
 use Rattle.peg_tool.specs.declared.write.CommandFault.TheVariants as command
-use Rattle.peg_tool.specs.declared.write.ToolFault.{ToolFault}
 use Rattle.peg_tool.specs.declared.write.ToolFault.TheVariants as tool
 
 -- ---- commands
