@@ -1,8 +1,9 @@
 #!/usr/bin/env bash
-# Runs the built program over each grammar of examples/ (its table, its check, its code, and each of its texts, from
-# files and as one input) and over faulty inputs, and compares the exit statuses. Then runs the scripts of examples/ that
-# read the program's output, and compares what they print. A text whose name begins with `match` must match (status 0),
-# one with `no_match` must fail (status 1). The argument is the program, by default the one that `make run` builds.
+# Runs the built program over each grammar of examples/ (its table, its check, its code, its warnings, and each of its
+# texts, from files and as one input) and over faulty inputs, and compares the exit statuses. Then runs the scripts of
+# examples/ that read the program's output, and compares what they print. A text whose name begins with `match` must
+# match (status 0), one with `no_match` must fail (status 1). The argument is the program, by default the one that `make
+# run` builds.
 set -u
 here=$(dirname "$0")
 program=$(realpath -- "${1:-$here/../crates/pegtool/out/pegtool}")
@@ -118,11 +119,27 @@ grep -q '"refusal":"TooDeep"' "$folder/line" || fault "no tree of 101 levels wit
 # A refused grammar, of which the text is opened and not read.
 printf 'A <- A\n' > "$folder/refused.peg"
 run 2 /dev/null check "$folder/refused.peg"
+cp "$folder/line" "$folder/checked"
 run 0 /dev/null table "$folder/refused.peg"
 run 2 /dev/null code "$folder/refused.peg"
+run 2 /dev/null lint "$folder/refused.peg"
+cmp -s "$folder/line" "$folder/checked" || fault "not the line of a check: lint"
 run 2 /dev/null parse "$folder/refused.peg" "$folder/text"
 run 2 /dev/null parse "$folder/refused.peg" "$folder"
 file_fault parse "$folder/refused.peg" "$folder/missing"
+
+# Warnings: none about the examples, and each kind once about the mistakes.
+for grammar in *.peg cookbook/*.peg lint/fixed.peg; do
+  run 0 /dev/null lint "$grammar"
+  is_json lint "$grammar"
+  [ "$(cat "$folder/line")" = '{"warnings":[]}' ] || fault "warnings about $grammar"
+done
+run 1 /dev/null lint lint/mistakes.peg
+is_json lint lint/mistakes.peg
+kinds=$(grep -o '"kind":"[A-Za-z]*"' "$folder/line" | sort | cut -d '"' -f 4 | tr '\n' ' ')
+[ "$kinds" = "AlwaysFails NeverMatches NeverStops NeverTried NoEffect SameAlternative Shadowed UnusedRule " ] \
+  || fault "not each kind of warning once: $kinds"
+run 3 /dev/null lint lint/fixed.peg --start None
 
 # Words that are no command line.
 for words in "parse json.peg" "parse json.peg text --memo 1000001" "parse json.peg text --memo -1" \
@@ -140,7 +157,7 @@ run 0 /dev/null parse --help
 mkdir "$folder/own"
 printf "List <- Value (',' Value)*\nValue <- [a-z]+\n" > "$folder/own/grammar.peg"
 printf 'ab,c' > "$folder/own/text"
-for words in "--help" "check --help" "table --help" "code --help" "parse --help"; do
+for words in "--help" "check --help" "table --help" "code --help" "lint --help" "parse --help"; do
   # shellcheck disable=SC2086
   run 0 /dev/null $words
   example=$(sed -n 's/^Example: pegtool //p' "$folder/line")

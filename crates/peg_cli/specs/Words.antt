@@ -1,7 +1,7 @@
 -- What the command line arguments request.
 use Rattle.std.specs.Prelude.{◌≤◌, IfSome}
 use Rattle.peg_cli.specs.declared.words.Words.{Words}
-use Rattle.peg_cli.specs.declared.words.Words.TheVariants.{Joined, Help, Table, Check, Code, Parse}
+use Rattle.peg_cli.specs.declared.words.Words.TheVariants.{Joined, Help, Table, Check, Code, Lint, Parse}
 
 -- The arguments request a command or help. In a parse the memo has at most 1,000,000 entries, and a step limit is from
 -- 1 to 1,000,000,000,000.
@@ -11,5 +11,6 @@ IsAsking (Help text) = Unit {0}
 IsAsking (Table g) = Unit {0}
 IsAsking (Check g) = Unit {0}
 IsAsking (Code g) = Unit {0}
+IsAsking (Lint g start proved) = Unit {0}
 IsAsking (Parse g t start memo steps all rows) =
     (memo ≤ 1000000) × IfSome steps (λ max_steps. (1 ≤ max_steps) × (max_steps ≤ 1000000000000))

@@ -13,6 +13,7 @@ pub(crate) fn program<'a>(alloc: Global) -> Result<Command<'a>, AllocError> {
     let check = check(alloc)?;
     let table = table(alloc)?;
     let code = code(alloc)?;
+    let lint = lint(alloc)?;
     let parse = parse(alloc)?;
     Command::new(alloc, "pegtool")
         .about("Parses texts by parsing expression grammars (Ford, POPL 2004)")
@@ -23,6 +24,7 @@ pub(crate) fn program<'a>(alloc: Global) -> Result<Command<'a>, AllocError> {
         .subcommand(check)?
         .subcommand(table)?
         .subcommand(code)?
+        .subcommand(lint)?
         .subcommand(parse)?
         .bin_name("pegtool")
 }
@@ -48,6 +50,15 @@ fn code<'a>(alloc: Global) -> Result<Command<'a>, AllocError> {
         .about("Prints the instructions that the parsing machine runs for a grammar")
         .after_help(CODE_NOTES)
         .arg(grammar_file(alloc))
+}
+
+fn lint<'a>(alloc: Global) -> Result<Command<'a>, AllocError> {
+    Command::new(alloc, "lint")
+        .about("Prints warnings about a grammar, each of them proved")
+        .after_help(LINT_NOTES)
+        .arg(grammar_file(alloc))?
+        .arg(start_option(alloc))?
+        .arg(proved_flag(alloc))
 }
 
 fn parse<'a>(alloc: Global) -> Result<Command<'a>, AllocError> {
@@ -115,14 +126,21 @@ fn rows_flag<'a>(alloc: Global) -> Arg<'a> {
         .help("Prints the tree as a list of nodes [level, rule, start, end], of any depth")
 }
 
+fn proved_flag<'a>(alloc: Global) -> Arg<'a> {
+    Arg::new(alloc, "proved")
+        .long("proved")
+        .action(ArgAction::SetTrue)
+        .help("Prints only warnings that are proved; at present all of them are")
+}
+
 // The text after the program's help.
 const PROGRAM_NOTES: &str = "\
 Without arguments, pegtool reads standard input: a grammar file, a line `%%` and
 a text. It parses the text by the grammar's first rule.
 
 A run with an answer or a refusal prints one line of JSON. The exit status is:
-  0  success: matched, accepted, printed, or help
-  1  no match, or a partial match under --all
+  0  success: matched, accepted, printed, no warnings, or help
+  1  no match, a partial match under --all, or warnings of `lint`
   2  the grammar is refused
   3  wrong arguments, or an unknown start rule
   4  a file can't be opened or read, or the output can't be written
@@ -170,6 +188,19 @@ Status: 0 printed; 2 the grammar is refused; 3 wrong arguments; 4 a file can't b
 opened or read, or the output can't be written; 5 out of memory.
 
 Example: pegtool code grammar.peg";
+
+// The text after the help of `lint`.
+const LINT_NOTES: &str = "\
+Prints one line of JSON: the warnings in the order of the file, each with its kind,
+its rule, its span, and the line and column where it starts. Each warning is true
+of every text: an alternative is never tried, an expression never matches, an
+operator has no effect, and others.
+
+Status: 0 no warnings; 1 warnings; 2 the grammar is refused; 3 wrong arguments, or
+an unknown start rule; 4 a file can't be opened or read, or the output can't be
+written; 5 out of memory.
+
+Example: pegtool lint grammar.peg --start Value";
 
 // The text after the help of `parse`.
 const PARSE_NOTES: &str = "\

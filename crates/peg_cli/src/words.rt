@@ -29,6 +29,13 @@ pub enum Words {
     Code {
         g: String,
     },
+    /// Print the warnings about grammar file `g` for texts that are parsed from rule `start`. With `proved`, only those
+    /// that are proved.
+    Lint {
+        g: String,
+        start: Option<String>,
+        proved: bool,
+    },
     /// Parse text file `t` by grammar file `g`. The other fields are those of `Command::Parse` and `ParseOptions`.
     Parse {
         g: String,
@@ -89,12 +96,23 @@ fn command_of(alloc: Global, matches: &ArgMatches<'_>) -> Result<Words, WordsFau
         Some(("code", words)) => Ok(Words::Code {
             g: file_name(alloc, words, "G")?,
         }),
+        Some(("lint", words)) => lint_of(alloc, words),
         Some(("parse", words)) => parse_of(alloc, words),
         Some((_, words)) => Ok(Words::Table {
             g: file_name(alloc, words, "G")?,
         }),
         None => Err(internal_usage_error(alloc)),
     }
+}
+
+fn lint_of(alloc: Global, matches: &ArgMatches<'_>) -> Result<Words, WordsFault>
+    ensures { IfOk result IsAsking }
+{
+    Ok(Words::Lint {
+        g: file_name(alloc, matches, "G")?,
+        start: start_name(alloc, matches)?,
+        proved: matches.get_flag("proved"),
+    })
 }
 
 fn parse_of(alloc: Global, matches: &ArgMatches<'_>) -> Result<Words, WordsFault>
@@ -188,6 +206,7 @@ fn hint_for(first: &str) -> &'static str {
         "check" => "For this command: pegtool check --help\n",
         "table" => "For this command: pegtool table --help\n",
         "code" => "For this command: pegtool code --help\n",
+        "lint" => "For this command: pegtool lint --help\n",
         "parse" => "For this command: pegtool parse --help\n",
         _ => "To parse a text T by a grammar file G: pegtool parse G T\n",
     }

@@ -8,6 +8,8 @@ mod code;
 #[cfg(test)]
 mod joined;
 #[cfg(test)]
+mod lint;
+#[cfg(test)]
 mod outcomes;
 #[cfg(test)]
 mod tool;

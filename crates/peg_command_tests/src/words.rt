@@ -81,6 +81,17 @@ fn commands_have_their_lines(rt: HostRuntime) -> Result<(), Fail> {
             "{\"at\":3,\"column\":4,\"line\":1,\"refusal\":\"Syntax\"}\n",
             2,
         ),
+        ("lint line", "{\"warnings\":[]}\n", 0),
+        (
+            "lint short --proved --start T",
+            "{\"warnings\":[{\"column\":6,\"end\":10,\"kind\":\"UnusedRule\",\"line\":1,\"proved\":true,\"rule\":\"S\",\"start\":5}]}\n",
+            1,
+        ),
+        (
+            "lint short --start U",
+            "{\"name\":\"U\",\"refusal\":\"NoSuchStart\"}\n",
+            3,
+        ),
         (
             "parse line aab",
             "{\"consumed\":3,\"expected\":[[5,8]],\"far\":2,\"result\":\"matched\",\"tree\":{\"children\":[{\"children\":[{\"children\":[],\"end\":3,\"rule\":\"S\",\"start\":2}],\"end\":3,\"rule\":\"S\",\"start\":1}],\"end\":3,\"rule\":\"S\",\"start\":0}}\n",
@@ -135,10 +146,12 @@ fn files_that_are_not_opened_are_faults(rt: HostRuntime) -> Result<(), Fail> {
         ("table nowhere", ProgramFault::File),
         ("check nowhere", ProgramFault::File),
         ("code nowhere", ProgramFault::File),
+        ("lint nowhere", ProgramFault::File),
         ("parse nowhere aab", ProgramFault::File),
         ("parse line nowhere", ProgramFault::File),
         ("parse aab nowhere", ProgramFault::File),
         ("check vast", ProgramFault::Memory),
+        ("lint vast --start S", ProgramFault::Memory),
         ("parse line vast", ProgramFault::Memory),
     ];
     for (text, fault) in cases {

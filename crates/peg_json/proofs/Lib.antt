@@ -1,6 +1,8 @@
 mod AnswerLemmas
 mod CodeLemmas
+mod LintLemmas
 pub mod ParseLemmas
+mod PositionLemmas
 pub mod PrintLemmas
 mod RefusalLemmas
 mod RefusedLines

@@ -12,6 +12,8 @@ pub use Rattle.peg_semantics.specs.Starts
 pub use Rattle.peg_semantics.specs.Terminals
 pub use Rattle.peg_grammar.specs.GrammarRules
 pub use Rattle.peg_grammar.specs.Limits
+pub use Rattle.peg_lint.specs.Never
+pub use Rattle.peg_lint.specs.Warnings
 pub use Rattle.peg_parser.specs.Cause
 pub use Rattle.peg_parser.specs.Faults
 pub use Rattle.peg_parser.specs.Fits
@@ -26,7 +28,10 @@ pub mod CauseText
 pub mod CodeText
 pub mod FaultCauses
 pub mod Lines
+pub mod LintText
+pub mod Lints
 pub mod Parses
+pub mod Positions
 pub mod Reply
 pub mod RowsHead
 pub mod Sending

@@ -10,15 +10,17 @@ use Rattle.peg_semantics.specs.AbstractOutcomes.{Can}
 use Rattle.peg_tree.specs.Trees.{Trees}
 use Rattle.peg_tree.specs.Json.{nested_data, rows_data}
 use Rattle.peg_code.specs.Instructions.{Instruction}
+use Rattle.peg_lint.specs.declared.warning.Warning.{Warning}
 use Rattle.peg_parser.specs.Cause.{Cause}
 use Rattle.peg_json.specs.CauseText.{cause_data, cause_status}
 use Rattle.peg_json.specs.CodeText.{code_data}
+use Rattle.peg_json.specs.LintText.{lint_data, status_of_warnings}
 use Rattle.peg_json.specs.TableText.{table_data}
 use Rattle.peg_json.specs.declared.tree_form.TreeForm.{TreeForm}
 use Rattle.peg_json.specs.declared.tree_form.TreeForm.TheVariants.{Nested, Rows}
 
 -- A reply of the tool: a refusal, a table of outcomes with the rules' names, or the number of rules of an accepted
--- grammar. Others are the code with the entry of each rule, a failure, and a match.
+-- grammar. Others are the code with the entry of each rule, the rules' names with warnings, a failure, and a match.
 --
 -- A failure is the furthest failure: a position of the text, and the spans of terminals in the grammar file. A match
 -- adds to these its end, the rules' names and the tree with its printed form. `partial` is a match shorter than asked
@@ -28,16 +30,18 @@ pub data Reply : Type 0 where
   Tabled : (names : List (List ℕ)) → (cans : List Can) → Reply
   Accepted : (rules : ℕ) → Reply
   Coded : (code : List Instruction) → (entries : List ℕ) → Reply
+  Linted : (names : List (List ℕ)) → List Warning → Reply
   Failed : (far : ℕ) → (expected : List Extent) → Reply
   Matched : (partial : Bool) → TreeForm → (end far : ℕ) → (expected : List Extent) → (names : List (List ℕ))
       → (tree : Trees) → Reply
 
--- the exit status of a reply: 0 success, 1 a failed or partial match, otherwise that of the refusal
+-- the exit status of a reply: 0 success, 1 a failed or partial match or warnings, otherwise that of the refusal
 abbrev pub status_of : Reply → ℕ
 status_of (Refused cause) = cause_status cause
 status_of (Tabled names cans) = 0
 status_of (Accepted rules) = 0
 status_of (Coded code entries) = 0
+status_of (Linted names warnings) = status_of_warnings warnings
 status_of (Failed far expected) = 1
 status_of (Matched partial form end far expected names tree) = if partial then 1 else 0
 
@@ -90,6 +94,7 @@ printed file (Refused cause) = cause_data file cause
 printed file (Tabled names cans) = table_data names cans
 printed file (Accepted rules) = accepted_data rules
 printed file (Coded code entries) = code_data code entries
+printed file (Linted names warnings) = lint_data file names warnings
 printed file (Failed far expected) = failed_data far expected
 printed file (Matched partial form end far expected names tree) =
     matched_data partial end far expected (tree_member form names tree)

@@ -62,8 +62,8 @@ fn serialize_spans<S: Serializer>(
     out.end_seq()
 }
 
-// Serializes a span as the pair of its start and its end.
-fn serialize_span<S: Serializer>(span: Span, out: &mut S) -> Result<(), S::Error>
+/// Serializes a span as the pair of its start and its end.
+pub(crate) fn serialize_span<S: Serializer>(span: Span, out: &mut S) -> Result<(), S::Error>
     ensures { OnOk result (SendsValue (extent_data (extent span)) (S.written out.old) (S.written out.new)) }
 {
     out.begin_seq(Some(2))?;

@@ -1,4 +1,4 @@
-//! Replies: the line of JSON and the exit status for an answer, a refusal, a table, code or an accepted grammar.
+//! Replies: the line of JSON and the exit status for an answer, a refusal, a table, code, warnings or an accepted grammar.
 #![tactic(auto)]
 
 mod answer_object;
@@ -9,6 +9,8 @@ mod expected_spans;
 mod fault;
 mod line;
 mod lines;
+mod lint_text;
+mod positions;
 mod refusal_text;
 mod row_lines;
 mod status;
@@ -21,9 +23,10 @@ pub use code_text::code_json;
 pub use fault::Fault;
 pub use line::{Line, Tail};
 pub use lines::{
-    accepted_line, answer_line, code_line, long_text_line, no_start_line, refused_line,
+    accepted_line, answer_line, code_line, lint_line, long_text_line, no_start_line, refused_line,
     step_limit_line, table_line,
 };
+pub use lint_text::lint_json;
 pub use refusal_text::refusal_json;
 pub use status::Status;
 pub use table_text::table_json;

@@ -13,8 +13,9 @@ ghost use Rattle.peg_parser.specs.Parser.{parser_rules};
 ghost use Rattle.peg_json.specs.CauseText.{cause_status};
 ghost use Rattle.peg_json.specs.FaultCauses.{FaultNames, fault_cause};
 ghost use Rattle.peg_json.specs.Lines.{IsLineOf, IsReply, line_bytes};
+ghost use Rattle.peg_json.specs.LintText.{status_of_warnings};
 ghost use Rattle.peg_json.specs.Parses.{PrintsOutcome};
-ghost use Rattle.peg_json.specs.Reply.{Accepted, Coded, Refused, Tabled, accepted_data};
+ghost use Rattle.peg_json.specs.Reply.{Accepted, Coded, Linted, Refused, Tabled, accepted_data};
 ghost use Rattle.peg_json.specs.Statuses.{status_code};
 ghost use Rattle.peg_check.specs.Exact.{cans_of};
 
@@ -22,6 +23,7 @@ use crate::answer_text::{answer_status, answer_text};
 use crate::code_text::code_json;
 use crate::fault::Fault;
 use crate::line::Line;
+use crate::lint_text::lint_json;
 use crate::refusal_text::refusal_json;
 use crate::row_lines::rows_line;
 use crate::status::Status;
@@ -31,6 +33,7 @@ use peg_check::Table;
 use peg_code::Program;
 use peg_core::Core;
 use peg_grammar::Grammar;
+use peg_lint::Warning;
 use peg_parser::{Answer, Parser, Refusal};
 use peg_tree::JsonFault;
 use serde_json::{Value, json};
@@ -87,6 +90,31 @@ pub fn code_line(alloc: Global, program: &Program) -> Result<Line, AllocError>
         IsReply file (Coded program.now.code program.now.entries) (line_bytes line) (status_code line.status)) }
 {
     Ok(Line::new(code_json(alloc, program)?, Status::Done))
+}
+
+/// Returns the line of the warnings about a grammar. `file` is the grammar file.
+pub fn lint_line(
+    alloc: Global,
+    file: &[u8],
+    grammar: &Grammar,
+    warnings: &[Warning],
+) -> Result<Line, AllocError>
+    ensures { IfOk result (λ line. IsReply file.now (Linted (names (rules_in grammar.now)) warnings.now)
+        (line_bytes line) (status_code line.status)) }
+{
+    let text = lint_json(alloc, file, grammar, warnings)?;
+    Ok(Line::new(text, lint_status(warnings)))
+}
+
+// The exit status for warnings.
+fn lint_status(warnings: &[Warning]) -> Status
+    ensures { status_code result ≡ status_of_warnings warnings.now }
+{
+    if warnings.is_empty() {
+        Status::Done
+    } else {
+        Status::Failed
+    }
 }
 
 /// Returns the line of an accepted grammar with this many rules.

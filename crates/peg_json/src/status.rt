@@ -4,9 +4,9 @@ ghost use Rattle.std.specs.Prelude.{◌≡◌};
 /// How the program ends.
 #[derive(Clone, Copy, Debug, PartialEq, Eq)]
 pub enum Status {
-    /// Matched, accepted, a table or code printed, or help.
+    /// Matched, accepted, a table or code printed, no warnings, or help.
     Done,
-    /// The parse failed, or matched only in part though the whole was asked for.
+    /// The parse failed, or matched only in part though the whole was asked for. Or there are warnings.
     Failed,
     /// The grammar is rejected.
     Refused,

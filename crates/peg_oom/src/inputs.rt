@@ -49,6 +49,12 @@ pub(crate) const TWICE: &[u8] = b"A <- B\nA <- 'x'\n";
 /// An undefined name.
 pub(crate) const MISSING: &[u8] = b"A <- B\n";
 
+/// A grammar with warnings of several kinds.
+pub(crate) const WARNED: &[u8] = b"\
+    S <- 'a' / 'ab' / T* / 'c'\n\
+    T <- 'x'+ 'x' / 'y' / 'y'\n\
+    U <- (T / 'z')?\n";
+
 /// A class without its closing bracket.
 pub(crate) const OPEN: &[u8] = b"A <- [a-]\n";
 

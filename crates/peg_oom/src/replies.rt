@@ -3,20 +3,22 @@ ghost use Rattle.std.specs.Prelude.{◌≤◌, length};
 ghost use Rattle.peg_bytes.specs.Place.{max_offset};
 
 use crate::ending::{Borrowed, report};
-use crate::inputs::{CHAIN, COUNTS, CYCLE, LOOP, MISSING, OPEN, PREFIX, TWICE};
+use crate::inputs::{CHAIN, COUNTS, CYCLE, LOOP, MISSING, OPEN, PREFIX, TWICE, WARNED, grammar};
 use crate::parsers::parser;
 use peg_check::table_of;
 use peg_core::desugar;
 use peg_json::{
-    Fault, TreeForm, accepted_line, answer_json, answer_line, code_json, code_line, long_text_line,
-    no_start_line, refusal_json, refused_line, step_limit_line, table_json, table_line,
+    Fault, TreeForm, accepted_line, answer_json, answer_line, code_json, code_line, lint_json,
+    lint_line, long_text_line, no_start_line, refusal_json, refused_line, step_limit_line,
+    table_json, table_line,
 };
+use peg_lint::warnings;
 use peg_parser::{ParseOptions, Parser, Refusal, grammar_of};
 use peg_tree::JsonFault;
 use std::alloc::{AllocError, Global};
 use std::io;
 
-pub(crate) const WORDS: [&str; 22] = [
+pub(crate) const WORDS: [&str; 25] = [
     "answer_json",
     "answer_json_rows",
     "answer_json_deep",
@@ -35,6 +37,9 @@ pub(crate) const WORDS: [&str; 22] = [
     "table_line",
     "code_json",
     "code_line",
+    "warnings",
+    "lint_json",
+    "lint_line",
     "accepted_line",
     "no_start_line",
     "long_text_line",
@@ -59,6 +64,9 @@ pub(crate) fn call(rt: &impl Print, alloc: Global, word: &str) -> Option<io::Res
         "table_line" => table_of_line(rt, alloc),
         "code_json" => code_text(rt, alloc),
         "code_line" => code_of_line(rt, alloc),
+        "warnings" => found(rt, alloc),
+        "lint_json" => lint_text(rt, alloc),
+        "lint_line" => lint_of_line(rt, alloc),
         "accepted_line" => accepted(rt, alloc),
         "no_start_line" => no_start(rt, alloc),
         "long_text_line" => long_text(rt, alloc),
@@ -185,6 +193,35 @@ fn code_of_line(rt: &impl Print, alloc: Global) -> io::Result<()> {
     let parser = parser(alloc, PREFIX)?;
     let borrowed = Borrowed::of(alloc, parser.program())?;
     let answer = code_line(alloc, parser.program());
+    report(rt, &borrowed, answer.is_err(), &answer)
+}
+
+fn found(rt: &impl Print, alloc: Global) -> io::Result<()> {
+    let grammar = grammar(alloc, WARNED)?;
+    let core = desugar(alloc, &grammar)?;
+    let borrowed = (&grammar, &core);
+    let borrowed = Borrowed::of(alloc, &borrowed)?;
+    let answer = warnings(alloc, &grammar, &core, 0);
+    report(rt, &borrowed, answer.is_err(), &answer)
+}
+
+fn lint_text(rt: &impl Print, alloc: Global) -> io::Result<()> {
+    let grammar = grammar(alloc, WARNED)?;
+    let core = desugar(alloc, &grammar)?;
+    let found = warnings(alloc, &grammar, &core, 0)?;
+    let borrowed = (WARNED, &grammar, &found);
+    let borrowed = Borrowed::of(alloc, &borrowed)?;
+    let answer = lint_json(alloc, WARNED, &grammar, &found);
+    report(rt, &borrowed, answer.is_err(), &answer)
+}
+
+fn lint_of_line(rt: &impl Print, alloc: Global) -> io::Result<()> {
+    let grammar = grammar(alloc, WARNED)?;
+    let core = desugar(alloc, &grammar)?;
+    let found = warnings(alloc, &grammar, &core, 0)?;
+    let borrowed = (WARNED, &grammar, &found);
+    let borrowed = Borrowed::of(alloc, &borrowed)?;
+    let answer = lint_line(alloc, WARNED, &grammar, &found);
     report(rt, &borrowed, answer.is_err(), &answer)
 }
 

@@ -2,7 +2,7 @@
 ghost use Rattle.std.specs.Prelude.{None};
 
 use crate::ending::{Borrowed, report};
-use crate::inputs::{CHAIN, COUNTS, CYCLE, LOOP, MISSING, OPEN, PREFIX, TWICE};
+use crate::inputs::{CHAIN, COUNTS, CYCLE, LOOP, MISSING, OPEN, PREFIX, TWICE, WARNED};
 use peg_io::{ReadFault, read_up_to};
 use peg_tool::{
     Command, Device, OpenFault, Opener, ParseOptions, ProgramFault, Words, WordsFault, read_words,
@@ -11,7 +11,7 @@ use peg_tool::{
 use std::alloc::{AllocError, Global};
 use std::io;
 
-pub(crate) const WORDS: [&str; 20] = [
+pub(crate) const WORDS: [&str; 24] = [
     "read_up_to",
     "read_words",
     "read_words_help",
@@ -25,12 +25,16 @@ pub(crate) const WORDS: [&str; 20] = [
     "tool_check_missing",
     "tool_check_open",
     "tool_code",
+    "tool_lint",
+    "tool_lint_no_start",
+    "tool_lint_open",
     "tool_parse",
     "tool_parse_rows",
     "tool_parse_no_start",
     "joined",
     "joined_open",
     "words_joined",
+    "words_lint",
     "words_parse",
 ];
 
@@ -44,6 +48,9 @@ const MEMORY: u8 = 5;
 pub(crate) fn call(rt: &impl Print, alloc: Global, word: &str) -> Option<io::Result<()>> {
     if word.starts_with("tool_check") {
         return checked(rt, alloc, word);
+    }
+    if word.starts_with("tool_lint") {
+        return linted(rt, alloc, word);
     }
     if word.starts_with("tool_parse") {
         return parsed(rt, alloc, word);
@@ -59,6 +66,7 @@ pub(crate) fn call(rt: &impl Print, alloc: Global, word: &str) -> Option<io::Res
         "joined" => joined(rt, alloc, b"S <- 'a' S / 'b'\n%%\naab"),
         "joined_open" => joined(rt, alloc, b"A <- [a-]\n%%\naab"),
         "words_joined" => led(rt, alloc, ""),
+        "words_lint" => led(rt, alloc, "lint chain --start S --proved"),
         "words_parse" => led(rt, alloc, "parse chain aab --rows"),
         _ => return None,
     };
@@ -76,6 +84,16 @@ fn checked(rt: &impl Print, alloc: Global, word: &str) -> Option<io::Result<()>>
         _ => return None,
     };
     Some(tool(rt, alloc, file, b"", &Command::Check))
+}
+
+fn linted(rt: &impl Print, alloc: Global, word: &str) -> Option<io::Result<()>> {
+    let (file, start) = match word {
+        "tool_lint" => (WARNED, None),
+        "tool_lint_no_start" => (WARNED, Some("B")),
+        "tool_lint_open" => (OPEN, None),
+        _ => return None,
+    };
+    Some(tool(rt, alloc, file, b"", &Command::Lint { start }))
 }
 
 fn parsed(rt: &impl Print, alloc: Global, word: &str) -> Option<io::Result<()>> {

@@ -6,6 +6,8 @@ mod answers;
 #[cfg(test)]
 mod code;
 #[cfg(test)]
+mod lint;
+#[cfg(test)]
 mod refusals;
 #[cfg(test)]
 mod rows;

@@ -53,6 +53,26 @@ fn check_has_its_file(rt: HostRuntime) -> Result<(), Fail> {
     Ok(())
 }
 
+#[test]
+fn lint_has_its_options(rt: HostRuntime) -> Result<(), Fail> {
+    let alloc = rt.alloc();
+    let cases = [
+        ("lint g", None, false),
+        ("lint g --proved", None, true),
+        ("lint --start Value g", Some("Value"), false),
+        ("lint g --start -a --proved", Some("-a"), true),
+    ];
+    for (line, name, proved) in cases {
+        let start = match name {
+            Some(name) => Some(String::from_str(alloc, name)?),
+            None => None,
+        };
+        let g = String::from_str(alloc, "g")?;
+        asks(&rt, alloc, line, &Words::Lint { g, start, proved })?;
+    }
+    Ok(())
+}
+
 // Checks the command that a text of arguments, separated by spaces, denotes.
 fn asks(rt: &impl Abort, alloc: Global, line: &str, expected: &Words) -> Result<(), Fail> {
     let words: Vec<&str> = line.split(' ').collect(alloc)?;
@@ -172,6 +192,12 @@ fn help_is_printed(rt: HostRuntime) -> Result<(), Fail> {
         ("table --help", "Example: pegtool table grammar.peg"),
         ("code --help", "Usage: pegtool code <G>"),
         ("code --help", "Example: pegtool code grammar.peg"),
+        ("lint --help", "Usage: pegtool lint [OPTIONS] <G>"),
+        ("lint --help", "--proved"),
+        (
+            "lint --help",
+            "Example: pegtool lint grammar.peg --start Value",
+        ),
         ("parse --help", "Usage: pegtool parse [OPTIONS] <G> <T>"),
         ("parse --help", "[default: 4096]"),
         ("parse --help", "--steps <N>"),
@@ -208,6 +234,10 @@ fn what_is_no_command_line_is_refused(rt: HostRuntime) -> Result<(), Fail> {
         ("table x y", "unexpected argument 'y'"),
         ("table --all x", "unexpected argument '--all'"),
         ("code", "<G>"),
+        ("lint", "<G>"),
+        ("lint x y", "unexpected argument 'y'"),
+        ("lint x --all", "unexpected argument '--all'"),
+        ("lint x --start", "a value is required for '--start <NAME>'"),
         ("--start", "unexpected argument '--start'"),
         ("help", "unrecognized subcommand 'help'"),
         ("parse g", "<T>"),
@@ -248,6 +278,7 @@ fn faults_point_at_the_command_that_was_meant(rt: HostRuntime) -> Result<(), Fai
         ("check", "pegtool check --help"),
         ("table x y", "pegtool table --help"),
         ("code --all x", "pegtool code --help"),
+        ("lint", "pegtool lint --help"),
         ("parse g", "pegtool parse --help"),
         ("g.peg text", "pegtool parse G T"),
         ("--rows g t", "pegtool parse G T"),

@@ -1,5 +1,6 @@
 mod EndLemmas
 mod JudgeLemmas
+mod LintLemmas
 mod ParsedLines
 mod ProgramLemmas
 mod RunLemmas

@@ -21,8 +21,8 @@ use Rattle.peg_json.specs.Statuses.{status_code}
 use Rattle.peg_json.specs.declared.tree_form.TreeForm.{TreeForm}
 use Rattle.peg_json.specs.declared.line.Line.{Line}
 use Rattle.peg_tool.specs.Replies.{RepliesTo, IsPrinted, IsPrintedJoined, max_joined_bytes, refused_grammar, tabled, refused_form}
-use Rattle.peg_tool.specs.Replies.{too_large, accepted, coded, parsed}
-use Rattle.peg_tool.specs.Task.{ToolTask, TableTask, CheckTask, CodeTask, ParseTask, IsTextOf, default_task}
+use Rattle.peg_tool.specs.Replies.{too_large, accepted, coded, linted, parsed}
+use Rattle.peg_tool.specs.Task.{ToolTask, TableTask, CheckTask, CodeTask, LintTask, ParseTask, IsTextOf, default_task}
 
 -- ---- texts over the limit
 
@@ -54,6 +54,7 @@ RepliesTo-longer file text more task reply long longer (refused_form checks is) 
 RepliesTo-longer file text more task reply long longer (too_large checks is) = too_large checks is
 RepliesTo-longer file text more task reply long longer (accepted accepts) = accepted accepts
 RepliesTo-longer file text more task reply long longer (coded accepts) = coded accepts
+RepliesTo-longer file text more task reply long longer (linted accepts is) = linted accepts is
 RepliesTo-longer file text more task reply long longer (parsed {rules} {start} {steps} {all} {form} accepts is) =
     parsed accepts (ParsesTo-longer rules text more start steps all form reply long longer is)
 
@@ -82,6 +83,7 @@ over-reply file text task reply long (too_large checks (code_too_large read take
     absurd (omega (arith, long, read.within))
 over-reply file text task reply long (accepted accepts) = absurd (omega (arith, long, accepts.read.within))
 over-reply file text task reply long (coded accepts) = absurd (omega (arith, long, accepts.read.within))
+over-reply file text task reply long (linted accepts is) = absurd (omega (arith, long, accepts.read.within))
 over-reply file text task reply long (parsed accepts is) = absurd (omega (arith, long, accepts.read.within))
 
 -- all files over the limit have the same printed replies
@@ -227,6 +229,7 @@ any_text : (task : ToolTask) (text : Option (List ℕ)) (file bytes : List ℕ) 
 any_text TableTask text file bytes long = tt
 any_text CheckTask text file bytes long = tt
 any_text CodeTask text file bytes long = tt
+any_text (LintTask start) text file bytes long = tt
 any_text (ParseTask start steps all form) text file bytes long =
     λ rules accepts. absurd (omega (arith, long, accepts.read.within))
 

@@ -7,11 +7,14 @@ pub use Rattle.peg_grammar.specs.GrammarRules
 pub use Rattle.peg_grammar.specs.Limits
 pub use Rattle.peg_io.specs.Split
 pub use Rattle.peg_io.specs.Transfer
+pub use Rattle.peg_lint.specs.Never
+pub use Rattle.peg_lint.specs.Warnings
 pub use Rattle.peg_parser.specs.Accepts
 pub use Rattle.peg_parser.specs.Cause
 pub use Rattle.peg_parser.specs.Parser
 pub use Rattle.peg_parser.specs.Refusals
 pub use Rattle.peg_json.specs.Lines
+pub use Rattle.peg_json.specs.Lints
 pub use Rattle.peg_json.specs.Parses
 pub use Rattle.peg_json.specs.Reply
 pub use Rattle.peg_json.specs.Statuses

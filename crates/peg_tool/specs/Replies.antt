@@ -9,11 +9,12 @@ use Rattle.peg_parser.specs.Accepts.{IsRead, IsAcceptedGrammar, Accepts}
 use Rattle.peg_parser.specs.Cause.{Cause}
 use Rattle.peg_parser.specs.Refusals.{IsNoGrammar, IsIllFormed, HasTooMuchCode}
 use Rattle.peg_json.specs.Lines.{IsLineOf}
+use Rattle.peg_json.specs.Lints.{LintsTo}
 use Rattle.peg_json.specs.Parses.{ParsesTo}
 use Rattle.peg_json.specs.Reply.{Reply, Refused, Tabled, Accepted, Coded}
 use Rattle.peg_json.specs.declared.tree_form.TreeForm.{TreeForm}
 use Rattle.peg_io.specs.Split.{IsSplit}
-use Rattle.peg_tool.specs.Task.{ToolTask, TableTask, CheckTask, CodeTask, ParseTask, Checks, default_task}
+use Rattle.peg_tool.specs.Task.{ToolTask, TableTask, CheckTask, CodeTask, LintTask, ParseTask, Checks, default_task}
 
 -- the reply to a task on a grammar file and a text
 pub data RepliesTo (file text : List ℕ) : ToolTask → Reply → Type 0 where
@@ -29,6 +30,8 @@ pub data RepliesTo (file text : List ℕ) : ToolTask → Reply → Type 0 where
   accepted : {rules : List Rule} → Accepts file rules → RepliesTo file text CheckTask (Accepted (length rules))
   coded : {rules : List Rule} → Accepts file rules → RepliesTo file text CodeTask
       (Coded (program_code (core_bodies rules)) (entries_of (core_bodies rules)))
+  linted : {rules : List Rule} {start : Option (List ℕ)} {reply : Reply} → Accepts file rules
+      → LintsTo rules start reply → RepliesTo file text (LintTask start) reply
   parsed : {rules : List Rule} {start : Option (List ℕ)} {steps : Option ℕ} {all : Bool} {form : TreeForm}
       {reply : Reply} → Accepts file rules → ParsesTo rules text start steps all form reply
       → RepliesTo file text (ParseTask start steps all form) reply

@@ -10,6 +10,11 @@ pub enum Command<'a> {
     Check,
     /// Prints the code of the grammar.
     Code,
+    /// Prints the warnings about the grammar, for texts that are parsed from the rule with this name or from the first
+    /// rule.
+    Lint {
+        start: Option<&'a str>,
+    },
     /// Parses a text by a rule of the grammar. With `all`, a match of less than the whole text is reported as partial.
     /// With `rows` the tree is a list of its nodes in preorder, otherwise nested objects.
     Parse {

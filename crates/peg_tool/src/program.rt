@@ -86,6 +86,10 @@ pub fn run_words<O: Opener, I: Source, W: Sink>(
         Words::Table { g } => on_file(alloc, files, output, g, &Command::Table),
         Words::Check { g } => on_file(alloc, files, output, g, &Command::Check),
         Words::Code { g } => on_file(alloc, files, output, g, &Command::Code),
+        Words::Lint { g, start, .. } => {
+            let start = start.as_deref();
+            on_file(alloc, files, output, g, &Command::Lint { start })
+        }
         Words::Parse {
             g,
             t,

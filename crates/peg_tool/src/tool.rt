@@ -18,6 +18,7 @@ ghost use Rattle.peg_tool.specs.WritesReply.{WritesLine};
 ghost use Rattle.peg_json.specs.Lines.{line_bytes};
 
 use crate::command::Command;
+use crate::linting::lint_file;
 use crate::loading::{Loaded, check_file, code_file, load, table_file};
 use crate::parse::parse_line;
 use crate::write::{CommandFault, ToolFault, to_tool_result, write_reply};
@@ -117,6 +118,7 @@ fn line_of<G: Source, T: Source>(
         Command::Table => Ok(table_file(alloc, &file)?),
         Command::Check => Ok(check_file(alloc, &file)?),
         Command::Code => Ok(code_file(alloc, &file)?),
+        Command::Lint { start } => Ok(lint_file(alloc, &file, *start)?),
         Command::Parse { options, all, rows } => {
             let form = TreeForm::from_rows(*rows);
             parse_reply(alloc, &file, text, options, *all, form)

@@ -1,13 +1,12 @@
-use Rattle.std.proofs.Common.{◌≡◌, ◌↔◌, ◌∙◌, Err, ap, subst, sym, string_bytes}
+use Rattle.std.proofs.Common.{◌≡◌, ◌∙◌, ap, subst, sym, string_bytes}
 use Rattle.std.specs.Result.{IfOk}
 use Rattle.serde_json.specs.Written.{compact_text}
 use Rattle.peg_parser.specs.Parser.{parser_rules}
-use Rattle.peg_json.specs.Parses.{IsDeep, outcome_reply}
+use Rattle.peg_json.specs.Parses.{outcome_reply}
 use Rattle.peg_json.specs.Reply.{printed}
 use Rattle.peg_json.specs.TreeForms.{form_from_rows}
 use Rattle.peg_json.specs.declared.tree_form.TreeForm.{TreeForm}
 use Rattle.peg_json.proofs.ParseLemmas.{not_rows}
-use Rattle.peg_tree.specs.declared.nested.JsonFault.{JsonFault}
 use Rattle.peg_json.proofs.answer_text.answer_json.Goals as goal
 
 pub returns-clause-text : goal.returns-clause-text

@@ -1,4 +1,4 @@
-use Rattle.std.proofs.Common.{ap, map, string_bytes}
+use Rattle.std.proofs.Common.{map, string_bytes}
 use Rattle.peg_json.specs.FaultCauses.{fault_cause}
 use Rattle.peg_json.proofs.RefusedLines.{fault-reply}
 use Rattle.peg_json.proofs.lines.fault_line.Goals as goal

@@ -1,4 +1,4 @@
-use Rattle.std.proofs.Common.{ap, refl, string_bytes}
+use Rattle.std.proofs.Common.{refl, string_bytes}
 use Rattle.peg_semantics.specs.Rules.{names}
 use Rattle.peg_grammar.specs.GrammarRules.{rules_in}
 use Rattle.peg_json.specs.Reply.{Tabled}

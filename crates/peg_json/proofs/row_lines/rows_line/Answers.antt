@@ -1,4 +1,3 @@
-use Rattle.std.proofs.Common.{◌≡◌}
 use Rattle.peg_parser.specs.Parser.{parser_rules}
 use Rattle.peg_json.specs.declared.tree_form.TreeForm.TheVariants.{Rows}
 use Rattle.peg_json.proofs.PrintLemmas.{outcome-line}

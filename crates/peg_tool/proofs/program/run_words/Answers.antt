@@ -2,7 +2,7 @@ use Rattle.std.proofs.Common.{string_bytes, subst, sym, option_map}
 use Rattle.peg_json.specs.TreeForms.{form_from_rows}
 use Rattle.peg_tool.specs.CommandOutcome.{CommandOutcome}
 use Rattle.peg_tool.specs.Replies.{IsPrintedJoined}
-use Rattle.peg_tool.proofs.ProgramLemmas.{input-outcome, parse-leads}
+use Rattle.peg_tool.proofs.ProgramLemmas.{input-outcome, lint-leads, parse-leads}
 use Rattle.peg_cli.specs.declared.words.Words.{Words}
 use Rattle.peg_tool.proofs.program.run_words.Goals as goal
 
@@ -15,6 +15,17 @@ returns-in-Joined-clause-leads g c =
     subst (λ (words : Words). CommandOutcome words holds left old new c.to_program_result.result) (sym c.in-Joined.is)
     (input-outcome IsPrintedJoined left old new c.run_input.result c.to_program_result.result c.to_program_result.ensures
     c.run_input.ensures.answer)
+
+pub returns-in-Lint-clause-leads : goal.returns-in-Lint-clause-leads
+returns-in-Lint-clause-leads g c =
+    let holds = g.O.Opener.holds c.args.files.now in
+    let old = g.W.Sink.written c.args.output.now in
+    let new = g.W.Sink.written c.on_file-in-Lint.new.output in
+    subst (λ (words : Words). CommandOutcome words holds (g.I.Source.left c.args.input.now) old new c.on_file-in-Lint.result)
+    (sym c.in-Lint.is)
+    (lint-leads holds old new c.on_file-in-Lint.result c.deref-in-Lint.result.now (string_bytes c.in-Lint.g)
+    (option_map (λ name. name.now) c.as_deref-start.result) (option_map string_bytes c.in-Lint.start)
+    c.deref-in-Lint.ensures c.as_deref-start.ensures.value c.on_file-in-Lint.ensures.leads)
 
 pub returns-in-Parse-clause-leads : goal.returns-in-Parse-clause-leads
 returns-in-Parse-clause-leads g c =

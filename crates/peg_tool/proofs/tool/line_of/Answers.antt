@@ -1,4 +1,4 @@
-use Rattle.std.proofs.Common.{◌≡◌, ◌∙◌, ℕ, ◌+◌, ◌<◌, ◌≤◌, List, IfOk, length, subst, sym, ap, arith}
+use Rattle.std.proofs.Common.{◌≡◌, ◌∙◌, ℕ, ◌+◌, ◌<◌, ◌≤◌, List, IfOk, length, option_map, subst, sym, ap, arith}
 use Rattle.std.specs.Io.KnownBytes.{IsAtEnd}
 use Rattle.peg_metagrammar.specs.Notation.{max_file_bytes}
 use Rattle.peg_semantics.specs.Rules.{Rule}
@@ -8,7 +8,7 @@ use Rattle.peg_json.specs.Statuses.{status_code}
 use Rattle.peg_json.specs.declared.tree_form.TreeForm.{TreeForm}
 use Rattle.peg_tool.specs.Commands.{task_of}
 use Rattle.peg_tool.specs.Replies.{IsPrinted}
-use Rattle.peg_tool.specs.Task.{ToolTask, TableTask, CheckTask, CodeTask, ParseTask, IsTextOf}
+use Rattle.peg_tool.specs.Task.{ToolTask, TableTask, CheckTask, CodeTask, LintTask, ParseTask, IsTextOf}
 use Rattle.peg_tool.proofs.RunLemmas.{IsRightFor, line-held, reported-held, held-unaccepted}
 use Rattle.peg_tool.proofs.tool.line_of.Goals as goal
 use Rattle.peg_json.specs.Lines.{line_bytes}
@@ -61,6 +61,25 @@ returns-in-Code-clause-answer g c =
     λ bytes any. subst (λ (t : ToolTask). IsPrinted t held.items bytes line (status_code reply.status)) is
     (subst (λ (l : List ℕ). IsPrinted CodeTask l bytes line (status_code reply.status)) c.deref-in-Code.ensures.value
     (c.in_ok-code_file-in-Code.ensures bytes)) in
+    let within : length held.items ≤ max_file_bytes + 1 = omega (arith, held.ok.0, c.in_ok-file.ensures.limit) in
+    let at_end : length held.items < max_file_bytes + 1 → IsAtEnd (g.G.Source.left c.read_up_to.new.input) =
+    λ less. c.in_ok-file.ensures.end (omega (arith, held.ok.0)) in
+    line-held task text (g.G.Source.left c.args.grammar.now) (g.G.Source.left c.read_up_to.new.input) held.items line
+    (status_code reply.status) c.in_ok-file.ensures.bytes within at_end right
+
+pub returns-in-Lint-clause-answer : goal.returns-in-Lint-clause-answer
+returns-in-Lint-clause-answer g c =
+    let held = c.in_ok-file.file in
+    let reply = c.in_ok-lint_file-in-Lint.field-0 in
+    let line = line_bytes reply in
+    let text = g.T.Source.left c.args.text.now in
+    let task = task_of c.args.command.now in
+    let start = option_map (λ name. name.now) c.in-Lint.start in
+    let is : LintTask start ≡ task = sym (ap task_of c.in-Lint.is) in
+    let right : IsRightFor task text held.items line (status_code reply.status) =
+    λ bytes any. subst (λ (t : ToolTask). IsPrinted t held.items bytes line (status_code reply.status)) is
+    (subst (λ (l : List ℕ). IsPrinted (LintTask start) l bytes line (status_code reply.status)) c.deref-in-Lint.ensures.value
+    (c.in_ok-lint_file-in-Lint.ensures bytes)) in
     let within : length held.items ≤ max_file_bytes + 1 = omega (arith, held.ok.0, c.in_ok-file.ensures.limit) in
     let at_end : length held.items < max_file_bytes + 1 → IsAtEnd (g.G.Source.left c.read_up_to.new.input) =
     λ less. c.in_ok-file.ensures.end (omega (arith, held.ok.0)) in
