@@ -2,11 +2,11 @@ mod DepLemmas
 mod ChainLemmas
 mod LabelLemmas
 mod DependencyLemmas
-mod EmptyLoopLemmas
+mod FirstLoopLemmas
 mod LeftCallLemmas
 mod OutcomeLemmas
 mod OutcomeTables
-mod OwnerLemmas
+mod WrittenLoopLemmas
 mod PathLemmas
 mod Refutations
 mod MarkLemmas

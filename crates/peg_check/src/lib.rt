@@ -10,7 +10,6 @@ mod fixpoint;
 mod left_calling;
 mod loops;
 mod marks;
-mod owners;
 mod reverse_deps;
 mod search_order;
 mod shortest;

@@ -7,6 +7,7 @@ ghost use Rattle.peg_check.specs.WellFormednessDeps.{AreWellFormednessDeps};
 ghost use Rattle.peg_check.specs.Exact.{IsExactTable};
 ghost use Rattle.peg_check.specs.Dependencies.{DepFits};
 ghost use Rattle.peg_check.specs.EmptyLoops.{HasNoLoop};
+ghost use Rattle.peg_check.specs.FirstLoops.{NamesFirstCoreLoop, NamesFirstLoop, SpansNameLoops};
 ghost use Rattle.peg_check.specs.Verdicts.{AreWellFormed, AreWellFormedIn, HasEmptyLoop, HasNoEmptyLoop};
 ghost use Rattle.peg_check.specs.Verdicts.{HasNoLeftCycle, IsFaultOf, IsIllFormedBy, IsSimpleLeftCycle, NamesRules};
 ghost use Rattle.peg_check.specs.Verdicts.{NamesEmptyLoop, NamesLeftCycle};
@@ -43,10 +44,13 @@ impl Checked {
 }
 
 /// Checks that each core form is well-formed (Ford 2004, section 3.6). The error names the first empty loop in written
-/// order, where an expression comes before its parts. If there is none, it names the shortest left cycle from the
-/// smallest rule on a left cycle. Of several, it names the one with the smallest rule numbers in order. The contract
-/// promises an empty loop or a left cycle without repeated rules, not this choice. The error is `Memory` if an
-/// allocation fails.
+/// order: rules in order, an expression before its parts, and parts from left to right. If there is none, it names the
+/// shortest left cycle from the smallest rule on a left cycle. Of several, it names the one with the smallest rule
+/// numbers in order. The contract promises a left cycle without repeated rules, not this choice of cycle. The error is
+/// `Memory` if an allocation fails.
+///
+/// A loop is named by its rule and its span. That it is the first one of the rule as written is promised for rules in
+/// which no two stars or pluses have the same span. In a grammar file they never have.
 ///
 /// Takes time and memory linear in the number of forms, apart from sorting the rules that one rule left-calls.
 ///
@@ -77,6 +81,11 @@ pub fn check(alloc: Global, core: Core) -> Result<Checked, CheckFault>
     // For the core forms of a grammar, the result is true of the grammar as written.
     ensures grammar { (rules : List Rule) → AreCoreFormsOf rules core → OnOk result (IsWellFormedGrammar rules) }
     ensures grammar_refused { (rules : List Rule) → AreCoreFormsOf rules core → IfErr result (IsIllFormedBy rules) }
+
+    // The empty loop that an error names is the first one, in the core forms and in the rules as written.
+    ensures first_core_loop { IfErr result (NamesFirstCoreLoop (bodies_of core)) }
+    ensures first_loop { (rules : List Rule) → AreCoreFormsOf rules core → SpansNameLoops rules
+        → IfErr result (NamesFirstLoop rules) }
 {
     check_core(alloc, &core)?;
     Ok(Checked { core })
@@ -88,6 +97,7 @@ fn check_core(alloc: Global, core: &Core) -> Result<(), CheckFault>
     ensures refused { IfErr result (IsFaultOf core.now) }
     ensures named { IfErr result (NamesRules (length core.now.bodies)) }
     ensures no_empty_loop { OnOk result (HasNoEmptyLoop core.now) }
+    ensures first_core_loop { IfErr result (NamesFirstCoreLoop (bodies_of core.now)) }
 {
     let table = table_of(alloc, core)?;
     match empty_loop(alloc, core, &table)? {

@@ -9,7 +9,7 @@ use Rattle.peg_check.specs.EmptyLoops.{IsLoopFree, IsLoop}
 use Rattle.peg_check.specs.Verdicts.{AreWellFormedIn, IsSimpleLeftCycle}
 use Rattle.peg_check.specs.declared.loops.Loop.{Loop}
 use Rattle.peg_check.proofs.PathLemmas.{has-body, cycle-bodies}
-use Rattle.peg_check.proofs.Refutations.{loop-refuted, cycle-refuted}
+use Rattle.peg_check.proofs.Refutations.{cycle-refuted}
 use Rattle.peg_check.proofs.verdict.check_core.Goals as goal
 
 -- the loop, if one was found
@@ -25,7 +25,11 @@ pub returns-in-Some-clause-refused : goal.returns-in-Some-clause-refused
 returns-in-Some-clause-refused c =
     let core = c.args.core.now in
     let loop = found core c.in_ok-rule.field-0 c.in-Some.field-0 c.in-Some.is c.in_ok-rule.ensures in
-    (loop.named, loop-refuted core loop.is_form.0 loop.is_form.1 loop.is_form.2)
+    (loop.named, loop.refuted)
+
+pub returns-in-Some-clause-first_core_loop : goal.returns-in-Some-clause-first_core_loop
+returns-in-Some-clause-first_core_loop c =
+    (found c.args.core.now c.in_ok-rule.field-0 c.in-Some.field-0 c.in-Some.is c.in_ok-rule.ensures).first
 
 pub returns-in-Some-clause-named : goal.returns-in-Some-clause-named
 returns-in-Some-clause-named c =
