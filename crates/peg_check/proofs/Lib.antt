@@ -3,14 +3,15 @@ mod ChainLemmas
 mod LabelLemmas
 mod DependencyLemmas
 mod FirstLoopLemmas
-mod LeftCallLemmas
+mod GuideLemmas
+mod LeastCycleLemmas
 mod OutcomeLemmas
 mod OutcomeTables
 mod WrittenLoopLemmas
 mod PathLemmas
 mod Refutations
 mod MarkLemmas
-mod SearchLemmas
+mod DistanceLemmas
 mod VerdictLemmas
 mod Worklist
 mod WholeWrites

@@ -17,11 +17,12 @@ pub mod Cans
 pub mod ReverseDeps
 pub mod EmptyLoops
 pub mod FirstLoops
+pub mod LeastCycles
 pub mod Exact
 pub mod Dependencies
+pub mod Distances
 pub mod Paths
 pub mod Marks
 pub mod Fixpoint
-pub mod Search
 pub mod Verdicts
 pub mod Visits
