@@ -22,7 +22,7 @@ loop-refuted core number within loops all =
 -- ---- left cycles
 
 -- a form that left-calls a rule is one of the forms
-meets-within : (core : Desugared) (number rule : ℕ) → CoreCanCallFirst (bodies_of core) (form_at core.forms number) rule
+pub meets-within : (core : Desugared) (number rule : ℕ) → CoreCanCallFirst (bodies_of core) (form_at core.forms number) rule
     → number < length core.forms
 meets-within core number rule meets = by (cases_lt number (length core.forms))
   where

@@ -1,5 +1,5 @@
 -- What a fault of core forms says of them, and of the grammar that they come from.
-use Rattle.std.proofs.Common.{◌↔◌, ℕ, List, All, Result, Ok, Err, IfErr, IsErrAnd, IsErrOf, IsOk, OnOk, refl, sym, subst}
+use Rattle.std.proofs.Common.{◌↔◌, ℕ, List, ◌∷◌, All, Result, Ok, Err, IfErr, IsErrAnd, IsErrOf, IsOk, OnOk, refl, sym, subst}
 use Rattle.peg_bytes.specs.Extent.{Extent, extent}
 use Rattle.peg_core.specs.CoreForm.{CoreForm, core_bodies}
 use Rattle.peg_core.specs.CoreLoops.{IsCoreEmptyLoop, IsCoreLeftCycle}
@@ -8,10 +8,11 @@ use Rattle.peg_core.specs.CoreParts.{AreCoreFormsOf}
 use Rattle.peg_core.specs.Layout.{Desugared, bodies_of}
 use Rattle.peg_core.proofs.PartsLemmas.{grammar-right, grammar-fine}
 use Rattle.peg_core.proofs.SugarLoops.{IsEmptyLoop-to_core, IsEmptyLoop-from_core}
-use Rattle.peg_core.proofs.SugarMeets.{IsLeftCycle-from_core}
-use Rattle.peg_semantics.specs.Loops.{IsEmptyLoop}
+use Rattle.peg_core.proofs.SugarMeets.{IsLeftCycle-from_core, IsLeftCycle-to_core}
+use Rattle.peg_semantics.specs.Loops.{IsEmptyLoop, IsLeftCycle}
 use Rattle.peg_semantics.specs.Rules.{Rule}
 use Rattle.peg_semantics.specs.WellFormed.{IsWellFormedGrammar}
+use Rattle.peg_check.specs.LeastCycles.{IsLeastCycle, NamesLeastCoreCycle, NamesLeastCycle}
 use Rattle.peg_check.specs.Verdicts.{AreWellFormed, HasEmptyLoop, HasNoEmptyLoop, IsFaultOf, IsIllFormedBy}
 use Rattle.peg_check.specs.Verdicts.{NamesEmptyLoop, NamesLeftCycle}
 use Rattle.peg_check.specs.declared.fault.CheckFault.{CheckFault}
@@ -71,14 +72,38 @@ module _ (rules : List Rule) (core : Desugared) (are : AreCoreFormsOf rules core
       subst (λ (bodies : List CoreForm). IsCoreEmptyLoop bodies rule span) (sym are.bodies)
       (IsEmptyLoop-to_core rules span rule loop)
 
+  cycle-from_core : (path : List ℕ) → IsCoreLeftCycle (bodies_of core) path → IsLeftCycle rules path
+  cycle-from_core path cycle =
+      IsLeftCycle-from_core rules path (subst (λ (bodies : List CoreForm). IsCoreLeftCycle bodies path) are.bodies cycle)
+
+  cycle-to_core : (path : List ℕ) → IsLeftCycle rules path → IsCoreLeftCycle (bodies_of core) path
+  cycle-to_core path cycle =
+      subst (λ (bodies : List CoreForm). IsCoreLeftCycle bodies path) (sym are.bodies) (IsLeftCycle-to_core rules path cycle)
+
   pub ill_formed-from_core : (why : CheckFault) → IsFaultOf core why → IsIllFormedBy rules why
   ill_formed-from_core (EmptyLoop rule span) fault =
       (λ all. fault.1 (core-from_grammar all), loop-from_core rule (extent span) fault.0)
   ill_formed-from_core (LeftRecursion path) fault = (
     λ all. fault.2 (core-from_grammar all),
     λ rule span loop. fault.0 rule span (loop-to_core rule span loop),
-    IsLeftCycle-from_core rules path.items
-        (subst (λ (bodies : List CoreForm). IsCoreLeftCycle bodies path.items) are.bodies fault.1),
+    cycle-from_core path.items fault.1,
     fault.3,
   )
   ill_formed-from_core Memory fault = tt
+
+  -- the least cycle of core forms is that of the rules
+  least-from_core : (path : List ℕ) → IsLeastCycle (IsCoreLeftCycle (bodies_of core)) path → IsLeastCycle (IsLeftCycle rules) path
+  least-from_core path least = record {
+    rule = least.rule;
+    more = least.more;
+    is = least.is;
+    cycle = cycle-from_core (least.rule ∷ least.more) least.cycle;
+    least_rule = λ other rest cycle. least.least_rule other rest (cycle-to_core (other ∷ rest) cycle);
+    shortest = λ rest cycle. least.shortest rest (cycle-to_core (least.rule ∷ rest) cycle);
+    first = λ rest cycle counted. least.first rest (cycle-to_core (least.rule ∷ rest) cycle) counted;
+  }
+
+  pub names_least-from_core : (why : CheckFault) → NamesLeastCoreCycle (bodies_of core) why → NamesLeastCycle rules why
+  names_least-from_core (EmptyLoop rule span) least = tt
+  names_least-from_core (LeftRecursion path) least = least-from_core path.items least
+  names_least-from_core Memory least = tt

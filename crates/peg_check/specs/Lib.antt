@@ -7,6 +7,7 @@ pub use Rattle.peg_core.specs.CoreNodes
 pub use Rattle.peg_core.specs.CoreParts
 pub use Rattle.peg_core.specs.Layout
 pub use Rattle.peg_semantics.specs.AbstractOutcomes
+pub use Rattle.peg_semantics.specs.Form
 pub use Rattle.peg_semantics.specs.Loops
 pub use Rattle.peg_semantics.specs.RuleOutcomes
 pub use Rattle.peg_semantics.specs.Rules
@@ -15,12 +16,13 @@ pub mod WellFormednessDeps
 pub mod Cans
 pub mod ReverseDeps
 pub mod EmptyLoops
+pub mod FirstLoops
+pub mod LeastCycles
 pub mod Exact
 pub mod Dependencies
-pub mod Owners
+pub mod Distances
 pub mod Paths
 pub mod Marks
 pub mod Fixpoint
-pub mod Search
 pub mod Verdicts
 pub mod Visits

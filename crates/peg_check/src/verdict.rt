@@ -3,23 +3,21 @@ ghost use Rattle.std.specs.Prelude.{◌≡◌, ◌↔◌, ℕ, ◌<◌, ◌≤�
 ghost use Rattle.std.specs.Prelude.{IfOk, IfErr, IsErrAnd, IsErrOf, IsOk, OnOk};
 ghost use Rattle.peg_core.specs.CoreParts.{AreCoreFormsOf};
 ghost use Rattle.peg_core.specs.Layout.{bodies_of, max_forms};
-ghost use Rattle.peg_check.specs.WellFormednessDeps.{AreWellFormednessDeps};
 ghost use Rattle.peg_check.specs.Exact.{IsExactTable};
-ghost use Rattle.peg_check.specs.Dependencies.{DepFits};
 ghost use Rattle.peg_check.specs.EmptyLoops.{HasNoLoop};
+ghost use Rattle.peg_core.specs.CoreLoops.{IsCoreLeftCycle};
+ghost use Rattle.peg_check.specs.LeastCycles.{IsLeastCycle, NamesLeastCoreCycle, NamesLeastCycle};
+ghost use Rattle.peg_check.specs.FirstLoops.{NamesFirstCoreLoop, NamesFirstLoop, SpansNameLoops};
 ghost use Rattle.peg_check.specs.Verdicts.{AreWellFormed, AreWellFormedIn, HasEmptyLoop, HasNoEmptyLoop};
 ghost use Rattle.peg_check.specs.Verdicts.{HasNoLeftCycle, IsFaultOf, IsIllFormedBy, IsSimpleLeftCycle, NamesRules};
 ghost use Rattle.peg_check.specs.Verdicts.{NamesEmptyLoop, NamesLeftCycle};
-ghost use Rattle.peg_check.specs.declared.dependency.Dependency.{Dependency};
 ghost use Rattle.peg_semantics.specs.Rules.{Rule};
 ghost use Rattle.peg_semantics.specs.WellFormed.{IsWellFormedGrammar};
 
-use crate::components::{least_in_a_cycle, strongly_connected_components};
 use crate::cycles::cycle_from;
-use crate::dependency::Dependency;
+use crate::least_cycle::least_cycle;
 use crate::loops::{Loop, empty_loop};
 use crate::marks::{first_unmarked, well_formed_marks};
-use crate::shortest::shortest_cycle;
 use crate::well_formedness::well_formedness_deps;
 use crate::{CheckFault, Table, table_of};
 use peg_core::Core;
@@ -43,12 +41,14 @@ impl Checked {
 }
 
 /// Checks that each core form is well-formed (Ford 2004, section 3.6). The error names the first empty loop in written
-/// order, where an expression comes before its parts. If there is none, it names the shortest left cycle from the
-/// smallest rule on a left cycle. Of several, it names the one with the smallest rule numbers in order. The contract
-/// promises an empty loop or a left cycle without repeated rules, not this choice. The error is `Memory` if an
-/// allocation fails.
+/// order: rules in order, an expression before its parts, and parts from left to right. If there is none, it names the
+/// shortest left cycle from the smallest rule on a left cycle. Of several, it names the one with the smallest rule
+/// numbers in order. The error is `Memory` if an allocation fails.
 ///
-/// Takes time and memory linear in the number of forms, apart from sorting the rules that one rule left-calls.
+/// A loop is named by its rule and its span. That it is the first one of the rule as written is promised for rules in
+/// which no two stars or pluses have the same span. In a grammar file they never have.
+///
+/// Takes time and memory linear in the number of forms.
 ///
 /// # Example
 ///
@@ -77,6 +77,14 @@ pub fn check(alloc: Global, core: Core) -> Result<Checked, CheckFault>
     // For the core forms of a grammar, the result is true of the grammar as written.
     ensures grammar { (rules : List Rule) → AreCoreFormsOf rules core → OnOk result (IsWellFormedGrammar rules) }
     ensures grammar_refused { (rules : List Rule) → AreCoreFormsOf rules core → IfErr result (IsIllFormedBy rules) }
+
+    // The empty loop that an error names is the first one, and the left cycle is the least of the shortest ones from
+    // the least rule on one. Both are so in the core forms and in the rules as written.
+    ensures first_core_loop { IfErr result (NamesFirstCoreLoop (bodies_of core)) }
+    ensures least_core_cycle { IfErr result (NamesLeastCoreCycle (bodies_of core)) }
+    ensures first_loop { (rules : List Rule) → AreCoreFormsOf rules core → SpansNameLoops rules
+        → IfErr result (NamesFirstLoop rules) }
+    ensures least_cycle { (rules : List Rule) → AreCoreFormsOf rules core → IfErr result (NamesLeastCycle rules) }
 {
     check_core(alloc, &core)?;
     Ok(Checked { core })
@@ -88,6 +96,8 @@ fn check_core(alloc: Global, core: &Core) -> Result<(), CheckFault>
     ensures refused { IfErr result (IsFaultOf core.now) }
     ensures named { IfErr result (NamesRules (length core.now.bodies)) }
     ensures no_empty_loop { OnOk result (HasNoEmptyLoop core.now) }
+    ensures first_core_loop { IfErr result (NamesFirstCoreLoop (bodies_of core.now)) }
+    ensures least_core_cycle { IfErr result (NamesLeastCoreCycle (bodies_of core.now)) }
 {
     let table = table_of(alloc, core)?;
     match empty_loop(alloc, core, &table)? {
@@ -99,45 +109,26 @@ fn check_core(alloc: Global, core: &Core) -> Result<(), CheckFault>
     }
 }
 
-// A left cycle, unless all forms are well-formed.
+// The least left cycle, unless all forms are well-formed.
 fn left_cycle(alloc: Global, core: &Core, table: &Table) -> Result<Option<Vec<u32>>, AllocError>
     requires table { IsExactTable core.now table.now }
     requires loops { HasNoLoop core.now }
     ensures { IfOk result (λ found.
         MatchOption found (AreWellFormedIn (length core.now.forms) core.now)
-        (λ path. IsSimpleLeftCycle (bodies_of core.now) path.items)) }
+        (λ path. IsSimpleLeftCycle (bodies_of core.now) path.items
+        × IsLeastCycle (IsCoreLeftCycle (bodies_of core.now)) path.items)) }
 {
     let well_formedness = well_formedness_deps(alloc, core, table)?;
     let marks = well_formed_marks(alloc, &well_formedness)?;
     match first_unmarked(&marks) {
         None => Ok(None),
         Some(number) => {
-            let found = cycle_from(alloc, core, &well_formedness, &marks, number)?;
+            // A cycle exists, so the search below finds one.
+            let _found = cycle_from(alloc, core, &well_formedness, &marks, number)?;
             match least_cycle(alloc, core, &well_formedness)? {
                 Some(path) => Ok(Some(path)),
-                None => Ok(Some(found)),
+                None => unreachable!(),
             }
         }
-    }
-}
-
-// The shortest left cycle from the smallest rule on one, if the search finds one.
-fn least_cycle(
-    alloc: Global,
-    core: &Core,
-    well_formedness: &[Dependency],
-) -> Result<Option<Vec<u32>>, AllocError>
-    requires checked_deps { AreWellFormednessDeps core.now well_formedness.now }
-    requires count { length well_formedness.now ≡ length core.now.forms }
-    requires few { length well_formedness.now ≤ max_forms }
-    requires fit { (dependent : ℕ) (d : Dependency) → dependent < length well_formedness.now
-        → DepFits (length well_formedness.now) (slice_index_or well_formedness.now dependent d) }
-    ensures { IfOk result (λ found.
-        MatchOption found ⊤ (λ path. IsSimpleLeftCycle (bodies_of core.now) path.items)) }
-{
-    let labels = strongly_connected_components(alloc, well_formedness)?;
-    match least_in_a_cycle(core, &labels) {
-        Some(rule) => shortest_cycle(alloc, core, well_formedness, rule),
-        None => Ok(None),
     }
 }

@@ -1,8 +1,10 @@
-use Rattle.std.proofs.Common.{MatchOption}
-use Rattle.peg_check.specs.EmptyLoops.{IsLoop, HasNoLoopBelow}
+use Rattle.std.proofs.Common.{ℕ, ◌<◌}
+use Rattle.peg_bytes.specs.Extent.{Extent}
+use Rattle.peg_core.specs.CoreLoops.{IsCoreEmptyLoop}
+use Rattle.peg_core.specs.Layout.{bodies_of}
 use Rattle.peg_check.proofs.loops.empty_loop.Given as goal
 
--- one of the forms so far is an empty loop, or none is
-abbrev pub invariant-loop-number : goal.invariant-loop-number
-invariant-loop-number l =
-    MatchOption l.found (HasNoLoopBelow l.number l.core l.owners.items) (IsLoop l.core)
+-- no rule so far has an empty loop
+abbrev pub invariant-loop-rule : goal.invariant-loop-rule
+invariant-loop-rule l =
+    (before : ℕ) (other : Extent) → before < l.rule → ¬ IsCoreEmptyLoop (bodies_of l.core) before other

@@ -1,8 +1,12 @@
 use Rattle.std.proofs.Common.{length, rules}
 use Rattle.std.proofs.lemmas.Result.{IfErr-weaker}
+use Rattle.peg_core.specs.Layout.{bodies_of}
+use Rattle.peg_check.specs.LeastCycles.{NamesLeastCoreCycle, NamesLeastCycle}
+use Rattle.peg_check.specs.FirstLoops.{NamesFirstCoreLoop, NamesFirstLoop}
 use Rattle.peg_check.specs.Verdicts.{AreWellFormed, IsFaultOf, IsIllFormedBy}
 use Rattle.peg_check.proofs.Refutations.{cycle-refuted}
-use Rattle.peg_check.proofs.VerdictLemmas.{accepted-where, empty_loop-where, left_cycle-where, grammar-from_core, ill_formed-from_core}
+use Rattle.peg_check.proofs.VerdictLemmas.{accepted-where, empty_loop-where, left_cycle-where, grammar-from_core, ill_formed-from_core, names_least-from_core}
+use Rattle.peg_check.proofs.WrittenLoopLemmas.{first-from_core}
 use Rattle.peg_check.proofs.verdict.check.Goals as goal
 use Rattle.peg_check.proofs.verdict.check.Goals.{In_ok-check_core}
 
@@ -20,6 +24,16 @@ pub returns-in_err-check_core-clause-grammar_refused : goal.returns-in_err-check
 returns-in_err-check_core-clause-grammar_refused c = λ written are.
     IfErr-weaker c.from_residual.result (IsFaultOf c.args.core) (IsIllFormedBy written)
     (λ why fault. ill_formed-from_core written c.args.core are why fault) (search rules)
+
+pub returns-in_err-check_core-clause-first_loop : goal.returns-in_err-check_core-clause-first_loop
+returns-in_err-check_core-clause-first_loop c = λ written are own.
+    IfErr-weaker c.from_residual.result (NamesFirstCoreLoop (bodies_of c.args.core)) (NamesFirstLoop written)
+    (λ why first. first-from_core written c.args.core are own why first) (search rules)
+
+pub returns-in_err-check_core-clause-least_cycle : goal.returns-in_err-check_core-clause-least_cycle
+returns-in_err-check_core-clause-least_cycle c = λ written are.
+    IfErr-weaker c.from_residual.result (NamesLeastCoreCycle (bodies_of c.args.core)) (NamesLeastCycle written)
+    (λ why least. names_least-from_core written c.args.core are why least) (search rules)
 
 -- ---- accepted
 
