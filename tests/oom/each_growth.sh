@@ -37,6 +37,7 @@ file "D <- N ('/' N){1,2} !.\nN <- [0-9]{1,3} ''{2}\n" repeats.peg
 file '24/12' repeats.txt
 file "A <- B 'x'\nB <- 'y'? A\n" cycle.peg
 file "A <- ('a'*)*\n" loop.peg
+file "S <- 'a' / 'ab' / T* / 'c'\nT <- 'x'+ 'x' / 'y' / 'y'\nU <- (T / 'z')?\n" warned.peg
 file "A <- B\nA <- 'x'\n" twice.peg
 file "A <- B\n" missing.peg
 file "A <- [a-]\n" open.peg
@@ -73,6 +74,11 @@ for grammar in chain counts open; do
   refuse "code, $grammar" /dev/null code "$work/$grammar.peg"
   refuse "table, $grammar" /dev/null table "$work/$grammar.peg"
 done
+for grammar in chain warned open; do
+  refuse "lint, $grammar" /dev/null lint "$work/$grammar.peg"
+done
+refuse 'lint, start' /dev/null lint "$work/warned.peg" --start T
+refuse 'lint, no start' /dev/null lint "$work/warned.peg" --start V
 refuse 'help' /dev/null --help
 refuse 'no command' /dev/null tables
 echo "$faults faults"

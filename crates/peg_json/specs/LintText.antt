@@ -46,7 +46,8 @@ placed_data line column rule warning = object (with_cause warning.by (placed_mem
 -- the JSON of a warning about a grammar file whose rules have these names
 abbrev pub warning_data : (file : List ℕ) → (names : List (List ℕ)) → Warning → Data
 warning_data file names warning =
-    placed_data (line_at file warning.span.start) (column_at file warning.span.start) (name_at names warning.rule) warning
+    placed_data (line_at file warning.span.start) (column_at file warning.span.start) (name_at names warning.rule)
+    warning
 
 -- the JSON of all warnings about a grammar file
 abbrev pub lint_data : (file : List ℕ) → (names : List (List ℕ)) → List Warning → Data

@@ -1,4 +1,5 @@
-//! Replies: the line of JSON and the exit status for an answer, a refusal, a table, code, warnings or an accepted grammar.
+//! Replies: the line of JSON and the exit status for an answer, a refusal, a table, code, warnings or an accepted
+//! grammar.
 #![tactic(auto)]
 
 mod answer_object;

@@ -105,7 +105,8 @@ fn serialize_warning<S: Serializer>(
 // Begins the object of a warning, with the span of its cause first if it has one.
 fn begin_warning<S: Serializer>(by: Option<Span>, out: &mut S) -> Result<(), S::Error>
     ensures { OnOk result ((rest : Members) (last : Log) → members_len rest ≡ 7
-        → SendsMembers rest (S.written out.new) last → SendsValue (object (with_cause by rest)) (S.written out.old) last) }
+        → SendsMembers rest (S.written out.new) last
+        → SendsValue (object (with_cause by rest)) (S.written out.old) last) }
 {
     match by {
         None => out.begin_map(Some(7)),

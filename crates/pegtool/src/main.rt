@@ -1,5 +1,5 @@
-//! `pegtool`: checks a grammar file, prints its table of outcomes or its code, or parses a text by it. Without
-//! arguments, parses a grammar file and a text from standard input.
+//! `pegtool`: checks a grammar file, prints its table of outcomes, its code or warnings about it, or parses a text by
+//! it. Without arguments, parses a grammar file and a text from standard input.
 #![tactic(auto)]
 
 use peg_tool::{
