@@ -45,6 +45,7 @@ fn rules_go_by_names_and_numbers(rt: HostRuntime) -> Result<(), Fail> {
 #[test]
 fn cut_counts_are_at_most_one(rt: HostRuntime) -> Result<(), Fail> {
     let grammar = grammar_of(rt.alloc(), b"S <- 'a'{2,5}\nT <- (S{0,3})")?.with_cut_counts();
+    assert!(rt; grammar.rules() == 2);
     assert_eq!(rt; grammar.rule_name(1), "T");
     assert!(rt; matches!(grammar.body(0), Expr::Counted { min: 1, max: 1, .. }));
     assert!(rt; matches!(grammar.body(1), Expr::Counted { min: 0, max: 1, .. }));

@@ -1,5 +1,5 @@
--- Rules with their counts cut to at most one iteration. Abstract outcomes, well-formed expressions and loops (Ford 2004,
--- sections 3.5 and 3.6) depend only on whether a count's numbers are 0, so they stay the same.
+-- Rules with their counts cut to at most one iteration. Abstract outcomes, well-formed expressions and loops depend
+-- only on whether a count's numbers are 0 (Ford 2004, sections 3.5 and 3.6). So they stay the same.
 use Rattle.std.specs.Prelude.{ℕ, zero, suc, List, map}
 use Rattle.peg_semantics.specs.Form.{Form, Forms, Literal, Class, Any, Name, Seq, Choice, Optional, Star, Plus, Counted}
 use Rattle.peg_semantics.specs.Form.{And, Not, End, Then}
