@@ -133,7 +133,7 @@ _threads = threading.local()
 
 
 def this_thread() -> Owner:
-    """The owner that stands for the current thread."""
+    """The owner that represents the current thread."""
     if not hasattr(_threads, "owner"):
         _threads.owner = Owner()
     return _threads.owner

@@ -108,7 +108,7 @@ class Node:
 
     @property
     def end(self) -> int:
-        """The offset behind the last byte that the rule matched."""
+        """The offset after the last byte that the rule matched."""
         return self._match._words[WORDS * self._number + END]
 
     @property
