@@ -76,7 +76,7 @@ fn rules_without_stars_are_tiny_or_firm(rt: HostRuntime) -> Result<(), Fail> {
 }
 
 #[test]
-fn a_rule_may_fail_behind_its_star(rt: HostRuntime) -> Result<(), Fail> {
+fn a_rule_may_fail_after_its_star(rt: HostRuntime) -> Result<(), Fail> {
     let file = b"N <- [0-9]+ W\nW <- ' '*";
     assert_costs(&rt, rt.alloc(), file, &[BOUNDED, FIRM])
 }

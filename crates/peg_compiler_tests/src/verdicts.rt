@@ -42,7 +42,7 @@ fn assert_verdict(rt: &impl Abort, alloc: Global, files: &[(&[u8], &str)]) -> Re
 }
 
 #[test]
-fn a_rule_used_behind_what_may_give_nothing(rt: HostRuntime) -> Result<(), Fail> {
+fn a_rule_called_after_what_can_match_nothing(rt: HostRuntime) -> Result<(), Fail> {
     let files: &[(&[u8], &str)] = &[
         (b"A <- 'a' A / 'b'", "fine"),
         (b"A <- B 'x'    B <- 'y'? A", "cycle 0 1"),
@@ -55,7 +55,7 @@ fn a_rule_used_behind_what_may_give_nothing(rt: HostRuntime) -> Result<(), Fail>
 }
 
 #[test]
-fn a_rule_used_behind_what_never_succeeds(rt: HostRuntime) -> Result<(), Fail> {
+fn a_rule_called_after_what_never_matches(rt: HostRuntime) -> Result<(), Fail> {
     assert_verdict(
         &rt,
         rt.alloc(),

@@ -76,8 +76,8 @@ fn the_figure_is_accepted_and_parses_itself(rt: HostRuntime) -> Result<(), Fail>
     };
     let line = printed_by(&rt, rt.alloc(), &parse)?;
     assert!(rt; line.starts_with("{\"consumed\":1086,\"expected\":[["));
-    let behind = "]],\"far\":1086,\"result\":\"matched\",\"rows\":[[1,\"Grammar\",0,1086],";
-    assert!(rt; line.contains(behind));
+    let tail = "]],\"far\":1086,\"result\":\"matched\",\"rows\":[[1,\"Grammar\",0,1086],";
+    assert!(rt; line.contains(tail));
     Ok(())
 }
 

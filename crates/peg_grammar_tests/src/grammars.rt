@@ -53,7 +53,7 @@ fn cut_counts_are_at_most_one(rt: HostRuntime) -> Result<(), Fail> {
 }
 
 #[test]
-fn a_duplicate_is_named_where_it_stands(rt: HostRuntime) -> Result<(), Fail> {
+fn a_duplicate_is_named_at_its_place(rt: HostRuntime) -> Result<(), Fail> {
     let refused = refusal_of(rt.alloc(), b"S <- U    T <- U    T <- U")?;
     match &refused {
         Some(GrammarFault::Duplicate { name, span }) => {

@@ -83,8 +83,8 @@ fn a_text_over_the_limit_is_reported(rt: HostRuntime) -> Result<(), Fail> {
     let program = program_of(alloc, RIGHT)?;
     assert!(rt; program.rules() > 0);
     let text = vec![in alloc; 0u8; 67_108_865]?;
-    let allocation_failed = run_plain(alloc, &program, &text, Some(0));
-    assert!(rt; matches!(allocation_failed, Err(RunFault::TextTooLong)));
+    let refused = run_plain(alloc, &program, &text, Some(0));
+    assert!(rt; matches!(refused, Err(RunFault::TextTooLong)));
     let answer = run_plain(alloc, &program, &text[1..], None)?;
     assert!(rt; matches!(answer.outcome.result, Parsed::Failed));
     assert_eq!(rt; answer.outcome.far, 0);

@@ -39,19 +39,19 @@ fn assert_pairs(
 }
 
 #[test]
-fn a_watch_is_shown_each_use(rt: HostRuntime) -> Result<(), Fail> {
+fn a_watch_gets_each_call(rt: HostRuntime) -> Result<(), Fail> {
     let pairs = [(0, 0), (0, 1), (0, 2)];
     assert_pairs(&rt, rt.alloc(), RIGHT, b"aab", &pairs)
 }
 
 #[test]
-fn without_a_memo_a_use_begins_twice(rt: HostRuntime) -> Result<(), Fail> {
+fn without_a_memo_a_call_runs_twice(rt: HostRuntime) -> Result<(), Fail> {
     let pairs = [(0, 0), (0, 1), (0, 1)];
     assert_pairs(&rt, rt.alloc(), TWICE, b"(a)y", &pairs)
 }
 
 #[test]
-fn with_room_no_use_begins_twice(rt: HostRuntime) -> Result<(), Fail> {
+fn with_full_capacity_no_call_runs_twice(rt: HostRuntime) -> Result<(), Fail> {
     let alloc = rt.alloc();
     let program = some_program(&rt, alloc, TWICE)?;
     let mut memo = LruMemo::new(alloc, 5)?;
@@ -73,8 +73,8 @@ fn a_memo_of_one_result_saves_six_steps(rt: HostRuntime) -> Result<(), Fail> {
     let nodes = &[(0, 0, 4, 1), (0, 1, 2, 0)];
     let case = matched(text, 4, 3, &[2], nodes);
     assert_outcome(&rt, &answer.outcome, case);
-    let allocation_failed = run_with(alloc, &program, text, 0, 1, &mut NoWatch, Some(18));
-    assert!(rt; matches!(allocation_failed, Err(RunFault::StepLimit)));
+    let stopped = run_with(alloc, &program, text, 0, 1, &mut NoWatch, Some(18));
+    assert!(rt; matches!(stopped, Err(RunFault::StepLimit)));
     Ok(())
 }
 
@@ -143,8 +143,8 @@ fn assert_nested(
     assert_alike(rt, &selecting.outcome, &answer.outcome, "parentheses");
     assert_eq!(rt; selecting.steps, *steps);
     let fewer = Some(steps.saturating_sub(1));
-    let allocation_failed = run_with(alloc, program, text, 0, capacity, &mut NoWatch, fewer);
-    assert!(rt; matches!(allocation_failed, Err(RunFault::StepLimit)));
+    let stopped = run_with(alloc, program, text, 0, capacity, &mut NoWatch, fewer);
+    assert!(rt; matches!(stopped, Err(RunFault::StepLimit)));
     Ok(())
 }
 

@@ -75,10 +75,10 @@ fn add_expression(
     match rng.below(8) {
         0 => add_leaf(rng, file, rules),
         1 | 2 => {
-            let (before, behind) = SIGNS[rng.below(5)];
+            let (before, after) = SIGNS[rng.below(5)];
             file.extend_from_slice(before)?;
             add_expression(rng, file, rules, levels - 1)?;
-            file.extend_from_slice(behind)?;
+            file.extend_from_slice(after)?;
             Ok(())
         }
         _ => {
@@ -152,7 +152,7 @@ fn compare_texts(
 }
 
 #[test]
-fn grammars_by_chance_have_the_outcomes_of_the_evaluator(rt: HostRuntime) -> Result<(), Fail> {
+fn random_grammars_have_the_outcomes_of_the_evaluator(rt: HostRuntime) -> Result<(), Fail> {
     let alloc = rt.alloc();
     let mut rng = Rng::new(2004);
     let mut counts = Counts::default();

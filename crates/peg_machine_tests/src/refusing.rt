@@ -117,27 +117,27 @@ fn assert_all_but(
 }
 
 #[test]
-fn a_result_that_is_refused_changes_no_answer(rt: HostRuntime) -> Result<(), Fail> {
+fn a_result_that_is_not_stored_changes_no_answer(rt: HostRuntime) -> Result<(), Fail> {
     let alloc = rt.alloc();
     let program = program_of(alloc, TWICE)?;
     assert!(rt; program.rules() > 0);
     let text = b"(a)y";
     let plain = run_plain(alloc, &program, text, None)?;
-    let allocation_failed = assert_all_but(&rt, alloc, text, &plain)?;
-    assert_eq!(rt; allocation_failed, 2);
+    let left_out = assert_all_but(&rt, alloc, text, &plain)?;
+    assert_eq!(rt; left_out, 2);
     Ok(())
 }
 
 // Without a memo the parse has three pairs; it ends when the third fails.
 #[test]
-fn a_watch_that_refuses_ends_the_run(rt: HostRuntime) -> Result<(), Fail> {
+fn a_watch_that_fails_ends_the_run(rt: HostRuntime) -> Result<(), Fail> {
     let alloc = rt.alloc();
     let program = program_of(alloc, TWICE)?;
     assert!(rt; program.rules() > 0);
     let list = ListWatch::new(alloc);
     let mut watch = First { list, most: 2 };
-    let allocation_failed = run_from(alloc, &program, b"(a)y", 0, &mut watch, None);
-    assert!(rt; matches!(allocation_failed, Err(RunFault::Memory)));
+    let ended = run_from(alloc, &program, b"(a)y", 0, &mut watch, None);
+    assert!(rt; matches!(ended, Err(RunFault::Memory)));
     assert_eq!(rt; watch.list.pairs(), [(0, 0), (0, 1)].as_slice());
     let list = ListWatch::new(alloc);
     let mut watch = First { list, most: 3 };
@@ -164,13 +164,13 @@ fn assert_parentheses(rt: &impl Abort, alloc: Global, count: u32) -> Result<(), 
             assert_eq!(rt; tree.len(), count as usize + 1);
         }
     }
-    let allocation_failed = assert_all_but(rt, alloc, &text, &answer)?;
-    assert_eq!(rt; allocation_failed, count + 1);
+    let left_out = assert_all_but(rt, alloc, &text, &answer)?;
+    assert_eq!(rt; left_out, count + 1);
     Ok(())
 }
 
 #[test]
-fn a_result_that_is_refused_changes_no_long_answer(rt: HostRuntime) -> Result<(), Fail> {
+fn a_result_that_is_not_stored_changes_no_long_answer(rt: HostRuntime) -> Result<(), Fail> {
     assert_parentheses(&rt, rt.alloc(), 30)?;
     assert_parentheses(&rt, rt.alloc(), 100)
 }

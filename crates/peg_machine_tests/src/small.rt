@@ -53,11 +53,8 @@ fn assert_steps(
         assert_eq!(rt; answer.steps, steps, "of {most:?}");
     }
     for fewer in [0, 1, steps.saturating_sub(1)] {
-        let allocation_failed = run_within(rt, alloc, &program, case.text, Some(fewer));
-        assert!(rt;
-            matches!(allocation_failed, Err(RunFault::StepLimit)),
-            "of {fewer}"
-        );
+        let stopped = run_within(rt, alloc, &program, case.text, Some(fewer));
+        assert!(rt; matches!(stopped, Err(RunFault::StepLimit)), "of {fewer}");
     }
     Ok(())
 }

@@ -146,7 +146,7 @@ fn assert_shown(
 
 // Shortcuts through calls are not applied if a tracer is active.
 #[test]
-fn a_watch_that_looks_is_shown_each_use(rt: HostRuntime) -> Result<(), Fail> {
+fn an_active_watch_gets_each_call(rt: HostRuntime) -> Result<(), Fail> {
     let alloc = rt.alloc();
     let program = program_of(alloc, b"S <- 'a' S / 'b'")?;
     assert!(rt; program.rules() > 0);

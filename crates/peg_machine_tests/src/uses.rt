@@ -34,7 +34,7 @@ impl Evaluator<'_> {
     }
 
     // The position after the next byte, if that is in a set.
-    fn behind_byte(&self, set: &ByteSet, position: u32) -> Option<u32> {
+    fn after_byte(&self, set: &ByteSet, position: u32) -> Option<u32> {
         match self.text.get(position as usize) {
             None => None,
             Some(byte) => {
@@ -48,7 +48,7 @@ impl Evaluator<'_> {
     }
 
     // The position after a literal, if the text has it here.
-    fn behind_literal(&self, bytes: &[u8], position: u32) -> Option<u32> {
+    fn after_literal(&self, bytes: &[u8], position: u32) -> Option<u32> {
         let mut end = position;
         for byte in bytes {
             if self.text.get(end as usize) != Some(byte) {
@@ -66,9 +66,9 @@ impl Evaluator<'_> {
             return self.give_up();
         }
         match expr {
-            Expr::Literal { bytes, .. } => self.behind_literal(bytes, position),
-            Expr::Class { set, .. } => self.behind_byte(set, position),
-            Expr::Any { .. } => self.behind_byte(&ByteSet::full(), position),
+            Expr::Literal { bytes, .. } => self.after_literal(bytes, position),
+            Expr::Class { set, .. } => self.after_byte(set, position),
+            Expr::Any { .. } => self.after_byte(&ByteSet::full(), position),
             Expr::Name { name, .. } => self.end_of_use(name, position, depth - 1),
             Expr::Seq { items, .. } => self.end_of_all(items, position, depth - 1),
             Expr::Choice { first, rest, .. } => self.end_of_any(first, rest, position, depth - 1),
@@ -243,7 +243,7 @@ fn assert_uses(rt: &impl Abort, alloc: Global, pair: &Pair, text: &[u8]) -> Resu
 }
 
 #[test]
-fn uses_of_small_grammars_are_shown(rt: HostRuntime) -> Result<(), Fail> {
+fn calls_of_small_grammars_are_traced(rt: HostRuntime) -> Result<(), Fail> {
     let alloc = rt.alloc();
     let twice = pair_of(alloc, TWICE)?;
     for text in [&b"(a)y"[..], b"((a)y)y", b"((a", b""] {
@@ -257,7 +257,7 @@ fn uses_of_small_grammars_are_shown(rt: HostRuntime) -> Result<(), Fail> {
 }
 
 #[test]
-fn uses_of_grammars_by_chance_are_shown(rt: HostRuntime) -> Result<(), Fail> {
+fn calls_of_random_grammars_are_traced(rt: HostRuntime) -> Result<(), Fail> {
     let alloc = rt.alloc();
     let mut rng = Rng::new(2002);
     for _ in 0..GRAMMARS {

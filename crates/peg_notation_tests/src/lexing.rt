@@ -87,7 +87,7 @@ fn a_name_ends_before_a_dash(rt: HostRuntime) -> Result<(), Fail> {
 }
 
 #[test]
-fn each_escape_stands_in_a_literal_and_in_a_class(rt: HostRuntime) -> Result<(), Fail> {
+fn each_escape_is_read_in_a_literal_and_in_a_class(rt: HostRuntime) -> Result<(), Fail> {
     let alloc = rt.alloc();
     let literals: &[&[u8]] = &[
         b"'\\n'",

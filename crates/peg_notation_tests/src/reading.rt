@@ -150,7 +150,7 @@ fn an_arrow_begins_the_next_rule(rt: HostRuntime) -> Result<(), Fail> {
 }
 
 #[test]
-fn an_empty_sequence_stands_where_the_token_before_it_ends(rt: HostRuntime) -> Result<(), Fail> {
+fn an_empty_sequence_starts_where_the_token_before_it_ends(rt: HostRuntime) -> Result<(), Fail> {
     let alloc = rt.alloc();
     assert_body(
         &rt,
@@ -244,7 +244,7 @@ fn counts_in_range_are_read(rt: HostRuntime) -> Result<(), Fail> {
 }
 
 #[test]
-fn a_count_stands_behind_a_primary_alone(rt: HostRuntime) {
+fn a_count_follows_a_primary_only(rt: HostRuntime) {
     let files: [(&[u8], u32); 8] = [
         (b"A <- 'x'{2,}", 8),
         (b"A <- 'x'{2}{3}", 11),
@@ -259,7 +259,7 @@ fn a_count_stands_behind_a_primary_alone(rt: HostRuntime) {
 }
 
 #[test]
-fn a_count_out_of_range_is_told_where_it_starts(rt: HostRuntime) -> Result<(), Fail> {
+fn a_count_out_of_range_is_reported_where_it_starts(rt: HostRuntime) -> Result<(), Fail> {
     let alloc = rt.alloc();
     let files: [(&[u8], u32); 10] = [
         (b"A <- 'x'{0}", 8),
@@ -288,7 +288,7 @@ fn a_count_of_many_digits_is_read(rt: HostRuntime) -> Result<(), Fail> {
 }
 
 #[test]
-fn of_a_count_and_another_fault_the_first_is_told(rt: HostRuntime) -> Result<(), Fail> {
+fn of_a_count_and_another_fault_the_first_is_reported(rt: HostRuntime) -> Result<(), Fail> {
     let alloc = rt.alloc();
     let counts: [(&[u8], u32); 4] = [
         (b"A <- 'x'{0} ?", 8),
@@ -412,7 +412,7 @@ fn two_hundred_parentheses_may_be_open(rt: HostRuntime) -> Result<(), Fail> {
 }
 
 #[test]
-fn what_comes_first_is_told(rt: HostRuntime) -> Result<(), Fail> {
+fn what_comes_first_is_reported(rt: HostRuntime) -> Result<(), Fail> {
     let alloc = rt.alloc();
     let mut file = Vec::new(alloc);
     add_nested(&mut file, alloc, MAX_OPEN + 1)?;

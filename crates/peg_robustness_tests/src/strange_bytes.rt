@@ -18,7 +18,7 @@ fn filled(alloc: Global, template: &[u8], bytes: &[u8]) -> Result<Vec<u8>, Alloc
 }
 
 // Checks that a byte may occur in literals of both kinds, in a class, at both ends of a range, and in a comment.
-fn assert_stands(rt: &impl Abort, alloc: Global, byte: u8) -> Result<(), Fail> {
+fn assert_is_read(rt: &impl Abort, alloc: Global, byte: u8) -> Result<(), Fail> {
     let file = filled(alloc, b"A <- '@' \"@\" [@] [@-@] #@\n", &[byte])?;
     let text = &[byte, byte, byte, byte];
     let line =
@@ -40,9 +40,9 @@ fn assert_no_token(rt: &impl Abort, alloc: Global, byte: u8) -> Result<(), Fail>
 fn bytes_that_are_no_text_stand_in_literals_classes_and_comments(
     rt: HostRuntime,
 ) -> Result<(), Fail> {
-    assert_stands(&rt, rt.alloc(), 0)?;
+    assert_is_read(&rt, rt.alloc(), 0)?;
     for byte in 128..=255 {
-        assert_stands(&rt, rt.alloc(), byte)?;
+        assert_is_read(&rt, rt.alloc(), byte)?;
     }
     Ok(())
 }
@@ -88,10 +88,10 @@ fn the_bytes_of_a_line_end_stand_in_a_class(rt: HostRuntime) -> Result<(), Fail>
     let alloc = rt.alloc();
     for end in LINE_ENDS {
         let length = end.len();
-        let behind = length.saturating_add(7);
+        let end = length.saturating_add(7);
         let file = filled(alloc, b"A <- [@]+", end)?;
         let line = format!(in alloc;
-            "{{\"consumed\":{length},\"expected\":[[5,{behind}]],\"far\":{length},\"result\":\"matched\",\"rows\":[[1,\"A\",0,{length}]]}}"
+            "{{\"consumed\":{length},\"expected\":[[5,{end}]],\"far\":{length},\"result\":\"matched\",\"rows\":[[1,\"A\",0,{length}]]}}"
         )?;
         parses(&rt, alloc, &file, end, (line.as_str(), 0))?;
     }
