@@ -60,6 +60,11 @@ pub if_ok : {A E : Type 0} (P Q : A → Type 0) (r : Result A E) → ((x : A) �
 if_ok P Q (Ok x) to h = to x h
 if_ok P Q (Err e) to h = h
 
+pub if_ok_both : {A E : Type 0} (P R : A → Type 0) (Q : Type 0) (r : Result A E) → ((x : A) → P x → Q → R x)
+    → IfOk r P → OnOk r Q → IfOk r R
+if_ok_both P R Q (Ok x) to p q = to x p q
+if_ok_both P R Q (Err e) to p q = tt
+
 -- no form was appended
 pub Appends-none : (old : Layout) (form : CoreForm) (number : ℕ) → number < length old.forms
     → form_at old.forms number ≡ form → Appends old [] [] form number old

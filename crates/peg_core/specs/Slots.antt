@@ -1,5 +1,5 @@
 -- Describes code: nodes with their sets in a separate list.
-use Rattle.std.specs.Prelude.{◌≡◌, ℕ, ◌<◌, ◌≤◌, All, List, [], ◌++◌, length, map, slice_index_or}
+use Rattle.std.specs.Prelude.{ℕ, ◌<◌, ◌≤◌, All, List, length, map}
 use Rattle.peg_bytes.specs.SetPool.{set_at}
 use Rattle.peg_bytes.specs.declared.byte_set.ByteSet.{ByteSet}
 use Rattle.peg_core.specs.declared.node.Node.{Node}
