@@ -137,7 +137,7 @@ done
 run 1 /dev/null lint lint/mistakes.peg
 is_json lint lint/mistakes.peg
 kinds=$(grep -o '"kind":"[A-Za-z]*"' "$folder/line" | sort | cut -d '"' -f 4 | tr '\n' ' ')
-[ "$kinds" = "AlwaysFails NeverMatches NeverStops NeverTried NoEffect SameAlternative Shadowed UnusedRule " ] \
+[ "$kinds" = "AlwaysFails NeverMatches NeverStops NeverTried NoEffect ReversedRange SameAlternative Shadowed UnusedRule " ] \
   || fault "not each kind of warning once: $kinds"
 run 3 /dev/null lint lint/fixed.peg --start None
 

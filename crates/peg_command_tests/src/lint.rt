@@ -63,7 +63,11 @@ fn unused_rules_depend_on_the_start(rt: HostRuntime) -> Result<(), Fail> {
 
 #[test]
 fn typical_mistakes_have_warnings(rt: HostRuntime) -> Result<(), Fail> {
-    let cases: [(&[u8], &str); 4] = [
+    let cases: [(&[u8], &str); 5] = [
+        (
+            b"Digit <- [9-0]\n",
+            "{\"warnings\":[{\"column\":11,\"end\":13,\"kind\":\"ReversedRange\",\"line\":1,\"proved\":true,\"rule\":\"Digit\",\"start\":10}]}",
+        ),
         (
             b"Op <- '<' / '<='\n",
             "{\"warnings\":[{\"by\":[6,9],\"column\":13,\"end\":16,\"kind\":\"Shadowed\",\"line\":1,\"proved\":true,\"rule\":\"Op\",\"start\":12}]}",

@@ -20,6 +20,7 @@ kind_name kind.NoEffect = codes "NoEffect"
 kind_name kind.SameAlternative = codes "SameAlternative"
 kind_name kind.Shadowed = codes "Shadowed"
 kind_name kind.NeverStops = codes "NeverStops"
+kind_name kind.ReversedRange = codes "ReversedRange"
 
 -- the members of a warning, with the span of its cause first if it has one
 abbrev pub with_cause : Option Span → Members → Members

@@ -172,5 +172,6 @@ fn name_of_kind(kind: WarningKind) -> &'static str
         WarningKind::SameAlternative => "SameAlternative",
         WarningKind::Shadowed => "Shadowed",
         WarningKind::NeverStops => "NeverStops",
+        WarningKind::ReversedRange => "ReversedRange",
     }
 }

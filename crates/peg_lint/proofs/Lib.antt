@@ -1,6 +1,7 @@
 mod CallLemmas
 mod ChoiceLemmas
 mod EffectLemmas
+mod FileLemmas
 mod HeadLemmas
 mod NeverLemmas
 mod OutcomeLemmas

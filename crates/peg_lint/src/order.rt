@@ -19,6 +19,7 @@ fn rank(kind: WarningKind) -> u8
         WarningKind::SameAlternative => 5,
         WarningKind::Shadowed => 6,
         WarningKind::NeverStops => 7,
+        WarningKind::ReversedRange => 8,
     }
 }
 

@@ -20,6 +20,8 @@ pub enum WarningKind {
     Shadowed,
     /// An item of a sequence that fails wherever the star or plus before it ends.
     NeverStops,
+    /// A range in a class whose first byte is greater than its last, so that it holds no byte.
+    ReversedRange,
 }
 
 /// A warning about a part of a grammar.

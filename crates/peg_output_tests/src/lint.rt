@@ -1,7 +1,7 @@
 //! Warnings as JSON.
 use peg_core::desugar;
 use peg_json::{Status, lint_line};
-use peg_lint::warnings;
+use peg_lint::file_warnings;
 use peg_parser::grammar_of;
 use std::alloc::Global;
 use std::process::Abort;
@@ -19,7 +19,7 @@ fn assert_line(
     let core = desugar(alloc, &grammar)?;
     // A grammar has at least one rule, so rule 0 is one.
     let _count = grammar.rules();
-    let found = warnings(alloc, &grammar, &core, 0)?;
+    let found = file_warnings(alloc, file, &grammar, &core, 0)?;
     let printed = lint_line(alloc, file, &grammar, &found)?;
     assert!(rt; printed.head.as_str() == line, "{}", printed.head);
     assert_eq!(rt; printed.status, status);
@@ -60,7 +60,11 @@ fn warnings_have_their_lines_and_columns(rt: HostRuntime) -> Result<(), Fail> {
 
 #[test]
 fn each_kind_has_its_name(rt: HostRuntime) -> Result<(), Fail> {
-    let cases: [(&[u8], &str); 3] = [
+    let cases: [(&[u8], &str); 4] = [
+        (
+            b"S <- [a-zZ-A]\n",
+            "{\"warnings\":[{\"column\":10,\"end\":12,\"kind\":\"ReversedRange\",\"line\":1,\"proved\":true,\"rule\":\"S\",\"start\":9}]}",
+        ),
         (
             b"S <- 'a'* / 'b'",
             "{\"warnings\":[{\"by\":[5,9],\"column\":13,\"end\":15,\"kind\":\"NeverTried\",\"line\":1,\"proved\":true,\"rule\":\"S\",\"start\":12}]}",

@@ -31,7 +31,7 @@ pub data RepliesTo (file text : List ℕ) : ToolTask → Reply → Type 0 where
   coded : {rules : List Rule} → Accepts file rules → RepliesTo file text CodeTask
       (Coded (program_code (core_bodies rules)) (entries_of (core_bodies rules)))
   linted : {rules : List Rule} {start : Option (List ℕ)} {reply : Reply} → Accepts file rules
-      → LintsTo rules start reply → RepliesTo file text (LintTask start) reply
+      → LintsTo file rules start reply → RepliesTo file text (LintTask start) reply
   parsed : {rules : List Rule} {start : Option (List ℕ)} {steps : Option ℕ} {all : Bool} {form : TreeForm}
       {reply : Reply} → Accepts file rules → ParsesTo rules text start steps all form reply
       → RepliesTo file text (ParseTask start steps all form) reply

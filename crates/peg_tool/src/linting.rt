@@ -12,7 +12,7 @@ use crate::loading::{Loaded, load};
 use peg_core::desugar;
 use peg_grammar::Grammar;
 use peg_json::{Line, lint_line, no_start_line};
-use peg_lint::warnings;
+use peg_lint::file_warnings;
 use std::alloc::{AllocError, Global};
 
 /// Returns the line of the warnings about a grammar file, or the one that reports why the file isn't accepted.
@@ -35,7 +35,7 @@ fn start_reply(
     start: Option<&str>,
 ) -> Result<Line, AllocError>
     ensures { IfOk result (λ line.
-        IsLineOf file.now (LintsTo (rules_in grammar.now) (option_map (λ name. name.now) start.entry))
+        IsLineOf file.now (LintsTo file.now (rules_in grammar.now) (option_map (λ name. name.now) start.entry))
         (line_bytes line) (status_code line.status)) }
 {
     match start {
@@ -55,7 +55,7 @@ fn named_reply(
     grammar: &Grammar,
     name: &str,
 ) -> Result<Line, AllocError>
-    ensures { IfOk result (λ line. IsLineOf file.now (LintsTo (rules_in grammar.now) (Some name.now))
+    ensures { IfOk result (λ line. IsLineOf file.now (LintsTo file.now (rules_in grammar.now) (Some name.now))
         (line_bytes line) (status_code line.status)) }
 {
     match grammar.rule_number(name) {
@@ -68,9 +68,9 @@ fn named_reply(
 fn lint_reply(alloc: Global, file: &[u8], grammar: &Grammar, rule: u32) -> Result<Line, AllocError>
     requires { rule < length (rules_in grammar.now) }
     ensures { (start : Option (List ℕ)) → start_number (rules_in grammar.now) start ≡ Some rule → IfOk result (λ line.
-        IsLineOf file.now (LintsTo (rules_in grammar.now) start) (line_bytes line) (status_code line.status)) }
+        IsLineOf file.now (LintsTo file.now (rules_in grammar.now) start) (line_bytes line) (status_code line.status)) }
 {
     let core = desugar(alloc, grammar)?;
-    let found = warnings(alloc, grammar, &core, rule)?;
+    let found = file_warnings(alloc, file, grammar, &core, rule)?;
     lint_line(alloc, file, grammar, &found)
 }

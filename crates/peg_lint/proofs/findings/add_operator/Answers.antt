@@ -24,6 +24,7 @@ says kind.NoEffect rules start number span by e part at said = (e, part, at, sai
 says kind.SameAlternative rules start number span by e part at said = absurd said
 says kind.Shadowed rules start number span by e part at said = absurd said
 says kind.NeverStops rules start number span by e part at said = absurd said
+says kind.ReversedRange rules start number span by e part at said = absurd said
 
 pub returns : goal.returns
 returns c = λ rules e part on outcome.

@@ -1,0 +1,12 @@
+-- Warnings that are true of a file.
+use Rattle.std.proofs.Common.{ℕ, List, [], ◌∷◌, ◌++◌, inr}
+use Rattle.std.proofs.lemmas.List.Elements.{All-push}
+use Rattle.peg_semantics.specs.Rules.{Rule}
+use Rattle.peg_lint.specs.FileWarnings.{IsTrueOfFile, IsTrueWarningIn}
+use Rattle.peg_lint.specs.Linting.{KeepsTrueIn}
+use Rattle.peg_lint.specs.declared.warning.Warning.{Warning}
+
+-- a warning that is true of the file's bytes, after true warnings
+pub KeepsTrueIn-push : (file : List ℕ) (rules : List Rule) (old : List Warning) (w : Warning)
+    → IsTrueOfFile file rules w → KeepsTrueIn file rules old (old ++ w ∷ [])
+KeepsTrueIn-push file rules old w is start are = All-push (IsTrueWarningIn file rules start) old w are (inr is)
