@@ -1,5 +1,6 @@
 mod CallLemmas
 mod ChoiceLemmas
+mod DotLemmas
 mod EffectLemmas
 mod FileLemmas
 mod HeadLemmas

@@ -20,5 +20,6 @@ pub mod Linting
 pub mod Reaching
 pub mod WithoutExtents
 pub mod Spelling
+pub mod Habits
 pub mod SpellingCode
 pub mod FileWarnings

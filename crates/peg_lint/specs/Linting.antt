@@ -60,6 +60,13 @@ SaysOfOperator kind.SameAlternative rules e = ⊥
 SaysOfOperator kind.Shadowed rules e = ⊥
 SaysOfOperator kind.NeverStops rules e = ⊥
 SaysOfOperator kind.ReversedRange rules e = ⊥
+SaysOfOperator kind.EmptyAlternative rules e = ⊥
+SaysOfOperator kind.AnyAtEnd rules e = ⊥
+SaysOfOperator kind.ClassBeginsWithCaret rules e = ⊥
+SaysOfOperator kind.ClassEndsInRange rules e = ⊥
+SaysOfOperator kind.HoldsLineEnd rules e = ⊥
+SaysOfOperator kind.HighBytesInClass rules e = ⊥
+SaysOfOperator kind.BlanksInClass rules e = ⊥
 
 -- a choice in a rule, with the outcomes of its alternatives
 pub record IsChoiceWith (rules : List Rule) (number : ℕ) (first : Form) (rest : Forms) (span : Extent) (can : Can)

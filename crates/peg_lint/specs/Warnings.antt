@@ -158,6 +158,13 @@ Says kind.SameAlternative rules start number span by = IsSameAlternative rules n
 Says kind.Shadowed rules start number span by = IsShadowed rules number span by
 Says kind.NeverStops rules start number span by = IsNeverStopping rules number span by
 Says kind.ReversedRange rules start number span by = ⊥
+Says kind.EmptyAlternative rules start number span by = ⊥
+Says kind.AnyAtEnd rules start number span by = ⊥
+Says kind.ClassBeginsWithCaret rules start number span by = ⊥
+Says kind.ClassEndsInRange rules start number span by = ⊥
+Says kind.HoldsLineEnd rules start number span by = ⊥
+Says kind.HighBytesInClass rules start number span by = ⊥
+Says kind.BlanksInClass rules start number span by = ⊥
 
 -- a warning is true of a grammar with these rules, parsed from this start rule
 abbrev pub IsTrueWarning : List Rule → (start : ℕ) → Warning → Type 0
@@ -175,6 +182,13 @@ rank_of kind.SameAlternative = 5
 rank_of kind.Shadowed = 6
 rank_of kind.NeverStops = 7
 rank_of kind.ReversedRange = 8
+rank_of kind.EmptyAlternative = 9
+rank_of kind.AnyAtEnd = 10
+rank_of kind.ClassBeginsWithCaret = 11
+rank_of kind.ClassEndsInRange = 12
+rank_of kind.HoldsLineEnd = 13
+rank_of kind.HighBytesInClass = 14
+rank_of kind.BlanksInClass = 15
 
 -- warnings in the order of the starts of their extents, and those with the same start in the order of their kinds
 pub record IsInWrittenOrder (warnings : List Warning) : Type 0 where

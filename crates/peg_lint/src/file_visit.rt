@@ -7,7 +7,8 @@ ghost use Rattle.peg_lint.specs.Linting.{AllArePartsOfRule, ArePartsOfRule, Keep
 ghost use Rattle.peg_lint.specs.Warnings.{IsPartOfRule};
 
 use crate::Warning;
-use crate::classes::add_reversed_ranges;
+use crate::classes::{add_of_class, add_of_literal};
+use crate::empty::add_empty_alternatives;
 use peg_grammar::Expr;
 use std::alloc::AllocError;
 
@@ -22,7 +23,9 @@ fn add_of_text(
         → KeepsTrueIn file.now rules found.old.items found.new.items) }
 {
     match expr {
-        Expr::Class { span, .. } => add_reversed_ranges(file, rule, *span, found),
+        Expr::Class { span, .. } => add_of_class(file, rule, *span, found),
+        Expr::Literal { span, .. } => add_of_literal(file, rule, *span, found),
+        Expr::Choice { first, rest, .. } => add_empty_alternatives(rule, first, rest, found),
         _ => Ok(()),
     }
 }

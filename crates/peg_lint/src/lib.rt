@@ -5,10 +5,13 @@
 mod alternatives;
 mod classes;
 mod digest;
+mod dots;
+mod empty;
 mod expressions;
 mod file_lint;
 mod file_visit;
 mod findings;
+mod habits;
 mod heads;
 mod lint;
 mod never;
@@ -17,6 +20,7 @@ mod outcomes;
 mod reach;
 mod repeats;
 mod same;
+mod selection;
 mod shadows;
 mod spelled;
 mod stops;
@@ -25,4 +29,4 @@ mod warning;
 
 pub use file_lint::file_warnings;
 pub use lint::warnings;
-pub use warning::{Warning, WarningKind};
+pub use warning::{Selection, Warning, WarningKind};

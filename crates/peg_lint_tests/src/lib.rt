@@ -6,6 +6,8 @@ mod classes;
 #[cfg(test)]
 mod found;
 #[cfg(test)]
+mod habits;
+#[cfg(test)]
 mod lines;
 #[cfg(test)]
 mod many_alternatives;

@@ -1,7 +1,7 @@
 //! Warnings as text.
 use peg_core::desugar;
 use peg_grammar::Grammar;
-use peg_lint::{Warning, file_warnings, warnings};
+use peg_lint::{Selection, Warning, file_warnings, warnings};
 use peg_notation::read;
 use std::alloc::{AllocError, Global};
 use std::test::Fail;
@@ -16,12 +16,16 @@ fn warnings_of(alloc: Global, file: &[u8]) -> Result<Vec<Warning>, Fail> {
 }
 
 // The warnings about a file, from its first rule.
-fn warnings_of_file(alloc: Global, file: &[u8]) -> Result<Vec<Warning>, Fail> {
+fn warnings_of_file(
+    alloc: Global,
+    file: &[u8],
+    selection: Selection,
+) -> Result<Vec<Warning>, Fail> {
     let grammar = Grammar::new(alloc, read(alloc, file)?)?;
     let core = desugar(alloc, &grammar)?;
     // A grammar has at least one rule, so rule 0 is one.
     let _count = grammar.rules();
-    Ok(file_warnings(alloc, file, &grammar, &core, 0)?)
+    Ok(file_warnings(alloc, file, &grammar, &core, 0, selection)?)
 }
 
 /// Returns the number of warnings about a file's grammar.
@@ -37,7 +41,12 @@ pub(crate) fn lines_of(alloc: Global, file: &[u8]) -> Result<String, Fail> {
 
 /// Returns the warnings about a file from its first rule, as text of the same form.
 pub(crate) fn file_lines_of(alloc: Global, file: &[u8]) -> Result<String, Fail> {
-    text_of(alloc, &warnings_of_file(alloc, file)?)
+    text_of(alloc, &warnings_of_file(alloc, file, Selection::All)?)
+}
+
+/// Returns the warnings of proved kinds about a file from its first rule, as text of the same form.
+pub(crate) fn proved_lines_of(alloc: Global, file: &[u8]) -> Result<String, Fail> {
+    text_of(alloc, &warnings_of_file(alloc, file, Selection::Proved)?)
 }
 
 // Warnings as text.

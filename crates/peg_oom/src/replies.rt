@@ -12,7 +12,7 @@ use peg_json::{
     lint_line, long_text_line, no_start_line, refusal_json, refused_line, step_limit_line,
     table_json, table_line,
 };
-use peg_lint::{file_warnings, warnings};
+use peg_lint::{Selection, file_warnings, warnings};
 use peg_parser::{ParseOptions, Parser, Refusal, grammar_of};
 use peg_tree::JsonFault;
 use std::alloc::{AllocError, Global};
@@ -212,7 +212,7 @@ fn found_in_file(rt: &impl Print, alloc: Global) -> io::Result<()> {
     let core = desugar(alloc, &grammar)?;
     let borrowed = (WARNED, &grammar, &core);
     let borrowed = Borrowed::of(alloc, &borrowed)?;
-    let answer = file_warnings(alloc, WARNED, &grammar, &core, 0);
+    let answer = file_warnings(alloc, WARNED, &grammar, &core, 0, Selection::All);
     report(rt, &borrowed, answer.is_err(), &answer)
 }
 

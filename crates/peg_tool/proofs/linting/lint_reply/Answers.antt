@@ -1,7 +1,7 @@
-use Rattle.std.proofs.Common.{All, subst, sym}
+use Rattle.std.proofs.Common.{All, IsTrue, subst, sym}
 use Rattle.peg_semantics.specs.Rules.{names}
 use Rattle.peg_grammar.specs.GrammarRules.{rules_in}
-use Rattle.peg_lint.specs.FileWarnings.{IsTrueWarningIn}
+use Rattle.peg_lint.specs.FileWarnings.{IsTrueWarningIn, is_selected}
 use Rattle.peg_lint.specs.Warnings.{IsInWrittenOrder}
 use Rattle.peg_json.specs.Lints.{LintsTo, warned}
 use Rattle.peg_json.specs.Reply.{Linted}
@@ -17,8 +17,10 @@ pub returns : goal.returns
 returns c start is =
     let rules = rules_in c.args.grammar.now in
     let found = c.deref.result.now in
-    reply-kind c.lint_line.result c.args.file.now (LintsTo c.args.file.now rules start) (Linted (names rules) found)
+    reply-kind c.lint_line.result c.args.file.now (LintsTo c.args.file.now rules start c.args.selection) (Linted (names rules) found)
     c.lint_line.ensures
     (warned c.args.rule found is
     (subst (All (IsTrueWarningIn c.args.file.now rules c.args.rule)) (sym c.deref.ensures.value) c.in_ok-found.ensures.true_warnings)
+    (subst (All (λ warning. IsTrue (is_selected c.args.selection warning))) (sym c.deref.ensures.value)
+    c.in_ok-found.ensures.selected)
     (subst IsInWrittenOrder (sym c.deref.ensures.value) c.in_ok-found.ensures.in_order))

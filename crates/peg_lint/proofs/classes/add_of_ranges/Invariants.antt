@@ -6,7 +6,7 @@ use Rattle.peg_semantics.specs.Rules.{Rule}
 use Rattle.peg_lint.specs.Linting.{KeepsTrueIn}
 use Rattle.peg_lint.specs.Spelling.{RangesBetween}
 use Rattle.peg_lint.specs.Warnings.{IsPartOfRule}
-use Rattle.peg_lint.proofs.classes.add_reversed_ranges.Given as goal
+use Rattle.peg_lint.proofs.classes.add_of_ranges.Given as goal
 
 abbrev pub invariant-spelled : goal.invariant-spelled
 invariant-spelled l = record {
