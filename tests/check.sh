@@ -134,11 +134,16 @@ for grammar in *.peg cookbook/*.peg lint/fixed.peg; do
   is_json lint "$grammar"
   [ "$(cat "$folder/line")" = '{"warnings":[]}' ] || fault "warnings about $grammar"
 done
-run 1 /dev/null lint lint/mistakes.peg
-is_json lint lint/mistakes.peg
-kinds=$(grep -o '"kind":"[A-Za-z]*"' "$folder/line" | sort | cut -d '"' -f 4 | tr '\n' ' ')
-[ "$kinds" = "AlwaysFails NeverMatches NeverStops NeverTried NoEffect SameAlternative Shadowed UnusedRule " ] \
-  || fault "not each kind of warning once: $kinds"
+proved="AlwaysFails NeverMatches NeverStops NeverTried NoEffect ReversedRange SameAlternative Shadowed UnusedRule"
+habits="AnyAtEnd BlanksInClass ClassBeginsWithCaret ClassEndsInRange EmptyAlternative HighBytesInClass HoldsLineEnd"
+for words in "" "--proved"; do
+  # shellcheck disable=SC2086
+  run 1 /dev/null lint lint/mistakes.peg $words
+  is_json lint "lint/mistakes.peg $words"
+  kinds=$(grep -o '"kind":"[A-Za-z]*"' "$folder/line" | cut -d '"' -f 4 | LC_ALL=C sort | tr '\n' ' ')
+  wanted=$(echo "$proved $([ -n "$words" ] || echo "$habits")" | tr ' ' '\n' | grep . | LC_ALL=C sort | tr '\n' ' ')
+  [ "$kinds" = "$wanted" ] || fault "not each kind of warning once: $kinds"
+done
 run 3 /dev/null lint lint/fixed.peg --start None
 
 # Words that are no command line.

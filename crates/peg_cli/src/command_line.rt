@@ -54,7 +54,7 @@ fn code<'a>(alloc: Global) -> Result<Command<'a>, AllocError> {
 
 fn lint<'a>(alloc: Global) -> Result<Command<'a>, AllocError> {
     Command::new(alloc, "lint")
-        .about("Prints warnings about a grammar, each of them proved")
+        .about("Prints warnings about a grammar: proved ones, and habits of other notations")
         .after_help(LINT_NOTES)
         .arg(grammar_file(alloc))?
         .arg(start_option(alloc))?
@@ -130,7 +130,7 @@ fn proved_flag<'a>(alloc: Global) -> Arg<'a> {
     Arg::new(alloc, "proved")
         .long("proved")
         .action(ArgAction::SetTrue)
-        .help("Prints only warnings that are proved; at present all of them are")
+        .help("Prints only proved warnings, without habits of other notations")
 }
 
 // The text after the program's help.
@@ -192,9 +192,10 @@ Example: pegtool code grammar.peg";
 // The text after the help of `lint`.
 const LINT_NOTES: &str = "\
 Prints one line of JSON: the warnings in the order of the file, each with its kind,
-its rule, its span, and the line and column where it starts. Each warning is true
-of every text: an alternative is never tried, an expression never matches, an
-operator has no effect, and others.
+its rule, its span, and the line and column where it starts. A warning that has
+\"proved\":true is true of every text: an alternative is never tried, an expression
+never matches, an operator has no effect, and others. The others are about habits
+of other notations, such as a class that begins with a caret.
 
 Status: 0 no warnings; 1 warnings; 2 the grammar is refused; 3 wrong arguments, or
 an unknown start rule; 4 a file can't be opened or read, or the output can't be

@@ -1,5 +1,5 @@
 //! Runs of the command `lint`, against warnings worked by hand.
-use peg_tool::{Command, Device, run_tool};
+use peg_tool::{Command, Device, Selection, run_tool};
 use std::alloc::Global;
 use std::process::Abort;
 use std::test::Fail;
@@ -13,13 +13,26 @@ fn assert_line(
     line: &str,
     status: u8,
 ) -> Result<(), Fail> {
+    assert_selected(rt, alloc, file, start, Selection::All, line, status)
+}
+
+// The same for a selection of the warnings.
+fn assert_selected(
+    rt: &impl Abort,
+    alloc: Global,
+    file: &[u8],
+    start: Option<&str>,
+    selection: Selection,
+    line: &str,
+    status: u8,
+) -> Result<(), Fail> {
     let mut written = Vec::new(alloc);
     let ended = run_tool(
         alloc,
         &mut Device::new(file),
         &mut Device::new(b"".as_slice()),
         &mut Device::new(&mut written),
-        &Command::Lint { start },
+        &Command::Lint { start, selection },
     )?;
     let wanted = format!(in alloc; "{line}\n")?;
     assert!(rt; written.as_slice() == wanted.as_bytes(), "{line}");
@@ -63,7 +76,11 @@ fn unused_rules_depend_on_the_start(rt: HostRuntime) -> Result<(), Fail> {
 
 #[test]
 fn typical_mistakes_have_warnings(rt: HostRuntime) -> Result<(), Fail> {
-    let cases: [(&[u8], &str); 4] = [
+    let cases: [(&[u8], &str); 5] = [
+        (
+            b"Digit <- [9-0]\n",
+            "{\"warnings\":[{\"column\":11,\"end\":13,\"kind\":\"ReversedRange\",\"line\":1,\"proved\":true,\"rule\":\"Digit\",\"start\":10}]}",
+        ),
         (
             b"Op <- '<' / '<='\n",
             "{\"warnings\":[{\"by\":[6,9],\"column\":13,\"end\":16,\"kind\":\"Shadowed\",\"line\":1,\"proved\":true,\"rule\":\"Op\",\"start\":12}]}",
@@ -85,6 +102,21 @@ fn typical_mistakes_have_warnings(rt: HostRuntime) -> Result<(), Fail> {
         assert_line(&rt, rt.alloc(), file, None, line, 1)?;
     }
     Ok(())
+}
+
+#[test]
+fn habits_are_left_out_if_only_proved_warnings_are_asked_for(rt: HostRuntime) -> Result<(), Fail> {
+    let alloc = rt.alloc();
+    let file = b"Text <- [^x]\n";
+    let caret =
+        "{\"warnings\":[{\"column\":9,\"end\":12,\"kind\":\"ClassBeginsWithCaret\",\"line\":1,\"proved\":false,\"rule\":\"Text\",\"start\":8}]}";
+    assert_line(&rt, alloc, file, None, caret, 1)?;
+    let proved = Selection::Proved;
+    let none = "{\"warnings\":[]}";
+    assert_selected(&rt, alloc, file, None, proved, none, 0)?;
+    let reversed =
+        "{\"warnings\":[{\"column\":11,\"end\":13,\"kind\":\"ReversedRange\",\"line\":1,\"proved\":true,\"rule\":\"Text\",\"start\":10}]}";
+    assert_selected(&rt, alloc, b"Text <- [^z-a]\n", None, proved, reversed, 1)
 }
 
 #[test]

@@ -13,6 +13,7 @@ pub use Rattle.peg_semantics.specs.Terminals
 pub use Rattle.peg_grammar.specs.GrammarRules
 pub use Rattle.peg_grammar.specs.Limits
 pub use Rattle.peg_lint.specs.Never
+pub use Rattle.peg_lint.specs.FileWarnings
 pub use Rattle.peg_lint.specs.Warnings
 pub use Rattle.peg_parser.specs.Cause
 pub use Rattle.peg_parser.specs.Faults

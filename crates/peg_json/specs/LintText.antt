@@ -1,11 +1,12 @@
 -- The printed warnings about a grammar.
-use Rattle.std.specs.Prelude.{ℕ, true, List, [], ◌∷◌, codes, map, Option, None, Some}
+use Rattle.std.specs.Prelude.{ℕ, List, [], ◌∷◌, codes, map, Option, None, Some}
 use Rattle.serde_json.specs.Data.{Data, Members, unsigned, number, boolean, string, array, object, no_members, member}
 use Rattle.serde_json.specs.Data.{no_items, item}
 use Rattle.serde_json.specs.View.{items_of}
 use Rattle.peg_bytes.specs.Place.{line_at, column_at}
 use Rattle.peg_bytes.specs.declared.span.Span.{Span}
 use Rattle.peg_tree.specs.Names.{name_at}
+use Rattle.peg_lint.specs.FileWarnings.{is_proved}
 use Rattle.peg_lint.specs.declared.warning.Warning.{Warning}
 use Rattle.peg_lint.specs.declared.warning.WarningKind.{WarningKind}
 use Rattle.peg_lint.specs.declared.warning.WarningKind.TheVariants as kind
@@ -20,6 +21,14 @@ kind_name kind.NoEffect = codes "NoEffect"
 kind_name kind.SameAlternative = codes "SameAlternative"
 kind_name kind.Shadowed = codes "Shadowed"
 kind_name kind.NeverStops = codes "NeverStops"
+kind_name kind.ReversedRange = codes "ReversedRange"
+kind_name kind.EmptyAlternative = codes "EmptyAlternative"
+kind_name kind.AnyAtEnd = codes "AnyAtEnd"
+kind_name kind.ClassBeginsWithCaret = codes "ClassBeginsWithCaret"
+kind_name kind.ClassEndsInRange = codes "ClassEndsInRange"
+kind_name kind.HoldsLineEnd = codes "HoldsLineEnd"
+kind_name kind.HighBytesInClass = codes "HighBytesInClass"
+kind_name kind.BlanksInClass = codes "BlanksInClass"
 
 -- the members of a warning, with the span of its cause first if it has one
 abbrev pub with_cause : Option Span → Members → Members
@@ -30,7 +39,7 @@ with_cause (Some span) others =
 -- the last members of a warning about a rule with this name
 abbrev pub rule_members : (rule : List ℕ) → Warning → Members
 rule_members rule warning =
-    member (codes "proved") (boolean true) (member (codes "rule") (string rule)
+    member (codes "proved") (boolean (is_proved warning.kind)) (member (codes "rule") (string rule)
     (member (codes "start") (number (unsigned warning.span.start)) no_members))
 
 -- the members but the cause of a warning that starts at this line and column, about a rule with this name

@@ -1,5 +1,5 @@
 //! Warnings about a grammar as JSON.
-ghost use Rattle.std.specs.Prelude.{◌≡◌, ◌+◌, ◌-◌, ◌≤◌, IfOk, OnOk, codes, map, string_bytes, true};
+ghost use Rattle.std.specs.Prelude.{◌≡◌, ◌+◌, ◌-◌, ◌≤◌, IfOk, OnOk, codes, map, string_bytes};
 ghost use Rattle.serde.specs.Event.{Log};
 ghost use Rattle.serde_json.specs.Data.{Members, array, boolean, member, number, object, string, unsigned};
 ghost use Rattle.serde_json.specs.Events.{SendsMembers, SendsValue, members_len};
@@ -7,6 +7,7 @@ ghost use Rattle.serde_json.specs.View.{items_of};
 ghost use Rattle.serde_json.specs.Written.{compact_text};
 ghost use Rattle.peg_grammar.specs.GrammarRules.{rules_in};
 ghost use Rattle.peg_semantics.specs.Rules.{name_of, names};
+ghost use Rattle.peg_lint.specs.FileWarnings.{is_proved};
 ghost use Rattle.peg_json.specs.LintText.{kind_name, lint_data, placed_data, warning_data, with_cause};
 
 use crate::expected_spans::serialize_span;
@@ -140,10 +141,10 @@ fn serialize_place<S: Serializer>(
 // Serializes the members from the proof to the start.
 fn serialize_rule<S: Serializer>(rule: &str, warning: &Warning, out: &mut S) -> Result<(), S::Error>
     ensures { OnOk result ((rest : Members) (last : Log) → SendsMembers rest (S.written out.new) last
-        → SendsMembers (member (codes "proved") (boolean true) (member (codes "rule") (string rule.now)
+        → SendsMembers (member (codes "proved") (boolean (is_proved warning.now.kind)) (member (codes "rule") (string rule.now)
         (member (codes "start") (number (unsigned warning.now.span.start)) rest))) (S.written out.old) last) }
 {
-    serialize_member("proved", &true, out)?;
+    serialize_member("proved", &warning.kind.is_proved(), out)?;
     serialize_member("rule", &rule, out)?;
     serialize_member("start", &warning.span.start, out)
 }
@@ -172,5 +173,13 @@ fn name_of_kind(kind: WarningKind) -> &'static str
         WarningKind::SameAlternative => "SameAlternative",
         WarningKind::Shadowed => "Shadowed",
         WarningKind::NeverStops => "NeverStops",
+        WarningKind::ReversedRange => "ReversedRange",
+        WarningKind::EmptyAlternative => "EmptyAlternative",
+        WarningKind::AnyAtEnd => "AnyAtEnd",
+        WarningKind::ClassBeginsWithCaret => "ClassBeginsWithCaret",
+        WarningKind::ClassEndsInRange => "ClassEndsInRange",
+        WarningKind::HoldsLineEnd => "HoldsLineEnd",
+        WarningKind::HighBytesInClass => "HighBytesInClass",
+        WarningKind::BlanksInClass => "BlanksInClass",
     }
 }

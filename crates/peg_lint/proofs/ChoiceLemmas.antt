@@ -71,3 +71,14 @@ before (x ∷ xs) i zero one other less at there = absurd (omega (arith, less))
 before (x ∷ xs) zero (suc j) one other less at there =
     let same : x ≡ one = cc in inl (ap form_of same, among xs j other there)
 before (x ∷ xs) (suc i) (suc j) one other less at there = inr (before xs i j one other (omega (arith, less)) at there)
+
+-- an expression that isn't the last comes before one of the others
+pub before-some : (items : List Expr) (i : ℕ) (one : Expr) → i + 1 < length items → slice_get items i ≡ Some one
+    → (later : Form) × ComesBefore (forms (map form_of items)) (form_of one) later
+before-some [] i one within at = absurd (omega (arith, within))
+before-some (x ∷ []) zero one within at = absurd (omega (arith, within))
+before-some (x ∷ y ∷ ys) zero one within at = let same : x ≡ one = cc in (form_of y, inl (ap form_of same, inl refl))
+before-some (x ∷ xs) (suc i) one within at =
+    let more : (later : Form) × ComesBefore (forms (map form_of xs)) (form_of one) later =
+    before-some xs i one (omega (arith, within)) at in
+    (more.0, inr more.1)

@@ -1,6 +1,8 @@
 mod CallLemmas
 mod ChoiceLemmas
+mod DotLemmas
 mod EffectLemmas
+mod FileLemmas
 mod HeadLemmas
 mod NeverLemmas
 mod OutcomeLemmas

@@ -8,6 +8,10 @@ pub use Rattle.peg_semantics.specs.Rules
 pub use Rattle.peg_semantics.specs.WellFormed
 pub use Rattle.peg_grammar.specs.GrammarRules
 pub use Rattle.peg_grammar.specs.Written
+pub use Rattle.peg_metagrammar.specs.Denotation
+pub use Rattle.peg_metagrammar.specs.Ranges
+pub use Rattle.peg_lexer.specs.Lexical
+pub use Rattle.peg_lexer.specs.Matchers
 pub use Rattle.peg_check.specs.Cans
 pub mod Never
 pub mod Outcomes
@@ -15,3 +19,7 @@ pub mod Warnings
 pub mod Linting
 pub mod Reaching
 pub mod WithoutExtents
+pub mod Spelling
+pub mod Habits
+pub mod SpellingCode
+pub mod FileWarnings

@@ -7,6 +7,7 @@ use Rattle.peg_semantics.specs.Form.{And, Not, Then}
 use Rattle.peg_semantics.specs.RuleOutcomes.{IsAbstractOutcome}
 use Rattle.peg_semantics.specs.Rules.{Rule}
 use Rattle.peg_semantics.specs.WellFormed.{subexpressions, below_all}
+use Rattle.peg_lint.specs.FileWarnings.{IsTrueWarningIn}
 use Rattle.peg_lint.specs.Never.{FailsWhere, NeverFails, NeverMatches}
 use Rattle.peg_lint.specs.Outcomes.{AreOutcomes}
 use Rattle.peg_lint.specs.Warnings.{ComesBefore, IsAmong, IsPartOfRule, IsPredicate, IsTrueWarning, IsWithoutEffect}
@@ -27,6 +28,11 @@ AllArePartsOfRule rules number items = (x : Form) → Contains (below_all items)
 abbrev pub KeepsTrue : List Rule → (earlier later : List Warning) → Type 0
 KeepsTrue rules earlier later =
     (start : ℕ) → All (IsTrueWarning rules start) earlier → All (IsTrueWarning rules start) later
+
+-- the later warnings are true of a file if the earlier ones are, whatever the start rule
+abbrev pub KeepsTrueIn : (file : List ℕ) → List Rule → (earlier later : List Warning) → Type 0
+KeepsTrueIn file rules earlier later =
+    (start : ℕ) → All (IsTrueWarningIn file rules start) earlier → All (IsTrueWarningIn file rules start) later
 
 -- an operator and its part
 abbrev pub IsOperatorOn : Form → (part : Form) → Type 0
@@ -53,6 +59,14 @@ SaysOfOperator kind.NoEffect rules e = IsWithoutEffect rules e
 SaysOfOperator kind.SameAlternative rules e = ⊥
 SaysOfOperator kind.Shadowed rules e = ⊥
 SaysOfOperator kind.NeverStops rules e = ⊥
+SaysOfOperator kind.ReversedRange rules e = ⊥
+SaysOfOperator kind.EmptyAlternative rules e = ⊥
+SaysOfOperator kind.AnyAtEnd rules e = ⊥
+SaysOfOperator kind.ClassBeginsWithCaret rules e = ⊥
+SaysOfOperator kind.ClassEndsInRange rules e = ⊥
+SaysOfOperator kind.HoldsLineEnd rules e = ⊥
+SaysOfOperator kind.HighBytesInClass rules e = ⊥
+SaysOfOperator kind.BlanksInClass rules e = ⊥
 
 -- a choice in a rule, with the outcomes of its alternatives
 pub record IsChoiceWith (rules : List Rule) (number : ℕ) (first : Form) (rest : Forms) (span : Extent) (can : Can)

@@ -146,7 +146,7 @@ IsNeverStopping rules number span by =
     × FollowsIn items repeat next × (extent_of next ≡ span) × (Some (extent_of repeat) ≡ by)
     × NeverMatches rules (Seq items whole)
 
--- what each kind of warning says
+-- what each kind of warning says of the rules; `SaysOfFile` has the kinds that say something of the file's bytes
 abbrev pub Says : WarningKind → List Rule → (start number : ℕ) → Extent → Option Extent → Type 0
 Says kind.UnusedRule rules start number span by = IsUnusedRule rules start number span
 Says kind.NeverMatches rules start number span by = IsPartWith rules number span (NeverMatches rules)
@@ -157,6 +157,14 @@ Says kind.NoEffect rules start number span by = IsPartWith rules number span (Is
 Says kind.SameAlternative rules start number span by = IsSameAlternative rules number span by
 Says kind.Shadowed rules start number span by = IsShadowed rules number span by
 Says kind.NeverStops rules start number span by = IsNeverStopping rules number span by
+Says kind.ReversedRange rules start number span by = ⊥
+Says kind.EmptyAlternative rules start number span by = ⊥
+Says kind.AnyAtEnd rules start number span by = ⊥
+Says kind.ClassBeginsWithCaret rules start number span by = ⊥
+Says kind.ClassEndsInRange rules start number span by = ⊥
+Says kind.HoldsLineEnd rules start number span by = ⊥
+Says kind.HighBytesInClass rules start number span by = ⊥
+Says kind.BlanksInClass rules start number span by = ⊥
 
 -- a warning is true of a grammar with these rules, parsed from this start rule
 abbrev pub IsTrueWarning : List Rule → (start : ℕ) → Warning → Type 0
@@ -173,6 +181,14 @@ rank_of kind.NoEffect = 4
 rank_of kind.SameAlternative = 5
 rank_of kind.Shadowed = 6
 rank_of kind.NeverStops = 7
+rank_of kind.ReversedRange = 8
+rank_of kind.EmptyAlternative = 9
+rank_of kind.AnyAtEnd = 10
+rank_of kind.ClassBeginsWithCaret = 11
+rank_of kind.ClassEndsInRange = 12
+rank_of kind.HoldsLineEnd = 13
+rank_of kind.HighBytesInClass = 14
+rank_of kind.BlanksInClass = 15
 
 -- warnings in the order of the starts of their extents, and those with the same start in the order of their kinds
 pub record IsInWrittenOrder (warnings : List Warning) : Type 0 where

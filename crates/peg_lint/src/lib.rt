@@ -1,10 +1,17 @@
-//! Warnings about grammars. Each warning is a theorem about Ford's recognition relation on the grammar as written.
+//! Warnings about grammars. Those of `warnings` are theorems about Ford's recognition relation on the
+//! grammar as written. The others say what the file has at their spans.
 #![tactic(auto)]
 
 mod alternatives;
+mod classes;
 mod digest;
+mod dots;
+mod empty;
 mod expressions;
+mod file_lint;
+mod file_visit;
 mod findings;
+mod habits;
 mod heads;
 mod lint;
 mod never;
@@ -13,10 +20,13 @@ mod outcomes;
 mod reach;
 mod repeats;
 mod same;
+mod selection;
 mod shadows;
+mod spelled;
 mod stops;
 mod visit;
 mod warning;
 
+pub use file_lint::file_warnings;
 pub use lint::warnings;
-pub use warning::{Warning, WarningKind};
+pub use warning::{Selection, Warning, WarningKind};

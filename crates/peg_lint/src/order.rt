@@ -19,6 +19,14 @@ fn rank(kind: WarningKind) -> u8
         WarningKind::SameAlternative => 5,
         WarningKind::Shadowed => 6,
         WarningKind::NeverStops => 7,
+        WarningKind::ReversedRange => 8,
+        WarningKind::EmptyAlternative => 9,
+        WarningKind::AnyAtEnd => 10,
+        WarningKind::ClassBeginsWithCaret => 11,
+        WarningKind::ClassEndsInRange => 12,
+        WarningKind::HoldsLineEnd => 13,
+        WarningKind::HighBytesInClass => 14,
+        WarningKind::BlanksInClass => 15,
     }
 }
 

@@ -1,4 +1,6 @@
 //! Warnings and their kinds.
+ghost use Rattle.std.specs.Prelude.{◌≡◌};
+
 use peg_bytes::Span;
 
 /// What a warning says of a part of a grammar.
@@ -20,6 +22,75 @@ pub enum WarningKind {
     Shadowed,
     /// An item of a sequence that fails wherever the star or plus before it ends.
     NeverStops,
+    /// A range in a class whose first byte is greater than its last, so that it holds no byte.
+    ReversedRange,
+    /// An empty alternative that is not the last one, as a leading or a doubled slash leaves it.
+    EmptyAlternative,
+    /// A dot at the end of a rule before another one, after another item, as some notations end each rule.
+    AnyAtEnd,
+    /// A class that begins with a caret, which other notations read as all other bytes.
+    ClassBeginsWithCaret,
+    /// A range in a class whose last character is a bracket without a backslash.
+    ClassEndsInRange,
+    /// A literal or a class that goes over the end of a line.
+    HoldsLineEnd,
+    /// A class with a byte that isn't ASCII. A letter of UTF-8 is two bytes or more there.
+    HighBytesInClass,
+    /// A class with a space at both ends, and something between them.
+    BlanksInClass,
+}
+
+impl WarningKind {
+    ghost use Rattle.peg_lint.specs.FileWarnings.{is_proved};
+
+    /// Returns whether a warning of this kind is proved: it is true of every text, or a range holds no byte. The other
+    /// kinds are habits of other notations.
+    pub fn is_proved(self) -> bool
+        ensures { result ≡ is_proved self }
+    {
+        match self {
+            WarningKind::UnusedRule
+            | WarningKind::NeverMatches
+            | WarningKind::NeverTried
+            | WarningKind::AlwaysFails
+            | WarningKind::NoEffect
+            | WarningKind::SameAlternative
+            | WarningKind::Shadowed
+            | WarningKind::NeverStops
+            | WarningKind::ReversedRange => true,
+            WarningKind::EmptyAlternative
+            | WarningKind::AnyAtEnd
+            | WarningKind::ClassBeginsWithCaret
+            | WarningKind::ClassEndsInRange
+            | WarningKind::HoldsLineEnd
+            | WarningKind::HighBytesInClass
+            | WarningKind::BlanksInClass => false,
+        }
+    }
+}
+
+/// Which warnings are reported.
+#[derive(Clone, Copy, Debug, PartialEq, Eq)]
+pub enum Selection {
+    /// All warnings.
+    All,
+    /// Only those of a kind that is proved.
+    Proved,
+}
+
+impl Selection {
+    ghost use Rattle.peg_lint.specs.FileWarnings.{selection_of};
+
+    /// Returns `Proved` if `proved` is set, otherwise `All`.
+    pub fn from_proved(proved: bool) -> Selection
+        ensures { result ≡ selection_of proved }
+    {
+        if proved {
+            Selection::Proved
+        } else {
+            Selection::All
+        }
+    }
 }
 
 /// A warning about a part of a grammar.

@@ -2,7 +2,11 @@
 #![tactic(auto)]
 
 #[cfg(test)]
+mod classes;
+#[cfg(test)]
 mod found;
+#[cfg(test)]
+mod habits;
 #[cfg(test)]
 mod lines;
 #[cfg(test)]

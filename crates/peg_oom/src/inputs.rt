@@ -53,7 +53,7 @@ pub(crate) const MISSING: &[u8] = b"A <- B\n";
 pub(crate) const WARNED: &[u8] = b"\
     S <- 'a' / 'ab' / T* / 'c'\n\
     T <- 'x'+ 'x' / 'y' / 'y'\n\
-    U <- (T / 'z')?\n";
+    U <- (T / 'z' / [z-y])?\n";
 
 /// A class without its closing bracket.
 pub(crate) const OPEN: &[u8] = b"A <- [a-]\n";

@@ -12,13 +12,13 @@ use peg_json::{
     lint_line, long_text_line, no_start_line, refusal_json, refused_line, step_limit_line,
     table_json, table_line,
 };
-use peg_lint::warnings;
+use peg_lint::{Selection, file_warnings, warnings};
 use peg_parser::{ParseOptions, Parser, Refusal, grammar_of};
 use peg_tree::JsonFault;
 use std::alloc::{AllocError, Global};
 use std::io;
 
-pub(crate) const WORDS: [&str; 25] = [
+pub(crate) const WORDS: [&str; 26] = [
     "answer_json",
     "answer_json_rows",
     "answer_json_deep",
@@ -38,6 +38,7 @@ pub(crate) const WORDS: [&str; 25] = [
     "code_json",
     "code_line",
     "warnings",
+    "file_warnings",
     "lint_json",
     "lint_line",
     "accepted_line",
@@ -65,6 +66,7 @@ pub(crate) fn call(rt: &impl Print, alloc: Global, word: &str) -> Option<io::Res
         "code_json" => code_text(rt, alloc),
         "code_line" => code_of_line(rt, alloc),
         "warnings" => found(rt, alloc),
+        "file_warnings" => found_in_file(rt, alloc),
         "lint_json" => lint_text(rt, alloc),
         "lint_line" => lint_of_line(rt, alloc),
         "accepted_line" => accepted(rt, alloc),
@@ -202,6 +204,15 @@ fn found(rt: &impl Print, alloc: Global) -> io::Result<()> {
     let borrowed = (&grammar, &core);
     let borrowed = Borrowed::of(alloc, &borrowed)?;
     let answer = warnings(alloc, &grammar, &core, 0);
+    report(rt, &borrowed, answer.is_err(), &answer)
+}
+
+fn found_in_file(rt: &impl Print, alloc: Global) -> io::Result<()> {
+    let grammar = grammar(alloc, WARNED)?;
+    let core = desugar(alloc, &grammar)?;
+    let borrowed = (WARNED, &grammar, &core);
+    let borrowed = Borrowed::of(alloc, &borrowed)?;
+    let answer = file_warnings(alloc, WARNED, &grammar, &core, 0, Selection::All);
     report(rt, &borrowed, answer.is_err(), &answer)
 }
 

@@ -5,8 +5,8 @@ use crate::ending::{Borrowed, report};
 use crate::inputs::{CHAIN, COUNTS, CYCLE, LOOP, MISSING, OPEN, PREFIX, TWICE, WARNED};
 use peg_io::{ReadFault, read_up_to};
 use peg_tool::{
-    Command, Device, OpenFault, Opener, ParseOptions, ProgramFault, Words, WordsFault, read_words,
-    run_joined, run_tool, run_words,
+    Command, Device, OpenFault, Opener, ParseOptions, ProgramFault, Selection, Words, WordsFault,
+    read_words, run_joined, run_tool, run_words,
 };
 use std::alloc::{AllocError, Global};
 use std::io;
@@ -93,7 +93,8 @@ fn linted(rt: &impl Print, alloc: Global, word: &str) -> Option<io::Result<()>> 
         "tool_lint_open" => (OPEN, None),
         _ => return None,
     };
-    Some(tool(rt, alloc, file, b"", &Command::Lint { start }))
+    let selection = Selection::All;
+    Some(tool(rt, alloc, file, b"", &Command::Lint { start, selection }))
 }
 
 fn parsed(rt: &impl Print, alloc: Global, word: &str) -> Option<io::Result<()>> {

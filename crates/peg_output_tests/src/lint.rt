@@ -1,7 +1,7 @@
 //! Warnings as JSON.
 use peg_core::desugar;
 use peg_json::{Status, lint_line};
-use peg_lint::warnings;
+use peg_lint::{Selection, file_warnings};
 use peg_parser::grammar_of;
 use std::alloc::Global;
 use std::process::Abort;
@@ -19,7 +19,7 @@ fn assert_line(
     let core = desugar(alloc, &grammar)?;
     // A grammar has at least one rule, so rule 0 is one.
     let _count = grammar.rules();
-    let found = warnings(alloc, &grammar, &core, 0)?;
+    let found = file_warnings(alloc, file, &grammar, &core, 0, Selection::All)?;
     let printed = lint_line(alloc, file, &grammar, &found)?;
     assert!(rt; printed.head.as_str() == line, "{}", printed.head);
     assert_eq!(rt; printed.status, status);
@@ -60,7 +60,27 @@ fn warnings_have_their_lines_and_columns(rt: HostRuntime) -> Result<(), Fail> {
 
 #[test]
 fn each_kind_has_its_name(rt: HostRuntime) -> Result<(), Fail> {
-    let cases: [(&[u8], &str); 3] = [
+    let cases: [(&[u8], &str); 8] = [
+        (
+            b"S <- [^ a ]\n",
+            "{\"warnings\":[{\"column\":6,\"end\":11,\"kind\":\"ClassBeginsWithCaret\",\"line\":1,\"proved\":false,\"rule\":\"S\",\"start\":5}]}",
+        ),
+        (
+            b"S <- [ \x80 ] '\n'\n",
+            "{\"warnings\":[{\"column\":6,\"end\":10,\"kind\":\"HighBytesInClass\",\"line\":1,\"proved\":false,\"rule\":\"S\",\"start\":5},{\"column\":6,\"end\":10,\"kind\":\"BlanksInClass\",\"line\":1,\"proved\":false,\"rule\":\"S\",\"start\":5},{\"column\":12,\"end\":14,\"kind\":\"HoldsLineEnd\",\"line\":1,\"proved\":false,\"rule\":\"S\",\"start\":11}]}",
+        ),
+        (
+            b"S <- T .\nT <- [+-]]\n",
+            "{\"warnings\":[{\"column\":8,\"end\":8,\"kind\":\"AnyAtEnd\",\"line\":1,\"proved\":false,\"rule\":\"S\",\"start\":7},{\"column\":7,\"end\":18,\"kind\":\"ClassEndsInRange\",\"line\":2,\"proved\":false,\"rule\":\"T\",\"start\":15}]}",
+        ),
+        (
+            b"S <- 'a' // 'b'",
+            "{\"warnings\":[{\"column\":11,\"end\":10,\"kind\":\"EmptyAlternative\",\"line\":1,\"proved\":false,\"rule\":\"S\",\"start\":10},{\"by\":[10,10],\"column\":13,\"end\":15,\"kind\":\"NeverTried\",\"line\":1,\"proved\":true,\"rule\":\"S\",\"start\":12}]}",
+        ),
+        (
+            b"S <- [a-zZ-A]\n",
+            "{\"warnings\":[{\"column\":10,\"end\":12,\"kind\":\"ReversedRange\",\"line\":1,\"proved\":true,\"rule\":\"S\",\"start\":9}]}",
+        ),
         (
             b"S <- 'a'* / 'b'",
             "{\"warnings\":[{\"by\":[5,9],\"column\":13,\"end\":15,\"kind\":\"NeverTried\",\"line\":1,\"proved\":true,\"rule\":\"S\",\"start\":12}]}",

@@ -4,6 +4,7 @@ use Rattle.std.proofs.Common.{subst, sym}
 use Rattle.peg_json.specs.declared.tree_form.TreeForm.{TreeForm}
 use Rattle.peg_tool.specs.CommandOutcome.{WritesOrFails, program_result}
 use Rattle.peg_tool.specs.Replies.{IsPrinted}
+use Rattle.peg_lint.specs.declared.warning.Selection.{Selection}
 use Rattle.peg_tool.specs.Task.{ToolTask, TableTask, CheckTask, CodeTask, LintTask, ParseTask, IsParse, IsTextOf}
 use Rattle.peg_tool.specs.WritesReply.{WritesLine}
 use Rattle.peg_tool.specs.declared.write.CommandFault.{CommandFault}
@@ -33,7 +34,7 @@ pub takes_any : (task : ToolTask) (file : List ℕ) (left : Option (List ℕ)) (
 takes_any TableTask file left bytes other = tt
 takes_any CheckTask file left bytes other = tt
 takes_any CodeTask file left bytes other = tt
-takes_any (LintTask start) file left bytes other = tt
+takes_any (LintTask start selection) file left bytes other = tt
 takes_any (ParseTask start steps all form) file left bytes other = absurd (other tt)
 
 pub takes_left : (task : ToolTask) (file : List ℕ) (left : Option (List ℕ)) (bytes : List ℕ) → left ≡ Some bytes
@@ -41,7 +42,7 @@ pub takes_left : (task : ToolTask) (file : List ℕ) (left : Option (List ℕ)) 
 takes_left TableTask file left bytes is = tt
 takes_left CheckTask file left bytes is = tt
 takes_left CodeTask file left bytes is = tt
-takes_left (LintTask start) file left bytes is = tt
+takes_left (LintTask start selection) file left bytes is = tt
 takes_left (ParseTask start steps all form) file left bytes is = λ rules accepts. is
 
 -- a command on an opened file is a result of the program, for each text of the task
@@ -79,16 +80,18 @@ both-outcome task (Some file) None text old new result opened outcome = tt
 both-outcome task (Some file) (Some bytes) text old new result opened outcome =
     outcome bytes (takes_left task file text bytes opened)
 
--- the program's result for warnings, by the name and the start in the arguments
+-- the program's result for warnings, by the name, the start and the selection in the arguments
 pub lint-leads : (holds : List ℕ → Option (List ℕ)) (old new : Option (List ℕ)) (result : Result ℕ ProgramFault)
-    (g g' : List ℕ) (start start' : Option (List ℕ)) → g ≡ g' → start ≡ start'
-    → IfSome (holds g) (λ file. (text : List ℕ) → WritesOrFails (IsPrinted (LintTask start) file text) old new result)
-    → IfSome (holds g') (λ file. (text : List ℕ) → WritesOrFails (IsPrinted (LintTask start') file text) old new result)
-lint-leads holds old new result g g' start start' same same_start outcome =
-    subst (λ (s : Option (List ℕ)). IfSome (holds g') (λ file. (text : List ℕ)
-    → WritesOrFails (IsPrinted (LintTask s) file text) old new result)) same_start
+    (g g' : List ℕ) (start start' : Option (List ℕ)) (s s' : Selection) → g ≡ g' → start ≡ start' → s ≡ s'
+    → IfSome (holds g) (λ file. (text : List ℕ) → WritesOrFails (IsPrinted (LintTask start s) file text) old new result)
+    → IfSome (holds g') (λ file. (text : List ℕ) → WritesOrFails (IsPrinted (LintTask start' s') file text) old new result)
+lint-leads holds old new result g g' start start' s s' same same_start same_selection outcome =
+    subst (λ (x : Selection). IfSome (holds g') (λ file. (text : List ℕ)
+    → WritesOrFails (IsPrinted (LintTask start' x) file text) old new result)) same_selection
+    (subst (λ (x : Option (List ℕ)). IfSome (holds g') (λ file. (text : List ℕ)
+    → WritesOrFails (IsPrinted (LintTask x s) file text) old new result)) same_start
     (subst (λ (name : List ℕ). IfSome (holds name) (λ file. (text : List ℕ)
-    → WritesOrFails (IsPrinted (LintTask start) file text) old new result)) same outcome)
+    → WritesOrFails (IsPrinted (LintTask start s) file text) old new result)) same outcome))
 
 -- the program's result for a parse, by the names and the start in the arguments
 pub parse-leads : (holds : List ℕ → Option (List ℕ)) (old new : Option (List ℕ)) (result : Result ℕ ProgramFault)

@@ -229,7 +229,7 @@ any_text : (task : ToolTask) (text : Option (List ℕ)) (file bytes : List ℕ) 
 any_text TableTask text file bytes long = tt
 any_text CheckTask text file bytes long = tt
 any_text CodeTask text file bytes long = tt
-any_text (LintTask start) text file bytes long = tt
+any_text (LintTask start selection) text file bytes long = tt
 any_text (ParseTask start steps all form) text file bytes long =
     λ rules accepts. absurd (omega (arith, long, accepts.read.within))
 

@@ -6,6 +6,7 @@ use Rattle.peg_io.specs.declared.opener.OpenFault.{OpenFault}
 use Rattle.peg_io.specs.declared.opener.OpenFault.TheVariants as opening
 use Rattle.peg_cli.specs.declared.words.Words.{Words}
 use Rattle.peg_cli.specs.declared.words.Words.TheVariants.{Joined, Help, Table, Check, Code, Lint, Parse}
+use Rattle.peg_lint.specs.FileWarnings.{selection_of}
 use Rattle.peg_json.specs.TreeForms.{form_from_rows}
 use Rattle.peg_tool.specs.Replies.{IsPrinted, IsPrintedJoined}
 use Rattle.peg_tool.specs.Task.{TableTask, CheckTask, CodeTask, LintTask, ParseTask}
@@ -41,7 +42,8 @@ CommandOutcome (Check g) holds input old new result = IfSome (holds (string_byte
 CommandOutcome (Code g) holds input old new result = IfSome (holds (string_bytes g)) (λ file.
     (text : List ℕ) → WritesOrFails (IsPrinted CodeTask file text) old new result)
 CommandOutcome (Lint g start proved) holds input old new result = IfSome (holds (string_bytes g)) (λ file.
-    (text : List ℕ) → WritesOrFails (IsPrinted (LintTask (option_map string_bytes start)) file text) old new result)
+    (text : List ℕ) → WritesOrFails (IsPrinted (LintTask (option_map string_bytes start) (selection_of proved)) file text)
+    old new result)
 CommandOutcome (Parse g t start memo steps all rows) holds input old new result =
     IfSome (holds (string_bytes g)) (λ file. IfSome (holds (string_bytes t)) (λ text.
     WritesOrFails (IsPrinted (ParseTask (option_map string_bytes start) steps all (form_from_rows rows)) file text)

@@ -8,6 +8,7 @@ pub use Rattle.peg_grammar.specs.Limits
 pub use Rattle.peg_io.specs.Split
 pub use Rattle.peg_io.specs.Transfer
 pub use Rattle.peg_lint.specs.Never
+pub use Rattle.peg_lint.specs.FileWarnings
 pub use Rattle.peg_lint.specs.Warnings
 pub use Rattle.peg_parser.specs.Accepts
 pub use Rattle.peg_parser.specs.Cause

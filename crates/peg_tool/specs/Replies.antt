@@ -5,6 +5,7 @@ use Rattle.peg_core.specs.CoreForm.{core_bodies}
 use Rattle.peg_semantics.specs.AbstractOutcomes.{Can}
 use Rattle.peg_semantics.specs.RuleOutcomes.{AreAbstractOutcomes}
 use Rattle.peg_semantics.specs.Rules.{Rule, names}
+use Rattle.peg_lint.specs.declared.warning.Selection.{Selection}
 use Rattle.peg_parser.specs.Accepts.{IsRead, IsAcceptedGrammar, Accepts}
 use Rattle.peg_parser.specs.Cause.{Cause}
 use Rattle.peg_parser.specs.Refusals.{IsNoGrammar, IsIllFormed, HasTooMuchCode}
@@ -30,8 +31,8 @@ pub data RepliesTo (file text : List ℕ) : ToolTask → Reply → Type 0 where
   accepted : {rules : List Rule} → Accepts file rules → RepliesTo file text CheckTask (Accepted (length rules))
   coded : {rules : List Rule} → Accepts file rules → RepliesTo file text CodeTask
       (Coded (program_code (core_bodies rules)) (entries_of (core_bodies rules)))
-  linted : {rules : List Rule} {start : Option (List ℕ)} {reply : Reply} → Accepts file rules
-      → LintsTo rules start reply → RepliesTo file text (LintTask start) reply
+  linted : {rules : List Rule} {start : Option (List ℕ)} {selection : Selection} {reply : Reply} → Accepts file rules
+      → LintsTo file rules start selection reply → RepliesTo file text (LintTask start selection) reply
   parsed : {rules : List Rule} {start : Option (List ℕ)} {steps : Option ℕ} {all : Bool} {form : TreeForm}
       {reply : Reply} → Accepts file rules → ParsesTo rules text start steps all form reply
       → RepliesTo file text (ParseTask start steps all form) reply

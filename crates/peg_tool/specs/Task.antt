@@ -1,18 +1,19 @@
 -- The tasks of the tool.
 use Rattle.std.specs.Prelude.{◌≡◌, ℕ, Bool, false, List, Option, None, Some}
 use Rattle.peg_semantics.specs.Rules.{Rule}
+use Rattle.peg_lint.specs.declared.warning.Selection.{Selection}
 use Rattle.peg_parser.specs.Accepts.{Accepts}
 use Rattle.peg_json.specs.declared.tree_form.TreeForm.{TreeForm}
 use Rattle.peg_json.specs.declared.tree_form.TreeForm.TheVariants.{Nested}
 
 -- A task: print the table of outcomes, check whether the grammar is accepted, print its code, print the warnings about
 -- it, or parse a text. Warnings and a parse have a start rule (the first one without a name). A parse has an optional
--- step limit. `all` asks for a match of the whole text, and `form` is that of the printed tree.
+-- step limit. `selection` says which warnings are printed. `all` asks for a match of the whole text, and `form` is that of the printed tree.
 pub data ToolTask : Type 0 where
   TableTask : ToolTask
   CheckTask : ToolTask
   CodeTask : ToolTask
-  LintTask : (start : Option (List ℕ)) → ToolTask
+  LintTask : (start : Option (List ℕ)) → (selection : Selection) → ToolTask
   ParseTask : (start : Option (List ℕ)) → (steps : Option ℕ) → (all : Bool) → (form : TreeForm) → ToolTask
 
 -- a parse from the first rule without a step limit, where a prefix may match, with a nested tree
@@ -24,7 +25,7 @@ abbrev pub Checks : ToolTask → Type 0
 Checks TableTask = ⊥
 Checks CheckTask = Unit {0}
 Checks CodeTask = Unit {0}
-Checks (LintTask start) = Unit {0}
+Checks (LintTask start selection) = Unit {0}
 Checks (ParseTask start steps all form) = Unit {0}
 
 -- whether a task is a parse
@@ -32,7 +33,7 @@ abbrev pub IsParse : ToolTask → Type 0
 IsParse TableTask = ⊥
 IsParse CheckTask = ⊥
 IsParse CodeTask = ⊥
-IsParse (LintTask start) = ⊥
+IsParse (LintTask start selection) = ⊥
 IsParse (ParseTask start steps all form) = Unit {0}
 
 -- The text of a task on a grammar file: the unread bytes of its reader. Any text will do for a task that reads none
@@ -41,5 +42,5 @@ abbrev pub IsTextOf : ToolTask → (file : List ℕ) → Option (List ℕ) → L
 IsTextOf TableTask file left text = Unit {0}
 IsTextOf CheckTask file left text = Unit {0}
 IsTextOf CodeTask file left text = Unit {0}
-IsTextOf (LintTask start) file left text = Unit {0}
+IsTextOf (LintTask start selection) file left text = Unit {0}
 IsTextOf (ParseTask start steps all form) file left text = (rules : List Rule) → Accepts file rules → left ≡ Some text

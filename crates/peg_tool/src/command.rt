@@ -1,4 +1,5 @@
 //! The commands of the tool.
+use peg_lint::Selection;
 use peg_parser::ParseOptions;
 
 /// A command of the tool.
@@ -11,9 +12,10 @@ pub enum Command<'a> {
     /// Prints the code of the grammar.
     Code,
     /// Prints the warnings about the grammar, for texts that are parsed from the rule with this name or from the first
-    /// rule.
+    /// rule. The selection says which of them.
     Lint {
         start: Option<&'a str>,
+        selection: Selection,
     },
     /// Parses a text by a rule of the grammar. With `all`, a match of less than the whole text is reported as partial.
     /// With `rows` the tree is a list of its nodes in preorder, otherwise nested objects.

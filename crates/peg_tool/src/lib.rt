@@ -15,7 +15,7 @@ pub use joined::run_joined;
 pub use peg_cli::{Words, WordsFault, read_words};
 pub use peg_io::{Device, DeviceFault, OpenFault, Opener, Sink, Source, split};
 pub use peg_json::{Fault, Status, answer_json, code_json, lint_json, refusal_json, table_json};
-pub use peg_lint::{Warning, WarningKind, warnings};
+pub use peg_lint::{Selection, Warning, WarningKind, file_warnings, warnings};
 pub use peg_parser::{
     Answer, FigureFault, ParseFault, ParseOptions, Parser, Refusal, read_by_figure,
 };

@@ -12,17 +12,23 @@ use crate::loading::{Loaded, load};
 use peg_core::desugar;
 use peg_grammar::Grammar;
 use peg_json::{Line, lint_line, no_start_line};
-use peg_lint::warnings;
+use peg_lint::{Selection, file_warnings};
 use std::alloc::{AllocError, Global};
 
 /// Returns the line of the warnings about a grammar file, or the one that reports why the file isn't accepted.
-pub(crate) fn lint_file(alloc: Global, file: &[u8], start: Option<&str>) -> Result<Line, AllocError>
+pub(crate) fn lint_file(
+    alloc: Global,
+    file: &[u8],
+    start: Option<&str>,
+    selection: Selection,
+) -> Result<Line, AllocError>
     requires { length file.now ≤ max_offset }
-    ensures { (text : List ℕ) → IfOk result (λ line. IsPrinted (LintTask (option_map (λ name. name.now) start.entry))
-        file.now text (line_bytes line) (status_code line.status)) }
+    ensures { (text : List ℕ) → IfOk result (λ line. IsPrinted
+        (LintTask (option_map (λ name. name.now) start.entry) selection) file.now text
+        (line_bytes line) (status_code line.status)) }
 {
     match load(alloc, file)? {
-        Loaded::Accepted(parser) => start_reply(alloc, file, parser.grammar(), start),
+        Loaded::Accepted(parser) => { start_reply(alloc, file, parser.grammar(), start, selection) }
         Loaded::Refused(line) => Ok(line),
     }
 }
@@ -33,18 +39,19 @@ fn start_reply(
     file: &[u8],
     grammar: &Grammar,
     start: Option<&str>,
+    selection: Selection,
 ) -> Result<Line, AllocError>
-    ensures { IfOk result (λ line.
-        IsLineOf file.now (LintsTo (rules_in grammar.now) (option_map (λ name. name.now) start.entry))
+    ensures { IfOk result (λ line. IsLineOf file.now
+        (LintsTo file.now (rules_in grammar.now) (option_map (λ name. name.now) start.entry) selection)
         (line_bytes line) (status_code line.status)) }
 {
     match start {
         None => {
             // A grammar has at least one rule, so rule 0 is one.
             let _count = grammar.rules();
-            lint_reply(alloc, file, grammar, 0)
+            lint_reply(alloc, file, grammar, 0, selection)
         }
-        Some(name) => named_reply(alloc, file, grammar, name),
+        Some(name) => named_reply(alloc, file, grammar, name, selection),
     }
 }
 
@@ -54,23 +61,31 @@ fn named_reply(
     file: &[u8],
     grammar: &Grammar,
     name: &str,
+    selection: Selection,
 ) -> Result<Line, AllocError>
-    ensures { IfOk result (λ line. IsLineOf file.now (LintsTo (rules_in grammar.now) (Some name.now))
+    ensures { IfOk result (λ line. IsLineOf file.now (LintsTo file.now (rules_in grammar.now) (Some name.now) selection)
         (line_bytes line) (status_code line.status)) }
 {
     match grammar.rule_number(name) {
-        Some(rule) => lint_reply(alloc, file, grammar, rule),
+        Some(rule) => lint_reply(alloc, file, grammar, rule, selection),
         None => no_start_line(alloc, name),
     }
 }
 
 // The line of the warnings for a start rule.
-fn lint_reply(alloc: Global, file: &[u8], grammar: &Grammar, rule: u32) -> Result<Line, AllocError>
+fn lint_reply(
+    alloc: Global,
+    file: &[u8],
+    grammar: &Grammar,
+    rule: u32,
+    selection: Selection,
+) -> Result<Line, AllocError>
     requires { rule < length (rules_in grammar.now) }
     ensures { (start : Option (List ℕ)) → start_number (rules_in grammar.now) start ≡ Some rule → IfOk result (λ line.
-        IsLineOf file.now (LintsTo (rules_in grammar.now) start) (line_bytes line) (status_code line.status)) }
+        IsLineOf file.now (LintsTo file.now (rules_in grammar.now) start selection) (line_bytes line)
+        (status_code line.status)) }
 {
     let core = desugar(alloc, grammar)?;
-    let found = warnings(alloc, grammar, &core, rule)?;
+    let found = file_warnings(alloc, file, grammar, &core, rule, selection)?;
     lint_line(alloc, file, grammar, &found)
 }

@@ -12,6 +12,7 @@ use crate::write::CommandFault;
 use peg_cli::Words;
 use peg_io::{Device, OpenFault, Opener, Sink, Source, write_all_bytes};
 use peg_json::Status;
+use peg_lint::Selection;
 use peg_parser::ParseOptions;
 use std::alloc::Global;
 use std::io;
@@ -86,9 +87,10 @@ pub fn run_words<O: Opener, I: Source, W: Sink>(
         Words::Table { g } => on_file(alloc, files, output, g, &Command::Table),
         Words::Check { g } => on_file(alloc, files, output, g, &Command::Check),
         Words::Code { g } => on_file(alloc, files, output, g, &Command::Code),
-        Words::Lint { g, start, .. } => {
+        Words::Lint { g, start, proved } => {
             let start = start.as_deref();
-            on_file(alloc, files, output, g, &Command::Lint { start })
+            let selection = Selection::from_proved(*proved);
+            on_file(alloc, files, output, g, &Command::Lint { start, selection })
         }
         Words::Parse {
             g,

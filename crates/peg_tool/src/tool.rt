@@ -118,7 +118,7 @@ fn line_of<G: Source, T: Source>(
         Command::Table => Ok(table_file(alloc, &file)?),
         Command::Check => Ok(check_file(alloc, &file)?),
         Command::Code => Ok(code_file(alloc, &file)?),
-        Command::Lint { start } => Ok(lint_file(alloc, &file, *start)?),
+        Command::Lint { start, selection } => { Ok(lint_file(alloc, &file, *start, *selection)?) }
         Command::Parse { options, all, rows } => {
             let form = TreeForm::from_rows(*rows);
             parse_reply(alloc, &file, text, options, *all, form)

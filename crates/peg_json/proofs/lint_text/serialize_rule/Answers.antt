@@ -1,4 +1,7 @@
+use Rattle.std.proofs.Common.{Bool, subst}
 use Rattle.std.proofs.lemmas.Result.{on_ok_weaker}
+use Rattle.serde_json.specs.Data.{boolean}
+use Rattle.serde_json.specs.Events.{SendsValue}
 use Rattle.peg_json.proofs.lint_text.serialize_rule.Goals as goal
 
 pub returns : goal.returns
@@ -9,7 +12,8 @@ returns g c =
       proved.0,
       g.S.Serializer.written c.serialize_member.new.out,
       proved.1,
-      proved.2,
+      subst (λ (b : Bool). SendsValue (boolean b) proved.0 (g.S.Serializer.written c.serialize_member.new.out)) c.is_proved.ensures
+          proved.2,
       (
         rule.0,
         g.S.Serializer.written c.serialize_member-2.new.out,

@@ -24,6 +24,14 @@ says kind.NoEffect rules start number span by e part at said = (e, part, at, sai
 says kind.SameAlternative rules start number span by e part at said = absurd said
 says kind.Shadowed rules start number span by e part at said = absurd said
 says kind.NeverStops rules start number span by e part at said = absurd said
+says kind.ReversedRange rules start number span by e part at said = absurd said
+says kind.EmptyAlternative rules start number span by e part at said = absurd said
+says kind.AnyAtEnd rules start number span by e part at said = absurd said
+says kind.ClassBeginsWithCaret rules start number span by e part at said = absurd said
+says kind.ClassEndsInRange rules start number span by e part at said = absurd said
+says kind.HoldsLineEnd rules start number span by e part at said = absurd said
+says kind.HighBytesInClass rules start number span by e part at said = absurd said
+says kind.BlanksInClass rules start number span by e part at said = absurd said
 
 pub returns : goal.returns
 returns c = λ rules e part on outcome.

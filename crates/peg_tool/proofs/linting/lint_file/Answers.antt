@@ -15,7 +15,8 @@ returns-in-Accepted c text =
     let rules = parser_rules c.in-Accepted.parser in
     let start = option_map (λ name. name.now) c.args.start in
     let judged = subst (IsLoadedFrom file) c.in-Accepted.is c.in_ok-parser.ensures in
-    kind-weaker c.start_reply.result file (LintsTo rules start) (RepliesTo file text (LintTask start))
+    kind-weaker c.start_reply.result file (LintsTo file rules start c.args.selection)
+    (RepliesTo file text (LintTask start c.args.selection))
     (λ reply is. linted judged is)
-    (subst (λ r. IfOk c.start_reply.result (λ line. IsLineOf file (LintsTo r start)
+    (subst (λ r. IfOk c.start_reply.result (λ line. IsLineOf file (LintsTo file r start c.args.selection)
     (line_bytes line) (status_code line.status))) c.grammar.ensures c.start_reply.ensures)

@@ -19,6 +19,6 @@ pub returns-in-None : goal.returns-in-None
 returns-in-None c =
     let rules = rules_in c.args.grammar.now in
     let name = c.args.name.now in
-    reply-kind c.no_start_line.result c.args.file.now (LintsTo rules (Some name)) (Refused (NoSuchStart name))
+    reply-kind c.no_start_line.result c.args.file.now (LintsTo c.args.file.now rules (Some name) c.args.selection) (Refused (NoSuchStart name))
     (c.no_start_line.ensures c.args.file.now)
     (no_rule_to_start name refl (sym c.rule_number.ensures ∙ c.in-None.is))

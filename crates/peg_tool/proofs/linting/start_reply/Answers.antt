@@ -7,12 +7,12 @@ use Rattle.peg_tool.proofs.linting.start_reply.Goals as goal
 
 pub returns-in-None : goal.returns-in-None
 returns-in-None c =
-    subst (λ start. IfOk c.lint_reply.result (λ line. IsLineOf c.args.file.now (LintsTo (rules_in c.args.grammar.now) start)
+    subst (λ start. IfOk c.lint_reply.result (λ line. IsLineOf c.args.file.now (LintsTo c.args.file.now (rules_in c.args.grammar.now) start c.args.selection)
     (line_bytes line) (status_code line.status))) (sym (ap (option_map (λ name. name.now)) c.in-None.is))
     (c.lint_reply.ensures None refl)
 
 pub returns-in-Some : goal.returns-in-Some
 returns-in-Some c =
-    subst (λ start. IfOk c.named_reply.result (λ line. IsLineOf c.args.file.now (LintsTo (rules_in c.args.grammar.now) start)
+    subst (λ start. IfOk c.named_reply.result (λ line. IsLineOf c.args.file.now (LintsTo c.args.file.now (rules_in c.args.grammar.now) start c.args.selection)
     (line_bytes line) (status_code line.status))) (sym (ap (option_map (λ name. name.now)) c.in-Some.is))
     c.named_reply.ensures

@@ -1,4 +1,5 @@
 use Rattle.std.proofs.Common.{string_bytes, subst, sym, option_map}
+use Rattle.peg_lint.specs.FileWarnings.{selection_of}
 use Rattle.peg_json.specs.TreeForms.{form_from_rows}
 use Rattle.peg_tool.specs.CommandOutcome.{CommandOutcome}
 use Rattle.peg_tool.specs.Replies.{IsPrintedJoined}
@@ -25,7 +26,8 @@ returns-in-Lint-clause-leads g c =
     (sym c.in-Lint.is)
     (lint-leads holds old new c.on_file-in-Lint.result c.deref-in-Lint.result.now (string_bytes c.in-Lint.g)
     (option_map (λ name. name.now) c.as_deref-start.result) (option_map string_bytes c.in-Lint.start)
-    c.deref-in-Lint.ensures c.as_deref-start.ensures.value c.on_file-in-Lint.ensures.leads)
+    c.from_proved-selection.result (selection_of c.in-Lint.proved) c.deref-in-Lint.ensures c.as_deref-start.ensures.value
+    c.from_proved-selection.ensures c.on_file-in-Lint.ensures.leads)
 
 pub returns-in-Parse-clause-leads : goal.returns-in-Parse-clause-leads
 returns-in-Parse-clause-leads g c =

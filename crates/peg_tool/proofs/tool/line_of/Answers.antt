@@ -75,10 +75,10 @@ returns-in-Lint-clause-answer g c =
     let text = g.T.Source.left c.args.text.now in
     let task = task_of c.args.command.now in
     let start = option_map (λ name. name.now) c.in-Lint.start in
-    let is : LintTask start ≡ task = sym (ap task_of c.in-Lint.is) in
+    let is : LintTask start c.in-Lint.selection ≡ task = sym (ap task_of c.in-Lint.is) in
     let right : IsRightFor task text held.items line (status_code reply.status) =
     λ bytes any. subst (λ (t : ToolTask). IsPrinted t held.items bytes line (status_code reply.status)) is
-    (subst (λ (l : List ℕ). IsPrinted (LintTask start) l bytes line (status_code reply.status)) c.deref-in-Lint.ensures.value
+    (subst (λ (l : List ℕ). IsPrinted (LintTask start c.in-Lint.selection) l bytes line (status_code reply.status)) c.deref-in-Lint.ensures.value
     (c.in_ok-lint_file-in-Lint.ensures bytes)) in
     let within : length held.items ≤ max_file_bytes + 1 = omega (arith, held.ok.0, c.in_ok-file.ensures.limit) in
     let at_end : length held.items < max_file_bytes + 1 → IsAtEnd (g.G.Source.left c.read_up_to.new.input) =

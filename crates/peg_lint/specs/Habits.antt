@@ -1,0 +1,33 @@
+-- Habits of other notations, as tests of the texts of classes, ranges and literals, with their brackets and quotes.
+use Rattle.std.specs.Prelude.{ℕ, Bool, ◌==◌, ◌&&◌, ◌||◌, nat_eq, nat_le, List, length, codes, slice_range}
+use Rattle.std.specs.List.{ends_with, list_any, starts_with}
+use Rattle.peg_bytes.specs.Extent.{Extent}
+
+-- the text of a file in an extent
+abbrev pub text_in : (file : List ℕ) → Extent → List ℕ
+text_in file span = slice_range file span.start span.end
+
+-- one of the bytes is this one
+abbrev pub holds_byte : ℕ → List ℕ → Bool
+holds_byte byte text = list_any (λ b. b == byte) text
+
+-- the text of a class begins with a caret
+abbrev pub begins_with_caret : List ℕ → Bool
+begins_with_caret text = starts_with nat_eq text (codes "[^")
+
+-- the last character of the text of a range is a bracket without a backslash
+abbrev pub ends_in_bracket : List ℕ → Bool
+ends_in_bracket text = ends_with nat_eq text (codes "-]")
+
+-- a text goes over the end of a line
+abbrev pub holds_line_end : List ℕ → Bool
+holds_line_end text = holds_byte 10 text || holds_byte 13 text
+
+-- a text has a byte that isn't ASCII
+abbrev pub holds_high_byte : List ℕ → Bool
+holds_high_byte text = list_any (λ b. nat_le 128 b) text
+
+-- the text of a class has a space after its first bracket and before its last one, and something between them
+abbrev pub has_blanks_around : List ℕ → Bool
+has_blanks_around text =
+    starts_with nat_eq text (codes "[ ") && (ends_with nat_eq text (codes " ]") && nat_le 5 (length text))

@@ -1,0 +1,175 @@
+//! Warnings about the texts of classes and literals.
+ghost use Rattle.std.specs.Prelude.{◌≡◌, ◌<◌, ◌≤◌, ◌+◌, ℕ, IsTrue, List, IfSome, OnOk};
+ghost use Rattle.peg_bytes.specs.ByteSet.{Bytes};
+ghost use Rattle.peg_bytes.specs.Extent.{extent};
+ghost use Rattle.peg_metagrammar.specs.RangesCode.{range_of};
+ghost use Rattle.peg_semantics.specs.Form.{Class, Literal};
+ghost use Rattle.peg_semantics.specs.Rules.{Rule};
+ghost use Rattle.peg_lint.specs.FileWarnings.{SaysOfFile};
+ghost use Rattle.peg_lint.specs.Habits.{ends_in_bracket, text_in};
+ghost use Rattle.peg_lint.specs.Linting.{KeepsTrueIn};
+ghost use Rattle.peg_lint.specs.Spelling.{IsRangeAt};
+ghost use Rattle.peg_lint.specs.Warnings.{IsPartOfRule};
+
+use crate::habits::{
+    begins_with_caret, ends_in_bracket, has_blanks_around, holds_high_byte, holds_line_end, text_in,
+};
+use crate::spelled::classed_range;
+use crate::{Warning, WarningKind};
+use peg_bytes::Span;
+use peg_metagrammar::ByteRange;
+use std::alloc::AllocError;
+
+// A range of a class at an offset of the file: its bytes, and the length of its text.
+#[derive(Clone, Copy, Debug)]
+struct Placed {
+    bytes: ByteRange,
+    length: u32,
+}
+
+// Returns the range of a class at an offset of the file, if its text ends at `end` or before.
+fn range_within(file: &[u8], at: u32, end: u32) -> Option<Placed>
+    ensures read { IfSome result (λ range. IsRangeAt file.now at range.length (range_of range.bytes)) }
+    ensures some { IfSome result (λ range. 0 < range.length) }
+    ensures within { IfSome result (λ range. at + range.length ≤ end) }
+{
+    let rest = file.get(at as usize..)?;
+    let found = classed_range(rest)?;
+    if end < at || ((end - at) as usize) < found.length {
+        return None;
+    }
+    Some(Placed {
+        bytes: found.bytes,
+        length: found.length as u32,
+    })
+}
+
+// Returns whether the text of a range in a span of the file ends in a bracket without a backslash.
+fn is_to_bracket(file: &[u8], span: Span) -> bool
+    ensures { IsTrue result → IsTrue (ends_in_bracket (text_in file.now (extent span))) }
+{
+    match text_in(file, span) {
+        Some(text) => ends_in_bracket(text),
+        None => false,
+    }
+}
+
+// Adds a warning if what it says holds.
+fn add_if(
+    holds: bool,
+    kind: WarningKind,
+    rule: u32,
+    span: Span,
+    found: &mut Vec<Warning>,
+) -> Result<(), AllocError>
+    ensures { OnOk result ((file : List ℕ) (rules : List Rule)
+        → (IsTrue holds → SaysOfFile kind file rules rule (extent span))
+        → KeepsTrueIn file rules found.old.items found.new.items) }
+{
+    if holds {
+        found.push(Warning {
+            kind,
+            rule,
+            span,
+            by: None,
+        })?;
+    }
+    Ok(())
+}
+
+// Adds the warnings about the ranges of a class. Takes time linear in the class.
+fn add_of_ranges(
+    file: &[u8],
+    rule: u32,
+    class: Span,
+    found: &mut Vec<Warning>,
+) -> Result<(), AllocError>
+    ensures { OnOk result ((rules : List Rule) (set : Bytes) → IsPartOfRule rules rule (Class set (extent class))
+        → KeepsTrueIn file.now rules found.old.items found.new.items) }
+{
+    if class.end <= class.start {
+        return Ok(());
+    }
+    let mut at = class.start + 1;
+    'spelled: while let Some(range) = range_within(file, at, class.end) {
+        let span = Span::new(at, at + range.length);
+        let is_reversed = range.bytes.high < range.bytes.low;
+        add_if(is_reversed, WarningKind::ReversedRange, rule, span, found)?;
+        let to_bracket = is_to_bracket(file, span);
+        add_if(to_bracket, WarningKind::ClassEndsInRange, rule, span, found)?;
+        at = span.end;
+    }
+    Ok(())
+}
+
+// Adds the warnings about a class as a whole. Takes time linear in the class.
+fn add_of_whole(
+    text: &[u8],
+    rule: u32,
+    span: Span,
+    found: &mut Vec<Warning>,
+) -> Result<(), AllocError>
+    ensures { OnOk result ((file : List ℕ) (rules : List Rule) (set : Bytes)
+        → IsPartOfRule rules rule (Class set (extent span)) → text.now ≡ text_in file (extent span)
+        → KeepsTrueIn file rules found.old.items found.new.items) }
+{
+    let (caret, high) = (
+        WarningKind::ClassBeginsWithCaret,
+        WarningKind::HighBytesInClass,
+    );
+    add_if(begins_with_caret(text), caret, rule, span, found)?;
+    add_if(
+        holds_line_end(text),
+        WarningKind::HoldsLineEnd,
+        rule,
+        span,
+        found,
+    )?;
+    add_if(holds_high_byte(text), high, rule, span, found)?;
+    add_if(
+        has_blanks_around(text),
+        WarningKind::BlanksInClass,
+        rule,
+        span,
+        found,
+    )
+}
+
+/// Adds the warnings about the text of a class. Takes time linear in it.
+pub(crate) fn add_of_class(
+    file: &[u8],
+    rule: u32,
+    span: Span,
+    found: &mut Vec<Warning>,
+) -> Result<(), AllocError>
+    ensures { OnOk result ((rules : List Rule) (set : Bytes) → IsPartOfRule rules rule (Class set (extent span))
+        → KeepsTrueIn file.now rules found.old.items found.new.items) }
+{
+    let Some(text) = text_in(file, span) else {
+        return Ok(());
+    };
+    add_of_whole(text, rule, span, found)?;
+    add_of_ranges(file, rule, span, found)
+}
+
+/// Adds a warning if the text of a literal goes over the end of a line. Takes time linear in it.
+pub(crate) fn add_of_literal(
+    file: &[u8],
+    rule: u32,
+    span: Span,
+    found: &mut Vec<Warning>,
+) -> Result<(), AllocError>
+    ensures { OnOk result ((rules : List Rule) (bytes : List ℕ) → IsPartOfRule rules rule (Literal bytes (extent span))
+        → KeepsTrueIn file.now rules found.old.items found.new.items) }
+{
+    let Some(text) = text_in(file, span) else {
+        return Ok(());
+    };
+    add_if(
+        holds_line_end(text),
+        WarningKind::HoldsLineEnd,
+        rule,
+        span,
+        found,
+    )
+}

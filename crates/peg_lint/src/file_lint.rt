@@ -1,0 +1,48 @@
+//! The warnings about a grammar file.
+ghost use Rattle.std.specs.Prelude.{◌<◌, All, length, IfOk, IsTrue};
+ghost use Rattle.peg_core.specs.CoreParts.{AreCoreFormsOf};
+ghost use Rattle.peg_grammar.specs.GrammarRules.{rules_in};
+ghost use Rattle.peg_lint.specs.FileWarnings.{IsTrueWarningIn, is_selected};
+ghost use Rattle.peg_lint.specs.Warnings.{IsInWrittenOrder};
+
+use crate::dots::add_dot_at_end;
+use crate::file_visit::lint_text;
+use crate::lint::warnings;
+use crate::order::sort;
+use crate::selection::select;
+use crate::{Selection, Warning};
+use peg_core::Core;
+use peg_grammar::Grammar;
+use std::alloc::{AllocError, Global};
+
+/// Returns the warnings about a grammar and about the file that it was read from, whose texts are parsed from a start
+/// rule. The core forms are those of the grammar. Each warning is one of `warnings`, or true of the bytes of the file.
+/// With `Selection::Proved` there are no warnings about habits.
+///
+/// The warnings are sorted by the start of their spans, and those with the same start by kind.
+///
+/// Takes the memory and the time of `warnings`, and time linear in the file. The only error is a failed allocation.
+pub fn file_warnings(
+    alloc: Global,
+    file: &[u8],
+    grammar: &Grammar,
+    core: &Core,
+    start: u32,
+    selection: Selection,
+) -> Result<Vec<Warning>, AllocError>
+    requires core { AreCoreFormsOf (rules_in grammar.now) core.now }
+    requires start { start < length (rules_in grammar.now) }
+    ensures true_warnings { IfOk result (λ found.
+        All (IsTrueWarningIn file.now (rules_in grammar.now) start) found.items) }
+    ensures selected { IfOk result (λ found. All (λ warning. IsTrue (is_selected selection warning)) found.items) }
+    ensures in_order { IfOk result (λ found. IsInWrittenOrder found.items) }
+{
+    let mut found = warnings(alloc, grammar, core, start)?;
+    'rules: for rule in 0..grammar.rules() {
+        lint_text(file, rule, grammar.body(rule), &mut found)?;
+        add_dot_at_end(grammar, rule, &mut found)?;
+    }
+    select(selection, &mut found);
+    sort(&mut found)?;
+    Ok(found)
+}

@@ -1,0 +1,49 @@
+//! Habits of other notations in the texts of classes, ranges and literals.
+ghost use Rattle.std.specs.Prelude.{◌≡◌, IfSome};
+ghost use Rattle.peg_bytes.specs.Extent.{extent};
+ghost use Rattle.peg_lint.specs.Habits.{begins_with_caret, ends_in_bracket, has_blanks_around, holds_high_byte};
+ghost use Rattle.peg_lint.specs.Habits.{holds_line_end, text_in};
+
+use peg_bytes::Span;
+
+/// Returns the text of a file in a span, if the file is long enough.
+pub(crate) fn text_in(file: &[u8], span: Span) -> Option<&[u8]>
+    ensures { IfSome result (λ text. text.now ≡ text_in file.now (extent span)) }
+{
+    file.get(span.start as usize..span.end as usize)
+}
+
+/// Returns whether the text of a class begins with a caret.
+pub(crate) fn begins_with_caret(text: &[u8]) -> bool
+    ensures { result ≡ begins_with_caret text.now }
+{
+    text.starts_with(b"[^")
+}
+
+/// Returns whether the last character of the text of a range is a bracket without a backslash.
+pub(crate) fn ends_in_bracket(text: &[u8]) -> bool
+    ensures { result ≡ ends_in_bracket text.now }
+{
+    text.ends_with(b"-]")
+}
+
+/// Returns whether a text goes over the end of a line.
+pub(crate) fn holds_line_end(text: &[u8]) -> bool
+    ensures { result ≡ holds_line_end text.now }
+{
+    text.contains(&b'\n') || text.contains(&b'\r')
+}
+
+/// Returns whether a text has a byte that isn't ASCII.
+pub(crate) fn holds_high_byte(text: &[u8]) -> bool
+    ensures { result ≡ holds_high_byte text.now }
+{
+    text.iter().any(|byte| *byte >= 128)
+}
+
+/// Returns whether the text of a class has a space at both ends, and something between them.
+pub(crate) fn has_blanks_around(text: &[u8]) -> bool
+    ensures { result ≡ has_blanks_around text.now }
+{
+    text.starts_with(b"[ ") && text.ends_with(b" ]") && text.len() >= 5
+}
