@@ -29,7 +29,7 @@ PURPOSE = {
     "peg_memo_policy": "a program -> a memo of the results that pay",
     "peg_io": "files and streams -> bytes, and back",
     "peg_machine": "a program, a text -> outcome, tree, furthest failure",
-    "peg_lint": "a grammar -> warnings, each proved",
+    "peg_lint": "a grammar, its file -> warnings",
     "peg_parser": "a grammar file -> a parser or a refusal; a text -> an answer",
     "peg_json": "an answer or a refusal -> a line of JSON, a status",
     "peg_cli": "arguments -> a command",

@@ -23,7 +23,12 @@ fn last_alternative(expr: &Expr) -> &Expr
     }
 }
 
-// Returns the span of the dot with which an expression ends, if it comes after another item.
+// Returns whether a dot after an item is the usual way to read a byte, and no habit: after a predicate or a dot.
+fn is_exempt(expr: &Expr) -> bool {
+    matches!(expr, Expr::Any { .. } | Expr::And { .. } | Expr::Not { .. })
+}
+
+// Returns the span of the dot with which an expression ends, if it comes after another item that isn't exempt.
 fn dot_at_end(expr: &Expr) -> Option<Span>
     ensures { IfSome result (λ span. EndsInDot (form_of expr.now) (extent span)) }
 {
@@ -35,13 +40,17 @@ fn dot_at_end(expr: &Expr) -> Option<Span>
         return None;
     }
     let last = items.len() - 1;
+    if is_exempt(&items[last - 1]) {
+        return None;
+    }
     match &items[last] {
         Expr::Any { span } if span.end == end => Some(*span),
         _ => None,
     }
 }
 
-/// Adds a warning if the expression of a rule ends in a dot after another item, and the rule isn't the last one.
+/// Adds a warning if the expression of a rule ends in a dot after an item other than a predicate or a dot, and the rule
+/// isn't the last one.
 pub(crate) fn add_dot_at_end(
     grammar: &Grammar,
     rule: u32,

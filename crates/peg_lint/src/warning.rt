@@ -26,7 +26,8 @@ pub enum WarningKind {
     ReversedRange,
     /// An empty alternative that is not the last one, as a leading or a doubled slash leaves it.
     EmptyAlternative,
-    /// A dot at the end of a rule before another one, after another item, as some notations end each rule.
+    /// A dot at the end of a rule before another one, as some notations end each rule. It comes after another item, and
+    /// is not reported after a predicate or a dot.
     AnyAtEnd,
     /// A class that begins with a caret, which other notations read as all other bytes.
     ClassBeginsWithCaret,

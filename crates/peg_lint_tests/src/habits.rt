@@ -42,7 +42,7 @@ fn empty_alternatives_have_a_warning(rt: HostRuntime) -> Result<(), Fail> {
 
 #[test]
 fn dots_at_the_ends_of_rules_have_a_warning(rt: HostRuntime) -> Result<(), Fail> {
-    let cases: [(&[u8], &str); 11] = [
+    let cases: [(&[u8], &str); 14] = [
         (b"S <- T 'a' .\nT <- 'b'", "AnyAtEnd 11 12;"),
         (b"S <- 'a' / 'b' T .\nT <- 'c'", "AnyAtEnd 17 18;"),
         (b"S <- T .# c\nT <- 'b'", "AnyAtEnd 7 8;"),
@@ -57,6 +57,9 @@ fn dots_at_the_ends_of_rules_have_a_warning(rt: HostRuntime) -> Result<(), Fail>
         (b"S <- T .*\nT <- 't'", ""),
         (b"S <- T (.)\nT <- 't'", ""),
         (b"S <- T . 'x'\nT <- 't'", ""),
+        (b"S <- !T .\nT <- 't'", ""),
+        (b"S <- &T .\nT <- 't'", ""),
+        (b"S <- T . .\nT <- 't'", ""),
     ];
     for (file, lines) in cases {
         assert_eq!(rt; file_lines_of(rt.alloc(), file)?.as_str(), lines);
