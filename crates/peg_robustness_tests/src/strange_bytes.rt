@@ -59,7 +59,7 @@ fn bytes_that_are_no_text_are_no_tokens(rt: HostRuntime) -> Result<(), Fail> {
 const LINE_ENDS: [&[u8]; 3] = [b"\n", b"\r\n", b"\r"];
 
 #[test]
-fn a_line_end_stands_between_tokens(rt: HostRuntime) -> Result<(), Fail> {
+fn a_line_end_separates_tokens(rt: HostRuntime) -> Result<(), Fail> {
     let alloc = rt.alloc();
     for end in LINE_ENDS {
         let file = filled(alloc, b"@A@<-@!@'x'@/@(@'y'@)@*@#c@", end)?;
@@ -70,7 +70,7 @@ fn a_line_end_stands_between_tokens(rt: HostRuntime) -> Result<(), Fail> {
 }
 
 #[test]
-fn a_line_end_stands_in_a_literal(rt: HostRuntime) -> Result<(), Fail> {
+fn a_line_end_is_read_in_a_literal(rt: HostRuntime) -> Result<(), Fail> {
     let alloc = rt.alloc();
     for end in LINE_ENDS {
         let length = end.len();
@@ -84,14 +84,14 @@ fn a_line_end_stands_in_a_literal(rt: HostRuntime) -> Result<(), Fail> {
 }
 
 #[test]
-fn the_bytes_of_a_line_end_stand_in_a_class(rt: HostRuntime) -> Result<(), Fail> {
+fn the_bytes_of_a_line_end_are_read_in_a_class(rt: HostRuntime) -> Result<(), Fail> {
     let alloc = rt.alloc();
     for end in LINE_ENDS {
         let length = end.len();
-        let end = length.saturating_add(7);
+        let class_end = length.saturating_add(7);
         let file = filled(alloc, b"A <- [@]+", end)?;
         let line = format!(in alloc;
-            "{{\"consumed\":{length},\"expected\":[[5,{end}]],\"far\":{length},\"result\":\"matched\",\"rows\":[[1,\"A\",0,{length}]]}}"
+            "{{\"consumed\":{length},\"expected\":[[5,{class_end}]],\"far\":{length},\"result\":\"matched\",\"rows\":[[1,\"A\",0,{length}]]}}"
         )?;
         parses(&rt, alloc, &file, end, (line.as_str(), 0))?;
     }
@@ -99,7 +99,7 @@ fn the_bytes_of_a_line_end_stand_in_a_class(rt: HostRuntime) -> Result<(), Fail>
 }
 
 #[test]
-fn a_line_end_parts_an_arrow(rt: HostRuntime) -> Result<(), Fail> {
+fn a_line_end_splits_an_arrow(rt: HostRuntime) -> Result<(), Fail> {
     let alloc = rt.alloc();
     for end in LINE_ENDS {
         let file = filled(alloc, b"A <@- 'x'", end)?;
