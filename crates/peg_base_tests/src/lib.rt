@@ -18,6 +18,8 @@ mod no_memo;
 #[cfg(test)]
 mod pieces;
 #[cfg(test)]
+mod selecting;
+#[cfg(test)]
 mod sent;
 #[cfg(test)]
 mod separator;

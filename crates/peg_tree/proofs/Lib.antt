@@ -9,4 +9,6 @@ mod PartRows
 mod Puts
 mod RowEvents
 mod RowTexts
+mod SelectedLaws
+mod SelectedLemmas
 pub mod Sent

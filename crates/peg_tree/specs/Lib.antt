@@ -10,6 +10,8 @@ pub mod Write
 pub mod RowText
 pub mod Rows
 pub mod FlatTreeLeft
+pub mod Selected
+pub mod SelectedNodes
 pub mod Sending
 pub mod Trees
 pub mod TreesCode

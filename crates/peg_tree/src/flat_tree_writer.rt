@@ -36,7 +36,7 @@ pub struct FlatTreeWriter {
     ghost levels: { EachAtMost (vec_capacity ends) (levels_of_rows (reverse ends.items) at (drop at
         (rows_of tree))) } by { EachAtMost-prop (vec_capacity ends) (levels_of_rows (reverse ends.items) at (drop at
             (rows_of tree))) },
-    ghost told: { filled ≤ vec_len buffer },
+    ghost within: { filled ≤ vec_len buffer },
 }
 
 impl FlatTreeWriter {

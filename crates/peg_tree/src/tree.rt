@@ -1,16 +1,19 @@
 //! Parse trees. Contracts see the tree; the code stores its node list.
-ghost use Rattle.std.specs.Prelude.{◌≡◌, ◌+◌, ◌<◌, ◌↔◌, map, IsTrue};
+ghost use Rattle.std.specs.Prelude.{◌≡◌, ◌+◌, ◌<◌, ◌↔◌, map, IfOk, IsTrue};
 ghost use Rattle.peg_tree.specs.Rows.{row_of, rows_of, IsOneTree};
+ghost use Rattle.peg_tree.specs.Selected.{has_rule, selected};
 ghost use Rattle.peg_tree.specs.Trees.{nodes, levels};
 ghost use Rattle.peg_tree.specs.TreesOfRows.{trees_of};
 ghost use Rattle.peg_tree.specs.Branches.{trees_in};
 ghost use Rattle.peg_tree.specs.Nodes.{node_at, root_count, child_at, trees_from, first_root, RulesBelow};
 
-use crate::TreeNode;
 use crate::depth::depth_in;
 use crate::forest::Forest;
 use crate::rows::{child_in, count_in, fit_in, node_in};
+use crate::select::select_in;
+use crate::{RuleSet, TreeNode};
 use peg_bytes::Span;
+use std::alloc::{AllocError, Global};
 use std::marker::Model;
 
 /// A parse tree. Nodes are numbered in preorder from 0, the root.
@@ -125,6 +128,23 @@ impl Tree {
         ensures { map row_of result.now ≡ rows_of self.now }
     {
         self.rows.as_slice()
+    }
+
+    /// Returns the tree without the nodes of rules that are not shown. The root stays. The children of an omitted node
+    /// take its place, in order. The only error is a failed allocation. Linear in the number of nodes.
+    ///
+    /// # Example
+    ///
+    /// ```
+    /// let mut shown = RuleSet::none(alloc, grammar.rules())?;
+    /// shown.insert(2);
+    /// let selected = tree.select(alloc, &shown)?;
+    /// ```
+    pub fn select(&self, alloc: Global, shown: &RuleSet) -> Result<Tree, AllocError>
+        ensures { IfOk result (λ tree. tree ≡ selected (has_rule shown.now) self.now) }
+    {
+        let rows = select_in(alloc, self.rows(), shown)?;
+        Ok(Tree::from_rows(rows))
     }
 
     pub(crate) fn rows(&self) -> &[TreeNode]

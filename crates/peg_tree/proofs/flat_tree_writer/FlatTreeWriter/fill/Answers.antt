@@ -23,7 +23,7 @@ invariant_of-self c =
       room = text.room;
       levels = subst (λ l. EachAtMost (vec_capacity ends) (levels_of_rows (reverse ends.items) at l))
           (rows-held c.rows.result.now text.tree at c.rows.ensures.tree c.rows.ensures.same) c.fill_piece-filled.ensures.levels;
-      told = omega (arith, c.fill_piece-filled.ensures.within, c.fill_piece-filled.ensures.same, c.deref_mut.ensures.len);
+      within = omega (arith, c.fill_piece-filled.ensures.within, c.fill_piece-filled.ensures.same, c.deref_mut.ensures.len);
     }
 
 pub returns-clause-text : goal.returns-clause-text

@@ -29,7 +29,7 @@ invariant_of-result g c =
       );
       levels = subst (λ n. EachAtMost n (levels_of_rows (reverse ends.items) 0 rows)) (sym (c.in_ok-ends.ensures.exact ∙ c.depth.ensures.levels))
           (subst (λ l. EachAtMost (levels tree) (levels_of_rows (reverse l) 0 rows)) (sym c.in_ok-ends.ensures.items) (rows-at_most tree));
-      told = omega arith;
+      within = omega arith;
     }
 
 pub returns : goal.returns
