@@ -1,14 +1,15 @@
 #!/usr/bin/env bash
 # Runs `pegtool parse --rows --memo 0` and the same machine in C (plain.c) on generated texts. Prints the CPU seconds and
 # the peak memory of the whole processes, and the ratio of the times. Then, if crates/peg_bench is built, the run alone
-# (`run` of peg_machine beside the run of plain.c), with a new table of shortcuts and with one from an earlier run. The
-# argument is the program.
+# (`run` of peg_machine beside the run of plain.c, with entries of 16 and of 24 bytes), with a new table of shortcuts and
+# with one from an earlier run. The argument is the program.
 set -eu
 program=$(realpath -- "${1:-$(dirname "$0")/../crates/pegtool/out/pegtool}")
 cd "$(dirname "$0")"
 folder=$(mktemp -d)
 trap 'rm -rf "$folder"' EXIT
 cc -O2 -o "$folder/plain" plain.c
+cc -O2 -DWIDE -o "$folder/wide" plain.c
 python3 -B - "$program" "$folder" << 'PYTHON'
 import json
 import os
@@ -91,18 +92,19 @@ for name, grammar, make in CASES:
     (floor, floor_peak), (ours, peak) = best
     print(f"| {name} | {floor:.3f} | {floor_peak / 2**20:.0f} | {ours:.3f} | {peak / 2**20:.0f} | {ours / floor:.2f} |")
 if os.path.exists(BENCH):
-    print("\n| Text | C, the run alone, ms | `run`, ms | Ratio | A new table, ms | The table kept, ms |")
-    print("|---|---|---|---|---|---|")
+    print("\n| Text | C, the run alone, ms | C, 24 bytes, ms | `run`, ms | Ratio | A new table, ms | The table kept, ms |")
+    print("|---|---|---|---|---|---|---|")
     for name, grammar, make in CASES:
         text, code = f"{FOLDER}/text", f"{FOLDER}/code"
         written(text, make)
         listing(grammar, code)
-        best = [1e9] * 4
+        best = [1e9] * 5
         for _ in range(RUNS):
             floor = microseconds(f"{FOLDER}/plain", code, text, "run")[-1:]
+            wide = microseconds(f"{FOLDER}/wide", code, text, "run")[-1:]
             ours = microseconds(BENCH, "run", grammar, text)[-1:]
-            best = list(map(min, best, floor + ours + microseconds(BENCH, "again", grammar, text)))
+            best = list(map(min, best, floor + wide + ours + microseconds(BENCH, "again", grammar, text)))
         times = [f"{time / 1000:.1f}" for time in best]
-        times.insert(2, f"{best[1] / max(best[0], 1):.2f}")
+        times.insert(3, f"{best[2] / max(best[0], 1):.2f}")
         print(f"| {name} | {' | '.join(times)} |")
 PYTHON
