@@ -86,7 +86,7 @@ record Passed (bound a b : ℕ) (lexemes rest : List Lexeme) : Type 0 where
   pub count : a + opens before ≡ b + closes before
   pub within : (n : ℕ) → a + opens (take n before) ≤ bound + closes (take n before)
 
-counts : (lexeme : Lexeme) (more : List Lexeme) → (opens (lexeme ∷ more) ≡ one_if_open lexeme.kind + opens more)
+pub counts : (lexeme : Lexeme) (more : List Lexeme) → (opens (lexeme ∷ more) ≡ one_if_open lexeme.kind + opens more)
     × (closes (lexeme ∷ more) ≡ one_if_close lexeme.kind + closes more)
 counts lexeme more = (
   sum_by-cons (λ (l : Lexeme). one_if_open l.kind) lexeme more,
@@ -208,13 +208,13 @@ out_of_range file lexemes at tokens it end trees m none =
     (ap (bad_places file) (sym it.same) ∙ (sym (counts-tokens file lexemes tokens end trees m) ∙ none))
 
 -- tokens after others are a stream too
-stream-behind : (file : List ℕ) (before rest : List Lexeme) (p : ℕ) → Stream file p (before ++ rest)
+pub stream-behind : (file : List ℕ) (before rest : List Lexeme) (p : ℕ) → Stream file p (before ++ rest)
     → (q : ℕ) × Stream file q rest
 stream-behind file [] rest p there = (p, there)
 stream-behind file (lexeme ∷ before) rest p (Stream.next k piece l found is more) =
     stream-behind file before rest (behind_text file p piece.length) more
 
-count_kind : (k : TokenKind) (t : Bool) → (is_count k && t) ≡ true → k ≡ token.Count
+pub count_kind : (k : TokenKind) (t : Bool) → (is_count k && t) ≡ true → k ≡ token.Count
 count_kind token.Count t is = refl
 count_kind token.Ident t is = cc
 count_kind token.Literal t is = cc
@@ -231,7 +231,7 @@ count_kind token.Close t is = cc
 count_kind token.Dot t is = cc
 
 -- the match of COUNT for such a token
-bad_tree : (file : List ℕ) (count : Lexeme) (more : List Lexeme) (q : ℕ) → Stream file q (count ∷ more)
+pub bad_tree : (file : List ℕ) (count : Lexeme) (more : List Lexeme) (q : ℕ) → Stream file q (count ∷ more)
     → is_bad_count file count ≡ true
     → (end : ℕ) × (trees : Trees) × Matches file (codes "COUNT") count.text.start end trees
     × (bad_counts file trees ≡ count.text.start ∷ [])

@@ -4,6 +4,7 @@ mod EscapedNesting
 mod EscapedRules
 mod ExpressionRules
 mod FileAnswers
+mod FirstFaults
 pub mod FirstRule
 mod Fronts
 mod GrammarRules
@@ -23,4 +24,8 @@ mod ReaderSteps
 mod Readings
 mod Repeats
 mod Streams
+mod TokenPaths
+mod TokenSpellings
+mod TokenStates
 mod TokenTexts
+mod TokenWalks

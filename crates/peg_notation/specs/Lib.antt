@@ -18,3 +18,4 @@ pub mod ReaderCode
 pub mod ReaderFile
 pub mod Reads
 pub mod Spans
+pub mod ViablePrefix

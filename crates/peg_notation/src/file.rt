@@ -1,7 +1,9 @@
 //! Reads a grammar file.
 ghost use Rattle.std.specs.Prelude.{length};
+ghost use Rattle.peg_metagrammar.specs.Nesting.{max_open};
 ghost use Rattle.peg_notation.specs.Reads.{Reads};
 ghost use Rattle.peg_notation.specs.Spans.{AnswerLiesIn};
+ghost use Rattle.peg_notation.specs.ViablePrefix.{NamesFirstFault};
 
 use crate::fault::NotationFault;
 use crate::reader::Reader;
@@ -13,11 +15,9 @@ use std::alloc::Global;
 ///
 /// The error is `FileTooLong` for more than `MAX_FILE_BYTES` bytes, and `Syntax` where no token starts. Once the file
 /// is tokenized, the error is the first of three in file order. `Syntax` is at the first token that can't follow those
-/// before it in any file of the notation. `TooNested` is at a parenthesis that opens while `MAX_OPEN` are open.
-/// `BadCount` is at a count after an expression that is out of range. The error is `Memory` if an allocation fails.
-///
-/// The contract says of `Syntax` that the file isn't in the notation. The offset is that of a lexing error or a token,
-/// or the file's length.
+/// before it in any file of the notation, or at the file's length if the file ends too early. `TooNested` is at a
+/// parenthesis that opens while `MAX_OPEN` are open. `BadCount` is at a count after an expression that is out of range.
+/// The error is `Memory` if an allocation fails.
 ///
 /// # Example
 ///
@@ -28,6 +28,7 @@ use std::alloc::Global;
 pub fn read(alloc: Global, file: &[u8]) -> Result<Vec<Definition>, NotationFault>
     ensures reads { Reads file.now result }
     ensures inside { AnswerLiesIn (length file.now) result }
+    ensures first { NamesFirstFault max_open file.now result }
 {
     let tokens = lex(alloc, file)?;
     let reader = Reader { alloc, file };

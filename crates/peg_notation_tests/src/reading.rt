@@ -119,6 +119,33 @@ fn a_fault_is_the_first_token_that_can_not_stand_there(rt: HostRuntime) {
     assert_refused(&rt, rt.alloc(), &files);
 }
 
+// Each file is refused at the offset, and the tokens before it begin the other file, which is read.
+#[test]
+fn the_tokens_before_a_fault_can_be_completed(rt: HostRuntime) -> Result<(), Fail> {
+    let alloc = rt.alloc();
+    let files: [(&[u8], u32, &[u8]); 14] = [
+        (b"A <- (B <- 'x')", 8, b"A <- (B )"),
+        (b"A <- 'x' )", 9, b"A <- 'x' 'y'"),
+        (b"A B", 2, b"A <- B"),
+        (b"A <- & 'x'* *", 12, b"A <- & 'x'* 'y'"),
+        (b"A <- !B <- 'x'", 8, b"A <- !B 'x'"),
+        (b"A <- B? C* <- 'x'", 11, b"A <- B? C* 'x'"),
+        (b"A <- 'x' <- B", 9, b"A <- 'x' B"),
+        (b"A <- (B) <- 'x'", 9, b"A <- (B) 'x'"),
+        (b"A <- ((B)) )", 11, b"A <- ((B)) B"),
+        (b"A <- / / ? B", 9, b"A <- / / B"),
+        (b"A <- {1}", 5, b"A <- 'x'{1}"),
+        (b"A", 1, b"A <- 'x'"),
+        (b"A <- (", 6, b"A <- ()"),
+        (b"A <- &", 6, b"A <- &."),
+    ];
+    for (file, at, completed) in files {
+        assert_refused(&rt, alloc, &[(file, at)]);
+        assert_rules(&rt, alloc, &[(completed, 1)])?;
+    }
+    Ok(())
+}
+
 #[test]
 fn a_lexing_fault_comes_before_one_of_reading(rt: HostRuntime) {
     let files: [(&[u8], u32); 6] = [

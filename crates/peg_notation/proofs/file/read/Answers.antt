@@ -3,6 +3,7 @@ use Rattle.peg_notation.specs.Reader.{grammar}
 use Rattle.peg_notation.specs.ReaderCode.{lexemes, AreTexts, rules_seen, AgreesOnError}
 use Rattle.peg_metagrammar.specs.Nesting.{max_open}
 use Rattle.peg_notation.proofs.FileAnswers.{tokens-texts, answers, lexing_reads, lexing_lies, fault_reads, fault_lies}
+use Rattle.peg_notation.proofs.FirstFaults.{fault_first, lexing_first}
 use Rattle.peg_notation.proofs.file.read.Goals as goal
 
 pub returns-in_err-tokens-clause-reads : goal.returns-in_err-tokens-clause-reads
@@ -45,3 +46,14 @@ returns-clause-inside c =
     let ls = lexemes c.in_ok-tokens.tokens.items in
     let is = ap (λ tokens. grammar file max_open (lexemes tokens)) (sym c.deref.ensures.value) ∙ c.in_ok-read.ensures in
     (answers file max_open ls c.in_ok-tokens.ensures.1).lies (rules_seen c.in_ok-read.read) is
+
+pub returns-in_err-tokens-clause-first : goal.returns-in_err-tokens-clause-first
+returns-in_err-tokens-clause-first c =
+    let told = lexing_first c.args.file.now c.in_err-tokens.field-0.0 c.in_err-tokens.ensures in search (rules, told)
+
+pub returns-in_err-read-clause-first : goal.returns-in_err-read-clause-first
+returns-in_err-read-clause-first c =
+    let file = c.args.file.now in
+    let ls = lexemes c.in_ok-tokens.tokens.items in
+    let is = subst (λ tokens. AgreesOnError (grammar file max_open (lexemes tokens)) c.in_err-read.field-0.0) c.deref.ensures.value c.in_err-read.ensures in
+    let told = fault_first file ls c.in_err-read.field-0.0 c.in_ok-tokens.ensures.1 is in search (rules, told)
