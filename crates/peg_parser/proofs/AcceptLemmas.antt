@@ -20,7 +20,9 @@ use Rattle.peg_grammar.specs.Refusal as definitions
 use Rattle.peg_grammar.specs.declared.fault.GrammarFault.{GrammarFault}
 use Rattle.peg_grammar.specs.declared.fault.GrammarFault.TheVariants as grammar
 use Rattle.peg_grammar.specs.declared.grammar.Grammar.{Grammar}
+use Rattle.peg_metagrammar.specs.Nesting.{max_open}
 use Rattle.peg_notation.specs.Reads.{Reads}
+use Rattle.peg_notation.specs.ViablePrefix.{NamesFirstFault}
 use Rattle.peg_notation.specs.Spans.{AnswerLiesIn, RuleLiesIn}
 use Rattle.peg_notation.specs.declared.fault.NotationFault.{NotationFault}
 use Rattle.peg_notation.specs.declared.fault.NotationFault.TheVariants as notation
@@ -49,15 +51,15 @@ told-error Kind size (Err other) why is tells = subst (HasCause Kind size) (sym 
 -- ---- reading
 
 pub told-notation : (file : List ℕ) (why : NotationFault) → Reads file (Err why) → AnswerLiesIn (length file) (Err why)
-    → HasCause (IsNoGrammar file) (length file) (of_notation why)
-told-notation file notation.FileTooLong reads inside = of_cause FileTooLong refl (file_too_long reads) tt tt
-told-notation file (notation.Syntax at) reads inside =
-    of_cause (Syntax at) refl (not_in_the_notation reads.0 reads.1 reads.2) inside tt
-told-notation file (notation.TooNested at) reads inside =
-    of_cause (TooNested at) refl (too_nested reads.0 reads.1 reads.2) inside tt
-told-notation file (notation.BadCount at) reads inside =
-    of_cause (BadCount at) refl (count_out_of_range reads.0 reads.1 reads.2) inside tt
-told-notation file notation.Memory reads inside = out_of_memory refl
+    → NamesFirstFault max_open file (Err why) → HasCause (IsNoGrammar file) (length file) (of_notation why)
+told-notation file notation.FileTooLong reads inside first = of_cause FileTooLong refl (file_too_long reads) tt tt
+told-notation file (notation.Syntax at) reads inside first =
+    of_cause (Syntax at) refl (not_in_the_notation reads.0 reads.1 first) inside tt
+told-notation file (notation.TooNested at) reads inside first =
+    of_cause (TooNested at) refl (too_nested reads.0 reads.1 first) inside tt
+told-notation file (notation.BadCount at) reads inside first =
+    of_cause (BadCount at) refl (count_out_of_range reads.0 reads.1 first) inside tt
+told-notation file notation.Memory reads inside first = out_of_memory refl
 
 -- ---- the grammar
 

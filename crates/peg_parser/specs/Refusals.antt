@@ -10,7 +10,8 @@ use Rattle.peg_check.specs.Verdicts.{AllDiffer}
 use Rattle.peg_metagrammar.specs.Notation.{FigureMatches, IsInNotation, IsReading, max_file_bytes}
 use Rattle.peg_lexer.specs.Tokens.{IsLexingFault}
 use Rattle.peg_metagrammar.specs.Nesting.{max_open}
-use Rattle.peg_notation.specs.Reads.{CountsOutOfRange, IsBadCountToken, IsOneTooMany, IsTokenPlace, NestsDeeper}
+use Rattle.peg_notation.specs.Reads.{CountsOutOfRange, NestsDeeper}
+use Rattle.peg_notation.specs.ViablePrefix.{EndsEarly, IsExcessParenthesis, IsOutOfRangeCount, IsUnexpectedToken}
 use Rattle.peg_code.specs.Compiled.{max_instructions}
 use Rattle.peg_parser.specs.Accepts.{IsRead, IsAcceptedGrammar, code_size}
 use Rattle.peg_parser.specs.Cause.{Cause, FileTooLong, Syntax, TooNested, BadCount, Duplicate, Undefined, TooManyParts}
@@ -18,17 +19,19 @@ use Rattle.peg_parser.specs.Cause.{EmptyLoop, LeftRecursion, CodeTooLarge, refer
 
 -- The file can't be read, or it has definitions that aren't a grammar within the limits.
 --
--- The offset of a syntax error is that of a lexical error, or the start of a token, or the end of the file. The offset
--- of `TooNested` is that of the first parenthesis that opens inside too many others. The count of `BadCount` is out of
--- range, and if the metagrammar matches the file some count is.
+-- The offset of a fault is the first one in the order of the tokens, once the file is tokenized. That of a syntax error
+-- is a lexical error, or the first token with which no file of the notation continues, or the end of the file. That of
+-- `TooNested` is the first parenthesis that opens inside too many others, and that of `BadCount` the first count out of
+-- range.
 pub data IsNoGrammar (file : List ℕ) : Cause → Type 0 where
   file_too_long : max_file_bytes < length file → IsNoGrammar file FileTooLong
   not_in_the_notation : {at : ℕ} → length file ≤ max_file_bytes → ¬ FigureMatches file
-      → IsLexingFault file at ⊎ IsTokenPlace file at → IsNoGrammar file (Syntax at)
+      → IsLexingFault file at ⊎ IsUnexpectedToken max_open file at ⊎ EndsEarly max_open file at
+      → IsNoGrammar file (Syntax at)
   too_nested : {at : ℕ} → length file ≤ max_file_bytes → NestsDeeper max_open file
-      → IsOneTooMany max_open file at → IsNoGrammar file (TooNested at)
+      → IsExcessParenthesis max_open file at → IsNoGrammar file (TooNested at)
   count_out_of_range : {at : ℕ} → length file ≤ max_file_bytes → CountsOutOfRange file
-      → IsBadCountToken file at → IsNoGrammar file (BadCount at)
+      → IsOutOfRangeCount max_open file at → IsNoGrammar file (BadCount at)
   a_name_twice : {rules : List Rule} {name : Reference} → IsRead file rules → first_duplicate rules ≡ Some name
       → IsNoGrammar file (Duplicate name)
   a_name_missing : {rules : List Rule} {name : Reference} → IsRead file rules → first_duplicate rules ≡ None

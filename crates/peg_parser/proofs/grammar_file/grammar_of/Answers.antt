@@ -10,7 +10,8 @@ returns-in_err-definitions-clause-refused c =
     let file = c.args.file.now in
     let why = c.in_err-definitions.field-0.0 in
     told-error (IsNoGrammar file) (length file) c.from_residual.result (of_notation why) c.from_residual.ensures.1
-    (told-notation file why c.in_err-definitions.ensures.reads c.in_err-definitions.ensures.inside)
+    (told-notation file why c.in_err-definitions.ensures.reads c.in_err-definitions.ensures.inside
+    c.in_err-definitions.ensures.first)
 
 pub returns-in_err-grammar-clause-refused : goal.returns-in_err-grammar-clause-refused
 returns-in_err-grammar-clause-refused c =

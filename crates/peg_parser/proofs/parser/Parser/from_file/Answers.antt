@@ -40,7 +40,8 @@ notation c =
     let file = c.args.file.now in
     let why = c.in_err-definitions.field-0.0 in
     told-early file (length file) (of_notation why)
-    (told-notation file why c.in_err-definitions.ensures.reads c.in_err-definitions.ensures.inside)
+    (told-notation file why c.in_err-definitions.ensures.reads c.in_err-definitions.ensures.inside
+    c.in_err-definitions.ensures.first)
 
 no_grammar : (c : In_err-grammar)
     → HasCause (IsRefusalOf c.args.file.now) (length c.args.file.now) (of_grammar c.in_err-grammar.field-0.0)
