@@ -38,7 +38,7 @@ pub fn definitions_of(
         Err(DefinitionsFault::BadCount { .. }) if !nests_within(&tree.forest(), MAX_OPEN) => {
             Err(DefinitionsFault::TooNested)
         }
-        told => told,
+        definitions => definitions,
     }
 }
 

@@ -3,7 +3,7 @@ use Rattle.peg_bytes.specs.Extent.{Extent, between}
 use Rattle.peg_semantics.specs.Form.{Form, Forms, Literal, Class, Any, Name, Seq, Choice, Optional, Star, Plus, Counted}
 use Rattle.peg_semantics.specs.Form.{And, Not, End, Then}
 
--- the extent that stands for none
+-- the extent in place of each one
 abbrev pub no_extent : Extent
 no_extent = between 0 0
 

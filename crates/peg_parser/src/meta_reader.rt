@@ -40,7 +40,7 @@ pub enum FigureFault {
 impl From<DefinitionsFault> for FigureFault {
     ghost use Rattle.peg_parser.specs.ReadsByFigure.{of_definitions};
 
-    ghost from_gives = { λ fault told. told ≡ of_definitions fault };
+    ghost from_gives = { λ fault converted. converted ≡ of_definitions fault };
 
     fn from(fault: DefinitionsFault) -> FigureFault {
         match fault {
