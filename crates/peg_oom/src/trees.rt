@@ -5,19 +5,22 @@ ghost use Rattle.peg_tree.specs.Nodes.{RulesBelow};
 use crate::ending::{Borrowed, report};
 use peg_bytes::Span;
 use peg_tree::{
-    FlatTree, FlatTreeWriter, JsonFault, Names, NestedTree, Tree, TreeNode, nested_json, one_tree,
-    rows_json,
+    FlatTree, FlatTreeWriter, JsonFault, Names, NestedTree, RuleSet, Tree, TreeNode, nested_json,
+    one_tree, rows_json,
 };
 use std::alloc::{AllocError, Global};
 use std::io;
 
-pub(crate) const WORDS: [&str; 6] = [
+pub(crate) const WORDS: [&str; 9] = [
     "rows_json",
     "nested_json",
     "nested_json_deep",
     "tree_rows",
     "nested_tree",
     "rows_text",
+    "no_rules",
+    "all_rules",
+    "select",
 ];
 
 // Rule 0 is `list`, and rule 1 is `word`.
@@ -46,6 +49,9 @@ pub(crate) fn call(rt: &impl Print, alloc: Global, word: &str) -> Option<io::Res
         "tree_rows" => rows_sent(rt, alloc),
         "nested_tree" => nested_sent(rt, alloc),
         "rows_text" => rows_filled(rt, alloc),
+        "no_rules" => no_rules(rt, alloc),
+        "all_rules" => all_rules(rt, alloc),
+        "select" => selected(rt, alloc),
         _ => return None,
     };
     Some(made)
@@ -140,4 +146,25 @@ fn rows_filled(rt: &impl Print, alloc: Global) -> io::Result<()> {
     }
     let piece = answer.as_ref().map(|text| text.piece());
     report(rt, &borrowed, answer.is_err(), &piece)
+}
+
+fn no_rules(rt: &impl Print, alloc: Global) -> io::Result<()> {
+    let borrowed = Borrowed::of(alloc, &())?;
+    let answer = RuleSet::none(alloc, 2);
+    report(rt, &borrowed, answer.is_err(), &answer)
+}
+
+fn all_rules(rt: &impl Print, alloc: Global) -> io::Result<()> {
+    let borrowed = Borrowed::of(alloc, &())?;
+    let answer = RuleSet::all(alloc, 2);
+    report(rt, &borrowed, answer.is_err(), &answer)
+}
+
+// The nodes of all rules.
+fn selected(rt: &impl Print, alloc: Global) -> io::Result<()> {
+    let tree = family(alloc)?;
+    let shown = RuleSet::all(alloc, 2)?;
+    let borrowed = Borrowed::of(alloc, &tree)?;
+    let answer = tree.select(alloc, &shown);
+    report(rt, &borrowed, answer.is_err(), &answer)
 }
