@@ -102,7 +102,7 @@ KINDS = {
     "the same, all iterations optional": lambda n: repeated("A<-", "''{0,255}", "\n", n),
     "counts of counts of empty literals": lambda n: repeated("A<-", "(((''{255}){255}){255})", "\n", n),
     "counts of sequences of empty literals": lambda n: repeated("A<-", "(''''){255}", "\n", n),
-    "groups of 200 nested counts of empty literals": lambda n: repeated("A<-", "(" * 200 + "''" + "){255}" * 200, "\n", n),
+    "groups of 200 nested counts of empty ones": lambda n: repeated("A<-", "(" * 200 + "''" + "){255}" * 200, "\n", n),
     "comments": lambda n: repeated("", "#\n", "A<-.\n", n),
     "a comment": lambda n: repeated("A<-.#", "#", "\n", n),
     "spaces": lambda n: repeated("A<-.", " ", "\n", n),

@@ -60,9 +60,9 @@ pub(crate) fn add_plus(
     builder.push(Node::Seq(part, star), no_origin())
 }
 
-/// Adds the part at least `min` and at most `max` times. If the part is built of empty expressions alone, the iterations
-/// after the first that must match are left out. If `max` is 0, the part is an alternative that is never tried, so that
-/// it is checked all the same.
+/// Adds the part at least `min` and at most `max` times. If the part is built of empty expressions alone, the
+/// iterations after the first that must match are left out. If `max` is 0, the part is an alternative that is never
+/// tried, so that it is checked all the same.
 pub(crate) fn add_count(
     part: u32,
     builder: &mut CoreBuilder,
