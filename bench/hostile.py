@@ -99,6 +99,7 @@ KINDS = {
     "groups of 200 nested counts": lambda n: repeated("A<-", "(" * 200 + "." + "){2,3}" * 200, "\n", n),
     "counts of empty literals": lambda n: repeated("A<-", "''{255}", "\n", n),
     "the same, one iteration optional": lambda n: repeated("A<-", "''{254,255}", "\n", n),
+    "the same, three of four iterations optional": lambda n: repeated("A<-", "''{1,4}", "\n", n),
     "the same, all iterations optional": lambda n: repeated("A<-", "''{0,255}", "\n", n),
     "counts of counts of empty literals": lambda n: repeated("A<-", "(((''{255}){255}){255})", "\n", n),
     "counts of sequences of empty literals": lambda n: repeated("A<-", "(''''){255}", "\n", n),
