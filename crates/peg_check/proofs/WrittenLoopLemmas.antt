@@ -1,10 +1,10 @@
 -- The first empty loop of a core form is the first one of the written expression.
-use Rattle.std.proofs.Common.{◌≡◌, ℕ, zero, suc, ◌+◌, ◌⊎◌, inl, inr, List, [], ◌∷◌, ◌++◌, Option, None, Some, slice_get, refl, sym, ap, ◌∙◌, subst, append-nil}
+use Rattle.std.proofs.Common.{◌≡◌, ℕ, zero, suc, ◌+◌, ◌-◌, ◌⊎◌, inl, inr, List, [], ◌∷◌, ◌++◌, Option, None, Some, slice_get, refl, sym, ap, ◌∙◌, subst, append-nil}
 use Rattle.std.specs.Option.{option_or}
 use Rattle.std.proofs.lemmas.Option.{slice_get_within, get_or_from_slice_get}
 use Rattle.peg_bytes.specs.Extent.{Extent, extent}
 use Rattle.peg_core.specs.CoreForm.{CoreForm, Empty, Test, Rule, Seq, Choice, Star, Not, in_order, all_in_order, one_of}
-use Rattle.peg_core.specs.CoreForm.{tests_of, unfolded, count_form, core_form, core_forms, core_bodies}
+use Rattle.peg_core.specs.CoreForm.{tests_of, unfolded, left_out, count_form, core_form, core_forms, core_bodies}
 use Rattle.peg_core.specs.CoreOutcomes.{BodyIs}
 use Rattle.peg_core.specs.CoreParts.{AreCoreFormsOf}
 use Rattle.peg_core.specs.Layout.{Desugared, bodies_of}
@@ -185,7 +185,7 @@ module _ (bodies : List CoreForm) where
         → (found.in_part ≡ None) × ((a : FormLoops) × (IsFirstCoreLoop bodies part a × (found.first ≡ a.first)))
     count-first min zero found is =
         (is.4, (is.1, (is.3, is.5 ∙ ap (λ o. option_or o is.1.first) is.2.0)))
-    count-first min (suc max) found is = again min max found is
+    count-first min (suc max) found is = again (min - left_out part min) (max - left_out part min) found is
 
   -- ---- a literal has no loop
 

@@ -1,11 +1,13 @@
 -- The number of instructions of a written expression is the size of its core form.
-use Rattle.std.proofs.Common.{◌≡◌, ℕ, zero, suc, ◌+◌, ◌-◌, ◌*◌, List, [], ◌∷◌, length, drop}
-use Rattle.std.proofs.Common.{slice_get, option_map, Some, refl, ap, ◌∙◌, arith, suc-add, suc-mul, zero-mul}
+use Rattle.std.proofs.Common.{◌≡◌, ℕ, zero, suc, ◌+◌, ◌-◌, ◌*◌, Bool, true, false, if◌then◌else◌, List, [], ◌∷◌, length, drop}
+use Rattle.std.proofs.Common.{slice_get, option_map, Some, refl, ap, ◌∙◌, arith, suc-add, suc-mul, mul-zero, zero-mul}
 use Rattle.peg_semantics.specs.Form.{Form, Forms, End, Then, terminals}
 use Rattle.peg_semantics.specs.Form as written
 use Rattle.peg_semantics.specs.Rules as grammar
-use Rattle.peg_core.specs.CoreForm.{CoreForm, in_order, all_in_order, one_of, tests_of, unfolded}
+use Rattle.peg_core.specs.CoreForm.{CoreForm, Empty, Test, Rule, Seq, Choice, Star, Not, in_order}
+use Rattle.peg_core.specs.CoreForm.{all_in_order, one_of, tests_of, unfolded, is_all_empty}
 use Rattle.peg_core.specs.CoreForm.{count_form, core_form, core_forms, core_bodies, core_bodies_from}
+use Rattle.peg_core.proofs.EmptyParts.{first-all_empty, rest-all_empty}
 use Rattle.peg_code.specs.Code.{program_code, size}
 use Rattle.peg_code.specs.WrittenSizes.{counted_size, written_size, written_sizes}
 use Rattle.peg_code.proofs.LayoutLemmas.{length-program_code, rules_size}
@@ -39,9 +41,37 @@ size-unfolded part min zero = omega (arith, zero-mul (size part))
 size-unfolded part zero (suc max) = omega (arith, size-unfolded part zero max, suc-mul max (size part))
 size-unfolded part (suc min) (suc max) = omega (arith, size-unfolded part min max, suc-mul max (size part))
 
+-- a form of empty expressions alone has no code
+size-all_empty : (form : CoreForm) → is_all_empty form ≡ true → size form ≡ 0
+size-all_empty Empty empty = refl
+size-all_empty (Test set terminal) empty = cc
+size-all_empty (Rule rule) empty = cc
+size-all_empty (Seq first rest) empty =
+    omega (arith, size-all_empty first (first-all_empty first rest empty), size-all_empty rest (rest-all_empty first rest empty))
+size-all_empty (Choice first rest) empty = cc
+size-all_empty (Star part origin) empty = cc
+size-all_empty (Not part) empty = cc
+
+times-nothing : (times each : ℕ) → each ≡ 0 → times * each ≡ 0
+times-nothing times each is = ap (λ n. times * n) is ∙ mul-zero times
+
+-- the iterations that are left out have no code
+size-kept : (part : CoreForm) (min max : ℕ) (empty : Bool) → is_all_empty part ≡ empty
+    → size (unfolded part (min - (if empty then min - 1 else 0)) (suc (max - (if empty then min - 1 else 0))))
+    ≡ suc max * size part + 2 * (suc max - min)
+size-kept part min max true is =
+    let none = size-all_empty part is in
+    let least = min - (min - 1) in
+    let most = suc (max - (min - 1)) in
+    omega (arith, size-unfolded part least most, times-nothing most (size part) none, times-nothing (suc max) (size part) none)
+size-kept part min max false is =
+    let least : min - 0 ≡ min = omega arith in
+    let most : max - 0 ≡ max = omega arith in
+    (λ i. size (unfolded part (least i) (suc (most i)))) ∙ size-unfolded part min (suc max)
+
 size-count : (part : CoreForm) (min max : ℕ) → size (count_form part min max) ≡ counted_size (size part) min max
 size-count part min zero = omega arith
-size-count part min (suc max) = size-unfolded part min (suc max)
+size-count part min (suc max) = size-kept part min max (is_all_empty part) refl
 
 -- ---- written expressions
 

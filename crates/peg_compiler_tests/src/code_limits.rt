@@ -85,11 +85,14 @@ fn empty_expressions_cost_nothing(rt: HostRuntime) -> Result<(), Fail> {
 #[test]
 fn sizes_are_known_before_counts_are_unfolded(rt: HostRuntime) -> Result<(), Fail> {
     let alloc = rt.alloc();
-    let files: [(&[u8], u32); 6] = [
+    let files: [(&[u8], u32); 9] = [
         (b"S <- 'a' S / 'b'", 7),
         (b"S <- .{2,5}", 13),
         (b"S <- ('ab' [c]?){0,3} !.", 26),
         (b"S <- 'a'+ / &T\nT <- ''{255}", 14),
+        (b"S <- (''{255}){255}", 2),
+        (b"S <- ''{254,255}", 4),
+        (b"S <- (''{2} 'a'){2}", 4),
         (b"S <- ((.{10}){10}){10}", 1_002),
         (b"S <- ((.{255}){255}){255}", 1_000_001),
     ];

@@ -90,6 +90,72 @@ fn a_count_unfolds_from_its_last_round(rt: HostRuntime) -> Result<(), Fail> {
     assert_nodes(&rt, rt.alloc(), b"A <- 'a'{2,4}", &wanted, 1)
 }
 
+// The empty literal once, the empty expression once, and the first required round; the others are left out.
+#[test]
+fn a_count_of_the_empty_literal_has_one_required_round(rt: HostRuntime) -> Result<(), Fail> {
+    let wanted = [Node::Empty, Node::Empty, Node::Seq(0, 1)];
+    assert_nodes(&rt, rt.alloc(), b"A <- ''{255}", &wanted, 1)
+}
+
+#[test]
+fn optional_rounds_of_the_empty_literal_stay(rt: HostRuntime) -> Result<(), Fail> {
+    let alloc = rt.alloc();
+    let wanted = [
+        Node::Empty,
+        Node::Empty,
+        Node::Seq(0, 1),
+        Node::Choice(2, 1),
+        Node::Seq(0, 3),
+    ];
+    assert_nodes(&rt, alloc, b"A <- ''{254,255}", &wanted, 1)?;
+    assert_eq!(rt; core_of(alloc, b"A <- ''{0,255}")?.len(), 1 + 511);
+    Ok(())
+}
+
+#[test]
+fn a_count_of_a_sequence_of_empty_literals(rt: HostRuntime) -> Result<(), Fail> {
+    let wanted = [
+        Node::Empty,
+        Node::Empty,
+        Node::Seq(0, 1),
+        Node::Empty,
+        Node::Seq(2, 3),
+    ];
+    assert_nodes(&rt, rt.alloc(), b"A <- ('' ''){3}", &wanted, 2)
+}
+
+#[test]
+fn counts_of_counts_of_the_empty_literal(rt: HostRuntime) -> Result<(), Fail> {
+    let alloc = rt.alloc();
+    let wanted = [
+        Node::Empty,
+        Node::Empty,
+        Node::Seq(0, 1),
+        Node::Empty,
+        Node::Seq(2, 3),
+    ];
+    assert_nodes(&rt, alloc, b"A <- (''{255}){255}", &wanted, 1)?;
+    let core = core_of(alloc, b"A <- (((''{255}){255}){255}){255}")?;
+    assert_eq!(rt; core.len(), 9);
+    Ok(())
+}
+
+// All rounds of a part with code are there, also if it begins with a count of the empty literal.
+#[test]
+fn an_empty_count_inside_a_count(rt: HostRuntime) -> Result<(), Fail> {
+    let wanted = [
+        Node::Empty,
+        Node::Empty,
+        Node::Seq(0, 1),
+        byte(b'a', 1),
+        Node::Seq(2, 3),
+        Node::Empty,
+        Node::Seq(4, 5),
+        Node::Seq(4, 6),
+    ];
+    assert_nodes(&rt, rt.alloc(), b"A <- (''{2} 'a'){2}", &wanted, 2)
+}
+
 // 3 levels of 255 rounds, with two forms for each optional round.
 #[test]
 fn counts_in_counts_stay_few(rt: HostRuntime) -> Result<(), Fail> {

@@ -85,6 +85,19 @@ fn all_sugar(rt: HostRuntime) -> Result<(), Fail> {
 }
 
 #[test]
+fn counts_of_empty_literals(rt: HostRuntime) -> Result<(), Fail> {
+    let alloc = rt.alloc();
+    let nothing = [Instr::End, Instr::Ret];
+    assert_listing(&rt, alloc, b"A <- ''{255}", &nothing, &[1])?;
+    assert_listing(&rt, alloc, b"A <- ('' ''){3}", &nothing, &[1])?;
+    assert_listing(&rt, alloc, b"A <- (''{255}){255}", &nothing, &[1])?;
+    let one_optional = [Instr::End, Instr::Choice(3), Instr::Commit(3), Instr::Ret];
+    assert_listing(&rt, alloc, b"A <- ''{254,255}", &one_optional, &[1])?;
+    let two_bytes = [Instr::End, byte(b'a', 1), byte(b'a', 1), Instr::Ret];
+    assert_listing(&rt, alloc, b"A <- (''{2} 'a'){2}", &two_bytes, &[1])
+}
+
+#[test]
 fn rules_with_no_code_of_their_own(rt: HostRuntime) -> Result<(), Fail> {
     let code = [
         Instr::End,

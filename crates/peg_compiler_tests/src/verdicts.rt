@@ -104,6 +104,10 @@ fn stars_and_pluses_that_go_round_on_nothing(rt: HostRuntime) -> Result<(), Fail
         (b"A <- ('a'*)*", "loop 0 5 12"),
         (b"A <- ('')+", "loop 0 5 10"),
         (b"A <- (('')?)*", "loop 0 5 13"),
+        (b"A <- (''{255})*", "loop 0 5 15"),
+        (b"A <- (''{254,255})+", "loop 0 5 19"),
+        (b"A <- (('' ''){3})*", "loop 0 5 18"),
+        (b"A <- (''*){255}", "loop 0 6 9"),
     ];
     assert_verdict(&rt, rt.alloc(), files)
 }

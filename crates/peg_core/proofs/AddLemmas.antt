@@ -1,5 +1,5 @@
 -- The forms of a whole expression, from the forms of its parts.
-use Rattle.std.proofs.Common.{◌≡◌, ℕ, zero, suc, ◌+◌, ◌*◌, ◌<◌, ◌≤◌, Bool, true, false, ◌&&◌, List, [], ◌∷◌, ◌++◌, All, length, map, get_or, nat_lt, slice_get, position, bytes_eq, cond, not, ◌||◌, None, Some, option_map, refl, sym, ap, ◌∙◌, subst, arith, length-append, append_assoc, append-nil}
+use Rattle.std.proofs.Common.{◌≡◌, ℕ, zero, suc, ◌+◌, ◌-◌, ◌*◌, ◌<◌, ◌≤◌, Bool, true, false, ◌&&◌, List, [], ◌∷◌, ◌++◌, All, length, map, get_or, nat_lt, slice_get, position, bytes_eq, cond, not, ◌||◌, None, Some, option_map, refl, sym, ap, ◌∙◌, subst, arith, length-append, append_assoc, append-nil}
 use Rattle.std.proofs.lemmas.Bool.{lt-ltb}
 use Rattle.std.proofs.lemmas.Bool.Decides.{nat_tests}
 use Rattle.std.specs.List.{list_any, position_or_len}
@@ -18,7 +18,7 @@ use Rattle.peg_semantics.specs.Terminals.{terminal_extents, terminal_extents_of_
 use Rattle.peg_semantics.specs.Numbers.{first_from}
 use Rattle.peg_semantics.proofs.RulesLemmas.{terminals-weight, position-within, meant-position, meaning}
 use Rattle.peg_semantics.proofs.TerminalLemmas.{length-terminal_extents}
-use Rattle.peg_core.specs.CoreForm.{CoreForm, Test, Seq, Choice, Star, Not, all_in_order, one_of, tests_of, unfolded, core_form, core_forms, number_of}
+use Rattle.peg_core.specs.CoreForm.{CoreForm, Test, Seq, Choice, Star, Not, all_in_order, one_of, tests_of, unfolded, left_out, core_form, core_forms, number_of}
 use Rattle.peg_core.specs.CoreParts.{sequences_of, choices_of, optional_forms, plus_forms, rounds_of, count_forms, and_forms, core_parts, core_parts_of_all, are_defined, are_in_range}
 use Rattle.peg_core.specs.Appending.{Appends, AppendsAll, AppendsForm, AppendsForms}
 use Rattle.peg_core.specs.Layout.{Layout, form_at, max_forms_each}
@@ -46,7 +46,8 @@ length-rounds_of part (suc min) (suc max) =
 length-count_forms : (part : CoreForm) (min max : ℕ) → max ≤ greatest_count
     → length (count_forms part min max) ≤ max_forms_each
 length-count_forms part min zero few = omega arith
-length-count_forms part min (suc max) few = omega (arith, few, length-rounds_of part min (suc max))
+length-count_forms part min (suc max) few =
+    omega (arith, few, length-rounds_of part (min - left_out part min) (suc (max - left_out part min)))
 
 and_left : (a b : Bool) → (a && b) ≡ true → a ≡ true
 and_left true b e = refl

@@ -1,9 +1,9 @@
 -- The iterations of a count are appended to other forms, the innermost first.
 use Rattle.std.proofs.Common.{◌≡◌, ℕ, zero, suc, ◌-◌, ◌<◌, [], ◌∷◌, ◌++◌, length}
-use Rattle.std.proofs.Common.{sym, ap, ◌∙◌, subst, arith, append_assoc}
+use Rattle.std.proofs.Common.{sym, ap, ◌∙◌, subst, append_assoc}
 use Rattle.std.proofs.lemmas.List.{get_or_at}
-use Rattle.peg_core.specs.CoreForm.{CoreForm, Empty, Seq, Choice, unfolded, count_form}
-use Rattle.peg_core.specs.CoreParts.{rounds_of, count_forms}
+use Rattle.peg_core.specs.CoreForm.{CoreForm, Empty, Seq, Choice, unfolded}
+use Rattle.peg_core.specs.CoreParts.{rounds_of}
 use Rattle.peg_core.specs.Appending.{Appends}
 use Rattle.peg_core.specs.Layout.{Layout, form_at}
 use Rattle.peg_core.proofs.LaidLemmas.{Appends-one, Appends-then, form_at-kept, pushed}
@@ -61,10 +61,3 @@ optional-more old mid later new part most rest round nothing number within first
     let both = Appends-then old later new (Empty ∷ (before ++ some ∷ [])) (whole ∷ []) [] some whole round number one
     (Appends-one later new whole number (more ∙ ap (pushed later) is) end) in
     subst (λ forms. Appends old (Empty ∷ forms) [] whole number new) (append_assoc before (some ∷ []) (whole ∷ [])) both
-
--- the iterations are those of a count, if there is one
-pub rounds-count : (form : CoreForm) (old new : Layout) (min max number : ℕ) → 0 < max
-    → Appends old (Empty ∷ rounds_of form min max) [] (unfolded form min max) number new
-    → Appends old (count_forms form min max) [] (count_form form min max) number new
-rounds-count form old new min zero number some lays = absurd (omega (arith, some))
-rounds-count form old new min (suc max) number some lays = lays

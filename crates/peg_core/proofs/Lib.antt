@@ -5,6 +5,7 @@ pub mod CoreRounds
 pub mod CoreShown
 pub mod CoreWithin
 mod CountLemmas
+pub mod EmptyParts
 mod FlatLemmas
 mod FormsAmong
 mod LaidLemmas

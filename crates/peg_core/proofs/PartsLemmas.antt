@@ -1,6 +1,6 @@
 -- The core forms of a grammar. They include the core form of each written subexpression, and their stars are exactly
 -- those of the written stars and pluses. All are well-formed if the grammar is.
-use Rattle.std.proofs.Common.{◌≡◌, ℕ, zero, suc, ◌+◌, List, [], ◌∷◌, ◌++◌, All, Contains, map, filter, flat_map, add_comm, refl, ap, ◌∙◌, subst, append-nil}
+use Rattle.std.proofs.Common.{◌≡◌, ℕ, zero, suc, ◌+◌, ◌-◌, List, [], ◌∷◌, ◌++◌, All, Contains, map, filter, flat_map, add_comm, refl, ap, ◌∙◌, subst, append-nil}
 use Rattle.std.proofs.lemmas.List.{map-append}
 use Rattle.std.proofs.lemmas.List.Elements.{All-nil, All-cons, All-head, All-tail, All-append, All-contains, All-weaker, All-push, All-map, Contains-append_left, Contains-append_right, Contains-push, filter-append}
 use Rattle.peg_bytes.specs.ByteSet.{only}
@@ -9,7 +9,7 @@ use Rattle.peg_semantics.specs.Form.{Form, Forms, Literal, Class, Any, Name, Opt
 use Rattle.peg_semantics.specs.Form as written
 use Rattle.peg_semantics.specs.Rules as grammar
 use Rattle.peg_semantics.specs.WellFormed.{IsWellFormedIn, IsWellFormed, IsWellFormedGrammar, below, below_all, subexpressions}
-use Rattle.peg_core.specs.CoreForm.{CoreForm, Empty, Test, Seq, Choice, Star, Not, in_order, all_in_order, one_of, tests_of, unfolded, count_form, core_form, core_forms, core_bodies}
+use Rattle.peg_core.specs.CoreForm.{CoreForm, Empty, Test, Seq, Choice, Star, Not, in_order, all_in_order, one_of, tests_of, unfolded, left_out, count_form, core_form, core_forms, core_bodies}
 use Rattle.peg_core.specs.CoreOutcomes.{IsCoreWellFormedIn, IsCoreWellFormed}
 use Rattle.peg_core.specs.CoreParts.{sequences_from, sequences_of, choices_of, optional_forms, plus_forms, rounds_of, count_forms, and_forms, core_parts, core_parts_of_all, core_parts_from, all_core_parts}
 use Rattle.peg_core.specs.Subexpressions.{Numbered, numbered_as, numbered_below, numbered_below_all, numbered_in, numbered_from, numbered_subexpressions, core_stars, core_stars_of_all, core_stars_from, all_core_stars, is_star}
@@ -53,7 +53,8 @@ round-there parts part (suc min) max =
 
 count-there : (part : CoreForm) (min max : ℕ) → Contains (count_forms part min max) (count_form part min max)
 count-there part min zero = Contains-push (Empty ∷ []) (Choice Empty part)
-count-there part min (suc max) = round-there (Empty ∷ []) part min max
+count-there part min (suc max) =
+    round-there (Empty ∷ []) part (min - left_out part min) (max - left_out part min)
 
 all-there : (forms : List CoreForm) → All (Contains forms) forms
 all-there [] = All-nil (Contains [])
@@ -250,7 +251,7 @@ no-round part (suc min) (suc max) =
 
 no-count : (part : CoreForm) (min max : ℕ) → filter is_star (count_forms part min max) ≡ []
 no-count part min zero = refl
-no-count part min (suc max) = no-round part min (suc max)
+no-count part min (suc max) = no-round part (min - left_out part min) (suc (max - left_out part min))
 
 -- forms without a star add none
 stars-only : (xs ys stars : List CoreForm) → filter is_star xs ≡ stars → filter is_star ys ≡ []
@@ -408,7 +409,9 @@ module _ (rules : List grammar.Rule) where
       All-cons Right Empty (Choice Empty part ∷ []) right-Empty
       (All-cons Right (Choice Empty part) [] (right-Choice Empty part right-Empty h) (All-nil Right))
   right-count part h min (suc max) =
-      All-cons Right Empty (rounds_of part min (suc max)) right-Empty (right-rounds part h min (suc max))
+      let least = min - left_out part min in
+      let most = suc (max - left_out part min) in
+      All-cons Right Empty (rounds_of part least most) right-Empty (right-rounds part h least most)
 
   abbrev Fine : Form → Type 0
   Fine e = IsWellFormed rules e

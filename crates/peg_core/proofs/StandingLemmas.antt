@@ -1,10 +1,10 @@
 -- Each core form of a grammar is part of the body of a rule.
-use Rattle.std.proofs.Common.{ℕ, zero, suc, ◌+◌, ◌⊎◌, inl, inr, All, List, [], ◌∷◌, ◌++◌, refl}
+use Rattle.std.proofs.Common.{ℕ, zero, suc, ◌+◌, ◌-◌, ◌⊎◌, inl, inr, All, List, [], ◌∷◌, ◌++◌, refl}
 use Rattle.std.proofs.lemmas.List.Elements.{All-nil, All-cons, All-append, All-weaker}
 use Rattle.peg_semantics.specs.Form.{Form, Forms, End, Then, terminals}
 use Rattle.peg_semantics.specs.Form as written
 use Rattle.peg_semantics.specs.Rules.{Rule as WrittenRule}
-use Rattle.peg_core.specs.CoreForm.{CoreForm, Empty, Test, Rule, Seq, Choice, Star, Not, in_order, all_in_order, one_of, tests_of, unfolded, count_form, core_form, core_forms, core_bodies, core_bodies_from}
+use Rattle.peg_core.specs.CoreForm.{CoreForm, Empty, Test, Rule, Seq, Choice, Star, Not, in_order, all_in_order, one_of, tests_of, unfolded, left_out, count_form, core_form, core_forms, core_bodies, core_bodies_from}
 use Rattle.peg_core.specs.CoreLoops.{IsSubformOf, IsSubformOfBody}
 use Rattle.peg_core.specs.CoreParts.{sequences_from, sequences_of, choices_of, rounds_of, count_forms, core_parts, core_parts_of_all, core_parts_from, all_core_parts}
 
@@ -76,10 +76,14 @@ choices_of-stand first (next ∷ rest) =
 
 -- ---- in counts
 
+in-unfolded : (part : CoreForm) (min max : ℕ) (form : CoreForm) → IsSubformOf form part
+    → IsSubformOf form (unfolded part min (suc max))
+in-unfolded part zero max form h = inr (inl (inr (inl h)))
+in-unfolded part (suc min) max form h = inr (inl h)
+
 in-count : (part : CoreForm) (min max : ℕ) (form : CoreForm) → IsSubformOf form part → IsSubformOf form (count_form part min max)
 in-count part min zero form h = inr (inr h)
-in-count part zero (suc max) form h = inr (inl (inr (inl h)))
-in-count part (suc min) (suc max) form h = inr (inl h)
+in-count part min (suc max) form h = in-unfolded part (min - left_out part min) (max - left_out part min) form h
 
 empty-in : (part : CoreForm) (min max : ℕ) → IsSubformOf Empty (unfolded part min max)
 empty-in part min zero = refl
@@ -110,8 +114,10 @@ count_forms-stand part min zero =
     let P = λ (form : CoreForm). IsSubformOf form (Choice Empty part) in
     All-cons P Empty (Choice Empty part ∷ []) (inr (inl refl)) (one-stands P (Choice Empty part) (inl refl))
 count_forms-stand part min (suc max) =
-    All-cons (λ form. IsSubformOf form (unfolded part min (suc max))) Empty (rounds_of part min (suc max))
-    (empty-in part min (suc max)) (rounds_of-stand part min (suc max))
+    let least = min - left_out part min in
+    let most = suc (max - left_out part min) in
+    All-cons (λ form. IsSubformOf form (unfolded part least most)) Empty (rounds_of part least most)
+    (empty-in part least most) (rounds_of-stand part least most)
 
 -- ---- of an expression, and of all rules
 

@@ -1,5 +1,5 @@
 -- A rule has the same empty loops in its written expression and in its core form.
-use Rattle.std.proofs.Common.{◌≡◌, ◌⊎◌, inl, inr, ℕ, zero, suc, ◌+◌, List, [], ◌∷◌, ◌++◌, All, Contains}
+use Rattle.std.proofs.Common.{◌≡◌, ◌⊎◌, inl, inr, ℕ, zero, suc, ◌+◌, ◌-◌, List, [], ◌∷◌, ◌++◌, All, Contains}
 use Rattle.std.proofs.Common.{Option, None, Some, slice_get, refl, sym, ap, ◌∙◌, subst}
 use Rattle.std.proofs.lemmas.List.Elements.{All-contains, All-weaker, All-map, Contains-append_left}
 use Rattle.std.proofs.lemmas.List.Elements.{Contains-append_right, Contains-push}
@@ -10,7 +10,7 @@ use Rattle.peg_semantics.specs.Loops.{HasLoopOver, IsEmptyLoop}
 use Rattle.peg_semantics.specs.Rules as grammar
 use Rattle.peg_semantics.specs.WellFormed.{below, below_all, subexpressions}
 use Rattle.peg_core.specs.CoreForm.{CoreForm, Empty, Test, Rule, Seq, Choice, Star, Not, in_order, all_in_order, one_of}
-use Rattle.peg_core.specs.CoreForm.{tests_of, unfolded, count_form}
+use Rattle.peg_core.specs.CoreForm.{tests_of, unfolded, left_out, count_form}
 use Rattle.peg_core.specs.CoreForm.{core_form, core_forms, core_bodies}
 use Rattle.peg_core.specs.CoreLoops.{IsSubformOf, IsCoreEmptyLoop}
 use Rattle.peg_core.specs.CoreOutcomes.{CoreGivesNothing, BodyIs}
@@ -119,7 +119,8 @@ module _ (part : CoreForm) (origin : Extent) where
   count-part round min zero (inl is) = cc
   count-part round min zero (inr (inl is)) = cc
   count-part round min zero (inr (inr here)) = here
-  count-part round min (suc max) stands = unfolded-part round min (suc max) stands
+  count-part round min (suc max) stands =
+      unfolded-part round (min - left_out round min) (suc (max - left_out round min)) stands
 
   module _ (rules : List grammar.Rule) where
     -- the star is that of a loop among these expressions

@@ -1,6 +1,6 @@
 -- Rules left-call the same rules in their written expressions and in their core forms, so they have the same left
 -- cycles.
-use Rattle.std.proofs.Common.{◌≡◌, ◌⊎◌, inl, inr, ℕ, zero, suc, ◌+◌, ◌<◌, List, [], ◌∷◌, ◌++◌, length}
+use Rattle.std.proofs.Common.{◌≡◌, ◌⊎◌, inl, inr, ℕ, zero, suc, ◌+◌, ◌-◌, ◌<◌, List, [], ◌∷◌, ◌++◌, length}
 use Rattle.std.proofs.Common.{Option, None, Some, option_map, unwrap_or, slice_get, refl, sym, ap, ◌∙◌, subst, arith}
 use Rattle.std.proofs.lemmas.Option.{slice_get_within}
 use Rattle.peg_semantics.specs.AbstractOutcomes.{GivesNothing}
@@ -10,7 +10,7 @@ use Rattle.peg_semantics.specs.Loops.{CanCallFirst, ItemsCanCallFirst, SomeCanCa
 use Rattle.peg_semantics.specs.Rules.{Meaning, meaning_of}
 use Rattle.peg_semantics.specs.Rules as grammar
 use Rattle.peg_bytes.specs.ByteSet.{only}
-use Rattle.peg_core.specs.CoreForm.{CoreForm, Test, in_order, all_in_order, one_of, tests_of, unfolded, count_form, number_of}
+use Rattle.peg_core.specs.CoreForm.{CoreForm, Test, in_order, all_in_order, one_of, tests_of, unfolded, left_out, count_form, number_of}
 use Rattle.peg_core.specs.CoreForm.{core_form, core_forms, core_bodies_from, core_bodies}
 use Rattle.peg_core.specs.CoreLoops.{CoreCanCallFirst, CoreLeftCalls, IsCoreChain, IsCoreLeftCycle}
 use Rattle.peg_core.specs.CoreOutcomes.{CoreGivesNothing, BodyIs}
@@ -57,10 +57,14 @@ module _ (bodies : List CoreForm) (rule : ℕ) where
       ]
 
   -- a count left-calls the rules that its part does
+  unfolded-to : (part : CoreForm) (min max : ℕ) → CoreCanCallFirst bodies part rule
+      → CoreCanCallFirst bodies (unfolded part min (suc max)) rule
+  unfolded-to part zero max meets = inl (inl meets)
+  unfolded-to part (suc min) max meets = inl meets
+
   count-to : (part : CoreForm) (min max : ℕ) → CoreCanCallFirst bodies part rule → CoreCanCallFirst bodies (count_form part min max) rule
   count-to part min zero meets = inr meets
-  count-to part zero (suc max) meets = inl (inl meets)
-  count-to part (suc min) (suc max) meets = inl meets
+  count-to part min (suc max) meets = unfolded-to part (min - left_out part min) (max - left_out part min) meets
 
   unfolded-from : (part : CoreForm) (min max : ℕ) → CoreCanCallFirst bodies (unfolded part min max) rule
       → CoreCanCallFirst bodies part rule
@@ -76,7 +80,7 @@ module _ (bodies : List CoreForm) (rule : ℕ) where
   count-from : (part : CoreForm) (min max : ℕ) → CoreCanCallFirst bodies (count_form part min max) rule
       → CoreCanCallFirst bodies part rule
   count-from part min zero meets = elim meets [ inl nothing ↦ absurd nothing | inr here ↦ here ]
-  count-from part min (suc max) meets = unfolded-from part min (suc max) meets
+  count-from part min (suc max) meets = unfolded-from part (min - left_out part min) (suc (max - left_out part min)) meets
 
 -- ---- an expression reaches a name if its core form left-calls the name's rule
 

@@ -1,5 +1,5 @@
 -- A written expression and its core form have the same abstract outcomes.
-use Rattle.std.proofs.Common.{◌≡◌, ℕ, zero, suc, ◌+◌, Bool, true, false, List, [], ◌∷◌, Option, None, Some, refl, sym, ap, subst, slice_get, zero-add, suc-add, add_comm}
+use Rattle.std.proofs.Common.{◌≡◌, ℕ, zero, suc, ◌+◌, ◌-◌, Bool, true, false, List, [], ◌∷◌, Option, None, Some, refl, sym, ap, ◌∙◌, subst, slice_get, zero-add, suc-add, add_comm}
 use Rattle.peg_bytes.specs.ByteSet.{only, all_bytes}
 use Rattle.peg_bytes.specs.Extent.{Extent}
 use Rattle.peg_semantics.specs.AbstractOutcomes.{Can, CanAll, no_outcome, always_empty, consumes_or_fails, can_of_set, seq_outcome, choice_outcome, optional_outcome, star_outcome, plus_outcome, repeat_outcome, and_outcome, not_outcome, outcome_of_items, outcome_of_choice, outcome_of_meaning, can_table, can_in, GivesNothing, GivesSomething, CanFail}
@@ -8,9 +8,10 @@ use Rattle.peg_semantics.specs.Form as written_form
 use Rattle.peg_semantics.specs.Rules.{Meaning, meaning_of}
 use Rattle.peg_semantics.specs.Rules as grammar
 use Rattle.peg_semantics.proofs.RoundsLemmas.{CanAll-refl, CanAll-trans, CanAll-no_outcome, CanAll-seq_outcome, CanAll-choice_outcome, CanAll-star_outcome, CanAll-repeat_outcome, CanAll-not_outcome, CanAll-items, CanAll-first, can_in-more}
-use Rattle.peg_core.specs.CoreForm.{CoreForm, Empty, Test, Rule, Seq, Choice, Star, Not, in_order, all_in_order, one_of, tests_of, unfolded, count_form, number_of, core_form, core_forms, core_bodies}
+use Rattle.peg_core.specs.CoreForm.{CoreForm, Empty, Test, Rule, Seq, Choice, Star, Not, in_order, all_in_order, one_of, tests_of, unfolded, is_all_empty, left_out, count_form, number_of, core_form, core_forms, core_bodies}
 use Rattle.peg_core.specs.CoreOutcomes.{outcome_of_body, core_can_table, core_can_in, CoreGivesNothing, CoreGivesSomething, CoreCanFail}
 use Rattle.peg_core.proofs.CoreRounds.{core_can_in-more}
+use Rattle.peg_core.proofs.EmptyParts.{first-all_empty, rest-all_empty, left_out-same}
 use Rattle.peg_core.proofs.Meanings.{body-meaning_of, body-unmeant}
 use Rattle.peg_core.proofs.Sets.{has_some-only, has_some-all_bytes}
 
@@ -77,6 +78,56 @@ and_outcome-not a = and_outcome-not_of a.nothing a.something a.fails
 -- a set with some byte is a terminal that may match
 can_of_some : (some : Bool) → some ≡ true → consumes_or_fails ≡ can false some true
 can_of_some some is = ap (λ b. can false b true) (sym is)
+
+-- ---- parts that are built of empty expressions alone
+
+-- a part that neither consumes nor fails, and again the part, is the part once
+abbrev IsQuiet : Can → Type 0
+IsQuiet a = (a.something ≡ false) × (a.fails ≡ false)
+
+seq_outcome-again_of : (n x y z : Bool)
+    → seq_outcome (can n false false) (seq_outcome (can n false false) (can x y z)) ≡ seq_outcome (can n false false) (can x y z)
+seq_outcome-again_of false x y z = refl
+seq_outcome-again_of true true true true = refl
+seq_outcome-again_of true true true false = refl
+seq_outcome-again_of true true false true = refl
+seq_outcome-again_of true true false false = refl
+seq_outcome-again_of true false true true = refl
+seq_outcome-again_of true false true false = refl
+seq_outcome-again_of true false false true = refl
+seq_outcome-again_of true false false false = refl
+
+seq_outcome-again : (a b : Can) → IsQuiet a → seq_outcome a (seq_outcome a b) ≡ seq_outcome a b
+seq_outcome-again a b quiet =
+    let is : can a.nothing false false ≡ a = λ i. can a.nothing (sym quiet.0 i) (sym quiet.1 i) in
+    subst (λ c. seq_outcome c (seq_outcome c b) ≡ seq_outcome c b) is
+    (seq_outcome-again_of a.nothing b.nothing b.something b.fails)
+
+seq_outcome-quiet : (a b : Can) → IsQuiet a → IsQuiet b → IsQuiet (seq_outcome a b)
+seq_outcome-quiet a b quiet also =
+    let is : can a.nothing false false ≡ a = λ i. can a.nothing (sym quiet.0 i) (sym quiet.1 i) in
+    let as_well : can b.nothing false false ≡ b = λ i. can b.nothing (sym also.0 i) (sym also.1 i) in
+    subst (λ c. IsQuiet (seq_outcome c b)) is
+    (subst (λ d. IsQuiet (seq_outcome (can a.nothing false false) d)) as_well (by a.nothing b.nothing))
+  where
+    by : (x y : Bool) → IsQuiet (seq_outcome (can x false false) (can y false false))
+    by true true = (refl, refl)
+    by true false = (refl, refl)
+    by false y = (refl, refl)
+
+unset : (b c : Bool) → (b ≡ true → c ≡ true) → c ≡ false → b ≡ false
+unset true c to is = sym (to refl) ∙ is
+unset false c to is = refl
+
+CanAll-quiet : (a b : Can) → CanAll a b → IsQuiet b → IsQuiet a
+CanAll-quiet a b all quiet = (unset a.something b.something all.something quiet.0, unset a.fails b.fails all.fails quiet.1)
+
+-- the outcomes of a count without the iterations that are left out
+repeat_outcome-left_out : (part : CoreForm) (a : Can) → (is_all_empty part ≡ true → IsQuiet a) → (min max : ℕ)
+    → repeat_outcome a min (suc max) ≡ repeat_outcome a (min - left_out part min) (suc (max - left_out part min))
+repeat_outcome-left_out part a quiet min max =
+    left_out-same (repeat_outcome a) part (λ empty min. refl)
+    (λ empty min max. seq_outcome-again a (repeat_outcome a min max) (quiet empty)) min max
 
 -- ---- outcomes in some round
 
@@ -199,10 +250,31 @@ module _ (rules : List grammar.Rule) where
   core-unfolded part a h (suc min) (suc max) =
       core-Seq part (unfolded part min max) a (repeat_outcome a min max) h (core-unfolded part a h min max)
 
+  -- a form of empty expressions alone neither consumes nor fails
+  core-quiet : (form : CoreForm) → is_all_empty form ≡ true → (n : ℕ) → IsQuiet (core form n)
+  unfolding core_can_in
+  core-quiet form empty zero = (refl, refl)
+  core-quiet Empty empty (suc n) = (refl, refl)
+  core-quiet (Test set terminal) empty (suc n) = cc
+  core-quiet (Rule rule) empty (suc n) = cc
+  core-quiet (Seq first rest) empty (suc n) =
+      seq_outcome-quiet (core first n) (core rest n) (core-quiet first (first-all_empty first rest empty) n)
+      (core-quiet rest (rest-all_empty first rest empty) n)
+  core-quiet (Choice first rest) empty (suc n) = cc
+  core-quiet (Star part origin) empty (suc n) = cc
+  core-quiet (Not part) empty (suc n) = cc
+
+  shown-quiet : (part : CoreForm) (a : Can) → Shows a (core part) → is_all_empty part ≡ true → IsQuiet a
+  shown-quiet part a h empty = CanAll-quiet a (core part h.0) h.1 (core-quiet part empty h.0)
+
   core-count : (part : CoreForm) (a : Can) → Shows a (core part) → (min max : ℕ)
       → Shows (repeat_outcome a min max) (core (count_form part min max))
   core-count part a h min zero = core-Choice Empty part always_empty a core-Empty h
-  core-count part a h min (suc max) = core-unfolded part a h min (suc max)
+  core-count part a h min (suc max) =
+      let least = min - left_out part min in
+      let most = suc (max - left_out part min) in
+      Shows-from (repeat_outcome a min (suc max)) (repeat_outcome a least most) (core (unfolded part least most))
+      (repeat_outcome-left_out part a (shown-quiet part a h) min max) (core-unfolded part a h least most)
 
   -- the tests of a literal
   to_tests : (b : ℕ) (bs : List ℕ) (terminal : ℕ)
@@ -364,12 +436,19 @@ module _ (rules : List grammar.Rule) where
       Shows-seq_outcome (core part n) (core (unfolded part min max) n) f (λ m. repeat_outcome (f m) min max) grows
       (λ m. CanAll-repeat_outcome (f m) (f (suc m)) (grows m) min max) k (from_unfolded part f grows min max n k)
 
-  from_count : (part : CoreForm) (f : ℕ → Can) → Grows f → (min max n : ℕ) → Shows (tabled n part) f
+  from_count : (part : CoreForm) (f : ℕ → Can) → Grows f → (is_all_empty part ≡ true → (m : ℕ) → IsQuiet (f m))
+      → (min max n : ℕ) → Shows (tabled n part) f
       → Shows (tabled n (count_form part min max)) (λ m. repeat_outcome (f m) min max)
   unfolding core_can_in
-  from_count part f grows min zero zero h = Shows-no_outcome (λ m. always_empty)
-  from_count part f grows min zero (suc n) h = Shows-constant always_empty
-  from_count part f grows min (suc max) n h = from_unfolded part f grows min (suc max) (suc n) h
+  from_count part f grows quiet min zero zero h = Shows-no_outcome (λ m. always_empty)
+  from_count part f grows quiet min zero (suc n) h = Shows-constant always_empty
+  from_count part f grows quiet min (suc max) n h =
+      let least = min - left_out part min in
+      let most = suc (max - left_out part min) in
+      Shows-same (tabled n (unfolded part least most)) (λ m. repeat_outcome (f m) least most)
+      (λ m. repeat_outcome (f m) min (suc max))
+      (λ m. sym (repeat_outcome-left_out part (f m) (λ empty. quiet empty m) min max))
+      (from_unfolded part f grows least most (suc n) h)
 
   -- items and alternatives of written expressions, by rounds
   abbrev items_in : Forms → ℕ → Can
@@ -459,7 +538,8 @@ module _ (rules : List grammar.Rule) where
       from_core-table (Counted part min max span) terminal =
           let form = core_form rules terminal part in
           shown (Counted part min max span) (tabled n (count_form form min max))
-          (from_count form (written part) (written-grows part) min max n (from_core-table part terminal))
+          (from_count form (written part) (written-grows part)
+          (λ empty m. shown-quiet form (written part m) (to_core m part terminal) empty) min max n (from_core-table part terminal))
       from_core-table (And part span) terminal =
           let not : Form = written_form.Not part span in
           let b = core (core_form rules terminal not) n in

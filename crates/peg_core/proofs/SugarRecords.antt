@@ -1,5 +1,5 @@
 -- A written expression and its core form have the same records.
-use Rattle.std.proofs.Common.{◌≡◌, ℕ, zero, suc, ◌+◌, ◌<◌, Bool, true, false, ◌==◌, if◌then◌else◌, List, [], ◌∷◌, All, drop, Option, None, Some, refl, sym, ap, ◌∙◌, subst, slice_get, option_map, option_and_then, inl, inr}
+use Rattle.std.proofs.Common.{◌≡◌, ℕ, zero, suc, ◌+◌, ◌-◌, ◌<◌, Bool, true, false, ◌==◌, if◌then◌else◌, List, [], ◌∷◌, All, drop, Option, None, Some, refl, sym, ap, ◌∙◌, subst, slice_get, option_map, option_and_then, inl, inr}
 use Rattle.std.proofs.lemmas.Bool.{ne_eqb}
 use Rattle.std.proofs.lemmas.Bool.Decides.{eqb_tells}
 use Rattle.std.proofs.lemmas.List.{drop-drop}
@@ -8,19 +8,61 @@ use Rattle.peg_bytes.specs.ByteSet.{Bytes, has, only, all_bytes}
 use Rattle.peg_bytes.specs.Extent.{Extent}
 use Rattle.peg_semantics.specs.Form.{Form, Forms, Literal, Class, Any, Name, Optional, Plus, Counted, And, End, Then, terminals}
 use Rattle.peg_semantics.specs.Form as written_form
-use Rattle.peg_semantics.specs.Record.{Record, matched_at, failed_at, then_at, or_else, star_result, as_call, literal_at, byte_at, recognize_seq, recognize_choice, recognize_repeat, table, record_in, IsRecord}
+use Rattle.peg_tree.specs.Trees.{NoTrees}
+use Rattle.peg_semantics.specs.Record.{Record, matched_at, failed_at, after_both, prepend_trees, then_at, or_else, star_result, as_call, literal_at, byte_at, recognize_seq, recognize_choice, recognize_repeat, table, record_in, IsRecord}
 use Rattle.peg_semantics.specs.Rules.{Meaning, meaning_of}
 use Rattle.peg_semantics.specs.Rules as grammar
 use Rattle.peg_semantics.proofs.RecordLemmas.{Extends-recognize_seq, Extends-recognize_choice, Extends-recognize_repeat, Extends-then_at, record_in-more}
-use Rattle.peg_core.specs.CoreForm.{CoreForm, Empty, Test, Rule, Seq, Choice, Star, Not, in_order, all_in_order, one_of, tests_of, unfolded, count_form, number_of, core_form, core_forms, core_bodies}
+use Rattle.peg_core.specs.CoreForm.{CoreForm, Empty, Test, Rule, Seq, Choice, Star, Not, in_order, all_in_order, one_of, tests_of, unfolded, is_all_empty, left_out, count_form, number_of, core_form, core_forms, core_bodies}
 use Rattle.peg_core.specs.CoreRecord.{AreBytes, core_table, core_record_in, IsCoreRecord}
 use Rattle.peg_core.proofs.CoreRounds.{core_record_in-more, one_core_record}
+use Rattle.peg_core.proofs.EmptyParts.{first-all_empty, rest-all_empty, left_out-same}
 use Rattle.peg_core.proofs.Meanings.{number_of-meaning_of, body-meaning_of, body-unmeant}
 use Rattle.peg_core.proofs.ReachedInSome.{Grows, IsReached, IsReached-some, IsReached-shift, IsReached-unshift, IsReached-same, IsReached-from, IsReached-none, IsReached-map, IsReached-then_at, IsReached-rounds, IsReached-or_else, then_at-nothing, after_both-nothing, rounds-times, unless, provided, unless-unless}
 use Rattle.peg_core.proofs.Sets.{has-only, has-all_bytes}
 
 same_test : (a b : ℕ) → (a == b) ≡ (b == a)
 same_test a b = elim (eqb_tells a b) [ inl same ↦ same.0 ∙ sym (elim (eqb_tells b a) as (λ _. (b == a) ≡ true) [ inl also ↦ also.0 | inr not ↦ absurd (not.1 (sym same.1)) ]) | inr differs ↦ differs.0 ∙ sym (ne_eqb b a (λ same. differs.1 (sym same))) ]
+
+-- ---- parts that are built of empty expressions alone
+
+-- each record matches nothing, without tests and calls
+abbrev MatchNothing : (ℕ → Option Record) → Type 0
+MatchNothing take = (at : ℕ) (r : Record) → take at ≡ Some r → r ≡ matched_at at
+
+-- nothing, and what comes next
+after-nothing_of : (position : ℕ) (o : Option Record)
+    → option_map (λ (more : Record). after_both (matched_at position) more (prepend_trees NoTrees more.result)) o ≡ o
+after-nothing_of position None = refl
+after-nothing_of position (Some p) = ap Some (after_both-nothing position p)
+
+after-nothing : (position : ℕ) (next : ℕ → Option Record) → then_at (Some (matched_at position)) next ≡ next position
+after-nothing position next = after-nothing_of position (next position)
+
+-- such a part, and again the part, is the part once
+then_at-again_of : (take : ℕ → Option Record) → MatchNothing take → (position : ℕ) (next : ℕ → Option Record)
+    (o : Option Record) → take position ≡ o
+    → then_at o (λ end. then_at (take end) next) ≡ then_at o next
+then_at-again_of take empty position next None is = refl
+then_at-again_of take empty position next (Some r) is =
+    let here : r ≡ matched_at position = empty position r is in
+    let now : take position ≡ Some (matched_at position) = is ∙ ap Some here in
+    subst (λ r. then_at (Some r) (λ end. then_at (take end) next) ≡ then_at (Some r) next) (sym here)
+    (after-nothing position (λ end. then_at (take end) next)
+    ∙ ap (λ o. then_at o next) now)
+
+then_at-again : (take : ℕ → Option Record) → MatchNothing take → (position : ℕ) (next : ℕ → Option Record)
+    → then_at (take position) (λ end. then_at (take end) next) ≡ then_at (take position) next
+then_at-again take empty position next = then_at-again_of take empty position next (take position) refl
+
+-- the records of a count without the iterations that are left out
+recognize_repeat-left_out : (part : CoreForm) (take : ℕ → Option Record) → (is_all_empty part ≡ true → MatchNothing take)
+    → (min max position : ℕ)
+    → recognize_repeat take min (suc max) position
+    ≡ recognize_repeat take (min - left_out part min) (suc (max - left_out part min)) position
+recognize_repeat-left_out part take empty min max position =
+    left_out-same (λ min max. recognize_repeat take min max position) part (λ is min. refl)
+    (λ is min max. then_at-again take (empty is) position (λ end. recognize_repeat take min max end)) min max
 
 module _ (rules : List grammar.Rule) (text : List ℕ) where
   abbrev bodies : List CoreForm
@@ -122,11 +164,39 @@ module _ (rules : List grammar.Rule) (text : List ℕ) where
       core-Seq part (unfolded part min max) (take position) (λ end. recognize_repeat take min max end) position (h position)
       (λ end. core-unfolded part take h min max end)
 
+  -- a form of empty expressions alone matches nothing
+  core-all_empty : (form : CoreForm) → is_all_empty form ≡ true → (position : ℕ)
+      → IsReached (Some (matched_at position)) (core form position)
+  core-all_empty Empty empty position = core-Empty position
+  core-all_empty (Test set terminal) empty position = cc
+  core-all_empty (Rule rule) empty position = cc
+  core-all_empty (Seq first rest) empty position =
+      let next : ℕ → Option Record = λ end. Some (matched_at end) in
+      IsReached-from (Some (matched_at position)) (then_at (Some (matched_at position)) next) (core (Seq first rest) position)
+      (sym (then_at-nothing (Some (matched_at position))))
+      (core-Seq first rest (Some (matched_at position)) next position
+      (core-all_empty first (first-all_empty first rest empty) position)
+      (λ end. core-all_empty rest (rest-all_empty first rest empty) end))
+  core-all_empty (Choice first rest) empty position = cc
+  core-all_empty (Star part origin) empty position = cc
+  core-all_empty (Not part) empty position = cc
+
+  reached-nothing : (part : CoreForm) (take : ℕ → Option Record) → ((at : ℕ) → IsReached (take at) (core part at))
+      → is_all_empty part ≡ true → MatchNothing take
+  reached-nothing part take h empty at r is =
+      one_core_record bodies text part at r (matched_at at) (h at r is) (core-all_empty part empty at (matched_at at) refl)
+
   core-count : (part : CoreForm) (take : ℕ → Option Record) → ((at : ℕ) → IsReached (take at) (core part at))
       → (min max position : ℕ) → IsReached (recognize_repeat take min max position) (core (count_form part min max) position)
   core-count part take h min zero position =
       core-Choice Empty part (Some (matched_at position)) (take position) position (core-Empty position) (h position)
-  core-count part take h min (suc max) position = core-unfolded part take h min (suc max) position
+  core-count part take h min (suc max) position =
+      let least = min - left_out part min in
+      let most = suc (max - left_out part min) in
+      IsReached-from (recognize_repeat take min (suc max) position) (recognize_repeat take least most position)
+      (core (unfolded part least most) position)
+      (recognize_repeat-left_out part take (reached-nothing part take h) min max position)
+      (core-unfolded part take h least most position)
 
   -- ---- literals
 
@@ -355,13 +425,20 @@ module _ (rules : List grammar.Rule) (text : List ℕ) where
       (λ m end. times_in f min max end m) (grows position) (λ end. times-grow f grows min max end) (k position)
       (λ end. from_unfolded part f grows min max n k end)
 
-  from_count : (part : CoreForm) (f : ℕ → ℕ → Option Record) → ((at : ℕ) → Grows (f at)) → (min max n : ℕ)
+  from_count : (part : CoreForm) (f : ℕ → ℕ → Option Record) → ((at : ℕ) → Grows (f at))
+      → (is_all_empty part ≡ true → (m : ℕ) → MatchNothing (λ at. f at m)) → (min max n : ℕ)
       → ((at : ℕ) → IsReached (tabled n part at) (f at)) → (position : ℕ)
       → IsReached (tabled n (count_form part min max) position) (times_in f min max position)
   unfolding core_record_in
-  from_count part f grows min zero zero h position = IsReached-none (λ m. Some (matched_at position))
-  from_count part f grows min zero (suc n) h position = IsReached-some (matched_at position)
-  from_count part f grows min (suc max) n h position = from_unfolded part f grows min (suc max) (suc n) h position
+  from_count part f grows empty min zero zero h position = IsReached-none (λ m. Some (matched_at position))
+  from_count part f grows empty min zero (suc n) h position = IsReached-some (matched_at position)
+  from_count part f grows empty min (suc max) n h position =
+      let least = min - left_out part min in
+      let most = suc (max - left_out part min) in
+      IsReached-same (tabled n (unfolded part least most) position) (times_in f least most position)
+      (times_in f min (suc max) position)
+      (λ m. sym (recognize_repeat-left_out part (λ at. f at m) (λ is. empty is m) min max position))
+      (from_unfolded part f grows least most (suc n) h position)
 
   module _ (n : ℕ) (h : FromCore n) where
     -- the rest of a sequence, and of a choice
@@ -476,7 +553,8 @@ module _ (rules : List grammar.Rule) (text : List ℕ) where
       from_core-table bytes (Counted part min max span) terminal position =
           let form = core_form rules terminal part in
           IsReached-shift (tabled n (count_form form min max) position) (written (Counted part min max span) terminal position)
-          (from_count form (λ at. written part terminal at) (λ at. written-grows part terminal at) min max n
+          (from_count form (λ at. written part terminal at) (λ at. written-grows part terminal at)
+          (λ empty m. reached-nothing form (λ at. written part terminal at m) (λ at. to_core bytes m part terminal at) empty) min max n
           (λ at. from_core-table bytes part terminal at) position)
       from_core-table bytes (And part span) terminal position =
           let not : Form = written_form.Not part span in

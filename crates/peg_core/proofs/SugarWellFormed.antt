@@ -1,5 +1,5 @@
 -- A written expression is well-formed exactly if its core form is.
-use Rattle.std.proofs.Common.{◌≡◌, ℕ, zero, suc, ◌+◌, Bool, List, [], ◌∷◌, Option, None, Some, refl, sym, subst, slice_get, zero-add, suc-add, add_comm}
+use Rattle.std.proofs.Common.{◌≡◌, ℕ, zero, suc, ◌+◌, ◌-◌, Bool, List, [], ◌∷◌, Option, None, Some, refl, sym, subst, slice_get, zero-add, suc-add, add_comm}
 use Rattle.peg_bytes.specs.ByteSet.{only, all_bytes}
 use Rattle.peg_bytes.specs.Extent.{Extent}
 use Rattle.peg_semantics.specs.AbstractOutcomes.{GivesNothing}
@@ -9,7 +9,7 @@ use Rattle.peg_semantics.specs.Rules.{Meaning, meaning_of}
 use Rattle.peg_semantics.specs.Rules as grammar
 use Rattle.peg_semantics.specs.WellFormed.{ItemsAre, AllAre, MeaningIs, RepeatsWell, WellFormedTable, IsWellFormedIn, IsWellFormed}
 use Rattle.peg_semantics.proofs.RoundsLemmas.{ItemsAre-more, AllAre-more, IsWellFormedIn-more}
-use Rattle.peg_core.specs.CoreForm.{CoreForm, Empty, Test, Rule, Seq, Choice, Star, Not, in_order, all_in_order, one_of, tests_of, unfolded, count_form, number_of, core_form, core_forms, core_bodies}
+use Rattle.peg_core.specs.CoreForm.{CoreForm, Empty, Test, Rule, Seq, Choice, Star, Not, in_order, all_in_order, one_of, tests_of, unfolded, left_out, count_form, number_of, core_form, core_forms, core_bodies}
 use Rattle.peg_core.specs.CoreOutcomes.{CoreGivesNothing, BodyIs, CoreWellFormedTable, IsCoreWellFormedIn, IsCoreWellFormed}
 use Rattle.peg_core.proofs.CoreRounds.{IsCoreWellFormedIn-more}
 use Rattle.peg_core.proofs.Meanings.{body-meaning_of, body-unmeant}
@@ -145,7 +145,7 @@ module _ (rules : List grammar.Rule) where
       → Follows P (core (count_form part min max))
   core-count P part h min zero =
       Follows-from P (P × P) (core (Choice Empty part)) (λ p. (p, p)) (core-Choice Empty part P P (core-Empty P) h)
-  core-count P part h min (suc max) = core-unfolded P part h min (suc max)
+  core-count P part h min (suc max) = core-unfolded P part h (min - left_out part min) (suc (max - left_out part min))
 
   -- ---- from a written expression to its core form
 
@@ -252,10 +252,13 @@ module _ (rules : List grammar.Rule) where
   round_part zero part inner is = is
   round_part (suc n) part inner is = core-grows part n is.0
 
+  unfolded_part : (n : ℕ) (part : CoreForm) (min max : ℕ) → tabled n (unfolded part min (suc max)) → core part n
+  unfolded_part n part zero max is = round_part n part (unfolded part zero max) is.0
+  unfolded_part n part (suc min) max is = is.0
+
   count_part : (n : ℕ) (part : CoreForm) (min max : ℕ) → tabled n (count_form part min max) → core part n
   count_part n part min zero is = is.1
-  count_part n part zero (suc max) is = round_part n part (unfolded part zero max) is.0
-  count_part n part (suc min) (suc max) is = is.0
+  count_part n part min (suc max) is = unfolded_part n part (min - left_out part min) (max - left_out part min) is
 
   abbrev items_in : Forms → ℕ → Type 0
   items_in items n = ItemsAre rules (IsWellFormedIn rules n) items

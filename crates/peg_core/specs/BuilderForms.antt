@@ -1,9 +1,9 @@
 -- Describes code: the model of a flat list of nodes, and its invariant.
-use Rattle.std.specs.Prelude.{ℕ, ◌<◌, ◌≤◌, List, [], ◌∷◌, ◌++◌, fold, length, map, slice_index_or}
+use Rattle.std.specs.Prelude.{◌≡◌, ℕ, ◌<◌, ◌≤◌, List, [], ◌∷◌, ◌++◌, fold, length, map, slice_index_or}
 use Rattle.peg_bytes.specs.Extent.{extent}
 use Rattle.peg_semantics.specs.Grammar.{max_parts}
 use Rattle.peg_core.specs.Layout.{Layout, max_forms}
-use Rattle.peg_core.specs.CoreForm.{CoreForm}
+use Rattle.peg_core.specs.CoreForm.{CoreForm, is_all_empty}
 use Rattle.peg_core.specs.CoreNodes.{NodeFits, shape}
 use Rattle.peg_core.specs.declared.builder.CoreBuilder.TheInside.{Inside}
 use Rattle.peg_core.specs.declared.node.Entry.{Entry}
@@ -26,8 +26,10 @@ AllFit rules terminals nodes =
 abbrev pub layout_of : Inside → Layout
 layout_of builder = record { rules = builder.rules; forms = forms_of builder.nodes; spans = map extent builder.spans.items }
 
--- each node fits at its number, and the numbers of nodes and terminals are within their limits
+-- Each node fits at its number, and the numbers of nodes and terminals are within their limits. The marks say which
+-- forms are built of empty expressions alone.
 pub record IsBuilder (builder : Inside) : Type 0 where
   pub fit : AllFit builder.rules (length builder.spans.items) builder.nodes
   pub few : length builder.nodes ≤ max_forms
   pub few_terminals : length builder.spans.items ≤ max_parts
+  pub marks : builder.all_empty.items ≡ map is_all_empty (forms_of builder.nodes)

@@ -1,5 +1,6 @@
 -- Ford's core forms (Ford 2004, section 3.1), and the core form of a written expression by desugaring (section 3.2).
-use Rattle.std.specs.Prelude.{ℕ, zero, suc, ◌+◌, List, [], ◌∷◌, map, length, option_map, unwrap_or}
+use Rattle.std.specs.Prelude.{ℕ, zero, suc, ◌+◌, ◌-◌, Bool, true, false, ◌&&◌, if◌then◌else◌}
+use Rattle.std.specs.Prelude.{List, [], ◌∷◌, map, length, option_map, unwrap_or}
 use Rattle.peg_bytes.specs.ByteSet.{Bytes, only, all_bytes}
 use Rattle.peg_bytes.specs.Extent.{Extent}
 use Rattle.peg_semantics.specs.Form.{Form, Forms, End, Then, terminals}
@@ -43,11 +44,26 @@ unfolded part min zero = Empty
 unfolded part zero (suc max) = Choice (Seq part (unfolded part zero max)) Empty
 unfolded part (suc min) (suc max) = Seq part (unfolded part min max)
 
--- A count is unfolded. With max 0, which no grammar has, the part is an alternative after the empty expression and
--- never tried. So the part of each count is checked, whatever its numbers are.
+-- whether a form is built of empty expressions alone: it is one, or a sequence of two such forms
+abbrev pub is_all_empty : CoreForm → Bool
+is_all_empty Empty = true
+is_all_empty (Test set terminal) = false
+is_all_empty (Rule rule) = false
+is_all_empty (Seq first rest) = is_all_empty first && is_all_empty rest
+is_all_empty (Choice first rest) = false
+is_all_empty (Star part origin) = false
+is_all_empty (Not part) = false
+
+-- How many iterations of a count are left out. If the part is built of empty expressions alone, these are the ones
+-- after the first that must match: they match nothing and never fail. Of any other part none is left out.
+abbrev pub left_out : CoreForm → (min : ℕ) → ℕ
+left_out part min = if is_all_empty part then min - 1 else 0
+
+-- A count is unfolded, without the iterations that are left out. With max 0, which no grammar has, the part is an
+-- alternative after the empty expression and never tried. So the part of each count is checked, whatever its numbers.
 abbrev pub count_form : CoreForm → (min max : ℕ) → CoreForm
 count_form part min zero = Choice Empty part
-count_form part min (suc max) = unfolded part min (suc max)
+count_form part min (suc max) = unfolded part (min - left_out part min) (suc (max - left_out part min))
 
 -- the number of the rule that a name denotes; the number of rules if it denotes none
 abbrev pub number_of : List grammar.Rule → List ℕ → ℕ

@@ -1,6 +1,6 @@
 -- The core forms of a written expression: those of its parts, then its own, itself last. The part of a plus occurs once
 -- and is named twice. The part of a count occurs once and is named by each iteration.
-use Rattle.std.specs.Prelude.{◌≡◌, ℕ, zero, suc, ◌+◌, Bool, List, [], ◌∷◌, ◌++◌}
+use Rattle.std.specs.Prelude.{◌≡◌, ℕ, zero, suc, ◌+◌, ◌-◌, Bool, List, [], ◌∷◌, ◌++◌}
 use Rattle.std.specs.List.{list_all}
 use Rattle.peg_bytes.specs.ByteSet.{all_bytes}
 use Rattle.peg_bytes.specs.Extent.{Extent}
@@ -10,7 +10,7 @@ use Rattle.peg_semantics.specs.Grammar.{is_in_range}
 use Rattle.peg_semantics.specs.Rules.{is_defined}
 use Rattle.peg_semantics.specs.Rules as grammar
 use Rattle.peg_core.specs.CoreForm.{CoreForm, Empty, Test, Rule, Seq, Choice, Star, Not, in_order, one_of, tests_of}
-use Rattle.peg_core.specs.CoreForm.{unfolded, number_of, core_form, core_forms, core_bodies}
+use Rattle.peg_core.specs.CoreForm.{unfolded, left_out, number_of, core_form, core_forms, core_bodies}
 use Rattle.peg_core.specs.Layout.{Desugared, bodies_of}
 
 -- the sequences that forms in order nest to, the shortest first
@@ -46,7 +46,7 @@ rounds_of part (suc min) (suc max) = rounds_of part min max ++ unfolded part (su
 -- the forms of a count: the empty expression, and the iterations
 abbrev pub count_forms : CoreForm → (min max : ℕ) → List CoreForm
 count_forms part min zero = Empty ∷ Choice Empty part ∷ []
-count_forms part min (suc max) = Empty ∷ rounds_of part min (suc max)
+count_forms part min (suc max) = Empty ∷ rounds_of part (min - left_out part min) (suc (max - left_out part min))
 
 -- the forms of an and-predicate
 abbrev pub and_forms : CoreForm → List CoreForm

@@ -2,7 +2,8 @@
 ghost use Rattle.std.specs.Prelude.{◌≡◌, ◌<◌, ◌≤◌, [], ◌∷◌, ◌++◌, length, slice_get, IfOk, OnOk, Some};
 ghost use Rattle.peg_bytes.specs.Extent.{Extent, extent};
 ghost use Rattle.peg_semantics.specs.Grammar.{max_parts};
-ghost use Rattle.peg_core.specs.Layout.{max_forms};
+ghost use Rattle.peg_core.specs.CoreForm.{is_all_empty};
+ghost use Rattle.peg_core.specs.Layout.{form_at, max_forms};
 ghost use Rattle.peg_core.specs.CoreNodes.{NodeFits, IsStarFrom, IsFormOfNode, shape};
 ghost use Rattle.peg_core.specs.FormsOfNodes.{AreFormsOfNodes};
 
@@ -12,11 +13,13 @@ use peg_bytes::Span;
 use std::alloc::{AllocError, Global};
 use std::marker::Model;
 
-/// Core forms by number, and the spans of their terminals. The list grows while a grammar is desugared.
+/// Core forms by number, and the spans of their terminals. The list grows while a grammar is desugared. A mark for each
+/// form says whether it is built of empty expressions alone.
 #[derive(Debug, Drop)]
 pub(crate) struct CoreBuilder {
     rules: u32,
     nodes: PackedNodes,
+    all_empty: Vec<bool>,
     spans: Vec<Span>,
 }
 
@@ -43,6 +46,7 @@ impl CoreBuilder {
         CoreBuilder {
             rules,
             nodes: PackedNodes::new(alloc),
+            all_empty: Vec::new(alloc),
             spans: Vec::new(alloc),
         }
     }
@@ -67,8 +71,32 @@ impl CoreBuilder {
             ≡ record self.old { forms = self.old.forms ++ shape self.old.forms (extent origin) node ∷ [] }) }
     {
         let number = self.nodes.len() as u32;
+        let all_empty = self.is_node_all_empty(node);
+        // Reserves the mark first, so that a failed allocation leaves no form without its mark.
+        self.all_empty.reserve(1)?;
         self.nodes.push(Entry { node, origin })?;
+        self.all_empty.push_reserved(all_empty);
         Ok(number)
+    }
+
+    // Whether the form of a node, whose parts are in the list, is built of empty expressions alone.
+    fn is_node_all_empty(&self, node: Node) -> bool
+        requires { NodeFits (length self.now.forms) self.now.rules (length self.now.spans) node }
+        ensures { (origin : Extent) → result ≡ is_all_empty (shape self.now.forms origin node) }
+    {
+        match node {
+            Node::Empty => true,
+            Node::Seq(first, rest) => self.is_all_empty(first) && self.is_all_empty(rest),
+            _ => false,
+        }
+    }
+
+    /// Returns whether a form is the empty expression or a sequence of empty expressions. Takes constant time.
+    pub(crate) fn is_all_empty(&self, number: u32) -> bool
+        requires { number < length self.now.forms }
+        ensures { result ≡ is_all_empty (form_at self.now.forms number) }
+    {
+        self.all_empty[number as usize]
     }
 
     /// Returns the number of forms.

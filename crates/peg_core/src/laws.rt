@@ -4,6 +4,8 @@ ghost use Rattle.std.specs.Prelude.{Some};
 ghost use Rattle.peg_bytes.specs.Extent.{Extent};
 ghost use Rattle.peg_core.specs.CoreExamples.{nested_core, operators_core, all_core_can_in};
 ghost use Rattle.peg_core.specs.CoreExamples.{two_to_four_core, two_to_four_parts};
+ghost use Rattle.peg_core.specs.CoreExamples.{empties, empties_core, empties_parts};
+ghost use Rattle.peg_core.specs.CoreExamples.{nested_empties, nested_empties_core};
 ghost use Rattle.peg_core.specs.CoreForm.{Rule as use_of};
 ghost use Rattle.peg_core.specs.CoreForm.{CoreForm, core_bodies, core_form};
 ghost use Rattle.peg_core.specs.CoreLoops.{CoreLeftCalls, IsCoreEmptyLoop, IsCoreLeftCycle, IsSubformOfBody};
@@ -110,5 +112,8 @@ pub fn the_core_forms_agree_with_hand_worked_grammars()
     ensures outcomes { all_core_can_in operators_core 8 ≡ operators_can }
     ensures two_to_four { core_bodies two_to_four ≡ two_to_four_core }
     ensures two_to_four_parts { all_core_parts two_to_four ≡ two_to_four_parts }
+    ensures empties { core_bodies empties ≡ empties_core }
+    ensures empties_parts { all_core_parts empties ≡ empties_parts }
+    ensures nested_empties { core_bodies nested_empties ≡ nested_empties_core }
     ensures three { IsCoreRecord two_to_four_core (codes "aaa") (use_of 0) 0 three_record }
 {}

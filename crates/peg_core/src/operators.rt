@@ -1,9 +1,9 @@
 //! Core forms of single operators.
-ghost use Rattle.std.specs.Prelude.{◌+◌, ◌<◌, ◌≤◌, [], ◌∷◌, length, IfOk};
+ghost use Rattle.std.specs.Prelude.{◌≡◌, ◌+◌, ◌<◌, ◌≤◌, [], ◌∷◌, length, IfOk};
 ghost use Rattle.peg_bytes.specs.ByteSet.{all_bytes, bytes_of};
 ghost use Rattle.peg_bytes.specs.Extent.{extent};
-ghost use Rattle.peg_core.specs.CoreForm.{Empty, Rule, Seq, Choice, Star, Not, Test, count_form};
-ghost use Rattle.peg_core.specs.CoreParts.{optional_forms, plus_forms, count_forms, and_forms};
+ghost use Rattle.peg_core.specs.CoreForm.{Empty, Rule, Seq, Choice, Star, Not, Test, count_form, left_out, unfolded};
+ghost use Rattle.peg_core.specs.CoreParts.{optional_forms, plus_forms, count_forms, rounds_of, and_forms};
 ghost use Rattle.peg_core.specs.Appending.{Appends};
 ghost use Rattle.peg_core.specs.Layout.{form_at, max_forms, max_forms_each};
 ghost use Rattle.peg_semantics.specs.Grammar.{max_parts};
@@ -60,8 +60,9 @@ pub(crate) fn add_plus(
     builder.push(Node::Seq(part, star), no_origin())
 }
 
-/// Adds the part at least `min` and at most `max` times, nested to the right; the innermost iteration is added first.
-/// If `max` is 0, the part is an alternative that is never tried, so that it is checked all the same.
+/// Adds the part at least `min` and at most `max` times. If the part is built of empty expressions alone, the
+/// iterations after the first that must match are left out. If `max` is 0, the part is an alternative that is never
+/// tried, so that it is checked all the same.
 pub(crate) fn add_count(
     part: u32,
     builder: &mut CoreBuilder,
@@ -73,10 +74,46 @@ pub(crate) fn add_count(
     ensures { IfOk result (λ number. Appends builder.old (count_forms (form_at builder.old.forms part) min max) []
         (count_form (form_at builder.old.forms part) min max) number builder.new) }
 {
-    let nothing = builder.push(Node::Empty, no_origin())?;
     if max == 0 {
-        return builder.push(Node::Choice(nothing, part), no_origin());
+        return add_untried(part, builder);
     }
+    let left_out = iterations_left_out(part, builder, min);
+    let most = (max - 1).saturating_sub(left_out) + 1;
+    add_iterations(part, builder, min - left_out, most)
+}
+
+// How many iterations of a count are left out.
+fn iterations_left_out(part: u32, builder: &CoreBuilder, min: u8) -> u8
+    requires { part < length builder.now.forms }
+    ensures count { result ≡ left_out (form_at builder.now.forms part) min }
+    ensures fewer { result ≤ min }
+{
+    if builder.is_all_empty(part) {
+        min.saturating_sub(1)
+    } else {
+        0
+    }
+}
+
+// Adds the empty form or the part: `'' / e`. The part is never tried.
+fn add_untried(part: u32, builder: &mut CoreBuilder) -> Result<u32, AllocError>
+    requires room { length builder.old.forms + 2 ≤ max_forms }
+    requires part { part < length builder.old.forms }
+    ensures { IfOk result (λ number. Appends builder.old (Empty ∷ Choice Empty (form_at builder.old.forms part) ∷ []) []
+        (Choice Empty (form_at builder.old.forms part)) number builder.new) }
+{
+    let nothing = builder.push(Node::Empty, no_origin())?;
+    builder.push(Node::Choice(nothing, part), no_origin())
+}
+
+// Adds the iterations of a count, nested to the right. The innermost one is added first.
+fn add_iterations(part: u32, builder: &mut CoreBuilder, min: u8, max: u8) -> Result<u32, AllocError>
+    requires room { length builder.old.forms + max_forms_each ≤ max_forms }
+    requires part { part < length builder.old.forms }
+    ensures { IfOk result (λ number. Appends builder.old (Empty ∷ rounds_of (form_at builder.old.forms part) min max) []
+        (unfolded (form_at builder.old.forms part) min max) number builder.new) }
+{
+    let nothing = builder.push(Node::Empty, no_origin())?;
     let optional = max.saturating_sub(min);
     let mut rest = nothing;
     for done in 0..max {

@@ -13,5 +13,8 @@ returns c = record {
   outcomes = refl;
   two_to_four = refl;
   two_to_four_parts = refl;
+  empties = refl;
+  empties_parts = refl;
+  nested_empties = refl;
   three = (16, refl);
 }

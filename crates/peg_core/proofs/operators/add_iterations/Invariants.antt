@@ -1,7 +1,7 @@
 use Rattle.std.proofs.Common.{◌+◌, ◌-◌, ◌*◌, ◌≤◌, length}
 use Rattle.peg_core.specs.Layout.{max_forms}
 use Rattle.peg_core.proofs.CountLemmas.{LaysRounds, needed}
-use Rattle.peg_core.proofs.operators.add_count.Given as goal
+use Rattle.peg_core.proofs.operators.add_iterations.Given as goal
 
 -- the innermost iterations so far were appended, and the others are within the limit
 abbrev pub invariant-loop-done : goal.invariant-loop-done

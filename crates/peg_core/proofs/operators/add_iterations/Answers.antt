@@ -1,30 +1,11 @@
-use Rattle.std.proofs.Common.{◌≡◌, zero, suc, ◌+◌, ◌∷◌, [], IfOk, length, sym, ap, ◌∙◌, subst, arith, length-append}
-use Rattle.peg_core.specs.Appending.{Appends}
-use Rattle.peg_core.specs.CoreForm.{CoreForm, Choice, Empty, count_form}
-use Rattle.peg_core.specs.CoreParts.{count_forms, rounds_of}
+use Rattle.std.proofs.Common.{◌≡◌, zero, suc, ◌+◌, ◌∷◌, length, sym, ap, subst, arith, length-append}
+use Rattle.peg_core.specs.CoreForm.{Empty}
+use Rattle.peg_core.specs.CoreParts.{rounds_of}
 use Rattle.peg_core.specs.Layout.{Layout, form_at}
-use Rattle.peg_core.proofs.CountLemmas.{LaysRounds, needed, needed-more, optional-more, rounds-count}
-use Rattle.peg_core.proofs.LaidLemmas.{Appends-one, Appends-two, form_at-kept, if_ok_both, length-pushed, pushed, within-grown}
-use Rattle.peg_core.proofs.operators.add_count.Goals as goal
-use Rattle.peg_core.proofs.operators.add_count.Goals.{then-done-optional+in_ok-rest-2, else-done-optional}
-
-pub returns-then-max-eq0 : goal.returns-then-max-eq0
-returns-then-max-eq0 c =
-    let old = c.args.builder.now in
-    let mid = c.push.new.self in
-    let new = c.push-then-max-eq0.new.self in
-    let part = c.args.part in
-    let nothing = c.in_ok-nothing.nothing in
-    let form = form_at old.forms part in
-    let whole : CoreForm = Choice Empty form in
-    let one = Appends-one old mid Empty nothing c.in_ok-nothing.ensures.put c.in_ok-nothing.ensures.number in
-    let is : Choice (form_at mid.forms nothing) (form_at mid.forms part) ≡ whole =
-    λ i. Choice (one.last i) (form_at-kept old mid (Empty ∷ []) part one.forms c.requires.part i) in
-    subst (λ max. IfOk c.push-then-max-eq0.result (λ number. Appends old (count_forms form c.args.min max) [] (count_form form c.args.min max) number new))
-    (sym c.if-max-eq0.true)
-    (if_ok_both _ (λ number. Appends old (count_forms form c.args.min zero) [] whole number new) _ c.push-then-max-eq0.result
-    (λ number at put. Appends-two old mid new Empty whole nothing number one (put ∙ ap (pushed mid) is) at)
-    c.push-then-max-eq0.ensures.number c.push-then-max-eq0.ensures.put)
+use Rattle.peg_core.proofs.CountLemmas.{LaysRounds, needed, needed-more, optional-more}
+use Rattle.peg_core.proofs.LaidLemmas.{Appends-one, length-pushed, within-grown}
+use Rattle.peg_core.proofs.operators.add_iterations.Goals as goal
+use Rattle.peg_core.proofs.operators.add_iterations.Goals.{then-done-optional+in_ok-rest-2, else-done-optional}
 
 pub loop-done-init : goal.loop-done-init
 loop-done-init c = record {
@@ -110,5 +91,4 @@ returns c =
     let whole : c.loop-done.done ≡ max = omega (arith, c.loop-done-test.false, c.loop-done.auto.done-end) in
     let all : needed min max max ≡ min = omega arith in
     let lays = subst (λ done. LaysRounds old part (needed min max done) done number new) whole c.loop-done.invariant.so_far in
-    rounds-count (form_at old.forms part) old new min max number (omega (arith, c.if-max-eq0.false))
-    (subst (λ least. LaysRounds old part least max number new) all lays)
+    subst (λ least. LaysRounds old part least max number new) all lays
