@@ -35,7 +35,7 @@ takes_any TableTask file left bytes other = tt
 takes_any CheckTask file left bytes other = tt
 takes_any CodeTask file left bytes other = tt
 takes_any (LintTask start selection) file left bytes other = tt
-takes_any (ParseTask start steps all form) file left bytes other = absurd (other tt)
+takes_any (ParseTask start memo steps all form) file left bytes other = absurd (other tt)
 
 pub takes_left : (task : ToolTask) (file : List ℕ) (left : Option (List ℕ)) (bytes : List ℕ) → left ≡ Some bytes
     → IsTextOf task file left bytes
@@ -43,7 +43,7 @@ takes_left TableTask file left bytes is = tt
 takes_left CheckTask file left bytes is = tt
 takes_left CodeTask file left bytes is = tt
 takes_left (LintTask start selection) file left bytes is = tt
-takes_left (ParseTask start steps all form) file left bytes is = λ rules accepts. is
+takes_left (ParseTask start memo steps all form) file left bytes is = λ rules accepts. is
 
 -- a command on an opened file is a result of the program, for each text of the task
 pub opened-outcome : (task : ToolTask) (held left text old new : Option (List ℕ)) (ended : Result ℕ CommandFault)
@@ -95,16 +95,17 @@ lint-leads holds old new result g g' start start' s s' same same_start same_sele
 
 -- the program's result for a parse, by the names and the start in the arguments
 pub parse-leads : (holds : List ℕ → Option (List ℕ)) (old new : Option (List ℕ)) (result : Result ℕ ProgramFault)
-    (g t g' t' : List ℕ) (start start' : Option (List ℕ)) (steps : Option ℕ) (all : Bool) (form : TreeForm) → g ≡ g' → t ≡ t'
+    (g t g' t' : List ℕ) (start start' : Option (List ℕ)) (memo : ℕ) (steps : Option ℕ) (all : Bool) (form : TreeForm)
+    → g ≡ g' → t ≡ t'
     → start ≡ start'
     → IfSome (holds g) (λ file. IfSome (holds t) (λ text.
-    WritesOrFails (IsPrinted (ParseTask start steps all form) file text) old new result))
+    WritesOrFails (IsPrinted (ParseTask start memo steps all form) file text) old new result))
     → IfSome (holds g') (λ file. IfSome (holds t') (λ text.
-    WritesOrFails (IsPrinted (ParseTask start' steps all form) file text) old new result))
-parse-leads holds old new result g t g' t' start start' steps all form same same_text same_start outcome =
+    WritesOrFails (IsPrinted (ParseTask start' memo steps all form) file text) old new result))
+parse-leads holds old new result g t g' t' start start' memo steps all form same same_text same_start outcome =
     subst (λ (s : Option (List ℕ)). IfSome (holds g') (λ file. IfSome (holds t') (λ text.
-    WritesOrFails (IsPrinted (ParseTask s steps all form) file text) old new result))) same_start
+    WritesOrFails (IsPrinted (ParseTask s memo steps all form) file text) old new result))) same_start
     (subst (λ (name : List ℕ). IfSome (holds g') (λ file. IfSome (holds name) (λ text.
-    WritesOrFails (IsPrinted (ParseTask start steps all form) file text) old new result))) same_text
+    WritesOrFails (IsPrinted (ParseTask start memo steps all form) file text) old new result))) same_text
     (subst (λ (name : List ℕ). IfSome (holds name) (λ file. IfSome (holds t) (λ text.
-    WritesOrFails (IsPrinted (ParseTask start steps all form) file text) old new result))) same outcome))
+    WritesOrFails (IsPrinted (ParseTask start memo steps all form) file text) old new result))) same outcome))

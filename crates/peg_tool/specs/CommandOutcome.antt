@@ -46,7 +46,7 @@ CommandOutcome (Lint g start proved) holds input old new result = IfSome (holds 
     old new result)
 CommandOutcome (Parse g t start memo steps all rows) holds input old new result =
     IfSome (holds (string_bytes g)) (λ file. IfSome (holds (string_bytes t)) (λ text.
-    WritesOrFails (IsPrinted (ParseTask (option_map string_bytes start) steps all (form_from_rows rows)) file text)
+    WritesOrFails (IsPrinted (ParseTask (option_map string_bytes start) memo steps all (form_from_rows rows)) file text)
     old new result))
 
 -- ---- how results are converted

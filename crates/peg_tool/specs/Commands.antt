@@ -12,4 +12,4 @@ task_of Table = TableTask
 task_of Check = CheckTask
 task_of Code = CodeTask
 task_of (Lint start selection) = LintTask (option_map (λ name. name.now) start) selection
-task_of (Parse options all rows) = ParseTask (start_named options) options.steps all (form_from_rows rows)
+task_of (Parse options all rows) = ParseTask (start_named options) options.memo options.steps all (form_from_rows rows)

@@ -138,9 +138,9 @@ fn parse_reply<T: Source>(
     requires short { length file.now ≤ max_offset }
     requires works { T.failed text.old ≡ false }
     ensures answer { (bytes : List ℕ)
-        → IsTextOf (ParseTask (start_named options.now) options.now.steps all form) file.now
+        → IsTextOf (ParseTask (start_named options.now) options.now.memo options.now.steps all form) file.now
         (T.left text.old) bytes → IfOk result (λ line.
-        IsPrinted (ParseTask (start_named options.now) options.now.steps all form) file.now bytes
+        IsPrinted (ParseTask (start_named options.now) options.now.memo options.now.steps all form) file.now bytes
         (line_bytes line) (status_code line.status)) }
     ensures held { ConsumesAtMost (T.left text.old) (T.left text.new) (max_text_bytes + 1) }
     ensures refused { ((rules : List Rule) → ¬ Accepts file.now rules) → text.new ≡ text.old }
@@ -164,7 +164,7 @@ fn read_and_parse<T: Source>(
     requires { T.failed text.old ≡ false }
     ensures answer { (file : List ℕ) → Accepts file (parser_rules parser.now) → IfOk result (λ line.
         IfSome (T.left text.old) (λ bytes.
-        IsPrinted (ParseTask (start_named options.now) options.now.steps all form) file bytes
+        IsPrinted (ParseTask (start_named options.now) options.now.memo options.now.steps all form) file bytes
         (line_bytes line) (status_code line.status))) }
     ensures held { ConsumesAtMost (T.left text.old) (T.left text.new) (max_text_bytes + 1) }
     ensures device { IsErrOf result ReadFault.Device ↔ (T.failed text.new ≡ true) }

@@ -38,5 +38,5 @@ returns-in-Parse-clause-leads g c =
     (sym c.in-Parse.is)
     (parse-leads holds old new c.on_files.result c.deref-in-Parse.result.now c.deref-in-Parse-2.result.now
     (string_bytes c.in-Parse.g) (string_bytes c.in-Parse.t) (option_map (λ name. name.now) c.as_deref.result)
-    (option_map string_bytes c.in-Parse.start) c.in-Parse.steps c.in-Parse.all (form_from_rows c.in-Parse.rows) c.deref-in-Parse.ensures
-    c.deref-in-Parse-2.ensures c.as_deref.ensures.value c.on_files.ensures.leads)
+    (option_map string_bytes c.in-Parse.start) c.in-Parse.memo c.in-Parse.steps c.in-Parse.all
+    (form_from_rows c.in-Parse.rows) c.deref-in-Parse.ensures c.deref-in-Parse-2.ensures c.as_deref.ensures.value c.on_files.ensures.leads)
