@@ -1,5 +1,10 @@
 //! Parsing the command line arguments.
-ghost use Rattle.std.specs.Prelude.{◌≡◌, ◌≢◌, ◌≤◌, [], IfOk, IfSome};
+ghost use Rattle.std.specs.Prelude.{◌≡◌, ◌≢◌, ◌≤◌, ℕ, List, [], IfOk, IfSome, Some, option_map, string_bytes, codes};
+ghost use Rattle.clap.specs.Matches.{found_of, first_value};
+ghost use Rattle.clap.specs.declared.parser.matches.Found.{Found};
+ghost use Rattle.clap.specs.Simple.{subcommand_rows_of};
+ghost use Rattle.clap.specs.Walk.{rows_of};
+ghost use Rattle.peg_cli.specs.Mapping.{IsCommandOf, number_at};
 ghost use Rattle.peg_cli.specs.Words.{IsAsking};
 
 use crate::command_line::{MAX_MEMO, MAX_STEPS, program};
@@ -86,27 +91,42 @@ pub fn read_words(alloc: Global, words: &[String]) -> Result<Words, WordsFault>
     }
 }
 
+// The command of the subcommand that was found.
 fn command_of(alloc: Global, matches: &ArgMatches<'_>) -> Result<Words, WordsFault>
-    ensures { IfOk result IsAsking }
+    ensures asking { IfOk result IsAsking }
+    ensures command { IfOk result (λ words. (name : List ℕ) × (found : Found)
+        × (subcommand_rows_of matches.now ≡ Some (name, rows_of found)) × IsCommandOf name found words) }
 {
     match matches.subcommand() {
-        Some(("check", words)) => Ok(Words::Check {
-            g: file_name(alloc, words, "G")?,
-        }),
-        Some(("code", words)) => Ok(Words::Code {
-            g: file_name(alloc, words, "G")?,
-        }),
-        Some(("lint", words)) => lint_of(alloc, words),
-        Some(("parse", words)) => parse_of(alloc, words),
-        Some((_, words)) => Ok(Words::Table {
-            g: file_name(alloc, words, "G")?,
-        }),
+        Some((name, words)) => named_command(alloc, name, words),
         None => Err(internal_usage_error(alloc)),
     }
 }
 
+// The command with this name and these arguments.
+fn named_command(alloc: Global, name: &str, words: &ArgMatches<'_>) -> Result<Words, WordsFault>
+    ensures asking { IfOk result IsAsking }
+    ensures command { IfOk result (IsCommandOf name.now (found_of words.now)) }
+{
+    match name {
+        "table" => Ok(Words::Table {
+            g: file_name(alloc, words, "G")?,
+        }),
+        "check" => Ok(Words::Check {
+            g: file_name(alloc, words, "G")?,
+        }),
+        "code" => Ok(Words::Code {
+            g: file_name(alloc, words, "G")?,
+        }),
+        "lint" => lint_of(alloc, words),
+        "parse" => parse_of(alloc, words),
+        _ => Err(internal_usage_error(alloc)),
+    }
+}
+
 fn lint_of(alloc: Global, matches: &ArgMatches<'_>) -> Result<Words, WordsFault>
-    ensures { IfOk result IsAsking }
+    ensures asking { IfOk result IsAsking }
+    ensures command { IfOk result (IsCommandOf (codes "lint") (found_of matches.now)) }
 {
     Ok(Words::Lint {
         g: file_name(alloc, matches, "G")?,
@@ -116,7 +136,8 @@ fn lint_of(alloc: Global, matches: &ArgMatches<'_>) -> Result<Words, WordsFault>
 }
 
 fn parse_of(alloc: Global, matches: &ArgMatches<'_>) -> Result<Words, WordsFault>
-    ensures { IfOk result IsAsking }
+    ensures asking { IfOk result IsAsking }
+    ensures command { IfOk result (IsCommandOf (codes "parse") (found_of matches.now)) }
 {
     Ok(Words::Parse {
         g: file_name(alloc, matches, "G")?,
@@ -129,14 +150,19 @@ fn parse_of(alloc: Global, matches: &ArgMatches<'_>) -> Result<Words, WordsFault
     })
 }
 
-fn file_name(alloc: Global, matches: &ArgMatches<'_>, id: &str) -> Result<String, WordsFault> {
+fn file_name(alloc: Global, matches: &ArgMatches<'_>, id: &str) -> Result<String, WordsFault>
+    ensures { IfOk result (λ name. first_value (found_of matches.now) id.now ≡ Some (string_bytes name)) }
+{
     match matches.get_str(id) {
         Some(name) => Ok(String::from_str(alloc, name)?),
         None => Err(internal_usage_error(alloc)),
     }
 }
 
-fn start_name(alloc: Global, matches: &ArgMatches<'_>) -> Result<Option<String>, AllocError> {
+fn start_name(alloc: Global, matches: &ArgMatches<'_>) -> Result<Option<String>, AllocError>
+    ensures { IfOk result (λ start. first_value (found_of matches.now) (codes "start")
+        ≡ option_map string_bytes start) }
+{
     match matches.get_str("start") {
         Some(name) => Ok(Some(String::from_str(alloc, name)?)),
         None => Ok(None),
@@ -145,23 +171,26 @@ fn start_name(alloc: Global, matches: &ArgMatches<'_>) -> Result<Option<String>,
 
 // The argument parser has checked the range; the test here is for the contract.
 fn memo_size(alloc: Global, matches: &ArgMatches<'_>) -> Result<u32, WordsFault>
-    ensures { IfOk result (λ memo. memo ≤ 1000000) }
+    ensures range { IfOk result (λ memo. memo ≤ 1000000) }
+    ensures number { IfOk result (λ memo. number_at (found_of matches.now) (codes "memo") ≡ Some memo) }
 {
-    match matches.get_one::<u32>("memo") {
-        Some(memo) if memo <= MAX_MEMO => Ok(memo),
+    match matches.try_get_one::<u32>("memo") {
+        Ok(Some(memo)) if memo <= MAX_MEMO => Ok(memo),
         _ => Err(internal_usage_error(alloc)),
     }
 }
 
 // The argument parser has checked the range; the tests here are for the contract.
 fn step_limit(alloc: Global, matches: &ArgMatches<'_>) -> Result<Option<u64>, WordsFault>
-    ensures { IfOk result (λ steps. IfSome steps (λ max_steps. (1 ≤ max_steps) × (max_steps ≤ 1000000000000))) }
+    ensures range { IfOk result (λ steps.
+        IfSome steps (λ max_steps. (1 ≤ max_steps) × (max_steps ≤ 1000000000000))) }
+    ensures number { IfOk result (λ steps. number_at (found_of matches.now) (codes "steps") ≡ steps) }
 {
-    match matches.get_one::<u64>("steps") {
-        Some(0) => Err(internal_usage_error(alloc)),
-        Some(max_steps) if max_steps <= MAX_STEPS => Ok(Some(max_steps)),
-        Some(_) => Err(internal_usage_error(alloc)),
-        None => Ok(None),
+    match matches.try_get_one::<u64>("steps") {
+        Ok(None) => Ok(None),
+        Ok(Some(0)) => Err(internal_usage_error(alloc)),
+        Ok(Some(max_steps)) if max_steps <= MAX_STEPS => Ok(Some(max_steps)),
+        _ => Err(internal_usage_error(alloc)),
     }
 }
 

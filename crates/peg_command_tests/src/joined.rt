@@ -83,6 +83,20 @@ fn answers_have_their_lines(rt: HostRuntime) -> Result<(), Fail> {
     Ok(())
 }
 
+// Each open parenthesis is tried twice, so without a memo the parse takes more than 2^40 steps.
+#[test]
+fn the_input_is_parsed_with_a_memo(rt: HostRuntime) -> Result<(), Fail> {
+    let alloc = rt.alloc();
+    let mut input = Vec::new(alloc);
+    input.extend_from_slice(b"S <- '(' S 'x' / '(' S 'y' / 'a'\n%%\n")?;
+    for _ in 0..40 {
+        input.push(b'(')?;
+    }
+    input.push(b'b')?;
+    let line = "{\"expected\":[[5,8],[17,20],[29,32]],\"far\":40,\"result\":\"failed\"}\n";
+    prints(&rt, alloc, &input, line, 1)
+}
+
 #[test]
 fn refusals_have_their_places(rt: HostRuntime) -> Result<(), Fail> {
     let cases: [(&[u8], &str, u8); 12] = [

@@ -1,32 +1,75 @@
 //! Runs of the program for its arguments, over files in memory.
-ghost use Rattle.std.specs.Prelude.{None};
+ghost use Rattle.std.specs.Prelude.{◌≡◌, Some, true, false};
 
-use peg_tool::{Device, OpenFault, Opener, ProgramFault, Status, Words, read_words, run_words};
+use peg_tool::{
+    Command, Device, DeviceFault, Exit, OpenFault, Opener, ParseOptions, ProgramFault, Request,
+    Source, Status, Words, read_args, read_words, run_program, run_words,
+};
 use std::alloc::Global;
+use std::io::{Error, ErrorKind};
 use std::process::Abort;
 use std::test::Fail;
 
-// A few files by name; opening one of them runs out of memory.
+// A file in memory. Reads of it don't fail.
 #[derive(Drop)]
-struct Shelf;
+struct Held {
+    bytes: &'static [u8],
+}
+
+impl Source for Held {
+    ghost left = { λ file. Some file.bytes.now };
+
+    ghost failed = { λ _. false };
+
+    ghost never_fails = { λ _. true };
+
+    fn read(&mut self, piece: &mut [u8]) -> Result<usize, DeviceFault> {
+        let count = piece.len().min(self.bytes.len());
+        piece[..count].copy_from_slice(&self.bytes[..count]);
+        self.bytes = &self.bytes[count..];
+        Ok(count)
+    }
+
+    fn failed(&self) -> bool {
+        false
+    }
+}
+
+// A few files by name; opening the vast one runs out of memory.
+#[derive(Drop)]
+struct Shelf {
+    line: &'static [u8],
+    short: &'static [u8],
+    aab: &'static [u8],
+    bcd: &'static [u8],
+    vast: &'static [u8],
+}
+
+const SHELF: Shelf = Shelf {
+    line: b"S <- 'a' S / 'b'\n",
+    short: b"S <- T 'c'\nT <- 'a' / 'b'\n",
+    aab: b"aab",
+    bcd: b"bcd",
+    vast: b"",
+};
 
 impl Opener for Shelf {
-    ghost use Rattle.std.specs.Prelude.{None};
+    ghost use Rattle.peg_command_tests.specs.Shelf.{shelf_file};
 
-    type File = Device<&'static [u8]>;
+    type File = Held;
 
-    ghost holds = { λ _ _. None };
+    ghost file_at = { λ shelf. shelf_file shelf.line.now shelf.short.now shelf.aab.now shelf.bcd.now shelf.vast.now };
 
-    fn open(&self, name: &str) -> Result<Device<&'static [u8]>, OpenFault> {
-        let bytes: &'static [u8] = match name {
-            "line" => b"S <- 'a' S / 'b'\n",
-            "short" => b"S <- T 'c'\nT <- 'a' / 'b'\n",
-            "aab" => b"aab",
-            "bcd" => b"bcd",
+    fn open(&self, name: &str) -> Result<Held, OpenFault> {
+        let bytes = match name {
+            "line" => self.line,
+            "short" => self.short,
+            "aab" => self.aab,
+            "bcd" => self.bcd,
             "vast" => return Err(OpenFault::Memory),
             _ => return Err(OpenFault::File),
         };
-        Ok(Device::new(bytes))
+        Ok(Held { bytes })
     }
 }
 
@@ -51,7 +94,7 @@ fn leads(
     let mut output = Vec::new(alloc);
     let printed = run_words(
         alloc,
-        &Shelf,
+        &SHELF,
         &mut Device::new(b"S <- 'a'\n%%\na".as_slice()),
         &mut Device::new(&mut output),
         words,
@@ -150,6 +193,8 @@ fn files_that_are_not_opened_are_faults(rt: HostRuntime) -> Result<(), Fail> {
         ("parse nowhere aab", ProgramFault::File),
         ("parse line nowhere", ProgramFault::File),
         ("parse aab nowhere", ProgramFault::File),
+        ("parse nowhere vast", ProgramFault::File),
+        ("parse vast nowhere", ProgramFault::Memory),
         ("check vast", ProgramFault::Memory),
         ("lint vast --start S", ProgramFault::Memory),
         ("parse line vast", ProgramFault::Memory),
@@ -189,6 +234,107 @@ fn faults_have_a_text_and_a_status(rt: HostRuntime) -> Result<(), Fail> {
         assert!(rt; printed.as_str() == text, "{printed}");
         assert_eq!(rt; fault.status(), status);
     }
+    Ok(())
+}
+
+// The exit of the program for these arguments, of which the first is its name, and what it writes.
+fn exit_for(rt: &impl Abort, alloc: Global, args: &[&str], written: &str) -> Result<Exit, Fail> {
+    let mut all = Vec::new(alloc);
+    for word in args {
+        all.push(String::from_str(alloc, word)?)?;
+    }
+    let mut output = Vec::new(alloc);
+    let exit = run_program(
+        alloc,
+        &SHELF,
+        &mut Device::new(b"S <- 'a'\n%%\na".as_slice()),
+        &mut Device::new(&mut output),
+        read_args(alloc, Ok(all.into_iter())),
+    );
+    assert!(rt; output.as_slice() == written.as_bytes(), "{written}");
+    Ok(exit)
+}
+
+#[test]
+fn exits_have_a_status_and_a_message(rt: HostRuntime) -> Result<(), Fail> {
+    let line =
+        "{\"consumed\":1,\"expected\":[],\"far\":0,\"result\":\"matched\",\"tree\":{\"children\":[],\"end\":1,\"rule\":\"S\",\"start\":0}}\n";
+    let accepted = "{\"result\":\"accepted\",\"rules\":1}\n";
+    let cases = [
+        ("pegtool", line, 0, ""),
+        ("pegtool check line", accepted, 0, ""),
+        ("pegtool check nowhere", "", 4, "pegtool: file fault\n"),
+        ("pegtool check vast", "", 5, "pegtool: out of memory\n"),
+    ];
+    for (text, written, status, message) in cases {
+        let args: Vec<&str> = text.split(' ').collect(rt.alloc())?;
+        let exit = exit_for(&rt, rt.alloc(), &args, written)?;
+        assert_eq!(rt; exit.status(), status, "{text}");
+        assert_eq!(rt; exit.message(), message, "{text}");
+    }
+    Ok(())
+}
+
+#[test]
+fn a_usage_error_is_printed_with_status_3(rt: HostRuntime) -> Result<(), Fail> {
+    let exit = exit_for(&rt, rt.alloc(), &["pegtool", "tables"], "")?;
+    assert_eq!(rt; exit.status(), 3);
+    assert!(rt;
+        exit.message()
+            .starts_with("error: unrecognized subcommand 'tables'")
+    );
+    assert!(rt;
+        exit.message().ends_with("To parse a text T by a grammar file G: pegtool parse G T\n")
+    );
+    Ok(())
+}
+
+#[test]
+fn arguments_that_are_not_utf8_are_a_usage_error(rt: HostRuntime) -> Result<(), Fail> {
+    let alloc = rt.alloc();
+    let cases = [
+        (
+            ErrorKind::InvalidData,
+            3,
+            "error: a word isn't UTF-8\n\nFor more information, try '--help'.\n",
+        ),
+        (ErrorKind::OutOfMemory, 5, "pegtool: out of memory\n"),
+    ];
+    for (kind, status, message) in cases {
+        let mut output = Vec::new(alloc);
+        let exit = run_program(
+            alloc,
+            &SHELF,
+            &mut Device::new(b"".as_slice()),
+            &mut Device::new(&mut output),
+            read_args(alloc, Err(Error::from(kind))),
+        );
+        assert!(rt; output.is_empty());
+        assert_eq!(rt; exit.status(), status);
+        assert_eq!(rt; exit.message(), message);
+    }
+    Ok(())
+}
+
+#[test]
+fn a_request_has_the_options_of_the_arguments(rt: HostRuntime) -> Result<(), Fail> {
+    let words = words_of(rt.alloc(), "parse g t --start A --memo 7 --steps 8 --all")?;
+    let options = ParseOptions {
+        start: Some("A"),
+        memo: 7,
+        steps: Some(8),
+    };
+    let command = Command::Parse {
+        options,
+        all: true,
+        rows: false,
+    };
+    let request = Request::OnFiles {
+        g: "g",
+        t: "t",
+        command,
+    };
+    assert!(rt; Request::from_words(&words) == request);
     Ok(())
 }
 

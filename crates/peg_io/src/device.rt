@@ -20,13 +20,17 @@ pub trait Source {
     // whether a read has failed
     ghost failed: { Self → Bool };
 
+    // whether the source specifies that no read fails
+    ghost never_fails: { Self → Bool } = { λ _. false };
+
     /// Reads bytes into the start of `piece` and returns their number. Returns 0 only at the end of the source. On an
     /// error no byte is taken from the source.
     fn read(&mut self, piece: &mut [u8]) -> Result<usize, DeviceFault>
         requires { 0 < length piece.old }
         ensures bound { IfOk result (λ count. count ≤ length piece.new) }
         ensures bytes { ReadConsumes (left self.old) (left self.new) result piece.new }
-        ensures failed { failed self.new ≡ (if is_ok result then failed self.old else true) };
+        ensures failed { failed self.new ≡ (if is_ok result then failed self.old else true) }
+        ensures never { never_fails self.old ≡ true → (is_ok result ≡ true) × (never_fails self.new ≡ true) };
 
     /// Returns whether a read has failed.
     fn failed(&self) -> bool

@@ -9,6 +9,6 @@ mod separator;
 mod transfer;
 
 pub use device::{Device, DeviceFault, Sink, Source};
-pub use opener::{OpenFault, Opener};
+pub use opener::{FileSystem, OpenFault, Opener};
 pub use separator::split;
 pub use transfer::{ReadFault, read_up_to, write_all_bytes};

@@ -1,9 +1,11 @@
 //! Opening files by name.
-ghost use Rattle.std.specs.Prelude.{◌≡◌, ℕ, List, Option, Some, false, IfOk, IfSome};
+ghost use Rattle.std.specs.Prelude.{◌≡◌, ℕ, List, Some, true, false, IfOk, IfSome, IsErrOf, IsSome};
+ghost use Rattle.peg_io.specs.NamedFile.{NamedFile, Missing, bytes_of, is_readable};
 
-use crate::device::Source;
-use std::io;
+use crate::device::{Device, Source};
+use std::fs::Files;
 use std::io::ErrorKind;
+use std::{fs, io};
 use thiserror::Error;
 
 /// Why a file could not be opened.
@@ -39,12 +41,47 @@ pub trait Opener {
     /// An open file, read from its start.
     type File: Source + Drop;
 
-    // the bytes of the file with the given name, if the opener specifies them
-    ghost holds: { Self → List ℕ → Option (List ℕ) };
+    // what is specified of the file with the given name
+    ghost file_at: { Self → List ℕ → NamedFile };
 
-    /// Opens the file with the given name, to be read from its start. A returned file has no failed read yet.
+    /// Opens the file with the given name, to be read from its start. A returned file has no failed read yet. A file
+    /// that is specified not to exist is `OpenFault::File`, and one with specified bytes isn't.
     fn open(&self, name: &str) -> Result<Self::File, OpenFault>
-        ensures bytes { IfOk result (λ file. IfSome (holds self.now name.now)
+        ensures missing { file_at self.now name.now ≡ Missing → IsErrOf result OpenFault.File }
+        ensures present { IsSome (bytes_of (file_at self.now name.now)) → ¬ IsErrOf result OpenFault.File }
+        ensures bytes { IfOk result (λ file. IfSome (bytes_of (file_at self.now name.now))
             (λ bytes. Self.File.left file ≡ Some bytes)) }
+        ensures readable { IfOk result (λ file. is_readable (file_at self.now name.now) ≡ true
+            → Self.File.never_fails file ≡ true) }
         ensures works { IfOk result (λ file. Self.File.failed file ≡ false) };
+}
+
+/// The files of a file system. Nothing is specified of them.
+#[derive(Drop)]
+pub struct FileSystem<'a, R> {
+    files: &'a R,
+}
+
+impl<'a, R> FileSystem<'a, R> {
+    ghost use Rattle.std.specs.Prelude.{◌≡◌};
+    ghost use Rattle.peg_io.specs.FileSystem.{files_of};
+
+    /// Returns the opener of the files that `files` has.
+    pub fn new(files: &'a R) -> FileSystem<'a, R>
+        ensures { files_of result ≡ files.now }
+    {
+        FileSystem { files }
+    }
+}
+
+impl<'a, R: Files> Opener for FileSystem<'a, R> {
+    ghost use Rattle.peg_io.specs.NamedFile.{Unspecified};
+
+    type File = Device<R::File>;
+
+    ghost file_at = { λ _ _. Unspecified };
+
+    fn open(&self, name: &str) -> Result<Device<R::File>, OpenFault> {
+        Ok(Device::new(fs::open(self.files, name)?))
+    }
 }

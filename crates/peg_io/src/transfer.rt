@@ -49,6 +49,7 @@ pub fn read_up_to<G: Source>(
     // On an error, too, at most `limit` bytes have been taken from the source.
     ensures consumed { ConsumesAtMost (G.left input.old) (G.left input.new) limit }
     ensures device { IsErrOf result ReadFault.Device ↔ (G.failed input.new ≡ true) }
+    ensures never { G.never_fails input.old ≡ true → G.failed input.new ≡ false }
 {
     let mut held = Vec::new(alloc);
     let mut buffer = zeros(alloc, PIECE)?;

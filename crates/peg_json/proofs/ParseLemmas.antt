@@ -13,7 +13,7 @@ use Rattle.peg_tree.specs.declared.outcome.Parsed.TheVariants as parsed
 use Rattle.peg_parser.specs.Cause.{TooDeep, NoSuchStart}
 use Rattle.peg_grammar.specs.Limits.{max_text_bytes}
 use Rattle.peg_semantics.specs.Starts.{Recognizes, start_name}
-use Rattle.peg_json.specs.Parses.{ParsesTo, PrintsOutcome, IsDeep, extents_at}
+use Rattle.peg_json.specs.Parses.{ParsesTo, PrintsOutcome, HasEnoughSteps, IsDeep, extents_at}
 use Rattle.peg_tree.specs.Json.{max_levels}
 use Rattle.peg_json.specs.Parses.{result_reply, no_such_start, failed, too_many_levels, matched}
 use Rattle.peg_json.specs.Reply.{Reply, Refused}
@@ -28,73 +28,78 @@ not_rows true is = let bad : Rows ≡ Nested = is in cc
 not_rows false is = refl
 
 -- a parse whose outcome is that of Ford's record
-record Parse (rules : List Rule) (text : List ℕ) (start : Option (List ℕ)) (r : Record) (far : ℕ) (expected : List ℕ)
-    : Type 0 where
+record Parse (rules : List Rule) (text : List ℕ) (start : Option (List ℕ)) (memo : ℕ) (steps : Option ℕ) (r : Record)
+    (far : ℕ) (expected : List ℕ) : Type 0 where
   within : length text ≤ max_text_bytes
+  enough : HasEnoughSteps rules text start memo steps
   from : List ℕ
   starts : start_name rules start ≡ Some from
   recognized : Recognizes rules text from r
   furthest : IsFurthest r.tests far expected
 
-deep-parses : (rules : List Rule) (text : List ℕ) (start : Option (List ℕ)) (steps : Option ℕ) (all : Bool) (form : TreeForm)
-    (r : Record) (far : ℕ) (expected : List ℕ) (result : Parsed) → Parse rules text start r far expected
+deep-parses : (rules : List Rule) (text : List ℕ) (start : Option (List ℕ)) (memo : ℕ) (steps : Option ℕ)
+    (all : Bool) (form : TreeForm) (r : Record) (far : ℕ) (expected : List ℕ) (result : Parsed)
+    → Parse rules text start memo steps r far expected
     → result ≡ parsed_of r.result
-    → form ≡ Nested → IsDeep result → ParsesTo rules text start steps all form (Refused TooDeep)
-deep-parses rules text start steps all form r far expected parsed.Failed it is nested deep = absurd deep
-deep-parses rules text start steps all form r far expected (parsed.Matched end tree) it is nested deep =
-    too_many_levels it.within it.starts it.recognized (parsed-matched r.result end tree is) nested deep
+    → form ≡ Nested → IsDeep result → ParsesTo rules text start memo steps all form (Refused TooDeep)
+deep-parses rules text start memo steps all form r far expected parsed.Failed it is nested deep = absurd deep
+deep-parses rules text start memo steps all form r far expected (parsed.Matched end tree) it is nested deep =
+    too_many_levels it.within it.enough it.starts it.recognized (parsed-matched r.result end tree is) nested deep
 
 -- a number that isn't over a limit is at most the limit
 not-over : (a b : ℕ) → ¬ (a < b) → b ≤ a
 not-over a b not = elim (cases_lt a b) [ inl less ↦ absurd (not less) | inr other ↦ other ]
 
-result-parses : (rules : List Rule) (text : List ℕ) (start : Option (List ℕ)) (steps : Option ℕ) (all : Bool) (form : TreeForm)
-    (r : Record) (far : ℕ) (expected : List ℕ) (result : Parsed) → Parse rules text start r far expected
+result-parses : (rules : List Rule) (text : List ℕ) (start : Option (List ℕ)) (memo : ℕ) (steps : Option ℕ)
+    (all : Bool) (form : TreeForm) (r : Record) (far : ℕ) (expected : List ℕ) (result : Parsed)
+    → Parse rules text start memo steps r far expected
     → result ≡ parsed_of r.result
     → (form ≡ Nested → ¬ IsDeep result)
-    → ParsesTo rules text start steps all form
+    → ParsesTo rules text start memo steps all form
     (result_reply rules (length text) all form far (extents_at rules expected) result)
-result-parses rules text start steps all form r far expected parsed.Failed it is shallow =
-    failed it.within it.starts it.recognized (parsed-failed r.result is) it.furthest
-result-parses rules text start steps all form r far expected (parsed.Matched end tree) it is shallow =
-    matched it.within it.starts it.recognized (parsed-matched r.result end tree is)
+result-parses rules text start memo steps all form r far expected parsed.Failed it is shallow =
+    failed it.within it.enough it.starts it.recognized (parsed-failed r.result is) it.furthest
+result-parses rules text start memo steps all form r far expected (parsed.Matched end tree) it is shallow =
+    matched it.within it.enough it.starts it.recognized (parsed-matched r.result end tree is)
     (λ nested. not-over max_levels (levels tree) (shallow nested)) it.furthest
 
-pub prints-parses : (rules : List Rule) (text : List ℕ) (start : Option (List ℕ)) (steps : Option ℕ) (all : Bool) (form : TreeForm)
-    (outcome : Outcome)
-    → length text ≤ max_text_bytes → (from : List ℕ) → start_name rules start ≡ Some from
+pub prints-parses : (rules : List Rule) (text : List ℕ) (start : Option (List ℕ)) (memo : ℕ) (steps : Option ℕ)
+    (all : Bool) (form : TreeForm) (outcome : Outcome)
+    → length text ≤ max_text_bytes → HasEnoughSteps rules text start memo steps → (from : List ℕ)
+    → start_name rules start ≡ Some from
     → IsParseOutcome rules text from outcome → (reply : Reply)
-    → PrintsOutcome rules outcome (length text) all form reply → ParsesTo rules text start steps all form reply
-prints-parses rules text start steps all form outcome within from starts is reply prints = by prints
+    → PrintsOutcome rules outcome (length text) all form reply → ParsesTo rules text start memo steps all form reply
+prints-parses rules text start memo steps all form outcome within enough from starts is reply prints = by prints
   where
     r : Record
     r = is.1.0
 
-    it : Parse rules text start r outcome.far outcome.expected.items
+    it : Parse rules text start memo steps r outcome.far outcome.expected.items
     it = record {
       within = within;
+      enough = enough;
       from = from;
       starts = starts;
       recognized = (is.0, is.1.1);
       furthest = is.1.3;
     }
 
-    by : PrintsOutcome rules outcome (length text) all form reply → ParsesTo rules text start steps all form reply
+    by : PrintsOutcome rules outcome (length text) all form reply → ParsesTo rules text start memo steps all form reply
     by (inl deep) =
-        subst (ParsesTo rules text start steps all form) (sym deep.2)
-        (deep-parses rules text start steps all form r outcome.far outcome.expected.items outcome.result it is.1.2
+        subst (ParsesTo rules text start memo steps all form) (sym deep.2)
+        (deep-parses rules text start memo steps all form r outcome.far outcome.expected.items outcome.result it is.1.2
         deep.0 deep.1)
     by (inr shallow) =
-        subst (ParsesTo rules text start steps all form) (sym shallow.1)
-        (result-parses rules text start steps all form r outcome.far outcome.expected.items outcome.result it is.1.2
+        subst (ParsesTo rules text start memo steps all form) (sym shallow.1)
+        (result-parses rules text start memo steps all form r outcome.far outcome.expected.items outcome.result it is.1.2
         shallow.0)
 
 -- the name of a start that no rule has
-pub missing-parses : (rules : List Rule) (text : List ℕ) (start : Option (List ℕ)) (steps : Option ℕ) (all : Bool) (form : TreeForm)
-    (name : List ℕ)
+pub missing-parses : (rules : List Rule) (text : List ℕ) (start : Option (List ℕ)) (memo : ℕ) (steps : Option ℕ)
+    (all : Bool) (form : TreeForm) (name : List ℕ)
     → length text ≤ max_text_bytes → start ≡ Some name → start_name rules start ≡ None
-    → ParsesTo rules text start steps all form (Refused (NoSuchStart name))
-missing-parses rules text start steps all form name within named none =
+    → ParsesTo rules text start memo steps all form (Refused (NoSuchStart name))
+missing-parses rules text start memo steps all form name within named none =
     no_such_start name within named (by (is_defined rules name) refl)
   where
     missing : start_name rules (Some name) ≡ None
@@ -106,19 +111,20 @@ missing-parses rules text start steps all form name within named none =
         sym (ap (λ (b : Bool). if b then Some name else None) is) ∙ missing in cc
     by false is = is
 
-pub outcome-parses : (rules : List Rule) (text : List ℕ) (start : Option (List ℕ)) (steps : Option ℕ) (all : Bool) (form : TreeForm)
-    (outcome : Outcome)
-    → length text ≤ max_text_bytes → (start_name rules start ≡ None → ⊥)
+pub outcome-parses : (rules : List Rule) (text : List ℕ) (start : Option (List ℕ)) (memo : ℕ) (steps : Option ℕ)
+    (all : Bool) (form : TreeForm) (outcome : Outcome)
+    → length text ≤ max_text_bytes → HasEnoughSteps rules text start memo steps → (start_name rules start ≡ None → ⊥)
     → IfSome (start_name rules start) (λ from. IsParseOutcome rules text from outcome) → (reply : Reply)
-    → PrintsOutcome rules outcome (length text) all form reply → ParsesTo rules text start steps all form reply
-outcome-parses rules text start steps all form outcome within some is reply prints =
+    → PrintsOutcome rules outcome (length text) all form reply → ParsesTo rules text start memo steps all form reply
+outcome-parses rules text start memo steps all form outcome within enough some is reply prints =
     by (start_name rules start) refl some is
   where
     by : (found : Option (List ℕ)) → start_name rules start ≡ found → (found ≡ None → ⊥)
-        → IfSome found (λ from. IsParseOutcome rules text from outcome) → ParsesTo rules text start steps all form reply
+        → IfSome found (λ from. IsParseOutcome rules text from outcome)
+        → ParsesTo rules text start memo steps all form reply
     by None there some is = absurd (some refl)
     by (Some from) there some is =
-        prints-parses rules text start steps all form outcome within from there is reply prints
+        prints-parses rules text start memo steps all form outcome within enough from there is reply prints
 
 -- if the start is no rule, a name was given
 pub start-given : (rules : List Rule) (start : Option (List ℕ)) → start_name rules start ≡ None

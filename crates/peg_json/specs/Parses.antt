@@ -25,29 +25,37 @@ abbrev pub extents_at : List Rule → List ℕ → List Extent
 extents_at rules terminals = map (λ terminal. slice_index_or (extents_of_terminals rules) terminal (between 0 0))
     terminals
 
--- The reply to a parse of a text from a start, with an optional step limit. `all` asks for a match of the whole text,
--- and `form` is that of the printed tree. A text that is too long is reported before a start that no rule has.
+-- A parse may have an answer: without a memo, it doesn't exceed the step limit. With a memo, how many steps a parse
+-- takes depends on what is stored.
+abbrev pub HasEnoughSteps : List Rule → List ℕ → (start : Option (List ℕ)) → (memo : ℕ) → (steps : Option ℕ) → Type 0
+HasEnoughSteps rules text start memo steps = memo ≡ 0 → ¬ TakesMoreSteps rules text start steps
+
+-- The reply to a parse of a text from a start, with a memo of this capacity and an optional step limit. `all` asks for
+-- a match of the whole text, and `form` is that of the printed tree. A text that is too long is reported before a start
+-- that no rule has.
 --
--- If the parse exceeds the step limit, that may be reported, or the result of the parse.
-pub data ParsesTo (rules : List Rule) (text : List ℕ) (start : Option (List ℕ)) (steps : Option ℕ) (all : Bool)
-    (form : TreeForm) : Reply → Type 0 where
-  text_too_long : max_text_bytes < length text → ParsesTo rules text start steps all form (Refused TextTooLong)
+-- If the parse exceeds the step limit, that is reported; with a memo, the result of the parse may be reported too.
+pub data ParsesTo (rules : List Rule) (text : List ℕ) (start : Option (List ℕ)) (memo : ℕ) (steps : Option ℕ)
+    (all : Bool) (form : TreeForm) : Reply → Type 0 where
+  text_too_long : max_text_bytes < length text → ParsesTo rules text start memo steps all form (Refused TextTooLong)
   no_such_start : (name : List ℕ) → length text ≤ max_text_bytes → start ≡ Some name → is_defined rules name ≡ false
-      → ParsesTo rules text start steps all form (Refused (NoSuchStart name))
+      → ParsesTo rules text start memo steps all form (Refused (NoSuchStart name))
   too_many_steps : length text ≤ max_text_bytes → TakesMoreSteps rules text start steps
-      → ParsesTo rules text start steps all form (Refused StepLimit)
+      → ParsesTo rules text start memo steps all form (Refused StepLimit)
   failed : {from : List ℕ} {r : Record} {far : ℕ} {terminals : List ℕ} → length text ≤ max_text_bytes
-      → start_name rules start ≡ Some from → Recognizes rules text from r → r.result ≡ recognition.Failed
-      → IsFurthest r.tests far terminals
-      → ParsesTo rules text start steps all form (Failed far (extents_at rules terminals))
+      → HasEnoughSteps rules text start memo steps → start_name rules start ≡ Some from
+      → Recognizes rules text from r → r.result ≡ recognition.Failed → IsFurthest r.tests far terminals
+      → ParsesTo rules text start memo steps all form (Failed far (extents_at rules terminals))
   too_many_levels : {from : List ℕ} {r : Record} {end : ℕ} {tree : Trees} → length text ≤ max_text_bytes
-      → start_name rules start ≡ Some from → Recognizes rules text from r → r.result ≡ recognition.Matched end tree
-      → form ≡ Nested → max_levels < levels tree → ParsesTo rules text start steps all form (Refused TooDeep)
+      → HasEnoughSteps rules text start memo steps → start_name rules start ≡ Some from
+      → Recognizes rules text from r → r.result ≡ recognition.Matched end tree
+      → form ≡ Nested → max_levels < levels tree → ParsesTo rules text start memo steps all form (Refused TooDeep)
   matched : {from : List ℕ} {r : Record} {end far : ℕ} {terminals : List ℕ} {tree : Trees}
-      → length text ≤ max_text_bytes → start_name rules start ≡ Some from → Recognizes rules text from r
+      → length text ≤ max_text_bytes → HasEnoughSteps rules text start memo steps
+      → start_name rules start ≡ Some from → Recognizes rules text from r
       → r.result ≡ recognition.Matched end tree → (form ≡ Nested → levels tree ≤ max_levels)
       → IsFurthest r.tests far terminals
-      → ParsesTo rules text start steps all form
+      → ParsesTo rules text start memo steps all form
       (Matched (all && nat_lt end (length text)) form end far (extents_at rules terminals) (names rules) tree)
 
 -- the reply that prints an outcome, for a text of this length

@@ -6,16 +6,18 @@ use crate::inputs::{CHAIN, COUNTS, CYCLE, LOOP, MISSING, OPEN, PREFIX, TWICE, WA
 use peg_io::{ReadFault, read_up_to};
 use peg_tool::{
     Command, Device, OpenFault, Opener, ParseOptions, ProgramFault, Selection, Words, WordsFault,
-    read_words, run_joined, run_tool, run_words,
+    read_args, read_words, run_joined, run_tool, run_words,
 };
 use std::alloc::{AllocError, Global};
 use std::io;
 
-pub(crate) const WORDS: [&str; 24] = [
+pub(crate) const WORDS: [&str; 26] = [
     "read_up_to",
     "read_words",
     "read_words_help",
     "read_words_usage",
+    "read_args",
+    "read_args_not_utf8",
     "tool_table",
     "tool_table_missing",
     "tool_check",
@@ -60,6 +62,8 @@ pub(crate) fn call(rt: &impl Print, alloc: Global, word: &str) -> Option<io::Res
         "read_words" => asked(rt, alloc, "parse g t --start A --memo 7 --all --rows"),
         "read_words_help" => asked(rt, alloc, "parse --help"),
         "read_words_usage" => asked(rt, alloc, "parse g --memo many"),
+        "read_args" => given(rt, alloc, Some("pegtool parse g t --memo 7")),
+        "read_args_not_utf8" => given(rt, alloc, None),
         "tool_table" => tool(rt, alloc, COUNTS, b"", &Command::Table),
         "tool_table_missing" => tool(rt, alloc, MISSING, b"", &Command::Table),
         "tool_code" => tool(rt, alloc, COUNTS, b"", &Command::Code),
@@ -147,6 +151,22 @@ fn asked(rt: &impl Print, alloc: Global, text: &str) -> io::Result<()> {
     )
 }
 
+// The arguments in a text, with the program's name; no text means that they aren't UTF-8.
+fn given(rt: &impl Print, alloc: Global, text: Option<&str>) -> io::Result<()> {
+    let args = match text {
+        Some(text) => Ok(list_of(alloc, text)?.into_iter()),
+        None => Err(io::Error::from(io::ErrorKind::InvalidData)),
+    };
+    let borrowed = Borrowed::of(alloc, &text)?;
+    let answer = read_args(alloc, args);
+    report(
+        rt,
+        &borrowed,
+        matches!(answer, Err(WordsFault::Memory)),
+        &answer,
+    )
+}
+
 // Prints how a run over devices ended and what it wrote: nothing, if an allocation failed.
 fn report_run<B: std::fmt::Debug, E: std::fmt::Debug>(
     rt: &impl Print,
@@ -199,19 +219,24 @@ fn joined(rt: &impl Print, alloc: Global, input: &[u8]) -> io::Result<()> {
 
 // Two files by name.
 #[derive(Drop)]
-struct Shelf;
+struct Shelf {
+    chain: &'static [u8],
+    aab: &'static [u8],
+}
 
 impl Opener for Shelf {
-    ghost use Rattle.std.specs.Prelude.{None};
+    ghost use Rattle.std.specs.Prelude.{bytes_eq, codes, if◌then◌else◌};
+    ghost use Rattle.peg_io.specs.NamedFile.{Holds, Missing};
 
     type File = Device<&'static [u8]>;
 
-    ghost holds = { λ _ _. None };
+    ghost file_at = { λ shelf name. if bytes_eq name (codes "chain") then Holds shelf.chain.now
+        else (if bytes_eq name (codes "aab") then Holds shelf.aab.now else Missing) };
 
     fn open(&self, name: &str) -> Result<Device<&'static [u8]>, OpenFault> {
         match name {
-            "chain" => Ok(Device::new(CHAIN)),
-            "aab" => Ok(Device::new(b"aab".as_slice())),
+            "chain" => Ok(Device::new(self.chain)),
+            "aab" => Ok(Device::new(self.aab)),
             _ => Err(OpenFault::File),
         }
     }
@@ -226,7 +251,10 @@ fn led(rt: &impl Print, alloc: Global, text: &str) -> io::Result<()> {
     let input = b"S <- 'a' S / 'b'\n%%\naab".as_slice();
     let answer = run_words(
         alloc,
-        &Shelf,
+        &Shelf {
+            chain: CHAIN,
+            aab: b"aab",
+        },
         &mut Device::new(input),
         &mut Device::new(&mut written),
         &words,

@@ -72,6 +72,15 @@ ends-nothing old new (Ok line) (Err command.Memory) ends is = absurd ends
 ends-nothing old new (Err read.Memory) result ends is = ends.1
 ends-nothing old new (Err read.Device) result ends is = ends.1
 
+pub ends-memory : (old new : Option (List ℕ)) (reported : Result Line ReadFault) (result : Result ℕ CommandFault)
+    → WritesReply reported old new result → result ≡ Err command.Memory → Keeps old new
+ends-memory old new (Ok line) (Ok status) ends is = cc
+ends-memory old new (Ok line) (Err command.Write) ends is = cc
+ends-memory old new (Ok line) (Err command.Read) ends is = absurd ends
+ends-memory old new (Ok line) (Err command.Memory) ends is = absurd ends
+ends-memory old new (Err read.Memory) result ends is = ends.1
+ends-memory old new (Err read.Device) result ends is = ends.1
+
 -- ---- public calls
 
 module _ (IsRight : List ℕ → ℕ → Type 0) (old new : Option (List ℕ)) where

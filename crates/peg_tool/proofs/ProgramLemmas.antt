@@ -1,15 +1,18 @@
 -- The results of commands as results of the program.
-use Rattle.std.proofs.Common.{◌≡◌, ℕ, Bool, inl, inr, List, Option, None, Some, Result, Ok, Err, IfSome}
-use Rattle.std.proofs.Common.{subst, sym}
-use Rattle.peg_json.specs.declared.tree_form.TreeForm.{TreeForm}
+use Rattle.std.proofs.Common.{◌≡◌, ◌↔◌, ℕ, Bool, true, false, inl, inr, List, Option, None, Some, Result, Ok, Err, IfSome}
+use Rattle.std.proofs.Common.{IsSome, refl, rules, subst, sym, ◌∙◌}
+use Rattle.peg_io.specs.NamedFile.{NamedFile, Unspecified, Missing, Holds, Readable, bytes_of, is_readable}
+use Rattle.peg_cli.specs.declared.words.Words.{Words}
+use Rattle.peg_cli.specs.declared.words.Words.TheVariants.{Joined, Help, Table, Check, Code, Lint, Parse}
 use Rattle.peg_tool.specs.CommandOutcome.{WritesOrFails, program_result}
 use Rattle.peg_tool.specs.Replies.{IsPrinted}
-use Rattle.peg_lint.specs.declared.warning.Selection.{Selection}
+use Rattle.peg_tool.specs.Requests.{ToolRequest, InputRequest, HelpRequest, FileRequest, FilesRequest, requested}
 use Rattle.peg_tool.specs.Task.{ToolTask, TableTask, CheckTask, CodeTask, LintTask, ParseTask, IsParse, IsTextOf}
 use Rattle.peg_tool.specs.WritesReply.{WritesLine}
 use Rattle.peg_tool.specs.declared.write.CommandFault.{CommandFault}
 use Rattle.peg_tool.specs.declared.write.CommandFault.TheVariants as command
 use Rattle.peg_tool.specs.declared.program.ProgramFault.{ProgramFault}
+use Rattle.peg_tool.specs.declared.program.ProgramFault.TheVariants.{File, Memory}
 
 -- the result of a command is a result of the program
 writes-outcome : (IsRight : List ℕ → ℕ → Type 0) (old new : Option (List ℕ)) (ended : Result ℕ CommandFault)
@@ -35,7 +38,7 @@ takes_any TableTask file left bytes other = tt
 takes_any CheckTask file left bytes other = tt
 takes_any CodeTask file left bytes other = tt
 takes_any (LintTask start selection) file left bytes other = tt
-takes_any (ParseTask start steps all form) file left bytes other = absurd (other tt)
+takes_any (ParseTask start memo steps all form) file left bytes other = absurd (other tt)
 
 pub takes_left : (task : ToolTask) (file : List ℕ) (left : Option (List ℕ)) (bytes : List ℕ) → left ≡ Some bytes
     → IsTextOf task file left bytes
@@ -43,7 +46,7 @@ takes_left TableTask file left bytes is = tt
 takes_left CheckTask file left bytes is = tt
 takes_left CodeTask file left bytes is = tt
 takes_left (LintTask start selection) file left bytes is = tt
-takes_left (ParseTask start steps all form) file left bytes is = λ rules accepts. is
+takes_left (ParseTask start memo steps all form) file left bytes is = λ rules accepts. is
 
 -- a command on an opened file is a result of the program, for each text of the task
 pub opened-outcome : (task : ToolTask) (held left text old new : Option (List ℕ)) (ended : Result ℕ CommandFault)
@@ -80,31 +83,59 @@ both-outcome task (Some file) None text old new result opened outcome = tt
 both-outcome task (Some file) (Some bytes) text old new result opened outcome =
     outcome bytes (takes_left task file text bytes opened)
 
--- the program's result for warnings, by the name, the start and the selection in the arguments
-pub lint-leads : (holds : List ℕ → Option (List ℕ)) (old new : Option (List ℕ)) (result : Result ℕ ProgramFault)
-    (g g' : List ℕ) (start start' : Option (List ℕ)) (s s' : Selection) → g ≡ g' → start ≡ start' → s ≡ s'
-    → IfSome (holds g) (λ file. (text : List ℕ) → WritesOrFails (IsPrinted (LintTask start s) file text) old new result)
-    → IfSome (holds g') (λ file. (text : List ℕ) → WritesOrFails (IsPrinted (LintTask start' s') file text) old new result)
-lint-leads holds old new result g g' start start' s s' same same_start same_selection outcome =
-    subst (λ (x : Selection). IfSome (holds g') (λ file. (text : List ℕ)
-    → WritesOrFails (IsPrinted (LintTask start' x) file text) old new result)) same_selection
-    (subst (λ (x : Option (List ℕ)). IfSome (holds g') (λ file. (text : List ℕ)
-    → WritesOrFails (IsPrinted (LintTask x s) file text) old new result)) same_start
-    (subst (λ (name : List ℕ). IfSome (holds name) (λ file. (text : List ℕ)
-    → WritesOrFails (IsPrinted (LintTask start s) file text) old new result)) same outcome))
+-- ---- faults
 
--- the program's result for a parse, by the names and the start in the arguments
-pub parse-leads : (holds : List ℕ → Option (List ℕ)) (old new : Option (List ℕ)) (result : Result ℕ ProgramFault)
-    (g t g' t' : List ℕ) (start start' : Option (List ℕ)) (steps : Option ℕ) (all : Bool) (form : TreeForm) → g ≡ g' → t ≡ t'
-    → start ≡ start'
-    → IfSome (holds g) (λ file. IfSome (holds t) (λ text.
-    WritesOrFails (IsPrinted (ParseTask start steps all form) file text) old new result))
-    → IfSome (holds g') (λ file. IfSome (holds t') (λ text.
-    WritesOrFails (IsPrinted (ParseTask start' steps all form) file text) old new result))
-parse-leads holds old new result g t g' t' start start' steps all form same same_text same_start outcome =
-    subst (λ (s : Option (List ℕ)). IfSome (holds g') (λ file. IfSome (holds t') (λ text.
-    WritesOrFails (IsPrinted (ParseTask s steps all form) file text) old new result))) same_start
-    (subst (λ (name : List ℕ). IfSome (holds g') (λ file. IfSome (holds name) (λ text.
-    WritesOrFails (IsPrinted (ParseTask start steps all form) file text) old new result))) same_text
-    (subst (λ (name : List ℕ). IfSome (holds name) (λ file. IfSome (holds t) (λ text.
-    WritesOrFails (IsPrinted (ParseTask start steps all form) file text) old new result))) same outcome))
+-- a file fault comes exactly if a write failed, where no read failed
+pub program-file : (ended : Result ℕ CommandFault) (result : Result ℕ ProgramFault) (Reads Writes : Type 0)
+    → result ≡ program_result ended → (ended ≡ Err command.Read) ↔ Reads → (ended ≡ Err command.Write) ↔ Writes
+    → ¬ Reads → (result ≡ Err File) ↔ Writes
+program-file ended result Reads Writes is reads writes none =
+    subst (λ (r : Result ℕ ProgramFault). (r ≡ Err File) ↔ Writes) (sym is) (by ended reads writes)
+  where
+    by : (e : Result ℕ CommandFault) → (e ≡ Err command.Read) ↔ Reads → (e ≡ Err command.Write) ↔ Writes
+        → (program_result e ≡ Err File) ↔ Writes
+    by (Ok status) reads writes = (λ bad. cc, λ x. absurd (let bad = writes.1 x in cc))
+    by (Err command.Read) reads writes = absurd (none (reads.0 refl))
+    by (Err command.Write) reads writes = (λ is. writes.0 refl, λ x. refl)
+    by (Err command.Memory) reads writes = (λ bad. cc, λ x. absurd (let bad = writes.1 x in cc))
+
+-- out of memory comes only from the command
+pub program-memory : (ended : Result ℕ CommandFault) (result : Result ℕ ProgramFault) (X : Type 0)
+    → result ≡ program_result ended → (ended ≡ Err command.Memory → X) → result ≡ Err Memory → X
+program-memory (Ok status) result X is then bad = absurd (let both : Ok status ≡ Err Memory = sym is ∙ bad in cc)
+program-memory (Err command.Read) result X is then bad = absurd (let both : Err File ≡ Err Memory = sym is ∙ bad in cc)
+program-memory (Err command.Write) result X is then bad = absurd (let both : Err File ≡ Err Memory = sym is ∙ bad in cc)
+program-memory (Err command.Memory) result X is then bad = then refl
+
+-- the bytes of a readable file are specified
+pub readable-specified : (file : NamedFile) → is_readable file ≡ true → IsSome (bytes_of file)
+readable-specified Unspecified is = let bad : false ≡ true = is in cc
+readable-specified Missing is = let bad : false ≡ true = is in cc
+readable-specified (Holds bytes) is = let bad : false ≡ true = is in cc
+readable-specified (Readable bytes) is = search rules
+
+-- a source that never fails has not failed
+pub not_failed : (failed : Bool) → failed ≡ false → ¬ (failed ≡ true)
+not_failed failed is bad = let both : false ≡ true = sym is ∙ bad in cc
+
+-- ---- requests
+
+-- a request on one file has no parse
+abbrev ReadsNone : ToolRequest → Type 0
+ReadsNone InputRequest = Unit {0}
+ReadsNone (HelpRequest text) = Unit {0}
+ReadsNone (FileRequest task g) = ¬ IsParse task
+ReadsNone (FilesRequest task g t) = Unit {0}
+
+reads_none : (words : Words) → ReadsNone (requested words)
+reads_none Joined = tt
+reads_none (Help text) = tt
+reads_none (Table g) = λ parse. parse
+reads_none (Check g) = λ parse. parse
+reads_none (Code g) = λ parse. parse
+reads_none (Lint g start proved) = λ parse. parse
+reads_none (Parse g t start memo steps all rows) = tt
+
+pub one_file-reads_none : (words : Words) (request : ToolRequest) (task : ToolTask) (g : List ℕ)
+    → request ≡ requested words → request ≡ FileRequest task g → ¬ IsParse task
+one_file-reads_none words request task g is has = subst ReadsNone (sym is ∙ has) (reads_none words)

@@ -27,22 +27,23 @@ use Rattle.peg_tool.specs.Task.{ToolTask, TableTask, CheckTask, CodeTask, LintTa
 -- ---- texts over the limit
 
 -- all texts over the limit have the same replies to a parse
-pub ParsesTo-longer : (rules : List Rule) (text more : List ℕ) (start : Option (List ℕ)) (steps : Option ℕ)
+pub ParsesTo-longer : (rules : List Rule) (text more : List ℕ) (start : Option (List ℕ)) (memo : ℕ) (steps : Option ℕ)
     (all : Bool) (form : TreeForm) (reply : Reply) → max_text_bytes < length text → max_text_bytes < length more
-    → ParsesTo rules text start steps all form reply
-    → ParsesTo rules more start steps all form reply
-ParsesTo-longer rules text more start steps all form reply long longer (text_too_long over) = text_too_long longer
-ParsesTo-longer rules text more start steps all form reply long longer (no_such_start name within named missing) =
+    → ParsesTo rules text start memo steps all form reply
+    → ParsesTo rules more start memo steps all form reply
+ParsesTo-longer rules text more start memo steps all form reply long longer (text_too_long over) = text_too_long longer
+ParsesTo-longer rules text more start memo steps all form reply long longer (no_such_start name within named missing) =
     absurd (omega (arith, long, within))
-ParsesTo-longer rules text more start steps all form reply long longer (too_many_steps within more_steps) =
+ParsesTo-longer rules text more start memo steps all form reply long longer (too_many_steps within more_steps) =
     absurd (omega (arith, long, within))
-ParsesTo-longer rules text more start steps all form reply long longer (failed within starts found is furthest) =
+ParsesTo-longer rules text more start memo steps all form reply long longer
+    (failed within enough starts found is furthest) =
     absurd (omega (arith, long, within))
-ParsesTo-longer rules text more start steps all form reply long longer
-    (too_many_levels within starts found is nested deep) =
+ParsesTo-longer rules text more start memo steps all form reply long longer
+    (too_many_levels within enough starts found is nested deep) =
     absurd (omega (arith, long, within))
-ParsesTo-longer rules text more start steps all form reply long longer
-    (matched within starts found is shallow furthest) =
+ParsesTo-longer rules text more start memo steps all form reply long longer
+    (matched within enough starts found is shallow furthest) =
     absurd (omega (arith, long, within))
 
 -- the same for any task
@@ -55,8 +56,8 @@ RepliesTo-longer file text more task reply long longer (too_large checks is) = t
 RepliesTo-longer file text more task reply long longer (accepted accepts) = accepted accepts
 RepliesTo-longer file text more task reply long longer (coded accepts) = coded accepts
 RepliesTo-longer file text more task reply long longer (linted accepts is) = linted accepts is
-RepliesTo-longer file text more task reply long longer (parsed {rules} {start} {steps} {all} {form} accepts is) =
-    parsed accepts (ParsesTo-longer rules text more start steps all form reply long longer is)
+RepliesTo-longer file text more task reply long longer (parsed {rules} {start} {memo} {steps} {all} {form} accepts is) =
+    parsed accepts (ParsesTo-longer rules text more start memo steps all form reply long longer is)
 
 -- ---- files over the limit
 
@@ -161,26 +162,26 @@ right-held IsRight max_steps front (Some input) (Some rest) held line status con
 -- ---- parses
 
 -- the line of a parse by an accepted file is that of its task
-pub parsed-printed : (file text : List ℕ) (rules : List Rule) (start : Option (List ℕ)) (steps : Option ℕ)
+pub parsed-printed : (file text : List ℕ) (rules : List Rule) (start : Option (List ℕ)) (memo : ℕ) (steps : Option ℕ)
     (all : Bool) (form : TreeForm) (line : List ℕ) (status : ℕ) → Accepts file rules
-    → IsLineOf file (ParsesTo rules text start steps all form) line status
-    → IsPrinted (ParseTask start steps all form) file text line status
-parsed-printed file text rules start steps all form line status accepts is = (is.0, parsed accepts is.1, is.2, is.3)
+    → IsLineOf file (ParsesTo rules text start memo steps all form) line status
+    → IsPrinted (ParseTask start memo steps all form) file text line status
+parsed-printed file text rules start memo steps all form line status accepts is = (is.0, parsed accepts is.1, is.2, is.3)
 
 -- the reply for the text that was read is the reply for the text
 pub parsed-reported : (result : Result Line ReadFault) (file : List ℕ) (left : Option (List ℕ)) (bytes : List ℕ)
-    (rules : List Rule) (start : Option (List ℕ)) (steps : Option ℕ) (all : Bool) (form : TreeForm)
-    → IsTextOf (ParseTask start steps all form) file left bytes
+    (rules : List Rule) (start : Option (List ℕ)) (memo : ℕ) (steps : Option ℕ) (all : Bool) (form : TreeForm)
+    → IsTextOf (ParseTask start memo steps all form) file left bytes
     → Accepts file rules
     → IfOk result (λ line. IfSome left (λ text.
-    IsPrinted (ParseTask start steps all form) file text (line_bytes line) (status_code line.status)))
+    IsPrinted (ParseTask start memo steps all form) file text (line_bytes line) (status_code line.status)))
     → IfOk result (λ line.
-    IsPrinted (ParseTask start steps all form) file bytes (line_bytes line) (status_code line.status))
-parsed-reported (Ok line) file left bytes rules start steps all form is accepts reported =
+    IsPrinted (ParseTask start memo steps all form) file bytes (line_bytes line) (status_code line.status))
+parsed-reported (Ok line) file left bytes rules start memo steps all form is accepts reported =
     subst (λ (text : Option (List ℕ)). IfSome text (λ read.
-    IsPrinted (ParseTask start steps all form) file read (line_bytes line) (status_code line.status)))
+    IsPrinted (ParseTask start memo steps all form) file read (line_bytes line) (status_code line.status)))
     (is rules accepts) reported
-parsed-reported (Err why) file left bytes rules start steps all form is accepts reported = tt
+parsed-reported (Err why) file left bytes rules start memo steps all form is accepts reported = tt
 
 -- the reply for a prefix over the limit of a text is the reply for the whole text
 pub IsPrinted-text_front : (task : ToolTask) (file front rest line : List ℕ) (status : ℕ)
@@ -230,7 +231,7 @@ any_text TableTask text file bytes long = tt
 any_text CheckTask text file bytes long = tt
 any_text CodeTask text file bytes long = tt
 any_text (LintTask start selection) text file bytes long = tt
-any_text (ParseTask start steps all form) text file bytes long =
+any_text (ParseTask start memo steps all form) text file bytes long =
     λ rules accepts. absurd (omega (arith, long, accepts.read.within))
 
 pub IsRightFor-front : (task : ToolTask) (text : Option (List ℕ)) (front rest line : List ℕ) (status : ℕ)

@@ -1,15 +1,12 @@
--- The result of the program for its arguments.
+-- The result of the program for a request.
 use Rattle.std.specs.Prelude.{◌≡◌, ◌⊎◌, ℕ, List, Option}
-use Rattle.std.specs.Prelude.{option_map, Result, Ok, Err, IfSome, string_bytes}
+use Rattle.std.specs.Prelude.{Result, Ok, Err, IfSome}
 use Rattle.std.specs.Io.KnownBytes.{Appends, Keeps}
 use Rattle.peg_io.specs.declared.opener.OpenFault.{OpenFault}
 use Rattle.peg_io.specs.declared.opener.OpenFault.TheVariants as opening
-use Rattle.peg_cli.specs.declared.words.Words.{Words}
-use Rattle.peg_cli.specs.declared.words.Words.TheVariants.{Joined, Help, Table, Check, Code, Lint, Parse}
-use Rattle.peg_lint.specs.FileWarnings.{selection_of}
-use Rattle.peg_json.specs.TreeForms.{form_from_rows}
+use Rattle.peg_io.specs.NamedFile.{NamedFile, bytes_of}
 use Rattle.peg_tool.specs.Replies.{IsPrinted, IsPrintedJoined}
-use Rattle.peg_tool.specs.Task.{TableTask, CheckTask, CodeTask, LintTask, ParseTask}
+use Rattle.peg_tool.specs.Requests.{ToolRequest, InputRequest, HelpRequest, FileRequest, FilesRequest}
 use Rattle.peg_tool.specs.Written.{PrintsInPart}
 use Rattle.peg_tool.specs.declared.write.CommandFault.{CommandFault}
 use Rattle.peg_tool.specs.declared.write.CommandFault.TheVariants as command
@@ -28,26 +25,18 @@ WritesOrFails IsRight old new (Err File) = Keeps old new ⊎ PrintsInPart IsRigh
 abbrev pub IsHelp : (text : List ℕ) → (line : List ℕ) → (status : ℕ) → Type 0
 IsHelp text line status = (line ≡ text) × (status ≡ 0)
 
--- The result of the program for its arguments, over files with these bytes by name and an input. It promises nothing
--- if the bytes of a file or of the input are unknown.
-abbrev pub CommandOutcome : Words → (holds : List ℕ → Option (List ℕ)) → (input : Option (List ℕ))
+-- The result of the program for a request, over files by name and an input. It promises nothing if the bytes of a file
+-- or of the input aren't specified.
+abbrev pub CommandOutcome : ToolRequest → (file_at : List ℕ → NamedFile) → (input : Option (List ℕ))
     → (old new : Option (List ℕ)) → Result ℕ ProgramFault → Type 0
-CommandOutcome Joined holds input old new result = IfSome input (λ bytes. WritesOrFails
-    (IsPrintedJoined bytes) old new result)
-CommandOutcome (Help text) holds input old new result = WritesOrFails (IsHelp (string_bytes text)) old new result
-CommandOutcome (Table g) holds input old new result = IfSome (holds (string_bytes g)) (λ file.
-    (text : List ℕ) → WritesOrFails (IsPrinted TableTask file text) old new result)
-CommandOutcome (Check g) holds input old new result = IfSome (holds (string_bytes g)) (λ file.
-    (text : List ℕ) → WritesOrFails (IsPrinted CheckTask file text) old new result)
-CommandOutcome (Code g) holds input old new result = IfSome (holds (string_bytes g)) (λ file.
-    (text : List ℕ) → WritesOrFails (IsPrinted CodeTask file text) old new result)
-CommandOutcome (Lint g start proved) holds input old new result = IfSome (holds (string_bytes g)) (λ file.
-    (text : List ℕ) → WritesOrFails (IsPrinted (LintTask (option_map string_bytes start) (selection_of proved)) file text)
-    old new result)
-CommandOutcome (Parse g t start memo steps all rows) holds input old new result =
-    IfSome (holds (string_bytes g)) (λ file. IfSome (holds (string_bytes t)) (λ text.
-    WritesOrFails (IsPrinted (ParseTask (option_map string_bytes start) steps all (form_from_rows rows)) file text)
-    old new result))
+CommandOutcome InputRequest file_at input old new result =
+    IfSome input (λ bytes. WritesOrFails (IsPrintedJoined bytes) old new result)
+CommandOutcome (HelpRequest text) file_at input old new result = WritesOrFails (IsHelp text) old new result
+CommandOutcome (FileRequest task g) file_at input old new result =
+    IfSome (bytes_of (file_at g)) (λ file. (text : List ℕ) → WritesOrFails (IsPrinted task file text) old new result)
+CommandOutcome (FilesRequest task g t) file_at input old new result =
+    IfSome (bytes_of (file_at g)) (λ file. IfSome (bytes_of (file_at t)) (λ text.
+    WritesOrFails (IsPrinted task file text) old new result))
 
 -- ---- how results are converted
 

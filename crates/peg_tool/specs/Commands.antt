@@ -1,10 +1,13 @@
--- Describes code: the tasks of commands.
+-- Describes code: the tasks of commands, and what requests are.
 use Rattle.std.specs.Prelude.{option_map}
 use Rattle.peg_parser.specs.Parser.{start_named}
 use Rattle.peg_json.specs.TreeForms.{form_from_rows}
 use Rattle.peg_tool.specs.Task.{ToolTask, TableTask, CheckTask, CodeTask, LintTask, ParseTask}
+use Rattle.peg_tool.specs.Requests.{ToolRequest, InputRequest, HelpRequest, FileRequest, FilesRequest}
 use Rattle.peg_tool.specs.declared.command.Command.{Command}
 use Rattle.peg_tool.specs.declared.command.Command.TheVariants.{Table, Check, Code, Lint, Parse}
+use Rattle.peg_tool.specs.declared.request.Request.{Request}
+use Rattle.peg_tool.specs.declared.request.Request.TheVariants as request
 
 -- the task of a command
 abbrev pub task_of : Command → ToolTask
@@ -12,4 +15,11 @@ task_of Table = TableTask
 task_of Check = CheckTask
 task_of Code = CodeTask
 task_of (Lint start selection) = LintTask (option_map (λ name. name.now) start) selection
-task_of (Parse options all rows) = ParseTask (start_named options) options.steps all (form_from_rows rows)
+task_of (Parse options all rows) = ParseTask (start_named options) options.memo options.steps all (form_from_rows rows)
+
+-- what a request asks for
+abbrev pub request_of : Request → ToolRequest
+request_of request.Joined = InputRequest
+request_of (request.Help text) = HelpRequest text.now
+request_of (request.OnFile g command) = FileRequest (task_of command) g.now
+request_of (request.OnFiles g t command) = FilesRequest (task_of command) g.now t.now

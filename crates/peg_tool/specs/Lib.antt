@@ -5,6 +5,7 @@ pub use Rattle.peg_semantics.specs.RuleOutcomes
 pub use Rattle.peg_semantics.specs.Rules
 pub use Rattle.peg_grammar.specs.GrammarRules
 pub use Rattle.peg_grammar.specs.Limits
+pub use Rattle.peg_io.specs.NamedFile
 pub use Rattle.peg_io.specs.Split
 pub use Rattle.peg_io.specs.Transfer
 pub use Rattle.peg_lint.specs.Never
@@ -24,6 +25,8 @@ pub mod Commands
 pub mod WritesReply
 pub mod Loaded
 pub mod CommandOutcome
+pub mod Exits
 pub mod Replies
+pub mod Requests
 pub mod Task
 pub mod Written

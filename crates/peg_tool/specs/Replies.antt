@@ -33,9 +33,9 @@ pub data RepliesTo (file text : List ℕ) : ToolTask → Reply → Type 0 where
       (Coded (program_code (core_bodies rules)) (entries_of (core_bodies rules)))
   linted : {rules : List Rule} {start : Option (List ℕ)} {selection : Selection} {reply : Reply} → Accepts file rules
       → LintsTo file rules start selection reply → RepliesTo file text (LintTask start selection) reply
-  parsed : {rules : List Rule} {start : Option (List ℕ)} {steps : Option ℕ} {all : Bool} {form : TreeForm}
-      {reply : Reply} → Accepts file rules → ParsesTo rules text start steps all form reply
-      → RepliesTo file text (ParseTask start steps all form) reply
+  parsed : {rules : List Rule} {start : Option (List ℕ)} {memo : ℕ} {steps : Option ℕ} {all : Bool} {form : TreeForm}
+      {reply : Reply} → Accepts file rules → ParsesTo rules text start memo steps all form reply
+      → RepliesTo file text (ParseTask start memo steps all form) reply
 
 -- the line and the exit status of the reply to a task on a grammar file and a text
 abbrev pub IsPrinted : ToolTask → (file text : List ℕ) → (line : List ℕ) → (status : ℕ) → Type 0

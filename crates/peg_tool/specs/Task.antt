@@ -7,18 +7,24 @@ use Rattle.peg_json.specs.declared.tree_form.TreeForm.{TreeForm}
 use Rattle.peg_json.specs.declared.tree_form.TreeForm.TheVariants.{Nested}
 
 -- A task: print the table of outcomes, check whether the grammar is accepted, print its code, print the warnings about
--- it, or parse a text. Warnings and a parse have a start rule (the first one without a name). A parse has an optional
--- step limit. `selection` says which warnings are printed. `all` asks for a match of the whole text, and `form` is that of the printed tree.
+-- it, or parse a text. Warnings and a parse have a start rule (the first one without a name). `selection` says which
+-- warnings are printed. A parse has the capacity of its memo (0 for none) and an optional step limit. `all` asks for a
+-- match of the whole text, and `form` is that of the printed tree.
 pub data ToolTask : Type 0 where
   TableTask : ToolTask
   CheckTask : ToolTask
   CodeTask : ToolTask
   LintTask : (start : Option (List ℕ)) → (selection : Selection) → ToolTask
-  ParseTask : (start : Option (List ℕ)) → (steps : Option ℕ) → (all : Bool) → (form : TreeForm) → ToolTask
+  ParseTask : (start : Option (List ℕ)) → (memo : ℕ) → (steps : Option ℕ) → (all : Bool) → (form : TreeForm)
+      → ToolTask
+
+-- the capacity of the memo where none is given
+abbrev pub default_memo : ℕ
+default_memo = 4096
 
 -- a parse from the first rule without a step limit, where a prefix may match, with a nested tree
 abbrev pub default_task : ToolTask
-default_task = ParseTask None None false Nested
+default_task = ParseTask None default_memo None false Nested
 
 -- whether a task needs the grammar to be accepted
 abbrev pub Checks : ToolTask → Type 0
@@ -26,7 +32,7 @@ Checks TableTask = ⊥
 Checks CheckTask = Unit {0}
 Checks CodeTask = Unit {0}
 Checks (LintTask start selection) = Unit {0}
-Checks (ParseTask start steps all form) = Unit {0}
+Checks (ParseTask start memo steps all form) = Unit {0}
 
 -- whether a task is a parse
 abbrev pub IsParse : ToolTask → Type 0
@@ -34,7 +40,7 @@ IsParse TableTask = ⊥
 IsParse CheckTask = ⊥
 IsParse CodeTask = ⊥
 IsParse (LintTask start selection) = ⊥
-IsParse (ParseTask start steps all form) = Unit {0}
+IsParse (ParseTask start memo steps all form) = Unit {0}
 
 -- The text of a task on a grammar file: the unread bytes of its reader. Any text will do for a task that reads none
 -- and for a file that isn't accepted.
@@ -43,4 +49,4 @@ IsTextOf TableTask file left text = Unit {0}
 IsTextOf CheckTask file left text = Unit {0}
 IsTextOf CodeTask file left text = Unit {0}
 IsTextOf (LintTask start selection) file left text = Unit {0}
-IsTextOf (ParseTask start steps all form) file left text = (rules : List Rule) → Accepts file rules → left ≡ Some text
+IsTextOf (ParseTask start memo steps all form) file left text = (rules : List Rule) → Accepts file rules → left ≡ Some text

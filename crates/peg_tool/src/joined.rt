@@ -58,6 +58,7 @@ pub(crate) fn run_input<G: Source, W: Sink>(
     ensures read_fault { IsErrOf result CommandFault.Read ↔ (G.failed input.new ≡ true) }
     ensures nothing_written { IsErrOf result CommandFault.Read → Keeps (W.written output.old) (W.written output.new) }
     ensures write_fault { IsErrOf result CommandFault.Write ↔ (W.failed output.new ≡ true) }
+    ensures memory { IsErrOf result CommandFault.Memory → Keeps (W.written output.old) (W.written output.new) }
 {
     let reply = line_of(alloc, input);
     write_reply(output, reply)

@@ -2,23 +2,27 @@
 #![tactic(auto)]
 
 mod command;
+mod exit;
 mod joined;
 mod linting;
 mod loading;
 mod parse;
 mod program;
+mod request;
 mod tool;
 mod write;
 
 pub use command::Command;
+pub use exit::{Exit, read_args, run_program};
 pub use joined::run_joined;
 pub use peg_cli::{Words, WordsFault, read_words};
-pub use peg_io::{Device, DeviceFault, OpenFault, Opener, Sink, Source, split};
+pub use peg_io::{Device, DeviceFault, FileSystem, OpenFault, Opener, Sink, Source, split};
 pub use peg_json::{Fault, Status, answer_json, code_json, lint_json, refusal_json, table_json};
 pub use peg_lint::{Selection, Warning, WarningKind, file_warnings, warnings};
 pub use peg_parser::{
     Answer, FigureFault, ParseFault, ParseOptions, Parser, Refusal, read_by_figure,
 };
 pub use program::{ProgramFault, run_words};
+pub use request::Request;
 pub use tool::run_tool;
 pub use write::ToolFault;

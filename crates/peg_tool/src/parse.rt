@@ -23,7 +23,8 @@ pub(crate) fn parse_line(
     form: TreeForm,
 ) -> Result<Line, AllocError>
     ensures { (file : List ℕ) → IfOk result (λ line. IsLineOf file
-        (ParsesTo (parser_rules parser.now) text.now (start_named options.now) options.now.steps all form)
+        (ParsesTo (parser_rules parser.now) text.now (start_named options.now) options.now.memo options.now.steps all
+        form)
         (line_bytes line) (status_code line.status)) }
 {
     match parser.parse(alloc, text, options) {

@@ -1,19 +1,21 @@
 //! Runs the program for its parsed arguments, and the faults that end it without an answer.
-ghost use Rattle.std.specs.Prelude.{◌≡◌, ◌≢◌, ◌⊎◌, ◌↔◌, ℕ, true, false, List, IfSome, IsErrOf, string_bytes};
+ghost use Rattle.std.specs.Prelude.{◌≡◌, ◌≢◌, ◌⊎◌, ◌↔◌, ◌++◌, ◌∷◌, [], codes, ℕ, true, false, List, IfSome, IsErrOf, is_err};
+ghost use Rattle.std.specs.Io.KnownBytes.{Keeps};
+ghost use Rattle.peg_io.specs.NamedFile.{Missing, bytes_of, is_readable};
 ghost use Rattle.peg_tool.specs.Commands.{task_of};
 ghost use Rattle.peg_tool.specs.CommandOutcome.{CommandOutcome, WritesOrFails, IsHelp, program_result};
 ghost use Rattle.peg_tool.specs.Replies.{IsPrinted};
+ghost use Rattle.peg_tool.specs.Requests.{requested, LacksGrammar, LacksText, HasReadableFiles};
 ghost use Rattle.peg_tool.specs.Task.{IsParse};
 
 use crate::command::Command;
 use crate::joined::run_input;
+use crate::request::Request;
 use crate::tool::run_command;
 use crate::write::CommandFault;
 use peg_cli::Words;
 use peg_io::{Device, OpenFault, Opener, Sink, Source, write_all_bytes};
 use peg_json::Status;
-use peg_lint::Selection;
-use peg_parser::ParseOptions;
 use std::alloc::Global;
 use std::io;
 use thiserror::Error;
@@ -41,6 +43,17 @@ impl ProgramFault {
         };
         status.code()
     }
+
+    /// Returns the line that the program prints on standard error.
+    pub(crate) fn message(self) -> &'static str
+        ensures file { self ≡ ProgramFault.File → result.now ≡ codes "pegtool: file fault" ++ 10 ∷ [] }
+        ensures memory { self ≡ ProgramFault.Memory → result.now ≡ codes "pegtool: out of memory" ++ 10 ∷ [] }
+    {
+        match self {
+            ProgramFault::File => "pegtool: file fault\n",
+            ProgramFault::Memory => "pegtool: out of memory\n",
+        }
+    }
 }
 
 impl From<OpenFault> for ProgramFault {
@@ -58,7 +71,7 @@ impl From<OpenFault> for ProgramFault {
 }
 
 /// Runs the program for its parsed arguments, over files by name, an input and an output, and returns the exit status.
-/// The grammar file is opened first, then the text.
+/// The grammar file is opened first, then the text; both are opened before either is read.
 ///
 /// Returns `File` if a file can't be opened or read, or if the output can't be written. Returns `Memory`, with nothing
 /// written, if an allocation fails. No device may have failed before.
@@ -71,51 +84,28 @@ pub fn run_words<O: Opener, I: Source, W: Sink>(
 ) -> Result<u8, ProgramFault>
     requires input_works { I.failed input.old ≡ false }
     requires output_works { W.failed output.old ≡ false }
-    ensures leads { CommandOutcome words.now (O.holds files.now) (I.left input.old) (W.written output.old)
-        (W.written output.new)
-        result }
+    ensures leads { CommandOutcome (requested words.now) (O.file_at files.now) (I.left input.old) (W.written output.old)
+        (W.written output.new) result }
     ensures unread { words.now ≢ Words.Joined → input.new ≡ input.old }
 
-    // Without words, `File` comes exactly if the input or the output failed; with words, always if the output failed.
-    ensures joined_fault { words.now ≡ Words.Joined → (IsErrOf result ProgramFault.File
-        ↔ ((I.failed input.new ≡ true) ⊎ (W.failed output.new ≡ true))) }
+    // A grammar that can't be opened is reported first, then a text. Nothing is written then.
+    ensures no_grammar { LacksGrammar (requested words.now) (O.file_at files.now)
+        → IsErrOf result ProgramFault.File × (output.new ≡ output.old) }
+    ensures no_text { LacksText (requested words.now) (O.file_at files.now)
+        → (is_err result ≡ true) × (output.new ≡ output.old) }
+
+    // If the files are readable, `File` comes exactly if the input or the output failed. For other files a failed output
+    // is always reported.
+    ensures device_fault { HasReadableFiles (requested words.now) (O.file_at files.now)
+        → (IsErrOf result ProgramFault.File ↔ ((I.failed input.new ≡ true) ⊎ (W.failed output.new ≡ true))) }
     ensures write_fault { W.failed output.new ≡ true → IsErrOf result ProgramFault.File }
+    ensures memory { IsErrOf result ProgramFault.Memory → Keeps (W.written output.old) (W.written output.new) }
 {
-    match words {
-        Words::Joined => to_program_result(run_input(alloc, input, output)),
-        Words::Help { text } => help(output, text),
-        Words::Table { g } => on_file(alloc, files, output, g, &Command::Table),
-        Words::Check { g } => on_file(alloc, files, output, g, &Command::Check),
-        Words::Code { g } => on_file(alloc, files, output, g, &Command::Code),
-        Words::Lint { g, start, proved } => {
-            let start = start.as_deref();
-            let selection = Selection::from_proved(*proved);
-            on_file(alloc, files, output, g, &Command::Lint { start, selection })
-        }
-        Words::Parse {
-            g,
-            t,
-            start,
-            memo,
-            steps,
-            all,
-            rows,
-        } => {
-            let options = ParseOptions {
-                start: start.as_deref(),
-                memo: *memo,
-                steps: *steps,
-            };
-            let (all, rows) = (*all, *rows);
-            on_files(
-                alloc,
-                files,
-                output,
-                g,
-                t,
-                &Command::Parse { options, all, rows },
-            )
-        }
+    match Request::from_words(words) {
+        Request::Joined => to_program_result(run_input(alloc, input, output)),
+        Request::Help { text } => help(output, text),
+        Request::OnFile { g, command } => on_file(alloc, files, output, g, &command),
+        Request::OnFiles { g, t, command } => on_files(alloc, files, output, g, t, &command),
     }
 }
 
@@ -143,10 +133,15 @@ fn on_file<O: Opener, W: Sink>(
 ) -> Result<u8, ProgramFault>
     requires works { W.failed output.old ≡ false }
     requires alone { ¬ IsParse (task_of command.now) }
-    ensures leads { IfSome (O.holds files.now g.now) (λ file. (text : List ℕ)
+    ensures leads { IfSome (bytes_of (O.file_at files.now g.now)) (λ file. (text : List ℕ)
         → WritesOrFails (IsPrinted (task_of command.now) file text) (W.written output.old)
         (W.written output.new) result) }
-    ensures fault { W.failed output.new ≡ true → IsErrOf result ProgramFault.File }
+    ensures no_grammar { O.file_at files.now g.now ≡ Missing
+        → IsErrOf result ProgramFault.File × (output.new ≡ output.old) }
+    ensures device_fault { is_readable (O.file_at files.now g.now) ≡ true
+        → (IsErrOf result ProgramFault.File ↔ (W.failed output.new ≡ true)) }
+    ensures write_fault { W.failed output.new ≡ true → IsErrOf result ProgramFault.File }
+    ensures memory { IsErrOf result ProgramFault.Memory → Keeps (W.written output.old) (W.written output.new) }
 {
     let mut grammar = files.open(g)?;
     let mut text = Device::new(io::empty());
@@ -164,10 +159,17 @@ fn on_files<O: Opener, W: Sink>(
     command: &Command<'_>,
 ) -> Result<u8, ProgramFault>
     requires { W.failed output.old ≡ false }
-    ensures leads { IfSome (O.holds files.now g.now) (λ file. IfSome (O.holds files.now t.now) (λ text.
-        WritesOrFails (IsPrinted (task_of command.now) file text) (W.written output.old)
+    ensures leads { IfSome (bytes_of (O.file_at files.now g.now)) (λ file. IfSome (bytes_of (O.file_at files.now t.now))
+        (λ text. WritesOrFails (IsPrinted (task_of command.now) file text) (W.written output.old)
         (W.written output.new) result)) }
-    ensures fault { W.failed output.new ≡ true → IsErrOf result ProgramFault.File }
+    ensures no_grammar { O.file_at files.now g.now ≡ Missing
+        → IsErrOf result ProgramFault.File × (output.new ≡ output.old) }
+    ensures no_text { O.file_at files.now t.now ≡ Missing → (is_err result ≡ true) × (output.new ≡ output.old) }
+    ensures device_fault { is_readable (O.file_at files.now g.now) ≡ true
+        → is_readable (O.file_at files.now t.now) ≡ true
+        → (IsErrOf result ProgramFault.File ↔ (W.failed output.new ≡ true)) }
+    ensures write_fault { W.failed output.new ≡ true → IsErrOf result ProgramFault.File }
+    ensures memory { IsErrOf result ProgramFault.Memory → Keeps (W.written output.old) (W.written output.new) }
 {
     let mut grammar = files.open(g)?;
     let mut text = files.open(t)?;

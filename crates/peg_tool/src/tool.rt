@@ -88,6 +88,9 @@ pub(crate) fn run_command<G: Source, T: Source, W: Sink>(
         ↔ ((G.failed grammar.new ≡ true) ⊎ (T.failed text.new ≡ true)) }
     ensures nothing_written { IsErrOf result CommandFault.Read → Keeps (W.written output.old) (W.written output.new) }
     ensures write_fault { IsErrOf result CommandFault.Write ↔ (W.failed output.new ≡ true) }
+    ensures memory { IsErrOf result CommandFault.Memory → Keeps (W.written output.old) (W.written output.new) }
+    ensures grammar_never { G.never_fails grammar.old ≡ true → G.failed grammar.new ≡ false }
+    ensures text_never { T.never_fails text.old ≡ true → T.failed text.new ≡ false }
 {
     let reply = line_of(alloc, grammar, text, command);
     write_reply(output, reply)
@@ -112,6 +115,8 @@ fn line_of<G: Source, T: Source>(
         ((rules : List Rule) → ¬ Accepts file rules) → text.new ≡ text.old) }
     ensures device { IsErrOf result ReadFault.Device
         ↔ ((G.failed grammar.new ≡ true) ⊎ (T.failed text.new ≡ true)) }
+    ensures grammar_never { G.never_fails grammar.old ≡ true → G.failed grammar.new ≡ false }
+    ensures text_never { T.never_fails text.old ≡ true → T.failed text.new ≡ false }
 {
     let file = read_up_to(alloc, grammar, MAX_FILE_BYTES + 1)?;
     match command {
@@ -138,13 +143,14 @@ fn parse_reply<T: Source>(
     requires short { length file.now ≤ max_offset }
     requires works { T.failed text.old ≡ false }
     ensures answer { (bytes : List ℕ)
-        → IsTextOf (ParseTask (start_named options.now) options.now.steps all form) file.now
+        → IsTextOf (ParseTask (start_named options.now) options.now.memo options.now.steps all form) file.now
         (T.left text.old) bytes → IfOk result (λ line.
-        IsPrinted (ParseTask (start_named options.now) options.now.steps all form) file.now bytes
+        IsPrinted (ParseTask (start_named options.now) options.now.memo options.now.steps all form) file.now bytes
         (line_bytes line) (status_code line.status)) }
     ensures held { ConsumesAtMost (T.left text.old) (T.left text.new) (max_text_bytes + 1) }
     ensures refused { ((rules : List Rule) → ¬ Accepts file.now rules) → text.new ≡ text.old }
     ensures device { IsErrOf result ReadFault.Device ↔ (T.failed text.new ≡ true) }
+    ensures never { T.never_fails text.old ≡ true → T.failed text.new ≡ false }
 {
     match load(alloc, file)? {
         Loaded::Accepted(parser) => read_and_parse(alloc, &parser, text, options, all, form),
@@ -164,10 +170,11 @@ fn read_and_parse<T: Source>(
     requires { T.failed text.old ≡ false }
     ensures answer { (file : List ℕ) → Accepts file (parser_rules parser.now) → IfOk result (λ line.
         IfSome (T.left text.old) (λ bytes.
-        IsPrinted (ParseTask (start_named options.now) options.now.steps all form) file bytes
+        IsPrinted (ParseTask (start_named options.now) options.now.memo options.now.steps all form) file bytes
         (line_bytes line) (status_code line.status))) }
     ensures held { ConsumesAtMost (T.left text.old) (T.left text.new) (max_text_bytes + 1) }
     ensures device { IsErrOf result ReadFault.Device ↔ (T.failed text.new ≡ true) }
+    ensures never { T.never_fails text.old ≡ true → T.failed text.new ≡ false }
 {
     let bytes = read_up_to(alloc, text, MAX_TEXT_BYTES + 1)?;
     Ok(parse_line(alloc, parser, &bytes, options, all, form)?)

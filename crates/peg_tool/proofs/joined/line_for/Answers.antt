@@ -6,6 +6,7 @@ use Rattle.peg_json.specs.declared.line.Line.{Line}
 use Rattle.peg_json.specs.declared.tree_form.TreeForm.TheVariants.{Nested}
 use Rattle.peg_tool.specs.Loaded.{IsLoadedFrom}
 use Rattle.peg_tool.specs.Replies.{IsPrintedJoined}
+use Rattle.peg_tool.specs.Task.{default_memo}
 use Rattle.peg_tool.proofs.RunLemmas.{split-shorter, parsed-printed}
 use Rattle.peg_tool.proofs.joined.line_for.Goals as goal
 use Rattle.peg_json.specs.Lines.{line_bytes}
@@ -27,7 +28,7 @@ returns-in-Accepted c =
       file,
       text,
       c.split.ensures,
-      parsed-printed file text rules None None false Nested (line_bytes line)
+      parsed-printed file text rules None default_memo None false Nested (line_bytes line)
           (status_code line.status) judged is,
     ))
     (c.parse_line.ensures file)

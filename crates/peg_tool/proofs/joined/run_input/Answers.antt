@@ -1,5 +1,5 @@
 use Rattle.peg_tool.specs.Replies.{IsPrintedJoined}
-use Rattle.peg_tool.proofs.EndLemmas.{input-writes, ends-read, ends-nothing}
+use Rattle.peg_tool.proofs.EndLemmas.{input-writes, ends-read, ends-nothing, ends-memory}
 use Rattle.peg_tool.proofs.joined.run_input.Goals as goal
 
 pub returns-clause-answer : goal.returns-clause-answer
@@ -16,4 +16,9 @@ returns-clause-read_fault g c =
 pub returns-clause-nothing_written : goal.returns-clause-nothing_written
 returns-clause-nothing_written g c =
     ends-nothing (g.W.Sink.written c.args.output.now) (g.W.Sink.written c.write_reply.new.output) c.line_of-reply.result
+    c.write_reply.result c.write_reply.ensures.ends
+
+pub returns-clause-memory : goal.returns-clause-memory
+returns-clause-memory g c =
+    ends-memory (g.W.Sink.written c.args.output.now) (g.W.Sink.written c.write_reply.new.output) c.line_of-reply.result
     c.write_reply.result c.write_reply.ensures.ends

@@ -17,12 +17,13 @@ returns-in-Ok c file =
     let rules = parser_rules c.args.parser.now in
     let outcome = c.in-Ok.answer.outcome in
     let start = start_named c.args.options.now in
+    let memo = c.args.options.now.memo in
     let steps = c.args.options.now.steps in
     let some : (start_name rules start ≡ None → ⊥) =
     λ none. let both : Ok c.in-Ok.answer ≡ Err NoStart = sym c.in-Ok.is ∙ c.parse.ensures.no_start.1 none in cc in
     kind-weaker c.answer_line.result file (PrintsOutcome rules outcome _ c.args.all c.args.form)
-    (ParsesTo rules c.args.text.now start steps c.args.all c.args.form)
-    (outcome-parses rules c.args.text.now start steps c.args.all c.args.form outcome c.in-Ok.ensures.short
+    (ParsesTo rules c.args.text.now start memo steps c.args.all c.args.form)
+    (outcome-parses rules c.args.text.now start memo steps c.args.all c.args.form outcome c.in-Ok.ensures.short c.in-Ok.ensures.enough
     some c.in-Ok.ensures.outcome)
     (c.answer_line.ensures file)
 
@@ -30,12 +31,13 @@ pub returns-in-Err-NoSuchStart : goal.returns-in-Err-NoSuchStart
 returns-in-Err-NoSuchStart c file =
     let rules = parser_rules c.args.parser.now in
     let start = start_named c.args.options.now in
+    let memo = c.args.options.now.memo in
     let steps = c.args.options.now.steps in
     let none = c.parse.ensures.no_start.0 (c.in-Err-NoSuchStart.is ∙ ap Err c.in-Err-NoSuchStart.field-0-is) in
     let named = start-given rules start none in
     let same : c.unwrap_or.result.now ≡ named.0 =
     ap (λ name. name.now) c.unwrap_or.ensures ∙ given-name (λ name. name.now) c.args.options.now.start _ named.0 named.1 in
-    no_start-line c.no_start.result file rules c.args.text.now start steps c.args.all c.args.form named.0
+    no_start-line c.no_start.result file rules c.args.text.now start memo steps c.args.all c.args.form named.0
     named.1 none
     (λ long. c.no_start.ensures.long long file) (λ short. subst (λ name. IfOk c.no_start.result (λ line.
     IsReply file (Refused (NoSuchStart name)) (line_bytes line) (status_code line.status))) same
@@ -45,10 +47,11 @@ pub returns-in-Err-TextTooLong : goal.returns-in-Err-TextTooLong
 returns-in-Err-TextTooLong c file =
     let rules = parser_rules c.args.parser.now in
     let start = start_named c.args.options.now in
+    let memo = c.args.options.now.memo in
     let steps = c.args.options.now.steps in
     let is = c.in-Err-TextTooLong.is ∙ ap Err c.in-Err-TextTooLong.field-0-is in
     reply-kind c.long_text_line.result file
-    (ParsesTo rules c.args.text.now start steps c.args.all c.args.form) (Refused TextTooLong)
+    (ParsesTo rules c.args.text.now start memo steps c.args.all c.args.form) (Refused TextTooLong)
     (c.long_text_line.ensures file)
     (text_too_long (long-text c.parse.result rules start (length c.args.text.now) is c.parse.ensures.no_start
     c.parse.ensures.long))
@@ -57,10 +60,11 @@ pub returns-in-Err-StepLimit : goal.returns-in-Err-StepLimit
 returns-in-Err-StepLimit c file =
     let rules = parser_rules c.args.parser.now in
     let start = start_named c.args.options.now in
+    let memo = c.args.options.now.memo in
     let steps = c.args.options.now.steps in
     let is = c.in-Err-StepLimit.is ∙ ap Err c.in-Err-StepLimit.field-0-is in
     let more = c.parse.ensures.limited is in
     reply-kind c.step_limit_line.result file
-    (ParsesTo rules c.args.text.now start steps c.args.all c.args.form) (Refused StepLimit)
+    (ParsesTo rules c.args.text.now start memo steps c.args.all c.args.form) (Refused StepLimit)
     (c.step_limit_line.ensures file)
     (too_many_steps (short-text c.parse.result (length c.args.text.now) is (c.parse.ensures.long more.0 more.1)) more)

@@ -1,3 +1,4 @@
+use Rattle.peg_io.specs.NamedFile.{bytes_of}
 use Rattle.peg_tool.specs.Commands.{task_of}
 use Rattle.peg_tool.proofs.ProgramLemmas.{opened-outcome, both-outcome}
 use Rattle.peg_tool.proofs.program.on_files.Goals as goal
@@ -5,8 +6,8 @@ use Rattle.peg_tool.proofs.program.on_files.Goals as goal
 pub returns-clause-leads : goal.returns-clause-leads
 returns-clause-leads g c =
     let task = task_of c.args.command.now in
-    let held = g.O.Opener.holds c.args.files.now c.args.g.now in
-    let held_text = g.O.Opener.holds c.args.files.now c.args.t.now in
+    let held = bytes_of (g.O.Opener.file_at c.args.files.now c.args.g.now) in
+    let held_text = bytes_of (g.O.Opener.file_at c.args.files.now c.args.t.now) in
     let text = g.O.File.Source.left c.in_ok-text.text in
     let old = g.W.Sink.written c.args.output.now in
     let new = g.W.Sink.written c.run_command-ended.new.output in

@@ -8,8 +8,8 @@ pub returns-in-Accepted-clause-answer : goal.returns-in-Accepted-clause-answer
 returns-in-Accepted-clause-answer g c bytes is =
     let judged = subst (IsLoadedFrom c.args.file.now) c.in-Accepted.is c.in_ok-parser.ensures in
     parsed-reported c.read_and_parse.result c.args.file.now (g.T.Source.left c.args.text.now) bytes
-    (parser_rules c.in-Accepted.parser) (start_named c.args.options.now) c.args.options.now.steps c.args.all
-    c.args.form is judged
+    (parser_rules c.in-Accepted.parser) (start_named c.args.options.now) c.args.options.now.memo
+    c.args.options.now.steps c.args.all c.args.form is judged
     (c.read_and_parse.ensures.answer c.args.file.now judged)
 
 pub returns-in-Accepted-clause-refused : goal.returns-in-Accepted-clause-refused

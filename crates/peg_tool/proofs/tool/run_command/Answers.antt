@@ -1,7 +1,7 @@
 use Rattle.peg_tool.specs.Commands.{task_of}
 use Rattle.peg_tool.specs.Replies.{IsPrinted}
 use Rattle.peg_tool.specs.Task.{IsTextOf}
-use Rattle.peg_tool.proofs.EndLemmas.{file-writes, ends-read, ends-nothing}
+use Rattle.peg_tool.proofs.EndLemmas.{file-writes, ends-read, ends-nothing, ends-memory}
 use Rattle.peg_tool.proofs.tool.run_command.Goals as goal
 
 pub returns-clause-answer : goal.returns-clause-answer
@@ -19,4 +19,9 @@ returns-clause-read_fault g c =
 pub returns-clause-nothing_written : goal.returns-clause-nothing_written
 returns-clause-nothing_written g c =
     ends-nothing (g.W.Sink.written c.args.output.now) (g.W.Sink.written c.write_reply.new.output) c.line_of-reply.result
+    c.write_reply.result c.write_reply.ensures.ends
+
+pub returns-clause-memory : goal.returns-clause-memory
+returns-clause-memory g c =
+    ends-memory (g.W.Sink.written c.args.output.now) (g.W.Sink.written c.write_reply.new.output) c.line_of-reply.result
     c.write_reply.result c.write_reply.ensures.ends

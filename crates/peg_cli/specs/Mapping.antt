@@ -1,0 +1,37 @@
+-- Describes code: which argument of the command line goes to which field.
+use Rattle.std.specs.Prelude.{◌≡◌, true, false, ℕ, Bool, List, Option, None, Some, option_map, string_bytes, codes}
+use Rattle.std.specs.Str.Parse.{digits_value, without_leading_plus}
+use Rattle.clap.specs.Matches.{first_value, one_text}
+use Rattle.clap.specs.declared.parser.matches.Found.{Found}
+use Rattle.peg_cli.specs.declared.words.Words.{Words}
+use Rattle.peg_cli.specs.declared.words.Words.TheVariants.{Joined, Help, Table, Check, Code, Lint, Parse}
+
+-- the first value of an argument, read as a decimal number; a plus may come first
+abbrev pub number_at : Found → (id : List ℕ) → Option ℕ
+number_at found id = option_map (λ text. digits_value 10 (without_leading_plus text)) (one_text found id)
+
+-- A flag is false if its argument has no value, and otherwise what the value says.
+abbrev pub IsFlagAt : Found → (id : List ℕ) → Bool → Type 0
+IsFlagAt found id flag = (one_text found id ≡ None → flag ≡ false)
+    × (one_text found id ≡ Some (codes "true") → flag ≡ true)
+    × (one_text found id ≡ Some (codes "false") → flag ≡ false)
+
+-- the fields of a command with this name are those of the arguments that were found
+abbrev pub IsCommandOf : (name : List ℕ) → Found → Words → Type 0
+IsCommandOf name found Joined = ⊥
+IsCommandOf name found (Help text) = ⊥
+IsCommandOf name found (Table g) = (name ≡ codes "table") × (first_value found (codes "G") ≡ Some (string_bytes g))
+IsCommandOf name found (Check g) = (name ≡ codes "check") × (first_value found (codes "G") ≡ Some (string_bytes g))
+IsCommandOf name found (Code g) = (name ≡ codes "code") × (first_value found (codes "G") ≡ Some (string_bytes g))
+IsCommandOf name found (Lint g start proved) = (name ≡ codes "lint")
+    × (first_value found (codes "G") ≡ Some (string_bytes g))
+    × (first_value found (codes "start") ≡ option_map string_bytes start)
+    × IsFlagAt found (codes "proved") proved
+IsCommandOf name found (Parse g t start memo steps all rows) = (name ≡ codes "parse")
+    × (first_value found (codes "G") ≡ Some (string_bytes g))
+    × (first_value found (codes "T") ≡ Some (string_bytes t))
+    × (first_value found (codes "start") ≡ option_map string_bytes start)
+    × (number_at found (codes "memo") ≡ Some memo)
+    × (number_at found (codes "steps") ≡ steps)
+    × IsFlagAt found (codes "all") all
+    × IsFlagAt found (codes "rows") rows

@@ -1,0 +1,89 @@
+//! What the arguments of the program request.
+ghost use Rattle.std.specs.Prelude.{◌≡◌, option_map};
+ghost use Rattle.peg_json.specs.TreeForms.{form_from_rows};
+ghost use Rattle.peg_tool.specs.Commands.{request_of, task_of};
+ghost use Rattle.peg_tool.specs.Requests.{requested};
+ghost use Rattle.peg_tool.specs.Task.{ParseTask};
+
+use crate::command::Command;
+use peg_cli::Words;
+use peg_lint::Selection;
+use peg_parser::ParseOptions;
+
+/// What the arguments of the program request.
+#[derive(Clone, Copy, Debug, PartialEq, Eq)]
+pub enum Request<'a> {
+    /// Parses a text by a grammar file, both from one input, with the default options.
+    Joined,
+    /// Prints a help text.
+    Help {
+        text: &'a str,
+    },
+    /// Runs a command on the grammar file with name `g`. The command reads no text.
+    OnFile {
+        g: &'a str,
+        command: Command<'a>,
+    },
+    /// Parses the text file with name `t` by the grammar file with name `g`.
+    OnFiles {
+        g: &'a str,
+        t: &'a str,
+        command: Command<'a>,
+    },
+}
+
+impl<'a> Request<'a> {
+    /// Returns what these arguments request: which command, on which files, with which options. Constant time.
+    pub fn from_words(words: &'a Words) -> Request<'a>
+        ensures { request_of result ≡ requested words.now }
+    {
+        match words {
+            Words::Joined => Request::Joined,
+            Words::Help { text } => Request::Help { text },
+            Words::Table { g } => Request::OnFile {
+                g,
+                command: Command::Table,
+            },
+            Words::Check { g } => Request::OnFile {
+                g,
+                command: Command::Check,
+            },
+            Words::Code { g } => Request::OnFile {
+                g,
+                command: Command::Code,
+            },
+            Words::Lint { g, start, proved } => {
+                let start = start.as_deref();
+                let selection = Selection::from_proved(*proved);
+                let command = Command::Lint { start, selection };
+                Request::OnFile { g, command }
+            }
+            Words::Parse {
+                g,
+                t,
+                start,
+                memo,
+                steps,
+                all,
+                rows,
+            } => {
+                let command = parse_command(start.as_deref(), *memo, *steps, *all, *rows);
+                Request::OnFiles { g, t, command }
+            }
+        }
+    }
+}
+
+// The command of a parse with these options.
+fn parse_command(
+    start: Option<&str>,
+    memo: u32,
+    steps: Option<u64>,
+    all: bool,
+    rows: bool,
+) -> Command<'_>
+    ensures { task_of result ≡ ParseTask (option_map (λ name. name.now) start.entry) memo steps all (form_from_rows rows) }
+{
+    let options = ParseOptions { start, memo, steps };
+    Command::Parse { options, all, rows }
+}
