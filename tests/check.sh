@@ -105,6 +105,7 @@ run 0 /dev/null parse c.peg "$folder/text"
 printf '(((x)));' > "$folder/text"
 run 6 /dev/null parse c.peg "$folder/text"
 run 0 /dev/null parse c.peg "$folder/text" --rows
+run 0 /dev/null parse c.peg "$folder/text" --no-tree
 
 # Without a memo each parenthesis doubles the steps of a choice whose alternatives begin alike.
 run 6 /dev/null parse cookbook/memo.peg cookbook/memo/match_nested.txt --rows --steps 10000 --memo 0

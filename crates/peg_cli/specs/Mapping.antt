@@ -27,7 +27,7 @@ IsCommandOf name found (Lint g start proved) = (name ≡ codes "lint")
     × (first_value found (codes "G") ≡ Some (string_bytes g))
     × (first_value found (codes "start") ≡ option_map string_bytes start)
     × IsFlagAt found (codes "proved") proved
-IsCommandOf name found (Parse g t start memo steps all rows) = (name ≡ codes "parse")
+IsCommandOf name found (Parse g t start memo steps all rows no_tree) = (name ≡ codes "parse")
     × (first_value found (codes "G") ≡ Some (string_bytes g))
     × (first_value found (codes "T") ≡ Some (string_bytes t))
     × (first_value found (codes "start") ≡ option_map string_bytes start)
@@ -35,3 +35,4 @@ IsCommandOf name found (Parse g t start memo steps all rows) = (name ≡ codes "
     × (number_at found (codes "steps") ≡ steps)
     × IsFlagAt found (codes "all") all
     × IsFlagAt found (codes "rows") rows
+    × IsFlagAt found (codes "no-tree") no_tree

@@ -71,7 +71,8 @@ fn parse<'a>(alloc: Global) -> Result<Command<'a>, AllocError> {
         .arg(memo_option(alloc))?
         .arg(steps_option(alloc))?
         .arg(all_flag(alloc))?
-        .arg(rows_flag(alloc))
+        .arg(rows_flag(alloc))?
+        .arg(no_tree_flag(alloc)?)
 }
 
 fn grammar_file<'a>(alloc: Global) -> Arg<'a> {
@@ -124,6 +125,14 @@ fn rows_flag<'a>(alloc: Global) -> Arg<'a> {
         .long("rows")
         .action(ArgAction::SetTrue)
         .help("Prints the tree as a list of nodes [level, rule, start, end], of any depth")
+}
+
+fn no_tree_flag<'a>(alloc: Global) -> Result<Arg<'a>, AllocError> {
+    Arg::new(alloc, "no-tree")
+        .long("no-tree")
+        .action(ArgAction::SetTrue)
+        .help("Prints the result without the tree, of any depth")
+        .conflicts_with("rows")
 }
 
 fn proved_flag<'a>(alloc: Global) -> Arg<'a> {
@@ -207,8 +216,8 @@ Example: pegtool lint grammar.peg --start Value";
 const PARSE_NOTES: &str = "\
 Prints one line of JSON: the number of bytes consumed, the tree, and the furthest
 offset at which a terminal failed, with the spans of these terminals in the
-grammar file. A text has at most 67108864 bytes. A tree of more than 60 levels is
-printed with --rows only.
+grammar file. A text has at most 67108864 bytes. A tree of more than 60 levels
+needs --rows or --no-tree.
 
 A memo stores the results of rules at positions, so that a rule that is tried
 again at a position isn't run again. It never changes the answer, only time and
@@ -223,7 +232,7 @@ depends on the memo.
 Status: 0 matched; 1 failed, or partial under --all; 2 the grammar is refused; 3
 wrong arguments, or an unknown start rule; 4 a file can't be opened or read, or
 the output can't be written; 5 out of memory; 6 a refusal of the parse is printed:
-TooDeep, the tree has more than 60 levels and needs --rows; TextTooLong; or
-StepLimit, which needs a greater --steps or --memo.
+TooDeep, the tree has more than 60 levels and needs --rows or --no-tree;
+TextTooLong; or StepLimit, which needs a greater --steps or --memo.
 
 Example: pegtool parse grammar.peg text --start Value --all --rows";

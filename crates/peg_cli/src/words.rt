@@ -50,6 +50,7 @@ pub enum Words {
         steps: Option<u64>,
         all: bool,
         rows: bool,
+        no_tree: bool,
     },
 }
 
@@ -147,6 +148,7 @@ fn parse_of(alloc: Global, matches: &ArgMatches<'_>) -> Result<Words, WordsFault
         steps: step_limit(alloc, matches)?,
         all: matches.get_flag("all"),
         rows: matches.get_flag("rows"),
+        no_tree: matches.get_flag("no-tree"),
     })
 }
 

@@ -98,6 +98,7 @@ fn code_that_is_too_large_is_refused(rt: HostRuntime) -> Result<(), Fail> {
         options,
         all: false,
         rows: false,
+        no_tree: false,
     };
     let large = pluses(alloc, 25)?;
     for command in [Command::Check, Command::Code, parse] {

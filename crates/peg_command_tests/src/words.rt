@@ -328,6 +328,7 @@ fn a_request_has_the_options_of_the_arguments(rt: HostRuntime) -> Result<(), Fai
         options,
         all: true,
         rows: false,
+        no_tree: false,
     };
     let request = Request::OnFiles {
         g: "g",

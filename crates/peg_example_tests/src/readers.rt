@@ -73,6 +73,7 @@ fn the_figure_is_accepted_and_parses_itself(rt: HostRuntime) -> Result<(), Fail>
         options,
         all: true,
         rows: true,
+        no_tree: false,
     };
     let line = printed_by(&rt, rt.alloc(), &parse)?;
     assert!(rt; line.starts_with("{\"consumed\":1086,\"expected\":[["));

@@ -44,7 +44,12 @@ pub(crate) fn parse_with(memo: u32, asked: Asked) -> Command<'static> {
         memo,
         steps: None,
     };
-    Command::Parse { options, all, rows }
+    Command::Parse {
+        options,
+        all,
+        rows,
+        no_tree: false,
+    }
 }
 
 /// Returns whether a parse from the first rule takes few steps without a memo.

@@ -15,7 +15,7 @@ use Rattle.peg_tree.specs.Trees.{Trees, NoTrees, Tree}
 use Rattle.peg_json.specs.Parses.{extents_at}
 use Rattle.peg_json.specs.Reply.{extent_data, failed_data, matched_data, tree_member}
 use Rattle.peg_json.specs.declared.tree_form.TreeForm.{TreeForm}
-use Rattle.peg_json.specs.declared.tree_form.TreeForm.TheVariants.{Nested, Rows}
+use Rattle.peg_json.specs.declared.tree_form.TreeForm.TheVariants.{Nested, Rows, NoTree}
 
 -- the span of a terminal
 pub place_at : (rules : List Rule) (terminals : List ℕ) (i : ℕ) (place : Extent) → i < length terminals
@@ -72,6 +72,7 @@ rows-without_floats names level (Tree rule start end children rest) =
 tree-without_floats : (form : TreeForm) (names : List (List ℕ)) (trees : Trees)
     → members_have_float (tree_member form names trees) ≡ false
 tree-without_floats Rows names trees = ap (λ (b : Bool). b || false) (rows-without_floats names 1 trees)
+tree-without_floats NoTree names trees = refl
 tree-without_floats Nested names NoTrees = refl
 tree-without_floats Nested names (Tree rule start end children rest) =
     ap (λ (b : Bool). (b || false) || false) (nested-without_floats names children)

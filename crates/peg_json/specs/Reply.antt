@@ -17,7 +17,7 @@ use Rattle.peg_json.specs.CodeText.{code_data}
 use Rattle.peg_json.specs.LintText.{lint_data, status_of_warnings}
 use Rattle.peg_json.specs.TableText.{table_data}
 use Rattle.peg_json.specs.declared.tree_form.TreeForm.{TreeForm}
-use Rattle.peg_json.specs.declared.tree_form.TreeForm.TheVariants.{Nested, Rows}
+use Rattle.peg_json.specs.declared.tree_form.TreeForm.TheVariants.{Nested, Rows, NoTree}
 
 -- A reply of the tool: a refusal, a table of outcomes with the rules' names, or the number of rules of an accepted
 -- grammar. Others are the code with the entry of each rule, the rules' names with warnings, a failure, and a match.
@@ -60,10 +60,11 @@ tree_data names tree = slice_index_or (nested_data names tree) 0 null
 abbrev pub tree_rows_data : List (List ℕ) → Trees → Data
 tree_rows_data names tree = array (items_of (rows_data names 1 tree))
 
--- the last member of the JSON of a match
+-- the last member of the JSON of a match, if the tree is printed
 abbrev pub tree_member : TreeForm → List (List ℕ) → Trees → Members
 tree_member Rows names tree = member (codes "rows") (tree_rows_data names tree) no_members
 tree_member Nested names tree = member (codes "tree") (tree_data names tree) no_members
+tree_member NoTree names tree = no_members
 
 -- the `result` of a match: of all that was asked for, or of a part of it
 abbrev pub match_word : (partial : Bool) → List ℕ

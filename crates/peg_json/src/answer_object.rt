@@ -1,7 +1,8 @@
 //! The JSON objects of answers, for a serializer.
 ghost use Rattle.std.specs.Prelude.{◌≡◌, Bool, OnOk};
+ghost use Rattle.serde_json.specs.Data.{no_members};
 ghost use Rattle.serde_json.specs.Events.{SendsValue};
-ghost use Rattle.peg_json.specs.Reply.{failed_data, match_word};
+ghost use Rattle.peg_json.specs.Reply.{failed_data, match_word, matched_data};
 ghost use Rattle.peg_json.specs.Sending.{SendsMatch, spans_of};
 
 use crate::expected_spans::ExpectedSpans;
@@ -29,14 +30,30 @@ impl Serialize for Failure<'_> {
     }
 }
 
-// The members of a match without its tree. `partial` marks a match of less than the whole text where the whole was
-// asked for.
+// The members of a match without its tree, and the match itself if the tree isn't printed. `partial` marks a match of
+// less than the whole text where the whole was asked for.
 #[derive(Drop)]
 pub(crate) struct Summary<'a> {
     pub partial: bool,
     pub end: u32,
     pub far: u32,
     pub expected: ExpectedSpans<'a>,
+}
+
+impl Described for Summary<'_> {
+    ghost writes = { λ summary. SendsValue (matched_data summary.partial summary.end summary.far
+        (spans_of summary.expected) no_members) };
+}
+
+impl Serialize for Summary<'_> {
+    fn serialize<S: Serializer>(&self, out: &mut S) -> Result<(), S::Error> {
+        out.begin_map(Some(4))?;
+        serialize_member("consumed", &self.end, out)?;
+        serialize_member("expected", &self.expected, out)?;
+        serialize_member("far", &self.far, out)?;
+        serialize_member("result", &match_word(self.partial), out)?;
+        out.end_map()
+    }
 }
 
 // A match with its tree, which is the member `key`.

@@ -128,6 +128,7 @@ fn matched_text(
                 tree: NestedTree::new(alloc, tree, grammar),
             },
         ),
+        TreeForm::NoTree => text_of(alloc, &summary),
     }
 }
 

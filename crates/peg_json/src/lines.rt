@@ -149,26 +149,29 @@ pub fn answer_line(
         (line_bytes line) (status_code line.status)) }
 {
     match form {
-        TreeForm::Nested => nested_line(alloc, parser, &answer, text_len, all),
         TreeForm::Rows => rows_line(alloc, parser, answer, text_len, all),
+        TreeForm::Nested | TreeForm::NoTree => {
+            text_line(alloc, parser, &answer, text_len, all, form)
+        }
     }
 }
 
-// The line of an answer whose tree is nested objects, or that the tree is too deep.
-fn nested_line(
+// The line of an answer that is made as one text, or that the tree is too deep for the form.
+fn text_line(
     alloc: Global,
     parser: &Parser,
     answer: &Answer,
     text_len: u32,
     all: bool,
+    form: TreeForm,
 ) -> Result<Line, AllocError>
     requires { Fits (parser_rules parser.now) answer.now.outcome }
     ensures { (file : List ℕ) → IfOk result (λ line. IsLineOf file
-        (PrintsOutcome (parser_rules parser.now) answer.now.outcome text_len all TreeForm.Nested)
+        (PrintsOutcome (parser_rules parser.now) answer.now.outcome text_len all form)
         (line_bytes line) (status_code line.status)) }
 {
     let status = answer_status(answer, text_len, all);
-    match answer_text(alloc, parser, answer, text_len, all, TreeForm::Nested) {
+    match answer_text(alloc, parser, answer, text_len, all, form) {
         Ok(text) => Ok(Line::new(text, status)),
         Err(JsonFault::TooDeep) => fault_line(alloc, &Fault::TooDeep, &[], &[]),
         Err(JsonFault::Memory) => Err(AllocError),

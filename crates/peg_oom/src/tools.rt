@@ -111,7 +111,12 @@ fn parsed(rt: &impl Print, alloc: Global, word: &str) -> Option<io::Result<()>> 
     let (memo, steps) = (7, None);
     let options = ParseOptions { start, memo, steps };
     let all = true;
-    let command = Command::Parse { options, all, rows };
+    let command = Command::Parse {
+        options,
+        all,
+        rows,
+        no_tree: false,
+    };
     Some(tool(rt, alloc, PREFIX, b"((((a)y)y)y)y", &command))
 }
 

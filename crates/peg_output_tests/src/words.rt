@@ -104,7 +104,24 @@ fn parse(
         steps,
         all,
         rows,
+        no_tree: false,
     })
+}
+
+#[test]
+fn a_parse_may_leave_the_tree_out(rt: HostRuntime) -> Result<(), Fail> {
+    let alloc = rt.alloc();
+    let expected = Words::Parse {
+        g: String::from_str(alloc, "g")?,
+        t: String::from_str(alloc, "t")?,
+        start: None,
+        memo: 4096,
+        steps: None,
+        all: true,
+        rows: false,
+        no_tree: true,
+    };
+    asks(&rt, alloc, "parse g t --all --no-tree", &expected)
 }
 
 #[test]
@@ -201,6 +218,7 @@ fn help_is_printed(rt: HostRuntime) -> Result<(), Fail> {
         ("parse --help", "Usage: pegtool parse [OPTIONS] <G> <T>"),
         ("parse --help", "[default: 4096]"),
         ("parse --help", "--steps <N>"),
+        ("parse --help", "--no-tree"),
         ("parse --help", "--memo 0 never uses it"),
         (
             "parse --help",
@@ -265,6 +283,7 @@ fn what_is_no_command_line_is_refused(rt: HostRuntime) -> Result<(), Fail> {
             "parse g t --steps 1 --steps 2",
             "'--steps <N>' cannot be used multiple times",
         ),
+        ("parse g t --rows --no-tree", "cannot be used with"),
     ];
     for (line, part) in cases {
         refused(&rt, rt.alloc(), line, part)?;

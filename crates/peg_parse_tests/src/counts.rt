@@ -15,7 +15,12 @@ fn in_steps(memo: u32, steps: u64) -> Command<'static> {
         steps: Some(steps),
     };
     let (all, rows) = (false, false);
-    Command::Parse { options, all, rows }
+    Command::Parse {
+        options,
+        all,
+        rows,
+        no_tree: false,
+    }
 }
 
 #[test]

@@ -35,7 +35,12 @@ pub(crate) fn parse(start: Option<&str>, all: bool, rows: bool) -> Command<'_> {
     let memo = 4096;
     let steps = None;
     let options = ParseOptions { start, memo, steps };
-    Command::Parse { options, all, rows }
+    Command::Parse {
+        options,
+        all,
+        rows,
+        no_tree: false,
+    }
 }
 
 #[test]
@@ -57,6 +62,72 @@ fn matches_are_reported_by_trees_or_rows(rt: HostRuntime) -> Result<(), Fail> {
         file,
         b"aab",
         "{\"consumed\":3,\"expected\":[[5,8]],\"far\":2,\"result\":\"matched\",\"rows\":[[1,\"S\",0,3],[2,\"S\",1,3],[3,\"S\",2,3]]}",
+        0,
+    )
+}
+
+// A parse that prints no tree.
+fn without_tree(all: bool) -> Command<'static> {
+    let options = ParseOptions {
+        start: None,
+        memo: 4096,
+        steps: None,
+    };
+    Command::Parse {
+        options,
+        all,
+        rows: false,
+        no_tree: true,
+    }
+}
+
+#[test]
+fn a_tree_may_be_left_out(rt: HostRuntime) -> Result<(), Fail> {
+    let file = b"S <- 'a' S / 'b'\n";
+    replies(
+        &rt,
+        rt.alloc(),
+        &without_tree(false),
+        file,
+        b"aab",
+        "{\"consumed\":3,\"expected\":[[5,8]],\"far\":2,\"result\":\"matched\"}",
+        0,
+    )?;
+    replies(
+        &rt,
+        rt.alloc(),
+        &without_tree(false),
+        file,
+        b"",
+        "{\"expected\":[[5,8],[13,16]],\"far\":0,\"result\":\"failed\"}",
+        1,
+    )?;
+    replies(
+        &rt,
+        rt.alloc(),
+        &without_tree(true),
+        b"S <- 'a' / 'ab'\n",
+        b"ab",
+        "{\"consumed\":1,\"expected\":[],\"far\":0,\"result\":\"partial\"}",
+        1,
+    )
+}
+
+// The tree has 61 levels, which is too many for nested objects.
+#[test]
+fn a_tree_that_is_left_out_may_be_deep(rt: HostRuntime) -> Result<(), Fail> {
+    let mut text = Vec::new(rt.alloc());
+    for _ in 0..60 {
+        text.push(b'a')?;
+    }
+    text.push(b'b')?;
+    replies(
+        &rt,
+        rt.alloc(),
+        &without_tree(false),
+        b"S <- 'a' S / 'b'\n",
+        &text,
+        "{\"consumed\":61,\"expected\":[[5,8]],\"far\":60,\"result\":\"matched\"}",
         0,
     )
 }
@@ -205,6 +276,7 @@ fn refused_parses_tell_why(rt: HostRuntime) -> Result<(), Fail> {
         },
         all: false,
         rows: false,
+        no_tree: false,
     };
     replies(
         &rt,

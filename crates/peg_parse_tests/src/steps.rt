@@ -29,7 +29,12 @@ fn answers(
     line: &str,
 ) -> Result<(), Fail> {
     let all = false;
-    let command = Command::Parse { options, all, rows };
+    let command = Command::Parse {
+        options,
+        all,
+        rows,
+        no_tree: false,
+    };
     replies(rt, alloc, &command, file, text, line, 0)
 }
 
@@ -43,7 +48,12 @@ fn gives_up(
     rows: bool,
 ) -> Result<(), Fail> {
     let all = false;
-    let command = Command::Parse { options, all, rows };
+    let command = Command::Parse {
+        options,
+        all,
+        rows,
+        no_tree: false,
+    };
     let line = "{\"refusal\":\"StepLimit\"}";
     replies(rt, alloc, &command, file, text, line, 6)
 }
@@ -179,6 +189,7 @@ fn a_start_that_is_no_rule_comes_before_the_steps(rt: HostRuntime) -> Result<(),
         options,
         all: false,
         rows: false,
+        no_tree: false,
     };
     let line = "{\"name\":\"T\",\"refusal\":\"NoSuchStart\"}";
     replies(&rt, rt.alloc(), &command, TWICE, b"(a)y", line, 3)

@@ -231,7 +231,12 @@ fn parse(
         file,
         text,
         output,
-        &Command::Parse { options, all, rows },
+        &Command::Parse {
+            options,
+            all,
+            rows,
+            no_tree: false,
+        },
     )
 }
 

@@ -58,6 +58,7 @@ pub(crate) fn parses(
         options,
         all: false,
         rows: true,
+        no_tree: false,
     };
     replies(rt, alloc, &command, file, text, wanted)
 }

@@ -134,7 +134,7 @@ reads_none (Table g) = λ parse. parse
 reads_none (Check g) = λ parse. parse
 reads_none (Code g) = λ parse. parse
 reads_none (Lint g start proved) = λ parse. parse
-reads_none (Parse g t start memo steps all rows) = tt
+reads_none (Parse g t start memo steps all rows no_tree) = tt
 
 pub one_file-reads_none : (words : Words) (request : ToolRequest) (task : ToolTask) (g : List ℕ)
     → request ≡ requested words → request ≡ FileRequest task g → ¬ IsParse task

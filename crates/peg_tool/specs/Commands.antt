@@ -1,7 +1,7 @@
 -- Describes code: the tasks of commands, and what requests are.
 use Rattle.std.specs.Prelude.{option_map}
 use Rattle.peg_parser.specs.Parser.{start_named}
-use Rattle.peg_json.specs.TreeForms.{form_from_rows}
+use Rattle.peg_json.specs.TreeForms.{form_from_options}
 use Rattle.peg_tool.specs.Task.{ToolTask, TableTask, CheckTask, CodeTask, LintTask, ParseTask}
 use Rattle.peg_tool.specs.Requests.{ToolRequest, InputRequest, HelpRequest, FileRequest, FilesRequest}
 use Rattle.peg_tool.specs.declared.command.Command.{Command}
@@ -15,7 +15,8 @@ task_of Table = TableTask
 task_of Check = CheckTask
 task_of Code = CodeTask
 task_of (Lint start selection) = LintTask (option_map (λ name. name.now) start) selection
-task_of (Parse options all rows) = ParseTask (start_named options) options.memo options.steps all (form_from_rows rows)
+task_of (Parse options all rows no_tree) =
+    ParseTask (start_named options) options.memo options.steps all (form_from_options rows no_tree)
 
 -- what a request asks for
 abbrev pub request_of : Request → ToolRequest

@@ -18,10 +18,12 @@ pub enum Command<'a> {
         selection: Selection,
     },
     /// Parses a text by a rule of the grammar. With `all`, a match of less than the whole text is reported as partial.
-    /// With `rows` the tree is a list of its nodes in preorder, otherwise nested objects.
+    /// With `rows` the tree is a list of its nodes in preorder, with `no_tree` it isn't printed, otherwise it is nested
+    /// objects. `no_tree` prevails over `rows`.
     Parse {
         options: ParseOptions<'a>,
         all: bool,
         rows: bool,
+        no_tree: bool,
     },
 }

@@ -1,6 +1,6 @@
 //! What the arguments of the program request.
 ghost use Rattle.std.specs.Prelude.{◌≡◌, option_map};
-ghost use Rattle.peg_json.specs.TreeForms.{form_from_rows};
+ghost use Rattle.peg_json.specs.TreeForms.{form_from_options};
 ghost use Rattle.peg_tool.specs.Commands.{request_of, task_of};
 ghost use Rattle.peg_tool.specs.Requests.{requested};
 ghost use Rattle.peg_tool.specs.Task.{ParseTask};
@@ -66,8 +66,10 @@ impl<'a> Request<'a> {
                 steps,
                 all,
                 rows,
+                no_tree,
             } => {
-                let command = parse_command(start.as_deref(), *memo, *steps, *all, *rows);
+                let (all, rows, no_tree) = (*all, *rows, *no_tree);
+                let command = parse_command(start.as_deref(), *memo, *steps, all, rows, no_tree);
                 Request::OnFiles { g, t, command }
             }
         }
@@ -81,9 +83,16 @@ fn parse_command(
     steps: Option<u64>,
     all: bool,
     rows: bool,
+    no_tree: bool,
 ) -> Command<'_>
-    ensures { task_of result ≡ ParseTask (option_map (λ name. name.now) start.entry) memo steps all (form_from_rows rows) }
+    ensures { task_of result ≡ ParseTask (option_map (λ name. name.now) start.entry) memo steps all
+        (form_from_options rows no_tree) }
 {
     let options = ParseOptions { start, memo, steps };
-    Command::Parse { options, all, rows }
+    Command::Parse {
+        options,
+        all,
+        rows,
+        no_tree,
+    }
 }

@@ -124,8 +124,13 @@ fn line_of<G: Source, T: Source>(
         Command::Check => Ok(check_file(alloc, &file)?),
         Command::Code => Ok(code_file(alloc, &file)?),
         Command::Lint { start, selection } => { Ok(lint_file(alloc, &file, *start, *selection)?) }
-        Command::Parse { options, all, rows } => {
-            let form = TreeForm::from_rows(*rows);
+        Command::Parse {
+            options,
+            all,
+            rows,
+            no_tree,
+        } => {
+            let form = TreeForm::from_options(*rows, *no_tree);
             parse_reply(alloc, &file, text, options, *all, form)
         }
     }

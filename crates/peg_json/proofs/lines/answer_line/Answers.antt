@@ -5,12 +5,6 @@ use Rattle.peg_json.specs.Parses.{PrintsOutcome}
 use Rattle.peg_json.specs.Statuses.{status_code}
 use Rattle.peg_json.proofs.lines.answer_line.Goals as goal
 
-pub returns-in-Nested : goal.returns-in-Nested
-returns-in-Nested c file =
-    subst (λ form. IfOk c.nested_line.result (λ line. IsLineOf file
-    (PrintsOutcome (parser_rules c.args.parser.now) c.args.answer.outcome c.args.text_len c.args.all form)
-    (line_bytes line) (status_code line.status))) (sym c.in-Nested.is) (c.nested_line.ensures file)
-
 pub returns-in-Rows : goal.returns-in-Rows
 returns-in-Rows c file =
     subst (λ form. IfOk c.rows_line.result (λ line. IsLineOf file

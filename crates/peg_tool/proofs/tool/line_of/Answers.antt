@@ -94,9 +94,9 @@ returns-clause-answer g c =
     let start = start_named c.in-Parse.options in
     let memo = c.in-Parse.options.memo in
     let steps = c.in-Parse.options.steps in
-    let asked = ParseTask start memo steps c.in-Parse.all c.from_rows-form.result in
+    let asked = ParseTask start memo steps c.in-Parse.all c.from_options-form.result in
     let is : asked ≡ task =
-    ap (λ (form : TreeForm). ParseTask start memo steps c.in-Parse.all form) c.from_rows-form.ensures
+    ap (λ (form : TreeForm). ParseTask start memo steps c.in-Parse.all form) c.from_options-form.ensures
     ∙ sym (ap task_of c.in-Parse.is) in
     let right : (bytes : List ℕ) → IsTextOf task held.items text bytes
     → IfOk c.parse_reply.result (λ line. IsPrinted task held.items bytes (line_bytes line) (status_code line.status)) =
