@@ -62,6 +62,16 @@ def colliding(size):
     return "".join(f"{front}{number:08}<-\n" for number in range(size // 35)).encode()
 
 
+def different(size):
+    """A choice of literals that all differ."""
+    made, length, number = ["A<-'x'"], 6, 0
+    while length + 10 < size:
+        made.append(f"/'{number:x}'")
+        length += len(made[-1])
+        number += 1
+    return "".join(made).encode() + b"\n"
+
+
 KINDS = {
     "rules that each call the next": lambda n: rules(n, 1, "."),
     "rules that each call the one before": lambda n: rules(n, -1, "."),
@@ -76,6 +86,8 @@ KINDS = {
     "a name of half the file": lambda n: b"A" * (n // 2 - 2) + b"<-" + b"A" * (n // 2 - 2),
     "empty alternatives": lambda n: repeated("A<-", "/", "\n", n),
     "alternatives of a dot": lambda n: repeated("A<-.", "/.", "\n", n),
+    "alternatives that are all the same": lambda n: repeated("A<-'b'", "/'a'", "\n", n),
+    "alternatives of different literals": different,
     "a sequence of dots": lambda n: repeated("A<-", ".", "\n", n),
     "a sequence of fewer dots": lambda n: repeated("A<-", ".", "\n", n * 95 // 100),
     "a sequence of names": lambda n: repeated("A<-.", " A", "\n", n),

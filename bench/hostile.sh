@@ -31,6 +31,7 @@ def commands(grammar):
     yield "check", ["check", grammar]
     yield "table", ["table", grammar]
     yield "code", ["code", grammar]
+    yield "lint", ["lint", grammar]
     for text in TEXTS:
         yield f"parse, {text} text", ["parse", grammar, f"{FOLDER}/{text}", "--rows"]
 
@@ -74,7 +75,7 @@ def row(kind, whole):
     print("| " + " | ".join(cells) + " |", flush=True)
 
 
-HEADS = ["Grammar file", "Result", "`check`", "`table`", "`code`", "`parse`, empty", "`parse`, 1 MB", "`check`, MiB", "most, MiB"]
+HEADS = ["Grammar file", "Result", "`check`", "`table`", "`code`", "`lint`", "`parse`, empty", "`parse`, 1 MB", "`check`, MiB", "most, MiB"]
 print("| " + " | ".join(HEADS) + " |")
 print("|---" * len(HEADS) + "|")
 for kind, make in KINDS.items():
