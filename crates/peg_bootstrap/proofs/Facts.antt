@@ -23,7 +23,7 @@ use Rattle.peg_lexer.specs.Tokens.{rule_of_kind}
 use Rattle.peg_bootstrap.specs.FigureNodes.{IsNode, last_start, sign_form, HasBadCount}
 use Rattle.peg_bootstrap.specs.declared.fault.DefinitionsFault.{DefinitionsFault}
 use Rattle.peg_bootstrap.specs.AstBuilderCode.{Builds}
-use Rattle.peg_bootstrap.proofs.Loops.{nesting-first, counts-first, counts-behind, bad-more}
+use Rattle.peg_bootstrap.proofs.Loops.{nesting-first, counts-first, counts-following, bad-more}
 use Rattle.peg_bootstrap.proofs.NodeSpells.{Opened, opened, node-passes, node-nesting, node-counts, prefix-with_operator, suffix-with_operator}
 use Rattle.peg_bootstrap.proofs.Shapes.{Ends, Then_is, PrefixChildren, prefix_children, SuffixRest, suffix_children}
 use Rattle.peg_lexer.proofs.KindRules.{number_of}
@@ -43,9 +43,9 @@ if_err (Ok v) f h = h
 if_err (Err e) f h = f e h
 
 -- a property of an error is a property of the same error when it is returned
-pub err_told : {V E : Type 0} (P : E → Type 0) (r : Result V E) (e : E) → IsErrAnd r (λ told. told ≡ e) → P e → IfErr r P
-err_told P (Ok v) e is h = tt
-err_told P (Err told) e is h = subst P (sym is) h
+pub err_stated : {V E : Type 0} (P : E → Type 0) (r : Result V E) (e : E) → IsErrAnd r (λ stated. stated ≡ e) → P e → IfErr r P
+err_stated P (Ok v) e is h = tt
+err_stated P (Err stated) e is h = subst P (sym is) h
 
 -- trees that begin with a match
 pub then_some : (file name : List ℕ) (number : ℕ) (next : ℕ → Trees → Type 0) (position : ℕ) (trees : Trees)
@@ -224,7 +224,7 @@ module _ (file : List ℕ) (node : Branch) (m : IsNode file (codes "Prefix") nod
         pub prefix_counts : bad_counts file (tree_of_branch node) ≡ bad_counts file (tree_of_branch second)
         prefix_counts =
             node-counts file prefix_rule node.rule node.span.start node.span.end (trees_in node.children) prefix_opened.is refl
-            ∙ (ap (bad_counts file) whole ∙ counts-behind file first.rule first.span.start first.span.end (trees_in first.children)
+            ∙ (ap (bad_counts file) whole ∙ counts-following file first.rule first.span.start first.span.end (trees_in first.children)
             (tree_of_branch second) with_operator.plain.fine)
 
         pub prefix_order : (last : ℕ) → second.span.start ≤ last → node.span.start ≤ last

@@ -65,10 +65,10 @@ node_matched {end = end} {trees} known m = node_of known (derives m) end trees r
 -- ---- sequences
 
 -- trees in front of a match are part of a match that ends at the same position
-behind_matched : (one : Trees) (more : Recognition) (end : ℕ) (trees : Trees) → prepend_trees one more ≡ Matched end trees
+following_matched : (one : Trees) (more : Recognition) (end : ℕ) (trees : Trees) → prepend_trees one more ≡ Matched end trees
     → (rest : Trees) × (more ≡ Matched end rest) × (trees ≡ followed_by one rest)
-behind_matched one Failed end trees is = cc
-behind_matched one (Matched last rest) end trees is =
+following_matched one Failed end trees is = cc
+following_matched one (Matched last rest) end trees is =
     let ends : last ≡ end = cc in
     let out : trees ≡ followed_by one rest = cc in
     (rest, ap (λ n. Matched n rest) ends, out)
@@ -87,7 +87,7 @@ pub first_of : {file : List ℕ} {item : Form} {rest : Forms} {position : ℕ} {
     → First file item rest position end trees
 first_of (DerivesItems.items_failed d) end trees is = cc
 first_of {file} {item} {rest} {position} (DerivesItems.items_then {middle = middle} {trees = one} {more = more} d others same) end trees is =
-    let last = behind_matched one more end trees (sym same ∙ is) in
+    let last = following_matched one more end trees (sym same ∙ is) in
     record {
       middle = middle;
       one = one;

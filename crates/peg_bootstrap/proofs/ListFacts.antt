@@ -29,13 +29,13 @@ pub same_walk : {file : List ℕ} {rest_is : ℕ → Trees → Type 0} {before s
 same_walk {file} {before = before} {left = left} {nodes} {f = f} {g} {l = l} {k} {rest} e is it some = record {
   position = it.position;
   shape = it.shape;
-  behind = it.behind;
+  following = it.following;
   so_far = subst (λ n. SoFar file before left nodes g n rest) (sym is) (subst (λ h. SoFar file before left nodes h l rest) (sym e) it.so_far);
   order = omega (arith, it.order, is);
   some = some;
 }
 
-module _ (file : List ℕ) (node : Branch) (before left : ℕ) (behind : before ≤ node.span.start) where
+module _ (file : List ℕ) (node : Branch) (before left : ℕ) (following : before ≤ node.span.start) where
   -- ---- Sequence
 
   module _ (m : IsNode file (codes "Sequence") node) where
@@ -49,7 +49,7 @@ module _ (file : List ℕ) (node : Branch) (before left : ℕ) (behind : before 
     items_none = record {
       position = node.span.start;
       shape = sequence_children sequence_opened.inside;
-      behind = omega arith;
+      following = omega arith;
       so_far = so_far-none file before left (trees_in node.children);
       order = omega arith;
       some = λ none. absurd (let bad : ⊥ = omega (arith, none) in bad);
@@ -71,11 +71,11 @@ module _ (file : List ℕ) (node : Branch) (before left : ℕ) (behind : before 
       items_one f next count' says within fine order = record {
         position = item.span.end;
         shape = item_here.3;
-        behind = omega (arith, item_here.1, walk.behind, item.span.ordered);
+        following = omega (arith, item_here.1, walk.following, item.span.ordered);
         so_far = so_far-one item.rule item.span.start item.span.end (trees_in item.children) (trees_in item.rest) f next item_walk
             says.pieces says.ends within fine;
-        order = omega (arith, order, item_here.1, walk.behind);
-        some = λ some. omega (arith, order, item_here.1, walk.behind);
+        order = omega (arith, order, item_here.1, walk.following);
+        some = λ some. omega (arith, order, item_here.1, walk.following);
       }
 
       pub item_deep : left < nesting (tree_of_branch item) → left < nesting (tree_of_branch node)
@@ -129,15 +129,15 @@ module _ (file : List ℕ) (node : Branch) (before left : ℕ) (behind : before 
       pub first_sequence : IsNode file (codes "Sequence") first
       first_sequence = first_here.2
 
-      pub first_behind : before ≤ first.span.start
-      first_behind = omega (arith, first_here.1, behind)
+      pub first_following : before ≤ first.span.start
+      first_following = omega (arith, first_here.1, following)
 
       pub choices_one : (f : Form) (last : ℕ) → Builds file before (tree_of_branch first) f last → nesting (tree_of_branch first) ≤ left
           → bad_counts file (tree_of_branch first) ≡ [] → before ≤ last → Choices (f ∷ []) 0 last (trees_in first.rest)
       choices_one f last says within fine order = record {
         position = first.span.end;
         shape = first_here.3;
-        behind = omega (arith, first_here.1, first.span.ordered);
+        following = omega (arith, first_here.1, first.span.ordered);
         so_far = so_far-one first.rule first.span.start first.span.end (trees_in first.children) (trees_in first.rest) f last
             (subst (SoFar file before left (trees_in node.children) [] before) is (so_far-none file before left (trees_in node.children)))
             says.pieces says.ends within fine;
@@ -174,8 +174,8 @@ module _ (file : List ℕ) (node : Branch) (before left : ℕ) (behind : before 
         slash_end : ℕ
         slash_end = last_start slash.span.start (trees_in slash.children)
 
-        pub next_behind : last_start slash.span.start (trees_in slash.children) ≤ next.span.start
-        next_behind = let order = slash_token.order in omega (arith, order, slash_token.last, pair_here.4)
+        pub next_following : last_start slash.span.start (trees_in slash.children) ≤ next.span.start
+        next_following = let order = slash_token.order in omega (arith, order, slash_token.last, pair_here.4)
 
         slash_walk : SoFar file before left (trees_in node.children) list (last_start slash.span.start (trees_in slash.children)) (trees_from_branch next)
         slash_walk =
@@ -192,11 +192,11 @@ module _ (file : List ℕ) (node : Branch) (before left : ℕ) (behind : before 
         choices_more f stop count' says within fine order = record {
           position = next.span.end;
           shape = pair_here.6;
-          behind = omega (arith, pair_here.1, pair_here.4, walk.behind, slash.span.ordered, next.span.ordered);
+          following = omega (arith, pair_here.1, pair_here.4, walk.following, slash.span.ordered, next.span.ordered);
           so_far = so_far-one next.rule next.span.start next.span.end (trees_in next.children) (trees_in next.rest) f stop slash_walk
               says.pieces says.ends within fine;
-          order = omega (arith, order, slash_token.last, pair_here.1, walk.behind);
-          some = λ some. omega (arith, order, slash_token.last, pair_here.1, walk.behind);
+          order = omega (arith, order, slash_token.last, pair_here.1, walk.following);
+          some = λ some. omega (arith, order, slash_token.last, pair_here.1, walk.following);
         }
 
         pub next_deep : left < nesting (tree_of_branch next) → left < nesting (tree_of_branch node)

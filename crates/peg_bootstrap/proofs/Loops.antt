@@ -27,9 +27,9 @@ counts-first file r s e c rest =
     ∙ ap (λ (l : List ℕ). own ++ (l ++ bad_counts file rest)) (append-nil (bad_counts file c)))
 
 -- after a tree without a count out of range
-pub counts-behind : (file : List ℕ) (r s e : ℕ) (c rest : Trees) → bad_counts file (Tree r s e c NoTrees) ≡ []
+pub counts-following : (file : List ℕ) (r s e : ℕ) (c rest : Trees) → bad_counts file (Tree r s e c NoTrees) ≡ []
     → bad_counts file (Tree r s e c rest) ≡ bad_counts file rest
-counts-behind file r s e c rest fine =
+counts-following file r s e c rest fine =
     counts-first file r s e c rest ∙ ap (λ (l : List ℕ). l ++ bad_counts file rest) fine
 
 -- the first count out of range of some trees is the first of more trees
@@ -66,7 +66,7 @@ so_far-one {file} {list = list} {last} r s e c rest form next so_far spells ends
       ∙ ap (λ n. Expression form ∷ spelled file n rest) ends))
       ∙ sym (append_assoc list (form ∷ []) (expressions_in (spelled file next rest))));
   ends = so_far.ends ∙ ap (λ n. text_end n rest) ends;
-  counts = so_far.counts ∙ counts-behind file r s e c rest fine;
+  counts = so_far.counts ∙ counts-following file r s e c rest fine;
   less = omega (arith, so_far.less, nesting-first r s e c rest);
   limit = omega (arith, so_far.limit, nesting-first r s e c rest, within);
 }
@@ -81,7 +81,7 @@ so_far-pass {file} {list = list} {last} r s e c rest next so_far spells ends fla
       ∙ (ap (λ l. l ++ spelled file (text_end last (Tree r s e c NoTrees)) rest) spells
       ∙ ap (λ n. spelled file n rest) ends));
   ends = so_far.ends ∙ ap (λ n. text_end n rest) ends;
-  counts = so_far.counts ∙ counts-behind file r s e c rest fine;
+  counts = so_far.counts ∙ counts-following file r s e c rest fine;
   less = omega (arith, so_far.less, nesting-first r s e c rest);
   limit = omega (arith, so_far.limit, nesting-first r s e c rest, flat);
 }
@@ -121,7 +121,7 @@ rules_so_far-one {file} {list = list} r s e c rest rule so_far spells within fin
       spells = so_far.spells ∙ (ap (λ l. list ++ rules_denoted l) (spelled-first file so_far.last r s e c rest
           ∙ ap (λ l. l ++ spelled file next rest) (spells so_far.last))
           ∙ sym (append_assoc list (rule ∷ []) (rules_denoted (spelled file next rest))));
-      counts = so_far.counts ∙ counts-behind file r s e c rest fine;
+      counts = so_far.counts ∙ counts-following file r s e c rest fine;
       less = omega (arith, so_far.less, nesting-first r s e c rest);
       limit = omega (arith, so_far.limit, nesting-first r s e c rest, within);
     }

@@ -18,7 +18,7 @@ use Rattle.peg_lexer.specs.Tokens.{rule_of_kind}
 use Rattle.peg_bootstrap.specs.FigureNodes.{IsNode, last_start}
 use Rattle.peg_bootstrap.specs.AstBuilderCode.{Builds}
 use Rattle.peg_bootstrap.proofs.Facts.{then_some, one_child}
-use Rattle.peg_bootstrap.proofs.Loops.{nesting-first, counts-first, counts-behind}
+use Rattle.peg_bootstrap.proofs.Loops.{nesting-first, counts-first, counts-following}
 use Rattle.peg_bootstrap.proofs.NodeSpells.{Opened, opened, node-passes, node-counts, primary-nesting, primary-name, primary-parentheses}
 use Rattle.peg_bootstrap.proofs.Shapes.{Ends, Then_is, PrimaryChildren, primary_children}
 use Rattle.peg_lexer.proofs.KindRules.{number_of}
@@ -186,8 +186,8 @@ module _ (file : List ℕ) (node : Branch) (m : IsNode file (codes "Primary") no
         pub inside_expression : IsNode file (codes "Expression") inside
         inside_expression = inside_here.2
 
-        pub inside_behind : last_start opening.span.start (trees_in opening.children) ≤ inside.span.start
-        inside_behind = let order = open_token.order in omega (arith, order, open_token.last, inside_here.1)
+        pub inside_following : last_start opening.span.start (trees_in opening.children) ≤ inside.span.start
+        inside_following = let order = open_token.order in omega (arith, order, open_token.last, inside_here.1)
 
         pub closing_some : trees_in inside.rest ≢ NoTrees
         closing_some = then_some _ _ _ _ _ _ inside_here.3
@@ -235,7 +235,7 @@ module _ (file : List ℕ) (node : Branch) (m : IsNode file (codes "Primary") no
           inside_counts =
               node-counts file primary_rule node.rule node.span.start node.span.end (trees_in node.children) primary_opened.is refl
               ∙ (ap (bad_counts file) all_is
-              ∙ (counts-behind file opening.rule opening.span.start opening.span.end (trees_in opening.children)
+              ∙ (counts-following file opening.rule opening.span.start opening.span.end (trees_in opening.children)
               (Tree inside.rule inside.span.start inside.span.end (trees_in inside.children) (tree_of_branch closing)) open_token.counts
               ∙ (counts-first file inside.rule inside.span.start inside.span.end (trees_in inside.children) (tree_of_branch closing)
               ∙ (ap (λ (l : List ℕ). bad_counts file (tree_of_branch inside) ++ l) closing_token.counts

@@ -22,7 +22,7 @@ use Rattle.peg_bootstrap.specs.FigureTrees.{IsTreeOf}
 use Rattle.peg_bootstrap.specs.AstBuilderCode.{Builds}
 use Rattle.peg_bootstrap.proofs.Facts.{then_some}
 use Rattle.peg_bootstrap.proofs.Inversions.{Node, node_matched, derives, not_of}
-use Rattle.peg_bootstrap.proofs.Loops.{RulesSoFar, rules_so_far-one, spelled-first, nesting-first, counts-first, counts-behind, bad-more}
+use Rattle.peg_bootstrap.proofs.Loops.{RulesSoFar, rules_so_far-one, spelled-first, nesting-first, counts-first, counts-following, bad-more}
 use Rattle.peg_bootstrap.proofs.NodeSpells.{Opened, opened, node-nesting, node-counts, definition-says}
 use Rattle.peg_bootstrap.proofs.Shapes.{Ends, Then_is, definition_children, Definitions, grammar_children}
 use Rattle.peg_bootstrap.proofs.TokenNodes.{Token, token}
@@ -76,8 +76,8 @@ module _ (file : List ℕ) (node : Branch) (m : IsNode file (codes "Definition")
         pub body_expression : IsNode file (codes "Expression") body
         body_expression = body_here.2
 
-        pub body_behind : last_start arrow.span.start (trees_in arrow.children) ≤ body.span.start
-        body_behind = let order = arrow_token.order in omega (arith, order, arrow_token.last, body_here.1)
+        pub body_following : last_start arrow.span.start (trees_in arrow.children) ≤ body.span.start
+        body_following = let order = arrow_token.order in omega (arith, order, arrow_token.last, body_here.1)
 
         all_is : trees_in node.children ≡ Tree name.rule name.span.start name.span.end (trees_in name.children)
             (Tree arrow.rule arrow.span.start arrow.span.end (trees_in arrow.children) (tree_of_branch body))
@@ -113,9 +113,9 @@ module _ (file : List ℕ) (node : Branch) (m : IsNode file (codes "Definition")
         rule_counts =
             node-counts file definition_rule node.rule node.span.start node.span.end (trees_in node.children) definition_opened.is refl
             ∙ (ap (bad_counts file) all_is
-            ∙ (counts-behind file name.rule name.span.start name.span.end (trees_in name.children)
+            ∙ (counts-following file name.rule name.span.start name.span.end (trees_in name.children)
             (Tree arrow.rule arrow.span.start arrow.span.end (trees_in arrow.children) (tree_of_branch body)) name_token.counts
-            ∙ counts-behind file arrow.rule arrow.span.start arrow.span.end (trees_in arrow.children) (tree_of_branch body) arrow_token.counts))
+            ∙ counts-following file arrow.rule arrow.span.start arrow.span.end (trees_in arrow.children) (tree_of_branch body) arrow_token.counts))
 
 -- ---- Grammar
 
@@ -187,7 +187,7 @@ module _ (file : List ℕ) (tree : Trees) (m : IsTreeOf file tree) (root : Branc
                   ∙ ap rules_denoted (spelled-first file 0 gap.rule gap.span.start gap.span.end (trees_in gap.children) (trees_from_branch node)
                   ∙ ap (λ l. l ++ spelled file (text_end 0 (tree_of_branch gap)) (trees_from_branch node)) (ap (spelled file 0) gap_same ∙ it.spells 0)));
               counts = ap (bad_counts file) whole_is ∙ (append-nil (bad_counts file children)
-                  ∙ counts-behind file gap.rule gap.span.start gap.span.end (trees_in gap.children) (trees_from_branch node)
+                  ∙ counts-following file gap.rule gap.span.start gap.span.end (trees_in gap.children) (trees_from_branch node)
                   (ap (bad_counts file) gap_same ∙ it.fine));
               less = omega (arith, count);
               limit = omega (arith, count);

@@ -32,8 +32,8 @@ Then_is file name number next position (Tree rule start end children rest) =
 pub node_then : {file name : List ℕ} {number : ℕ} {body : Form} {position middle : ℕ} {one : Trees} (next : ℕ → Trees → Type 0)
     (more : Trees) → Node file name number body position middle one → next middle more
     → Then_is file name number next position (followed_by one more)
-node_then {file} {name} {number} {position = position} {middle} next more node behind =
-    subst (λ t. Then_is file name number next position (followed_by t more)) (sym node.is) (refl, refl, node.match, behind)
+node_then {file} {name} {number} {position = position} {middle} next more node following =
+    subst (λ t. Then_is file name number next position (followed_by t more)) (sym node.is) (refl, refl, node.match, following)
 
 -- items whose first is a name
 pub name_then : {file name : List ℕ} {span : Extent} {number terminal : ℕ} {body : Form} {rest : Forms} {position : ℕ} {x : Recognition}
@@ -41,10 +41,10 @@ pub name_then : {file name : List ℕ} {span : Extent} {number terminal : ℕ} {
     → DerivesItems figure file (Then (Name name span) rest) position x → (end : ℕ) (trees : Trees) → x ≡ Matched end trees
     → ((middle : ℕ) (more : Trees) → DerivesItems figure file rest middle (Matched end more) → next middle more)
     → Then_is file name number next position trees
-name_then {file} {name} {number = number} {position = position} known next items end trees is behind =
+name_then {file} {name} {number = number} {position = position} known next items end trees is following =
     let first = first_of items end trees is in
     subst (Then_is file name number next position) (sym first.is)
-    (node_then next first.more (node_of known first.item first.middle first.one refl) (behind first.middle first.more first.rest))
+    (node_then next first.more (node_of known first.item first.middle first.one refl) (following first.middle first.more first.rest))
 
 -- a name alone
 pub name_alone : {file name : List ℕ} {span : Extent} {number terminal : ℕ} {body : Form} {position : ℕ} {x : Recognition}
@@ -86,9 +86,9 @@ prefixes {file} {position = position} (Derives.star_more {middle = middle} {end 
     let ends : last ≡ end = cc in
     let same : trees ≡ all = cc in
     let node = node_of prefix-meaning_of.1 d middle one refl in
-    let behind = subst (λ n. Prefixes file n middle more) ends (prefixes rest last more refl) in
+    let following = subst (λ n. Prefixes file n middle more) ends (prefixes rest last more refl) in
     subst (Prefixes file end position) (sym (same ∙ (t ∙ ap (λ (y : Trees). followed_by y more) node.is)))
-    (refl, refl, node.match, behind)
+    (refl, refl, node.match, following)
 
 pub sequence_children : {file : List ℕ} {position end : ℕ} {trees : Trees} → Derives figure file sequence_body position (Matched end trees)
     → Prefixes file end position trees
@@ -117,13 +117,13 @@ no_alternatives file position end trees is =
 one_alternative : (file : List ℕ) (end position : ℕ) (rest : Trees) (trees : Trees) (middle : ℕ)
     → Then_is file (codes "SLASH") slash_rule (Then_is file (codes "Sequence") sequence_rule (Ends middle)) position trees
     → Alternatives file end middle rest → Alternatives file end position (followed_by trees rest)
-one_alternative file end position rest NoTrees middle is behind = absurd is
-one_alternative file end position rest (Tree slash start mid children NoTrees) middle is behind = absurd is.3
-one_alternative file end position rest (Tree slash start mid children (Tree number second last below none)) middle is behind =
+one_alternative file end position rest NoTrees middle is following = absurd is
+one_alternative file end position rest (Tree slash start mid children NoTrees) middle is following = absurd is.3
+one_alternative file end position rest (Tree slash start mid children (Tree number second last below none)) middle is following =
     let two = is.3 in
     let out = two.3 in
     subst (λ t. Alternatives file end position (Tree slash start mid children (Tree number second last below (followed_by t rest)))) (sym out.1)
-    (is.0, is.1, is.2, two.0, two.1, two.2, subst (λ n. Alternatives file end n rest) (sym out.0) behind)
+    (is.0, is.1, is.2, two.0, two.1, two.2, subst (λ n. Alternatives file end n rest) (sym out.0) following)
 
 alternatives : {file : List ℕ} {slash sequence both outer : Extent} {position : ℕ} {x : Recognition}
     → Derives figure file (Star (Seq (Then (Name (codes "SLASH") slash) (Then (Name (codes "Sequence") sequence) End)) both) outer) position x
@@ -273,16 +273,16 @@ Definitions file end position (Tree number start middle children rest) =
 definitions : {file : List ℕ} {inner outer : Extent} {position : ℕ} {x : Recognition}
     → Derives figure file (Star (Name (codes "Definition") inner) outer) position x → (middle : ℕ) (trees : Trees) → x ≡ Matched middle trees
     → (end : ℕ) (last : Trees) → Definitions file end middle last → Definitions file end position (followed_by trees last)
-definitions {file} {position = position} (Derives.star_none d) middle trees is end last behind =
+definitions {file} {position = position} (Derives.star_none d) middle trees is end last following =
     let ends : position ≡ middle = cc in
     let out : trees ≡ NoTrees = cc in
     subst (λ (y : Trees). Definitions file end position (followed_by y last)) (sym out)
-    (subst (λ n. Definitions file end n last) (sym ends) behind)
-definitions {file} {position = position} (Derives.star_more {middle = mid} {end = stop} {first = one} {more = more} {trees = all} d rest t) middle trees is end last behind =
+    (subst (λ n. Definitions file end n last) (sym ends) following)
+definitions {file} {position = position} (Derives.star_more {middle = mid} {end = stop} {first = one} {more = more} {trees = all} d rest t) middle trees is end last following =
     let ends : stop ≡ middle = cc in
     let same : trees ≡ all = cc in
     let node = node_of definition-meaning_of.1 d mid one refl in
-    let next = definitions rest stop more refl end last (subst (λ n. Definitions file end n last) (sym ends) behind) in
+    let next = definitions rest stop more refl end last (subst (λ n. Definitions file end n last) (sym ends) following) in
     subst (λ (y : Trees). Definitions file end position (followed_by y last))
     (sym (same ∙ (t ∙ ap (λ (y : Trees). followed_by y more) node.is)))
     (inl (refl, refl, node.match, next))

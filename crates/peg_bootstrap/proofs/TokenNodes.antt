@@ -20,7 +20,7 @@ use Rattle.peg_lexer.specs.Tokens.{rule_of_kind}
 use Rattle.peg_lexer.specs.declared.token.TokenKind.{TokenKind}
 use Rattle.peg_lexer.specs.declared.token.TokenKind.TheVariants.{Ident, Literal, Class, Arrow, Slash, And, Not, Question, Star, Plus, Count, Open, Close, Dot}
 use Rattle.peg_lexer.proofs.Takes.{text_end-seq_matcher}
-use Rattle.peg_lexer.proofs.Texts.{TakesToken, FindsToken, behind_text}
+use Rattle.peg_lexer.proofs.Texts.{TakesToken, FindsToken, following_text}
 use Rattle.peg_lexer.proofs.KindRules.{number_of, takes-kind, nothing_left}
 use Rattle.peg_bootstrap.specs.FigureNodes.{last_start}
 use Rattle.peg_bootstrap.proofs.Inversions.{derives, Node, node_of, node_matched, first_of, items_of, none_of, first_matched, either_of, only_of}
@@ -36,8 +36,8 @@ last_start-followed : (position : ℕ) (a b : Trees) → last_start position (fo
 last_start-followed position NoTrees b = refl
 last_start-followed position (Tree r start end children rest) b = last_start-followed start rest b
 
-spaced_behind : (one more : Trees) → Spaced more → Spaced (followed_by one more)
-spaced_behind one more spaced position before =
+spaced_following : (one more : Trees) → Spaced more → Spaced (followed_by one more)
+spaced_following one more spaced position before =
     last_start-followed position one more ∙ (spaced (last_start position one) (text_end before one) ∙ sym (text_end-seq_matcher before one more))
 
 -- the last of the items is spacing
@@ -59,7 +59,7 @@ spaced_items {file} (Then item End) {position} last end trees d =
 spaced_items {file} (Then item (Then next rest)) last end trees d =
     let first = first_of d end trees refl in
     subst Spaced (sym first.is)
-    (spaced_behind first.one first.more (spaced_items (Then next rest) last end first.more first.rest))
+    (spaced_following first.one first.more (spaced_items (Then next rest) last end first.more first.rest))
 
 spaced_seq : {file : List ℕ} {items : Forms} {span : Extent} {position : ℕ} → EndsSpaced items → (end : ℕ) (trees : Trees)
     → Derives figure file (Seq items span) position (Matched end trees) → Spaced trees
@@ -154,9 +154,9 @@ token file kind number position end children m = by (matcher_of kind (drop posit
     by (Some piece) found =
         let it : FindsToken file (number_of kind) (rule_of_kind kind) (between 0 0) position piece =
         (takes-kind file kind).some (between 0 0) position piece found in
-        let same : Matched end tree ≡ Matched (behind_text file position piece.length) it.trees = one_result (derives m) it.derives in
+        let same : Matched end tree ≡ Matched (following_text file position piece.length) it.trees = one_result (derives m) it.derives in
         let trees : tree ≡ it.trees = cc in
-        let ends : behind_text file position piece.length ≡ end = cc in
+        let ends : following_text file position piece.length ≡ end = cc in
         let text : (before : ℕ) → text_end before tree ≡ position + piece.length = λ before. ap (text_end before) trees ∙ it.ends before in
         let node = spaced file kind number position end children m in
         record {

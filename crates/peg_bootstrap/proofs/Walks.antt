@@ -12,7 +12,7 @@ pub record Spelling (file : List ℕ) (rest_is : ℕ → Trees → Type 0) (befo
     (list : List Form) (count last : ℕ) (rest : Trees) : Type 0 where
   pub position : ℕ
   pub shape : rest_is position rest
-  pub behind : start ≤ position
+  pub following : start ≤ position
   pub so_far : SoFar file before left nodes list last rest
   pub order : before ≤ last
   pub some : 0 < count → start ≤ last

@@ -168,7 +168,7 @@ module _ (words : List ℕ) where
       no_flag i h =
           let bits_unset = λ (k : ℕ) (word : k < 4). no_bit none k i word h in
           let front : (bit 0 i ≡ 0) × (bit 1 i ≡ 0) = (bits_unset 0 (omega arith), bits_unset 1 (omega arith)) in
-          let behind : (bit 2 i ≡ 0) × (bit 3 i ≡ 0) = (bits_unset 2 (omega arith), bits_unset 3 (omega arith)) in
+          let following : (bit 2 i ≡ 0) × (bit 3 i ≡ 0) = (bits_unset 2 (omega arith), bits_unset 3 (omega arith)) in
           omega (arith, bit_at-all_flags i)
 
 -- the bytes below `next` are the bytes up to `high`, once `next` is past `high`

@@ -17,8 +17,8 @@ line_ends-line_feed place (second ∷ rest) = refl
 at_once : (place first second : ℕ) (rest : List ℕ) → first ≡ carriage_return → second ≡ line_feed
     → (place + 2) ∷ line_ends (place + 2) rest ≡ line_ends (place + 1) (second ∷ rest)
 at_once place first second rest cr lf =
-    let behind : place + 2 ≡ (place + 1) + 1 = omega arith in
-    ap (λ p. p ∷ line_ends p rest) behind ∙ sym (line_ends-line_feed (place + 1) rest)
+    let following : place + 2 ≡ (place + 1) + 1 = omega arith in
+    ap (λ p. p ∷ line_ends p rest) following ∙ sym (line_ends-line_feed (place + 1) rest)
     ∙ ap (λ b. line_ends (place + 1) (b ∷ rest)) (sym lf)
 
 -- the tests of two bytes in the order of the definition agree with those in the order of the code
@@ -56,19 +56,19 @@ abbrev pub ends_within : ℕ → ℕ → List ℕ → List ℕ
 ends_within at place bytes = filter (λ end. nat_le end at) (line_ends place bytes)
 
 -- no line end is complete before its first byte
-pub ends_within-behind : (at place : ℕ) (bytes : List ℕ) → at ≤ place → ends_within at place bytes ≡ []
+pub ends_within-following : (at place : ℕ) (bytes : List ℕ) → at ≤ place → ends_within at place bytes ≡ []
 unfolding line_ends
-ends_within-behind at place [] h = refl
-ends_within-behind at place (first ∷ rest) h =
+ends_within-following at place [] h = refl
+ends_within-following at place (first ∷ rest) h =
     ap (filter (λ end. nat_le end at)) (line_ends-first place first rest)
-    ∙ by (ends_line (first ∷ rest)) (ends_within-behind at (place + 1) rest (omega arith))
+    ∙ by (ends_line (first ∷ rest)) (ends_within-following at (place + 1) rest (omega arith))
   where
     by : (b : Bool) → ends_within at (place + 1) rest ≡ [] → filter (λ end. nat_le end at)
         (if b then (place + 1) ∷ line_ends (place + 1) rest else line_ends (place + 1) rest) ≡ []
-    by true behind =
+    by true following =
         ap (λ b. if b then (place + 1) ∷ ends_within at (place + 1) rest else ends_within at (place + 1) rest)
-        (lt-leb (place + 1) at (omega arith)) ∙ behind
-    by false behind = behind
+        (lt-leb (place + 1) at (omega arith)) ∙ following
+    by false following = following
 
 -- One byte further in a file.
 module _ (file : List ℕ) (at next : ℕ) (within : next < length file) (before : next < at) where

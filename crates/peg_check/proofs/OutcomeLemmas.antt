@@ -50,8 +50,8 @@ outcomes-from rules core table exact same terminal (rule ∷ more) (body ∷ bod
     let others : map (form_at core.forms) bodies ≡ core_bodies_from rules (terminal + terminals rule.body) more = cc in
     let low : body < length core.forms = All-head (λ b. b < length core.forms) body bodies fit in
     let can : Can = slice_index_or table body no_outcome in
-    let told : slice_get table body ≡ Some can = slice_get-get_or table body no_outcome (omega (arith, exact.count, low)) in
-    let of_form : IsExact (bodies_of core) (form_at core.forms body) can = exact.exact body can told in
+    let stated : slice_get table body ≡ Some can = slice_get-get_or table body no_outcome (omega (arith, exact.count, low)) in
+    let of_form : IsExact (bodies_of core) (form_at core.forms body) can = exact.exact body can stated in
     let of_body : IsExact (core_bodies rules) (core_form rules terminal rule.body) can =
     subst (λ (form : CoreForm). IsExact (core_bodies rules) form can) here
     (subst (λ (all : List CoreForm). IsExact all (form_at core.forms body) can) same of_form) in (

@@ -83,9 +83,9 @@ beq_itself : (b : Bool) → beq b b ≡ true
 beq_itself true = refl
 beq_itself false = refl
 
-pub told_apart : (a b : code.Can)
+pub stated_apart : (a b : code.Can)
     → false ≡ (beq a.nothing b.nothing && (beq a.something b.something && beq a.fails b.fails)) → a ≡ b → ⊥
-told_apart a b apart same =
+stated_apart a b apart same =
     let all : (beq b.nothing b.nothing && (beq b.something b.something && beq b.fails b.fails)) ≡ true = ap (λ x. x && (beq b.something b.something && beq b.fails b.fails)) (beq_itself b.nothing) ∙ (ap (λ x. x && beq b.fails b.fails) (beq_itself b.something) ∙ beq_itself b.fails) in
     false≢true (apart ∙ (ap (λ (x : code.Can). beq x.nothing b.nothing && (beq x.something b.something && beq x.fails b.fails)) same ∙ all))
 

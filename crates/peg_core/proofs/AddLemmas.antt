@@ -95,9 +95,9 @@ module _ (rules : List grammar.Rule) where
     length-core_parts (Counted part min max span) terminal ranged =
         let count : Count = record { min = min; max = max; span = span } in
         let few = in_range-max count (and_left (is_in_range count) (are_in_range (counts_written part)) ranged) in
-        let behind = and_right (is_in_range count) (are_in_range (counts_written part)) ranged in
+        let following = and_right (is_in_range count) (are_in_range (counts_written part)) ranged in
         let form = core_form rules terminal part in
-        omega (arith, length-core_parts part terminal behind, length-count_forms form min max few, length-append (core_parts rules terminal part) (count_forms form min max))
+        omega (arith, length-core_parts part terminal following, length-count_forms form min max few, length-append (core_parts rules terminal part) (count_forms form min max))
     length-core_parts (And part span) terminal ranged =
         omega (arith, length-core_parts part terminal ranged, length-append (core_parts rules terminal part) (and_forms (core_form rules terminal part)))
     length-core_parts (written.Not part span) terminal ranged =

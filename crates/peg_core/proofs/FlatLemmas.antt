@@ -103,12 +103,12 @@ node-there (p ∷ ps) zero within = (p, refl)
 node-there (p ∷ ps) (suc k) within = node-there ps k (omega (arith, within))
 
 -- a node with a number, by a property of it
-pub part-at : {A : Type 0} (told : Entry → A) (parts : List Entry) (number : ℕ) (a : A)
-    → number < length parts → option_map told (slice_get parts number) ≡ Some a
-    → (part : Entry) × ((part ≡ get_or parts number part) × (told part ≡ a))
-part-at told [] number a within is = absurd (omega (arith, within))
-part-at told (p ∷ ps) zero a within is = let same : told p ≡ a = cc in (p, (refl, same))
-part-at told (p ∷ ps) (suc k) a within is = part-at told ps k a (omega (arith, within)) is
+pub part-at : {A : Type 0} (stated : Entry → A) (parts : List Entry) (number : ℕ) (a : A)
+    → number < length parts → option_map stated (slice_get parts number) ≡ Some a
+    → (part : Entry) × ((part ≡ get_or parts number part) × (stated part ≡ a))
+part-at stated [] number a within is = absurd (omega (arith, within))
+part-at stated (p ∷ ps) zero a within is = let same : stated p ≡ a = cc in (p, (refl, same))
+part-at stated (p ∷ ps) (suc k) a within is = part-at stated ps k a (omega (arith, within)) is
 
 -- so each form is the form of a node that fits at its number
 pub forms_of-nodes : (parts : List Entry) (rules terminals : ℕ) → AllFit rules terminals parts

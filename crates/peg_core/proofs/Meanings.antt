@@ -31,8 +31,8 @@ meaning_from-stands rules rule terminal (r ∷ rs) name m is =
           ap (λ (m : Meaning). Some (core_form rules m.terminal m.body)) same,
         )
     by false later found =
-        let behind = later found in
-        (suc behind.0, omega (arith, behind.1), behind.2)
+        let following = later found in
+        (suc following.0, omega (arith, following.1), following.2)
 
 length-core_bodies_from : (rules : List Rule) (terminal : ℕ) (some : List Rule)
     → length (core_bodies_from rules terminal some) ≡ length some

@@ -156,12 +156,12 @@ then_at-nothing None = refl
 then_at-nothing (Some p) = prepend_trees-matched_at p p.result refl
 
 -- nothing and then a part is the part
-behind-none : (x : Recognition) → prepend_trees NoTrees x ≡ x
-behind-none Failed = refl
-behind-none (Matched end trees) = refl
+following-none : (x : Recognition) → prepend_trees NoTrees x ≡ x
+following-none Failed = refl
+following-none (Matched end trees) = refl
 
 pub after_both-nothing : (end : ℕ) (p : Record) → after_both (matched_at end) p (prepend_trees NoTrees p.result) ≡ p
-after_both-nothing end p = λ i. record { result = behind-none p.result i; tests = p.tests; calls = p.calls }
+after_both-nothing end p = λ i. record { result = following-none p.result i; tests = p.tests; calls = p.calls }
 
 -- ---- a part at most n times is the part and the rest, or else nothing
 

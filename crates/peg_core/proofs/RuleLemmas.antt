@@ -59,8 +59,8 @@ length-core_parts_from rules terminal [] ranged = omega arith
 length-core_parts_from rules terminal (r ∷ rs) ranged =
     let later = terminal + terminals r.body in
     let here = are_in_range-left (counts_written r.body) (counts rs) ranged in
-    let behind = are_in_range-right (counts_written r.body) (counts rs) ranged in
-    omega (arith, length-core_parts rules r.body terminal here, length-core_parts_from rules later rs behind, length-append (core_parts rules terminal r.body) (core_parts_from rules later rs), sum_by-cons (λ (rule : Rule). form_weight rule.body) r rs)
+    let following = are_in_range-right (counts_written r.body) (counts rs) ranged in
+    omega (arith, length-core_parts rules r.body terminal here, length-core_parts_from rules later rs following, length-append (core_parts rules terminal r.body) (core_parts_from rules later rs), sum_by-cons (λ (rule : Rule). form_weight rule.body) r rs)
 
 pub length-all_core_parts : (rules : List Rule) → are_in_range (counts rules) ≡ true
     → length (all_core_parts rules) ≤ max_forms_each * weight_of rules

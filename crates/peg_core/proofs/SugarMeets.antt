@@ -182,8 +182,8 @@ module _ (rules : List grammar.Rule) where
                 also (CanCallFirst Idles e) (ItemsCanCallFirst Idles (Then e rest)) (λ name h. inl h) (met-reached e terminal here)
             | inr there ↦
                 let idle = GivesNothing-from_core rules e terminal there.0 in
-                let behind = met-items rest later there.1 in
-                also (ItemsCanCallFirst Idles rest) (ItemsCanCallFirst Idles (Then e rest)) (λ name h. inr (idle, h)) behind
+                let following = met-items rest later there.1 in
+                also (ItemsCanCallFirst Idles rest) (ItemsCanCallFirst Idles (Then e rest)) (λ name h. inr (idle, h)) following
           ]
 
       met-some : (items : Forms) (terminal : ℕ) → SomeMeet bodies rule (core_forms rules terminal items)
@@ -194,8 +194,8 @@ module _ (rules : List grammar.Rule) where
             | inl here ↦
                 also (CanCallFirst Idles e) (SomeCanCallFirst Idles (Then e rest)) (λ name h. inl h) (met-reached e terminal here)
             | inr there ↦
-                let behind = met-some rest (terminal + terminals e) there in
-                also (SomeCanCallFirst Idles rest) (SomeCanCallFirst Idles (Then e rest)) (λ name h. inr h) behind
+                let following = met-some rest (terminal + terminals e) there in
+                also (SomeCanCallFirst Idles rest) (SomeCanCallFirst Idles (Then e rest)) (λ name h. inr h) following
           ]
 
 -- ---- a rule and its body have the same number

@@ -8,7 +8,7 @@ pub const ARITHMETIC: &[u8] = b"\
     Product      <- Value (MultiplySign Value)*\n\
     Value        <- Number / '(' Spacing Sum ')' Spacing\n\
     Number       <- [0-9]+ Spacing\n\
-    AddSign      <- [-+] Spacing    # a dash stands first in a class, or behind a range\n\
+    AddSign      <- [-+] Spacing    # a dash comes first in a class, or follows a range\n\
     MultiplySign <- [*/] Spacing\n\
     Spacing      <- ' '*\n";
 
@@ -87,7 +87,7 @@ pub const NOTATION: &[u8] = b"\
 
 /// Uniform resource identifiers, after RFC 3986.
 pub const URI: &[u8] = b"\
-    # Uniform resource identifiers, after RFC 3986; what stands in brackets as a host is not looked at closely.\n\
+    # Uniform resource identifiers, after RFC 3986; what is put in brackets as a host is not looked at closely.\n\
     URI        <- Scheme ':' Hierarchy ('?' Query)? ('#' Fragment)? !.\n\
     Scheme     <- [a-zA-Z] [-+a-zA-Z0-9.]*\n\
     Hierarchy  <- '//' Authority ('/' Segment)*\n\

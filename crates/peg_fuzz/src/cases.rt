@@ -9,7 +9,7 @@ use crate::lines::{
     unread_line,
 };
 use crate::texts::{break_bytes, repeat_byte, some_text};
-use crate::tool::{Told, is_small, parse_with, run_on};
+use crate::tool::{RunResult, is_small, parse_with, run_on};
 use peg_grammar::{Grammar, PlainFault, plain_match};
 use peg_parser::{FigureFault, Parser, read_by_figure};
 use peg_tool::Command;
@@ -84,7 +84,7 @@ impl Case {
         wanted: &Line,
         counts: &mut Counts,
     ) -> io::Result<()> {
-        let Told { bytes, status } = run_on(alloc, &self.file, text, command);
+        let RunResult { bytes, status } = run_on(alloc, &self.file, text, command);
         counts.runs = counts.runs.saturating_add(1);
         if bytes.as_slice() == wanted.text.as_bytes() && status == wanted.status {
             return Ok(());

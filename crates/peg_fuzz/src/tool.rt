@@ -14,13 +14,13 @@ const FAULT: u8 = 255;
 
 /// The output of a run of the tool, and its exit status.
 #[derive(Drop)]
-pub(crate) struct Told {
+pub(crate) struct RunResult {
     pub(crate) bytes: Vec<u8>,
     pub(crate) status: u8,
 }
 
 /// Runs the tool on a file and a text.
-pub(crate) fn run_on(alloc: Global, file: &[u8], text: &[u8], command: &Command<'_>) -> Told {
+pub(crate) fn run_on(alloc: Global, file: &[u8], text: &[u8], command: &Command<'_>) -> RunResult {
     let mut bytes = Vec::new(alloc);
     let ended = run_tool(
         alloc,
@@ -33,7 +33,7 @@ pub(crate) fn run_on(alloc: Global, file: &[u8], text: &[u8], command: &Command<
         Ok(status) => status,
         Err(_) => FAULT,
     };
-    Told { bytes, status }
+    RunResult { bytes, status }
 }
 
 /// Returns the command for a parse from the first rule with a memo of this capacity.

@@ -125,13 +125,13 @@ prefixed-prefixed tests more_tests calls more_uses trees more_trees None = refl
 prefixed-prefixed tests more_tests calls more_uses trees more_trees (Some r) =
     λ i. Some (record { result = prepend_trees-followed_by trees more_trees r.result i; tests = sym (append_assoc tests more_tests r.tests) i; calls = sym (append_assoc calls more_uses r.calls) i })
 
-behind-none : (result : Recognition) → prepend_trees NoTrees result ≡ result
-behind-none recognition.Failed = refl
-behind-none (recognition.Matched end trees) = refl
+following-none : (result : Recognition) → prepend_trees NoTrees result ≡ result
+following-none recognition.Failed = refl
+following-none (recognition.Matched end trees) = refl
 
 pub prefixed-none : (tried : Option Record) → prefixed [] [] NoTrees tried ≡ tried
 prefixed-none None = refl
-prefixed-none (Some r) = λ i. Some (record { result = behind-none r.result i; tests = r.tests; calls = r.calls })
+prefixed-none (Some r) = λ i. Some (record { result = following-none r.result i; tests = r.tests; calls = r.calls })
 
 -- a part that matched, followed by the next
 pub then_result-evaluates : (tried : Option Record) (next : ℕ → Option Record) (end : ℕ) (s t u : Evaluation) (match_result : MatchResult) → Evaluates tried s (Ok (EndsAt end)) t → Evaluates (next end) t (Ok match_result) u → (match_result ≡ Fails → ⊥) → Evaluates (then_at tried next) s (Ok match_result) u

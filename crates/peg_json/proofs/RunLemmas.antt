@@ -17,7 +17,7 @@ pushed old new run is =
 -- a byte extends a run that starts at the next byte
 pub joined : (byte : ℕ) (run : text.ByteRun) (runs : List text.ByteRun) → run.first ≡ byte + 1
     → run_between byte run.last ∷ runs ≡ with_byte byte (run ∷ runs)
-joined byte run runs behind = sym (cond-true _ _ _ (eq-eqb run.first (byte + 1) behind))
+joined byte run runs following = sym (cond-true _ _ _ (eq-eqb run.first (byte + 1) following))
 
 -- a byte is a run of its own if no run starts at the next byte
 pub apart : (byte : ℕ) (runs : List text.ByteRun) → IsApart byte runs

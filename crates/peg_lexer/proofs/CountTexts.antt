@@ -62,49 +62,49 @@ abbrev pub brace_at : ℕ → List ℕ → Bool
 brace_at at rest = starts_with nat_eq (drop at rest) (codes "}")
 
 module _ (r : List ℕ) where
-  abbrev pub behind : Option PrefixMatch → Option NumbersView
-  behind x = option_map numbers_found (option_and_then (λ (y : PrefixMatch).
+  abbrev pub following : Option PrefixMatch → Option NumbersView
+  following x = option_map numbers_found (option_and_then (λ (y : PrefixMatch).
       option_map (concat_matches y) (literal_bytes (codes "}") (drop y.length r))) (or_piece x (Some (plain 0))))
 
-  brace_behind : (m : ℕ) (numbers : List ℕ) (t : Bool) → brace_at m r ≡ t → (y : PrefixMatch)
+  brace_following : (m : ℕ) (numbers : List ℕ) (t : Bool) → brace_at m r ≡ t → (y : PrefixMatch)
       → numbers_seen numbers m ≡ numbers_found y → brace_at y.length r ≡ t
-  brace_behind m numbers t brace y same =
+  brace_following m numbers t brace y same =
       ap (λ (seen : NumbersView). brace_at seen.length r) (sym same) ∙ brace
 
-  pub behind-two : (m second : ℕ) → Some (numbers_seen (second ∷ []) m) ≡ option_map numbers_found (second_number r)
+  pub following-two : (m second : ℕ) → Some (numbers_seen (second ∷ []) m) ≡ option_map numbers_found (second_number r)
       → brace_at m r ≡ true → Some (numbers_seen (second ∷ []) (m + 1)) ≡ option_map numbers_found (after_number r)
-  behind-two m second found brace = sym (by (second_number r) found)
+  following-two m second found brace = sym (by (second_number r) found)
     where
       by : (x : Option PrefixMatch) → Some (numbers_seen (second ∷ []) m) ≡ option_map numbers_found x
-          → behind x ≡ Some (numbers_seen (second ∷ []) (m + 1))
+          → following x ≡ Some (numbers_seen (second ∷ []) (m + 1))
       by None found = cc
       by (Some y) found =
           let same : numbers_seen (second ∷ []) m ≡ numbers_found y = cc in
-          rw (brace_behind m (second ∷ []) true brace y same) (closed y m (second ∷ []) same)
+          rw (brace_following m (second ∷ []) true brace y same) (closed y m (second ∷ []) same)
 
-  pub behind-one : None ≡ option_map numbers_found (second_number r) → brace_at 0 r ≡ true
+  pub following-one : None ≡ option_map numbers_found (second_number r) → brace_at 0 r ≡ true
       → Some (numbers_seen [] 1) ≡ option_map numbers_found (after_number r)
-  behind-one none brace = sym (by (second_number r) none)
+  following-one none brace = sym (by (second_number r) none)
     where
-      by : (x : Option PrefixMatch) → None ≡ option_map numbers_found x → behind x ≡ Some (numbers_seen [] 1)
+      by : (x : Option PrefixMatch) → None ≡ option_map numbers_found x → following x ≡ Some (numbers_seen [] 1)
       by None found = rw brace refl
       by (Some y) found = cc
 
-  pub behind-unclosed : (m second : ℕ) → Some (numbers_seen (second ∷ []) m) ≡ option_map numbers_found (second_number r)
+  pub following-unclosed : (m second : ℕ) → Some (numbers_seen (second ∷ []) m) ≡ option_map numbers_found (second_number r)
       → brace_at m r ≡ false → None ≡ option_map numbers_found (after_number r)
-  behind-unclosed m second found brace = sym (by (second_number r) found)
+  following-unclosed m second found brace = sym (by (second_number r) found)
     where
-      by : (x : Option PrefixMatch) → Some (numbers_seen (second ∷ []) m) ≡ option_map numbers_found x → behind x ≡ None
+      by : (x : Option PrefixMatch) → Some (numbers_seen (second ∷ []) m) ≡ option_map numbers_found x → following x ≡ None
       by None found = cc
       by (Some y) found =
           let same : numbers_seen (second ∷ []) m ≡ numbers_found y = cc in
-          rw (brace_behind m (second ∷ []) false brace y same) refl
+          rw (brace_following m (second ∷ []) false brace y same) refl
 
-  pub behind-none : None ≡ option_map numbers_found (second_number r) → brace_at 0 r ≡ false
+  pub following-none : None ≡ option_map numbers_found (second_number r) → brace_at 0 r ≡ false
       → None ≡ option_map numbers_found (after_number r)
-  behind-none none brace = sym (by (second_number r) none)
+  following-none none brace = sym (by (second_number r) none)
     where
-      by : (x : Option PrefixMatch) → None ≡ option_map numbers_found x → behind x ≡ None
+      by : (x : Option PrefixMatch) → None ≡ option_map numbers_found x → following x ≡ None
       by None found = rw brace refl
       by (Some y) found = cc
 
@@ -161,9 +161,9 @@ module _ (rest : List ℕ) where
   abbrev whole : Option PrefixMatch → Option CountView
   whole x = option_map count_found (option_map (concat_matches (plain 1)) x)
 
-  at_behind : (n value : ℕ) (x : PrefixMatch) → numbers_seen (value ∷ []) n ≡ numbers_found x
+  at_following : (n value : ℕ) (x : PrefixMatch) → numbers_seen (value ∷ []) n ≡ numbers_found x
       → drop x.length (drop 1 rest) ≡ drop (1 + n) rest
-  at_behind n value x same =
+  at_following n value x same =
       drop-drop x.length 1 rest ∙ ap (λ (seen : NumbersView). drop (1 + seen.length) rest) (sym same)
 
   pub count-some : (n m value : ℕ) (more : List ℕ) → starts_with nat_eq rest (codes "{") ≡ true
@@ -178,12 +178,12 @@ module _ (rest : List ℕ) where
       joined x y same also =
           let size : 1 + (x.length + y.length) ≡ 1 + n + m =
           omega (arith, ap (λ (s : NumbersView). s.length) same, ap (λ (s : NumbersView). s.length) also) in
-          let told_so : bounds_from value more ≡ saturated_bounds (bounds_spelled (numerals_in (x.spells ++ y.spells))) =
+          let stated_so : bounds_from value more ≡ saturated_bounds (bounds_spelled (numerals_in (x.spells ++ y.spells))) =
           bounds-saturated_number (numerals_in x.spells) (numerals_in y.spells) value more (ap (λ (s : NumbersView). s.numbers) same)
           (ap (λ (s : NumbersView). s.numbers) also)
           ∙ ap (λ (l : List ℕ). saturated_bounds (bounds_spelled l)) (sym (numerals_in-append x.spells y.spells)) in
           ap (λ l. Some (seen_count (saturated_bounds (bounds_spelled (numerals_in (x.spells ++ y.spells)))) l)) size
-          ∙ ap (λ (b : Bounds). Some (seen_count b (1 + n + m))) (sym told_so)
+          ∙ ap (λ (b : Bounds). Some (seen_count b (1 + n + m))) (sym stated_so)
 
       by : (x : Option PrefixMatch) → Some (numbers_seen (value ∷ []) n) ≡ option_map numbers_found x
           → whole (inner x) ≡ Some (seen_count (bounds_from value more) (1 + n + m))
@@ -191,7 +191,7 @@ module _ (rest : List ℕ) where
       by (Some x) found =
           let same : numbers_seen (value ∷ []) n ≡ numbers_found x = cc in
           later x same (after_number (drop x.length (drop 1 rest)))
-          (next ∙ ap (λ r. option_map numbers_found (after_number r)) (sym (at_behind n value x same)))
+          (next ∙ ap (λ r. option_map numbers_found (after_number r)) (sym (at_following n value x same)))
         where
           later : (x : PrefixMatch) → numbers_seen (value ∷ []) n ≡ numbers_found x → (y : Option PrefixMatch)
               → Some (numbers_seen more m) ≡ option_map numbers_found y
@@ -211,7 +211,7 @@ module _ (rest : List ℕ) where
       by (Some x) found =
           let same : numbers_seen (value ∷ []) n ≡ numbers_found x = cc in
           later x (after_number (drop x.length (drop 1 rest)))
-          (next ∙ ap (λ r. option_map numbers_found (after_number r)) (sym (at_behind n value x same)))
+          (next ∙ ap (λ r. option_map numbers_found (after_number r)) (sym (at_following n value x same)))
         where
           later : (x : PrefixMatch) → (y : Option PrefixMatch) → None ≡ option_map numbers_found y
               → whole (option_map (concat_matches x) y) ≡ None

@@ -16,7 +16,7 @@ use Rattle.peg_lexer.specs.declared.token.TokenKind.{TokenKind}
 use Rattle.peg_lexer.specs.declared.token.TokenKind.TheVariants.{Ident, Literal, Class, Arrow, Slash, And, Not, Question, Star, Plus, Count, Open, Close, Dot}
 use Rattle.peg_lexer.proofs.PieceLemmas.{from, from-drop}
 use Rattle.peg_lexer.proofs.SpacingRules.{finds-spacing}
-use Rattle.peg_lexer.proofs.Texts.{FindsToken, behind_text}
+use Rattle.peg_lexer.proofs.Texts.{FindsToken, following_text}
 use Rattle.peg_lexer.proofs.TokenRules as rules
 
 -- ---- records from derivations
@@ -36,12 +36,12 @@ lexeme_at kind p size = record { kind = kind; text = between p (p + size) }
 
 lexeme_found : {file : List ℕ} {number : ℕ} {p : ℕ} {piece : PrefixMatch} (kind : TokenKind)
     → FindsToken file number (rule_of_kind kind) (between 0 0) p piece
-    → IsLexeme file p (behind_text file p piece.length) (lexeme_at kind p piece.length)
+    → IsLexeme file p (following_text file p piece.length) (lexeme_at kind p piece.length)
 lexeme_found {file} {number} {p} {piece} kind it =
     (it.trees, matches it.derives, ap (between p) (sym (it.ends p)))
 
 pub kind_matches : (file : List ℕ) (kind : TokenKind) (p : ℕ) (piece : PrefixMatch) → matcher_of kind (drop p file) ≡ Some piece
-    → IsLexeme file p (behind_text file p piece.length) (lexeme_at kind p piece.length)
+    → IsLexeme file p (following_text file p piece.length) (lexeme_at kind p piece.length)
 kind_matches file Ident p piece found = lexeme_found Ident
     ((rules.takes-identifier file).some (between 0 0) p piece found)
 kind_matches file Literal p piece found = lexeme_found Literal
@@ -197,10 +197,10 @@ pub lex-more : (file : List ℕ) (lexemes : List Lexeme) (at : ℕ) (kind : Toke
     → IsTokenized file (lexemes ++ lexeme_at kind at size ∷ []) (at + size + (spacing (from (at + size) file)).length)
 lex-more file lexemes at kind size begun seen =
     let it = token_found (drop at file) kind size (ap token_view (sym (from-drop at file)) ∙ seen) in
-    let known : IsLexeme file at (behind_text file at it.0.length)
+    let known : IsLexeme file at (following_text file at it.0.length)
     (lexeme_at kind at it.0.length) = kind_matches file kind at it.0 it.1 in
-    let sized : IsLexeme file at (behind_text file at size) (lexeme_at kind at size) = subst
-    (λ n. IsLexeme file at (behind_text file at n) (lexeme_at kind at n)) it.2 known in
+    let sized : IsLexeme file at (following_text file at size) (lexeme_at kind at size) = subst
+    (λ n. IsLexeme file at (following_text file at n) (lexeme_at kind at n)) it.2 known in
     let coded : IsLexeme file at (at + size + (spacing (from (at + size) file)).length) (lexeme_at kind at size) = subst
     (λ rest. IsLexeme file at (at + size + (spacing rest).length) (lexeme_at kind at size))
     (sym (from-drop (at + size) file)) sized in

@@ -65,16 +65,16 @@ kind_at_front [] = None
 kind_at_front (byte ∷ rest) = kind_of byte
 
 -- the first byte of a token determines its kind
-kind_told : (file : List ℕ) (position : ℕ) {end : ℕ} (lexeme : Lexeme) → IsLexeme file position end lexeme
+kind_stated : (file : List ℕ) (position : ℕ) {end : ℕ} (lexeme : Lexeme) → IsLexeme file position end lexeme
     → kind_at_front (drop position file) ≡ Some lexeme.kind
 unfolding kind_at_front
-kind_told file position lexeme it = by (drop position file) refl
+kind_stated file position lexeme it = by (drop position file) refl
   where
     by : (rest : List ℕ) → drop position file ≡ rest → kind_at_front rest ≡ Some lexeme.kind
     by [] is = absurd (has_text file position lexeme it (ap (matcher_of lexeme.kind) is ∙ no_text lexeme.kind))
     by (byte ∷ rest) is =
         elim (kinds_apart lexeme.kind byte rest) [
-          | inl told ↦ told
+          | inl stated ↦ stated
           | inr none ↦ absurd (has_text file position lexeme it (ap (matcher_of lexeme.kind) is ∙ none))
         ]
 
@@ -82,8 +82,8 @@ kind_told file position lexeme it = by (drop position file) refl
 one_lexeme : (file : List ℕ) (position : ℕ) {end other : ℕ} (first second : Lexeme) → IsLexeme file position end first
     → IsLexeme file position other second → (end ≡ other) × (first ≡ second)
 one_lexeme file position {end} {other} first second a b =
-    let told : Some first.kind ≡ Some second.kind = sym (kind_told file position first a)
-    ∙ kind_told file position second b in
+    let stated : Some first.kind ≡ Some second.kind = sym (kind_stated file position first a)
+    ∙ kind_stated file position second b in
     let kinds : first.kind ≡ second.kind = cc in
     let moved : Matches file (rule_of_kind second.kind) position end a.0 = subst
     (λ kind. Matches file (rule_of_kind kind) position end a.0) kinds a.1 in

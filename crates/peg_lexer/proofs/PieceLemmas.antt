@@ -5,13 +5,13 @@ use Rattle.std.proofs.lemmas.List.{drop-drop, take_all}
 use Rattle.peg_lexer.specs.Matchers.{PrefixMatch, Matcher, plain, concat_matches, match_length, seq_matcher, many_after, many}
 
 -- skipping bytes is dropping them
-pub many_behind-drop : (find : Matcher) (bytes : List ℕ) (skipped : ℕ) → many_after find bytes skipped
+pub many_following-drop : (find : Matcher) (bytes : List ℕ) (skipped : ℕ) → many_after find bytes skipped
     ≡ many find (drop skipped bytes)
 unfolding many_after
-many_behind-drop find [] zero = refl
-many_behind-drop find [] (suc skipped) = refl
-many_behind-drop find (byte ∷ bytes) zero = refl
-many_behind-drop find (byte ∷ bytes) (suc skipped) = many_behind-drop find bytes skipped
+many_following-drop find [] zero = refl
+many_following-drop find [] (suc skipped) = refl
+many_following-drop find (byte ∷ bytes) zero = refl
+many_following-drop find (byte ∷ bytes) (suc skipped) = many_following-drop find bytes skipped
 
 -- without a first match there are no matches
 pub many-none : (find : Matcher) (bytes : List ℕ) → find bytes ≡ None → many find bytes ≡ plain 0
@@ -26,7 +26,7 @@ unfolding many_after
 many-some find [] piece found long fits = absurd (omega arith)
 many-some find (byte ∷ bytes) piece found long fits =
     let e : piece.length ≡ suc (piece.length - 1) = omega arith in
-    rw found (ap (concat_matches piece) (many_behind-drop find bytes (piece.length - 1)
+    rw found (ap (concat_matches piece) (many_following-drop find bytes (piece.length - 1)
     ∙ ap (λ n. many find (drop n (byte ∷ bytes))) (sym e)))
 
 -- a match of the given length
@@ -66,10 +66,10 @@ Passed-one find rest at n passed found long fits =
     let positive : 0 < piece.0.length = omega (arith, piece.2) in
     let within : piece.0.length ≤ length (drop at rest) = omega (arith, piece.2) in
     let more = many-some find (drop at rest) piece.0 piece.1 positive within in
-    let behind : drop piece.0.length (drop at rest) ≡ drop (at + n) rest = ap (λ k. drop k (drop at rest)) piece.2
+    let following : drop piece.0.length (drop at rest) ≡ drop (at + n) rest = ap (λ k. drop k (drop at rest)) piece.2
     ∙ drop-drop n at rest in
     let left : (many find (drop at rest)).length ≡ piece.0.length + (many find (drop (at + n) rest)).length =
-    ap (λ (p : PrefixMatch). p.length) more ∙ ap (λ bytes. piece.0.length + (many find bytes).length) behind in
+    ap (λ (p : PrefixMatch). p.length) more ∙ ap (λ bytes. piece.0.length + (many find bytes).length) following in
     record {
       within = omega (arith, length-drop at rest, passed.within);
       same = omega
@@ -99,7 +99,7 @@ pub seq_matcher-goes : (first next : Matcher) (rest : List ℕ) (n m : ℕ) → 
     ≡ match_length (next (from n rest)) → Some (n + m) ≡ match_length (seq_matcher first next rest)
 seq_matcher-goes first next rest n m found more =
     let piece = has_length (first rest) n (sym found) in
-    let behind = has_length (next (from n rest)) m (sym more) in
-    let same : next (drop piece.0.length rest) ≡ Some behind.0 =
-    ap (λ k. next (drop k rest)) piece.2 ∙ (ap next (sym (from-drop n rest)) ∙ behind.1) in
-    rw (piece.1, same) (ap (λ k. Some k) (omega (arith, piece.2, behind.2)))
+    let following = has_length (next (from n rest)) m (sym more) in
+    let same : next (drop piece.0.length rest) ≡ Some following.0 =
+    ap (λ k. next (drop k rest)) piece.2 ∙ (ap next (sym (from-drop n rest)) ∙ following.1) in
+    rw (piece.1, same) (ap (λ k. Some k) (omega (arith, piece.2, following.2)))

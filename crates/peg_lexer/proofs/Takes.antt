@@ -196,8 +196,8 @@ takes-then {file} {e} {rest} {first} {next} a b = record {
 }
   where
     -- what comes next is after the first match
-    behind_it : (p : ℕ) (x : PrefixMatch) → next (drop x.length (drop p file)) ≡ next (drop (p + x.length) file)
-    behind_it p x = ap next (drop-drop x.length p file)
+    following_it : (p : ℕ) (x : PrefixMatch) → next (drop x.length (drop p file)) ≡ next (drop (p + x.length) file)
+    following_it p x = ap next (drop-drop x.length p file)
 
     fails : (p : ℕ) (found : Option PrefixMatch) → first (drop p file) ≡ found
         → option_and_then (λ (x : PrefixMatch). option_map (concat_matches x) (next (drop x.length (drop p file)))) found ≡ None
@@ -208,7 +208,7 @@ takes-then {file} {e} {rest} {first} {next} a b = record {
         later : (more : Option PrefixMatch) → next (drop x.length (drop p file)) ≡ more → option_map (concat_matches x) more ≡ None
             → DerivesItems figure file (Then e rest) p Failed
         later None gone is_none = DerivesItems.items_then ((a.some p x is).derives)
-            (b.none (p + x.length) (sym (behind_it p x) ∙ gone)) refl
+            (b.none (p + x.length) (sym (following_it p x) ∙ gone)) refl
         later (Some y) there is_none = cc
 
     matches : (p : ℕ) (found : Option PrefixMatch) → first (drop p file) ≡ found → (piece : PrefixMatch)
@@ -223,7 +223,7 @@ takes-then {file} {e} {rest} {first} {next} a b = record {
         later (Some y) there is_piece =
             let same : concat_matches x y ≡ piece = cc in
             subst (λ (z : PrefixMatch). FindsAll file (Then e rest) p z) same
-            (finds-concat_matches x y (a.some p x is) (b.some (p + x.length) y (sym (behind_it p x) ∙ there)))
+            (finds-concat_matches x y (a.some p x is) (b.some (p + x.length) y (sym (following_it p x) ∙ there)))
 
 pub takes-seq : {file : List ℕ} {items : Forms} {find : Matcher} (span : Extent) → TakesAll file items find
     → Takes file (Seq items span) find
@@ -346,13 +346,13 @@ rounds {file} {part} {find} span a long zero p left (Some x) is =
 rounds {file} {part} {find} span a long (suc n) p left (Some x) is =
     let bytes = long.some (drop p file) x is in
     let fits = long.fits (drop p file) x is in
-    let behind_it : drop x.length (drop p file) ≡ drop (p + x.length) file = drop-drop x.length p file in
+    let following_it : drop x.length (drop p file) ≡ drop (p + x.length) file = drop-drop x.length p file in
     let fewer : length (drop (p + x.length) file) ≤ n = omega
     (arith, length-drop p file, length-drop (p + x.length) file) in
     let it = a.some p x is in
     let more = rounds span a long n (p + x.length) fewer (find (drop (p + x.length) file)) refl in
     let all : concat_matches x (many find (drop (p + x.length) file)) ≡ many find (drop p file) =
-    ap (λ bytes. concat_matches x (many find bytes)) (sym behind_it) ∙ sym (many-some find (drop p file) x is bytes fits) in
+    ap (λ bytes. concat_matches x (many find bytes)) (sym following_it) ∙ sym (many-some find (drop p file) x is bytes fits) in
     let rest : PrefixMatch = many find (drop (p + x.length) file) in
     subst (λ (z : PrefixMatch). Finds file (Star part span) p z) all (record {
       trees = followed_by it.trees more.trees;

@@ -18,8 +18,8 @@ use Rattle.peg_lexer.proofs.SpacingRules.{FindsSpacing, finds-spacing}
 use Rattle.peg_lexer.proofs.Takes.{Takes, SpellsAs, spelled-seq_matcher, text_end-seq_matcher, nesting-seq_matcher, bad_counts-seq_matcher}
 
 -- the end of the spacing after a text of `size` bytes
-abbrev pub behind_text : List ℕ → (p size : ℕ) → ℕ
-behind_text file p size = p + size + (spacing (drop (p + size) file)).length
+abbrev pub following_text : List ℕ → (p size : ℕ) → ℕ
+following_text file p size = p + size + (spacing (drop (p + size) file)).length
 
 -- trees that denote these parts, with a text that ends at `last`
 pub record Spells (file : List ℕ) (trees : Trees) (pieces : List Denotation) (last : ℕ) : Type 0 where
@@ -31,7 +31,7 @@ pub record Spells (file : List ℕ) (trees : Trees) (pieces : List Denotation) (
 -- items of which the last is Spacing
 pub record FindsItems (file : List ℕ) (items : Forms) (p : ℕ) (piece : PrefixMatch) : Type 0 where
   pub trees : Trees
-  pub derives : DerivesItems figure file items p (Matched (behind_text file p piece.length) trees)
+  pub derives : DerivesItems figure file items p (Matched (following_text file p piece.length) trees)
   pub spelled : Spells file trees piece.spells (p + piece.length)
 
 pub record TakesItems (file : List ℕ) (items : Forms) (find : Matcher) : Type 0 where
@@ -41,7 +41,7 @@ pub record TakesItems (file : List ℕ) (items : Forms) (find : Matcher) : Type 
 -- an expression of such items
 pub record FindsText (file : List ℕ) (e : Form) (p : ℕ) (piece : PrefixMatch) : Type 0 where
   pub trees : Trees
-  pub derives : Derives figure file e p (Matched (behind_text file p piece.length) trees)
+  pub derives : Derives figure file e p (Matched (following_text file p piece.length) trees)
   pub spelled : Spells file trees piece.spells (p + piece.length)
 
 pub record TakesText (file : List ℕ) (e : Form) (find : Matcher) : Type 0 where
@@ -119,8 +119,8 @@ text-then {file} {e} {rest} {first} {next} a b = record {
   some = λ p piece found. matches p (first (drop p file)) refl piece found;
 }
   where
-    behind_it : (p : ℕ) (x : PrefixMatch) → next (drop x.length (drop p file)) ≡ next (drop (p + x.length) file)
-    behind_it p x = ap next (drop-drop x.length p file)
+    following_it : (p : ℕ) (x : PrefixMatch) → next (drop x.length (drop p file)) ≡ next (drop (p + x.length) file)
+    following_it p x = ap next (drop-drop x.length p file)
 
     fails : (p : ℕ) (found : Option PrefixMatch) → first (drop p file) ≡ found
         → option_and_then (λ (x : PrefixMatch). option_map (concat_matches x) (next (drop x.length (drop p file)))) found ≡ None
@@ -131,7 +131,7 @@ text-then {file} {e} {rest} {first} {next} a b = record {
         later : (more : Option PrefixMatch) → next (drop x.length (drop p file)) ≡ more → option_map (concat_matches x) more ≡ None
             → DerivesItems figure file (Then e rest) p Failed
         later None gone is_none = DerivesItems.items_then ((a.some p x is).derives)
-            (b.none (p + x.length) (sym (behind_it p x) ∙ gone)) refl
+            (b.none (p + x.length) (sym (following_it p x) ∙ gone)) refl
         later (Some y) there is_none = cc
 
     matches : (p : ℕ) (found : Option PrefixMatch) → first (drop p file) ≡ found → (piece : PrefixMatch)
@@ -146,7 +146,7 @@ text-then {file} {e} {rest} {first} {next} a b = record {
         later (Some y) there is_piece =
             let same : concat_matches x y ≡ piece = cc in
             subst (λ (z : PrefixMatch). FindsItems file (Then e rest) p z) same
-            (both_items x y (a.some p x is) (b.some (p + x.length) y (sym (behind_it p x) ∙ there)))
+            (both_items x y (a.some p x is) (b.some (p + x.length) y (sym (following_it p x) ∙ there)))
 
 pub text-seq : {file : List ℕ} {items : Forms} {find : Matcher} (span : Extent) → TakesItems file items find
     → TakesText file (Seq items span) find
@@ -201,10 +201,10 @@ or_false false = refl
 pub record FindsToken (file : List ℕ) (number : ℕ) (used : List ℕ) (span : Extent) (p : ℕ)
     (piece : PrefixMatch) : Type 0 where
   pub trees : Trees
-  pub derives : Derives figure file (Name used span) p (Matched (behind_text file p piece.length) trees)
+  pub derives : Derives figure file (Name used span) p (Matched (following_text file p piece.length) trees)
   pub ends : (before : ℕ) → text_end before trees ≡ p + piece.length
   pub spells : (before : ℕ) → spelled file before trees
-      ≡ node_spelled file number before p (behind_text file p piece.length) (p + piece.length) piece.spells
+      ≡ node_spelled file number before p (following_text file p piece.length) (p + piece.length) piece.spells
   pub flat : nesting trees ≡ 0
   pub opens : has_open trees ≡ (number == open_sign_rule)
   pub counts : bad_counts file trees ≡ bad_count number p piece.spells
@@ -222,16 +222,16 @@ takes-token {file} {used} {find} m known no_spacing no_primary a = record {
   some = λ span p piece found.
       let it = a.some p piece found in
       record {
-        trees = Tree m.rule p (behind_text file p piece.length) it.trees NoTrees;
+        trees = Tree m.rule p (following_text file p piece.length) it.trees NoTrees;
         derives = Derives.name_matched known it.derives refl;
         ends = λ before.
             ap (λ (t : Bool). if t then p else text_end before it.trees) no_spacing ∙ it.spelled.ends before;
         spells = λ before.
-            append-nil (node_spelled file m.rule before p (behind_text file p piece.length) (text_end before it.trees)
+            append-nil (node_spelled file m.rule before p (following_text file p piece.length) (text_end before it.trees)
             (spelled file before it.trees))
-            ∙ (ap (λ last. node_spelled file m.rule before p (behind_text file p piece.length) last
+            ∙ (ap (λ last. node_spelled file m.rule before p (following_text file p piece.length) last
             (spelled file before it.trees)) (it.spelled.ends before)
-            ∙ ap (node_spelled file m.rule before p (behind_text file p piece.length) (p + piece.length))
+            ∙ ap (node_spelled file m.rule before p (following_text file p piece.length) (p + piece.length))
             (it.spelled.spells before));
         flat =
             ap (λ (t : Bool). max ((if t && has_open it.trees then 1 else 0) + nesting it.trees) 0) no_primary

@@ -70,10 +70,10 @@ between_signs : (opening find closing : Matcher) → IsBlank opening → IsBlank
     → seq_matcher opening (seq_matcher (star find) closing) rest ≡ Some whole → whole.spells ≡ (many find (drop 1 rest)).spells
 between_signs opening find closing first last rest whole one found =
     let parts = followed_parts opening (seq_matcher (star find) closing) rest whole found in
-    let behind = drop parts.0.length rest in
-    let inner = followed_parts (star find) closing behind parts.1 parts.3 in
-    let pieces : many find behind ≡ inner.0 = some_is inner.2 in
-    let blank : inner.1.spells ≡ [] = last.blank (drop inner.0.length behind) inner.1 inner.3 in
+    let following = drop parts.0.length rest in
+    let inner = followed_parts (star find) closing following parts.1 parts.3 in
+    let pieces : many find following ≡ inner.0 = some_is inner.2 in
+    let blank : inner.1.spells ≡ [] = last.blank (drop inner.0.length following) inner.1 inner.3 in
     let inside : parts.1.spells ≡ inner.0.spells =
     inner.5 ∙ (ap (λ (l : List Denotation). inner.0.spells ++ l) blank ∙ append-nil inner.0.spells) in
     let at_one : drop parts.0.length rest ≡ drop 1 rest = ap (λ n. drop n rest) (one parts.0 parts.2) in

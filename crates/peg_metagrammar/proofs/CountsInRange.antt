@@ -467,19 +467,19 @@ spelled-good : (file : List ℕ) (before : ℕ) (trees : Trees) → bad_counts f
 spelled-good file before NoTrees none = tt
 spelled-good file before (Tree rule start end children rest) none =
     let inside = bad_counts file children in
-    let behind = bad_counts file rest in
+    let following = bad_counts file rest in
     let here = bad_count rule start (spelled file start children) in
-    let more = none-more here (inside ++ behind) none in
+    let more = none-more here (inside ++ following) none in
     let inner = spelled file before children in
     Good-append (node_spelled file rule before start end (text_end before children) inner)
     (spelled file (text_end before (Tree rule start end children NoTrees)) rest)
     (node-good file rule before start end (text_end before children) inner
-    (spelled-good file before children (none-first inside behind more))
+    (spelled-good file before children (none-first inside following more))
     (λ is.
-    let bad = subst (λ r. bad_count r start (spelled file start children) ≡ []) is (none-first here (inside ++ behind) none) in
+    let bad = subst (λ r. bad_count r start (spelled file start children) ≡ []) is (none-first here (inside ++ following) none) in
     ap (λ numbers. bounds_in_range (bounds_spelled numbers)) (spelled-numerals file before start children)
     ∙ count-in_range start (spelled file start children) bad))
-    (spelled-good file (text_end before (Tree rule start end children NoTrees)) rest (none-more inside behind more))
+    (spelled-good file (text_end before (Tree rule start end children NoTrees)) rest (none-more inside following more))
 
 rules-good : (pieces : List Denotation) → Good pieces → CountsAreInRange (rules_denoted pieces)
 rules-good [] good = All-nil IsGood

@@ -65,9 +65,9 @@ at_first : (n t : ℕ) (r : Rule) (rs : List Rule) (used : List ℕ) → bytes_e
 at_first n t r rs used is = ap (λ (b : Bool). if b then Some (record { rule = n; terminal = t; body = r.body })
     else meaning_from (n + 1) (t + terminals r.body) rs used) is
 
-behind_first : (n t : ℕ) (r : Rule) (rs : List Rule) (used : List ℕ) → bytes_eq used r.name ≡ false
+following_first : (n t : ℕ) (r : Rule) (rs : List Rule) (used : List ℕ) → bytes_eq used r.name ≡ false
     → meaning_from n t (r ∷ rs) used ≡ meaning_from (n + 1) (t + terminals r.body) rs used
-behind_first n t r rs used is = ap (λ (b : Bool). if b then Some (record { rule = n; terminal = t; body = r.body })
+following_first n t r rs used is = ap (λ (b : Bool). if b then Some (record { rule = n; terminal = t; body = r.body })
     else meaning_from (n + 1) (t + terminals r.body) rs used) is
 
 -- the same rules two places later
@@ -91,12 +91,12 @@ moved n t u (r ∷ rs) used m is =
           body_is = ap (λ (m : Meaning). m.body) same;
         }
     by prepend_trees false other =
-        let it = prepend_trees (sym (behind_first n t r rs used other) ∙ is) in
+        let it = prepend_trees (sym (following_first n t r rs used other) ∙ is) in
         let position : n + 1 + 2 ≡ n + 2 + 1 = omega arith in
         record {
           meaning = it.meaning;
           known =
-              behind_first (n + 2) u r rs used other
+              following_first (n + 2) u r rs used other
               ∙ (ap (λ k. meaning_from k (u + terminals r.body) rs used) (sym position) ∙ it.known);
           rule_is = it.rule_is;
           body_is = it.body_is;
@@ -143,11 +143,11 @@ inserted (r ∷ xs) two ys n t u used m over is =
           body_is = ap (λ (m : Meaning). m.body) same;
         }
     by prepend_trees false other =
-        let it = prepend_trees (sym (behind_first n t r (xs ++ ys) used other) ∙ is) in
+        let it = prepend_trees (sym (following_first n t r (xs ++ ys) used other) ∙ is) in
         let size : n + 1 + length xs ≡ n + length (r ∷ xs) = omega arith in
         record {
           meaning = it.meaning;
-          known = behind_first n u r (xs ++ (two ++ ys)) used other ∙ it.known;
+          known = following_first n u r (xs ++ (two ++ ys)) used other ∙ it.known;
           rule_is = it.rule_is ∙ ap (λ k. moved_from k m.rule) size;
           body_is = it.body_is;
         }
@@ -156,16 +156,16 @@ inserted (r ∷ xs) two ys n t u used m over is =
 over_two : (k v w : ℕ) (one two : Rule) (ys : List Rule) (used : List ℕ) (m : Meaning) → bytes_eq used one.name ≡ false
     → bytes_eq used two.name ≡ false → meaning_from k v ys used ≡ Some m → Later k w (one ∷ two ∷ ys) used (m.rule + 2) m
 over_two k v w one two ys used m first second is =
-    let behind_one : ℕ = w + terminals one.body in
-    let behind_two : ℕ = behind_one + terminals two.body in
-    let it = moved k v behind_two ys used m is in
+    let following_one : ℕ = w + terminals one.body in
+    let following_two : ℕ = following_one + terminals two.body in
+    let it = moved k v following_two ys used m is in
     let position : k + 1 + 1 ≡ k + 2 = omega arith in
     record {
       meaning = it.meaning;
       known =
-          behind_first k w one (two ∷ ys) used first
-          ∙ (behind_first (k + 1) behind_one two ys used second
-          ∙ (ap (λ n. meaning_from n behind_two ys used) position ∙ it.known));
+          following_first k w one (two ∷ ys) used first
+          ∙ (following_first (k + 1) following_one two ys used second
+          ∙ (ap (λ n. meaning_from n following_two ys used) position ∙ it.known));
       rule_is = it.rule_is;
       body_is = it.body_is;
     }
@@ -178,22 +178,22 @@ before_counts = take count_rule figure
 abbrev of_counts : List Rule
 of_counts = take 2 (drop count_rule figure)
 
-abbrev behind_counts : List Rule
-behind_counts = drop open_sign_rule figure
+abbrev following_counts : List Rule
+following_counts = drop open_sign_rule figure
 
 -- no rule after those of counts has their names
-no_count : (k v : ℕ) (used : List ℕ) (m : Meaning) → meaning_from k v behind_counts used ≡ Some m
+no_count : (k v : ℕ) (used : List ℕ) (m : Meaning) → meaning_from k v following_counts used ≡ Some m
     → (bytes_eq used (codes "COUNT") ≡ false) × (bytes_eq used (codes "Number") ≡ false)
 unfolding figure
 no_count k v used m is = (
-  by (codes "COUNT") (λ same. nowhere (sym is ∙ ap (meaning_from k v behind_counts) same)),
-  by (codes "Number") (λ same. nothing (sym is ∙ ap (meaning_from k v behind_counts) same)),
+  by (codes "COUNT") (λ same. nowhere (sym is ∙ ap (meaning_from k v following_counts) same)),
+  by (codes "Number") (λ same. nothing (sym is ∙ ap (meaning_from k v following_counts) same)),
 )
   where
-    nowhere : Some m ≡ meaning_from k v behind_counts (codes "COUNT") → ⊥
+    nowhere : Some m ≡ meaning_from k v following_counts (codes "COUNT") → ⊥
     nowhere e = cc
 
-    nothing : Some m ≡ meaning_from k v behind_counts (codes "Number") → ⊥
+    nothing : Some m ≡ meaning_from k v following_counts (codes "Number") → ⊥
     nothing e = cc
 
     by : (name : List ℕ) → (used ≡ name → ⊥) → bytes_eq used name ≡ false
@@ -204,19 +204,19 @@ no_count k v used m is = (
         test false is = is
 
 -- a name after the rules of counts, with these before it
-over_counts : (k v w : ℕ) (used : List ℕ) (m : Meaning) → meaning_from k v behind_counts used ≡ Some m
-    → Later k w (of_counts ++ behind_counts) used (m.rule + 2) m
+over_counts : (k v w : ℕ) (used : List ℕ) (m : Meaning) → meaning_from k v following_counts used ≡ Some m
+    → Later k w (of_counts ++ following_counts) used (m.rule + 2) m
 unfolding figure
 over_counts k v w used m is =
-    let apart = no_count k v used m is in over_two k v w _ _ behind_counts used m apart.0 apart.1 is
+    let apart = no_count k v used m is in over_two k v w _ _ following_counts used m apart.0 apart.1 is
 
 pub meaning_of-escaped : (used : List ℕ) (m : Meaning) → bytes_eq used (codes "Suffix") ≡ false
     → meaning_of escaped_figure used ≡ Some m → Later 0 0 figure used (number_now m.rule) m
 unfolding figure escaped_figure
 meaning_of-escaped used m other is =
-    let here : Meant 0 0 (before_counts ++ behind_counts) used m =
-    meaning_of-changed (codes "Suffix") escaped_suffix (before_counts ++ behind_counts) 0 0 0 used m other is in
-    let it = inserted before_counts of_counts behind_counts 0 0 0 used here.meaning
+    let here : Meant 0 0 (before_counts ++ following_counts) used m =
+    meaning_of-changed (codes "Suffix") escaped_suffix (before_counts ++ following_counts) 0 0 0 used m other is in
+    let it = inserted before_counts of_counts following_counts 0 0 0 used here.meaning
     (λ k v w found. over_counts k v w used here.meaning found) here.known in
     record {
       meaning = it.meaning;

@@ -32,20 +32,20 @@ byte_is None byte is = cc
 byte_is (Some front) byte is = ap Some (grind (arith, nat_tests))
 
 -- alternatives with one more appended
-abbrev behind_forms : Forms → Form → Forms
-behind_forms End last = Then last End
-behind_forms (Then first rest) last = Then first (behind_forms rest last)
+abbrev following_forms : Forms → Form → Forms
+following_forms End last = Then last End
+following_forms (Then first rest) last = Then first (following_forms rest last)
 
 -- they match if some did, and fail if all of them and the new one fail
 more_matched : {file : List ℕ} {first : Form} {rest : Forms} {p end : ℕ} {trees : Trees} (last : Form)
     → DerivesFirst figure file first rest p (Matched end trees)
-    → DerivesFirst figure file first (behind_forms rest last) p (Matched end trees)
+    → DerivesFirst figure file first (following_forms rest last) p (Matched end trees)
 more_matched last (DerivesFirst.alternative_last d) = DerivesFirst.alternative_matched d
 more_matched last (DerivesFirst.alternative_matched d) = DerivesFirst.alternative_matched d
 more_matched last (DerivesFirst.alternative_failed d ds) = DerivesFirst.alternative_failed d (more_matched last ds)
 
 more_failed : {file : List ℕ} {first last : Form} {rest : Forms} {p : ℕ} → DerivesFirst figure file first rest p Failed
-    → Derives figure file last p Failed → DerivesFirst figure file first (behind_forms rest last) p Failed
+    → Derives figure file last p Failed → DerivesFirst figure file first (following_forms rest last) p Failed
 more_failed (DerivesFirst.alternative_last d) fails =
     DerivesFirst.alternative_failed d (DerivesFirst.alternative_last fails)
 more_failed (DerivesFirst.alternative_failed d ds) fails = DerivesFirst.alternative_failed d (more_failed ds fails)

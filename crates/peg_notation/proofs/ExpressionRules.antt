@@ -25,7 +25,7 @@ use Rattle.peg_notation.proofs.Readings.{followed-none, ExactAny, ReadsAt, Exact
 use Rattle.peg_notation.proofs.Repeats.{ExactRound, Rounds, ExactMany, rounds}
 use Rattle.peg_notation.proofs.Streams.{Stream, here, not_here, none_here}
 use Rattle.peg_lexer.proofs.Takes.{spelled-seq_matcher, text_end-seq_matcher, nesting-seq_matcher}
-use Rattle.peg_lexer.proofs.Texts.{FindsToken, behind_text}
+use Rattle.peg_lexer.proofs.Texts.{FindsToken, following_text}
 
 -- ---- where a prefix begins
 
@@ -218,7 +218,7 @@ stuck_slash file q stuck span =
 
 one_alternative : (file : List ℕ) (p : ℕ) (piece : PrefixMatch) (rest : List Lexeme) → matcher_of kind.Slash (drop p file)
     ≡ Some piece → (x : Result FormRead ReadError) → ExactAt file (codes "Sequence") (p + piece.length)
-    (behind_text file p piece.length) rest x → ExactRound file slash_sequence (on_line expression_rule 23 40) p
+    (following_text file p piece.length) rest x → ExactRound file slash_sequence (on_line expression_rule 23 40) p
     (lexeme_at kind.Slash p piece.length ∷ rest) (and_read x (λ (part : FormRead). Ok (after_tokens 1 part)))
 one_alternative file p piece rest found (Ok part) e =
     let s : FindsToken file slash_rule (codes "SLASH") (on_line expression_rule 24 29) p piece = here kind.Slash piece
@@ -287,7 +287,7 @@ alternative_rounds file inner good = record {
             more) (and_read (sequence file inner (p + piece.length) more) (λ (part : FormRead). Ok (after_tokens 1 part)))
         by kind.Slash there slash =
             one_alternative file p piece more there (sequence file inner (p + piece.length) more)
-            (sequence-exact file inner good (p + piece.length) (behind_text file p piece.length) more rest)
+            (sequence-exact file inner good (p + piece.length) (following_text file p piece.length) more rest)
         by kind.Ident there slash = cc
         by kind.Literal there slash = cc
         by kind.Class there slash = cc

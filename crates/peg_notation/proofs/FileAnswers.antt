@@ -33,7 +33,7 @@ use Rattle.peg_notation.proofs.Reached.{Runs, IsDeepAt, IsBadAt, token-order, te
 use Rattle.peg_notation.proofs.ReachedRules.{bad_places, RulesReach, grammar-reaches}
 use Rattle.peg_lexer.proofs.SpacingRules.{finds-spacing}
 use Rattle.peg_notation.proofs.Streams.{Stream, stream, here}
-use Rattle.peg_lexer.proofs.Texts.{behind_text}
+use Rattle.peg_lexer.proofs.Texts.{following_text}
 
 -- ---- tokens
 
@@ -54,9 +54,9 @@ stream-texts (Stream.ended last) = omega (arith, last)
 stream-texts {file} {p} (Stream.next {more = more} k piece lexeme found is rest) =
     let here : IsText file (lexeme_at k p piece.length) =
     ap (λ (x : Option PrefixMatch). option_map (λ (q : PrefixMatch). p + q.length) x) found in
-    let behind : AreTexts file (p + piece.length) more =
-    texts-from file (behind_text file p piece.length) (p + piece.length) more (omega arith) (stream-texts rest) in
-    subst (λ (l : Lexeme). AreTexts file p (l ∷ more)) (sym is) (omega arith, here, behind)
+    let following : AreTexts file (p + piece.length) more =
+    texts-from file (following_text file p piece.length) (p + piece.length) more (omega arith) (stream-texts rest) in
+    subst (λ (l : Lexeme). AreTexts file p (l ∷ more)) (sym is) (omega arith, here, following)
 
 pub tokens-texts : (file : List ℕ) (lexemes : List Lexeme) → IsTokens file lexemes → AreTexts file 0 lexemes
 tokens-texts file lexemes tokens =
@@ -198,8 +198,8 @@ bad_somewhere file (lexeme ∷ before) count more bad none =
     by (λ is. bad_somewhere file before count more bad is) (is_bad_count file lexeme) none
   where
     by : (bad_places file (before ++ count ∷ more) ≡ [] → ⊥) → (t : Bool) → (if t then lexeme.text.start ∷ [] else []) ++ bad_places file (before ++ count ∷ more) ≡ [] → ⊥
-    by behind true is = cc
-    by behind false is = behind is
+    by following true is = cc
+    by following false is = following is
 
 out_of_range : (file : List ℕ) (lexemes : List Lexeme) (at : ℕ) → IsTokens file lexemes → IsBadAt file lexemes at
     → CountsOutOfRange file
@@ -208,11 +208,11 @@ out_of_range file lexemes at tokens it end trees m none =
     (ap (bad_places file) (sym it.same) ∙ (sym (counts-tokens file lexemes tokens end trees m) ∙ none))
 
 -- tokens after others are a stream too
-pub stream-behind : (file : List ℕ) (before rest : List Lexeme) (p : ℕ) → Stream file p (before ++ rest)
+pub stream-following : (file : List ℕ) (before rest : List Lexeme) (p : ℕ) → Stream file p (before ++ rest)
     → (q : ℕ) × Stream file q rest
-stream-behind file [] rest p there = (p, there)
-stream-behind file (lexeme ∷ before) rest p (Stream.next k piece l found is more) =
-    stream-behind file before rest (behind_text file p piece.length) more
+stream-following file [] rest p there = (p, there)
+stream-following file (lexeme ∷ before) rest p (Stream.next k piece l found is more) =
+    stream-following file before rest (following_text file p piece.length) more
 
 pub count_kind : (k : TokenKind) (t : Bool) → (is_count k && t) ≡ true → k ≡ token.Count
 count_kind token.Count t is = refl
@@ -244,17 +244,17 @@ bad_tree file count more q (Stream.next k piece lexeme found is rest) bad =
     let one : Lexeme = lexeme_here token.Count q it.trees in
     let same : is_bad_count file one ≡ is_bad_count file count =
     λ i. is_bad_count file (record { kind = sym counts i; text = between (sym starts i) (text_end q it.trees) }) in
-    let told : bad_counts file it.trees ≡ q ∷ [] =
+    let stated : bad_counts file it.trees ≡ q ∷ [] =
     token-counts token.Count it.derives
     ∙ ap (λ (t : Bool). (if t then q ∷ [] else []) ++ []) (same ∙ bad) in
     subst (λ n. (end : ℕ) × (trees : Trees) × Matches file (codes "COUNT") n end trees × (bad_counts file trees ≡ n ∷ []))
-    (sym starts) (behind_text file q piece.length, it.trees, matches it.derives, told)
+    (sym starts) (following_text file q piece.length, it.trees, matches it.derives, stated)
 
 bad_token : (file : List ℕ) (lexemes : List Lexeme) (at : ℕ) → IsTokens file lexemes → IsBadAt file lexemes at
     → IsBadCountToken file at
 bad_token file lexemes at tokens it =
     let all : IsTokens file (it.before ++ it.count ∷ it.more) = subst (IsTokens file) it.same tokens in
-    let there = stream-behind file it.before (it.count ∷ it.more) (first_place file) (tokens-stream file (it.before ++ it.count ∷ it.more) all) in (
+    let there = stream-following file it.before (it.count ∷ it.more) (first_place file) (tokens-stream file (it.before ++ it.count ∷ it.more) all) in (
       it.before,
       it.count,
       it.more,

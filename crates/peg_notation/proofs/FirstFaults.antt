@@ -14,14 +14,14 @@ use Rattle.peg_lexer.specs.declared.fault.LexFault.{LexFault}
 use Rattle.peg_lexer.specs.declared.fault.LexFault.TheVariants as lexing
 use Rattle.peg_lexer.specs.declared.token.TokenKind.{TokenKind}
 use Rattle.peg_lexer.specs.declared.token.TokenKind.TheVariants as kind
-use Rattle.peg_lexer.proofs.Texts.{behind_text}
+use Rattle.peg_lexer.proofs.Texts.{following_text}
 use Rattle.peg_notation.specs.Reader.{ReadError, Unexpected, TooDeepAt, BadCountAt, RulesRead, bounds_of_lexeme, is_count, is_bad_count, grammar}
 use Rattle.peg_notation.specs.ReaderCode.{AgreesOnError}
 use Rattle.peg_notation.specs.Reads.{fault_of, one_if_open, opens, one_if_close, closes}
 use Rattle.peg_notation.specs.ViablePrefix.{kinds, CanContinue, CountInRange, CountOutOfRange, AreFaultless, StopsBefore, IsUnexpectedToken, EndsEarly, IsExcessParenthesis, IsOutOfRangeCount, NamesFirstFault}
 use Rattle.peg_notation.specs.declared.fault.NotationFault.{NotationFault}
 use Rattle.peg_notation.specs.declared.fault.NotationFault.TheVariants as answer
-use Rattle.peg_notation.proofs.FileAnswers.{answers, counts, count_kind, stream-behind, bad_tree, tokens-stream}
+use Rattle.peg_notation.proofs.FileAnswers.{answers, counts, count_kind, stream-following, bad_tree, tokens-stream}
 use Rattle.peg_notation.proofs.GrammarRules.{first_place}
 use Rattle.peg_notation.proofs.MatchedTokens.{derives, lexeme_here, token-counts}
 use Rattle.peg_notation.proofs.Streams.{Stream, not_here}
@@ -300,8 +300,8 @@ grammar-continues before more all =
         → grammar it.file (suc (length it.lexemes)) it.lexemes ≡ x
         → WalksGrammar it.file (suc (length it.lexemes)) TokenState.begun it.lexemes x → CanContinue before
     by it (Ok read) found walked =
-        let told = ((answers it.file (suc (length it.lexemes)) it.lexemes it.tokens).read read found).0 in
-        (it.file, it.lexemes, more, it.tokens, (told.0, told.1, told.2, told.3), it.same)
+        let stated = ((answers it.file (suc (length it.lexemes)) it.lexemes it.tokens).read read found).0 in
+        (it.file, it.lexemes, more, it.tokens, (stated.0, stated.1, stated.2, stated.3), it.same)
     by it (Err halt) found halts =
         absurd (never_stops it.file it.lexemes (subst IsGrammarRun (sym it.same) all) it.fine halt halts)
 
@@ -355,7 +355,7 @@ counts_in_range file [] rest p stream fine = λ k d h. absurd (omega arith)
 counts_in_range file (lexeme ∷ before) rest p (Stream.next k piece one found is more) fine =
     All-cons (λ (l : Lexeme). CountInRange file l.text.start) lexeme before
     (count_in_range file lexeme (before ++ rest) p (Stream.next k piece lexeme found is more) fine.0)
-    (counts_in_range file before rest (behind_text file p piece.length) more fine.1)
+    (counts_in_range file before rest (following_text file p piece.length) more fine.1)
 
 -- ---- the first fault
 
@@ -404,7 +404,7 @@ count_first : {file : List ℕ} {bound at : ℕ} {u : TokenState} {lexemes rest 
     → HaltsBefore file bound u rest (BadCountAt at) → PathTokens file bound TokenState.begun u lexemes rest
     → IsOutOfRangeCount bound file at
 count_first {file} {at = at} {lexemes = lexemes} tokens (HaltsBefore.out_of_range {lexeme = count} {more = more} next bad_count place) p =
-    let there = stream-behind file p.before (count ∷ more) (first_place file)
+    let there = stream-following file p.before (count ∷ more) (first_place file)
     (subst (λ (l : List Lexeme). Stream file (first_place file) l) p.same (tokens-stream file lexemes tokens)) in (
       p.before,
       count,

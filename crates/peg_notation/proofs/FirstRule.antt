@@ -107,24 +107,24 @@ definition-spells file span p end trees d before =
     let c = in_items b.there_is in
     let name = in_name _ identifier-meaning_of.1 a.here_is in
     let body = in_name _ expression-meaning_of.1 c.here_is in
-    let behind_name = text_end before a.first in
-    let behind_arrow = text_end behind_name b.first in
+    let following_name = text_end before a.first in
+    let following_arrow = text_end following_name b.first in
     let last = text_end before name.inner in
-    let form = choice_spelled (between b.middle (text_end behind_arrow body.inner))
-    (expressions_in (spelled file behind_arrow body.inner)) in
+    let form = choice_spelled (between b.middle (text_end following_arrow body.inner))
+    (expressions_in (spelled file following_arrow body.inner)) in
     let names : spelled file before a.first ≡ Word (part file p last) (between p last) ∷ [] =
     ap (spelled file before) name.is in
-    let arrows : spelled file behind_name b.first ≡ [] =
-    arrow-blank file (on_line definition_rule 25 34) a.middle b.middle b.first b.here_is behind_name in
-    let bodies : spelled file behind_arrow c.first ≡ Expression form ∷ [] = ap (spelled file behind_arrow) body.is in
-    let nothing : spelled file (text_end behind_arrow c.first) c.more ≡ [] =
-    ap (spelled file (text_end behind_arrow c.first)) (in_nothing c.there_is) in
-    let from_body : spelled file behind_arrow b.more ≡ Expression form ∷ [] =
-    ap (spelled file behind_arrow) c.is
-    ∙ (spelled-seq_matcher file behind_arrow c.first c.more ∙ (λ i. bodies i ++ nothing i)) in
-    let from_arrow : spelled file behind_name a.more ≡ Expression form ∷ [] =
-    ap (spelled file behind_name) b.is
-    ∙ (spelled-seq_matcher file behind_name b.first b.more ∙ (λ i. arrows i ++ from_body i)) in
+    let arrows : spelled file following_name b.first ≡ [] =
+    arrow-blank file (on_line definition_rule 25 34) a.middle b.middle b.first b.here_is following_name in
+    let bodies : spelled file following_arrow c.first ≡ Expression form ∷ [] = ap (spelled file following_arrow) body.is in
+    let nothing : spelled file (text_end following_arrow c.first) c.more ≡ [] =
+    ap (spelled file (text_end following_arrow c.first)) (in_nothing c.there_is) in
+    let from_body : spelled file following_arrow b.more ≡ Expression form ∷ [] =
+    ap (spelled file following_arrow) c.is
+    ∙ (spelled-seq_matcher file following_arrow c.first c.more ∙ (λ i. bodies i ++ nothing i)) in
+    let from_arrow : spelled file following_name a.more ≡ Expression form ∷ [] =
+    ap (spelled file following_name) b.is
+    ∙ (spelled-seq_matcher file following_name b.first b.more ∙ (λ i. arrows i ++ from_body i)) in
     let inside : spelled file before node.inner ≡ Word (part file p last) (between p last) ∷ Expression form ∷ [] =
     ap (spelled file before) a.is
     ∙ (spelled-seq_matcher file before a.first a.more ∙ (λ i. names i ++ from_arrow i)) in (
@@ -175,16 +175,16 @@ IsReading-some file rules reading none =
     let gap = in_items (in_sequence node.derives) in
     let rest = in_items gap.there_is in
     let plus = in_plus rest.here_is in
-    let behind_gap = text_end 0 gap.first in
-    let one = definition-spells file (on_line grammar_rule 19 29) gap.middle plus.middle plus.first plus.here_is behind_gap in
-    let others = spelled file (text_end behind_gap plus.first) plus.more in
-    let last = spelled file (text_end behind_gap rest.first) rest.more in
-    let definitions : spelled file behind_gap rest.first ≡ Definition one.0 ∷ others =
-    ap (spelled file behind_gap) plus.is
-    ∙ (spelled-seq_matcher file behind_gap plus.first plus.more ∙ (λ i. one.1 i ++ others)) in
-    let prepend_trees : spelled file behind_gap gap.more ≡ Definition one.0 ∷ (others ++ last) =
-    ap (spelled file behind_gap) rest.is
-    ∙ (spelled-seq_matcher file behind_gap rest.first rest.more ∙ (λ i. definitions i ++ last)) in
+    let following_gap = text_end 0 gap.first in
+    let one = definition-spells file (on_line grammar_rule 19 29) gap.middle plus.middle plus.first plus.here_is following_gap in
+    let others = spelled file (text_end following_gap plus.first) plus.more in
+    let last = spelled file (text_end following_gap rest.first) rest.more in
+    let definitions : spelled file following_gap rest.first ≡ Definition one.0 ∷ others =
+    ap (spelled file following_gap) plus.is
+    ∙ (spelled-seq_matcher file following_gap plus.first plus.more ∙ (λ i. one.1 i ++ others)) in
+    let prepend_trees : spelled file following_gap gap.more ≡ Definition one.0 ∷ (others ++ last) =
+    ap (spelled file following_gap) rest.is
+    ∙ (spelled-seq_matcher file following_gap rest.first rest.more ∙ (λ i. definitions i ++ last)) in
     let all : spelled file 0 node.inner ≡ spelled file 0 gap.first ++ Definition one.0 ∷ (others ++ last) =
     ap (spelled file 0) gap.is
     ∙ (spelled-seq_matcher file 0 gap.first gap.more ∙ (λ i. spelled file 0 gap.first ++ prepend_trees i)) in

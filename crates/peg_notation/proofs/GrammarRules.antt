@@ -29,7 +29,7 @@ use Rattle.peg_lexer.proofs.SpacingRules.{FindsSpacing, finds-spacing}
 use Rattle.peg_notation.proofs.Streams.{Stream, here, not_here, none_here}
 use Rattle.peg_lexer.proofs.KindRules.{nothing_left}
 use Rattle.peg_lexer.proofs.Takes.{spelled-seq_matcher, nesting-seq_matcher}
-use Rattle.peg_lexer.proofs.Texts.{FindsToken, behind_text}
+use Rattle.peg_lexer.proofs.Texts.{FindsToken, following_text}
 
 -- ---- the end of the file
 
@@ -81,7 +81,7 @@ no_name fails span =
 
 -- a name without an arrow
 no_arrow : {file : List ℕ} {p : ℕ} (piece : PrefixMatch) → matcher_of kind.Ident (drop p file) ≡ Some piece
-    → ((span : Extent) → Derives figure file (Name (codes "LEFTARROW") span) (behind_text file p piece.length) Failed)
+    → ((span : Extent) → Derives figure file (Name (codes "LEFTARROW") span) (following_text file p piece.length) Failed)
     → (span : Extent) → Derives figure file (Name (codes "Definition") span) p Failed
 unfolding definition_body
 no_arrow piece found fails span =
@@ -91,14 +91,14 @@ no_arrow piece found fails span =
 
 -- a name, an arrow and an expression
 definition_read : (file : List ℕ) (p : ℕ) (piece : PrefixMatch) → matcher_of kind.Ident (drop p file) ≡ Some piece
-    → (arrow : PrefixMatch) → matcher_of kind.Arrow (drop (behind_text file p piece.length) file) ≡ Some arrow
-    → (rest : List Lexeme) → let q : ℕ = behind_text file p piece.length in (x : Result FormRead ReadError)
-    → ExactAt file (codes "Expression") (q + arrow.length) (behind_text file q arrow.length) rest x
+    → (arrow : PrefixMatch) → matcher_of kind.Arrow (drop (following_text file p piece.length) file) ≡ Some arrow
+    → (rest : List Lexeme) → let q : ℕ = following_text file p piece.length in (x : Result FormRead ReadError)
+    → ExactAt file (codes "Expression") (q + arrow.length) (following_text file q arrow.length) rest x
     → ExactRule file p (lexeme_at kind.Ident p piece.length ∷ lexeme_at kind.Arrow q arrow.length ∷
     rest) (and_read x (λ (body : FormRead). Ok (rule_read file (lexeme_at kind.Ident p piece.length) body)))
 unfolding definition_body
 definition_read file p piece found arrow there rest (Ok body) e =
-    let q : ℕ = behind_text file p piece.length in
+    let q : ℕ = following_text file p piece.length in
     let i : FindsToken file identifier_rule (codes "Identifier") (on_line definition_rule 14 24) p piece = here kind.Ident piece
     (on_line definition_rule 14 24) found in
     let a : FindsToken file leftarrow_rule (codes "LEFTARROW") (on_line definition_rule 25 34) q arrow = here kind.Arrow arrow
@@ -155,35 +155,35 @@ definition_read file p piece found arrow there rest (Err (TooDeepAt at)) e = tt
 definition_read file p piece found arrow there rest (Err (BadCountAt at)) e = tt
 
 -- what comes after a name
-behind_name : (file : List ℕ) (bound p : ℕ) (piece : PrefixMatch) (more : List Lexeme) → matcher_of kind.Ident (drop p file)
-    ≡ Some piece → Stream file (behind_text file p piece.length) more
+following_name : (file : List ℕ) (bound p : ℕ) (piece : PrefixMatch) (more : List Lexeme) → matcher_of kind.Ident (drop p file)
+    ≡ Some piece → Stream file (following_text file p piece.length) more
     → ExactRule file p (lexeme_at kind.Ident p piece.length ∷
     more) (definition_after file bound (lexeme_at kind.Ident p piece.length) more (starts_with_arrow more))
-behind_name file bound p piece [] found (Stream.ended last) =
+following_name file bound p piece [] found (Stream.ended last) =
     inl (no_arrow piece found (λ span. none_here kind.Arrow span last))
-behind_name file bound p piece (_ ∷ rest) found (Stream.next k arrow lexeme there is left) =
+following_name file bound p piece (_ ∷ rest) found (Stream.next k arrow lexeme there is left) =
     subst (λ (l : Lexeme). ExactRule file p (lexeme_at kind.Ident p piece.length ∷ l ∷
     rest) (definition_after file bound (lexeme_at kind.Ident p piece.length) (l ∷
     rest) (is_arrow l.kind))) (sym is) (by k there)
   where
     q : ℕ
-    q = behind_text file p piece.length
+    q = following_text file p piece.length
 
-    none : (k : TokenKind) → matcher_of k (drop (behind_text file p piece.length) file) ≡ Some arrow → kind.Arrow ≢ k
+    none : (k : TokenKind) → matcher_of k (drop (following_text file p piece.length) file) ≡ Some arrow → kind.Arrow ≢ k
         → ((span : Extent) → Derives figure file (Name (codes "Definition") span) p Failed) ⊎ Stops file
         (codes "Definition") p
     none k at_end a = inl (no_arrow piece found (λ span. not_here k arrow kind.Arrow span at_end a))
 
-    by : (k : TokenKind) → matcher_of k (drop (behind_text file p piece.length) file) ≡ Some arrow
+    by : (k : TokenKind) → matcher_of k (drop (following_text file p piece.length) file) ≡ Some arrow
         → ExactRule file p (lexeme_at kind.Ident p piece.length ∷
-        lexeme_at k (behind_text file p piece.length) arrow.length ∷
+        lexeme_at k (following_text file p piece.length) arrow.length ∷
         rest) (definition_after file bound (lexeme_at kind.Ident p piece.length)
-        (lexeme_at k (behind_text file p piece.length) arrow.length ∷ rest) (is_arrow k))
+        (lexeme_at k (following_text file p piece.length) arrow.length ∷ rest) (is_arrow k))
     by kind.Arrow at_end =
         definition_read file p piece found arrow at_end rest
-        (expression_in file bound (behind_text file p piece.length + arrow.length) rest)
-        (expression_in-exact file bound (behind_text file p piece.length + arrow.length)
-        (behind_text file (behind_text file p piece.length) arrow.length) rest left)
+        (expression_in file bound (following_text file p piece.length + arrow.length) rest)
+        (expression_in-exact file bound (following_text file p piece.length + arrow.length)
+        (following_text file (following_text file p piece.length) arrow.length) rest left)
     by kind.Ident at_end = none kind.Ident at_end (λ e. cc)
     by kind.Literal at_end = none kind.Literal at_end (λ e. cc)
     by kind.Class at_end = none kind.Class at_end (λ e. cc)
@@ -214,7 +214,7 @@ definition-exact file bound p (_ ∷ more) (Stream.next k piece lexeme found is 
     by : (k : TokenKind) → matcher_of k (drop p file) ≡ Some piece
         → ExactRule file p (lexeme_at k p piece.length ∷ more)
         (definition_of file bound (lexeme_at k p piece.length) more k)
-    by kind.Ident there = behind_name file bound p piece more there rest
+    by kind.Ident there = following_name file bound p piece more there rest
     by kind.Literal there = none kind.Literal there (λ e. cc)
     by kind.Class there = none kind.Class there (λ e. cc)
     by kind.Arrow there = none kind.Arrow there (λ e. cc)

@@ -7,7 +7,7 @@ use Rattle.peg_notation.specs.Reader.{ReadError, FormRead, FormsRead, Reading, a
 use Rattle.peg_notation.specs.ReaderCode.{with_form}
 use Rattle.peg_lexer.specs.Tokens.{Lexeme}
 use Rattle.peg_notation.proofs.GrammarRules.{definitions_after-drop}
-use Rattle.peg_notation.proofs.Repeats.{many_behind-drop}
+use Rattle.peg_notation.proofs.Repeats.{many_following-drop}
 
 -- ---- expressions
 
@@ -51,7 +51,7 @@ first_of_many begins read before (l ∷ rest) none begun x is some =
     by (Ok p) some =
         let one : suc (p.token_count - 1) ≡ p.token_count = omega (arith, some p refl) in
         ap (λ (y : Result FormsRead ReadError). and_read y (λ (more : FormsRead). Ok (and_form p more)))
-        (many_behind-drop begins read p.last rest (p.token_count - 1) ∙ ap (λ n. many_forms begins read p.last (drop n (l ∷ rest))) one)
+        (many_following-drop begins read p.last rest (p.token_count - 1) ∙ ap (λ n. many_forms begins read p.last (drop n (l ∷ rest))) one)
     by (Err halt) some = refl
 
 joined-one : (parts : FormsRead) (p : FormRead) (x : Result FormsRead ReadError)

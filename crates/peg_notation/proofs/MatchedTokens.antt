@@ -31,7 +31,7 @@ use Rattle.peg_notation.proofs.ReachedRules.{bad_places}
 use Rattle.peg_lexer.specs.Lexical.{matcher_of}
 use Rattle.peg_lexer.specs.Matchers.{PrefixMatch}
 use Rattle.peg_lexer.proofs.SpacingRules.{finds-spacing}
-use Rattle.peg_lexer.proofs.Texts.{FindsToken, behind_text}
+use Rattle.peg_lexer.proofs.Texts.{FindsToken, following_text}
 use Rattle.peg_lexer.proofs.KindRules.{number_of, takes-kind}
 
 -- ---- expressions over tokens
@@ -236,10 +236,10 @@ both_stand {file} {one = one} {more = more} x y is = record {
       ∙ ((λ i. x.counts i ++ y.counts i) ∙ sym (bad_places-append file x.list y.list)));
 }
 
-behind_stands : {file : List ℕ} {position middle : ℕ} {one : Trees} → Stand file position middle one → (x : Recognition)
+following_stands : {file : List ℕ} {position middle : ℕ} {one : Trees} → Stand file position middle one → (x : Recognition)
     → Stood file middle x → Stood file position (prepend_trees one x)
-behind_stands first Failed rest = tt
-behind_stands first (Matched end more) rest = both_stand first rest refl
+following_stands first Failed rest = tt
+following_stands first (Matched end more) rest = both_stand first rest refl
 
 -- a node of a rule other than COUNT has the counts of its children
 node-counts : (file : List ℕ) (number position end : ℕ) (inside : Trees) → (number == count_rule) ≡ false
@@ -311,7 +311,7 @@ token-counts {file} {span} {position} {end} {trees} k d = by (matcher_of k (drop
     by (Some piece) found =
         let it : FindsToken file (number_of k) (rule_of_kind k) span position piece =
         (takes-kind file k).some span position piece found in
-        let same : Matched end trees ≡ Matched (behind_text file position piece.length) it.trees = one_result d it.derives in
+        let same : Matched end trees ≡ Matched (following_text file position piece.length) it.trees = one_result d it.derives in
         let one : trees ≡ it.trees = cc in
         let pieces : unwrap_or (option_map (λ (piece : PrefixMatch). piece.spells) (matcher_of k (drop position file))) [] ≡ piece.spells =
         ap (λ text. unwrap_or (option_map (λ (x : PrefixMatch). x.spells) text) []) found in
@@ -363,10 +363,10 @@ close_stands {file} {last} {position} (DerivesItems.items_then {middle = middle}
           ∙ (append-nil (bad_counts file one) ∙ token-counts kind.Close d);
     })
 
-behind_closes : {file : List ℕ} {position middle : ℕ} {one : Trees} → Stand file position middle one → (x : Recognition)
+following_closes : {file : List ℕ} {position middle : ℕ} {one : Trees} → Stand file position middle one → (x : Recognition)
     → Closed file middle x → Closed file position (prepend_trees one x)
-behind_closes first Failed rest = tt
-behind_closes {file} {one = one} first (Matched end more) rest = record {
+following_closes first Failed rest = tt
+following_closes {file} {one = one} first (Matched end more) rest = record {
   list = first.list ++ rest.list;
   stand = and_stand first.stand rest.stand;
   odd = omega (arith, opens-append first.list rest.list, closes-append first.list rest.list, first.even, rest.odd);
@@ -527,14 +527,14 @@ mutual
       → DerivesItems figure file (Then inside (Then (Name (codes "CLOSE") last) End)) position x → Closed file position x
   closing_stands takes (DerivesItems.items_failed d) = tt
   closing_stands {file} {position = position} takes (DerivesItems.items_then {more = more} d rest is) =
-      subst (Closed file position) (sym is) (behind_closes (stands takes d) more (close_stands rest))
+      subst (Closed file position) (sym is) (following_closes (stands takes d) more (close_stands rest))
 
   items_stand : {file : List ℕ} {items : Forms} {position : ℕ} {x : Recognition} → AllOfTokens items
       → DerivesItems figure file items position x → Stood file position x
   items_stand {file} {position = position} takes DerivesItems.items_none = nothing file position
   items_stand takes (DerivesItems.items_failed d) = tt
   items_stand {file} {position = position} takes (DerivesItems.items_then {more = more} d rest is) =
-      subst (Stood file position) (sym is) (behind_stands (stands takes.0 d) more (items_stand takes.1 rest))
+      subst (Stood file position) (sym is) (following_stands (stands takes.0 d) more (items_stand takes.1 rest))
 
   first_stands : {file : List ℕ} {first : Form} {rest : Forms} {position : ℕ} {x : Recognition} → OfTokens first
       → AllOfTokens rest → DerivesFirst figure file first rest position x → Stood file position x
@@ -549,10 +549,10 @@ ends_at : {a b : ℕ} {t u : Trees} → Matched a t ≡ Matched b u → a ≡ b
 ends_at e = cc
 
 -- trees in front of a match are part of a match that ends at the same offset
-behind_matched : (one : Trees) (more : Recognition) (end : ℕ) (trees : Trees) → prepend_trees one more ≡ Matched end trees
+following_matched : (one : Trees) (more : Recognition) (end : ℕ) (trees : Trees) → prepend_trees one more ≡ Matched end trees
     → (rest : Trees) × (more ≡ Matched end rest) × (trees ≡ followed_by one rest)
-behind_matched one Failed end trees is = cc
-behind_matched one (Matched last rest) end trees is = (rest, ap (λ n. Matched n rest) (ends_at is), cc)
+following_matched one Failed end trees is = cc
+following_matched one (Matched last rest) end trees is = (rest, ap (λ n. Matched n rest) (ends_at is), cc)
 
 -- a first item, and those after it
 record FirstItem (file : List ℕ) (first : Form) (others : Forms) (position end : ℕ) (trees : Trees) : Type 0 where
@@ -568,7 +568,7 @@ first_item : {file : List ℕ} {item : Form} {rest : Forms} {position : ℕ} {x 
     → FirstItem file item rest position end trees
 first_item (DerivesItems.items_failed d) end trees is = cc
 first_item {file} {item} {rest} {position} (DerivesItems.items_then {middle = middle} {trees = one} {more = more} d others same) end trees is =
-    let last = behind_matched one more end trees (sym same ∙ is) in
+    let last = following_matched one more end trees (sym same ∙ is) in
     record {
       middle = middle;
       one = one;

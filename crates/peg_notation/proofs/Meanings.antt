@@ -50,15 +50,15 @@ meaning_of-changed name body (r ∷ rs) n t u used m other is =
         → (if b then Some (record { rule = n; terminal = t; body = body })
         else meaning_from (n + 1) (t + terminals body) (map (changed name body) rs) used) ≡ Some m
         → Meant n u (r ∷ rs) used m
-    other_body behind named true same found = absurd (same_name name used r.name other same named)
-    other_body behind named false same found = later same (behind (t + terminals body) (u + terminals r.body) found)
+    other_body following named true same found = absurd (same_name name used r.name other same named)
+    other_body following named false same found = later same (following (t + terminals body) (u + terminals r.body) found)
 
     kept : ((v w : ℕ) → meaning_from (n + 1) v (map (changed name body) rs) used ≡ Some m → Meant (n + 1) w rs used m)
         → (b : Bool) → bytes_eq used r.name ≡ b
         → (if b then Some (record { rule = n; terminal = t; body = r.body })
         else meaning_from (n + 1) (t + terminals r.body) (map (changed name body) rs) used) ≡ Some m
         → Meant n u (r ∷ rs) used m
-    kept behind true same found =
+    kept following true same found =
         let one : Meaning = record { rule = n; terminal = t; body = r.body } in
         let is_one : one ≡ m = cc in
         record {
@@ -68,14 +68,14 @@ meaning_of-changed name body (r ∷ rs) n t u used m other is =
           rule_is = ap (λ (m : Meaning). m.rule) is_one;
           body_is = ap (λ (m : Meaning). m.body) is_one;
         }
-    kept behind false same found = later same (behind (t + terminals r.body) (u + terminals r.body) found)
+    kept following false same found = later same (following (t + terminals r.body) (u + terminals r.body) found)
 
     by : ((v w : ℕ) → meaning_from (n + 1) v (map (changed name body) rs) used ≡ Some m → Meant (n + 1) w rs used m)
         → (c : Bool) → bytes_eq r.name name ≡ c
         → meaning_from n t ((if c then record { name = r.name; span = r.span; body = body } else r)
         ∷ map (changed name body) rs) used ≡ Some m → Meant n u (r ∷ rs) used m
-    by behind true named found = other_body behind named (bytes_eq used r.name) refl found
-    by behind false named found = kept behind (bytes_eq used r.name) refl found
+    by following true named found = other_body following named (bytes_eq used r.name) refl found
+    by following false named found = kept following (bytes_eq used r.name) refl found
 
 -- ---- forms without a call of a rule
 

@@ -24,7 +24,7 @@ use Rattle.peg_notation.proofs.PrimaryRule.{pieces_here, primary-exact}
 use Rattle.peg_notation.proofs.Readings.{followed-none, ReadsAny, ExactAny, Good, node_any, position-is}
 use Rattle.peg_notation.proofs.Streams.{Stream, here, not_here, none_here}
 use Rattle.peg_lexer.proofs.Takes.{spelled-seq_matcher, text_end-seq_matcher, nesting-seq_matcher}
-use Rattle.peg_lexer.proofs.Texts.{FindsToken, behind_text}
+use Rattle.peg_lexer.proofs.Texts.{FindsToken, following_text}
 
 -- ---- Suffix
 
@@ -56,8 +56,8 @@ one_suffix : (file : List ℕ) (p : ℕ) (lexemes : List Lexeme) (part : FormRea
     → {number : ℕ} {used : List ℕ} {span : Extent} {piece : PrefixMatch} (sign : Form → Extent → Form) (rest : List Lexeme)
     → (it : FindsToken file number used span e.end piece)
     → ((before : ℕ) → spelled file before it.trees ≡ Sign sign ∷ [])
-    → Derives figure file suffix_body p (Matched (behind_text file e.end piece.length) (followed_by e.trees it.trees))
-    → Stream file (behind_text file e.end piece.length) (drop (part.token_count + 1) lexemes)
+    → Derives figure file suffix_body p (Matched (following_text file e.end piece.length) (followed_by e.trees it.trees))
+    → Stream file (following_text file e.end piece.length) (drop (part.token_count + 1) lexemes)
     → ReadsAny file (codes "Suffix") p lexemes (record {
       form = sign part.form
           (between p (e.end + piece.length));
@@ -94,9 +94,9 @@ suffix_read file p lexemes part e (_ ∷ rest) same (Stream.next k piece lexeme 
     (by k there (same ∙ ap (λ (l : Lexeme). l ∷ rest) is))
   where
     next_left : (k : TokenKind) → drop part.token_count lexemes ≡ lexeme_at k e.end piece.length ∷ rest
-        → Stream file (behind_text file e.end piece.length) (drop (part.token_count + 1) lexemes)
+        → Stream file (following_text file e.end piece.length) (drop (part.token_count + 1) lexemes)
     next_left k left_is =
-        subst (λ (l : List Lexeme). Stream file (behind_text file e.end piece.length) l)
+        subst (λ (l : List Lexeme). Stream file (following_text file e.end piece.length) l)
         (sym (after_one lexemes part.token_count ∙ ap (drop 1) left_is)) left
 
     -- a count out of range says nothing
@@ -122,7 +122,7 @@ suffix_read file p lexemes part e (_ ∷ rest) same (Stream.next k piece lexeme 
         (Derives.sequence (DerivesItems.items_then (e.derives _)
         (DerivesItems.items_then (Derives.optional_some (Derives.choice
         (DerivesFirst.alternative_matched it.derives))) DerivesItems.items_none refl)
-        (ap (λ (t : Trees). Matched (behind_text file e.end piece.length) (followed_by e.trees t))
+        (ap (λ (t : Trees). Matched (following_text file e.end piece.length) (followed_by e.trees t))
         (sym (followed-none it.trees)))))
         (next_left kind.Question left_is)
     by kind.Star at_end left_is =
@@ -133,7 +133,7 @@ suffix_read file p lexemes part e (_ ∷ rest) same (Stream.next k piece lexeme 
         (DerivesItems.items_then (Derives.optional_some (Derives.choice
         (DerivesFirst.alternative_failed (not_here kind.Star piece kind.Question _ at_end (λ x. cc))
         (DerivesFirst.alternative_matched it.derives)))) DerivesItems.items_none refl)
-        (ap (λ (t : Trees). Matched (behind_text file e.end piece.length) (followed_by e.trees t))
+        (ap (λ (t : Trees). Matched (following_text file e.end piece.length) (followed_by e.trees t))
         (sym (followed-none it.trees)))))
         (next_left kind.Star left_is)
     by kind.Plus at_end left_is =
@@ -145,7 +145,7 @@ suffix_read file p lexemes part e (_ ∷ rest) same (Stream.next k piece lexeme 
         (DerivesFirst.alternative_failed (not_here kind.Plus piece kind.Question _ at_end (λ x. cc))
         (DerivesFirst.alternative_failed (not_here kind.Plus piece kind.Star _ at_end (λ x. cc))
         (DerivesFirst.alternative_matched it.derives))))) DerivesItems.items_none refl)
-        (ap (λ (t : Trees). Matched (behind_text file e.end piece.length) (followed_by e.trees t))
+        (ap (λ (t : Trees). Matched (following_text file e.end piece.length) (followed_by e.trees t))
         (sym (followed-none it.trees)))))
         (next_left kind.Plus left_is)
     by kind.Count at_end left_is =
@@ -165,7 +165,7 @@ suffix_read file p lexemes part e (_ ∷ rest) same (Stream.next k piece lexeme 
         (DerivesFirst.alternative_failed (not_here kind.Count piece kind.Star _ at_end (λ x. cc))
         (DerivesFirst.alternative_failed (not_here kind.Count piece kind.Plus _ at_end (λ x. cc))
         (DerivesFirst.alternative_last it.derives)))))) DerivesItems.items_none refl)
-        (ap (λ (t : Trees). Matched (behind_text file e.end piece.length) (followed_by e.trees t))
+        (ap (λ (t : Trees). Matched (following_text file e.end piece.length) (followed_by e.trees t))
         (sym (followed-none it.trees)))))
         (next_left kind.Count left_is))
     by kind.Ident at_end left_is = none kind.Ident at_end (λ x. cc) (λ x. cc) (λ x. cc) (λ x. cc)
@@ -227,8 +227,8 @@ one_prefix : (file : List ℕ) (p : ℕ) (lexeme : Lexeme)
     → (it : FindsToken file number used span p piece) → ((before : ℕ) → spelled file before it.trees ≡ Sign sign ∷ [])
     → Derives figure file (form.Optional (form.Choice (Name (codes "AND") (on_line prefix_rule 11 14))
     (form.Then (Name (codes "NOT") (on_line prefix_rule 17 20)) form.End) (on_line prefix_rule 11 20)) (on_line prefix_rule 10 22)) p
-    (Matched (behind_text file p piece.length) it.trees) → (x : Result FormRead ReadError)
-    → ExactAny file (codes "Suffix") (behind_text file p piece.length) more x
+    (Matched (following_text file p piece.length) it.trees) → (x : Result FormRead ReadError)
+    → ExactAny file (codes "Suffix") (following_text file p piece.length) more x
     → ExactAny file (codes "Prefix") p (lexeme ∷ more) (and_read x (λ (part : FormRead). Ok (with_prefix p sign part)))
 unfolding prefix_body
 one_prefix file p lexeme more {number} {used} {span} {piece} sign it spells d (Ok part) e =
@@ -279,14 +279,14 @@ prefix-exact file inner good p (_ ∷ more) (Stream.next k piece lexeme found is
         (on_line prefix_rule 11 14) there in
         one_prefix file p (lexeme_at kind.And p piece.length) more form.And it it.spells
         (Derives.optional_some (Derives.choice (DerivesFirst.alternative_matched it.derives)))
-        (suffix file inner more) (suffix-exact file inner good (behind_text file p piece.length) more rest)
+        (suffix file inner more) (suffix-exact file inner good (following_text file p piece.length) more rest)
     by kind.Not there =
         let it : FindsToken file not_sign_rule (codes "NOT") (on_line prefix_rule 17 20) p piece = here kind.Not piece
         (on_line prefix_rule 17 20) there in
         one_prefix file p (lexeme_at kind.Not p piece.length) more form.Not it it.spells
         (Derives.optional_some (Derives.choice (DerivesFirst.alternative_failed
         (not_here kind.Not piece kind.And _ there (λ x. cc)) (DerivesFirst.alternative_last it.derives))))
-        (suffix file inner more) (suffix-exact file inner good (behind_text file p piece.length) more rest)
+        (suffix file inner more) (suffix-exact file inner good (following_text file p piece.length) more rest)
     by kind.Question there = plain kind.Question there (λ x. cc) (λ x. cc)
     by kind.Star there = plain kind.Star there (λ x. cc) (λ x. cc)
     by kind.Plus there = plain kind.Plus there (λ x. cc) (λ x. cc)

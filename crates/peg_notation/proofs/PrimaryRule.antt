@@ -27,7 +27,7 @@ use Rattle.peg_lexer.proofs.Takes.{spelled-seq_matcher, text_end-seq_matcher, ne
 use Rattle.peg_notation.proofs.Readings.{followed-none, has_open-followed, ReadsAny, ExactAny, ExactAt, ReadsAt, IsStuck, Good}
 use Rattle.peg_notation.proofs.Streams.{Stream, here, not_here, none_here}
 use Rattle.peg_lexer.proofs.KindRules.{number_of}
-use Rattle.peg_lexer.proofs.Texts.{FindsToken, behind_text}
+use Rattle.peg_lexer.proofs.Texts.{FindsToken, following_text}
 
 -- ---- Primary in general
 
@@ -64,15 +64,15 @@ other_fails k piece found a b c d e =
 -- a primary of one token
 of_token : {file : List ℕ} {p : ℕ} {k : TokenKind} {span : Extent} {piece : PrefixMatch} {more : List Lexeme} (value : Form)
     → (it : FindsToken file (number_of k) (rule_of_kind k) span p piece) → (number_of k == open_sign_rule) ≡ false
-    → ((before : ℕ) → primary_spelled (node_spelled file (number_of k) before p (behind_text file p piece.length)
+    → ((before : ℕ) → primary_spelled (node_spelled file (number_of k) before p (following_text file p piece.length)
     (p + piece.length) piece.spells) ≡ Expression value ∷ [])
-    → Derives figure file primary_body p (Matched (behind_text file p piece.length) it.trees)
-    → Stream file (behind_text file p piece.length) more
+    → Derives figure file primary_body p (Matched (following_text file p piece.length) it.trees)
+    → Stream file (following_text file p piece.length) more
     → ReadsAny file (codes "Primary") p (lexeme_at k p piece.length ∷
     more) (record { form = value; token_count = 1; last = p + piece.length; depth = 0 })
 of_token {file} {p} {k} {span} {piece} {more} value it closed_form spelling d left = record {
-  end = behind_text file p piece.length;
-  trees = Tree primary_rule p (behind_text file p piece.length) it.trees NoTrees;
+  end = following_text file p piece.length;
+  trees = Tree primary_rule p (following_text file p piece.length) it.trees NoTrees;
   left = left;
   derives = matched d;
   spells = λ before.
@@ -108,7 +108,7 @@ arrow_next {file} {p} (Stream.next {more = more} k piece lexeme found is rest) =
     by kind.Arrow there = inl (
       refl,
       λ span. let it = here kind.Arrow piece span there in
-          (behind_text file p piece.length, it.trees, it.derives),
+          (following_text file p piece.length, it.trees, it.derives),
     )
     by kind.Ident there = inr (refl, λ span. not_here kind.Ident piece kind.Arrow span there (λ e. cc))
     by kind.Literal there = inr (refl, λ span. not_here kind.Literal piece kind.Arrow span there (λ e. cc))
@@ -125,7 +125,7 @@ arrow_next {file} {p} (Stream.next {more = more} k piece lexeme found is rest) =
     by kind.Dot there = inr (refl, λ span. not_here kind.Dot piece kind.Arrow span there (λ e. cc))
 
 name_primary : (file : List ℕ) (p : ℕ) (piece : PrefixMatch) (more : List Lexeme) (inner : Option Reading)
-    → matcher_of kind.Ident (drop p file) ≡ Some piece → Stream file (behind_text file p piece.length) more
+    → matcher_of kind.Ident (drop p file) ≡ Some piece → Stream file (following_text file p piece.length) more
     → ExactAny file (codes "Primary") p (lexeme_at kind.Ident p piece.length ∷
     more) (primary_of file inner (lexeme_at kind.Ident p piece.length) more kind.Ident)
 unfolding primary_body
@@ -133,7 +133,7 @@ name_primary file p piece more inner found rest =
     elim (arrow_next rest) [ inl arrow ↦ refused arrow | inr none ↦ read none ]
   where
     refused : (starts_with_arrow more ≡ true) × ((span : Extent) → (end : ℕ) × (trees : Trees)
-        × Derives figure file (Name (codes "LEFTARROW") span) (behind_text file p piece.length) (Matched end trees))
+        × Derives figure file (Name (codes "LEFTARROW") span) (following_text file p piece.length) (Matched end trees))
         → ExactAny file (codes "Primary") p (lexeme_at kind.Ident p piece.length ∷
         more) (primary_of file inner (lexeme_at kind.Ident p piece.length) more kind.Ident)
     refused arrow =
@@ -148,7 +148,7 @@ name_primary file p piece more inner found rest =
         (DerivesFirst.alternative_last (not_here kind.Ident piece kind.Dot _ found (λ e. cc)))))))))
 
     read : (starts_with_arrow more ≡ false) × ((span : Extent) → Derives figure file (Name (codes "LEFTARROW") span)
-        (behind_text file p piece.length) Failed) → ExactAny file (codes "Primary") p
+        (following_text file p piece.length) Failed) → ExactAny file (codes "Primary") p
         (lexeme_at kind.Ident p piece.length ∷ more) (primary_of file inner
         (lexeme_at kind.Ident p piece.length) more kind.Ident)
     read none =
@@ -159,7 +159,7 @@ name_primary file p piece more inner found rest =
         (Derives.choice (DerivesFirst.alternative_matched (Derives.sequence
         (DerivesItems.items_then it.derives (DerivesItems.items_then
         (Derives.not_matched (none.1 _)) DerivesItems.items_none refl)
-        (ap (λ (t : Trees). Matched (behind_text file p piece.length) t) (sym (followed-none it.trees))))))) rest)
+        (ap (λ (t : Trees). Matched (following_text file p piece.length) t) (sym (followed-none it.trees))))))) rest)
 
 -- ---- literals, classes and dots
 
@@ -169,7 +169,7 @@ pub pieces_here : (file : List ℕ) (k : TokenKind) (p : ℕ) (piece : PrefixMat
 pieces_here file k p piece found = ap (λ text. unwrap_or (option_map (λ (x : PrefixMatch). x.spells) text) []) found
 
 literal_primary : (file : List ℕ) (p : ℕ) (piece : PrefixMatch) (more : List Lexeme) (inner : Option Reading)
-    → matcher_of kind.Literal (drop p file) ≡ Some piece → Stream file (behind_text file p piece.length) more
+    → matcher_of kind.Literal (drop p file) ≡ Some piece → Stream file (following_text file p piece.length) more
     → ExactAny file (codes "Primary") p (lexeme_at kind.Literal p piece.length ∷
     more) (primary_of file inner (lexeme_at kind.Literal p piece.length) more kind.Literal)
 unfolding primary_body
@@ -187,7 +187,7 @@ literal_primary file p piece more inner found rest =
     (DerivesFirst.alternative_matched it.derives)))) rest
 
 class_primary : (file : List ℕ) (p : ℕ) (piece : PrefixMatch) (more : List Lexeme) (inner : Option Reading)
-    → matcher_of kind.Class (drop p file) ≡ Some piece → Stream file (behind_text file p piece.length) more
+    → matcher_of kind.Class (drop p file) ≡ Some piece → Stream file (following_text file p piece.length) more
     → ExactAny file (codes "Primary") p (lexeme_at kind.Class p piece.length ∷
     more) (primary_of file inner (lexeme_at kind.Class p piece.length) more kind.Class)
 unfolding primary_body
@@ -206,7 +206,7 @@ class_primary file p piece more inner found rest =
     (DerivesFirst.alternative_matched it.derives))))) rest
 
 dot_primary : (file : List ℕ) (p : ℕ) (piece : PrefixMatch) (more : List Lexeme) (inner : Option Reading)
-    → matcher_of kind.Dot (drop p file) ≡ Some piece → Stream file (behind_text file p piece.length) more
+    → matcher_of kind.Dot (drop p file) ≡ Some piece → Stream file (following_text file p piece.length) more
     → ExactAny file (codes "Primary") p (lexeme_at kind.Dot p piece.length ∷
     more) (primary_of file inner (lexeme_at kind.Dot p piece.length) more kind.Dot)
 unfolding primary_body
@@ -227,7 +227,7 @@ dot_primary file p piece more inner found rest =
 -- if a parenthesis opens and the rest of its alternative fails, so does Primary
 open_fails : (file : List ℕ) (p : ℕ) (piece : PrefixMatch) → matcher_of kind.Open (drop p file) ≡ Some piece
     → ((span next : Extent) → DerivesItems figure file (Then (Name (codes "Expression") span)
-    (Then (Name (codes "CLOSE") next) End)) (behind_text file p piece.length) Failed) → (span : Extent)
+    (Then (Name (codes "CLOSE") next) End)) (following_text file p piece.length) Failed) → (span : Extent)
     → Derives figure file (Name (codes "Primary") span) p Failed
 unfolding primary_body
 open_fails file p piece found inside span =
@@ -241,18 +241,18 @@ open_fails file p piece found inside span =
     (DerivesFirst.alternative_last (not_here kind.Open piece kind.Dot _ found (λ e. cc))))))))
 
 -- after the tokens inside and two more
-behind_both : (opening : Lexeme) (more : List Lexeme) (token_count : ℕ) → drop (token_count + 2) (opening ∷ more)
+following_both : (opening : Lexeme) (more : List Lexeme) (token_count : ℕ) → drop (token_count + 2) (opening ∷ more)
     ≡ drop 1 (drop token_count more)
-behind_both opening more token_count =
+following_both opening more token_count =
     let same : token_count + 2 ≡ suc (token_count + 1) = omega arith in
     ap (λ n. drop n (opening ∷ more)) same ∙ sym (drop-drop 1 token_count more)
 
 -- an expression in parentheses
 parentheses : (file : List ℕ) (p : ℕ) (piece : PrefixMatch) (more : List Lexeme) (part : FormRead)
     → matcher_of kind.Open (drop p file) ≡ Some piece → (e : ReadsAt file (codes "Expression") (p + piece.length)
-    (behind_text file p piece.length) more part) → (closing : PrefixMatch) (rest : List Lexeme)
+    (following_text file p piece.length) more part) → (closing : PrefixMatch) (rest : List Lexeme)
     → matcher_of kind.Close (drop e.end file) ≡ Some closing → drop part.token_count more
-    ≡ lexeme_at kind.Close e.end closing.length ∷ rest → Stream file (behind_text file e.end closing.length) rest
+    ≡ lexeme_at kind.Close e.end closing.length ∷ rest → Stream file (following_text file e.end closing.length) rest
     → ReadsAny file (codes "Primary") p (lexeme_at kind.Open p piece.length ∷
     more) (record { form = part.form; token_count = part.token_count + 2; last = e.end + closing.length; depth = part.depth + 1 })
 unfolding primary_body
@@ -261,7 +261,7 @@ parentheses file p piece more part found e closing rest there left_is left =
     (on_line primary_rule 35 39) found in
     let c : FindsToken file close_rule (codes "CLOSE") (on_line primary_rule 51 56) e.end closing = here kind.Close closing
     (on_line primary_rule 51 56) there in
-    let end : ℕ = behind_text file e.end closing.length in
+    let end : ℕ = following_text file e.end closing.length in
     let inside : Trees = followed_by o.trees (followed_by e.trees (followed_by c.trees NoTrees)) in
     let o_blank : piece.spells ≡ [] = (blank-literal_bytes (codes "(")).blank (drop p file) piece found in
     let c_blank : closing.spells ≡ [] = (blank-literal_bytes (codes ")")).blank (drop e.end file) closing there in
@@ -304,7 +304,7 @@ parentheses file p piece more part found e closing rest there left_is left =
       trees = Tree primary_rule p end inside NoTrees;
       left =
           subst (λ (lexemes : List Lexeme). Stream file end lexemes)
-          (sym (behind_both (lexeme_at kind.Open p piece.length) more part.token_count ∙ ap (drop 1) left_is)) left;
+          (sym (following_both (lexeme_at kind.Open p piece.length) more part.token_count ∙ ap (drop 1) left_is)) left;
       derives = matched body;
       spells = λ before.
           append-nil (primary_spelled (spelled file before inside)) ∙ ap primary_spelled (all_spells before);
@@ -322,7 +322,7 @@ parentheses file p piece more part found e closing rest there left_is left =
 -- if the parenthesis doesn't close, CLOSE fails
 no_close : (file : List ℕ) (p : ℕ) (piece : PrefixMatch) (more : List Lexeme) (part : FormRead) → matcher_of kind.Open (drop p file)
     ≡ Some piece → (e : ReadsAt file (codes "Expression") (p + piece.length)
-    (behind_text file p piece.length) more part) → ((span : Extent)
+    (following_text file p piece.length) more part) → ((span : Extent)
     → Derives figure file (Name (codes "CLOSE") span) e.end Failed) → (span : Extent)
     → Derives figure file (Name (codes "Primary") span) p Failed
 no_close file p piece more part found e fails =
@@ -331,7 +331,7 @@ no_close file p piece more part found e fails =
 
 close_read : (file : List ℕ) (p : ℕ) (piece : PrefixMatch) (more : List Lexeme) (part : FormRead)
     → matcher_of kind.Open (drop p file) ≡ Some piece → (e : ReadsAt file (codes "Expression") (p + piece.length)
-    (behind_text file p piece.length) more part) → (lexemes : List Lexeme) → drop part.token_count more ≡ lexemes
+    (following_text file p piece.length) more part) → (lexemes : List Lexeme) → drop part.token_count more ≡ lexemes
     → Stream file e.end lexemes → ExactAny file (codes "Primary") p (lexeme_at kind.Open p piece.length ∷
     more) (closed_form (length file) part lexemes)
 close_read file p piece more part found e [] same (Stream.ended last) =
@@ -388,15 +388,15 @@ stuck_close file q stuck span =
     ]
 
 open_primary : (file : List ℕ) (p : ℕ) (piece : PrefixMatch) (more : List Lexeme) (inner : Option Reading)
-    → Good file inner → matcher_of kind.Open (drop p file) ≡ Some piece → Stream file (behind_text file p piece.length) more
+    → Good file inner → matcher_of kind.Open (drop p file) ≡ Some piece → Stream file (following_text file p piece.length) more
     → ExactAny file (codes "Primary") p (lexeme_at kind.Open p piece.length ∷
     more) (parenthesized inner (length file) (lexeme_at kind.Open p piece.length) more)
 open_primary file p piece more None good found rest = tt
 open_primary file p piece more (Some read) good found rest =
-    by (read (p + piece.length) more) (good (p + piece.length) (behind_text file p piece.length) more rest)
+    by (read (p + piece.length) more) (good (p + piece.length) (following_text file p piece.length) more rest)
   where
     by : (x : Result FormRead ReadError) → ExactAt file (codes "Expression") (p + piece.length)
-        (behind_text file p piece.length) more x → ExactAny file (codes "Primary") p (lexeme_at kind.Open p piece.length ∷
+        (following_text file p piece.length) more x → ExactAny file (codes "Primary") p (lexeme_at kind.Open p piece.length ∷
         more) (and_read x (λ (inside : FormRead). closed_form (length file) inside (drop inside.token_count more)))
     by (Ok inside) e = close_read file p piece more inside found e (drop inside.token_count more) refl e.left
     by (Err (Unexpected at)) stops =

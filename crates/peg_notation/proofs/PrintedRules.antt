@@ -178,14 +178,14 @@ module _ (file : List ℕ) where
   pub no_escape : (p : ℕ) (rest : List ℕ) → drop p file ≡ 92 ∷ 120 ∷ rest → Old printed_char p Failed
   unfolding class_of
   no_escape p rest is =
-      let behind_it : drop (p + 1) file ≡ 120 ∷ rest = sym (drop-drop 1 p file) ∙ ap (drop 1) is in
+      let following_it : drop (p + 1) file ≡ 120 ∷ rest = sym (drop-drop 1 p file) ∙ ap (drop 1) is in
       Derives.choice
       (DerivesFirst.alternative_failed (Derives.sequence (DerivesItems.items_then (literal_here (120 ∷ rest) is)
-      (DerivesItems.items_failed (class_missing behind_it refl)) refl))
+      (DerivesItems.items_failed (class_missing following_it refl)) refl))
       (DerivesFirst.alternative_failed (Derives.sequence (DerivesItems.items_then (literal_here (120 ∷ rest) is)
-      (DerivesItems.items_failed (class_missing behind_it refl)) refl))
+      (DerivesItems.items_failed (class_missing following_it refl)) refl))
       (DerivesFirst.alternative_failed (Derives.sequence (DerivesItems.items_then (literal_here (120 ∷ rest) is)
-      (DerivesItems.items_failed (class_missing behind_it refl)) refl))
+      (DerivesItems.items_failed (class_missing following_it refl)) refl))
       (DerivesFirst.alternative_last (Derives.sequence
       (DerivesItems.items_failed (Derives.not_failed (literal_here (120 ∷ rest) is))))))))
 
@@ -253,9 +253,9 @@ module _ (file : List ℕ) where
   range_carried =
       Carries.choice (CarriesFirst.other (Carries.sequence two) (CarriesFirst.only char_carried) (λ p s. absurd s) failed later)
     where
-      behind_dash : {span other : Extent}
+      following_dash : {span other : Extent}
           → CarriesItems file (Then (Literal (codes "-") span) (Then (Name (codes "Char") other) End)) Halt.dashed
-      behind_dash {span} = plain_then refl (last_item char_carried) go
+      following_dash {span} = plain_then refl (last_item char_carried) go
         where
           go : (p middle : ℕ) (trees : Trees) (x : Recognition)
               → Old (Literal (codes "-") span) p (Matched middle trees) → Halts file Halt.character middle x
@@ -266,7 +266,7 @@ module _ (file : List ℕ) where
 
       two : {first span other : Extent} → CarriesItems file (Then (Name (codes "Char") first)
           (Then (Literal (codes "-") span) (Then (Name (codes "Char") other) End))) Halt.pair
-      two {first} = CarriesItems.item char_carried behind_dash (λ p s. inl s) (λ p middle trees x s ds. absurd s) go
+      two {first} = CarriesItems.item char_carried following_dash (λ p s. inl s) (λ p middle trees x s ds. absurd s) go
         where
           go : (p middle : ℕ) (trees : Trees) (x : Recognition)
               → Old (Name (codes "Char") first) p (Matched middle trees) → Halts file Halt.dashed middle x

@@ -57,11 +57,11 @@ no_x first sign digits other =
     else (if is_octal sign then octal (sign ∷ digits) else simple_escape sign)) other
 
 -- the start of a text with a backslash
-behind_backslash : (sign : ℕ) (rest : List ℕ) (n : ℕ) → (sign == 120) ≡ false
+following_backslash : (sign : ℕ) (rest : List ℕ) (n : ℕ) → (sign == 120) ≡ false
     → byte_spelled (take n (92 ∷ sign ∷ rest)) ≡ printed_byte (take n (92 ∷ sign ∷ rest))
-behind_backslash sign rest zero other = refl
-behind_backslash sign rest (suc zero) other = refl
-behind_backslash sign rest (suc (suc n)) other = no_x 92 sign (take n rest) other
+following_backslash sign rest zero other = refl
+following_backslash sign rest (suc zero) other = refl
+following_backslash sign rest (suc (suc n)) other = no_x 92 sign (take n rest) other
 
 pub printed-spelling : (file : List ℕ) (start end : ℕ) (trees : Trees)
     → MatchesPrinted file (codes "Char") start end trees
@@ -74,7 +74,7 @@ printed-spelling file start end trees m = by (drop start file) refl
 
     escape : (sign : ℕ) (rest : List ℕ) (b : Bool) → (sign == 120) ≡ b → drop start file ≡ 92 ∷ sign ∷ rest
         → byte_spelled (take (end - start) (92 ∷ sign ∷ rest)) ≡ printed_byte (take (end - start) (92 ∷ sign ∷ rest))
-    escape sign rest false other is = behind_backslash sign rest (end - start) other
+    escape sign rest false other is = following_backslash sign rest (end - start) other
     escape sign rest true same is =
         let sign_is : sign ≡ 120 = grind (arith, nat_tests) in
         let failed = no_escape file start rest (is ∙ ap (λ s. 92 ∷ s ∷ rest) sign_is) in

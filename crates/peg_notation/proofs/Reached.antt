@@ -21,14 +21,14 @@ use Rattle.peg_lexer.specs.declared.token.TokenKind.TheVariants as kind
 -- ---- texts
 
 -- a piece of a text ends no earlier than it starts
-end_behind : (start end : ℕ) (x : Option PrefixMatch) → option_map (λ (piece : PrefixMatch). start + piece.length) x ≡ Some end → start ≤ end
-end_behind start end None is = cc
-end_behind start end (Some piece) is = let same : start + piece.length ≡ end = cc in omega (arith, same)
+end_following : (start end : ℕ) (x : Option PrefixMatch) → option_map (λ (piece : PrefixMatch). start + piece.length) x ≡ Some end → start ≤ end
+end_following start end None is = cc
+end_following start end (Some piece) is = let same : start + piece.length ≡ end = cc in omega (arith, same)
 
 pub token-order : (file : List ℕ) (from : ℕ) (lexeme : Lexeme) (more : List Lexeme) → AreTexts file from (lexeme ∷ more)
     → lexeme.text.start ≤ lexeme.text.end
 token-order file from lexeme more texts =
-    end_behind lexeme.text.start lexeme.text.end (matcher_of lexeme.kind (drop lexeme.text.start file)) texts.1
+    end_following lexeme.text.start lexeme.text.end (matcher_of lexeme.kind (drop lexeme.text.start file)) texts.1
 
 pub texts-within : (file : List ℕ) (from : ℕ) (lexemes : List Lexeme) → AreTexts file from lexemes → from ≤ length file
 texts-within file from [] texts = texts
@@ -92,9 +92,9 @@ pub record IsDeepAt (file : List ℕ) (bound a : ℕ) (lexemes : List Lexeme) (a
   pub position : at ≡ opening.text.start
   pub runs : Runs file bound a lexemes bound (opening ∷ more)
 
-pub deep-behind : {file : List ℕ} {bound a b : ℕ} {lexemes rest : List Lexeme} {at : ℕ} → Runs file bound a lexemes b rest → IsDeepAt file bound b rest at
+pub deep-following : {file : List ℕ} {bound a b : ℕ} {lexemes rest : List Lexeme} {at : ℕ} → Runs file bound a lexemes b rest → IsDeepAt file bound b rest at
     → IsDeepAt file bound a lexemes at
-deep-behind runs deep = record {
+deep-following runs deep = record {
   opening = deep.opening;
   more = deep.more;
   opens = deep.opens;
@@ -124,12 +124,12 @@ bad-later {lexeme = lexeme} bad = record {
   position = bad.position;
 }
 
-pub bad-behind : {file : List ℕ} {bound a b : ℕ} {lexemes rest : List Lexeme} {at : ℕ} → Runs file bound a lexemes b rest
+pub bad-following : {file : List ℕ} {bound a b : ℕ} {lexemes rest : List Lexeme} {at : ℕ} → Runs file bound a lexemes b rest
     → IsBadAt file rest at → IsBadAt file lexemes at
-bad-behind Runs.stays bad = bad
-bad-behind (Runs.opened is less more) bad = bad-later (bad-behind more bad)
-bad-behind (Runs.shut is more) bad = bad-later (bad-behind more bad)
-bad-behind (Runs.other plain more) bad = bad-later (bad-behind more bad)
+bad-following Runs.stays bad = bad
+bad-following (Runs.opened is less more) bad = bad-later (bad-following more bad)
+bad-following (Runs.shut is more) bad = bad-later (bad-following more bad)
+bad-following (Runs.other plain more) bad = bad-later (bad-following more bad)
 
 -- ---- what is reached
 
@@ -190,7 +190,7 @@ shut-takes : (file : List ℕ) (bound a from : ℕ) (opening : Lexeme) (rest : L
     → Reached file bound (suc a) opening.text.end rest inside → drop inside.token_count rest ≡ lexeme ∷ more → lexeme.kind ≡ kind.Close
     → Taken file bound a (opening ∷ rest) (record { form = inside.form; token_count = inside.token_count + 2; last = lexeme.text.end; depth = inside.depth + 1 })
 shut-takes file bound a from opening rest inside lexeme more texts opens less e left closes =
-    let behind : AreTexts file inside.last (lexeme ∷ more) = subst (AreTexts file inside.last) left e.rest_texts in
+    let following : AreTexts file inside.last (lexeme ∷ more) = subst (AreTexts file inside.last) left e.rest_texts in
     let count : inside.token_count + 2 ≡ suc (inside.token_count + 1) = omega arith in
     let gone : more ≡ drop (inside.token_count + 2) (opening ∷ rest) =
     ap (drop 1) (sym left) ∙ (drop-drop 1 inside.token_count rest ∙ ap (λ n. drop n (opening ∷ rest)) (sym count)) in
@@ -198,8 +198,8 @@ shut-takes file bound a from opening rest inside lexeme more texts opens less e 
     record {
       form = e.form;
       some = omega arith;
-      order = omega (arith, token-order file from opening rest texts, e.after, behind.0, token-order file inside.last lexeme more behind);
-      rest_texts = subst (AreTexts file lexeme.text.end) gone behind.2;
+      order = omega (arith, token-order file from opening rest texts, e.after, following.0, token-order file inside.last lexeme more following);
+      rest_texts = subst (AreTexts file lexeme.text.end) gone following.2;
       runs = Runs.opened opens less (runs-then over (subst (Runs file bound (suc a) (lexeme ∷ more) a) gone (Runs.shut closes Runs.stays)));
       shallow = omega (arith, less, e.shallow);
     }
@@ -249,7 +249,7 @@ parenthesized-takes file bound a from (Some read) is opening rest texts opens =
         (and_read x (λ (inside : FormRead). closed_form (length file) inside (drop inside.token_count rest)))
     by (Ok inside) e = closed_form-takes file bound a from opening rest inside texts opens is.0 e (drop inside.token_count rest) refl
     by (Err (Unexpected at)) e = tt
-    by (Err (TooDeepAt at)) e = deep-behind (Runs.opened opens is.0 Runs.stays) e
+    by (Err (TooDeepAt at)) e = deep-following (Runs.opened opens is.0 Runs.stays) e
     by (Err (BadCountAt at)) e = bad-later e
 
 named-takes : (file : List ℕ) (bound a from : ℕ) (lexeme : Lexeme) (rest : List Lexeme) → AreTexts file from (lexeme ∷ rest)
@@ -357,7 +357,7 @@ then_suffix-takes file bound a lexemes p e (lexeme ∷ more) left = by (is_bad_c
         (if t then Err (BadCountAt lexeme.text.start) else Ok
         (with_suffix (place_of (length file) lexemes) p lexeme (suffix_sign file lexeme lexeme.kind)))
     by true bad =
-        bad-behind (subst (Runs file bound a lexemes a) left e.runs)
+        bad-following (subst (Runs file bound a lexemes a) left e.runs)
         (record { before = []; count = lexeme; more = more; same = refl; bad = bad; position = refl })
     by false fine = sign_of-takes file bound a lexemes p e lexeme more left fine lexeme.kind refl
 
@@ -398,7 +398,7 @@ prefixed-takes file bound a from inner is lexeme rest texts plain sign lies =
           shallow = e.shallow;
         }
     by (Err (Unexpected at)) e = tt
-    by (Err (TooDeepAt at)) e = deep-behind (Runs.other plain Runs.stays) e
+    by (Err (TooDeepAt at)) e = deep-following (Runs.other plain Runs.stays) e
     by (Err (BadCountAt at)) e = bad-later e
 
 prefix_of-takes : (file : List ℕ) (bound a from : ℕ) (inner : Option Reading) → InnerReaches file bound a inner

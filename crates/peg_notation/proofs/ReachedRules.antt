@@ -13,8 +13,8 @@ use Rattle.peg_lexer.specs.Tokens.{Lexeme}
 use Rattle.peg_lexer.specs.declared.token.TokenKind.{TokenKind}
 use Rattle.peg_lexer.specs.declared.token.TokenKind.TheVariants as kind
 use Rattle.peg_notation.proofs.GrammarRules.{definitions_after-drop}
-use Rattle.peg_notation.proofs.Reached.{token-order, token-lies, texts-within, texts-from, texts-position, Runs, runs-then, IsPlain, plain-kind, IsDeepAt, deep-behind, IsBadAt, bad-later, bad-behind, Taken, Reached, Takes, Reaches, InnerReaches, prefix-takes}
-use Rattle.peg_notation.proofs.Repeats.{many_behind-drop}
+use Rattle.peg_notation.proofs.Reached.{token-order, token-lies, texts-within, texts-from, texts-position, Runs, runs-then, IsPlain, plain-kind, IsDeepAt, deep-following, IsBadAt, bad-later, bad-following, Taken, Reached, Takes, Reaches, InnerReaches, prefix-takes}
+use Rattle.peg_notation.proofs.Repeats.{many_following-drop}
 
 -- ---- several in a row
 
@@ -61,8 +61,8 @@ one-passes file bound a before lexemes texts p e (Ok parts) m =
       shallow = omega (arith, e.shallow, m.shallow);
     }
 one-passes file bound a before lexemes texts p e (Err (Unexpected at)) m = tt
-one-passes file bound a before lexemes texts p e (Err (TooDeepAt at)) m = deep-behind e.runs m
-one-passes file bound a before lexemes texts p e (Err (BadCountAt at)) m = bad-behind e.runs m
+one-passes file bound a before lexemes texts p e (Err (TooDeepAt at)) m = deep-following e.runs m
+one-passes file bound a before lexemes texts p e (Err (BadCountAt at)) m = bad-following e.runs m
 
 -- a function that reads one, where one begins
 abbrev pub Rounds : (file : List ℕ) (bound a : ℕ) (begins : List Lexeme → Bool) → Reading → Type 0
@@ -83,7 +83,7 @@ many_forms-passes file bound a begins read is (suc n) before (l ∷ rest) few te
     let same : drop p.token_count (l ∷ rest) ≡ drop (p.token_count - 1) rest = ap (λ k. drop k (l ∷ rest)) one in
     let fewer : length (drop p.token_count (l ∷ rest)) ≤ n = omega (arith, length-drop p.token_count (l ∷ rest), e.some) in
     subst (λ (x : Result FormsRead ReadError). PassesAll file bound a p.last (drop p.token_count (l ∷ rest)) x)
-    (ap (many_forms begins read p.last) same ∙ sym (many_behind-drop begins read p.last rest (p.token_count - 1)))
+    (ap (many_forms begins read p.last) same ∙ sym (many_following-drop begins read p.last rest (p.token_count - 1)))
     (many_forms-passes file bound a begins read is n p.last (drop p.token_count (l ∷ rest)) fewer e.rest_texts))
   where
     step : (x : Result FormRead ReadError) → Takes file bound a (l ∷ rest) x → ((p : FormRead) → (e : Taken file bound a (l ∷ rest) p)
@@ -197,7 +197,7 @@ alternative-takes file bound a inner is before (slash ∷ rest) texts begun =
           shallow = e.shallow;
         }
     by (Err (Unexpected at)) e = tt
-    by (Err (TooDeepAt at)) e = let plain = slash-plain file slash slash.kind refl begun in deep-behind (Runs.other plain Runs.stays) e
+    by (Err (TooDeepAt at)) e = let plain = slash-plain file slash slash.kind refl begun in deep-following (Runs.other plain Runs.stays) e
     by (Err (BadCountAt at)) e = bad-later e
 
 pub alternatives-pass : (file : List ℕ) (bound a : ℕ) (inner : Option Reading) → InnerReaches file bound a inner
@@ -244,8 +244,8 @@ expression-reaches file bound a inner is before lexemes texts =
           shallow = omega (arith, e.shallow, m.shallow);
         }
     more_reach p e (Err (Unexpected at)) m = tt
-    more_reach p e (Err (TooDeepAt at)) m = deep-behind e.runs m
-    more_reach p e (Err (BadCountAt at)) m = bad-behind e.runs m
+    more_reach p e (Err (TooDeepAt at)) m = deep-following e.runs m
+    more_reach p e (Err (BadCountAt at)) m = bad-following e.runs m
 
     by : (x : Result FormRead ReadError) → Reaches file bound a before lexemes x → Reaches file bound a before lexemes
         (and_read x (λ (p : FormRead). and_read (many_forms starts_with_slash (alternative file inner) p.last (drop p.token_count lexemes))
@@ -310,8 +310,8 @@ after_tokens-reaches file bound from name (arrow ∷ rest) texts is true next =
           shallow = omega (arith, e.shallow);
         }
     by (Err (Unexpected at)) e = tt
-    by (Err (TooDeepAt at)) e = deep-behind runs e
-    by (Err (BadCountAt at)) e = bad-behind runs e
+    by (Err (TooDeepAt at)) e = deep-following runs e
+    by (Err (BadCountAt at)) e = bad-following runs e
 
 definition_of-reaches : (file : List ℕ) (bound from : ℕ) (lexeme : Lexeme) (rest : List Lexeme)
     → AreTexts file from (lexeme ∷ rest) → (k : TokenKind) → lexeme.kind ≡ k
@@ -399,8 +399,8 @@ definitions-reach file bound (suc n) from (l ∷ rest) few texts =
       runs-bad_places e.runs ∙ m.2,
     )
     both r e (Err (Unexpected at)) m = tt
-    both r e (Err (TooDeepAt at)) m = deep-behind e.runs m
-    both r e (Err (BadCountAt at)) m = bad-behind e.runs m
+    both r e (Err (TooDeepAt at)) m = deep-following e.runs m
+    both r e (Err (BadCountAt at)) m = bad-following e.runs m
 
     by : (x : Result RuleRead ReadError) → RuleReaches file bound (l ∷ rest) x
         → ((r : RuleRead) → RuleReached file bound (l ∷ rest) r

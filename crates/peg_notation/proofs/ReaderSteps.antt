@@ -12,7 +12,7 @@ use Rattle.peg_notation.specs.declared.fault.NotationFault.TheVariants.{FileTooL
 use Rattle.peg_notation.proofs.ManyLoops.{SoFar, so_far-halt}
 use Rattle.peg_notation.proofs.Reached.{token-order, token-lies, texts-from, texts-position, Taken, Reached, Takes, Reaches, InnerReaches, primary-takes, suffix-takes}
 use Rattle.peg_notation.proofs.ReachedRules.{Passes, PassesAll, items-pass, alternatives-pass, sequence-reaches, both-order, expression_in-reaches}
-use Rattle.peg_notation.proofs.TokenTexts.{lexemes-behind}
+use Rattle.peg_notation.proofs.TokenTexts.{lexemes-following}
 
 -- a fault is passed on
 pub fault_passes : {X Y : Type 0} (x : Result X ReadError) (next : X → Result Y ReadError) (fault : NotationFault) → AgreesOnError x fault
@@ -52,18 +52,18 @@ parenthesized-is file (suc n) some size opening rest =
     ∙ ap (λ k. expression file (inner_reading file k) opening.text.end rest) less)
 
 -- the tokens after the first n have their texts after the start of the file
-pub texts-behind : (file : List ℕ) (from n : ℕ) (lexemes : List Lexeme) → AreTexts file from lexemes
+pub texts-following : (file : List ℕ) (from n : ℕ) (lexemes : List Lexeme) → AreTexts file from lexemes
     → AreTexts file 0 (drop n lexemes)
-texts-behind file from zero lexemes texts = texts-from file from 0 lexemes (omega arith) texts
-texts-behind file from (suc n) [] texts = omega arith
-texts-behind file from (suc n) (lexeme ∷ more) texts = texts-behind file lexeme.text.end n more texts.2
+texts-following file from zero lexemes texts = texts-from file from 0 lexemes (omega arith) texts
+texts-following file from (suc n) [] texts = omega arith
+texts-following file from (suc n) (lexeme ∷ more) texts = texts-following file lexeme.text.end n more texts.2
 
 -- the next token, and those after it
 pub front_token : (tokens : List Token) (token : Token) → 1 ≤ length tokens → token ≡ get_or tokens 0 token
     → lexemes tokens ≡ lexeme_of token ∷ lexemes (take (length tokens - 1) (drop 1 tokens))
 front_token [] token long is = absurd (omega arith)
 front_token (first ∷ more) token long is =
-    λ i. lexeme_of (sym is i) ∷ sym (lexemes-behind (first ∷ more) 1) i
+    λ i. lexeme_of (sym is i) ∷ sym (lexemes-following (first ∷ more) 1) i
 
 pub front_texts : (file : List ℕ) (from : ℕ) (tokens : List Token) (token : Token) → 1 ≤ length tokens
     → token ≡ get_or tokens 0 token → AreTexts file from (lexemes tokens)
@@ -179,30 +179,30 @@ expression_read file inner before lexemes first more read read_more =
 pub ruleset faults = (fault_passes)
 
 -- a rule after its name, by its body
-behind_is : (file : List ℕ) (bound : ℕ) (name : Lexeme) (lexemes : List Lexeme) (arrow : Lexeme) (more : List Lexeme)
+following_is : (file : List ℕ) (bound : ℕ) (name : Lexeme) (lexemes : List Lexeme) (arrow : Lexeme) (more : List Lexeme)
     → lexemes ≡ arrow ∷ more → starts_with_arrow lexemes ≡ true
     → definition_after file bound name lexemes (starts_with_arrow lexemes)
     ≡ and_read (expression file (inner_reading file bound) arrow.text.end more) (λ (body : FormRead). Ok (rule_read file name body))
-behind_is file bound name lexemes arrow more front next =
+following_is file bound name lexemes arrow more front next =
     ap (definition_after file bound name lexemes) next
     ∙ (ap (λ l. definition_after file bound name l true) front
     ∙ ap (λ (x : Result FormRead ReadError). and_read x (λ (body : FormRead). Ok (rule_read file name body)))
     (expression_in-is file bound arrow.text.end more))
 
-pub behind_fault : (file : List ℕ) (bound : ℕ) (name : Lexeme) (lexemes : List Lexeme) (arrow : Lexeme) (more : List Lexeme)
+pub following_fault : (file : List ℕ) (bound : ℕ) (name : Lexeme) (lexemes : List Lexeme) (arrow : Lexeme) (more : List Lexeme)
     (fault : NotationFault) → lexemes ≡ arrow ∷ more → starts_with_arrow lexemes ≡ true
     → AgreesOnError (expression file (inner_reading file bound) arrow.text.end more) fault
     → AgreesOnError (definition_after file bound name lexemes (starts_with_arrow lexemes)) fault
-behind_fault file bound name lexemes arrow more fault front next is =
-    subst (λ (x : Result RuleRead ReadError). AgreesOnError x fault) (sym (behind_is file bound name lexemes arrow more front next))
+following_fault file bound name lexemes arrow more fault front next is =
+    subst (λ (x : Result RuleRead ReadError). AgreesOnError x fault) (sym (following_is file bound name lexemes arrow more front next))
     (fault_passes (expression file (inner_reading file bound) arrow.text.end more) (λ (body : FormRead). Ok (rule_read file name body)) fault is)
 
-pub behind_read : (file : List ℕ) (bound : ℕ) (name : Lexeme) (lexemes : List Lexeme) (arrow : Lexeme) (more : List Lexeme)
+pub following_read : (file : List ℕ) (bound : ℕ) (name : Lexeme) (lexemes : List Lexeme) (arrow : Lexeme) (more : List Lexeme)
     (body : FormRead) → lexemes ≡ arrow ∷ more → starts_with_arrow lexemes ≡ true
     → expression file (inner_reading file bound) arrow.text.end more ≡ Ok body
     → definition_after file bound name lexemes (starts_with_arrow lexemes) ≡ Ok (rule_read file name body)
-behind_read file bound name lexemes arrow more body front next read =
-    behind_is file bound name lexemes arrow more front next
+following_read file bound name lexemes arrow more body front next read =
+    following_is file bound name lexemes arrow more front next
     ∙ ap (λ (x : Result FormRead ReadError). and_read x (λ (body : FormRead). Ok (rule_read file name body))) read
 
 -- a file of some tokens is its rules

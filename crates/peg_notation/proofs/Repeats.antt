@@ -17,13 +17,13 @@ use Rattle.peg_notation.proofs.Streams.{Stream}
 use Rattle.peg_lexer.proofs.Takes.{spelled-seq_matcher, text_end-seq_matcher, nesting-seq_matcher}
 
 -- skipping tokens is dropping them
-pub many_behind-drop : (begins : List Lexeme → Bool) (read : Reading) (before : ℕ) (lexemes : List Lexeme) (skipped : ℕ)
+pub many_following-drop : (begins : List Lexeme → Bool) (read : Reading) (before : ℕ) (lexemes : List Lexeme) (skipped : ℕ)
     → many_forms_after begins read before lexemes skipped ≡ many_forms begins read before (drop skipped lexemes)
 unfolding many_forms_after
-many_behind-drop begins read before [] zero = refl
-many_behind-drop begins read before [] (suc skipped) = refl
-many_behind-drop begins read before (l ∷ rest) zero = refl
-many_behind-drop begins read before (l ∷ rest) (suc skipped) = many_behind-drop begins read before rest skipped
+many_following-drop begins read before [] zero = refl
+many_following-drop begins read before [] (suc skipped) = refl
+many_following-drop begins read before (l ∷ rest) zero = refl
+many_following-drop begins read before (l ∷ rest) (suc skipped) = many_following-drop begins read before rest skipped
 
 -- one iteration: an expression, whatever comes before it
 pub record ReadsRound (file : List ℕ) (element : Form) (p : ℕ) (lexemes : List Lexeme) (part : FormRead) : Type 0 where
@@ -132,7 +132,7 @@ rounds {file} {element} {span} {begins} {read} r (suc n) before p (l ∷ rest) f
     let same : drop part.token_count (l ∷ rest) ≡ drop (part.token_count - 1) rest = ap (λ k. drop k (l ∷ rest)) one in
     let fewer : length (drop part.token_count (l ∷ rest)) ≤ n = omega (arith, length-drop part.token_count (l ∷ rest), e.some) in
     subst (λ (x : Result FormsRead ReadError). ExactMany file element span part.last e.end (drop part.token_count (l ∷ rest)) x)
-    (ap (many_forms begins read part.last) same ∙ sym (many_behind-drop begins read part.last rest (part.token_count - 1)))
+    (ap (many_forms begins read part.last) same ∙ sym (many_following-drop begins read part.last rest (part.token_count - 1)))
     (rounds r n part.last e.end (drop part.token_count (l ∷ rest)) fewer e.left empty))
   where
     step : (x : Result FormRead ReadError) → ExactRound file element span p (l ∷ rest) x

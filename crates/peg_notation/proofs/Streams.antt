@@ -14,14 +14,14 @@ use Rattle.peg_metagrammar.specs.Denotation.{text_end}
 use Rattle.peg_lexer.specs.Tokens.{rule_of_kind, Lexeme, IsLexeme, Lexemes}
 use Rattle.peg_lexer.specs.declared.token.TokenKind.{TokenKind}
 use Rattle.peg_lexer.proofs.Lexemes.{lexeme_at, kinds_apart}
-use Rattle.peg_lexer.proofs.Texts.{FindsToken, behind_text}
+use Rattle.peg_lexer.proofs.Texts.{FindsToken, following_text}
 use Rattle.peg_lexer.proofs.KindRules.{number_of, takes-kind, nothing_left}
 
 -- these tokens follow each other from an offset to the end of the file
 pub data Stream (file : List ℕ) : ℕ → List Lexeme → Type 0 where
   ended : {p : ℕ} → p ≡ length file → Stream file p []
   next : {p : ℕ} {more : List Lexeme} (kind : TokenKind) (piece : PrefixMatch) (lexeme : Lexeme) → matcher_of kind (drop p file)
-      ≡ Some piece → lexeme ≡ lexeme_at kind p piece.length → Stream file (behind_text file p piece.length) more
+      ≡ Some piece → lexeme ≡ lexeme_at kind p piece.length → Stream file (following_text file p piece.length) more
       → Stream file p (lexeme ∷ more)
 
 -- the text at an offset is a token of one kind only
@@ -68,7 +68,7 @@ none_here {file} {p} other span last =
 -- a token that the metagrammar has at an offset, by its text
 lexeme_text : (file : List ℕ) (p end : ℕ) (lexeme : Lexeme) → IsLexeme file p end lexeme → (piece : PrefixMatch)
     × (matcher_of lexeme.kind (drop p file) ≡ Some piece) × (lexeme ≡ lexeme_at lexeme.kind p piece.length)
-    × (end ≡ behind_text file p piece.length)
+    × (end ≡ following_text file p piece.length)
 lexeme_text file p end lexeme is = by (matcher_of lexeme.kind (drop p file)) refl
   where
     known : Derives figure file (Name (rule_of_kind lexeme.kind) (between 0 0)) p (Matched end is.0)
@@ -78,7 +78,7 @@ lexeme_text file p end lexeme is = by (matcher_of lexeme.kind (drop p file)) ref
 
     by : (text : Option PrefixMatch) → matcher_of lexeme.kind (drop p file) ≡ text → (piece : PrefixMatch)
         × (matcher_of lexeme.kind (drop p file) ≡ Some piece) × (lexeme ≡ lexeme_at lexeme.kind p piece.length)
-        × (end ≡ behind_text file p piece.length)
+        × (end ≡ following_text file p piece.length)
     by None none =
         absurd (let bad : Matched end is.0 ≡ Failed = one_result known
         ((takes-kind file lexeme.kind).none (between 0 0) p none) in cc)
@@ -86,7 +86,7 @@ lexeme_text file p end lexeme is = by (matcher_of lexeme.kind (drop p file)) ref
         let it : FindsToken file (number_of lexeme.kind) (rule_of_kind lexeme.kind)
         (between 0 0) p piece = here lexeme.kind piece (between 0 0) found in
         let same : Matched end is.0 ≡ Matched
-        (behind_text file p piece.length) it.trees = one_result known it.derives in
+        (following_text file p piece.length) it.trees = one_result known it.derives in
         let trees : is.0 ≡ it.trees = cc in
         let text : lexeme.text ≡ between p (p + piece.length) =
         is.2 ∙ (ap (λ (t : Trees). between p (text_end p t)) trees ∙ ap (between p) (it.ends p)) in

@@ -257,27 +257,27 @@ is_sign _ = false
 
 -- after the operator of a predicate, or where a Prefix begins that is none
 pub data Starts (depth : ℕ) (s : TokenState) : List Lexeme → Type 0 where
-  behind_sign : {lexemes : List Lexeme} → IsLike (TokenState.signed depth) s lexemes → Starts depth s lexemes
+  following_sign : {lexemes : List Lexeme} → IsLike (TokenState.signed depth) s lexemes → Starts depth s lexemes
   begins : {lexeme : Lexeme} {rest : List Lexeme} → step s lexeme.kind ≡ item_step depth lexeme.kind
       → kind_begins lexeme.kind (starts_with_arrow rest) ≡ true → is_sign lexeme.kind ≡ false
       → Starts depth s (lexeme ∷ rest)
 
 -- an arrow can't follow a Primary
-arrow_behind : (depth : ℕ) (k : TokenKind) → is_arrow k ≡ true → done_step depth k ≡ None
-arrow_behind depth kind.Arrow arrow_is = refl
-arrow_behind depth kind.Ident arrow_is = cc
-arrow_behind depth kind.Literal arrow_is = cc
-arrow_behind depth kind.Class arrow_is = cc
-arrow_behind depth kind.Slash arrow_is = cc
-arrow_behind depth kind.And arrow_is = cc
-arrow_behind depth kind.Not arrow_is = cc
-arrow_behind depth kind.Question arrow_is = cc
-arrow_behind depth kind.Star arrow_is = cc
-arrow_behind depth kind.Plus arrow_is = cc
-arrow_behind depth kind.Count arrow_is = cc
-arrow_behind depth kind.Open arrow_is = cc
-arrow_behind depth kind.Close arrow_is = cc
-arrow_behind depth kind.Dot arrow_is = cc
+arrow_following : (depth : ℕ) (k : TokenKind) → is_arrow k ≡ true → done_step depth k ≡ None
+arrow_following depth kind.Arrow arrow_is = refl
+arrow_following depth kind.Ident arrow_is = cc
+arrow_following depth kind.Literal arrow_is = cc
+arrow_following depth kind.Class arrow_is = cc
+arrow_following depth kind.Slash arrow_is = cc
+arrow_following depth kind.And arrow_is = cc
+arrow_following depth kind.Not arrow_is = cc
+arrow_following depth kind.Question arrow_is = cc
+arrow_following depth kind.Star arrow_is = cc
+arrow_following depth kind.Plus arrow_is = cc
+arrow_following depth kind.Count arrow_is = cc
+arrow_following depth kind.Open arrow_is = cc
+arrow_following depth kind.Close arrow_is = cc
+arrow_following depth kind.Dot arrow_is = cc
 
 -- a name that no arrow follows is like any Primary
 unnamed : (depth : ℕ) (k : TokenKind) → is_arrow k ≡ false → named_step depth k ≡ done_step depth k
@@ -316,7 +316,7 @@ signed_name-walks file bound depth less s lexeme rest next is false other =
 signed_name-walks file bound depth less s lexeme [] next is true arrow_is = cc
 signed_name-walks file bound depth less s lexeme (arrow ∷ more) next is true arrow_is =
     halts-later (Path.goes next less (no_count file lexeme kind.Ident is refl) Path.stays)
-    (refused-here (arrow_behind depth arrow.kind arrow_is))
+    (refused-here (arrow_following depth arrow.kind arrow_is))
 
 begun_name-walks : (file : List ℕ) (bound depth : ℕ) → depth ≤ bound → (s : TokenState) (lexeme : Lexeme) (rest : List Lexeme)
     → step s lexeme.kind ≡ Some (TokenState.named depth) → lexeme.kind ≡ kind.Ident
@@ -414,8 +414,8 @@ primary-walks : (file : List ℕ) (bound depth : ℕ) (inner : Option Reading) �
     → (s : TokenState) → open_in s ≡ depth → (lexemes : List Lexeme) → Starts depth s lexemes
     → Walks file bound s (TokenState.done depth) lexemes (primary file inner lexemes)
 unfolding primary
-primary-walks file bound depth inner good s s_open [] (Starts.behind_sign like) = halts-here (HaltsBefore.early like.ends refl)
-primary-walks file bound depth inner good s s_open (lexeme ∷ rest) (Starts.behind_sign like) =
+primary-walks file bound depth inner good s s_open [] (Starts.following_sign like) = halts-here (HaltsBefore.early like.ends refl)
+primary-walks file bound depth inner good s s_open (lexeme ∷ rest) (Starts.following_sign like) =
     signed_primary-walks file bound depth inner good s s_open lexeme rest like.next lexeme.kind refl
 primary-walks file bound depth inner good s s_open (lexeme ∷ rest) (Starts.begins next begun unsigned) =
     begun_primary-walks file bound depth inner good s s_open lexeme rest next begun unsigned lexeme.kind refl
@@ -545,7 +545,7 @@ prefixed-walks : (file : List ℕ) (bound depth : ℕ) (inner : Option Reading) 
     → Walks file bound s (TokenState.ready depth) (lexeme ∷ rest) (prefix_of file inner lexeme rest (Some sign))
 prefixed-walks file bound depth inner good s lexeme rest next fine sign =
     by (suffix file inner rest) (suffix-walks file bound depth inner good (TokenState.signed depth) refl rest
-    (Starts.behind_sign (like-itself (TokenState.signed depth) rest)))
+    (Starts.following_sign (like-itself (TokenState.signed depth) rest)))
   where
     front : Path file bound s (lexeme ∷ rest) (TokenState.signed depth) rest
     front = Path.goes next (inner-within file bound depth inner good) fine Path.stays

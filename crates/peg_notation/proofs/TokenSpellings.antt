@@ -9,7 +9,7 @@ use Rattle.peg_lexer.specs.declared.token.TokenKind.{TokenKind}
 use Rattle.peg_lexer.specs.declared.token.TokenKind.TheVariants as kind
 use Rattle.peg_lexer.proofs.Lexemes.{lexeme_at, kind_matches, matches}
 use Rattle.peg_lexer.proofs.SpacingRules.{finds-spacing}
-use Rattle.peg_lexer.proofs.Texts.{behind_text}
+use Rattle.peg_lexer.proofs.Texts.{following_text}
 use Rattle.peg_bytes.specs.Extent.{between}
 use Rattle.peg_metagrammar.specs.Notation.{Matches}
 use Rattle.peg_metagrammar.specs.Denotation.{Numeral, numerals_in, bounds_spelled, bounds_in_range}
@@ -75,17 +75,17 @@ bad_text k rest =
 record Found (k : TokenKind) (rest : List ℕ) : Type 0 where
   pub piece : PrefixMatch
   pub found : matcher_of k (spelling k ++ rest) ≡ Some piece
-  pub behind : drop piece.length (spelling k ++ rest) ≡ 32 ∷ rest
+  pub following : drop piece.length (spelling k ++ rest) ≡ 32 ∷ rest
   pub size : piece.length + 1 + length rest ≡ length (spelling k ++ rest)
   pub fine : bad_text k (spelling k ++ rest) ≡ false
 
 plain_found : (n : ℕ) (k : TokenKind) (rest : List ℕ) → matcher_of k (spelling k ++ rest) ≡ Some (record { spells = []; length = n })
     → drop n (spelling k ++ rest) ≡ 32 ∷ rest → n + 1 + length rest ≡ length (spelling k ++ rest) → is_count k ≡ false
     → Found k rest
-plain_found n k rest found behind size other = record {
+plain_found n k rest found following size other = record {
   piece = record { spells = []; length = n };
   found = found;
-  behind = behind;
+  following = following;
   size = size;
   fine =
       ap (λ (t : Bool). t && not (bounds_in_range (bounds_spelled (numerals_in (unwrap_or
@@ -107,7 +107,7 @@ spelling-found kind.Plus rest = plain_found 1 kind.Plus rest refl refl (omega ar
 spelling-found kind.Count rest = record {
   piece = record { spells = Numeral 1 ∷ []; length = 3 };
   found = refl;
-  behind = refl;
+  following = refl;
   size = omega arith;
   fine = refl;
 }
@@ -138,15 +138,15 @@ has-kinds file [] p is size = record {
 has-kinds file (k ∷ more) p is size =
     let it = spelling-found k (spelled_out more) in
     let found : matcher_of k (drop p file) ≡ Some it.piece = ap (matcher_of k) is ∙ it.found in
-    let behind : drop (p + it.piece.length) file ≡ 32 ∷ spelled_out more =
-    sym (drop-drop it.piece.length p file) ∙ (ap (drop it.piece.length) is ∙ it.behind) in
-    let next : behind_text file p it.piece.length ≡ p + it.piece.length + 1 =
-    ap (λ rest. p + it.piece.length + (spacing rest).length) behind ∙ ap (λ n. p + it.piece.length + n) (one_space more) in
-    let left : drop (behind_text file p it.piece.length) file ≡ spelled_out more =
-    ap (λ n. drop n file) next ∙ (sym (drop-drop 1 (p + it.piece.length) file) ∙ ap (drop 1) behind) in
-    let fits : behind_text file p it.piece.length + length (spelled_out more) ≡ length file =
+    let following : drop (p + it.piece.length) file ≡ 32 ∷ spelled_out more =
+    sym (drop-drop it.piece.length p file) ∙ (ap (drop it.piece.length) is ∙ it.following) in
+    let next : following_text file p it.piece.length ≡ p + it.piece.length + 1 =
+    ap (λ rest. p + it.piece.length + (spacing rest).length) following ∙ ap (λ n. p + it.piece.length + n) (one_space more) in
+    let left : drop (following_text file p it.piece.length) file ≡ spelled_out more =
+    ap (λ n. drop n file) next ∙ (sym (drop-drop 1 (p + it.piece.length) file) ∙ ap (drop 1) following) in
+    let fits : following_text file p it.piece.length + length (spelled_out more) ≡ length file =
     omega (arith, next, size, it.size) in
-    let rest = has-kinds file more (behind_text file p it.piece.length) left fits in
+    let rest = has-kinds file more (following_text file p it.piece.length) left fits in
     record {
       lexemes = lexeme_at k p it.piece.length ∷ rest.lexemes;
       tokens = Lexemes.one (kind_matches file k p it.piece found) rest.tokens;

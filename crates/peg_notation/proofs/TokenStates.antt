@@ -117,8 +117,8 @@ one_next s t u k is also = let both : Some u ≡ Some t = sym also ∙ is in cc
 pub steps-rest : {s u v : TokenState} {before : List TokenKind} (more : List TokenKind) → TokenSteps s before u
     → TokenSteps s (before ++ more) v → TokenSteps u more v
 steps-rest more TokenSteps.ended all = all
-steps-rest {s} {v = v} more (TokenSteps.next {t = t} {k = k} {more = behind} is rest) (TokenSteps.next {t = other} also all) =
-    steps-rest more rest (subst (λ (x : TokenState). TokenSteps x (behind ++ more) v) (one_next s t other k is also) all)
+steps-rest {s} {v = v} more (TokenSteps.next {t = t} {k = k} {more = following} is rest) (TokenSteps.next {t = other} also all) =
+    steps-rest more rest (subst (λ (x : TokenState). TokenSteps x (following ++ more) v) (one_next s t other k is also) all)
 
 pub steps-then : {s u v : TokenState} {before more : List TokenKind} → TokenSteps s before u → TokenSteps u more v
     → TokenSteps s (before ++ more) v
@@ -136,8 +136,8 @@ steps-refused k more run refuses all = by refuses (steps-rest (k ∷ more) run a
 -- these kinds lead to one state
 pub steps-end : {s u v : TokenState} {before : List TokenKind} → TokenSteps s before u → TokenSteps s before v → u ≡ v
 steps-end TokenSteps.ended TokenSteps.ended = refl
-steps-end {s} {v = v} (TokenSteps.next {t = t} {k = k} {more = behind} is rest) (TokenSteps.next {t = other} also all) =
-    steps-end rest (subst (λ (x : TokenState). TokenSteps x behind v) (one_next s t other k is also) all)
+steps-end {s} {v = v} (TokenSteps.next {t = t} {k = k} {more = following} is rest) (TokenSteps.next {t = other} also all) =
+    steps-end rest (subst (λ (x : TokenState). TokenSteps x following v) (one_next s t other k is also) all)
 
 -- ---- each state can be completed
 

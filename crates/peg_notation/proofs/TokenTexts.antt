@@ -69,8 +69,8 @@ name-here file lexeme is e =
         (name-is_text (drop lexeme.text.start file) piece found)
 
 -- the tokens after the first `token_count` ones
-pub lexemes-behind : (tokens : List Token) (token_count : ℕ)
+pub lexemes-following : (tokens : List Token) (token_count : ℕ)
     → lexemes (take (length tokens - token_count) (drop token_count tokens)) ≡ drop token_count (lexemes tokens)
-lexemes-behind tokens token_count =
+lexemes-following tokens token_count =
     ap lexemes (take_all (length tokens - token_count) (drop token_count tokens) (omega (arith, length-drop token_count tokens)))
     ∙ sym (drop-map lexeme_of token_count tokens)

@@ -7,7 +7,7 @@ use Rattle.peg_lexer.specs.declared.token.TokenKind.{TokenKind}
 use Rattle.peg_lexer.specs.declared.token.TokenKind.TheVariants as kind
 use Rattle.peg_notation.specs.Reader.{ReadError, Unexpected, TooDeepAt, BadCountAt, FormRead, FormsRead, Reading, place_of, is_arrow, starts_with_arrow, kind_begins, begins_prefix, and_read, no_more, and_form, prefix, many_forms_after, many_forms, whole_sequence, sequence, starts_with_slash, is_slash, after_tokens, alternative, whole_choice, expression, expression_in, RuleRead, RulesRead, and_rules, rule_read, definition_after, definition_of, definition, definitions_after, grammar}
 use Rattle.peg_notation.proofs.GrammarRules.{definitions_after-drop}
-use Rattle.peg_notation.proofs.Repeats.{many_behind-drop}
+use Rattle.peg_notation.proofs.Repeats.{many_following-drop}
 use Rattle.peg_notation.proofs.TokenStates.{TokenState, item_step, begun_step, titled_step, step, may_end}
 use Rattle.peg_notation.proofs.TokenPaths.{Path, path-then, HaltsBefore, Halts, halts-later, halts-here, IsLike, like-itself, Walked, Walks, WalksExpression, InnerWalks, inner-within, no_count, refused-here, prefix-walks}
 
@@ -72,7 +72,7 @@ many_forms-walk file bound depth begins left read none each (suc n) before s (l 
     let same : drop p.token_count (l ∷ rest) ≡ drop (p.token_count - 1) rest = ap (λ k. drop k (l ∷ rest)) one in
     let fewer : length (drop p.token_count (l ∷ rest)) ≤ n = omega (arith, length-drop p.token_count (l ∷ rest), some) in
     subst (λ (x : Result FormsRead ReadError). WalksAll file bound depth begins left e.last (drop p.token_count (l ∷ rest)) x)
-    (ap (many_forms begins read p.last) same ∙ sym (many_behind-drop begins read p.last rest (p.token_count - 1)))
+    (ap (many_forms begins read p.last) same ∙ sym (many_following-drop begins read p.last rest (p.token_count - 1)))
     (many_forms-walk file bound depth begins left read none each n p.last e.last (drop p.token_count (l ∷ rest)) fewer e.like holds_on))
   where
     round : (x : Result FormRead ReadError) → WalksOne file bound depth left s (l ∷ rest) x

@@ -43,23 +43,23 @@ use Rattle.peg_parser.proofs.NameLemmas.{twice-inside, missing-inside}
 use Rattle.peg_parser.proofs.RuleNames.{name-numbered, names-of-path}
 
 -- an error equal to a refusal has the refusal's cause
-pub told-error : {X : Type 0} (Kind : Cause → Type 0) (size : ℕ) (result : Result X Refusal) (why : Refusal)
+pub stated-error : {X : Type 0} (Kind : Cause → Type 0) (size : ℕ) (result : Result X Refusal) (why : Refusal)
     → IsErrAnd result (λ other. other ≡ why) → HasCause Kind size why → IfErr result (HasCause Kind size)
-told-error Kind size (Ok x) why is tells = tt
-told-error Kind size (Err other) why is tells = subst (HasCause Kind size) (sym is) tells
+stated-error Kind size (Ok x) why is tells = tt
+stated-error Kind size (Err other) why is tells = subst (HasCause Kind size) (sym is) tells
 
 -- ---- reading
 
-pub told-notation : (file : List ℕ) (why : NotationFault) → Reads file (Err why) → AnswerLiesIn (length file) (Err why)
+pub stated-notation : (file : List ℕ) (why : NotationFault) → Reads file (Err why) → AnswerLiesIn (length file) (Err why)
     → NamesFirstFault max_open file (Err why) → HasCause (IsNoGrammar file) (length file) (of_notation why)
-told-notation file notation.FileTooLong reads inside first = of_cause FileTooLong refl (file_too_long reads) tt tt
-told-notation file (notation.Syntax at) reads inside first =
+stated-notation file notation.FileTooLong reads inside first = of_cause FileTooLong refl (file_too_long reads) tt tt
+stated-notation file (notation.Syntax at) reads inside first =
     of_cause (Syntax at) refl (not_in_the_notation reads.0 reads.1 first) inside tt
-told-notation file (notation.TooNested at) reads inside first =
+stated-notation file (notation.TooNested at) reads inside first =
     of_cause (TooNested at) refl (too_nested reads.0 reads.1 first) inside tt
-told-notation file (notation.BadCount at) reads inside first =
+stated-notation file (notation.BadCount at) reads inside first =
     of_cause (BadCount at) refl (count_out_of_range reads.0 reads.1 first) inside tt
-told-notation file notation.Memory reads inside first = out_of_memory refl
+stated-notation file notation.Memory reads inside first = out_of_memory refl
 
 -- ---- the grammar
 
@@ -72,23 +72,23 @@ no_bad_count (count ∷ written) all =
     (All-head (λ count. is_in_range count ≡ true) count written all)
     ∙ no_bad_count written (All-tail (λ count. is_in_range count ≡ true) count written all)
 
-pub told-grammar : (file : List ℕ) (rules : List Rule) (why : GrammarFault) → IsRead file rules
+pub stated-grammar : (file : List ℕ) (rules : List Rule) (why : GrammarFault) → IsRead file rules
     → All (RuleLiesIn (length file)) rules → definitions.IsRefusedBy rules why
     → HasCause (IsNoGrammar file) (length file) (of_grammar why)
-told-grammar file rules grammar.NoRule read inside refuses =
+stated-grammar file rules grammar.NoRule read inside refuses =
     absurd (IsReading-some file rules read.reading.0 refuses)
-told-grammar file rules (grammar.Duplicate name span) read inside refuses =
+stated-grammar file rules (grammar.Duplicate name span) read inside refuses =
     of_cause _ refl (a_name_twice read refuses)
     (twice-inside (length file) rules _ inside refuses) tt
-told-grammar file rules (grammar.Undefined name span) read inside refuses =
+stated-grammar file rules (grammar.Undefined name span) read inside refuses =
     of_cause _ refl (a_name_missing read refuses.0 refuses.1)
     (missing-inside (length file) rules _ inside refuses.1) tt
-told-grammar file rules (grammar.BadCount span) read inside refuses =
+stated-grammar file rules (grammar.BadCount span) read inside refuses =
     let none = no_bad_count (counts rules) (IsReading-in_range file rules read.reading.0) in
     let both : None ≡ Some _ = ap (option_map (λ (count : Count). count.span)) (sym none) ∙ refuses.2 in cc
-told-grammar file rules grammar.TooManyParts read inside refuses =
+stated-grammar file rules grammar.TooManyParts read inside refuses =
     of_cause TooManyParts refl (too_many_parts read refuses.0 refuses.1) tt tt
-told-grammar file rules grammar.Memory read inside refuses = out_of_memory refl
+stated-grammar file rules grammar.Memory read inside refuses = out_of_memory refl
 
 -- ---- the check
 
@@ -98,41 +98,41 @@ named-too rules why named =
     subst (λ (n : ℕ). NamesRules n why) (sym (length-map rules (λ (rule : Rule). rule.name))) named
 
 -- the cause of the check's fault for its grammar
-pub told-check : (file : List ℕ) (grammar : Grammar) (why : CheckFault) → IsIllFormedBy (rules_in grammar) why
+pub stated-check : (file : List ℕ) (grammar : Grammar) (why : CheckFault) → IsIllFormedBy (rules_in grammar) why
     → NamesRules (length (rules_in grammar)) why → IsRead file (rules_in grammar) → IsAcceptedGrammar (rules_in grammar) → All (RuleLiesIn (length file)) (rules_in grammar)
     → HasCause (IsRefusalOf file) (length file) (from_check why grammar)
-told-check file grammar (check.EmptyLoop number span) ill named read taken inside =
+stated-check file grammar (check.EmptyLoop number span) ill named read taken inside =
     let rules = rules_in grammar in
     let lies = loop-inside (length file) rules number (extent span) inside ill.1 in
     of_cause (EmptyLoop (reference (name_at (names rules) number) (extent span))) refl
     (inr (inl (subst (λ (name : List ℕ). IsIllFormed file (EmptyLoop (reference name (extent span))))
     (sym (name-numbered rules number named)) (empty_loop number (extent span) read taken ill.0 ill.1))))
     (omega (arith, lies.0, lies.1)) (named-too rules (check.EmptyLoop number span) named)
-told-check file grammar (check.LeftRecursion path) ill named read taken inside =
+stated-check file grammar (check.LeftRecursion path) ill named read taken inside =
     let rules = rules_in grammar in
     of_cause (LeftRecursion (map (name_at (names rules)) path.items)) refl
     (inr (inl (subst (λ (l : List (List ℕ)). IsIllFormed file (LeftRecursion l))
     (sym (names-of-path rules path.items named)) (left_recursion path.items read taken ill.0 ill.1 ill.2 ill.3)))) tt
     (named-too rules (check.LeftRecursion path) named)
-told-check file grammar check.Memory ill named read taken inside = out_of_memory refl
+stated-check file grammar check.Memory ill named read taken inside = out_of_memory refl
 
 -- ---- the code
 
 -- the cause of the compiler's fault for a well-formed grammar
-pub told-code : (file : List ℕ) (rules : List Rule) (why : CodeFault) → IsRead file rules → IsAcceptedGrammar rules
+pub stated-code : (file : List ℕ) (rules : List Rule) (why : CodeFault) → IsRead file rules → IsAcceptedGrammar rules
     → IsWellFormedGrammar rules → (why ≡ code.CodeTooLarge → max_instructions < code_size rules)
     → HasCause (IsRefusalOf file) (length file) (of_code why)
-told-code file rules code.CodeTooLarge read taken formed over =
+stated-code file rules code.CodeTooLarge read taken formed over =
     of_cause CodeTooLarge refl (inr (inr (code_too_large read taken formed (over refl)))) tt tt
-told-code file rules code.Memory read taken formed over = out_of_memory refl
+stated-code file rules code.Memory read taken formed over = out_of_memory refl
 
 -- ---- what refusals imply
 
 -- a file that is rejected before the check is rejected
-pub told-early : (file : List ℕ) (size : ℕ) (why : Refusal) → HasCause (IsNoGrammar file) size why
+pub stated-early : (file : List ℕ) (size : ℕ) (why : Refusal) → HasCause (IsNoGrammar file) size why
     → HasCause (IsRefusalOf file) size why
-told-early file size why (out_of_memory is) = out_of_memory is
-told-early file size why (of_cause cause tells holds starts named) = of_cause cause tells (inl holds) starts named
+stated-early file size why (out_of_memory is) = out_of_memory is
+stated-early file size why (of_cause cause tells holds starts named) = of_cause cause tells (inl holds) starts named
 
 shows : (file : List ℕ) (cause : Cause) → IsRefusalOf file cause → RefusalImplies file cause
 shows file cause (inl (file_too_long over)) = tt
@@ -150,19 +150,19 @@ shows file cause (inr (inl (empty_loop {rules} number span read taken ill loop))
 shows file cause (inr (inl (left_recursion {rules} path read taken ill none cycle once))) = not_well_formed rules read.reading.0 ill
 shows file cause (inr (inr (code_too_large read taken formed over))) = tt
 
-pub told-means : (file : List ℕ) (size : ℕ) (why : Refusal) → HasCause (IsRefusalOf file) size why → RefusalMeaning file why
-told-means file size why (out_of_memory is) =
+pub stated-means : (file : List ℕ) (size : ℕ) (why : Refusal) → HasCause (IsRefusalOf file) size why → RefusalMeaning file why
+stated-means file size why (out_of_memory is) =
     subst (λ (w : Refusal). IfSome (cause_of w) (RefusalImplies file)) (sym is) tt
-told-means file size why (of_cause cause tells holds starts named) =
-    subst (λ (told : Option Cause). IfSome told (RefusalImplies file)) (sym tells) (shows file cause holds)
+stated-means file size why (of_cause cause tells holds starts named) =
+    subst (λ (stated : Option Cause). IfSome stated (RefusalImplies file)) (sym tells) (shows file cause holds)
 
 -- an error equal to a refusal of the file has the refusal's meaning
-pub told-meaning : {X : Type 0} (file : List ℕ) (result : Result X Refusal) (why : Refusal)
+pub stated-meaning : {X : Type 0} (file : List ℕ) (result : Result X Refusal) (why : Refusal)
     → IsErrAnd result (λ other. other ≡ why) → HasCause (IsRefusalOf file) (length file) why
     → IfErr result (RefusalMeaning file)
-told-meaning file (Ok x) why is tells = tt
-told-meaning file (Err other) why is tells =
-    subst (RefusalMeaning file) (sym is) (told-means file (length file) why tells)
+stated-meaning file (Ok x) why is tells = tt
+stated-meaning file (Err other) why is tells =
+    subst (RefusalMeaning file) (sym is) (stated-means file (length file) why tells)
 
 -- ---- accepted files
 
@@ -176,4 +176,4 @@ accepted-whole file rules (Ok parser) read taken same formed small =
     record { read = read; taken = taken; well_formed = formed; small = small }
 accepted-whole file rules (Err why) read taken same formed small = tt
 
-pub ruleset accepting = (told-notation, told-grammar, told-check, told-code, told-early, told-means)
+pub ruleset accepting = (stated-notation, stated-grammar, stated-check, stated-code, stated-early, stated-means)

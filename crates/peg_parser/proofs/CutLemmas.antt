@@ -39,11 +39,11 @@ named-uncut : (rules : List Rule) (why : CheckFault) → NamesRules (length (cut
 named-uncut rules why named = subst (λ (n : ℕ). NamesRules n why) (length-map rules cut_rule) named
 
 -- the cause of a fault of the check, for a grammar with the names of these rules
-told-named : (file : List ℕ) (rules : List Rule) (grammar : Grammar) (why : CheckFault)
+stated-named : (file : List ℕ) (rules : List Rule) (grammar : Grammar) (why : CheckFault)
     → names (rules_in grammar) ≡ names rules → IsIllFormedBy rules why → NamesRules (length rules) why
     → IsRead file rules → IsAcceptedGrammar rules → All (RuleLiesIn (length file)) rules
     → HasCause (IsRefusalOf file) (length file) (from_check why grammar)
-told-named file rules grammar (check.EmptyLoop number span) same ill named read taken inside =
+stated-named file rules grammar (check.EmptyLoop number span) same ill named read taken inside =
     let lies = loop-inside (length file) rules number (extent span) inside ill.1 in
     let named_too = subst (λ (l : List (List ℕ)). NamesRules (length l) (check.EmptyLoop number span)) (sym same)
     (subst (λ (n : ℕ). NamesRules n (check.EmptyLoop number span)) (sym (length-map rules (λ (rule : Rule). rule.name))) named) in
@@ -52,7 +52,7 @@ told-named file rules grammar (check.EmptyLoop number span) same ill named read 
     (inr (inl (subst (λ (name : List ℕ). IsIllFormed file (EmptyLoop (reference name (extent span))))
     (sym (name-numbered rules number named)) (empty_loop number (extent span) read taken ill.0 ill.1))))
     (omega (arith, lies.0, lies.1)) named_too
-told-named file rules grammar (check.LeftRecursion path) same ill named read taken inside =
+stated-named file rules grammar (check.LeftRecursion path) same ill named read taken inside =
     let named_too = subst (λ (l : List (List ℕ)). NamesRules (length l) (check.LeftRecursion path)) (sym same)
     (subst (λ (n : ℕ). NamesRules n (check.LeftRecursion path)) (sym (length-map rules (λ (rule : Rule). rule.name))) named) in
     of_cause (LeftRecursion (map (name_at (names rules)) path.items))
@@ -60,13 +60,13 @@ told-named file rules grammar (check.LeftRecursion path) same ill named read tak
     (inr (inl (subst (λ (l : List (List ℕ)). IsIllFormed file (LeftRecursion l))
     (sym (names-of-path rules path.items named)) (left_recursion path.items read taken ill.0 ill.1 ill.2 ill.3)))) tt
     named_too
-told-named file rules grammar check.Memory same ill named read taken inside = out_of_memory refl
+stated-named file rules grammar check.Memory same ill named read taken inside = out_of_memory refl
 
 -- the cause of a fault of the check, for the grammar with cut counts
-pub told-cut : (file : List ℕ) (rules : List Rule) (grammar : Grammar) (why : CheckFault)
+pub stated-cut : (file : List ℕ) (rules : List Rule) (grammar : Grammar) (why : CheckFault)
     → rules_in grammar ≡ cut_rules rules → IsIllFormedBy (cut_rules rules) why
     → NamesRules (length (cut_rules rules)) why → IsRead file rules → IsAcceptedGrammar rules
     → All (RuleLiesIn (length file)) rules → HasCause (IsRefusalOf file) (length file) (from_check why grammar)
-told-cut file rules grammar why cut ill named read taken inside =
-    told-named file rules grammar why (ap names cut ∙ names-cut rules) (ill_formed-uncut rules why ill)
+stated-cut file rules grammar why cut ill named read taken inside =
+    stated-named file rules grammar why (ap names cut ∙ names-cut rules) (ill_formed-uncut rules why ill)
     (named-uncut rules why named) read taken inside

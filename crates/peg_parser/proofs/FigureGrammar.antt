@@ -62,7 +62,7 @@ code_memory code.CodeTooLarge small = absurd (small refl)
 code_memory code.Memory small = refl
 
 -- an error that is out of memory
-pub told_memory : {X : Type 0} (result : Result X Refusal) (why : Refusal) → IsErrAnd result (λ other. other ≡ why)
+pub stated_memory : {X : Type 0} (result : Result X Refusal) (why : Refusal) → IsErrAnd result (λ other. other ≡ why)
     → why ≡ refusal.Memory → IfErr result (λ other. other ≡ refusal.Memory)
-told_memory (Ok x) why is memory = tt
-told_memory (Err other) why is memory = is ∙ memory
+stated_memory (Ok x) why is memory = tt
+stated_memory (Err other) why is memory = is ∙ memory

@@ -58,13 +58,13 @@ start-figure = refl
 -- an outcome of the metagrammar's parse, from its first rule
 pub outcome_of : (rules : List Rule) (file : List ℕ) (outcome : Outcome) → rules ≡ figure
     → IfSome (start_name rules None) (λ start. IsParseOutcome rules file start outcome) → IsParseOutcome figure file (codes "Grammar") outcome
-outcome_of rules file outcome is told =
+outcome_of rules file outcome is stated =
     subst (λ (o : Option (List ℕ)). IfSome o (λ start. IsParseOutcome figure file start outcome)) start-figure
-    (subst (λ (r : List Rule). IfSome (start_name r None) (λ start. IsParseOutcome r file start outcome)) is told)
+    (subst (λ (r : List Rule). IfSome (start_name r None) (λ start. IsParseOutcome r file start outcome)) is stated)
 
 pub matched_tree : (file : List ℕ) (outcome : Outcome) → IsParseOutcome figure file (codes "Grammar") outcome → (end : ℕ) (tree : Trees)
     → outcome.result ≡ parsed.Matched end tree → IsTreeOf file tree
-matched_tree file outcome is end tree told = by is.1.0.result refl (sym told ∙ is.1.2)
+matched_tree file outcome is end tree stated = by is.1.0.result refl (sym stated ∙ is.1.2)
   where
     by : (x : Recognition) → is.1.0.result ≡ x → parsed.Matched end tree ≡ parsed_of is.1.0.result → IsTreeOf file tree
     by Failed at same = absurd (let bad : parsed.Matched end tree ≡ parsed.Failed = same ∙ ap parsed_of at in cc)
@@ -75,7 +75,7 @@ matched_tree file outcome is end tree told = by is.1.0.result refl (sym told ∙
 
 pub failed_none : (file : List ℕ) (outcome : Outcome) → IsParseOutcome figure file (codes "Grammar") outcome
     → outcome.result ≡ parsed.Failed → ¬ FigureMatches file
-failed_none file outcome is told m = by is.1.0.result refl (sym told ∙ is.1.2)
+failed_none file outcome is stated m = by is.1.0.result refl (sym stated ∙ is.1.2)
   where
     by : (x : Recognition) → is.1.0.result ≡ x → parsed.Failed ≡ parsed_of is.1.0.result → ⊥
     by (Matched e t) at same = let bad : parsed.Failed ≡ parsed.Matched e t = same ∙ ap parsed_of at in cc
@@ -104,17 +104,17 @@ agree file read (Err Memory) by_hand by_figure some = absurd (some refl)
 -- ---- faults
 
 -- what a fault of a tree's definitions implies about the file
-pub told_definitions : (file : List ℕ) (tree : Trees) (why : DefinitionsFault) → length file ≤ max_file_bytes → IsTreeOf file tree
+pub stated_definitions : (file : List ℕ) (tree : Trees) (why : DefinitionsFault) → length file ≤ max_file_bytes → IsTreeOf file tree
     → (IsErrOf {T = Vec Definition Global} (Err why) definitions.TooNested → max_open < nesting tree)
     → HasNestingOrBadCount file tree why
-    → (result : Result (Vec Definition Global) FigureFault) → IsErrAnd result (λ told. told ≡ of_definitions why)
+    → (result : Result (Vec Definition Global) FigureFault) → IsErrAnd result (λ stated. stated ≡ of_definitions why)
     → ReadsByFigure file result
-told_definitions file tree definitions.TooNested short m deep bad (Err told) is =
+stated_definitions file tree definitions.TooNested short m deep bad (Err stated) is =
     subst (λ (t : FigureFault). ReadsByFigure file (Err t)) (sym is)
     (short, (m.0, tree, m.1), tree_deep file tree m (deep refl))
-told_definitions file tree (definitions.BadCount at) short m deep bad (Err told) is =
+stated_definitions file tree (definitions.BadCount at) short m deep bad (Err stated) is =
     subst (λ (t : FigureFault). ReadsByFigure file (Err t)) (sym is)
     (short, tree_within file tree m bad.0, (m.0, tree, m.1, bad.1))
-told_definitions file tree definitions.Memory short m deep bad (Err told) is =
+stated_definitions file tree definitions.Memory short m deep bad (Err stated) is =
     subst (λ (t : FigureFault). ReadsByFigure file (Err t)) (sym is) tt
-told_definitions file tree why short m deep bad (Ok read) is = absurd is
+stated_definitions file tree why short m deep bad (Ok read) is = absurd is

@@ -57,15 +57,15 @@ insert_ascending-before n x xs h = grind (arith, nat_tests)
 insert_ascending-same : (n x : ℕ) (xs : List ℕ) → x ≡ n → insert_ascending n (x ∷ xs) ≡ x ∷ xs
 insert_ascending-same n x xs h = grind (arith, nat_tests)
 
-insert_ascending-behind : (n x : ℕ) (xs : List ℕ) → x < n → insert_ascending n (x ∷ xs) ≡ x ∷ insert_ascending n xs
-insert_ascending-behind n x xs h = grind (arith, nat_tests)
+insert_ascending-following : (n x : ℕ) (xs : List ℕ) → x < n → insert_ascending n (x ∷ xs) ≡ x ∷ insert_ascending n xs
+insert_ascending-following n x xs h = grind (arith, nat_tests)
 
 -- a number in the list is not inserted again
 pub insert_ascending-there : (n i : ℕ) (xs : List ℕ) → i < length xs → get_or xs i 0 ≡ n → ((k : ℕ) → k < i → get_or xs k 0 < n) → insert_ascending n xs ≡ xs
 insert_ascending-there n i [] within e below = absurd (omega arith)
 insert_ascending-there n zero (x ∷ xs) within e below = insert_ascending-same n x xs e
 insert_ascending-there n (suc i) (x ∷ xs) within e below =
-    insert_ascending-behind n x xs (below 0 (omega arith)) ∙ ap (λ l. x ∷ l) (insert_ascending-there n i xs (omega arith) e (λ k lt. below (suc k) (omega arith)))
+    insert_ascending-following n x xs (below 0 (omega arith)) ∙ ap (λ l. x ∷ l) (insert_ascending-there n i xs (omega arith) e (λ k lt. below (suc k) (omega arith)))
 
 -- a number not in the list goes between the smaller and the greater ones
 pub insert_ascending-between : (n i : ℕ) (xs : List ℕ) → i ≤ length xs → ((k : ℕ) → k < i → get_or xs k 0 < n) → (i < length xs → n < get_or xs i 0) → insert_ascending n xs ≡ insert xs i n
@@ -73,10 +73,10 @@ insert_ascending-between n zero [] within below above = refl
 insert_ascending-between n (suc i) [] within below above = absurd (omega arith)
 insert_ascending-between n zero (x ∷ xs) within below above = insert_ascending-before n x xs (above (omega arith))
 insert_ascending-between n (suc i) (x ∷ xs) within below above =
-    insert_ascending-behind n x xs (below 0 (omega arith)) ∙ ap (λ l. x ∷ l) (insert_ascending-between n i xs (omega arith) (λ k lt. below (suc k) (omega arith)) (λ some. above (omega arith)))
+    insert_ascending-following n x xs (below 0 (omega arith)) ∙ ap (λ l. x ∷ l) (insert_ascending-between n i xs (omega arith) (λ k lt. below (suc k) (omega arith)) (λ some. above (omega arith)))
 
 -- a number above all others is appended
 pub insert_ascending-last : (n : ℕ) (xs : List ℕ) → All (λ m. m < n) xs → insert_ascending n xs ≡ xs ++ n ∷ []
 insert_ascending-last n [] all = refl
 insert_ascending-last n (x ∷ xs) all =
-    insert_ascending-behind n x xs (all 0 0 (omega arith)) ∙ ap (λ l. x ∷ l) (insert_ascending-last n xs (λ k d lt. all (suc k) d (omega arith)))
+    insert_ascending-following n x xs (all 0 0 (omega arith)) ∙ ap (λ l. x ∷ l) (insert_ascending-last n xs (λ k d lt. all (suc k) d (omega arith)))

@@ -61,7 +61,7 @@ meaning_from-is_at rule terminal (r ∷ rs) name m is =
         let same : first ≡ m = cc in
         (0, sym (ap (λ (m : Meaning). m.rule) same) ∙ sym (zero-add rule), r, refl, ap (λ (m : Meaning). m.body) same)
     by false later found =
-        let behind = later found in (suc behind.0, omega (arith, behind.1), behind.2, behind.3, behind.4)
+        let following = later found in (suc following.0, omega (arith, following.1), following.2, following.3, following.4)
 
 -- a meaning is that of the rule with its number
 pub meaning_of-is_at : (rules : List Rule) (name : List ℕ) (m : Meaning) → meaning_of rules name ≡ Some m

@@ -58,9 +58,9 @@ mutual
   length-below terminal (Name name span) = omega arith
   length-below terminal (Seq items span) = omega (arith, length-below_all terminal items)
   length-below terminal (Choice first rest span) =
-      let behind = length-below_all (terminal + terminals first) rest in
+      let following = length-below_all (terminal + terminals first) rest in
       let all = length-append (below terminal first) (below_all (terminal + terminals first) rest) in
-      omega (arith, length-below terminal first, behind, all)
+      omega (arith, length-below terminal first, following, all)
   length-below terminal (Optional part span) = omega (arith, length-below terminal part)
   length-below terminal (Star part span) = omega (arith, length-below terminal part)
   length-below terminal (Plus part span) = omega (arith, length-below terminal part)
@@ -71,9 +71,9 @@ mutual
   length-below_all : (terminal : ℕ) (items : Forms) → length (below_all terminal items) ≤ 2 * forms_weight items
   length-below_all terminal End = omega arith
   length-below_all terminal (Then e rest) =
-      let behind = length-below_all (terminal + terminals e) rest in
+      let following = length-below_all (terminal + terminals e) rest in
       let all = length-append (below terminal e) (below_all (terminal + terminals e) rest) in
-      omega (arith, length-below terminal e, behind, all)
+      omega (arith, length-below terminal e, following, all)
 
 length-parts_from : (terminal : ℕ) (rules : List Rule) → length (parts_from terminal rules) ≤ 2 * weight_of rules
 length-parts_from terminal [] = omega arith
@@ -81,10 +81,10 @@ length-parts_from terminal (r ∷ rs) =
     let weigh = λ (rule : Rule). form_weight rule.body in
     let weight : weight_of (r ∷ rs) ≡ suc (length rs) + (weigh r + sum_by weigh rs) =
     ap (λ n. suc (length rs) + n) (sum_by-cons weigh r rs) in
-    let behind = length-parts_from (terminal + terminals r.body) rs in
+    let following = length-parts_from (terminal + terminals r.body) rs in
     let all =
     length-append (part_of terminal r.body ∷ below terminal r.body) (parts_from (terminal + terminals r.body) rs) in
-    omega (arith, weight, behind, all, length-below terminal r.body)
+    omega (arith, weight, following, all, length-below terminal r.body)
 
 -- ---- the parts of each part are among them
 
@@ -119,11 +119,11 @@ module _ (known : List Part) where
   are_among : (terminal : ℕ) (items : Forms) → Known (below_all terminal items) → AreAmong terminal items
   are_among terminal End all = tt
   are_among terminal (Then e rest) all =
-      let behind = below_all (terminal + terminals e) rest in (
-        All-head (Contains known) (part_of terminal e) (below terminal e ++ behind) all,
+      let following = below_all (terminal + terminals e) rest in (
+        All-head (Contains known) (part_of terminal e) (below terminal e ++ following) all,
         are_among (terminal + terminals e) rest
-            (All-back (Contains known) (below terminal e) behind
-            (All-tail (Contains known) (part_of terminal e) (below terminal e ++ behind) all)),
+            (All-back (Contains known) (below terminal e) following
+            (All-tail (Contains known) (part_of terminal e) (below terminal e ++ following) all)),
       )
 
   asks_among : (terminal : ℕ) (e : Form) → Known (below terminal e) → AsksAmong terminal e
@@ -160,14 +160,14 @@ module _ (known : List Part) where
       All-cons Closed (part_of terminal e) (below terminal e) (asks_among terminal e under) (inside under)
 
   -- an expression, its parts, and the parts after it
-  closed_both : (terminal : ℕ) (e : Form) (behind : List Part)
-      → Known (part_of terminal e ∷ (below terminal e ++ behind))
-      → (Known (below terminal e) → All Closed (below terminal e)) → (Known behind → All Closed behind)
-      → All Closed (part_of terminal e ∷ (below terminal e ++ behind))
-  closed_both terminal e behind all inside after =
+  closed_both : (terminal : ℕ) (e : Form) (following : List Part)
+      → Known (part_of terminal e ∷ (below terminal e ++ following))
+      → (Known (below terminal e) → All Closed (below terminal e)) → (Known following → All Closed following)
+      → All Closed (part_of terminal e ∷ (below terminal e ++ following))
+  closed_both terminal e following all inside after =
       let here = part_of terminal e ∷ below terminal e in
-      All-append Closed here behind (closed terminal e (All-front (Contains known) here behind all) inside)
-      (after (All-back (Contains known) here behind all))
+      All-append Closed here following (closed terminal e (All-front (Contains known) here following all) inside)
+      (after (All-back (Contains known) here following all))
 
   mutual
     closed_below : (terminal : ℕ) (e : Form) → Known (below terminal e) → All Closed (below terminal e)
@@ -184,9 +184,9 @@ module _ (known : List Part) where
     closed_below terminal (Plus part span) all =
         let star = part_of terminal (Star part span) in
         let rest = part_of terminal part ∷ below terminal part in
-        let behind = All-tail (Contains known) star rest all in
-        All-cons Closed star rest (asks_among terminal (Star part span) behind)
-        (closed terminal part behind (closed_below terminal part))
+        let following = All-tail (Contains known) star rest all in
+        All-cons Closed star rest (asks_among terminal (Star part span) following)
+        (closed terminal part following (closed_below terminal part))
     closed_below terminal (Counted part min max span) all = closed terminal part all (closed_below terminal part)
     closed_below terminal (And part span) all = closed terminal part all (closed_below terminal part)
     closed_below terminal (Not part span) all = closed terminal part all (closed_below terminal part)
@@ -214,13 +214,13 @@ module _ (known : List Part) where
   meaning_known rule terminal [] name m all is = cc
   meaning_known rule terminal (r ∷ rs) name m all is =
       by (bytes_eq name r.name)
-      (meaning_known (rule + 1) (terminal + terminals r.body) rs name m (All-back (Contains known) here behind all)) is
+      (meaning_known (rule + 1) (terminal + terminals r.body) rs name m (All-back (Contains known) here following all)) is
     where
       here : List Part
       here = part_of terminal r.body ∷ below terminal r.body
 
-      behind : List Part
-      behind = parts_from (terminal + terminals r.body) rs
+      following : List Part
+      following = parts_from (terminal + terminals r.body) rs
 
       first : Meaning
       first = record { rule = rule; terminal = terminal; body = r.body }
@@ -232,7 +232,7 @@ module _ (known : List Part) where
       by true later found =
           let same : first ≡ m = cc in
           subst IsKnown same
-          (All-head (Contains known) (part_of terminal r.body) (below terminal r.body ++ behind) all)
+          (All-head (Contains known) (part_of terminal r.body) (below terminal r.body ++ following) all)
       by false later found = later found
 
 -- ---- the parts of a grammar from a start rule

@@ -21,9 +21,9 @@ prefix-longer old new bytes more cut = (
 )
 
 -- some bytes followed by a proper prefix of more bytes are a proper prefix of all
-pub prefix-behind : (old mid new : Option (List ℕ)) (done more : List ℕ) → Appends old mid done
+pub prefix-following : (old mid new : Option (List ℕ)) (done more : List ℕ) → Appends old mid done
     → AppendsProperPrefix mid new more → AppendsProperPrefix old new (done ++ more)
-prefix-behind old mid new done more first cut =
+prefix-following old mid new done more first cut =
     let all : take (length done + cut.0) (done ++ more) ≡ done ++ take cut.0 more =
     take-add (length done) cut.0 (done ++ more)
     ∙ ap (λ l. l ++ take cut.0 (drop (length done) (done ++ more))) (take_at done more (length done) refl)

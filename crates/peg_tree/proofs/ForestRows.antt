@@ -18,7 +18,7 @@ pub record FirstTree (rows : List TreeNode) (root : TreeNode) : Type 0 where
   pub some : 0 < root.size
   pub fits : root.size ≤ length rows
   pub below : IsForest (map row_of (take (root.size - 1) (drop 1 rows)))
-  pub behind : IsForest (map row_of (take (length rows - root.size) (drop root.size rows)))
+  pub following : IsForest (map row_of (take (length rows - root.size) (drop root.size rows)))
   pub trees : trees_of (map row_of rows) ≡ Tree root.rule root.span.start root.span.end
       (trees_of (map row_of (take (root.size - 1) (drop 1 rows)))) (trees_of (map row_of (take (length rows - root.size) (drop root.size rows))))
 
@@ -40,7 +40,7 @@ first_tree root rows forest =
       some = omega arith;
       fits = omega (arith, ap length tail, length-append (rows_of children) (rows_of rest), length-map rows row_of);
       below = subst IsForest (sym inside) (IsForest-rows_of children);
-      behind = subst IsForest (sym after) (IsForest-drop root.size (row ∷ more) forest);
+      following = subst IsForest (sym after) (IsForest-drop root.size (row ∷ more) forest);
       trees = ap (λ t. Tree root.rule root.span.start root.span.end t rest) (sym (ap trees_of inside ∙ trees_of-rows_of children))
           ∙ ap (λ t. Tree root.rule root.span.start root.span.end (trees_of (map row_of (take (root.size - 1) rows))) t)
           (sym (ap trees_of after ∙ trees_of-after_tree row more forest));

@@ -210,17 +210,17 @@ module _ (names : List (List ℕ)) where
           let row : Row = record { rule = rule; start = begin; end = end; size = 1 + nodes children } in
           let same : row_of node ∷ map row_of (drop (at + 1) rows) ≡ row ∷ ((rows_of children ++ rows_of rest) ++ rows_after opens) = sym here ∙ left in
           let head : row_of node ≡ row = ap (λ (l : List Row). get_or l 0 row) same in
-          let behind : map row_of (drop (at + 1) rows) ≡ rows_of children ++ (rows_of rest ++ rows_after opens) =
+          let following : map row_of (drop (at + 1) rows) ≡ rows_of children ++ (rows_of rest ++ rows_after opens) =
           ap (drop 1) same ∙ append_assoc (rows_of children) (rows_of rest) (rows_after opens) in
           let size : node.size ≡ 1 + nodes children = ap (λ (r : Row). r.size) head in
-          let count = children_here rows one at node within pushed.2 children (rows_of rest ++ rows_after opens) behind size in
+          let count = children_here rows one at node within pushed.2 children (rows_of rest ++ rows_after opens) following size in
           let nth : at + nodes (Tree rule begin end children rest) ≡ (at + 1 + nodes children) + nodes rest = omega arith in
           let ending : top.end ≡ at + 1 + nodes children = omega (arith, pushed.3) in
           record {
             next = children;
             opens = (top, rest) ∷ opens;
             stacked = ap reverse pushed.1 ∙ reverse-append stack (top ∷ []) ∙ ap (λ (l : List Open). top ∷ l) stacked;
-            left = behind;
+            left = following;
             ends = (below node pushed.2, ending, subst (λ n. EndAt bound n opens) nth ends);
             sends = λ last sent. sends last (SendsRest-open rule begin end (root_count (node_at (trees_of (map row_of rows)) at).children)
                 children rest top opens now begun last (ap (λ (r : Row). r.rule) head) (ap (λ (r : Row). r.start) head)

@@ -59,7 +59,7 @@ module _ (names : List (List ℕ)) where
       → SendsItems (items_of (rest_of rows (at + 1) more)) mid last
       → SendsItems (items_of (rest_of rows at ends)) old last
   row-sent rows at node within is ends kept more closed pushed count counted old mid last sent rest =
-      let behind = map row_of (drop (at + 1) rows) in
+      let following = map row_of (drop (at + 1) rows) in
       let still = open_at at (reverse ends) in
       let inner : reverse more ≡ (at + node.size) ∷ still =
       ap reverse pushed ∙ reverse-append kept ((at + node.size) ∷ []) ∙ ap (λ l. (at + node.size) ∷ l) closed in
@@ -68,6 +68,6 @@ module _ (names : List (List ℕ)) where
       ≡ row_data (1 + count) (name_at names node.rule) node.span.start node.span.end ∷ rest_of rows (at + 1) more =
       ap (rows_below (reverse ends) at) (rows_from rows at node within is)
       ∙ ap (λ n. row_data (1 + n) (name_at names node.rule) node.span.start node.span.end
-      ∷ rows_below ((at + node.size) ∷ still) (at + 1) behind) (sym level)
-      ∙ ap (λ l. row_data (1 + count) (name_at names node.rule) node.span.start node.span.end ∷ rows_below l (at + 1) behind) (sym inner) in
+      ∷ rows_below ((at + node.size) ∷ still) (at + 1) following) (sym level)
+      ∙ ap (λ l. row_data (1 + count) (name_at names node.rule) node.span.start node.span.end ∷ rows_below l (at + 1) following) (sym inner) in
       subst (λ l. SendsItems (items_of l) old last) (sym first) (mid, sent, rest)

@@ -104,7 +104,7 @@ pub text-more : (names : List (Vec ℕ Global)) (rows : List TreeNode) (at : ℕ
     → text_from names rows at ends ≡ comma_if (nat_lt 0 at) ++ (row_text (1 + count) name.items node.span.start node.span.end
     ++ text_from names rows (at + 1) more)
 text-more names rows at node within is ends kept more closed pushed count counted name below named =
-    let behind = map row_of (drop (at + 1) rows) in
+    let following = map row_of (drop (at + 1) rows) in
     let list = map (λ (n : Vec ℕ Global). n.items) names in
     let inside = (at + node.size) ∷ open_at at (reverse ends) in
     let text = λ (level : ℕ) (written : List ℕ) (rest : List ℕ). comma_if (nat_lt 0 at)
@@ -113,10 +113,10 @@ text-more names rows at node within is ends kept more closed pushed count counte
     get_or-map (λ (n : Vec ℕ Global). n.items) names node.rule name [] below ∙ ap (λ (n : Vec ℕ Global). n.items) (sym named) in
     let later : true ≡ nat_lt 0 (at + 1) = sym (le-leb 1 (at + 1) (omega arith)) in
     ap (rest_text (nat_lt 0 at) list (reverse ends) at) (rows_from rows at node within is)
-    ∙ ap (λ n. text n (name_at list node.rule) (rest_text true list inside (at + 1) behind)) (still at ends kept count closed counted)
-    ∙ ap (λ w. text count w (rest_text true list inside (at + 1) behind)) written
-    ∙ ap (λ l. text count name.items (rest_text true list l (at + 1) behind)) (sym (inner at node.size ends kept more closed pushed))
-    ∙ ap (λ b. text count name.items (rest_text b list (reverse more) (at + 1) behind)) later
+    ∙ ap (λ n. text n (name_at list node.rule) (rest_text true list inside (at + 1) following)) (still at ends kept count closed counted)
+    ∙ ap (λ w. text count w (rest_text true list inside (at + 1) following)) written
+    ∙ ap (λ l. text count name.items (rest_text true list l (at + 1) following)) (sym (inner at node.size ends kept more closed pushed))
+    ∙ ap (λ b. text count name.items (rest_text b list (reverse more) (at + 1) following)) later
 
 -- the same for the levels
 levels-more : (rows : List TreeNode) (at : ℕ) (node : TreeNode) → at < length rows → node ≡ get_or rows at node
@@ -124,11 +124,11 @@ levels-more : (rows : List TreeNode) (at : ℕ) (node : TreeNode) → at < lengt
     → (count : ℕ) → count ≡ length kept
     → levels_from rows at ends ≡ (1 + count) ∷ levels_from rows (at + 1) more
 levels-more rows at node within is ends kept more closed pushed count counted =
-    let behind = map row_of (drop (at + 1) rows) in
+    let following = map row_of (drop (at + 1) rows) in
     let inside = (at + node.size) ∷ open_at at (reverse ends) in
     ap (levels_of_rows (reverse ends) at) (rows_from rows at node within is)
-    ∙ ap (λ n. (1 + n) ∷ levels_of_rows inside (at + 1) behind) (still at ends kept count closed counted)
-    ∙ ap (λ l. (1 + count) ∷ levels_of_rows l (at + 1) behind) (sym (inner at node.size ends kept more closed pushed))
+    ∙ ap (λ n. (1 + n) ∷ levels_of_rows inside (at + 1) following) (still at ends kept count closed counted)
+    ∙ ap (λ l. (1 + count) ∷ levels_of_rows l (at + 1) following) (sym (inner at node.size ends kept more closed pushed))
 
 -- the capacity suffices for one more end
 pub room-for_end : (rows : List TreeNode) (at : ℕ) (node : TreeNode) → at < length rows → node ≡ get_or rows at node

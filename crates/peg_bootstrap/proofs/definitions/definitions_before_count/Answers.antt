@@ -3,7 +3,7 @@ use Rattle.std.proofs.lemmas.List.{map-append}
 use Rattle.peg_grammar.specs.Written.{rule_of, rules_of}
 use Rattle.peg_tree.specs.Branches.{trees_from_branch}
 use Rattle.peg_bootstrap.specs.FigureNodes.{HasBadCount}
-use Rattle.peg_bootstrap.proofs.Facts.{err_told}
+use Rattle.peg_bootstrap.proofs.Facts.{err_stated}
 use Rattle.peg_bootstrap.proofs.RuleFacts as facts
 use Rattle.peg_bootstrap.proofs.Walks.{Defining}
 use Rattle.peg_bootstrap.proofs.definitions.definitions_before_count.Goals as goal
@@ -48,5 +48,5 @@ returns-clause-fine c =
 
 pub returns-in_err-definition-clause-bad : goal.returns-in_err-definition-clause-bad
 returns-in_err-definition-clause-bad c =
-    err_told (HasBadCount c.args.file.now c.args.tree.now) _ _ c.from_residual.ensures.1
+    err_stated (HasBadCount c.args.file.now c.args.tree.now) _ _ c.from_residual.ensures.1
     (facts.rule_bad c.args.file.now c.args.tree.now _ c.definitions.node c.definitions.invariant _ c.in_err-definition.ensures.bad)

@@ -2,7 +2,7 @@ use Rattle.std.proofs.Common.{◌≡◌, ◌+◌, ◌<◌, length, drop, arith, 
 use Rattle.std.proofs.lemmas.List.{take_rest}
 use Rattle.peg_bytes.specs.EndsLine.{ends_line}
 use Rattle.peg_bytes.specs.Place.{last_or}
-use Rattle.peg_bytes.proofs.PlaceLemmas.{ends_within, ends_within-behind, ends_within-one, ends_within-none}
+use Rattle.peg_bytes.proofs.PlaceLemmas.{ends_within, ends_within-following, ends_within-one, ends_within-none}
 use Rattle.peg_bytes.proofs.line_column.place.Goals as goal
 use Rattle.peg_bytes.proofs.line_column.place.Goals.{then-ends_line, else-ends_line}
 
@@ -40,10 +40,10 @@ loop-next-preserved c =
 
 pub returns-clause-line : goal.returns-clause-line
 returns-clause-line c =
-    let none = ends_within-behind c.args.at c.loop-next.next (drop c.loop-next.next c.args.file.now) (omega arith) in
+    let none = ends_within-following c.args.at c.loop-next.next (drop c.loop-next.next c.args.file.now) (omega arith) in
     omega (arith, ap length none)
 
 pub returns-clause-column : goal.returns-clause-column
 returns-clause-column c =
-    let none = ends_within-behind c.args.at c.loop-next.next (drop c.loop-next.next c.args.file.now) (omega arith) in
+    let none = ends_within-following c.args.at c.loop-next.next (drop c.loop-next.next c.args.file.now) (omega arith) in
     omega (arith, ap (last_or c.loop-next.start) none)

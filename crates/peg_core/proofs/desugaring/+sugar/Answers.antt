@@ -92,8 +92,8 @@ add-add_count-requires-clause-room t c =
     let part = form_of c.deref-in-Counted.result.now in
     let count : Count = record { min = c.in-Counted.min; max = c.in-Counted.max; span = extent c.in-Counted.span } in
     let ranged = subst (λ f. are_in_range (counts_written f) ≡ true) same c.requires.ranged in
-    let behind = are_in_range-right (count ∷ []) (counts_written part) ranged in
-    omega (arith, c.requires.room, ap form_weight same, AppendsForm-room (rules_in c.args.grammar.now) part c.args.builder.now c.add-in-Counted.new.builder c.in_ok-add-in-Counted.field-0 c.in_ok-add-in-Counted.ensures behind)
+    let following = are_in_range-right (count ∷ []) (counts_written part) ranged in
+    omega (arith, c.requires.room, ap form_weight same, AppendsForm-room (rules_in c.args.grammar.now) part c.args.builder.now c.add-in-Counted.new.builder c.in_ok-add-in-Counted.field-0 c.in_ok-add-in-Counted.ensures following)
 
 pub add-returns-in_ok-add-in-Counted : goal.add-returns-in_ok-add-in-Counted
 add-returns-in_ok-add-in-Counted t c =
@@ -193,14 +193,14 @@ add-add_all-requires-in-Choice t c =
     let same : form_of c.args.expr.now ≡ form.Choice e items (extent c.in-Choice.span) = ap form_of c.in-Choice.is ∙ (form_of-Choice c.in-Choice.first c.in-Choice.rest c.in-Choice.span ∙ sym (λ i. form.Choice (form_of (c.deref-in-Choice.ensures i)) (forms (map form_of (c.deref-in-Choice-2.ensures.value i))) (extent c.in-Choice.span))) in
     let ranged = subst (λ f. are_in_range (counts_written f) ≡ true) same c.requires.ranged in
     let here = are_in_range-left (counts_written e) (counts_written_by_all items) ranged in
-    let behind = are_in_range-right (counts_written e) (counts_written_by_all items) ranged in
+    let following = are_in_range-right (counts_written e) (counts_written_by_all items) ranged in
     let defined = subst (λ f. are_defined (rules_in c.args.grammar.now) (names_used f) ≡ true) same c.requires.defined in (
       search (search_rules, the_lemmas),
       (
         omega (arith, c.requires.room, ap form_weight same, AppendsForm-room rules e old mid first one here),
         (
           omega (arith, c.requires.few, ap form_weight same, AppendsForm-few rules e old mid first one),
-          (one.rules ∙ c.requires.rules, (are_defined-right rules (names_used e) (names_used_by_all items) defined, behind)),
+          (one.rules ∙ c.requires.rules, (are_defined-right rules (names_used e) (names_used_by_all items) defined, following)),
         ),
       ),
     )
@@ -219,8 +219,8 @@ add-add_choices-requires-clause-room t c =
     let others = c.in_ok-others-in-Choice.others.items in
     let ranged = subst (λ f. are_in_range (counts_written f) ≡ true) same c.requires.ranged in
     let here = are_in_range-left (counts_written e) (counts_written_by_all items) ranged in
-    let behind = are_in_range-right (counts_written e) (counts_written_by_all items) ranged in
-    omega (arith, c.requires.room, ap form_weight same, AppendsForm-room rules e old mid first one here, ap length c.deref-in-Choice-3.ensures.value, AppendsForms-room rules items mid later others c.in_ok-others-in-Choice.ensures behind)
+    let following = are_in_range-right (counts_written e) (counts_written_by_all items) ranged in
+    omega (arith, c.requires.room, ap form_weight same, AppendsForm-room rules e old mid first one here, ap length c.deref-in-Choice-3.ensures.value, AppendsForms-room rules items mid later others c.in_ok-others-in-Choice.ensures following)
 
 pub add-returns-in_ok-others-in-Choice : goal.add-returns-in_ok-others-in-Choice
 add-returns-in_ok-others-in-Choice t c =

@@ -39,17 +39,17 @@ sought expression first rest span is =
 pub bad_count_in-returns-in-Some : goal.bad_count_in-returns-in-Some
 bad_count_in-returns-in-Some t c =
     let front = counts_written (form_of c.in-Choice.first.value) in
-    let behind = counts_written_by_all (forms (map form_of c.in-Choice.rest.items)) in
+    let following = counts_written_by_all (forms (map form_of c.in-Choice.rest.items)) in
     let here = c.in-Some.ensures ∙ ap (λ e. find is_bad (counts_written (form_of e))) c.deref-in-Choice.ensures in
-    find_front is_bad front behind (count_seen c.in-Some.bad) here
+    find_front is_bad front following (count_seen c.in-Some.bad) here
     ∙ sym (sought c.args.expression.now c.in-Choice.first c.in-Choice.rest c.in-Choice.span c.in-Choice.is)
 
 pub bad_count_in-returns-in-None : goal.bad_count_in-returns-in-None
 bad_count_in-returns-in-None t c =
     let front = counts_written (form_of c.in-Choice.first.value) in
-    let behind = counts_written_by_all (forms (map form_of c.in-Choice.rest.items)) in
+    let following = counts_written_by_all (forms (map form_of c.in-Choice.rest.items)) in
     let none = c.in-None.ensures ∙ ap (λ e. find is_bad (counts_written (form_of e))) c.deref-in-Choice.ensures in
     let all = λ (items : List Expr). find is_bad (counts_written_by_all (forms (map form_of items))) in
     c.bad_count_among-in-None.ensures ∙ ap all c.deref-in-None.ensures.value
-    ∙ sym (find_rest is_bad front behind none)
+    ∙ sym (find_rest is_bad front following none)
     ∙ sym (sought c.args.expression.now c.in-Choice.first c.in-Choice.rest c.in-Choice.span c.in-Choice.is)

@@ -40,18 +40,18 @@ pub unknown_in-returns-in-Some : goal.unknown_in-returns-in-Some
 unknown_in-returns-in-Some t c =
     let names = names_in c.args.names.now in
     let front = names_used (form_of c.in-Choice.first.value) in
-    let behind = names_used_by_all (forms (map form_of c.in-Choice.rest.items)) in
+    let following = names_used_by_all (forms (map form_of c.in-Choice.rest.items)) in
     let here = c.in-Some.ensures ∙ ap (λ e. find (is_unknown names) (names_used (form_of e))) c.deref-in-Choice.ensures in
-    find_front (is_unknown names) front behind (reference_of c.in-Some.unknown) here
+    find_front (is_unknown names) front following (reference_of c.in-Some.unknown) here
     ∙ sym (sought names c.args.expression.now c.in-Choice.first c.in-Choice.rest c.in-Choice.span c.in-Choice.is)
 
 pub unknown_in-returns-in-None : goal.unknown_in-returns-in-None
 unknown_in-returns-in-None t c =
     let names = names_in c.args.names.now in
     let front = names_used (form_of c.in-Choice.first.value) in
-    let behind = names_used_by_all (forms (map form_of c.in-Choice.rest.items)) in
+    let following = names_used_by_all (forms (map form_of c.in-Choice.rest.items)) in
     let none = c.in-None.ensures ∙ ap (λ e. find (is_unknown names) (names_used (form_of e))) c.deref-in-Choice.ensures in
     let all = λ (items : List Expr). find (is_unknown names) (names_used_by_all (forms (map form_of items))) in
     c.unknown_among-in-None.ensures ∙ ap all c.deref-in-None.ensures.value
-    ∙ sym (find_rest (is_unknown names) front behind none)
+    ∙ sym (find_rest (is_unknown names) front following none)
     ∙ sym (sought names c.args.expression.now c.in-Choice.first c.in-Choice.rest c.in-Choice.span c.in-Choice.is)

@@ -25,7 +25,7 @@ unreachable-requires c =
     let text = c.args.text.now in
     let why : c.plain_match.result ≡ Err DepthUsed =
     c.in-Err-DepthUsed.is ∙ ap (λ f. Err f) c.in-Err-DepthUsed.field-0-is in
-    let not_long : max_text_bytes < length text → ⊥ = λ long. let told = c.plain_match.ensures.long.1 long in cc in
+    let not_long : max_text_bytes < length text → ⊥ = λ long. let stated = c.plain_match.ensures.long.1 long in cc in
     let short : length text ≤ max_text_bytes = grind (arith, not_long) in
     ∥∥₁_elim c.requires.well_formed (hlevel)
     (λ grammar.

@@ -9,12 +9,12 @@ use Rattle.peg_semantics.specs.WellFormed.{IsWellFormedGrammar}
 use Rattle.peg_grammar.specs.Written.{form_of}
 use Rattle.peg_grammar.specs.declared.grammar.Grammar.{Grammar}
 use Rattle.peg_semantics.proofs.GrammarLemmas.{IsGrammar-from_searches}
-use Rattle.peg_semantics.proofs.RankedTables.{Told, IsWellFormedGrammar-shown}
+use Rattle.peg_semantics.proofs.RankedTables.{Stated, IsWellFormedGrammar-shown}
 use Rattle.peg_grammar_tests.proofs.total.nested_grammar.Goals as goal
 
 -- the rule consumes or fails, and has no left calls
-abbrev told : List Told
-told = record { can = record { nothing = false; something = true; fails = true }; rank = 0 } ∷ []
+abbrev stated : List Stated
+stated = record { can = record { nothing = false; something = true; fails = true }; rank = 0 } ∷ []
 
 abbrev one_rule : Form → List Rule
 one_rule body = record { name = codes "S"; span = between 0 1; body = body } ∷ []
@@ -23,7 +23,7 @@ pub returns-clause-well_formed : goal.returns-clause-well_formed
 returns-clause-well_formed c =
     let body = ap one_rule c.in_ok-body.ensures in
     let well_formed : IsWellFormedGrammar nested =
-    IsWellFormedGrammar-shown nested told refl (IsGrammar-from_searches nested (λ none. cc) refl refl refl) in
+    IsWellFormedGrammar-shown nested stated refl (IsGrammar-from_searches nested (λ none. cc) refl refl refl) in
     IfOk-weaker c.one_rule.result (λ (grammar : Grammar). rules_in grammar ≡ one_rule (form_of c.in_ok-body.body))
     (λ (grammar : Grammar). ∥ IsWellFormedGrammar (rules_in grammar) ∥₁)
     (λ grammar same. subst (λ (rules : List Rule). ∥ IsWellFormedGrammar rules ∥₁) (sym (same ∙ body)) ∣ well_formed ∣₁)

@@ -25,10 +25,10 @@ bodies-preserved c =
     let can = c.of.result in
     let rest = cans_of (drop (i + 1) bodies) table in
     let within : i < length bodies = omega (arith, c.bodies-test.true, c.rules-rule-end.ensures.count) in
-    let told : get_or table c.body.result no_outcome ≡ can_of can =
+    let stated : get_or table c.body.result no_outcome ≡ can_of can =
     get_or_from_slice_get table c.body.result (can_of can) no_outcome c.of.ensures in
     let step : cans_of (drop i bodies) table ≡ can_of can ∷ rest =
-    from-number bodies table i c.body.result within c.body.ensures.number ∙ ap (λ x. x ∷ rest) told in
+    from-number bodies table i c.body.result within c.body.ensures.number ∙ ap (λ x. x ∷ rest) stated in
     let pushed : map can_of c.push.new.self.items ≡ map can_of outcomes ++ can_of can ∷ [] =
     ap (map can_of) c.in_ok-push.ensures.items ∙ map-append can_of outcomes (can ∷ []) in
     ap (λ l. l ++ rest) pushed ∙ (append_assoc (map can_of outcomes) (can_of can ∷ []) rest

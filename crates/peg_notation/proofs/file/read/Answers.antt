@@ -8,11 +8,11 @@ use Rattle.peg_notation.proofs.file.read.Goals as goal
 
 pub returns-in_err-tokens-clause-reads : goal.returns-in_err-tokens-clause-reads
 returns-in_err-tokens-clause-reads c =
-    let told = lexing_reads c.args.file.now c.in_err-tokens.field-0.0 c.in_err-tokens.ensures in search (rules, told)
+    let stated = lexing_reads c.args.file.now c.in_err-tokens.field-0.0 c.in_err-tokens.ensures in search (rules, stated)
 
 pub returns-in_err-tokens-clause-inside : goal.returns-in_err-tokens-clause-inside
 returns-in_err-tokens-clause-inside c =
-    let told = lexing_lies c.args.file.now c.in_err-tokens.field-0.0 c.in_err-tokens.ensures in search (rules, told)
+    let stated = lexing_lies c.args.file.now c.in_err-tokens.field-0.0 c.in_err-tokens.ensures in search (rules, stated)
 
 pub grammar-requires : goal.grammar-requires
 grammar-requires c =
@@ -24,14 +24,14 @@ returns-in_err-read-clause-reads c =
     let file = c.args.file.now in
     let ls = lexemes c.in_ok-tokens.tokens.items in
     let is = subst (λ tokens. AgreesOnError (grammar file max_open (lexemes tokens)) c.in_err-read.field-0.0) c.deref.ensures.value c.in_err-read.ensures in
-    let told = fault_reads file ls c.in_err-read.field-0.0 c.in_ok-tokens.ensures.0 c.in_ok-tokens.ensures.1 is in search (rules, told)
+    let stated = fault_reads file ls c.in_err-read.field-0.0 c.in_ok-tokens.ensures.0 c.in_ok-tokens.ensures.1 is in search (rules, stated)
 
 pub returns-in_err-read-clause-inside : goal.returns-in_err-read-clause-inside
 returns-in_err-read-clause-inside c =
     let file = c.args.file.now in
     let ls = lexemes c.in_ok-tokens.tokens.items in
     let is = subst (λ tokens. AgreesOnError (grammar file max_open (lexemes tokens)) c.in_err-read.field-0.0) c.deref.ensures.value c.in_err-read.ensures in
-    let told = fault_lies file ls c.in_err-read.field-0.0 c.in_ok-tokens.ensures.1 is in search (rules, told)
+    let stated = fault_lies file ls c.in_err-read.field-0.0 c.in_ok-tokens.ensures.1 is in search (rules, stated)
 
 pub returns-clause-reads : goal.returns-clause-reads
 returns-clause-reads c =
@@ -49,11 +49,11 @@ returns-clause-inside c =
 
 pub returns-in_err-tokens-clause-first : goal.returns-in_err-tokens-clause-first
 returns-in_err-tokens-clause-first c =
-    let told = lexing_first c.args.file.now c.in_err-tokens.field-0.0 c.in_err-tokens.ensures in search (rules, told)
+    let stated = lexing_first c.args.file.now c.in_err-tokens.field-0.0 c.in_err-tokens.ensures in search (rules, stated)
 
 pub returns-in_err-read-clause-first : goal.returns-in_err-read-clause-first
 returns-in_err-read-clause-first c =
     let file = c.args.file.now in
     let ls = lexemes c.in_ok-tokens.tokens.items in
     let is = subst (λ tokens. AgreesOnError (grammar file max_open (lexemes tokens)) c.in_err-read.field-0.0) c.deref.ensures.value c.in_err-read.ensures in
-    let told = fault_first file ls c.in_err-read.field-0.0 c.in_ok-tokens.ensures.1 is in search (rules, told)
+    let stated = fault_first file ls c.in_err-read.field-0.0 c.in_ok-tokens.ensures.1 is in search (rules, stated)

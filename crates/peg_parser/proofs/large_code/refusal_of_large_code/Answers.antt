@@ -8,8 +8,8 @@ use Rattle.peg_semantics.specs.WellFormed.{IsWellFormedGrammar}
 use Rattle.peg_semantics.proofs.CutWellFormed.{well_formed-uncut}
 use Rattle.peg_parser.specs.Faults.{HasCause}
 use Rattle.peg_parser.specs.Refusals.{IsRefusalOf}
-use Rattle.peg_parser.proofs.AcceptLemmas.{told-code}
-use Rattle.peg_parser.proofs.CutLemmas.{told-cut}
+use Rattle.peg_parser.proofs.AcceptLemmas.{stated-code}
+use Rattle.peg_parser.proofs.CutLemmas.{stated-cut}
 use Rattle.peg_parser.proofs.large_code.refusal_of_large_code.Goals as goal
 use Rattle.peg_parser.proofs.large_code.refusal_of_large_code.Goals.{In-Ok}
 
@@ -22,7 +22,7 @@ returns-in-Ok-check c file read taken inside =
     let rules = rules_in c.args.grammar in
     let formed = c.in-Ok-check.ensures.grammar (rules_in c.with_cut_counts-grammar.result)
     (are (goal.at.returns-in-Ok-check c).In-Ok) in
-    told-code file rules CodeTooLarge read taken
+    stated-code file rules CodeTooLarge read taken
     (well_formed-uncut rules (subst IsWellFormedGrammar c.with_cut_counts-grammar.ensures formed)) (λ large. c.requires)
 
 pub returns-in-Err-check : goal.returns-in-Err-check
@@ -33,6 +33,6 @@ returns-in-Err-check c file read taken inside =
     let ill = c.in-Err-check.ensures.grammar_refused (rules_in cut) (are (goal.at.returns-in-Err-check c).In-Ok) in
     let count = c.in-Ok.ensures.count ∙ ap length c.with_cut_counts-grammar.ensures in
     subst (HasCause (IsRefusalOf file) (length file)) (sym c.from_check.ensures)
-    (told-cut file rules cut fault c.with_cut_counts-grammar.ensures
+    (stated-cut file rules cut fault c.with_cut_counts-grammar.ensures
     (subst (λ (l : List Rule). IsIllFormedBy l fault) c.with_cut_counts-grammar.ensures ill)
     (subst (λ (n : ℕ). NamesRules n fault) count c.in-Err-check.ensures.named) read taken inside)

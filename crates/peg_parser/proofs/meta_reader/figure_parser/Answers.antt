@@ -6,14 +6,14 @@ use Rattle.peg_grammar.specs.Refusal.{IsRefusedBy}
 use Rattle.peg_parser.specs.Accepts.{code_size}
 use Rattle.peg_parser.specs.Faults.{of_grammar}
 use Rattle.peg_parser.proofs.FigureCode.{figure-size}
-use Rattle.peg_parser.proofs.FigureGrammar.{grammar_memory, told_memory}
+use Rattle.peg_parser.proofs.FigureGrammar.{grammar_memory, stated_memory}
 use Rattle.peg_parser.proofs.meta_reader.figure_parser.Goals as goal
 
 pub returns-in_err-grammar-clause-memory : goal.returns-in_err-grammar-clause-memory
 returns-in_err-grammar-clause-memory c =
     let fault = c.in_err-grammar.field-0.0 in
     let memory = grammar_memory fault (subst (λ rules. IsRefusedBy rules fault) c.in_ok-definitions.ensures c.in_err-grammar.ensures.refused) in
-    told_memory c.from_residual-in_err-grammar.result (of_grammar fault) c.from_residual-in_err-grammar.ensures.1 (ap of_grammar memory)
+    stated_memory c.from_residual-in_err-grammar.result (of_grammar fault) c.from_residual-in_err-grammar.ensures.1 (ap of_grammar memory)
 
 pub returns-clause-memory : goal.returns-clause-memory
 returns-clause-memory c =

@@ -9,7 +9,7 @@ returns-in-Some-clause-tree c =
     c.in-Some.ensures.0 c.in-Some.tree c.in-Some.ensures.1
 
 pub returns-in-None-clause-none : goal.returns-in-None-clause-none
-returns-in-None-clause-none c told =
+returns-in-None-clause-none c stated =
     failed_none c.args.file.now c.in-Ok.answer.outcome
     (outcome_of (parser_rules c.args.parser.now) c.args.file.now c.in-Ok.answer.outcome c.requires.rules c.in-Ok.ensures.outcome)
     c.in-None.ensures

@@ -6,7 +6,7 @@ use Rattle.peg_semantics.specs.Form.{Form, Literal, Optional, Star, Plus}
 use Rattle.peg_semantics.specs.WellFormed.{IsWellFormedIn}
 use Rattle.peg_semantics.specs.Grammar.{IsGrammar}
 use Rattle.peg_semantics.proofs.GrammarLemmas.{IsGrammar-from_searches}
-use Rattle.peg_semantics.proofs.RankedTables.{Told, IsWellFormedGrammar-shown}
+use Rattle.peg_semantics.proofs.RankedTables.{Stated, IsWellFormedGrammar-shown}
 use Rattle.peg_semantics.proofs.laws.the_outcomes_agree_with_hand_worked_grammars.Goals as goal
 
 itself-none : (n : ℕ) → all_can_in itself n ≡ itself_can
@@ -26,8 +26,8 @@ plus-refused part span gives zero h = h
 plus-refused part span gives (suc n) h = h.1 gives
 
 -- S <- 'a' S / 'b': 'a' does not give 0, so S does not left-call S
-abbrev nested-told : List Told
-nested-told = record { can = record { nothing = false; something = true; fails = true }; rank = 0 } ∷ []
+abbrev nested-stated : List Stated
+nested-stated = record { can = record { nothing = false; something = true; fails = true }; rank = 0 } ∷ []
 
 nested-grammar : IsGrammar nested
 nested-grammar = IsGrammar-from_searches nested (λ none. cc) refl refl refl
@@ -43,5 +43,5 @@ returns c = record {
   star_of_star = λ is. star-refused (Star (Literal (codes "a") (between 6 9)) (between 6 10)) (between 5 12) (2, refl) is.0 is.1;
   plus_of_empty = λ is. plus-refused (Literal [] (between 6 8)) (between 5 10) (1, refl) is.0 is.1;
   star_of_optional = λ is. star-refused (Optional (Literal [] (between 7 9)) (between 6 11)) (between 5 13) (2, refl) is.0 is.1;
-  well_formed = IsWellFormedGrammar-shown nested nested-told refl nested-grammar;
+  well_formed = IsWellFormedGrammar-shown nested nested-stated refl nested-grammar;
 }

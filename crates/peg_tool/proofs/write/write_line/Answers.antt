@@ -4,7 +4,7 @@ use Rattle.std.proofs.lemmas.Result.{on_err_weaker, on_ok_weaker}
 use Rattle.std.specs.Io.KnownBytes.{Appends}
 use Rattle.peg_io.specs.Transfer.{AppendsProperPrefix}
 use Rattle.peg_json.specs.Lines.{rows_text, tail_bytes}
-use Rattle.peg_tool.proofs.WriteLemmas.{on-err, prefix-behind, prefix-longer}
+use Rattle.peg_tool.proofs.WriteLemmas.{on-err, prefix-following, prefix-longer}
 use Rattle.peg_tool.proofs.write.write_line.Goals as goal
 
 pub returns-in_err-write_all_bytes-clause-err : goal.returns-in_err-write_all_bytes-clause-err
@@ -25,7 +25,7 @@ returns-in_err-write_rows-clause-err g c =
     let rows = rows_text c.args.line.rows in
     let tail = tail_bytes c.args.line.tail in
     let done = subst (Appends old mid) c.as_bytes.ensures.value c.in_ok-write_all_bytes.ensures.ok in
-    on-err c.from_residual-in_err-write_rows.result (prefix-behind old mid new head (rows ++ tail) done
+    on-err c.from_residual-in_err-write_rows.result (prefix-following old mid new head (rows ++ tail) done
     (prefix-longer mid new rows tail c.in_err-write_rows.ensures.err))
 
 pub returns-clause-ok : goal.returns-clause-ok
@@ -52,6 +52,6 @@ returns-clause-err g c =
     let rows = rows_text c.args.line.rows in
     let tail = tail_bytes c.args.line.tail in
     let done = subst (Appends old mid) c.as_bytes.ensures.value c.in_ok-write_all_bytes.ensures.ok in
-    on_err_weaker c.write_all_bytes-2.result (λ cut. prefix-behind old mid new head (rows ++ tail) done
-    (prefix-behind mid later new rows tail c.in_ok-write_rows.ensures.ok
+    on_err_weaker c.write_all_bytes-2.result (λ cut. prefix-following old mid new head (rows ++ tail) done
+    (prefix-following mid later new rows tail c.in_ok-write_rows.ensures.ok
     (subst (AppendsProperPrefix later new) c.bytes.ensures cut))) c.write_all_bytes-2.ensures.err

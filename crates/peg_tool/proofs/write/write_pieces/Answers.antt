@@ -3,7 +3,7 @@ use Rattle.std.proofs.KnownBytes.{Appends-trans}
 use Rattle.std.specs.Io.KnownBytes.{Appends}
 use Rattle.peg_io.specs.Transfer.{AppendsProperPrefix}
 use Rattle.peg_tree.specs.FlatTreeLeft.{piece_of, text_left}
-use Rattle.peg_tool.proofs.WriteLemmas.{on-err, prefix-behind, prefix-longer}
+use Rattle.peg_tool.proofs.WriteLemmas.{on-err, prefix-following, prefix-longer}
 use Rattle.peg_tool.proofs.write.write_pieces.Goals as goal
 
 pub returns-in_err-write_all_bytes-clause-err : goal.returns-in_err-write_all_bytes-clause-err
@@ -14,7 +14,7 @@ returns-in_err-write_all_bytes-clause-err g c =
     let new = g.W.Sink.written c.write_all_bytes.new.output in
     let cut = subst (AppendsProperPrefix mid new) c.piece-in-pieces.ensures c.in_err-write_all_bytes.ensures.err in
     on-err c.from_residual.result (subst (AppendsProperPrefix old new) (sym l.invariant.same)
-    (prefix-behind old mid new l.invariant.done (piece_of l.rows ++ text_left l.rows) l.invariant.written
+    (prefix-following old mid new l.invariant.done (piece_of l.rows ++ text_left l.rows) l.invariant.written
     (prefix-longer mid new (piece_of l.rows) (text_left l.rows) cut)))
 
 pub pieces-preserved : goal.pieces-preserved

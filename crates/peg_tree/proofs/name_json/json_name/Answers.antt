@@ -5,6 +5,6 @@ use Rattle.peg_tree.proofs.name_json.json_name.Goals as goal
 
 pub returns-in-Ok : goal.returns-in-Ok
 returns-in-Ok c =
-    let told = c.in-Ok.ensures.events in
+    let stated = c.in-Ok.ensures.events in
     IfOk-weaker c.from_slice.result _ _ (λ v e. e ∙ c.as_bytes.ensures.value
-    ∙ text_of_str c.args.name.now told.0 (string_bytes c.in-Ok.text) told.1 told.2) c.from_slice.ensures.items
+    ∙ text_of_str c.args.name.now stated.0 (string_bytes c.in-Ok.text) stated.1 stated.2) c.from_slice.ensures.items

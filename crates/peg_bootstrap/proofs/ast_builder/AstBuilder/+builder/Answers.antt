@@ -22,7 +22,7 @@ expression-first-sequence-requires t c =
 
 pub expression-sequence-requires : goal.expression-sequence-requires
 expression-sequence-requires t c =
-    (omega arith, (lists.first_sequence (file_in c.args.self.now) c.args.node.now c.args.before c.args.left c.requires.ordered c.requires.node c.first-sequence.result c.first-sequence.ensures, lists.first_behind (file_in c.args.self.now) c.args.node.now c.args.before c.args.left c.requires.ordered c.requires.node c.first-sequence.result c.first-sequence.ensures))
+    (omega arith, (lists.first_sequence (file_in c.args.self.now) c.args.node.now c.args.before c.args.left c.requires.ordered c.requires.node c.first-sequence.result c.first-sequence.ensures, lists.first_following (file_in c.args.self.now) c.args.node.now c.args.before c.args.left c.requires.ordered c.requires.node c.first-sequence.result c.first-sequence.ensures))
 
 pub expression-alternatives-init : goal.expression-alternatives-init
 expression-alternatives-init t c =
@@ -33,7 +33,7 @@ expression-alternatives-init t c =
 pub expression-sequence-requires-in-alternatives :
     goal.expression-sequence-requires-in-alternatives
 expression-sequence-requires-in-alternatives t c =
-    (omega arith, (lists.next_sequence (file_in c.args.self.now) c.args.node.now c.args.before c.args.left c.requires.ordered c.requires.node c.alternatives.invariant c.first-slash.result c.first-slash.ensures c.first-next.result c.first-next.ensures, (let behind = lists.next_behind (file_in c.args.self.now) c.args.node.now c.args.before c.args.left c.requires.ordered c.requires.node c.alternatives.invariant c.first-slash.result c.first-slash.ensures c.first-next.result c.first-next.ensures in omega (arith, behind, c.token_end.ensures))))
+    (omega arith, (lists.next_sequence (file_in c.args.self.now) c.args.node.now c.args.before c.args.left c.requires.ordered c.requires.node c.alternatives.invariant c.first-slash.result c.first-slash.ensures c.first-next.result c.first-next.ensures, (let following = lists.next_following (file_in c.args.self.now) c.args.node.now c.args.before c.args.left c.requires.ordered c.requires.node c.alternatives.invariant c.first-slash.result c.first-slash.ensures c.first-next.result c.first-next.ensures in omega (arith, following, c.token_end.ensures))))
 
 pub expression-alternatives-preserved : goal.expression-alternatives-preserved
 expression-alternatives-preserved t c =
@@ -52,7 +52,7 @@ expression-returns-clause-within t c =
 
 pub parenthesized-returns-then-left-eq0-clause-deep :
     goal.parenthesized-returns-then-left-eq0-clause-deep
-parenthesized-returns-then-left-eq0-clause-deep t c told =
+parenthesized-returns-then-left-eq0-clause-deep t c stated =
     subst (λ n. c.args.left < n) (sym (primary.parenthesized_nests (file_in c.args.self.now) c.args.node.now c.requires.node c.requires.opens)) (omega arith)
 
 pub parenthesized-first-inside-requires : goal.parenthesized-first-inside-requires
@@ -65,11 +65,11 @@ parenthesized-first-closing-requires t c =
 
 pub parenthesized-expression-requires : goal.parenthesized-expression-requires
 parenthesized-expression-requires t c =
-    (omega arith, (primary.inside_expression (file_in c.args.self.now) c.args.node.now c.requires.node c.requires.opens c.first-opening.result c.first-opening.ensures c.first-inside.result c.first-inside.ensures, (let order = primary.inside_behind (file_in c.args.self.now) c.args.node.now c.requires.node c.requires.opens c.first-opening.result c.first-opening.ensures c.first-inside.result c.first-inside.ensures in omega (arith, order, c.token_end.ensures))))
+    (omega arith, (primary.inside_expression (file_in c.args.self.now) c.args.node.now c.requires.node c.requires.opens c.first-opening.result c.first-opening.ensures c.first-inside.result c.first-inside.ensures, (let order = primary.inside_following (file_in c.args.self.now) c.args.node.now c.requires.node c.requires.opens c.first-opening.result c.first-opening.ensures c.first-inside.result c.first-inside.ensures in omega (arith, order, c.token_end.ensures))))
 
 pub parenthesized-returns-in_err-part-clause-deep :
     goal.parenthesized-returns-in_err-part-clause-deep
-parenthesized-returns-in_err-part-clause-deep t c told =
+parenthesized-returns-in_err-part-clause-deep t c stated =
     subst (λ n. c.args.left < n) (sym (primary.inside_nests (file_in c.args.self.now) c.args.node.now c.requires.node c.requires.opens c.first-opening.result c.first-opening.ensures c.first-inside.result c.first-inside.ensures c.first-closing.result c.first-closing.ensures)) (let h = c.from_residual.ensures in let deep : c.args.left - 1 < nesting (tree_of_branch c.first-inside.result) = c.in_err-part.ensures.deep (search rules) in omega (arith, deep))
 
 pub parenthesized-returns-clause-spells : goal.parenthesized-returns-clause-spells
@@ -269,11 +269,11 @@ suffix-returns-clause-within t c =
 
 pub expression-returns-in_err-first-clause-bad : goal.expression-returns-in_err-first-clause-bad
 expression-returns-in_err-first-clause-bad t c =
-    facts.err_told (HasBadCount (file_in c.args.self.now) (tree_of_branch c.args.node.now)) _ _ c.from_residual.ensures.1 (lists.first_bad (file_in c.args.self.now) c.args.node.now c.args.before c.args.left c.requires.ordered c.requires.node c.first-sequence.result c.first-sequence.ensures _ c.in_err-first.ensures.bad)
+    facts.err_stated (HasBadCount (file_in c.args.self.now) (tree_of_branch c.args.node.now)) _ _ c.from_residual.ensures.1 (lists.first_bad (file_in c.args.self.now) c.args.node.now c.args.before c.args.left c.requires.ordered c.requires.node c.first-sequence.result c.first-sequence.ensures _ c.in_err-first.ensures.bad)
 
 pub expression-returns-in_err-part-clause-bad : goal.expression-returns-in_err-part-clause-bad
 expression-returns-in_err-part-clause-bad t c =
-    facts.err_told (HasBadCount (file_in c.args.self.now) (tree_of_branch c.args.node.now)) _ _ c.from_residual-in_err-part.ensures.1 (lists.next_bad (file_in c.args.self.now) c.args.node.now c.args.before c.args.left c.requires.ordered c.requires.node c.alternatives.invariant c.first-slash.result c.first-slash.ensures c.first-next.result c.first-next.ensures _ c.in_err-part.ensures.bad)
+    facts.err_stated (HasBadCount (file_in c.args.self.now) (tree_of_branch c.args.node.now)) _ _ c.from_residual-in_err-part.ensures.1 (lists.next_bad (file_in c.args.self.now) c.args.node.now c.args.before c.args.left c.requires.ordered c.requires.node c.alternatives.invariant c.first-slash.result c.first-slash.ensures c.first-next.result c.first-next.ensures _ c.in_err-part.ensures.bad)
 
 pub expression-returns-clause-fine : goal.expression-returns-clause-fine
 expression-returns-clause-fine t c =
@@ -281,7 +281,7 @@ expression-returns-clause-fine t c =
 
 pub sequence-returns-in_err-part-clause-bad : goal.sequence-returns-in_err-part-clause-bad
 sequence-returns-in_err-part-clause-bad t c =
-    facts.err_told (HasBadCount (file_in c.args.self.now) (tree_of_branch c.args.node.now)) _ _ c.from_residual.ensures.1 (lists.item_bad (file_in c.args.self.now) c.args.node.now c.args.before c.args.left c.requires.ordered c.requires.node c.items.invariant c.first-item.result c.first-item.ensures _ c.in_err-part.ensures.bad)
+    facts.err_stated (HasBadCount (file_in c.args.self.now) (tree_of_branch c.args.node.now)) _ _ c.from_residual.ensures.1 (lists.item_bad (file_in c.args.self.now) c.args.node.now c.args.before c.args.left c.requires.ordered c.requires.node c.items.invariant c.first-item.result c.first-item.ensures _ c.in_err-part.ensures.bad)
 
 pub sequence-returns-clause-fine : goal.sequence-returns-clause-fine
 sequence-returns-clause-fine t c =
@@ -289,7 +289,7 @@ sequence-returns-clause-fine t c =
 
 pub parenthesized-returns-in_err-part-clause-bad : goal.parenthesized-returns-in_err-part-clause-bad
 parenthesized-returns-in_err-part-clause-bad t c =
-    facts.err_told (HasBadCount (file_in c.args.self.now) (tree_of_branch c.args.node.now)) _ _ c.from_residual.ensures.1 (bad-same (file_in c.args.self.now) (tree_of_branch c.first-inside.result) (tree_of_branch c.args.node.now) (primary.inside_counts (file_in c.args.self.now) c.args.node.now c.requires.node c.requires.opens c.first-opening.result c.first-opening.ensures c.first-inside.result c.first-inside.ensures c.first-closing.result c.first-closing.ensures) _ c.in_err-part.ensures.bad)
+    facts.err_stated (HasBadCount (file_in c.args.self.now) (tree_of_branch c.args.node.now)) _ _ c.from_residual.ensures.1 (bad-same (file_in c.args.self.now) (tree_of_branch c.first-inside.result) (tree_of_branch c.args.node.now) (primary.inside_counts (file_in c.args.self.now) c.args.node.now c.requires.node c.requires.opens c.first-opening.result c.first-opening.ensures c.first-inside.result c.first-inside.ensures c.first-closing.result c.first-closing.ensures) _ c.in_err-part.ensures.bad)
 
 pub parenthesized-returns-clause-fine : goal.parenthesized-returns-clause-fine
 parenthesized-returns-clause-fine t c =
@@ -305,7 +305,7 @@ prefix-returns-then-first-eq-SUFFIX-clause-bad t c =
 
 pub prefix-returns-in_err-part-clause-bad : goal.prefix-returns-in_err-part-clause-bad
 prefix-returns-in_err-part-clause-bad t c =
-    facts.err_told (HasBadCount (file_in c.args.self.now) (tree_of_branch c.args.node.now)) _ _ c.from_residual.ensures.1 (bad-same (file_in c.args.self.now) (tree_of_branch c.first.result) (tree_of_branch c.args.node.now) (facts.prefix_counts (file_in c.args.self.now) c.args.node.now c.requires.node c.first-first.result c.first-first.ensures (facts.prefix_sign (file_in c.args.self.now) c.args.node.now c.requires.node c.first-first.result c.first-first.ensures c.if-first-eq-SUFFIX.false) c.first.result c.first.ensures) _ c.in_err-part.ensures.bad)
+    facts.err_stated (HasBadCount (file_in c.args.self.now) (tree_of_branch c.args.node.now)) _ _ c.from_residual.ensures.1 (bad-same (file_in c.args.self.now) (tree_of_branch c.first.result) (tree_of_branch c.args.node.now) (facts.prefix_counts (file_in c.args.self.now) c.args.node.now c.requires.node c.first-first.result c.first-first.ensures (facts.prefix_sign (file_in c.args.self.now) c.args.node.now c.requires.node c.first-first.result c.first-first.ensures c.if-first-eq-SUFFIX.false) c.first.result c.first.ensures) _ c.in_err-part.ensures.bad)
 
 pub prefix-returns-clause-fine : goal.prefix-returns-clause-fine
 prefix-returns-clause-fine t c =
@@ -329,7 +329,7 @@ primary-returns-in_default-clause-fine t c =
 
 pub suffix-returns-in_err-part-clause-bad : goal.suffix-returns-in_err-part-clause-bad
 suffix-returns-in_err-part-clause-bad t c =
-    facts.err_told (HasBadCount (file_in c.args.self.now) (tree_of_branch c.args.node.now)) _ _ c.from_residual.ensures.1 (facts.suffix_first_bad (file_in c.args.self.now) c.args.node.now c.requires.node c.first-primary.result c.first-primary.ensures _ c.in_err-part.ensures.bad)
+    facts.err_stated (HasBadCount (file_in c.args.self.now) (tree_of_branch c.args.node.now)) _ _ c.from_residual.ensures.1 (facts.suffix_first_bad (file_in c.args.self.now) c.args.node.now c.requires.node c.first-primary.result c.first-primary.ensures _ c.in_err-part.ensures.bad)
 
 pub suffix-returns-then-is_empty-clause-fine : goal.suffix-returns-then-is_empty-clause-fine
 suffix-returns-then-is_empty-clause-fine t c =
@@ -341,7 +341,7 @@ suffix-counted-requires t c =
 
 pub suffix-returns-in_err-expression-clause-bad : goal.suffix-returns-in_err-expression-clause-bad
 suffix-returns-in_err-expression-clause-bad t c =
-    facts.err_told (HasBadCount (file_in c.args.self.now) (tree_of_branch c.args.node.now)) _ _ c.from_residual-in_err-expression.ensures.1 (bad-same (file_in c.args.self.now) (tree_of_branch c.first-sign.result) (tree_of_branch c.args.node.now) (facts.suffix_counts (file_in c.args.self.now) c.args.node.now c.requires.node c.first-primary.result c.first-primary.ensures (λ none. let bad = c.is_empty.ensures.1 none in cc) c.first-sign.result c.first-sign.ensures ∙ ap (λ (l : List ℕ). l ++ bad_counts (file_in c.args.self.now) (tree_of_branch c.first-sign.result)) c.in_ok-part.ensures.fine) _ c.in_err-expression.ensures.bad)
+    facts.err_stated (HasBadCount (file_in c.args.self.now) (tree_of_branch c.args.node.now)) _ _ c.from_residual-in_err-expression.ensures.1 (bad-same (file_in c.args.self.now) (tree_of_branch c.first-sign.result) (tree_of_branch c.args.node.now) (facts.suffix_counts (file_in c.args.self.now) c.args.node.now c.requires.node c.first-primary.result c.first-primary.ensures (λ none. let bad = c.is_empty.ensures.1 none in cc) c.first-sign.result c.first-sign.ensures ∙ ap (λ (l : List ℕ). l ++ bad_counts (file_in c.args.self.now) (tree_of_branch c.first-sign.result)) c.in_ok-part.ensures.fine) _ c.in_err-expression.ensures.bad)
 
 pub suffix-returns-clause-fine : goal.suffix-returns-clause-fine
 suffix-returns-clause-fine t c =

@@ -3,7 +3,7 @@ use Rattle.peg_metagrammar.specs.Nesting.{max_open}
 use Rattle.peg_tree.specs.Branches.{tree_of_branch}
 use Rattle.peg_bootstrap.specs.AstBuilderCode.{file_in, BuildsAt}
 use Rattle.peg_bootstrap.specs.FigureNodes.{HasBadCount}
-use Rattle.peg_bootstrap.proofs.Facts.{err_told}
+use Rattle.peg_bootstrap.proofs.Facts.{err_stated}
 use Rattle.peg_bootstrap.proofs.Loops.{bad-same}
 use Rattle.peg_bootstrap.proofs.RuleFacts as facts
 use Rattle.peg_bootstrap.proofs.ast_builder.AstBuilder.definition.Goals as goal
@@ -25,8 +25,8 @@ expression-requires-clause-node c = facts.body_expression (file_in c.args.self.n
 
 pub expression-requires-clause-ordered : goal.expression-requires-clause-ordered
 expression-requires-clause-ordered c =
-    let behind = facts.body_behind (file_in c.args.self.now) c.args.node.now c.requires c.first-name.result c.first-name.ensures c.first-arrow.result c.first-arrow.ensures c.first.result c.first.ensures in
-    omega (arith, behind, c.token_end.ensures)
+    let following = facts.body_following (file_in c.args.self.now) c.args.node.now c.requires c.first-name.result c.first-name.ensures c.first-arrow.result c.first-arrow.ensures c.first.result c.first.ensures in
+    omega (arith, following, c.token_end.ensures)
 
 pub returns-clause-spells : goal.returns-clause-spells
 returns-clause-spells c before =
@@ -45,5 +45,5 @@ returns-clause-fine c = facts.rule_counts (file_in c.args.self.now) c.args.node.
 
 pub returns-in_err-body-clause-bad : goal.returns-in_err-body-clause-bad
 returns-in_err-body-clause-bad c =
-    err_told (HasBadCount (file_in c.args.self.now) (tree_of_branch c.args.node.now)) _ _ c.from_residual-in_err-body.ensures.1
+    err_stated (HasBadCount (file_in c.args.self.now) (tree_of_branch c.args.node.now)) _ _ c.from_residual-in_err-body.ensures.1
     (bad-same (file_in c.args.self.now) (tree_of_branch c.first.result) (tree_of_branch c.args.node.now) (facts.rule_counts (file_in c.args.self.now) c.args.node.now c.requires c.first-name.result c.first-name.ensures c.first-arrow.result c.first-arrow.ensures c.first.result c.first.ensures) _ c.in_err-body.ensures.bad)

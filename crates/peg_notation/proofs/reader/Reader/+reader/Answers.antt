@@ -6,7 +6,7 @@ use Rattle.peg_notation.specs.ReaderCode.{lexemes, AreTexts, form_seen, forms_se
 use Rattle.peg_notation.specs.ReaderFile.{file_of}
 use Rattle.peg_lexer.specs.Tokens.{lexeme_of}
 use Rattle.peg_notation.proofs.ManyLoops.{SoFar, so_far-one, so_far-all}
-use Rattle.peg_notation.proofs.ReaderSteps.{fault_passes, parenthesized-is, texts-behind, front_lies, prefix_order, primary_taken, items_order, choice_order, sequence_fault, expression_fault, sequence_read, expression_read}
+use Rattle.peg_notation.proofs.ReaderSteps.{fault_passes, parenthesized-is, texts-following, front_lies, prefix_order, primary_taken, items_order, choice_order, sequence_fault, expression_fault, sequence_read, expression_read}
 use Rattle.peg_notation.proofs.reader.Reader.+reader.Goals as goal
 
 -- ---- Primary
@@ -28,11 +28,11 @@ parenthesized-returns-in_err-inside-clause-read t c =
     let file = file_of c.args.self.now in
     let rest = lexemes c.args.rest.now in
     let is = parenthesized-is file c.args.left c.if-left-eq0.false (length file) (lexeme_of c.args.opening) rest in
-    let told : AgreesOnError (parenthesized (inner_reading file c.args.left) (length file) (lexeme_of c.args.opening) rest) c.in_err-inside.field-0.0 =
+    let stated : AgreesOnError (parenthesized (inner_reading file c.args.left) (length file) (lexeme_of c.args.opening) rest) c.in_err-inside.field-0.0 =
     subst (λ (x : Result FormRead ReadError). AgreesOnError x c.in_err-inside.field-0.0) (sym is)
     (fault_passes (expression file (inner_reading file (c.args.left - 1)) c.args.opening.span.end rest)
     (λ (inside : FormRead). closed_form (length file) inside (drop inside.token_count rest)) c.in_err-inside.field-0.0 c.in_err-inside.ensures.read) in
-    search (rules, told)
+    search (rules, stated)
 
 pub parenthesized-returns-clause-read : goal.parenthesized-returns-clause-read
 parenthesized-returns-clause-read t c =
@@ -74,7 +74,7 @@ pub sequence-prefix-requires : goal.sequence-prefix-requires
 sequence-prefix-requires t c = (
   omega arith,
   subst (AreTexts (file_of c.args.self.now) 0) (sym c.rest_after-in-items.ensures.tokens)
-      (texts-behind (file_of c.args.self.now) c.args.before c.items.items.token_count (lexemes c.args.tokens.now) c.requires.texts),
+      (texts-following (file_of c.args.self.now) c.args.before c.items.items.token_count (lexemes c.args.tokens.now) c.requires.texts),
 )
 
 pub sequence-returns-in_err-item-clause-read : goal.sequence-returns-in_err-item-clause-read
@@ -83,10 +83,10 @@ sequence-returns-in_err-item-clause-read t c =
     let inner = inner_reading file c.args.left in
     let ls = lexemes c.args.tokens.now in
     let begun = ap begins_prefix (sym c.rest_after.ensures.tokens) ∙ (sym c.begins_prefix.ensures ∙ c.items-test.true) in
-    let told : AgreesOnError (sequence file inner c.args.before ls) c.in_err-item.field-0.0 =
+    let stated : AgreesOnError (sequence file inner c.args.before ls) c.in_err-item.field-0.0 =
     sequence_fault file inner c.args.before ls (forms_seen c.items.items) c.in_err-item.field-0.0 c.items.invariant.so_far begun
     (subst (λ l. AgreesOnError (prefix file inner l) c.in_err-item.field-0.0) c.rest_after-in-items.ensures.tokens c.in_err-item.ensures.read) in
-    search (rules, told)
+    search (rules, stated)
 
 pub sequence-items-preserved : goal.sequence-items-preserved
 sequence-items-preserved t c =
@@ -133,11 +133,11 @@ pub expression-alternative-requires : goal.expression-alternative-requires
 expression-alternative-requires t c =
     let file = file_of c.args.self.now in
     let first = c.in_ok-first.first in
-    let rest = texts-behind file c.args.before first.token_count (lexemes c.args.tokens.now) c.requires.texts in
+    let rest = texts-following file c.args.before first.token_count (lexemes c.args.tokens.now) c.requires.texts in
     let here = subst (AreTexts file 0) (sym c.rest_after-rest.ensures.tokens) rest in (
       omega arith,
       subst (AreTexts file 0) (sym c.rest_after-in-alternatives.ensures.tokens)
-          (texts-behind file 0 c.alternatives.more.token_count (lexemes c.rest_after-rest.result.now) here),
+          (texts-following file 0 c.alternatives.more.token_count (lexemes c.rest_after-rest.result.now) here),
     )
 
 pub expression-returns-in_err-alternative-clause-read : goal.expression-returns-in_err-alternative-clause-read
@@ -151,12 +151,12 @@ expression-returns-in_err-alternative-clause-read t c =
     let rest = c.rest_after-rest.ensures.tokens in
     let begun = ap (λ l. starts_with_slash (drop more.token_count l)) (sym rest) ∙ (ap starts_with_slash (sym c.rest_after.ensures.tokens)
     ∙ (sym c.starts_with_slash.ensures ∙ c.alternatives-test.true)) in
-    let told : AgreesOnError (expression file inner c.args.before ls) fault =
+    let stated : AgreesOnError (expression file inner c.args.before ls) fault =
     expression_fault file inner c.args.before ls first more fault c.in_ok-first.ensures.read
     (subst (λ l. SoFar starts_with_slash (alternative file inner) first.last l more) rest c.alternatives.invariant.so_far) begun
     (subst (λ l. AgreesOnError (alternative file inner more.last l) fault)
     (c.rest_after-in-alternatives.ensures.tokens ∙ ap (drop more.token_count) rest) (c.in_err-alternative.ensures.read more.last)) in
-    search (rules, told)
+    search (rules, stated)
 
 pub expression-alternatives-preserved : goal.expression-alternatives-preserved
 expression-alternatives-preserved t c =

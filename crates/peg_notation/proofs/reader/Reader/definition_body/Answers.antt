@@ -6,7 +6,7 @@ use Rattle.peg_notation.specs.ReaderCode.{lexemes, form_seen, AgreesOnError}
 use Rattle.peg_notation.specs.ReaderFile.{file_of}
 use Rattle.peg_metagrammar.specs.Nesting.{max_open}
 use Rattle.peg_lexer.specs.Tokens.{lexeme_of}
-use Rattle.peg_notation.proofs.ReaderSteps.{front_token, behind_fault, behind_read}
+use Rattle.peg_notation.proofs.ReaderSteps.{front_token, following_fault, following_read}
 use Rattle.peg_notation.proofs.TokenTexts.{name-here}
 use Rattle.peg_notation.proofs.reader.Reader.definition_body.Goals as goal
 
@@ -15,12 +15,12 @@ returns-in_err-body-in-len1-up-clause-read c =
     let file = file_of c.args.self.now in
     let tokens = c.args.rest.now in
     let fault = c.in_err-body-in-len1-up.field-0.0 in
-    let told : AgreesOnError (definition_after file max_open (lexeme_of c.args.name) (lexemes tokens) (starts_with_arrow (lexemes tokens))) fault =
-    behind_fault file max_open (lexeme_of c.args.name) (lexemes tokens) (lexeme_of c.arrow-item.result)
+    let stated : AgreesOnError (definition_after file max_open (lexeme_of c.args.name) (lexemes tokens) (starts_with_arrow (lexemes tokens))) fault =
+    following_fault file max_open (lexeme_of c.args.name) (lexemes tokens) (lexeme_of c.arrow-item.result)
     (lexemes (take (length tokens - 1) (drop 1 tokens))) fault
     (front_token tokens c.arrow-item.result c.in-len1-up.len_at_least c.arrow-item.is)
     (sym c.starts_with_arrow.ensures ∙ c.if-starts_with_arrow.true) c.in_err-body-in-len1-up.ensures.read in
-    search (rules, told)
+    search (rules, stated)
 
 pub name_text-requires : goal.name_text-requires
 name_text-requires c = name-here (file_of c.args.self.now) (lexeme_of c.args.name) c.requires.text c.requires.ident
@@ -30,7 +30,7 @@ returns-in_ok-name_text-in-len1-up-clause-read c =
     let file = file_of c.args.self.now in
     let tokens = c.args.rest.now in
     let body = c.in_ok-body-in-len1-up.body in
-    behind_read file max_open (lexeme_of c.args.name) (lexemes tokens) (lexeme_of c.arrow-item.result)
+    following_read file max_open (lexeme_of c.args.name) (lexemes tokens) (lexeme_of c.arrow-item.result)
     (lexemes (take (length tokens - 1) (drop 1 tokens))) (form_seen body)
     (front_token tokens c.arrow-item.result c.in-len1-up.len_at_least c.arrow-item.is)
     (sym c.starts_with_arrow.ensures ∙ c.if-starts_with_arrow.true) c.in_ok-body-in-len1-up.ensures.read

@@ -9,7 +9,7 @@ use Rattle.peg_notation.specs.ReaderFile.{file_of}
 use Rattle.peg_metagrammar.specs.Nesting.{max_open}
 use Rattle.peg_lexer.specs.Tokens.{lexeme_of}
 use Rattle.peg_notation.proofs.ManyLoops.{RulesSoFar, rules-one, rules-all, rules-halt}
-use Rattle.peg_notation.proofs.ReaderSteps.{texts-behind, fault_same, grammar-is}
+use Rattle.peg_notation.proofs.ReaderSteps.{texts-following, fault_same, grammar-is}
 use Rattle.peg_notation.proofs.reader.Reader.grammar.Goals as goal
 
 not_empty : (n : ℕ) → (n == 0) ≡ false → 0 < n
@@ -18,7 +18,7 @@ not_empty n is = grind (arith, nat_tests)
 pub definition-requires : goal.definition-requires
 definition-requires c =
     subst (AreTexts (file_of c.args.self.now) 0) (sym c.rest_after.ensures.tokens)
-    (texts-behind (file_of c.args.self.now) 0 c.rules.token_count (lexemes c.args.tokens.now) c.requires)
+    (texts-following (file_of c.args.self.now) 0 c.rules.token_count (lexemes c.args.tokens.now) c.requires)
 
 pub returns-in_err-rule : goal.returns-in_err-rule
 returns-in_err-rule c =
@@ -28,12 +28,12 @@ returns-in_err-rule c =
     let left : 0 < length (drop c.rules.token_count ls) = omega (arith, size, length-drop c.rules.token_count ls, c.rules-test.true) in
     let some : 0 < length ls = omega (arith, size, c.rules-test.true) in
     let fault = c.in_err-rule.field-0.0 in
-    let told : AgreesOnError (grammar file max_open ls) fault =
+    let stated : AgreesOnError (grammar file max_open ls) fault =
     fault_same (definition file max_open (drop c.rules.token_count ls)) (grammar file max_open ls) fault
     (λ halt same. grammar-is file max_open ls some
     ∙ rules-halt file max_open ls c.rules.token_count (rules_of c.rules.definitions.items) c.rules.depth halt c.rules.invariant.so_far left same)
     (subst (λ l. AgreesOnError (definition file max_open l) fault) c.rest_after.ensures.tokens c.in_err-rule.ensures.read) in
-    search (rules, told)
+    search (rules, stated)
 
 pub rules-preserved : goal.rules-preserved
 rules-preserved c =

@@ -11,7 +11,7 @@ use Rattle.peg_semantics.specs.Rules.{Rule}
 use Rattle.peg_parser.specs.Accepts.{IsRead, IsAcceptedGrammar}
 use Rattle.peg_parser.specs.Faults.{HasCause, of_code, of_grammar, of_notation}
 use Rattle.peg_parser.specs.Refusals.{IsRefusalOf}
-use Rattle.peg_parser.proofs.AcceptLemmas.{accepted-whole, told-check, told-code, told-early, told-error, told-grammar, told-meaning, told-means, told-notation}
+use Rattle.peg_parser.proofs.AcceptLemmas.{accepted-whole, stated-check, stated-code, stated-early, stated-error, stated-grammar, stated-meaning, stated-means, stated-notation}
 use Rattle.peg_parser.proofs.parser.Parser.from_file.Goals as goal
 use Rattle.peg_parser.proofs.parser.Parser.from_file.Goals.{After-from_check, After-refusal_of_large_code, In_err-definitions, In_err-grammar, In_ok-grammar, In_ok-core}
 
@@ -39,8 +39,8 @@ notation : (c : In_err-definitions)
 notation c =
     let file = c.args.file.now in
     let why = c.in_err-definitions.field-0.0 in
-    told-early file (length file) (of_notation why)
-    (told-notation file why c.in_err-definitions.ensures.reads c.in_err-definitions.ensures.inside
+    stated-early file (length file) (of_notation why)
+    (stated-notation file why c.in_err-definitions.ensures.reads c.in_err-definitions.ensures.inside
     c.in_err-definitions.ensures.first)
 
 no_grammar : (c : In_err-grammar)
@@ -48,8 +48,8 @@ no_grammar : (c : In_err-grammar)
 no_grammar c =
     let file = c.args.file.now in
     let why = c.in_err-grammar.field-0.0 in
-    told-early file (length file) (of_grammar why)
-    (told-grammar file (rules_of c.in_ok-definitions.definitions.items) why
+    stated-early file (length file) (of_grammar why)
+    (stated-grammar file (rules_of c.in_ok-definitions.definitions.items) why
     record { within = c.in_ok-definitions.ensures.reads.0; reading = c.in_ok-definitions.ensures.reads.1 }
     c.in_ok-definitions.ensures.inside c.in_err-grammar.ensures.refused)
 
@@ -58,23 +58,23 @@ no_grammar c =
 pub returns-in_err-definitions-clause-refused : goal.returns-in_err-definitions-clause-refused
 returns-in_err-definitions-clause-refused c =
     let file = c.args.file.now in
-    told-error (IsRefusalOf file) (length file) c.from_residual.result (of_notation c.in_err-definitions.field-0.0)
+    stated-error (IsRefusalOf file) (length file) c.from_residual.result (of_notation c.in_err-definitions.field-0.0)
     c.from_residual.ensures.1 (notation (goal.at.returns-in_err-definitions-clause-refused c).In_err-definitions)
 
 pub returns-in_err-definitions-clause-wrong : goal.returns-in_err-definitions-clause-wrong
 returns-in_err-definitions-clause-wrong c =
-    told-meaning c.args.file.now c.from_residual.result (of_notation c.in_err-definitions.field-0.0)
+    stated-meaning c.args.file.now c.from_residual.result (of_notation c.in_err-definitions.field-0.0)
     c.from_residual.ensures.1 (notation (goal.at.returns-in_err-definitions-clause-wrong c).In_err-definitions)
 
 pub returns-in_err-grammar-clause-refused : goal.returns-in_err-grammar-clause-refused
 returns-in_err-grammar-clause-refused c =
     let file = c.args.file.now in
-    told-error (IsRefusalOf file) (length file) c.from_residual-in_err-grammar.result (of_grammar c.in_err-grammar.field-0.0)
+    stated-error (IsRefusalOf file) (length file) c.from_residual-in_err-grammar.result (of_grammar c.in_err-grammar.field-0.0)
     c.from_residual-in_err-grammar.ensures.1 (no_grammar (goal.at.returns-in_err-grammar-clause-refused c).In_err-grammar)
 
 pub returns-in_err-grammar-clause-wrong : goal.returns-in_err-grammar-clause-wrong
 returns-in_err-grammar-clause-wrong c =
-    told-meaning c.args.file.now c.from_residual-in_err-grammar.result (of_grammar c.in_err-grammar.field-0.0)
+    stated-meaning c.args.file.now c.from_residual-in_err-grammar.result (of_grammar c.in_err-grammar.field-0.0)
     c.from_residual-in_err-grammar.ensures.1 (no_grammar (goal.at.returns-in_err-grammar-clause-wrong c).In_err-grammar)
 
 -- a grammar with too much code
@@ -90,7 +90,7 @@ returns-then-code_size-gt-MAX_INSTRUCTIONS-clause-refused c =
 pub returns-then-code_size-gt-MAX_INSTRUCTIONS-clause-wrong :
     goal.returns-then-code_size-gt-MAX_INSTRUCTIONS-clause-wrong
 returns-then-code_size-gt-MAX_INSTRUCTIONS-clause-wrong c =
-    told-means c.args.file.now (length c.args.file.now) c.refusal_of_large_code.result
+    stated-means c.args.file.now (length c.args.file.now) c.refusal_of_large_code.result
     (large c (known (goal.at.returns-then-code_size-gt-MAX_INSTRUCTIONS-clause-wrong c).In_ok-grammar))
 
 -- the fault of the check is a refusal of the file
@@ -103,7 +103,7 @@ no_check c of_file forms =
     let fault = c.in-Err.fault in
     let named = subst (λ (n : ℕ). NamesRules n fault) c.in_ok-core.ensures.count c.in-Err.ensures.named in
     subst (HasCause (IsRefusalOf file) (length file)) (sym c.from_check.ensures)
-    (told-check file grammar fault (c.in-Err.ensures.grammar_refused (rules_in grammar) forms) named of_file.read
+    (stated-check file grammar fault (c.in-Err.ensures.grammar_refused (rules_in grammar) forms) named of_file.read
     of_file.taken of_file.inside)
 
 pub returns-in-Err-clause-refused : goal.returns-in-Err-clause-refused
@@ -113,7 +113,7 @@ returns-in-Err-clause-refused c =
 
 pub returns-in-Err-clause-wrong : goal.returns-in-Err-clause-wrong
 returns-in-Err-clause-wrong c =
-    told-means c.args.file.now (length c.args.file.now) c.from_check.result
+    stated-means c.args.file.now (length c.args.file.now) c.from_check.result
     (no_check c (known (goal.at.returns-in-Err-clause-wrong c).In_ok-grammar)
     (are (goal.at.returns-in-Err-clause-wrong c).In_ok-core))
 
@@ -126,9 +126,9 @@ returns-in_err-program-in-Ok-clause-refused c =
     let of_file = known (goal.at.returns-in_err-program-in-Ok-clause-refused c).In_ok-grammar in
     let forms = are (goal.at.returns-in_err-program-in-Ok-clause-refused c).In_ok-core in
     let bodies = ap bodies_of c.in-Ok.ensures.accepted ∙ c.in_ok-core.ensures.bodies in
-    told-error (IsRefusalOf file) (length file) c.from_residual-in_err-program-in-Ok.result (of_code why)
+    stated-error (IsRefusalOf file) (length file) c.from_residual-in_err-program-in-Ok.result (of_code why)
     c.from_residual-in_err-program-in-Ok.ensures.1
-    (told-code file rules why of_file.read of_file.taken (c.in-Ok.ensures.grammar rules forms)
+    (stated-code file rules why of_file.read of_file.taken (c.in-Ok.ensures.grammar rules forms)
     (λ large. subst (λ bodies. max_instructions < length (program_code bodies)) bodies
     (c.in_err-program-in-Ok.ensures.too_large (ap Err large))))
 

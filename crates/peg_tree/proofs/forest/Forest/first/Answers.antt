@@ -15,7 +15,7 @@ invariant_of-children c =
 pub invariant_of-rest : goal.invariant_of-rest
 invariant_of-rest c =
     let first = first_of c.args.self.now.rows.now c.index-self-0.result c.args.self.now.whole c.requires in
-    record { whole = first.behind }
+    record { whole = first.following }
 
 pub returns : goal.returns
 returns c =
