@@ -1,6 +1,7 @@
 //! Grammars: rules with distinct names and without undefined references.
 ghost use Rattle.std.specs.Prelude.{◌≡◌, ◌≤◌, ◌<◌, length, position, bytes_eq, slice_get, Some, IfOk, IfErr, OnOk};
 ghost use Rattle.std.specs.Prelude.{option_map};
+ghost use Rattle.peg_bytes.specs.Extent.{extent};
 ghost use Rattle.peg_semantics.specs.CutCounts.{cut_rules};
 ghost use Rattle.peg_semantics.specs.Grammar.{IsGrammar, max_parts};
 ghost use Rattle.peg_grammar.specs.Names.{names_in};
@@ -13,6 +14,7 @@ use crate::name_key::NameKey;
 use crate::names::{checked_names, name_number};
 use crate::{Definition, Expr, GrammarFault, weight};
 use indexmap::IndexSet;
+use peg_bytes::Span;
 use std::alloc::Global;
 
 /// The maximum weight of a grammar: the number of rules, of expressions and of bytes in literals.
@@ -71,6 +73,14 @@ impl Grammar {
         ensures { result.now ≡ name_of (rules_in self.now) rule }
     {
         self.definitions[rule as usize].name.as_str()
+    }
+
+    /// Returns the span of the name of rule number `rule` in the file, where the rule is defined. Constant time.
+    pub fn name_span(&self, rule: u32) -> Span
+        requires { rule < length (rules_in self.now) }
+        ensures { option_map (λ r. r.span) (slice_get (rules_in self.now) rule) ≡ Some (extent result) }
+    {
+        self.definitions[rule as usize].span
     }
 
     /// Returns the expression of rule number `rule`. Constant time.

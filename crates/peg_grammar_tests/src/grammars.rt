@@ -35,6 +35,8 @@ fn rules_go_by_names_and_numbers(rt: HostRuntime) -> Result<(), Fail> {
     assert!(rt; grammar.rules() == 2);
     assert_eq!(rt; grammar.rule_name(0), "S");
     assert_eq!(rt; grammar.rule_name(1), "T");
+    assert_eq!(rt; grammar.name_span(0), Span::new(0, 1));
+    assert_eq!(rt; grammar.name_span(1), Span::new(7, 8));
     assert_eq!(rt; grammar.rule_number("T"), Some(1));
     assert_eq!(rt; grammar.rule_number("U"), None);
     assert!(rt; matches!(grammar.body(0), Expr::Name { .. }));
