@@ -19,9 +19,9 @@ program=crates/pegtool/out/pegtool
 scripts() { # runs each script on the built program
   local script
   for script in "tests/check.sh $program" "tests/furthest.py $program" "tests/by_evaluator.sh" \
-    "tests/deep.py $program" "tests/lint.py $program 2004 100" "tests/oom/each_growth.sh $program" "tests/oom/each_call.sh" \
-    "tests/bindings.sh $program" "tests/python.sh $program" "tools/commands.py $program" "tools/crates.py --check" \
-    "tools/contracts.py --check" "tools/definitions.py --check" "tools/documents.py" \
+    "tests/deep.py $program" "tests/oom/each_growth.sh $program" "tests/oom/each_call.sh" \
+    "tests/bindings.sh $program" "tests/python.sh $program" "tests/lint.py $program 2004 2000" "tools/commands.py $program" \
+    "tools/crates.py --check" "tools/contracts.py --check" "tools/definitions.py --check" "tools/documents.py" \
     "crates/peg_fuzz/out/peg_fuzz 2004 3000"; do
     echo "== $script"
     # Word splitting is intended here.

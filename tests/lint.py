@@ -1,6 +1,7 @@
 #!/usr/bin/env python3
-"""Compares the proved warnings of `pegtool lint` with parses of random texts by random grammars. The arguments are the
-program, a seed and a number of grammars.
+"""Compares the proved warnings of `pegtool lint` with parses of 200 random texts by each of many random grammars. The
+arguments are the program, a seed and a number of grammars with warnings. The parses use the Python package and the
+library that `make lib` builds.
 
 A part with a warning is replaced by what the warning says of it, and no parse may change: an alternative that is never
 tried or never taken, an item that stops its sequence, a part that never matches and a predicate that always fails by `[]`,
@@ -12,7 +13,11 @@ import subprocess
 import sys
 import tempfile
 
+sys.path.insert(0, os.path.join(os.path.dirname(os.path.realpath(__file__)), "..", "python"))
+import pegtool  # noqa: E402
+
 LETTERS = "abc"
+TEXTS = 200
 FAILING = {"NeverMatches", "NeverTried", "AlwaysFails", "SameAlternative", "Shadowed", "NeverStops"}
 
 
@@ -45,29 +50,38 @@ def part(chance, depth):
 
 
 class Tool:
-    """The program, with a grammar file and a text."""
+    """The program, for warnings, and the library, for parses."""
 
     def __init__(self, program, folder):
         self.program = program
-        self.grammar = os.path.join(folder, "grammar.peg")
-        self.text = os.path.join(folder, "text")
+        self.file = os.path.join(folder, "grammar.peg")
 
-    def run(self, *words):
-        """The status and the printed line of a command."""
-        done = subprocess.run([self.program, *words], capture_output=True, check=False)
-        return done.returncode, done.stdout
-
-    def result(self, grammar, text):
-        """Whether a text matches, with the bytes consumed and the nodes of the tree."""
-        with open(self.grammar, "w", encoding="utf-8") as file:
+    def warnings(self, grammar):
+        """The proved warnings about a grammar; none if it is refused."""
+        with open(self.file, "w", encoding="utf-8") as file:
             file.write(grammar)
-        with open(self.text, "w", encoding="utf-8") as file:
-            file.write(text)
-        status, line = self.run("parse", self.grammar, self.text, "--rows", "--steps", "200000")
-        if status > 1:
-            return None
-        answer = json.loads(line)
-        return answer["result"], answer.get("consumed"), answer.get("rows")
+        words = [self.program, "lint", self.file, "--proved"]
+        done = subprocess.run(words, capture_output=True, check=False)
+        return json.loads(done.stdout)["warnings"] if done.returncode == 1 else []
+
+
+def parser(grammar):
+    """The parser of a grammar, or `None` if it is refused."""
+    try:
+        return pegtool.Grammar(grammar)
+    except pegtool.GrammarError:
+        return None
+
+
+def result(grammar, text):
+    """The bytes consumed and the nodes of the tree, `False` after a failure, and `None` if there is no result."""
+    if grammar is None:
+        return None
+    try:
+        answer = grammar.match(text, steps=200000)
+    except pegtool.StepLimitError:
+        return None
+    return isinstance(answer, pegtool.Match) and (answer.consumed, list(answer.rows))
 
 
 def replacements(grammar, warning):
@@ -85,19 +99,21 @@ def replacements(grammar, warning):
     return [grammar[:start] + other + grammar[end:] for other in others]
 
 
-def faults(tool, chance, grammar, warnings):
+def faults(chance, grammar, warnings):
     """The warnings that a parse of a random text contradicts."""
-    for _ in range(12):
+    written = parser(grammar)
+    changed = [[parser(other) for other in replacements(grammar, warning)] for warning in warnings]
+    for _ in range(TEXTS):
         text = "".join(chance.choice(LETTERS) for _ in range(chance.randrange(8)))
-        wanted = tool.result(grammar, text)
+        wanted = result(written, text)
         if wanted is None:
             continue
-        for warning in warnings:
+        for warning, others in zip(warnings, changed):
             if warning["kind"] == "UnusedRule":
-                if any(row[1] == warning["rule"] for row in wanted[2] or []):
+                if wanted and any(row.rule == warning["rule"] for row in wanted[1]):
                     yield warning, text
                 continue
-            found = [tool.result(other, text) for other in replacements(grammar, warning)]
+            found = [result(other, text) for other in others]
             if found and None not in found and wanted not in found:
                 yield warning, text
 
@@ -111,16 +127,13 @@ def main():
         while tried < count:
             rules = [expression(chance, 2) for _ in range(3)]
             grammar = "".join(f"{name} <- {body}\n" for name, body in zip("STU", rules))
-            with open(tool.grammar, "w", encoding="utf-8") as file:
-                file.write(grammar)
-            status, line = tool.run("lint", tool.grammar, "--proved")
-            if status != 1:
+            warnings = tool.warnings(grammar)
+            if not warnings:
                 continue
             tried += 1
-            warnings = json.loads(line)["warnings"]
             for warning in warnings:
                 kinds[warning["kind"]] = kinds.get(warning["kind"], 0) + 1
-            for warning, text in faults(tool, chance, grammar, warnings):
+            for warning, text in faults(chance, grammar, warnings):
                 failed += 1
                 print(f"contradicted on {text!r}: {warning}\n{grammar}")
     print(f"lint: {tried} grammars, {failed} contradictions, {' '.join(f'{k} {n}' for k, n in sorted(kinds.items()))}")
