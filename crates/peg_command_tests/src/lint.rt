@@ -60,9 +60,9 @@ fn grammars_without_warnings_end_with_zero(rt: HostRuntime) -> Result<(), Fail> 
 #[test]
 fn unused_rules_depend_on_the_start(rt: HostRuntime) -> Result<(), Fail> {
     let from_t =
-        "{\"warnings\":[{\"column\":6,\"end\":6,\"kind\":\"UnusedRule\",\"line\":1,\"proved\":true,\"rule\":\"S\",\"start\":5}]}";
+        "{\"warnings\":[{\"column\":1,\"end\":1,\"kind\":\"UnusedRule\",\"line\":1,\"proved\":true,\"rule\":\"S\",\"start\":0}]}";
     let from_u =
-        "{\"warnings\":[{\"column\":6,\"end\":6,\"kind\":\"UnusedRule\",\"line\":1,\"proved\":true,\"rule\":\"S\",\"start\":5},{\"column\":6,\"end\":14,\"kind\":\"UnusedRule\",\"line\":2,\"proved\":true,\"rule\":\"T\",\"start\":13}]}";
+        "{\"warnings\":[{\"column\":1,\"end\":1,\"kind\":\"UnusedRule\",\"line\":1,\"proved\":true,\"rule\":\"S\",\"start\":0},{\"column\":1,\"end\":9,\"kind\":\"UnusedRule\",\"line\":2,\"proved\":true,\"rule\":\"T\",\"start\":8}]}";
     assert_line(&rt, rt.alloc(), b"S <- T\nT <- 'u'\n", Some("T"), from_t, 1)?;
     assert_line(
         &rt,

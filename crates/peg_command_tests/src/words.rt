@@ -127,7 +127,7 @@ fn commands_have_their_lines(rt: HostRuntime) -> Result<(), Fail> {
         ("lint line", "{\"warnings\":[]}\n", 0),
         (
             "lint short --proved --start T",
-            "{\"warnings\":[{\"column\":6,\"end\":10,\"kind\":\"UnusedRule\",\"line\":1,\"proved\":true,\"rule\":\"S\",\"start\":5}]}\n",
+            "{\"warnings\":[{\"column\":1,\"end\":1,\"kind\":\"UnusedRule\",\"line\":1,\"proved\":true,\"rule\":\"S\",\"start\":0}]}\n",
             1,
         ),
         (

@@ -231,15 +231,15 @@ never_called rules marks start number closed named free text n r is =
     (λ call marked same. let bad : true ≡ false = sym marked ∙ (ap (λ k. get_or marks k false) same ∙ free) in cc)
     r.calls calls
 
-pub unused_rule : (rules : List Rule) (marks : List Bool) (start number : ℕ) (e : Form) (span : Extent)
+pub unused_rule : (rules : List Rule) (marks : List Bool) (start number : ℕ) (span : Extent)
     → AreClosed rules marks → IsNameMarked rules marks (name_of rules start) → get_or marks number false ≡ false
-    → option_map (λ (r : Rule). r.body) (slice_get rules number) ≡ Some e → extent_of e ≡ span
+    → option_map (λ (r : Rule). r.span) (slice_get rules number) ≡ Some span
     → IsUnusedRule rules start number span
-unused_rule rules marks start number e span closed named free body at = by (slice_get rules number) refl body
+unused_rule rules marks start number span closed named free at = by (slice_get rules number) refl at
   where
-    by : (found : Option Rule) → slice_get rules number ≡ found → option_map (λ (r : Rule). r.body) found ≡ Some e
+    by : (found : Option Rule) → slice_get rules number ≡ found → option_map (λ (r : Rule). r.span) found ≡ Some span
         → IsUnusedRule rules start number span
-    by None is body = absurd cc
-    by (Some rule) is body =
-        let same : rule.body ≡ e = cc in
-        (rule, is, ap extent_of same ∙ at, never_called rules marks start number closed named free)
+    by None is at = absurd cc
+    by (Some rule) is at =
+        let same : rule.span ≡ span = cc in
+        (rule, is, same, never_called rules marks start number closed named free)

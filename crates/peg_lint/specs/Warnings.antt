@@ -97,10 +97,10 @@ abbrev pub IsNeverCalled : List Rule → (start number : ℕ) → Type 0
 IsNeverCalled rules start number = (text : List ℕ) (n : ℕ) (r : Record)
     → start_record rules text n (name_of rules start) ≡ Some r → All (λ (call : RuleCall). call.rule ≢ number) r.calls
 
--- a rule that is never called; the extent is that of its expression
+-- a rule that is never called; the extent is that of its name, where it is defined
 abbrev pub IsUnusedRule : List Rule → (start number : ℕ) → Extent → Type 0
 IsUnusedRule rules start number span =
-    (rule : Rule) × (slice_get rules number ≡ Some rule) × (extent_of rule.body ≡ span)
+    (rule : Rule) × (slice_get rules number ≡ Some rule) × (rule.span ≡ span)
     × IsNeverCalled rules start number
 
 -- a part of a rule at an extent has a property

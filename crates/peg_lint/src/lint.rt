@@ -8,7 +8,6 @@ ghost use Rattle.peg_semantics.specs.RuleOutcomes.{AreAbstractOutcomes};
 ghost use Rattle.peg_lint.specs.Linting.{KeepsTrue};
 ghost use Rattle.peg_lint.specs.Warnings.{IsInWrittenOrder, IsTrueWarning};
 
-use crate::expressions::span_of;
 use crate::findings::add_never_matches;
 use crate::order::sort;
 use crate::reach::reached_from;
@@ -105,7 +104,7 @@ fn add_unused_rules(
             found.push(Warning {
                 kind: WarningKind::UnusedRule,
                 rule,
-                span: span_of(grammar.body(rule)),
+                span: grammar.name_span(rule),
                 by: None,
             })?;
         }

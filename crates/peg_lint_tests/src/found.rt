@@ -8,23 +8,23 @@ fn unused_rules_have_a_warning(rt: HostRuntime) -> Result<(), Fail> {
     let alloc = rt.alloc();
     assert_eq!(rt;
         lines_of(alloc, b"S <- 'a'\nT <- 'b'")?.as_str(),
-        "UnusedRule 14 17;"
+        "UnusedRule 9 10;"
     );
     assert_eq!(rt;
         lines_of(alloc, b"S <- A\nA <- 'a'\nB <- C\nC <- 'c'")?.as_str(),
-        "UnusedRule 21 22;UnusedRule 28 31;"
+        "UnusedRule 16 17;UnusedRule 23 24;"
     );
     assert_eq!(rt;
         lines_of(alloc, b"S <- 'a'\nT <- 'b' T / 'c'")?.as_str(),
-        "UnusedRule 14 25;"
+        "UnusedRule 9 10;"
     );
     assert_eq!(rt;
         lines_of(alloc, b"S <- 'a'\nT <- S 'b'")?.as_str(),
-        "UnusedRule 14 19;"
+        "UnusedRule 9 10;"
     );
     assert_eq!(rt;
         lines_of(alloc, b"S <- !'x' .\nX <- &Y 'x'\nY <- 'y'")?.as_str(),
-        "UnusedRule 17 23;UnusedRule 29 32;"
+        "UnusedRule 12 13;UnusedRule 24 25;"
     );
     Ok(())
 }

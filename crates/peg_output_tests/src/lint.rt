@@ -41,7 +41,7 @@ fn warnings_have_their_lines_and_columns(rt: HostRuntime) -> Result<(), Fail> {
         ),
         (
             b"S <- 'a'\r\nT <- 'b'\r\n  'c'\rU <- S",
-            "{\"warnings\":[{\"column\":6,\"end\":25,\"kind\":\"UnusedRule\",\"line\":2,\"proved\":true,\"rule\":\"T\",\"start\":15},{\"column\":6,\"end\":32,\"kind\":\"UnusedRule\",\"line\":4,\"proved\":true,\"rule\":\"U\",\"start\":31}]}",
+            "{\"warnings\":[{\"column\":1,\"end\":11,\"kind\":\"UnusedRule\",\"line\":2,\"proved\":true,\"rule\":\"T\",\"start\":10},{\"column\":1,\"end\":27,\"kind\":\"UnusedRule\",\"line\":4,\"proved\":true,\"rule\":\"U\",\"start\":26}]}",
         ),
         (
             b"S <- !''\n  'a'\n",

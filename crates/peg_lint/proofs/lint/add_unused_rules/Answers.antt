@@ -5,7 +5,6 @@ use Rattle.std.specs.declared.alloc.Global.{Global}
 use Rattle.std.specs.declared.vec.Vec.{Vec}
 use Rattle.peg_bytes.specs.Extent.{extent}
 use Rattle.peg_grammar.specs.GrammarRules.{rules_in}
-use Rattle.peg_grammar.specs.Written.{form_of}
 use Rattle.peg_lint.specs.Warnings.{IsTrueWarning}
 use Rattle.peg_lint.specs.declared.warning.Warning.{Warning}
 use Rattle.peg_lint.specs.declared.warning.WarningKind.TheVariants as kind
@@ -22,7 +21,7 @@ rules-preserved c =
           let warning : Warning = record {
             kind = kind.UnusedRule;
             rule = c.rules.rule;
-            span = w.span_of.result;
+            span = w.name_span.result;
             by = None;
           } in
           let marks = c.in_ok-marks.marks.items in
@@ -31,8 +30,8 @@ rules-preserved c =
           (omega (arith, c.rules-test.true, c.rules-rule-end.ensures.count, c.in_ok-marks.ensures.count)) c.index.ensures
           false) ∙ w.if-not-index.true in
           let is : IsTrueWarning rules start warning =
-          unused_rule rules marks start c.rules.rule (form_of w.body.result.now) (extent w.span_of.result)
-          c.in_ok-marks.ensures.closed c.in_ok-marks.ensures.start free w.body.ensures (sym w.span_of.ensures) in
+          unused_rule rules marks start c.rules.rule (extent w.name_span.result)
+          c.in_ok-marks.ensures.closed c.in_ok-marks.ensures.start free w.name_span.ensures in
           let pushed = All-push (IsTrueWarning rules start) c.rules.found.items warning c.rules.invariant is in
           subst (λ (v : Vec Warning Global). All (IsTrueWarning rules start) v.items) (sym w.found-is)
           (subst (All (IsTrueWarning rules start)) (sym w.in_ok-push.ensures.items) pushed)
