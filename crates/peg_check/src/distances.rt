@@ -67,11 +67,23 @@ fn calls_of(alloc: Global, core: &Core, start: u32) -> Result<Vec<u32>, AllocErr
 {
     let mut calls = Vec::new(alloc);
     for number in 0..core.len() {
-        if used_rule(core, number) == Some(start) {
-            calls.push(number)?;
-        }
+        push_call(core, start, number, &mut calls)?;
     }
     Ok(calls)
+}
+
+// Pushes a form if it is a call of a rule.
+fn push_call(core: &Core, start: u32, number: u32, calls: &mut Vec<u32>) -> Result<(), AllocError>
+    requires { number < length core.now.forms }
+    ensures called { OnOk result (form_at core.now.forms number ≡ Rule start → Contains calls.new.items number) }
+    ensures kept { OnOk result ((k : ℕ) → Contains calls.old.items k → Contains calls.new.items k) }
+    ensures within { OnOk result (All (λ k. k < length core.now.forms) calls.old.items
+        → All (λ k. k < length core.now.forms) calls.new.items) }
+{
+    if used_rule(core, number) == Some(start) {
+        calls.push(number)?;
+    }
+    Ok(())
 }
 
 // Takes a pending form: one of those for now, or one of the later ones if there are none.

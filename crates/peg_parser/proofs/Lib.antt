@@ -10,3 +10,4 @@ pub mod OutcomeFits
 mod RuleNames
 mod StartLemmas
 mod StepLemmas
+mod TraceLemmas

@@ -25,6 +25,7 @@ pub use Rattle.peg_bootstrap.specs.FigureTrees
 pub use Rattle.peg_tree.specs.Names
 pub use Rattle.peg_tree.specs.Nodes
 pub mod Accepts
+pub mod Calls
 pub mod Cause
 pub mod Faults
 pub mod Fits

@@ -22,7 +22,7 @@ use peg_check::check;
 use peg_code::{MAX_INSTRUCTIONS, Program, code_size, compile};
 use peg_core::desugar;
 use peg_grammar::{Grammar, MAX_TEXT_BYTES};
-use peg_machine::{Answer, NoWatch, RunFault, run};
+use peg_machine::{Answer, NoWatch, RunFault, Watch, run};
 use peg_memo::{Keep, NoMemo};
 use peg_memo_policy::{RerunCosts, SelectiveMemo};
 use peg_notation::read;
@@ -92,6 +92,7 @@ impl Parser {
     ghost use Rattle.peg_semantics.specs.Rules.{name_of};
     ghost use Rattle.peg_notation.specs.Spans.{RuleLiesIn};
     ghost use Rattle.peg_parser.specs.Accepts.{Accepts, IsRead, IsAcceptedGrammar, code_size};
+    ghost use Rattle.peg_parser.specs.Calls.{TracesCallsOf};
     ghost use Rattle.peg_parser.specs.Faults.{RefusalMeaning, HasCause};
     ghost use Rattle.peg_parser.specs.Fits.{Fits};
     ghost use Rattle.peg_parser.specs.Parser.{parser_rules, start_named};
@@ -242,24 +243,86 @@ impl Parser {
             return Err(ParseFault::NoSuchStart);
         };
         if options.memo == 0 || text.len() > MAX_TEXT_BYTES {
-            return self.answer(alloc, text, start, &mut NoMemo, options.steps);
+            return self.answer(alloc, text, start, &mut NoMemo, &mut NoWatch, options.steps);
         }
         let plain_steps = plain_steps(text.len(), options.steps);
-        match self.answer(alloc, text, start, &mut NoMemo, Some(plain_steps)) {
+        match self.answer(
+            alloc,
+            text,
+            start,
+            &mut NoMemo,
+            &mut NoWatch,
+            Some(plain_steps),
+        ) {
             Err(ParseFault::StepLimit) => {
-                self.answer_with_memo(alloc, text, start, options.memo, options.steps)
+                self.answer_with_memo(
+                    alloc,
+                    text,
+                    start,
+                    options.memo,
+                    &mut NoWatch,
+                    options.steps,
+                )
             }
             result => result,
         }
     }
 
-    // Runs the machine on a text from a rule, with a memo of this capacity.
-    fn answer_with_memo(
+    /// Parses as `parse` does, but in one run, and shows the tracer each call whose body runs. Without a memo these are
+    /// all calls. The calls shown are, as a set, those of Ford's record of the text (Ford 2004, section 3.3), whatever
+    /// the memo answers.
+    ///
+    /// The errors are those of `parse`. After an error the tracer has been shown some of the calls.
+    ///
+    /// # Example
+    ///
+    /// ```
+    /// let mut calls = ListWatch::new(alloc);
+    /// let options = ParseOptions { start: None, memo: 0, steps: None };
+    /// let answer = parser.trace(alloc, b"aab", &options, &mut calls)?;
+    /// println!("{} calls", calls.pairs().len());
+    /// ```
+    pub fn trace<W: Watch>(
+        &self,
+        alloc: Global,
+        text: &[u8],
+        options: &ParseOptions<'_>,
+        watch: &mut W,
+    ) -> Result<Answer, ParseFault>
+        ensures no_start { IsErrOf result ParseFault.NoSuchStart
+            ↔ (start_name (parser_rules self.now) (start_named options.now) ≡ None) }
+        ensures long { (start : List ℕ) → start_name (parser_rules self.now) (start_named options.now) ≡ Some start
+            → IsErrOf result ParseFault.TextTooLong → max_text_bytes < length text.now }
+        ensures short { OnOk result (length text.now ≤ max_text_bytes) }
+        ensures outcome { IfOk result (λ answer. IfSome (start_name (parser_rules self.now) (start_named options.now))
+            (λ start. IsParseOutcome (parser_rules self.now) text.now start answer.outcome)) }
+        ensures traced { OnOk result (IfSome (start_name (parser_rules self.now) (start_named options.now))
+            (λ start. TracesCallsOf (parser_rules self.now) text.now start W.records (W.traced watch.old)
+            (W.traced watch.new))) }
+        ensures allowed { IfOk result (λ answer. (limit : ℕ) → options.now.steps ≡ Some limit → answer.steps ≤ limit) }
+        ensures limited { IsErrOf result ParseFault.StepLimit
+            → TakesMoreSteps (parser_rules self.now) text.now (start_named options.now) options.now.steps }
+        ensures enough { options.now.memo ≡ 0 → OnOk result
+            (¬ TakesMoreSteps (parser_rules self.now) text.now (start_named options.now) options.now.steps) }
+    {
+        let (memo, max_steps) = (options.memo, options.steps);
+        match self.start(options) {
+            None => Err(ParseFault::NoSuchStart),
+            Some(start) if memo == 0 => {
+                self.answer(alloc, text, start, &mut NoMemo, watch, max_steps)
+            }
+            Some(start) => self.answer_with_memo(alloc, text, start, memo, watch, max_steps),
+        }
+    }
+
+    // Runs the machine on a text from a rule, with a memo of this capacity and a tracer.
+    fn answer_with_memo<W: Watch>(
         &self,
         alloc: Global,
         text: &[u8],
         start: u32,
         capacity: u32,
+        watch: &mut W,
         max_steps: Option<u64>,
     ) -> Result<Answer, ParseFault>
         requires start { start < length (parser_rules self.now) }
@@ -269,6 +332,8 @@ impl Parser {
         ensures short { OnOk result (length text.now ≤ max_text_bytes) }
         ensures outcome { IfOk result (λ answer. IsParseOutcome (parser_rules self.now) text.now
             (name_of (parser_rules self.now) start) answer.outcome) }
+        ensures traced { OnOk result (TracesCallsOf (parser_rules self.now) text.now (name_of (parser_rules self.now) start)
+            W.records (W.traced watch.old) (W.traced watch.new)) }
         ensures allowed { IfOk result (λ answer. (limit : ℕ) → max_steps ≡ Some limit → answer.steps ≤ limit) }
         ensures limited { IsErrOf result ParseFault.StepLimit
             → ExceedsStepLimit (core_bodies (parser_rules self.now)) text.now start max_steps }
@@ -276,16 +341,17 @@ impl Parser {
             × TakesSteps (core_bodies (parser_rules self.now)) text.now start count × (answer.steps ≤ count)) }
     {
         let mut memo = SelectiveMemo::new(alloc, capacity, &self.costs, text)?;
-        self.answer(alloc, text, start, &mut memo, max_steps)
+        self.answer(alloc, text, start, &mut memo, watch, max_steps)
     }
 
-    // Runs the machine on a text from a rule, with an empty memo.
-    fn answer<K: Keep>(
+    // Runs the machine on a text from a rule, with an empty memo and a tracer.
+    fn answer<K: Keep, W: Watch>(
         &self,
         alloc: Global,
         text: &[u8],
         start: u32,
         memo: &mut K,
+        watch: &mut W,
         max_steps: Option<u64>,
     ) -> Result<Answer, ParseFault>
         requires start { start < length (parser_rules self.now) }
@@ -294,6 +360,8 @@ impl Parser {
         ensures long { IsErrOf result ParseFault.TextTooLong ↔ (max_text_bytes < length text.now) }
         ensures outcome { IfOk result (λ answer. IsParseOutcome (parser_rules self.now) text.now
             (name_of (parser_rules self.now) start) answer.outcome) }
+        ensures traced { OnOk result (TracesCallsOf (parser_rules self.now) text.now (name_of (parser_rules self.now) start)
+            W.records (W.traced watch.old) (W.traced watch.new)) }
         ensures allowed { IfOk result (λ answer. (limit : ℕ) → max_steps ≡ Some limit → answer.steps ≤ limit) }
         ensures limited { IsErrOf result ParseFault.StepLimit
             → ExceedsStepLimit (core_bodies (parser_rules self.now)) text.now start max_steps }
@@ -305,15 +373,7 @@ impl Parser {
             × TakesSteps (core_bodies (parser_rules self.now)) text.now start count
             × (answer.steps ≡ saturated count)) }
     {
-        match run(
-            alloc,
-            &self.program,
-            text,
-            start,
-            memo,
-            &mut NoWatch,
-            max_steps,
-        ) {
+        match run(alloc, &self.program, text, start, memo, watch, max_steps) {
             Ok(answer) => Ok(answer),
             Err(RunFault::TextTooLong) => Err(ParseFault::TextTooLong),
             Err(RunFault::StepLimit) => Err(ParseFault::StepLimit),

@@ -4,6 +4,7 @@ use Rattle.peg_core.specs.CoreForm.{CoreForm}
 use Rattle.peg_machine.specs.CoreOutcome.{saturated, TakesSteps}
 use Rattle.peg_parser.proofs.CoreStarts.{length-bodies, parser-outcome, same-bodies}
 use Rattle.peg_parser.proofs.StepLemmas.{of-program, to-program}
+use Rattle.peg_parser.proofs.TraceLemmas.{parser-calls}
 use Rattle.peg_parser.proofs.parser.Parser.answer.Goals as goal
 
 pub run-requires-clause-rule : goal.run-requires-clause-rule
@@ -15,6 +16,14 @@ returns-in-Ok-clause-outcome g c =
     parser-outcome c.args.self.now c.args.text.now c.args.start c.in-Ok.answer.outcome
     (All-from_get_or (λ byte. byte < 256) c.args.text.now 0 (λ i within. (c.type_inv.text i).fits)) c.requires.start
     c.in-Ok.ensures.outcome
+
+-- the calls shown are those of Ford's record
+pub returns-in-Ok-clause-traced : goal.returns-in-Ok-clause-traced
+returns-in-Ok-clause-traced g c =
+    let traced = c.in-Ok.ensures.traced in
+    (traced.0, traced.1, parser-calls c.args.self.now c.args.text.now c.args.start c.in-Ok.answer.outcome traced.0
+    (All-from_get_or (λ byte. byte < 256) c.args.text.now 0 (λ i within. (c.type_inv.text i).fits)) c.requires.start
+    c.in-Ok.ensures.outcome traced.2.visited)
 
 pub returns-in-Ok-clause-enough : goal.returns-in-Ok-clause-enough
 returns-in-Ok-clause-enough g c never more =

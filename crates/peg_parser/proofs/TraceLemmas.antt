@@ -1,0 +1,53 @@
+-- The calls that a run shows are those of Ford's record of the grammar as written.
+use Rattle.std.proofs.Common.{◌≡◌, ◌↔◌, ℕ, ◌<◌, List, Contains, Some, length, sym, ap, ◌∙◌, subst}
+use Rattle.peg_bytes.specs.Extent.{between}
+use Rattle.peg_core.specs.CoreForm.{CoreForm, core_bodies, core_form}
+use Rattle.peg_core.specs.CoreForm.{Rule as use_of}
+use Rattle.peg_core.specs.CoreRecord.{AreBytes, IsCoreRecord, core_record_in}
+use Rattle.peg_core.specs.Layout.{bodies_of}
+use Rattle.peg_core.proofs.CoreRounds.{one_core_record}
+use Rattle.peg_core.proofs.SugarRecords.{IsRecord-from_core}
+use Rattle.peg_semantics.specs.Form.{Form, Name}
+use Rattle.peg_semantics.specs.Record.{Record, RuleCall}
+use Rattle.peg_semantics.specs.Rules.{Rule, name_of}
+use Rattle.peg_machine.specs.CoreOutcome.{IsCoreOutcome}
+use Rattle.peg_machine.specs.Traced.{IsVisited}
+use Rattle.peg_tree.specs.declared.outcome.Outcome.{Outcome}
+use Rattle.peg_parser.specs.Calls.{AreCallsOf}
+use Rattle.peg_parser.specs.Parser.{parser_rules}
+use Rattle.peg_parser.specs.declared.parser.Parser.{Parser}
+use Rattle.peg_parser.proofs.CoreStarts.{number-named, same-bodies}
+
+-- the calls are those of the rule's record on core forms
+abbrev AreVisitedCalls : List CoreForm → List ℕ → (start : ℕ) → List RuleCall → Type 0
+AreVisitedCalls bodies text start calls = (call : RuleCall) → (Contains calls call ↔ IsVisited bodies text start call)
+
+written-calls : (rules : List Rule) (text : List ℕ) (start : ℕ) (r : Record) (calls : List RuleCall) → AreBytes text
+    → IsCoreRecord (core_bodies rules) text (core_form rules 0 (Name (name_of rules start) (between 0 0))) 0 r
+    → IsCoreRecord (core_bodies rules) text (use_of start) 0 r
+    → AreVisitedCalls (core_bodies rules) text start calls → AreCallsOf rules text (name_of rules start) calls
+written-calls rules text start r calls bytes named here visited =
+    (r, IsRecord-from_core rules text bytes (Name (name_of rules start) (between 0 0)) 0 0 r named, λ call. (to call, from call))
+  where
+    to : (call : RuleCall) → Contains calls call → Contains r.calls call
+    to call has =
+        let there = (visited call).0 has in
+        let same : there.1 ≡ r = one_core_record (core_bodies rules) text (use_of start) 0 there.1 r (there.0, there.2) here in
+        subst (λ (s : Record). Contains s.calls call) same there.3
+
+    from : (call : RuleCall) → Contains r.calls call → Contains calls call
+    from call has = (visited call).1 (here.0, r, here.1, has)
+
+-- the calls of a run of a parser's program
+pub parser-calls : (parser : Parser) (text : List ℕ) (start : ℕ) (outcome : Outcome) (calls : List RuleCall) → AreBytes text
+    → start < length (parser_rules parser) → IsCoreOutcome (bodies_of parser.program.core) text start outcome
+    → AreVisitedCalls (bodies_of parser.program.core) text start calls
+    → AreCallsOf (parser_rules parser) text (name_of (parser_rules parser) start) calls
+parser-calls parser text start outcome calls bytes less is visited =
+    let rules = parser_rules parser in
+    let held = subst (λ (bodies : List CoreForm). IsCoreOutcome bodies text start outcome) (same-bodies parser) is in
+    let r = held.1.0 in
+    let named : IsCoreRecord (core_bodies rules) text (core_form rules 0 (Name (name_of rules start) (between 0 0))) 0 r =
+    (held.0, ap (λ (rule : ℕ). core_record_in (core_bodies rules) text held.0 (use_of rule) 0) (number-named parser start less) ∙ held.1.1) in
+    written-calls rules text start r calls bytes named (held.0, held.1.1)
+    (subst (λ (bodies : List CoreForm). AreVisitedCalls bodies text start calls) (same-bodies parser) visited)

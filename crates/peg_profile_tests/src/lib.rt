@@ -1,0 +1,5 @@
+//! Tests of profiles, worked by hand.
+#![tactic(auto)]
+
+#[cfg(test)]
+mod profiles;
