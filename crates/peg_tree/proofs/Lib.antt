@@ -1,5 +1,6 @@
 mod ForestRows
 mod Forests
+mod ItemRows
 mod JsonNested
 mod JsonRows
 mod LevelRows
@@ -12,3 +13,5 @@ mod RowTexts
 mod SelectedLaws
 mod SelectedLemmas
 pub mod Sent
+mod TextLemmas
+mod TextRows

@@ -17,7 +17,7 @@ use Rattle.peg_tree.specs.Rows.{IsOneTree, Row, row_of, rows_of}
 use Rattle.peg_tree.specs.Trees.{Trees, NoTrees, Tree, levels}
 use Rattle.peg_tree.specs.TreesOfRows.{trees_of}
 use Rattle.peg_tree.proofs.Forests.{IsForest-from_one_tree, rows_from}
-use Rattle.peg_tree.proofs.JsonRows.{EachBelow, EachBelow-rows_of, rows_with_levels, rows_with_levels-rows_of}
+use Rattle.peg_tree.proofs.JsonRows.{EachBelow, EachBelow-rows_of, named_row, rows_with_levels, rows_with_levels-rows_of}
 use Rattle.peg_tree.proofs.LevelRows.{levels_of_rows-rows_of}
 use Rattle.peg_tree.proofs.RowEvents.{rows_below, rows_below-levels}
 
@@ -33,13 +33,13 @@ name_at-quoted names rule within = get_or-map (λ name. compact_text (string nam
 rest_text-items : (names : List (List ℕ)) (later : Bool) (ends : List ℕ) (number : ℕ) (rows : List Row)
     → EachBelow (length names) rows
     → rest_text later (quoted_list names) ends number rows ++ 93 ∷ []
-    ≡ items_text later (items_of (rows_below names ends number rows))
+    ≡ items_text later (items_of (rows_below (named_row names) ends number rows))
 rest_text-items names later ends number [] below = refl
 rest_text-items names later ends number (row ∷ rows) below =
     let level = 1 + length (open_at number ends) in
     let inner = (number + row.size) ∷ open_at number ends in
     let rest = rest_text true (quoted_list names) inner (number + 1) rows in
-    let items = items_text true (items_of (rows_below names inner (number + 1) rows)) in
+    let items = items_text true (items_of (rows_below (named_row names) inner (number + 1) rows)) in
     let text = λ (name : List ℕ). row_text level name row.start row.end in
     let name = name_at (quoted_list names) row.rule in
     append_assoc (comma_if later) (text name ++ rest) (93 ∷ [])
@@ -53,7 +53,7 @@ pub rows-text : (names : List (List ℕ)) (tree : Trees) → RulesBelow (length 
     ≡ items_text false (items_of (rows_data names 1 tree))
 rows-text names tree below =
     rest_text-items names false [] 0 (rows_of tree) (EachBelow-rows_of (length names) tree below)
-    ∙ ap (λ l. items_text false (items_of l)) (rows_below-levels names [] 0 (rows_of tree)
+    ∙ ap (λ l. items_text false (items_of l)) (rows_below-levels (named_row names) [] 0 (rows_of tree)
     ∙ ap (λ l. rows_with_levels names l (rows_of tree)) (levels_of_rows-rows_of tree) ∙ rows_with_levels-rows_of names tree)
 
 -- ---- levels
