@@ -74,14 +74,30 @@ fn quotes_and_control_characters_are_escaped(rt: HostRuntime) -> Result<(), Fail
 
 #[test]
 fn characters_of_several_bytes_are_text(rt: HostRuntime) -> Result<(), Fail> {
-    let (rows, nested) = texts_of_node(rt.alloc(), 1, 10, b"aA\xc3\x9f\xe2\x82\xac\xf0\x9f\x98\x80")?;
-    assert_eq!(rt; rows.as_str(), "[[1,\"list\",1,10,{\"bytes\":\"41c39fe282acf09f98\"}]]");
+    let (rows, nested) = texts_of_node(
+        rt.alloc(),
+        1,
+        10,
+        b"aA\xc3\x9f\xe2\x82\xac\xf0\x9f\x98\x80",
+    )?;
+    assert_eq!(rt;
+        rows.as_str(),
+        "[[1,\"list\",1,10,{\"bytes\":\"41c39fe282acf09f98\"}]]"
+    );
     assert_eq!(rt;
         nested.as_str(),
         "{\"bytes\":\"41c39fe282acf09f98\",\"children\":[],\"end\":10,\"rule\":\"list\",\"start\":1}"
     );
-    let (rows, nested) = texts_of_node(rt.alloc(), 1, 11, b"aA\xc3\x9f\xe2\x82\xac\xf0\x9f\x98\x80")?;
-    assert_eq!(rt; rows.as_str(), "[[1,\"list\",1,11,\"A\u{df}\u{20ac}\u{1f600}\"]]");
+    let (rows, nested) = texts_of_node(
+        rt.alloc(),
+        1,
+        11,
+        b"aA\xc3\x9f\xe2\x82\xac\xf0\x9f\x98\x80",
+    )?;
+    assert_eq!(rt;
+        rows.as_str(),
+        "[[1,\"list\",1,11,\"A\u{df}\u{20ac}\u{1f600}\"]]"
+    );
     assert_eq!(rt;
         nested.as_str(),
         "{\"children\":[],\"end\":11,\"rule\":\"list\",\"start\":1,\"text\":\"A\u{df}\u{20ac}\u{1f600}\"}"
@@ -92,7 +108,10 @@ fn characters_of_several_bytes_are_text(rt: HostRuntime) -> Result<(), Fail> {
 #[test]
 fn bytes_that_are_not_utf8_are_digits(rt: HostRuntime) -> Result<(), Fail> {
     let (rows, nested) = texts_of_node(rt.alloc(), 0, 4, b"\xff\x00\x0a\xc3")?;
-    assert_eq!(rt; rows.as_str(), "[[1,\"list\",0,4,{\"bytes\":\"ff000ac3\"}]]");
+    assert_eq!(rt;
+        rows.as_str(),
+        "[[1,\"list\",0,4,{\"bytes\":\"ff000ac3\"}]]"
+    );
     assert_eq!(rt;
         nested.as_str(),
         "{\"bytes\":\"ff000ac3\",\"children\":[],\"end\":4,\"rule\":\"list\",\"start\":0}"
@@ -114,13 +133,19 @@ fn what_utf8_excludes_is_digits(rt: HostRuntime) -> Result<(), Fail> {
 #[test]
 fn a_character_cut_in_two_is_digits(rt: HostRuntime) -> Result<(), Fail> {
     let alloc = rt.alloc();
-    let rows = [node(0, 0, 3, 4), node(1, 0, 1, 1), node(2, 1, 2, 1), node(1, 2, 3, 1)];
+    let rows = [
+        node(0, 0, 3, 4),
+        node(1, 0, 1, 1),
+        node(2, 1, 2, 1),
+        node(1, 2, 3, 1),
+    ];
     let (rows, nested) = texts(alloc, rows.to_vec(alloc)?, b"\xc3\xa9!")?;
     let first = "[[1,\"list\",0,3],[2,\"word\",0,1,{\"bytes\":\"c3\"}],";
     let second = "[2,\"word\",1,2,{\"bytes\":\"a9\"}],[2,\"word\",2,3,\"!\"]]";
     let expected = format!(in alloc; "{first}{second}")?;
     assert_eq!(rt; rows.as_str(), expected.as_str());
-    let first = "{\"children\":[{\"bytes\":\"c3\",\"children\":[],\"end\":1,\"rule\":\"word\",\"start\":0},";
+    let first =
+        "{\"children\":[{\"bytes\":\"c3\",\"children\":[],\"end\":1,\"rule\":\"word\",\"start\":0},";
     let second = "{\"bytes\":\"a9\",\"children\":[],\"end\":2,\"rule\":\"word\",\"start\":1},";
     let third = "{\"children\":[],\"end\":3,\"rule\":\"word\",\"start\":2,\"text\":\"!\"}],";
     let root = "\"end\":3,\"rule\":\"list\",\"start\":0}";
@@ -154,7 +179,9 @@ fn the_last_of_a_chain_has_its_text(rt: HostRuntime) -> Result<(), Fail> {
     for _above in 0..99 {
         of_nested.push_str("{\"children\":[")?;
     }
-    of_nested.push_str("{\"children\":[],\"end\":100,\"rule\":\"word\",\"start\":99,\"text\":\"x\"}")?;
+    of_nested.push_str(
+        "{\"children\":[],\"end\":100,\"rule\":\"word\",\"start\":99,\"text\":\"x\"}",
+    )?;
     for above in (0..99).rev() {
         let end = format!(in alloc; "],\"end\":100,\"rule\":\"word\",\"start\":{above}}}")?;
         of_nested.push_str(end.as_str())?;

@@ -7,6 +7,7 @@ mod LevelRows
 mod NestedEvents
 mod NodeRows
 mod PartRows
+mod PrintedRows
 mod Puts
 mod RowEvents
 mod RowTexts

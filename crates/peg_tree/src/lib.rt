@@ -24,6 +24,7 @@ mod rows;
 mod rule_set;
 mod select;
 mod shape;
+mod shows;
 mod tree;
 mod write;
 
