@@ -13,7 +13,7 @@ use Rattle.peg_tree.specs.Levels.{levels_of, open_at}
 use Rattle.peg_tree.specs.Names.{name_at}
 use Rattle.peg_tree.specs.Nodes.{RulesBelow}
 use Rattle.peg_tree.specs.RowText.{EachAtMost, PrintedRow, levels_from, printed_from, printed_levels, printed_row, printed_rows, printed_text, row_text, text_from}
-use Rattle.peg_tree.specs.Rows.{IsOneTree, Row, row_of, rows_of}
+use Rattle.peg_tree.specs.Rows.{IsOneTree, row_of, rows_of}
 use Rattle.peg_tree.specs.Selected.{selected}
 use Rattle.peg_tree.specs.Trees.{Trees, NoTrees, Tree, levels}
 use Rattle.peg_tree.specs.TreesOfRows.{trees_of}

@@ -1,9 +1,8 @@
 -- The JSON of a tree's node list in which each node without children has its text.
-use Rattle.std.proofs.Common.{◌≡◌, ℕ, ◌+◌, List, [], ◌∷◌, ◌++◌, refl, ◌∙◌, ap, arith}
+use Rattle.std.proofs.Common.{◌≡◌, ℕ, ◌+◌, List, ◌∷◌, ◌++◌, refl, ◌∙◌, ap, arith}
 use Rattle.std.proofs.lemmas.Bool.{cond-false, ne_eqb}
 use Rattle.serde_json.specs.Data.{Data}
 use Rattle.peg_tree.specs.Names.{name_at}
-use Rattle.peg_tree.specs.Rows.{Row}
 use Rattle.peg_tree.specs.TextJson.{bytes_between, rows_text_data, text_row_data}
 use Rattle.peg_tree.specs.TextSending.{text_row}
 use Rattle.peg_tree.specs.Trees.{Trees, NoTrees, Tree, nodes}

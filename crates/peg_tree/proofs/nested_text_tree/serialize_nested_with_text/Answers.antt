@@ -1,4 +1,4 @@
-use Rattle.std.proofs.Common.{ℕ, ◌∙◌, ◌≡◌, ◌+◌, ◌<◌, List, [], ◌∷◌, ap, arith, get_or, length, map, refl, reverse, subst, sym}
+use Rattle.std.proofs.Common.{ℕ, ◌∙◌, ◌≡◌, ◌+◌, List, [], ◌∷◌, ap, arith, get_or, length, map, refl, reverse, subst, sym}
 use Rattle.serde_json.specs.Data.{Data}
 use Rattle.serde_json.specs.Events.{SendsValue}
 use Rattle.peg_tree.specs.Rows.{row_of}
