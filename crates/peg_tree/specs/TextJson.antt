@@ -25,7 +25,8 @@ leaf_row_data level name start end bytes =
     (item (number (unsigned end)) (item (bytes_data bytes) no_items)))))
 
 -- a node as a list, which has its bytes if there are no children
-abbrev pub text_row_data : (level : ℕ) → (name : List ℕ) → (start end : ℕ) → (bytes : List ℕ) → (children : Trees) → Data
+abbrev pub text_row_data : (level : ℕ) → (name : List ℕ) → (start end : ℕ) → (bytes : List ℕ) → (children : Trees)
+    → Data
 text_row_data level name start end bytes NoTrees = leaf_row_data level name start end bytes
 text_row_data level name start end bytes (Tree _ _ _ _ _) = row_data level name start end
 

@@ -18,4 +18,5 @@ text_row names text level row =
 -- the events of the members that every node without children has: whatever members follow complete them
 abbrev pub SendsLeafMembers : (name : List ℕ) → (start end : ℕ) → Log → Log → Type 0
 SendsLeafMembers name start end old new =
-    (more : Members) (last : Log) → SendsMembers more new last → SendsMembers (leaf_members name start end more) old last
+    (more : Members) (last : Log) → SendsMembers more new last
+    → SendsMembers (leaf_members name start end more) old last

@@ -152,7 +152,8 @@ fn fill_shown(
     requires tree { IsOneTree (map row_of rows.now) }
     requires below { RulesBelow (length names.now) (trees_of (map row_of rows.now)) }
     requires room { HasRoom (length buffer.old) names.now }
-    requires levels { EachAtMost (vec_capacity ends.old) (levels_from (shown_rules shown.now) rows.now from ends.old.items) }
+    requires levels { EachAtMost (vec_capacity ends.old)
+        (levels_from (shown_rules shown.now) rows.now from ends.old.items) }
     ensures text { text_from (shown_rules shown.now) names.now rows.now from ends.old.items
         ≡ take result.end buffer.new
         ++ text_from (shown_rules shown.now) names.now rows.now result.at ends.new.items }
@@ -182,7 +183,8 @@ fn fill_piece<S: Shows>(
     requires tree { IsOneTree (map row_of rows.now) }
     requires below { RulesBelow (length names.now) (trees_of (map row_of rows.now)) }
     requires room { HasRoom (length buffer.old) names.now }
-    requires levels { EachAtMost (vec_capacity ends.old) (levels_from (S.shown shown.now) rows.now from ends.old.items) }
+    requires levels { EachAtMost (vec_capacity ends.old)
+        (levels_from (S.shown shown.now) rows.now from ends.old.items) }
     ensures text { text_from (S.shown shown.now) names.now rows.now from ends.old.items
         ≡ take result.end buffer.new ++ text_from (S.shown shown.now) names.now rows.now result.at ends.new.items }
     ensures some { result.end ≡ 0 → text_from (S.shown shown.now) names.now rows.now from ends.old.items ≡ [] }

@@ -73,7 +73,8 @@ fn serialize_nested_with_text<N: Names, S: Serializer>(
     out: &mut S,
 ) -> Result<(), S::Error>
     requires { RulesBelow (length (N.names names.now)) tree.now }
-    ensures { OnOk result (SendsNestedText (N.names names.now) text.now tree.now (S.written out.old) (S.written out.new)) }
+    ensures { OnOk result (SendsNestedText (N.names names.now) text.now tree.now
+        (S.written out.old) (S.written out.new)) }
 {
     let rows = tree.rows();
     let mut stack = Vec::new(alloc);
