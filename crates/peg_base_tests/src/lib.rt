@@ -28,6 +28,8 @@ mod set_pool;
 #[cfg(test)]
 mod span;
 #[cfg(test)]
+mod text_trees;
+#[cfg(test)]
 mod transfer;
 #[cfg(test)]
 mod trees;

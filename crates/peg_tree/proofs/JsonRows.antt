@@ -13,35 +13,33 @@ use Rattle.peg_tree.specs.Rows.{Row, row_of, rows_of, IsOneTree}
 use Rattle.peg_tree.specs.Trees.{Trees, NoTrees, Tree, nodes}
 use Rattle.peg_tree.specs.TreesOfRows.{trees_of}
 use Rattle.peg_tree.proofs.Forests.{IsForest-from_one_tree, rows_from}
+use Rattle.peg_tree.proofs.ItemRows.{items_of_trees, items_with_levels, items_with_levels-rows_of}
 
 -- the contents of a list of values after one more value
 pub map-view-push : (values more : List Value) (value : Value) → more ≡ values ++ value ∷ [] → map view more ≡ map view values ++ view value ∷ []
 map-view-push values more value added = ap (map view) added ∙ map_push view values value
 
+-- a node as a list, with the name of its rule
+abbrev pub named_row : List (List ℕ) → (level : ℕ) → Row → Data
+named_row names level row = row_data level (name_at names row.rule) row.start row.end
+
 -- nodes with their levels
 abbrev pub rows_with_levels : List (List ℕ) → List ℕ → List Row → List Data
-rows_with_levels names [] rows = []
-rows_with_levels names (level ∷ levels) [] = []
-rows_with_levels names (level ∷ levels) (row ∷ rows) = row_data level (name_at names row.rule) row.start row.end ∷ rows_with_levels names levels rows
+rows_with_levels names = items_with_levels (named_row names)
 
-rows_with_levels-append : (names : List (List ℕ)) (level : ℕ) (trees : Trees) (levels : List ℕ) (rows : List Row)
-    → rows_with_levels names (levels_of level trees ++ levels) (rows_of trees ++ rows) ≡ rows_data names level trees ++ rows_with_levels names levels rows
-rows_with_levels-append names level NoTrees levels rows = refl
-rows_with_levels-append names level (Tree rule start end children rest) levels rows =
-    ap (λ l. row_data level (name_at names rule) start end ∷ l) (
-    ap (λ l. rows_with_levels names l ((rows_of children ++ rows_of rest) ++ rows)) (append_assoc (levels_of (1 + level) children) (levels_of level rest) levels)
-    ∙ ap (rows_with_levels names (levels_of (1 + level) children ++ (levels_of level rest ++ levels))) (append_assoc (rows_of children) (rows_of rest) rows)
-    ∙ rows_with_levels-append names (1 + level) children (levels_of level rest ++ levels) (rows_of rest ++ rows)
-    ∙ ap (λ l. rows_data names (1 + level) children ++ l) (rows_with_levels-append names level rest levels rows)
-    ∙ sym (append_assoc (rows_data names (1 + level) children) (rows_data names level rest) (rows_with_levels names levels rows)))
+-- the items of trees are their node list
+pub items_of_trees-named : (names : List (List ℕ)) (level : ℕ) (trees : Trees)
+    → items_of_trees (named_row names) level trees ≡ rows_data names level trees
+items_of_trees-named names level NoTrees = refl
+items_of_trees-named names level (Tree rule start end children rest) =
+    let node = row_data level (name_at names rule) start end in
+    ap (λ l. node ∷ (l ++ items_of_trees (named_row names) level rest)) (items_of_trees-named names (1 + level) children)
+    ∙ ap (λ l. node ∷ (rows_data names (1 + level) children ++ l)) (items_of_trees-named names level rest)
 
 -- the nodes of trees with their levels
 pub rows_with_levels-rows_of : (names : List (List ℕ)) (trees : Trees) → rows_with_levels names (levels_of 1 trees) (rows_of trees) ≡ rows_data names 1 trees
 rows_with_levels-rows_of names trees =
-    ap (λ l. rows_with_levels names l (rows_of trees)) (sym (append-nil (levels_of 1 trees)))
-    ∙ ap (rows_with_levels names (levels_of 1 trees ++ [])) (sym (append-nil (rows_of trees)))
-    ∙ rows_with_levels-append names 1 trees [] []
-    ∙ append-nil (rows_data names 1 trees)
+    items_with_levels-rows_of (named_row names) trees ∙ items_of_trees-named names 1 trees
 
 -- there is one level for each node
 pub length-levels_of : (level : ℕ) (trees : Trees) → length (levels_of level trees) ≡ nodes trees

@@ -9,15 +9,15 @@ use Rattle.peg_tree.specs.Rows.{Row, row_of, rows_of}
 use Rattle.peg_tree.specs.Levels.{levels_of, open_at, levels_of_rows}
 
 -- the innermost open node, if any, ends at `nth` or later
-abbrev Reaches : List ℕ → ℕ → Type 0
+abbrev pub Reaches : List ℕ → ℕ → Type 0
 Reaches [] nth = Unit {0}
 Reaches (end ∷ ends) nth = nth ≤ end
 
-Reaches-same : (ends : List ℕ) (a b : ℕ) → a ≡ b → Reaches ends a → Reaches ends b
+pub Reaches-same : (ends : List ℕ) (a b : ℕ) → a ≡ b → Reaches ends a → Reaches ends b
 Reaches-same ends a b e h = subst (Reaches ends) e h
 
 -- no node is closed before the innermost end
-open_at-same : (ends : List ℕ) (number nth : ℕ) → Reaches ends nth → number < nth → open_at number ends ≡ ends
+pub open_at-same : (ends : List ℕ) (number nth : ℕ) → Reaches ends nth → number < nth → open_at number ends ≡ ends
 open_at-same [] number nth h less = refl
 open_at-same (end ∷ ends) number nth h less = cond-false _ _ _ (lt-leb end number (omega arith))
 

@@ -13,6 +13,8 @@ pub mod FlatTreeLeft
 pub mod Selected
 pub mod SelectedNodes
 pub mod Sending
+pub mod TextJson
+pub mod TextSending
 pub mod Trees
 pub mod TreesCode
 pub mod TreesOfRows

@@ -5,9 +5,8 @@ use mathlib.Core.HLevel.{×₃_prop}
 use Rattle.serde.specs.Event.{Log, Logs, WritesEach}
 use Rattle.serde.specs.Event as event
 use Rattle.serde.specs.declared.name.Case.TheVariants.{AsIs}
-use Rattle.serde_json.specs.Data.{unsigned, number, string, no_members, member}
+use Rattle.serde_json.specs.Data.{Data, unsigned, number, string, no_members, member}
 use Rattle.serde_json.specs.Events.{SendsMembers, SendsValue}
-use Rattle.peg_tree.specs.Json.{nested_data}
 use Rattle.peg_tree.specs.Names.{name_at}
 use Rattle.peg_tree.specs.Nodes.{RulesBelow}
 use Rattle.peg_tree.specs.Rows.{Row, rows_of}
@@ -37,13 +36,23 @@ EndsNode name start end old new =
 abbrev pub OpenThen : Type 0
 OpenThen = Open × Trees
 
+-- how the object of a node follows from its rule, its start, its end and the objects of its children
+abbrev pub ObjectOf : Type 0
+ObjectOf = (rule start end : ℕ) → (children : List Data) → Data
+
+-- the objects of adjacent trees
+abbrev pub objects_by : ObjectOf → Trees → List Data
+objects_by object NoTrees = []
+objects_by object (Tree rule start end children rest) =
+    object rule start end (objects_by object children) ∷ objects_by object rest
+
 -- the events of trees, and then of the open nodes around them, innermost first
-abbrev pub SendsRest : List (List ℕ) → Trees → List OpenThen → Log → Log → Type 0
-SendsRest names trees [] old new = WritesEach SendsValue (nested_data names trees) old new
-SendsRest names trees (inner ∷ opens) old new =
-    (listed ended : Log) × WritesEach SendsValue (nested_data names trees) old listed
+abbrev pub SendsRest : List (List ℕ) → ObjectOf → Trees → List OpenThen → Log → Log → Type 0
+SendsRest names object trees [] old new = WritesEach SendsValue (objects_by object trees) old new
+SendsRest names object trees (inner ∷ opens) old new =
+    (listed ended : Log) × WritesEach SendsValue (objects_by object trees) old listed
     × EndsNode (name_at names inner.0.node.rule) inner.0.node.span.start inner.0.node.span.end listed ended
-    × SendsRest names inner.1 opens ended new
+    × SendsRest names object inner.1 opens ended new
 
 -- the node list of the trees after the open nodes
 abbrev pub rows_after : List OpenThen → List Row

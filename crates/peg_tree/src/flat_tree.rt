@@ -69,7 +69,7 @@ fn serialize_rows<N: Names, S: Serializer>(
     out.end_seq()
 }
 
-fn serialize_row<N: Names, S: Serializer>(
+pub(crate) fn serialize_row<N: Names, S: Serializer>(
     level: usize,
     node: TreeNode,
     names: &N,
@@ -88,7 +88,11 @@ fn serialize_row<N: Names, S: Serializer>(
 }
 
 // Pushes the end of an open node, and turns a failed allocation into an error of the serializer.
-fn push_end<S: Serializer>(ends: &mut Vec<usize>, end: usize, out: &S) -> Result<(), S::Error>
+pub(crate) fn push_end<S: Serializer>(
+    ends: &mut Vec<usize>,
+    end: usize,
+    out: &S,
+) -> Result<(), S::Error>
     ensures { OnOk result (ends.new.items ≡ ends.old.items ++ end ∷ []) }
 {
     match ends.push(end) {

@@ -1,41 +1,44 @@
 //! The JSON text of a tree's node list, produced in pieces.
-ghost use Rattle.std.specs.Prelude.{◌≡◌, ℕ, ◌≤◌, ◌∷◌, ◌++◌, [], IfOk, drop, false, length, map, reverse, take, vec_len};
+ghost use Rattle.std.specs.Prelude.{◌≡◌, ℕ, ◌≤◌, ◌==◌, ◌||◌, ◌∷◌, ◌++◌, [], IfOk, drop, false, length, map, reverse, take, vec_len};
 ghost use Rattle.std.specs.Coded.{le_prop};
 ghost use Rattle.std.specs.Vec.{vec_capacity};
 ghost use Rattle.serde_json.specs.View.{items_of};
 ghost use Rattle.serde_json.specs.Written.{items_text};
 ghost use Rattle.peg_tree.specs.Json.{rows_data};
-ghost use Rattle.peg_tree.specs.Levels.{levels_of_rows};
 ghost use Rattle.peg_tree.specs.Nodes.{RulesBelow};
-ghost use Rattle.peg_tree.specs.RowText.{EachAtMost, EachAtMost-prop, HasRoom, HasRoom-prop, levels_from, text_from};
+ghost use Rattle.peg_tree.specs.RowText.{EachAtMost, EachAtMost-prop, HasRoom, HasRoom-prop, levels_from, printed_levels, printed_rows, shown_rules, text_from};
 ghost use Rattle.peg_tree.specs.Rows.{IsOneTree, row_of, rows_of};
+ghost use Rattle.peg_tree.specs.Selected.{has_rule, selected};
 ghost use Rattle.peg_tree.specs.Sending.{RulesBelow-prop};
 ghost use Rattle.peg_tree.specs.TreesOfRows.{trees_of};
 
 use crate::levels::close_ended;
 use crate::name_json::json_names;
 use crate::row_text::{MAX_ROW_TEXT, write_comma, write_row};
-use crate::{Names, Tree, TreeNode};
+use crate::shows::{AllRules, Shows};
+use crate::{Names, RuleSet, Tree, TreeNode};
 use std::alloc::{AllocError, Global};
 
 // The minimum size of a piece in bytes, except for the last piece.
 const PIECE: usize = 65_536;
 
 /// The JSON text of a tree's node list without the enclosing brackets, produced in pieces. All memory is allocated by
-/// `new`.
+/// `new` or `of_shown`.
 #[derive(Debug, Drop)]
 pub struct FlatTreeWriter {
     tree: Tree,
     names: Vec<Vec<u8>>,
+    // The rules whose nodes are written beside the root. If there is no set, all nodes are.
+    shown: Option<RuleSet>,
     at: usize,
     ends: Vec<usize>,
     buffer: Vec<u8>,
     filled: usize,
     ghost below: { RulesBelow (length names.items) tree } by { RulesBelow-prop (length names.items) tree },
     ghost room: { HasRoom (vec_len buffer) names.items } by { HasRoom-prop (vec_len buffer) names.items },
-    ghost levels: { EachAtMost (vec_capacity ends) (levels_of_rows (reverse ends.items) at (drop at
-        (rows_of tree))) } by { EachAtMost-prop (vec_capacity ends) (levels_of_rows (reverse ends.items) at (drop at
-            (rows_of tree))) },
+    ghost levels: { EachAtMost (vec_capacity ends) (printed_levels (printed_rows (shown_rules shown)
+        (reverse ends.items) at (drop at (rows_of tree)))) } by { EachAtMost-prop (vec_capacity ends)
+            (printed_levels (printed_rows (shown_rules shown) (reverse ends.items) at (drop at (rows_of tree)))) },
     ghost within: { filled ≤ vec_len buffer },
 }
 
@@ -49,6 +52,44 @@ impl FlatTreeWriter {
         ensures { IfOk result (λ text. text_left text ++ 93 ∷ []
             ≡ items_text false (items_of (rows_data (N.names names.now) 1 tree))) }
     {
+        FlatTreeWriter::start(alloc, tree, names, None)
+    }
+
+    /// Returns the text of the tree that `Tree::select` returns for `tree` and `shown`, before the first piece. That
+    /// tree isn't built: a node that is not shown is skipped when it is reached. Returns an error if an allocation
+    /// fails, or if the required buffer would be too long.
+    ///
+    /// # Example
+    ///
+    /// ```
+    /// let mut shown = RuleSet::none(alloc, grammar.rules())?;
+    /// shown.insert(2);
+    /// let mut text = FlatTreeWriter::of_shown(alloc, tree, grammar, shown)?;
+    /// ```
+    pub fn of_shown<N: Names>(
+        alloc: Global,
+        tree: Tree,
+        names: &N,
+        shown: RuleSet,
+    ) -> Result<FlatTreeWriter, AllocError>
+        requires { RulesBelow (length (N.names names.now)) tree }
+        ensures { IfOk result (λ text. text_left text ++ 93 ∷ []
+            ≡ items_text false (items_of (rows_data (N.names names.now) 1 (selected (has_rule shown) tree)))) }
+    {
+        FlatTreeWriter::start(alloc, tree, names, Some(shown))
+    }
+
+    // Returns the text of the nodes of these rules and of the root, before the first piece.
+    fn start<N: Names>(
+        alloc: Global,
+        tree: Tree,
+        names: &N,
+        shown: Option<RuleSet>,
+    ) -> Result<FlatTreeWriter, AllocError>
+        requires { RulesBelow (length (N.names names.now)) tree }
+        ensures { IfOk result (λ text. text_left text ++ 93 ∷ []
+            ≡ items_text false (items_of (rows_data (N.names names.now) 1 (selected (shown_rules shown) tree)))) }
+    {
         let names = json_names(alloc, names)?;
         let longest = longest_of(&names);
         if longest > usize::MAX - PIECE - MAX_ROW_TEXT {
@@ -59,6 +100,7 @@ impl FlatTreeWriter {
         Ok(FlatTreeWriter {
             tree,
             names,
+            shown,
             at: 0,
             ends,
             buffer,
@@ -71,9 +113,10 @@ impl FlatTreeWriter {
         ensures text { text_left self.old ≡ piece_of self.new ++ text_left self.new }
         ensures some { piece_of self.new ≡ [] → text_left self.old ≡ [] }
     {
-        let filled = fill_piece(
+        let filled = fill_shown(
             self.tree.rows(),
             &self.names,
+            &self.shown,
             self.at,
             &mut self.ends,
             &mut self.buffer,
@@ -97,10 +140,11 @@ struct Filled {
     end: usize,
 }
 
-// Writes nodes from number `from` on into the buffer, until it holds at least `PIECE` bytes or no node is left.
-fn fill_piece(
+// Does what `fill_piece` does for a set of rules, or for all if there is none. The choice is made once for a piece.
+fn fill_shown(
     rows: &[TreeNode],
     names: &[Vec<u8>],
+    shown: &Option<RuleSet>,
     from: usize,
     ends: &mut Vec<usize>,
     buffer: &mut [u8],
@@ -108,25 +152,68 @@ fn fill_piece(
     requires tree { IsOneTree (map row_of rows.now) }
     requires below { RulesBelow (length names.now) (trees_of (map row_of rows.now)) }
     requires room { HasRoom (length buffer.old) names.now }
-    requires levels { EachAtMost (vec_capacity ends.old) (levels_from rows.now from ends.old.items) }
-    ensures text { text_from names.now rows.now from ends.old.items
-        ≡ take result.end buffer.new ++ text_from names.now rows.now result.at ends.new.items }
-    ensures some { result.end ≡ 0 → text_from names.now rows.now from ends.old.items ≡ [] }
-    ensures levels { EachAtMost (vec_capacity ends.new) (levels_from rows.now result.at ends.new.items) }
+    requires levels { EachAtMost (vec_capacity ends.old)
+        (levels_from (shown_rules shown.now) rows.now from ends.old.items) }
+    ensures text { text_from (shown_rules shown.now) names.now rows.now from ends.old.items
+        ≡ take result.end buffer.new
+        ++ text_from (shown_rules shown.now) names.now rows.now result.at ends.new.items }
+    ensures some { result.end ≡ 0
+        → text_from (shown_rules shown.now) names.now rows.now from ends.old.items ≡ [] }
+    ensures levels { EachAtMost (vec_capacity ends.new)
+        (levels_from (shown_rules shown.now) rows.now result.at ends.new.items) }
+    ensures same { length buffer.new ≡ length buffer.old }
+    ensures within { result.end ≤ length buffer.new }
+{
+    match shown {
+        None => fill_piece(rows, names, &AllRules, from, ends, buffer),
+        Some(set) => fill_piece(rows, names, set, from, ends, buffer),
+    }
+}
+
+// Writes the shown nodes from number `from` on into the buffer, until it holds at least `PIECE` bytes or no node is
+// left. The root is always shown.
+fn fill_piece<S: Shows>(
+    rows: &[TreeNode],
+    names: &[Vec<u8>],
+    shown: &S,
+    from: usize,
+    ends: &mut Vec<usize>,
+    buffer: &mut [u8],
+) -> Filled
+    requires tree { IsOneTree (map row_of rows.now) }
+    requires below { RulesBelow (length names.now) (trees_of (map row_of rows.now)) }
+    requires room { HasRoom (length buffer.old) names.now }
+    requires levels { EachAtMost (vec_capacity ends.old)
+        (levels_from (S.shown shown.now) rows.now from ends.old.items) }
+    ensures text { text_from (S.shown shown.now) names.now rows.now from ends.old.items
+        ≡ take result.end buffer.new ++ text_from (S.shown shown.now) names.now rows.now result.at ends.new.items }
+    ensures some { result.end ≡ 0 → text_from (S.shown shown.now) names.now rows.now from ends.old.items ≡ [] }
+    ensures levels { EachAtMost (vec_capacity ends.new)
+        (levels_from (S.shown shown.now) rows.now result.at ends.new.items) }
     ensures same { length buffer.new ≡ length buffer.old }
     ensures within { result.end ≤ length buffer.new }
 {
     let mut at = from;
     let mut end = 0;
     while at < rows.len() && end < PIECE {
-        close_ended(ends, at);
         let row = rows[at];
-        end = write_comma(at > 0, buffer, end);
-        end = write_row(1 + ends.len(), &names[row.rule as usize], row, buffer, end);
-        ends.push_reserved(at + row.size as usize);
+        if is_written(at, row, shown) {
+            close_ended(ends, at);
+            end = write_comma(at > 0, buffer, end);
+            end = write_row(1 + ends.len(), &names[row.rule as usize], row, buffer, end);
+            ends.push_reserved(at + row.size as usize);
+        }
         at += 1;
     }
     Filled { at, end }
+}
+
+// Whether the node with number `at` is the root or shown.
+#[inline(always)]
+fn is_written<S: Shows>(at: usize, row: TreeNode, shown: &S) -> bool
+    ensures { result ≡ ((at == 0) || S.shown shown.now row.rule) }
+{
+    at == 0 || shown.shows(row.rule)
 }
 
 fn longest_of(names: &[Vec<u8>]) -> usize

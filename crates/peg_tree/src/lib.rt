@@ -2,6 +2,7 @@
 #![tactic(auto)]
 
 mod depth;
+mod flat_text_tree;
 mod flat_tree;
 mod flat_tree_writer;
 mod forest;
@@ -12,7 +13,9 @@ mod member;
 mod name_json;
 mod names;
 mod nested;
+mod nested_text_tree;
 mod nested_tree;
+mod node_text;
 mod outcome;
 mod part;
 mod row;
@@ -21,9 +24,11 @@ mod rows;
 mod rule_set;
 mod select;
 mod shape;
+mod shows;
 mod tree;
 mod write;
 
+pub use flat_text_tree::FlatTextTree;
 pub use flat_tree::FlatTree;
 pub use flat_tree_writer::FlatTreeWriter;
 pub use forest::{Branch, Forest};
@@ -31,6 +36,7 @@ pub use json::rows_json;
 pub use member::serialize_member;
 pub use names::Names;
 pub use nested::{JsonFault, MAX_LEVELS, nested_json};
+pub use nested_text_tree::NestedTextTree;
 pub use nested_tree::NestedTree;
 pub use outcome::{Outcome, Parsed};
 pub use row::TreeNode;

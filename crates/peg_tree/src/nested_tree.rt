@@ -49,8 +49,8 @@ impl<N: Names> Serialize for NestedTree<'_, N> {
 // An open node: one that has been begun but not ended. `end` is the number of the first node after its subtree.
 #[derive(Clone, Copy)]
 pub(crate) struct Open {
-    node: TreeNode,
-    end: usize,
+    pub node: TreeNode,
+    pub end: usize,
 }
 
 // Serializes the tree in one pass, with a stack of open nodes instead of recursion.
@@ -79,7 +79,7 @@ fn serialize_nested<N: Names, S: Serializer>(
 }
 
 // Pops the innermost open node if its subtree ends at or before node number `at`.
-fn pop_ended(stack: &mut Vec<Open>, at: usize) -> Option<Open>
+pub(crate) fn pop_ended(stack: &mut Vec<Open>, at: usize) -> Option<Open>
     ensures some { IfSome result (λ top. reverse stack.old.items ≡ top ∷ reverse stack.new.items) }
     ensures ended { IfSome result (λ top. top.end ≤ at) }
     ensures shorter { IfSome result (λ top. length stack.new.items < length stack.old.items) }
@@ -93,7 +93,7 @@ fn pop_ended(stack: &mut Vec<Open>, at: usize) -> Option<Open>
 }
 
 // Begins the object of node number `at` and pushes the node as open.
-fn begin_node<S: Serializer>(
+pub(crate) fn begin_node<S: Serializer>(
     rows: &[TreeNode],
     at: usize,
     stack: &mut Vec<Open>,
@@ -117,7 +117,11 @@ fn begin_node<S: Serializer>(
 }
 
 // Ends the object of a node, after all of its children.
-fn end_node<N: Names, S: Serializer>(node: TreeNode, names: &N, out: &mut S) -> Result<(), S::Error>
+pub(crate) fn end_node<N: Names, S: Serializer>(
+    node: TreeNode,
+    names: &N,
+    out: &mut S,
+) -> Result<(), S::Error>
     requires { node.rule < length (N.names names.now) }
     ensures { OnOk result (EndsNode (name_at (N.names names.now) node.rule) node.span.start node.span.end
         (S.written out.old) (S.written out.new)) }

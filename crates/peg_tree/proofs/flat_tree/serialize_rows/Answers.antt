@@ -7,7 +7,7 @@ use Rattle.serde_json.specs.View.{items_of}
 use Rattle.peg_tree.specs.Json.{rows_data}
 use Rattle.peg_tree.specs.Rows.{row_of}
 use Rattle.peg_tree.proofs.Forests.{IsForest-from_one_tree, drop_forest, tree_within}
-use Rattle.peg_tree.proofs.JsonRows.{rule_below}
+use Rattle.peg_tree.proofs.JsonRows.{items_of_trees-named, named_row, rule_below}
 use Rattle.peg_tree.proofs.RowEvents.{row-sent, rows_below, rows_below-all, length-rows_below}
 use Rattle.peg_tree.proofs.Sent.{items_len-items_of}
 use Rattle.peg_tree.proofs.flat_tree.serialize_rows.Goals as goal
@@ -27,7 +27,7 @@ pub loop-at-preserved : goal.loop-at-preserved
 loop-at-preserved g c last rest =
     let names = g.N.Names.names c.args.names.now in
     c.loop-at.invariant last
-    (row-sent names c.rows-rows.result.now c.loop-at.at c.index-rows-at.result c.loop-at-test.true c.index-rows-at.is
+    (row-sent (named_row names) c.rows-rows.result.now c.loop-at.at c.index-rows-at.result c.loop-at-test.true c.index-rows-at.is
     c.loop-at.ends.items c.close_ended.new.ends.items c.push_end.new.ends.items c.close_ended.ensures.ended c.in_ok-push_end.ensures
     c.len.result (c.len.ensures ∙ c.close_ended.new.ends.ok.0)
     (g.S.Serializer.written c.loop-at.out) (g.S.Serializer.written c.serialize_row.new.out) last c.in_ok-serialize_row.ensures rest)
@@ -38,15 +38,16 @@ returns g c =
     let rows = c.rows-rows.result.now in
     let first = g.S.Serializer.written c.begin_seq.new.self in
     let end = g.S.Serializer.written c.end_seq.new.self in
-    let all = rows_below-all names rows c.args.tree.now c.rows-rows.ensures.tree c.rows-rows.ensures.same in
+    let all = rows_below-all (named_row names) rows c.args.tree.now c.rows-rows.ensures.tree c.rows-rows.ensures.same
+    ∙ items_of_trees-named names 1 c.args.tree.now in
     let count : length rows ≡ length (rows_data names 1 c.args.tree.now) =
-    sym (length-map rows row_of) ∙ sym (length-rows_below names [] 0 (map row_of rows)) ∙ ap length all in
+    sym (length-map rows row_of) ∙ sym (length-rows_below (named_row names) [] 0 (map row_of rows)) ∙ ap length all in
     let none : map row_of (drop c.loop-at.at rows) ≡ [] = ap (map row_of) (drop_all c.loop-at.at rows (omega arith)) in
     on_ok_weaker c.end_seq.result (λ e. (
       first,
       subst (λ n. Logs (g.S.Serializer.written c.args.out.now) first (seq_begins (Some n)))
           (count ∙ sym (items_len-items_of (rows_data names 1 c.args.tree.now))) c.in_ok-begin_seq.ensures,
       subst (λ l. SendsItems (items_of l) first end) all
-          (c.loop-at.invariant end (subst (λ l. SendsItems (items_of (rows_below names (reverse c.loop-at.ends.items) c.loop-at.at l))
+          (c.loop-at.invariant end (subst (λ l. SendsItems (items_of (rows_below (named_row names) (reverse c.loop-at.ends.items) c.loop-at.at l))
           (g.S.Serializer.written c.loop-at.out) end) (sym none) e)),
     )) c.end_seq.ensures
