@@ -27,7 +27,7 @@ IsCommandOf name found (Lint g start proved) = (name ≡ codes "lint")
     × (first_value found (codes "G") ≡ Some (string_bytes g))
     × (first_value found (codes "start") ≡ option_map string_bytes start)
     × IsFlagAt found (codes "proved") proved
-IsCommandOf name found (Parse g t start memo steps all rows no_tree) = (name ≡ codes "parse")
+IsCommandOf name found (Parse g t start memo steps all rows no_tree show hide) = (name ≡ codes "parse")
     × (first_value found (codes "G") ≡ Some (string_bytes g))
     × (first_value found (codes "T") ≡ Some (string_bytes t))
     × (first_value found (codes "start") ≡ option_map string_bytes start)
@@ -36,3 +36,5 @@ IsCommandOf name found (Parse g t start memo steps all rows no_tree) = (name ≡
     × IsFlagAt found (codes "all") all
     × IsFlagAt found (codes "rows") rows
     × IsFlagAt found (codes "no-tree") no_tree
+    × (first_value found (codes "show") ≡ option_map string_bytes show)
+    × (first_value found (codes "hide") ≡ option_map string_bytes hide)

@@ -72,7 +72,9 @@ fn parse<'a>(alloc: Global) -> Result<Command<'a>, AllocError> {
         .arg(steps_option(alloc))?
         .arg(all_flag(alloc))?
         .arg(rows_flag(alloc))?
-        .arg(no_tree_flag(alloc)?)
+        .arg(no_tree_flag(alloc)?)?
+        .arg(show_option(alloc))?
+        .arg(hide_option(alloc)?)
 }
 
 fn grammar_file<'a>(alloc: Global) -> Arg<'a> {
@@ -135,6 +137,24 @@ fn no_tree_flag<'a>(alloc: Global) -> Result<Arg<'a>, AllocError> {
         .conflicts_with("rows")
 }
 
+// The rules whose nodes are printed. Hyphen values are allowed, as for the start rule.
+fn show_option<'a>(alloc: Global) -> Arg<'a> {
+    Arg::new(alloc, "show")
+        .long("show")
+        .value_name("LIST")
+        .allow_hyphen_values(true)
+        .help("Prints only the root and the nodes of these rules, as Name,Name")
+}
+
+fn hide_option<'a>(alloc: Global) -> Result<Arg<'a>, AllocError> {
+    Arg::new(alloc, "hide")
+        .long("hide")
+        .value_name("LIST")
+        .allow_hyphen_values(true)
+        .help("Prints the root and all nodes but those of these rules, as Name,Name")
+        .conflicts_with("show")
+}
+
 fn proved_flag<'a>(alloc: Global) -> Arg<'a> {
     Arg::new(alloc, "proved")
         .long("proved")
@@ -151,7 +171,7 @@ A run with an answer or a refusal prints one line of JSON. The exit status is:
   0  success: matched, accepted, printed, no warnings, or help
   1  no match, a partial match under --all, or warnings of `lint`
   2  the grammar is refused
-  3  wrong arguments, or an unknown start rule
+  3  wrong arguments, or an unknown rule
   4  a file can't be opened or read, or the output can't be written
   5  out of memory
   6  TooDeep, TextTooLong or StepLimit (see `pegtool parse --help`)
@@ -219,6 +239,10 @@ offset at which a terminal failed, with the spans of these terminals in the
 grammar file. A text has at most 67108864 bytes. A tree of more than 60 levels
 needs --rows or --no-tree.
 
+--show and --hide list rules, with commas between their names. The children of an
+omitted node take its place, and levels are counted without it. A name that no
+rule has is refused: NoSuchRule, status 3.
+
 A memo stores the results of rules at positions, so that a rule that is tried
 again at a position isn't run again. It never changes the answer, only time and
 memory. A parse runs without the memo first; only if that takes many steps for
@@ -230,8 +254,8 @@ takes more than N steps ends with the refusal StepLimit. The number of steps
 depends on the memo.
 
 Status: 0 matched; 1 failed, or partial under --all; 2 the grammar is refused; 3
-wrong arguments, or an unknown start rule; 4 a file can't be opened or read, or
-the output can't be written; 5 out of memory; 6 a refusal of the parse is printed:
+wrong arguments, or an unknown rule; 4 a file can't be opened or read, or the
+output can't be written; 5 out of memory; 6 a refusal of the parse is printed:
 TooDeep, the tree has more than 60 levels and needs --rows or --no-tree;
 TextTooLong; or StepLimit, which needs a greater --steps or --memo.
 

@@ -41,7 +41,8 @@ pub enum Words {
         start: Option<String>,
         proved: bool,
     },
-    /// Parse text file `t` by grammar file `g`. The other fields are those of `Command::Parse` and `ParseOptions`.
+    /// Parse text file `t` by grammar file `g`. `show` and `hide` are lists of rules, of which at most one is given. The
+    /// other fields are those of `Command::Parse` and `ParseOptions`.
     Parse {
         g: String,
         t: String,
@@ -51,6 +52,8 @@ pub enum Words {
         all: bool,
         rows: bool,
         no_tree: bool,
+        show: Option<String>,
+        hide: Option<String>,
     },
 }
 
@@ -131,7 +134,7 @@ fn lint_of(alloc: Global, matches: &ArgMatches<'_>) -> Result<Words, WordsFault>
 {
     Ok(Words::Lint {
         g: file_name(alloc, matches, "G")?,
-        start: start_name(alloc, matches)?,
+        start: optional_text(alloc, matches, "start")?,
         proved: matches.get_flag("proved"),
     })
 }
@@ -143,12 +146,14 @@ fn parse_of(alloc: Global, matches: &ArgMatches<'_>) -> Result<Words, WordsFault
     Ok(Words::Parse {
         g: file_name(alloc, matches, "G")?,
         t: file_name(alloc, matches, "T")?,
-        start: start_name(alloc, matches)?,
+        start: optional_text(alloc, matches, "start")?,
         memo: memo_size(alloc, matches)?,
         steps: step_limit(alloc, matches)?,
         all: matches.get_flag("all"),
         rows: matches.get_flag("rows"),
         no_tree: matches.get_flag("no-tree"),
+        show: optional_text(alloc, matches, "show")?,
+        hide: optional_text(alloc, matches, "hide")?,
     })
 }
 
@@ -161,12 +166,16 @@ fn file_name(alloc: Global, matches: &ArgMatches<'_>, id: &str) -> Result<String
     }
 }
 
-fn start_name(alloc: Global, matches: &ArgMatches<'_>) -> Result<Option<String>, AllocError>
-    ensures { IfOk result (λ start. first_value (found_of matches.now) (codes "start")
-        ≡ option_map string_bytes start) }
+// The text of an option, if it is given.
+fn optional_text(
+    alloc: Global,
+    matches: &ArgMatches<'_>,
+    id: &str,
+) -> Result<Option<String>, AllocError>
+    ensures { IfOk result (λ text. first_value (found_of matches.now) id.now ≡ option_map string_bytes text) }
 {
-    match matches.get_str("start") {
-        Some(name) => Ok(Some(String::from_str(alloc, name)?)),
+    match matches.get_str(id) {
+        Some(text) => Ok(Some(String::from_str(alloc, text)?)),
         None => Ok(None),
     }
 }

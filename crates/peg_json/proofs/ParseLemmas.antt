@@ -13,7 +13,8 @@ use Rattle.peg_tree.specs.declared.outcome.Parsed.TheVariants as parsed
 use Rattle.peg_parser.specs.Cause.{TooDeep, NoSuchStart}
 use Rattle.peg_grammar.specs.Limits.{max_text_bytes}
 use Rattle.peg_semantics.specs.Starts.{Recognizes, start_name}
-use Rattle.peg_json.specs.Parses.{ParsesTo, PrintsOutcome, HasEnoughSteps, IsDeep, extents_at}
+use Rattle.peg_tree.specs.Selected.{selected}
+use Rattle.peg_json.specs.Parses.{ParsesTo, PrintsOutcome, HasEnoughSteps, IsDeep, extents_at, selected_outcome, selected_result}
 use Rattle.peg_tree.specs.Json.{max_levels}
 use Rattle.peg_json.specs.Parses.{result_reply, no_such_start, failed, too_many_levels, matched}
 use Rattle.peg_json.specs.Reply.{Reply, Refused}
@@ -38,12 +39,12 @@ record Parse (rules : List Rule) (text : List ℕ) (start : Option (List ℕ)) (
   furthest : IsFurthest r.tests far expected
 
 deep-parses : (rules : List Rule) (text : List ℕ) (start : Option (List ℕ)) (memo : ℕ) (steps : Option ℕ)
-    (all : Bool) (form : TreeForm) (r : Record) (far : ℕ) (expected : List ℕ) (result : Parsed)
+    (all : Bool) (form : TreeForm) (shown : ℕ → Bool) (r : Record) (far : ℕ) (expected : List ℕ) (result : Parsed)
     → Parse rules text start memo steps r far expected
     → result ≡ parsed_of r.result
-    → form ≡ Nested → IsDeep result → ParsesTo rules text start memo steps all form (Refused TooDeep)
-deep-parses rules text start memo steps all form r far expected parsed.Failed it is nested deep = absurd deep
-deep-parses rules text start memo steps all form r far expected (parsed.Matched end tree) it is nested deep =
+    → form ≡ Nested → IsDeep (selected_result shown result) → ParsesTo rules text start memo steps all form shown (Refused TooDeep)
+deep-parses rules text start memo steps all form shown r far expected parsed.Failed it is nested deep = absurd deep
+deep-parses rules text start memo steps all form shown r far expected (parsed.Matched end tree) it is nested deep =
     too_many_levels it.within it.enough it.starts it.recognized (parsed-matched r.result end tree is) nested deep
 
 -- a number that isn't over a limit is at most the limit
@@ -51,25 +52,25 @@ not-over : (a b : ℕ) → ¬ (a < b) → b ≤ a
 not-over a b not = elim (cases_lt a b) [ inl less ↦ absurd (not less) | inr other ↦ other ]
 
 result-parses : (rules : List Rule) (text : List ℕ) (start : Option (List ℕ)) (memo : ℕ) (steps : Option ℕ)
-    (all : Bool) (form : TreeForm) (r : Record) (far : ℕ) (expected : List ℕ) (result : Parsed)
+    (all : Bool) (form : TreeForm) (shown : ℕ → Bool) (r : Record) (far : ℕ) (expected : List ℕ) (result : Parsed)
     → Parse rules text start memo steps r far expected
     → result ≡ parsed_of r.result
-    → (form ≡ Nested → ¬ IsDeep result)
-    → ParsesTo rules text start memo steps all form
-    (result_reply rules (length text) all form far (extents_at rules expected) result)
-result-parses rules text start memo steps all form r far expected parsed.Failed it is shallow =
+    → (form ≡ Nested → ¬ IsDeep (selected_result shown result))
+    → ParsesTo rules text start memo steps all form shown
+    (result_reply rules (length text) all form far (extents_at rules expected) (selected_result shown result))
+result-parses rules text start memo steps all form shown r far expected parsed.Failed it is shallow =
     failed it.within it.enough it.starts it.recognized (parsed-failed r.result is) it.furthest
-result-parses rules text start memo steps all form r far expected (parsed.Matched end tree) it is shallow =
+result-parses rules text start memo steps all form shown r far expected (parsed.Matched end tree) it is shallow =
     matched it.within it.enough it.starts it.recognized (parsed-matched r.result end tree is)
-    (λ nested. not-over max_levels (levels tree) (shallow nested)) it.furthest
+    (λ nested. not-over max_levels (levels (selected shown tree)) (shallow nested)) it.furthest
 
 pub prints-parses : (rules : List Rule) (text : List ℕ) (start : Option (List ℕ)) (memo : ℕ) (steps : Option ℕ)
-    (all : Bool) (form : TreeForm) (outcome : Outcome)
+    (all : Bool) (form : TreeForm) (shown : ℕ → Bool) (outcome : Outcome)
     → length text ≤ max_text_bytes → HasEnoughSteps rules text start memo steps → (from : List ℕ)
     → start_name rules start ≡ Some from
     → IsParseOutcome rules text from outcome → (reply : Reply)
-    → PrintsOutcome rules outcome (length text) all form reply → ParsesTo rules text start memo steps all form reply
-prints-parses rules text start memo steps all form outcome within enough from starts is reply prints = by prints
+    → PrintsOutcome rules (selected_outcome shown outcome) (length text) all form reply → ParsesTo rules text start memo steps all form shown reply
+prints-parses rules text start memo steps all form shown outcome within enough from starts is reply prints = by prints
   where
     r : Record
     r = is.1.0
@@ -84,22 +85,22 @@ prints-parses rules text start memo steps all form outcome within enough from st
       furthest = is.1.3;
     }
 
-    by : PrintsOutcome rules outcome (length text) all form reply → ParsesTo rules text start memo steps all form reply
+    by : PrintsOutcome rules (selected_outcome shown outcome) (length text) all form reply → ParsesTo rules text start memo steps all form shown reply
     by (inl deep) =
-        subst (ParsesTo rules text start memo steps all form) (sym deep.2)
-        (deep-parses rules text start memo steps all form r outcome.far outcome.expected.items outcome.result it is.1.2
+        subst (ParsesTo rules text start memo steps all form shown) (sym deep.2)
+        (deep-parses rules text start memo steps all form shown r outcome.far outcome.expected.items outcome.result it is.1.2
         deep.0 deep.1)
     by (inr shallow) =
-        subst (ParsesTo rules text start memo steps all form) (sym shallow.1)
-        (result-parses rules text start memo steps all form r outcome.far outcome.expected.items outcome.result it is.1.2
+        subst (ParsesTo rules text start memo steps all form shown) (sym shallow.1)
+        (result-parses rules text start memo steps all form shown r outcome.far outcome.expected.items outcome.result it is.1.2
         shallow.0)
 
 -- the name of a start that no rule has
 pub missing-parses : (rules : List Rule) (text : List ℕ) (start : Option (List ℕ)) (memo : ℕ) (steps : Option ℕ)
-    (all : Bool) (form : TreeForm) (name : List ℕ)
+    (all : Bool) (form : TreeForm) (shown : ℕ → Bool) (name : List ℕ)
     → length text ≤ max_text_bytes → start ≡ Some name → start_name rules start ≡ None
-    → ParsesTo rules text start memo steps all form (Refused (NoSuchStart name))
-missing-parses rules text start memo steps all form name within named none =
+    → ParsesTo rules text start memo steps all form shown (Refused (NoSuchStart name))
+missing-parses rules text start memo steps all form shown name within named none =
     no_such_start name within named (by (is_defined rules name) refl)
   where
     missing : start_name rules (Some name) ≡ None
@@ -112,19 +113,19 @@ missing-parses rules text start memo steps all form name within named none =
     by false is = is
 
 pub outcome-parses : (rules : List Rule) (text : List ℕ) (start : Option (List ℕ)) (memo : ℕ) (steps : Option ℕ)
-    (all : Bool) (form : TreeForm) (outcome : Outcome)
+    (all : Bool) (form : TreeForm) (shown : ℕ → Bool) (outcome : Outcome)
     → length text ≤ max_text_bytes → HasEnoughSteps rules text start memo steps → (start_name rules start ≡ None → ⊥)
     → IfSome (start_name rules start) (λ from. IsParseOutcome rules text from outcome) → (reply : Reply)
-    → PrintsOutcome rules outcome (length text) all form reply → ParsesTo rules text start memo steps all form reply
-outcome-parses rules text start memo steps all form outcome within enough some is reply prints =
+    → PrintsOutcome rules (selected_outcome shown outcome) (length text) all form reply → ParsesTo rules text start memo steps all form shown reply
+outcome-parses rules text start memo steps all form shown outcome within enough some is reply prints =
     by (start_name rules start) refl some is
   where
     by : (found : Option (List ℕ)) → start_name rules start ≡ found → (found ≡ None → ⊥)
         → IfSome found (λ from. IsParseOutcome rules text from outcome)
-        → ParsesTo rules text start memo steps all form reply
+        → ParsesTo rules text start memo steps all form shown reply
     by None there some is = absurd (some refl)
     by (Some from) there some is =
-        prints-parses rules text start memo steps all form outcome within enough from there is reply prints
+        prints-parses rules text start memo steps all form shown outcome within enough from there is reply prints
 
 -- if the start is no rule, a name was given
 pub start-given : (rules : List Rule) (start : Option (List ℕ)) → start_name rules start ≡ None

@@ -1,16 +1,19 @@
 -- Lines of replies.
-use Rattle.std.proofs.Common.{◌≡◌, ℕ, Bool, List, [], ◌∷◌, ◌++◌, IfOk, Result, Ok, Err, inr, refl, ap, ◌∙◌}
+use Rattle.std.proofs.Common.{◌≡◌, ℕ, Bool, List, [], ◌∷◌, ◌++◌, IfOk, Result, Ok, Err, inl, inr, refl, ap, ◌∙◌}
 use Rattle.std.specs.declared.alloc.AllocError.{AllocError}
 use Rattle.serde_json.specs.Written.{compact_text}
 use Rattle.peg_semantics.specs.Rules.{Rule}
+use Rattle.peg_bytes.specs.Extent.{Extent}
 use Rattle.peg_tree.specs.declared.outcome.Outcome.{Outcome}
+use Rattle.peg_tree.specs.declared.outcome.Parsed.{Parsed}
+use Rattle.peg_tree.specs.declared.outcome.Parsed.TheVariants as parsed
 use Rattle.peg_json.specs.Lines.{IsLineOf, IsReply, line_bytes}
-use Rattle.peg_json.specs.Parses.{PrintsOutcome, outcome_reply}
+use Rattle.peg_json.specs.Parses.{PrintsOutcome, extents_at, outcome_reply, result_reply, selected_outcome, selected_result}
 use Rattle.peg_json.specs.Reply.{Reply, printed, printed_line, status_of}
 use Rattle.peg_json.specs.Statuses.{status_code}
 use Rattle.peg_json.specs.declared.line.Line.{Line}
 use Rattle.peg_json.specs.declared.status.Status.{Status}
-use Rattle.peg_json.specs.declared.tree_form.TreeForm.TheVariants.{Nested, Rows}
+use Rattle.peg_json.specs.declared.tree_form.TreeForm.TheVariants.{Nested, Rows, NoTree}
 
 -- the line and the exit status of one reply
 pub text-reply : (line : Line) (file text : List ℕ) (status : Status) (reply : Reply) → line_bytes line ≡ text ++ 10 ∷ []
@@ -45,3 +48,44 @@ outcome-line (Ok line) file rules outcome len all status is ends same =
     reply-kind (Ok line) file (PrintsOutcome rules outcome len all Rows) reply (is, ap status_code ends ∙ same)
     (inr (λ nested. absurd (let bad : Rows ≡ Nested = nested in cc), refl))
 outcome-line (Err why) file rules outcome len all status is ends same = tt
+
+-- ---- results without a printed tree
+
+-- the line of a result is the same whichever nodes are shown
+unprinted-text : (file : List ℕ) (rules : List Rule) (len : ℕ) (all : Bool) (shown : ℕ → Bool) (far : ℕ)
+    (expected : List Extent) (result : Parsed)
+    → printed_line file (result_reply rules len all NoTree far expected result)
+    ≡ printed_line file (result_reply rules len all NoTree far expected (selected_result shown result))
+unprinted-text file rules len all shown far expected parsed.Failed = refl
+unprinted-text file rules len all shown far expected (parsed.Matched end tree) = refl
+
+-- so is its exit status
+unprinted-status : (rules : List Rule) (len : ℕ) (all : Bool) (shown : ℕ → Bool) (far : ℕ) (expected : List Extent)
+    (result : Parsed)
+    → status_of (result_reply rules len all NoTree far expected result)
+    ≡ status_of (result_reply rules len all NoTree far expected (selected_result shown result))
+unprinted-status rules len all shown far expected parsed.Failed = refl
+unprinted-status rules len all shown far expected (parsed.Matched end tree) = refl
+
+-- the line of an outcome without a printed tree is that of the outcome with the nodes that are shown
+pub unprinted-line : (result : Result Line AllocError) (file : List ℕ) (rules : List Rule) (outcome : Outcome) (len : ℕ)
+    (all : Bool) (shown : ℕ → Bool)
+    → IfOk result (λ line. IsLineOf file (PrintsOutcome rules outcome len all NoTree) (line_bytes line) (status_code line.status))
+    → IfOk result (λ line. IsLineOf file (PrintsOutcome rules (selected_outcome shown outcome) len all NoTree)
+    (line_bytes line) (status_code line.status))
+unprinted-line (Err why) file rules outcome len all shown is = tt
+unprinted-line (Ok line) file rules outcome len all shown is = by is.0 is.1 is.2 is.3
+  where
+    by : (reply : Reply) → PrintsOutcome rules outcome len all NoTree reply → line_bytes line ≡ printed_line file reply
+        → status_code line.status ≡ status_of reply
+        → IsLineOf file (PrintsOutcome rules (selected_outcome shown outcome) len all NoTree) (line_bytes line)
+        (status_code line.status)
+    by reply (inl deep) prints ends = absurd (let bad : NoTree ≡ Nested = deep.0 in cc)
+    by reply (inr shallow) prints ends =
+        let spans = extents_at rules outcome.expected.items in (
+          outcome_reply rules (selected_outcome shown outcome) len all NoTree,
+          inr (λ nested. absurd (let bad : NoTree ≡ Nested = nested in cc), refl),
+          prints ∙ ap (printed_line file) shallow.1
+              ∙ unprinted-text file rules len all shown outcome.far spans outcome.result,
+          ends ∙ ap status_of shallow.1 ∙ unprinted-status rules len all shown outcome.far spans outcome.result,
+        )

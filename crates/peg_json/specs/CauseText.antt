@@ -5,7 +5,8 @@ use Rattle.serde_json.specs.View.{items_of}
 use Rattle.peg_bytes.specs.Place.{line_at, column_at}
 use Rattle.peg_semantics.specs.Form.{Reference}
 use Rattle.peg_parser.specs.Cause.{Cause, FileTooLong, Syntax, TooNested, BadCount, NoRule, Duplicate, Undefined}
-use Rattle.peg_parser.specs.Cause.{TooManyParts, EmptyLoop, LeftRecursion, CodeTooLarge, NoSuchStart, StepLimit, TooDeep, TextTooLong}
+use Rattle.peg_parser.specs.Cause.{TooManyParts, EmptyLoop, LeftRecursion, CodeTooLarge, NoSuchStart, NoSuchRule, StepLimit, TooDeep}
+use Rattle.peg_parser.specs.Cause.{TextTooLong}
 
 -- the JSON of a refusal without details
 abbrev pub bare_data : (refusal : List ℕ) → Data
@@ -42,10 +43,10 @@ path_data path =
     object (member (codes "path") (array (items_of (map string path)))
     (member (codes "refusal") (string (codes "LeftRecursion")) no_members))
 
--- the JSON of a start whose name no rule has
-abbrev pub start_data : (name : List ℕ) → Data
-start_data name =
-    object (member (codes "name") (string name) (member (codes "refusal") (string (codes "NoSuchStart")) no_members))
+-- the JSON of a refusal of a name that no rule has
+abbrev pub missing_data : (refusal name : List ℕ) → Data
+missing_data refusal name =
+    object (member (codes "name") (string name) (member (codes "refusal") (string refusal) no_members))
 
 -- the JSON of a refusal
 abbrev pub cause_data : (file : List ℕ) → Cause → Data
@@ -60,12 +61,14 @@ cause_data file TooManyParts = bare_data (codes "TooManyParts")
 cause_data file (EmptyLoop rule) = loop_data file rule
 cause_data file (LeftRecursion path) = path_data path
 cause_data file CodeTooLarge = bare_data (codes "CodeTooLarge")
-cause_data file (NoSuchStart name) = start_data name
+cause_data file (NoSuchStart name) = missing_data (codes "NoSuchStart") name
+cause_data file (NoSuchRule name) = missing_data (codes "NoSuchRule") name
 cause_data file StepLimit = bare_data (codes "StepLimit")
 cause_data file TooDeep = bare_data (codes "TooDeep")
 cause_data file TextTooLong = bare_data (codes "TextTooLong")
 
--- the exit status of a refusal: 2 a rejected grammar, 3 no such start, 6 a limit of the parse
+-- the exit status of a refusal: 2 a rejected grammar, 3 no such start or rule, 6 a limit of the
+-- parse
 abbrev pub cause_status : Cause → ℕ
 cause_status FileTooLong = 2
 cause_status (Syntax at) = 2
@@ -79,6 +82,7 @@ cause_status (EmptyLoop rule) = 2
 cause_status (LeftRecursion path) = 2
 cause_status CodeTooLarge = 2
 cause_status (NoSuchStart name) = 3
+cause_status (NoSuchRule name) = 3
 cause_status StepLimit = 6
 cause_status TooDeep = 6
 cause_status TextTooLong = 6

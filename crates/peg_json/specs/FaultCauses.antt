@@ -1,6 +1,6 @@
 -- Describes code: the causes that faults of a parse denote.
 use Rattle.std.specs.Prelude.{ℕ, List, Option, Some}
-use Rattle.peg_parser.specs.Cause.{Cause, NoSuchStart, StepLimit, TooDeep, TextTooLong}
+use Rattle.peg_parser.specs.Cause.{Cause, NoSuchStart, NoSuchRule, StepLimit, TooDeep, TextTooLong}
 use Rattle.peg_parser.specs.Faults.{RefusalNames, refusal_cause}
 use Rattle.peg_json.specs.declared.fault.Fault.{Fault}
 use Rattle.peg_json.specs.declared.fault.Fault.TheVariants as fault
@@ -9,6 +9,7 @@ use Rattle.peg_json.specs.declared.fault.Fault.TheVariants as fault
 abbrev pub fault_cause : (names : List (List ℕ)) → Fault → Option Cause
 fault_cause names (fault.Refused why) = refusal_cause names why.now
 fault_cause names (fault.NoSuchStart name) = Some (NoSuchStart name.now)
+fault_cause names (fault.NoSuchRule name) = Some (NoSuchRule name.now)
 fault_cause names fault.StepLimit = Some StepLimit
 fault_cause names fault.TooDeep = Some TooDeep
 fault_cause names fault.TextTooLong = Some TextTooLong

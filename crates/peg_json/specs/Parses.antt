@@ -8,6 +8,7 @@ use Rattle.peg_semantics.specs.Record as recognition
 use Rattle.peg_semantics.specs.Rules.{Rule, names, is_defined}
 use Rattle.peg_semantics.specs.Terminals.{extents_of_terminals}
 use Rattle.peg_tree.specs.Json.{max_levels}
+use Rattle.peg_tree.specs.Selected.{selected}
 use Rattle.peg_tree.specs.Trees.{Trees, levels}
 use Rattle.peg_tree.specs.declared.outcome.Outcome.{Outcome}
 use Rattle.peg_tree.specs.declared.outcome.Parsed.{Parsed}
@@ -31,32 +32,34 @@ abbrev pub HasEnoughSteps : List Rule → List ℕ → (start : Option (List ℕ
 HasEnoughSteps rules text start memo steps = memo ≡ 0 → ¬ TakesMoreSteps rules text start steps
 
 -- The reply to a parse of a text from a start, with a memo of this capacity and an optional step limit. `all` asks for
--- a match of the whole text, and `form` is that of the printed tree. A text that is too long is reported before a start
--- that no rule has.
+-- a match of the whole text, and `form` is that of the printed tree, which has the root and the nodes of the rules that
+-- are shown. A text that is too long is reported before a start that no rule has.
 --
 -- If the parse exceeds the step limit, that is reported; with a memo, the result of the parse may be reported too.
 pub data ParsesTo (rules : List Rule) (text : List ℕ) (start : Option (List ℕ)) (memo : ℕ) (steps : Option ℕ)
-    (all : Bool) (form : TreeForm) : Reply → Type 0 where
-  text_too_long : max_text_bytes < length text → ParsesTo rules text start memo steps all form (Refused TextTooLong)
+    (all : Bool) (form : TreeForm) (shown : ℕ → Bool) : Reply → Type 0 where
+  text_too_long : max_text_bytes < length text → ParsesTo rules text start memo steps all form shown (Refused TextTooLong)
   no_such_start : (name : List ℕ) → length text ≤ max_text_bytes → start ≡ Some name → is_defined rules name ≡ false
-      → ParsesTo rules text start memo steps all form (Refused (NoSuchStart name))
+      → ParsesTo rules text start memo steps all form shown (Refused (NoSuchStart name))
   too_many_steps : length text ≤ max_text_bytes → TakesMoreSteps rules text start steps
-      → ParsesTo rules text start memo steps all form (Refused StepLimit)
+      → ParsesTo rules text start memo steps all form shown (Refused StepLimit)
   failed : {from : List ℕ} {r : Record} {far : ℕ} {terminals : List ℕ} → length text ≤ max_text_bytes
       → HasEnoughSteps rules text start memo steps → start_name rules start ≡ Some from
       → Recognizes rules text from r → r.result ≡ recognition.Failed → IsFurthest r.tests far terminals
-      → ParsesTo rules text start memo steps all form (Failed far (extents_at rules terminals))
+      → ParsesTo rules text start memo steps all form shown (Failed far (extents_at rules terminals))
   too_many_levels : {from : List ℕ} {r : Record} {end : ℕ} {tree : Trees} → length text ≤ max_text_bytes
       → HasEnoughSteps rules text start memo steps → start_name rules start ≡ Some from
       → Recognizes rules text from r → r.result ≡ recognition.Matched end tree
-      → form ≡ Nested → max_levels < levels tree → ParsesTo rules text start memo steps all form (Refused TooDeep)
+      → form ≡ Nested → max_levels < levels (selected shown tree)
+      → ParsesTo rules text start memo steps all form shown (Refused TooDeep)
   matched : {from : List ℕ} {r : Record} {end far : ℕ} {terminals : List ℕ} {tree : Trees}
       → length text ≤ max_text_bytes → HasEnoughSteps rules text start memo steps
       → start_name rules start ≡ Some from → Recognizes rules text from r
-      → r.result ≡ recognition.Matched end tree → (form ≡ Nested → levels tree ≤ max_levels)
+      → r.result ≡ recognition.Matched end tree → (form ≡ Nested → levels (selected shown tree) ≤ max_levels)
       → IsFurthest r.tests far terminals
-      → ParsesTo rules text start memo steps all form
-      (Matched (all && nat_lt end (length text)) form end far (extents_at rules terminals) (names rules) tree)
+      → ParsesTo rules text start memo steps all form shown
+      (Matched (all && nat_lt end (length text)) form end far (extents_at rules terminals) (names rules)
+      (selected shown tree))
 
 -- the reply that prints an outcome, for a text of this length
 abbrev pub result_reply : List Rule → (len : ℕ) → (all : Bool) → TreeForm → (far : ℕ) → List Extent → Parsed → Reply
@@ -67,6 +70,15 @@ result_reply rules len all form far expected (parsed.Matched end tree) =
 abbrev pub outcome_reply : List Rule → Outcome → (len : ℕ) → (all : Bool) → TreeForm → Reply
 outcome_reply rules outcome len all form =
     result_reply rules len all form outcome.far (extents_at rules outcome.expected.items) outcome.result
+
+-- a result with the nodes of the rules that are shown
+abbrev pub selected_result : (shown : ℕ → Bool) → Parsed → Parsed
+selected_result shown parsed.Failed = parsed.Failed
+selected_result shown (parsed.Matched end tree) = parsed.Matched end (selected shown tree)
+
+-- an outcome with the nodes of the rules that are shown
+abbrev pub selected_outcome : (shown : ℕ → Bool) → Outcome → Outcome
+selected_outcome shown outcome = record outcome { result = selected_result shown outcome.result }
 
 -- the tree of an outcome has more levels than the nested form may have
 abbrev pub IsDeep : Parsed → Type 0

@@ -24,8 +24,8 @@ pub use code_text::code_json;
 pub use fault::Fault;
 pub use line::{Line, Tail};
 pub use lines::{
-    accepted_line, answer_line, code_line, lint_line, long_text_line, no_start_line, refused_line,
-    step_limit_line, table_line,
+    accepted_line, answer_line, code_line, lint_line, long_text_line, no_rule_line, no_start_line,
+    refused_line, step_limit_line, table_line,
 };
 pub use lint_text::lint_json;
 pub use refusal_text::refusal_json;

@@ -6,7 +6,7 @@ ghost use Rattle.serde_json.specs.View.{view};
 ghost use Rattle.peg_check.specs.Cans.{can_of};
 ghost use Rattle.peg_semantics.specs.Rules.{names};
 ghost use Rattle.peg_grammar.specs.GrammarRules.{rules_in};
-ghost use Rattle.peg_parser.specs.Cause.{Cause, NoSuchStart, StepLimit, TextTooLong};
+ghost use Rattle.peg_parser.specs.Cause.{Cause, NoSuchRule, NoSuchStart, StepLimit, TextTooLong};
 ghost use Rattle.peg_parser.specs.Faults.{IsTrueRefusal, StartsIn, cause_of};
 ghost use Rattle.peg_parser.specs.Fits.{Fits};
 ghost use Rattle.peg_parser.specs.Parser.{parser_rules};
@@ -186,6 +186,14 @@ pub fn no_start_line(alloc: Global, name: &str) -> Result<Line, AllocError>
     fault_line(alloc, &Fault::NoSuchStart(name), &[], &[])
 }
 
+/// Returns the line that reports that no rule has a name that is in a list of rules.
+pub fn no_rule_line(alloc: Global, name: &str) -> Result<Line, AllocError>
+    ensures { (file : List ℕ) → IfOk result (λ line.
+        IsReply file (Refused (NoSuchRule name.now)) (line_bytes line) (status_code line.status)) }
+{
+    fault_line(alloc, &Fault::NoSuchRule(name), &[], &[])
+}
+
 /// Returns the line that reports that a text is too long.
 pub fn long_text_line(alloc: Global) -> Result<Line, AllocError>
     ensures { (file : List ℕ) → IfOk result (λ line.
@@ -210,7 +218,7 @@ impl<'a> Fault<'a> {
     {
         match self {
             Fault::Refused(_) => Status::Refused,
-            Fault::NoSuchStart(_) => Status::Usage,
+            Fault::NoSuchStart(_) | Fault::NoSuchRule(_) => Status::Usage,
             Fault::StepLimit | Fault::TooDeep | Fault::TextTooLong => Status::Limit,
         }
     }

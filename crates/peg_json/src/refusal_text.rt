@@ -9,7 +9,7 @@ ghost use Rattle.serde_json.specs.Written.{compact_text, has_float};
 ghost use Rattle.peg_bytes.specs.Extent.{extent};
 ghost use Rattle.peg_tree.specs.Names.{name_at};
 ghost use Rattle.peg_check.specs.Verdicts.{NamesRules};
-ghost use Rattle.peg_json.specs.CauseText.{bare_data, loop_data, name_data, path_data, place_data, start_data};
+ghost use Rattle.peg_json.specs.CauseText.{bare_data, loop_data, missing_data, name_data, path_data, place_data};
 ghost use Rattle.peg_json.specs.CauseText.{cause_data};
 ghost use Rattle.peg_json.specs.FaultCauses.{FaultNames, fault_cause};
 ghost use Rattle.peg_parser.specs.Cause.{reference};
@@ -47,7 +47,8 @@ pub fn refusal_json(
 {
     match fault {
         Fault::Refused(refusal) => refusal_text(alloc, refusal, file, names),
-        Fault::NoSuchStart(name) => start_text(alloc, name),
+        Fault::NoSuchStart(name) => missing_text(alloc, "NoSuchStart", name),
+        Fault::NoSuchRule(name) => missing_text(alloc, "NoSuchRule", name),
         Fault::StepLimit => refusal_only_text(alloc, "StepLimit"),
         Fault::TooDeep => refusal_only_text(alloc, "TooDeep"),
         Fault::TextTooLong => refusal_only_text(alloc, "TextTooLong"),
@@ -298,15 +299,15 @@ fn serialize_name<S: Serializer>(rule: u32, names: &[&str], out: &mut S) -> Resu
     out.str(names[rule as usize])
 }
 
-// The JSON of a start whose name no rule has.
-fn start_text(alloc: Global, name: &str) -> Result<String, AllocError>
-    ensures { IfOk result (λ text. string_bytes text ≡ compact_text (start_data name.now)) }
+// The JSON of a refusal of a name that no rule has.
+fn missing_text(alloc: Global, refusal: &str, name: &str) -> Result<String, AllocError>
+    ensures { IfOk result (λ text. string_bytes text ≡ compact_text (missing_data refusal.now name.now)) }
 {
-    json_text(alloc, start_value(alloc, name)?)
+    json_text(alloc, missing_value(alloc, refusal, name)?)
 }
 
-fn start_value(alloc: Global, name: &str) -> Result<Value, AllocError>
-    ensures { IfOk result (λ value. view value ≡ start_data name.now) }
+fn missing_value(alloc: Global, refusal: &str, name: &str) -> Result<Value, AllocError>
+    ensures { IfOk result (λ value. view value ≡ missing_data refusal.now name.now) }
 {
-    json!(in alloc; {"name": name, "refusal": "NoSuchStart"})
+    json!(in alloc; {"name": name, "refusal": refusal})
 }

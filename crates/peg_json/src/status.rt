@@ -10,7 +10,7 @@ pub enum Status {
     Failed,
     /// The grammar is rejected.
     Refused,
-    /// The arguments are invalid, or no rule has the start's name.
+    /// The arguments are invalid, or no rule has the name of the start or a name in a list of rules.
     Usage,
     /// A file can't be opened or read, or the output can't be written.
     File,

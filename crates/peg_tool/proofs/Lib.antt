@@ -1,7 +1,9 @@
 mod EndLemmas
 mod JudgeLemmas
 mod LintLemmas
+mod ListedNames
 mod ParsedLines
 mod ProgramLemmas
 mod RunLemmas
+mod SelectedAnswers
 mod WriteLemmas

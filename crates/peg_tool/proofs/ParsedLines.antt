@@ -21,23 +21,23 @@ use Rattle.peg_json.proofs.PrintLemmas.{reply-kind}
 
 -- the line for a start that no rule has; a text that is too long is reported first
 pub no_start-line : (result : Result Line AllocError) (file : List ℕ) (rules : List Rule) (text : List ℕ)
-    (start : Option (List ℕ)) (memo : ℕ) (steps : Option ℕ) (all : Bool) (form : TreeForm) (name : List ℕ)
-    → start ≡ Some name
+    (start : Option (List ℕ)) (memo : ℕ) (steps : Option ℕ) (all : Bool) (form : TreeForm) (shown : ℕ → Bool)
+    (name : List ℕ) → start ≡ Some name
     → start_name rules start ≡ None
     → (max_text_bytes < length text → IfOk result (λ line.
     IsReply file (Refused TextTooLong) (line_bytes line) (status_code line.status)))
     → (length text ≤ max_text_bytes → IfOk result (λ line.
     IsReply file (Refused (NoSuchStart name)) (line_bytes line) (status_code line.status)))
     → IfOk result (λ line.
-    IsLineOf file (ParsesTo rules text start memo steps all form) (line_bytes line) (status_code line.status))
-no_start-line result file rules text start memo steps all form name named none long missing =
+    IsLineOf file (ParsesTo rules text start memo steps all form shown) (line_bytes line) (status_code line.status))
+no_start-line result file rules text start memo steps all form shown name named none long missing =
     elim (cases_lt max_text_bytes (length text)) [
       | inl over ↦
-          reply-kind result file (ParsesTo rules text start memo steps all form) (Refused TextTooLong) (long over)
+          reply-kind result file (ParsesTo rules text start memo steps all form shown) (Refused TextTooLong) (long over)
           (text_too_long over)
       | inr within ↦
-          reply-kind result file (ParsesTo rules text start memo steps all form) (Refused (NoSuchStart name))
-          (missing within) (missing-parses rules text start memo steps all form name within named none)
+          reply-kind result file (ParsesTo rules text start memo steps all form shown) (Refused (NoSuchStart name))
+          (missing within) (missing-parses rules text start memo steps all form shown name within named none)
     ]
 
 -- the name that was given

@@ -9,11 +9,11 @@ use Rattle.peg_io.specs.declared.transfer.ReadFault.{ReadFault}
 use Rattle.peg_io.specs.Split.{IsSplit, at_separator, without_separator}
 use Rattle.peg_io.proofs.SplitLaws.{TellsSplit, separator_in_front, separator_further, front_split}
 use Rattle.peg_parser.specs.Accepts.{Accepts}
-use Rattle.peg_parser.specs.Cause.{Cause, FileTooLong}
+use Rattle.peg_parser.specs.Cause.{Cause, FileTooLong, NoSuchRule}
 use Rattle.peg_parser.specs.Refusals.{IsNoGrammar, IsIllFormed, code_too_large, file_too_long, not_in_the_notation, count_out_of_range, too_nested, a_name_twice}
 use Rattle.peg_parser.specs.Refusals.{a_name_missing, too_many_parts, empty_loop, left_recursion}
 use Rattle.peg_grammar.specs.Limits.{max_text_bytes}
-use Rattle.peg_json.specs.Lines.{IsLineOf, line_bytes}
+use Rattle.peg_json.specs.Lines.{IsLineOf, IsReply, line_bytes}
 use Rattle.peg_json.specs.Parses.{ParsesTo, text_too_long, no_such_start, too_many_steps, failed, too_many_levels}
 use Rattle.peg_json.specs.Parses.{matched}
 use Rattle.peg_json.specs.Reply.{Reply, Refused, printed_line, status_of}
@@ -21,28 +21,29 @@ use Rattle.peg_json.specs.Statuses.{status_code}
 use Rattle.peg_json.specs.declared.tree_form.TreeForm.{TreeForm}
 use Rattle.peg_json.specs.declared.line.Line.{Line}
 use Rattle.peg_tool.specs.Replies.{RepliesTo, IsPrinted, IsPrintedJoined, max_joined_bytes, refused_grammar, tabled, refused_form}
-use Rattle.peg_tool.specs.Replies.{too_large, accepted, coded, linted, parsed}
+use Rattle.peg_tool.specs.Replies.{too_large, accepted, coded, linted, no_such_rule, parsed}
+use Rattle.peg_tool.specs.PrintedNodes.{PrintedNodes, first_unknown, shown_by}
 use Rattle.peg_tool.specs.Task.{ToolTask, TableTask, CheckTask, CodeTask, LintTask, ParseTask, IsTextOf, default_task}
 
 -- ---- texts over the limit
 
 -- all texts over the limit have the same replies to a parse
 pub ParsesTo-longer : (rules : List Rule) (text more : List ℕ) (start : Option (List ℕ)) (memo : ℕ) (steps : Option ℕ)
-    (all : Bool) (form : TreeForm) (reply : Reply) → max_text_bytes < length text → max_text_bytes < length more
-    → ParsesTo rules text start memo steps all form reply
-    → ParsesTo rules more start memo steps all form reply
-ParsesTo-longer rules text more start memo steps all form reply long longer (text_too_long over) = text_too_long longer
-ParsesTo-longer rules text more start memo steps all form reply long longer (no_such_start name within named missing) =
+    (all : Bool) (form : TreeForm) (shown : ℕ → Bool) (reply : Reply) → max_text_bytes < length text → max_text_bytes < length more
+    → ParsesTo rules text start memo steps all form shown reply
+    → ParsesTo rules more start memo steps all form shown reply
+ParsesTo-longer rules text more start memo steps all form shown reply long longer (text_too_long over) = text_too_long longer
+ParsesTo-longer rules text more start memo steps all form shown reply long longer (no_such_start name within named missing) =
     absurd (omega (arith, long, within))
-ParsesTo-longer rules text more start memo steps all form reply long longer (too_many_steps within more_steps) =
+ParsesTo-longer rules text more start memo steps all form shown reply long longer (too_many_steps within more_steps) =
     absurd (omega (arith, long, within))
-ParsesTo-longer rules text more start memo steps all form reply long longer
+ParsesTo-longer rules text more start memo steps all form shown reply long longer
     (failed within enough starts found is furthest) =
     absurd (omega (arith, long, within))
-ParsesTo-longer rules text more start memo steps all form reply long longer
+ParsesTo-longer rules text more start memo steps all form shown reply long longer
     (too_many_levels within enough starts found is nested deep) =
     absurd (omega (arith, long, within))
-ParsesTo-longer rules text more start memo steps all form reply long longer
+ParsesTo-longer rules text more start memo steps all form shown reply long longer
     (matched within enough starts found is shallow furthest) =
     absurd (omega (arith, long, within))
 
@@ -56,8 +57,11 @@ RepliesTo-longer file text more task reply long longer (too_large checks is) = t
 RepliesTo-longer file text more task reply long longer (accepted accepts) = accepted accepts
 RepliesTo-longer file text more task reply long longer (coded accepts) = coded accepts
 RepliesTo-longer file text more task reply long longer (linted accepts is) = linted accepts is
-RepliesTo-longer file text more task reply long longer (parsed {rules} {start} {memo} {steps} {all} {form} accepts is) =
-    parsed accepts (ParsesTo-longer rules text more start memo steps all form reply long longer is)
+RepliesTo-longer file text more task reply long longer (no_such_rule name accepts first) = no_such_rule name accepts first
+RepliesTo-longer file text more task reply long longer
+    (parsed {rules} {start} {memo} {steps} {all} {form} {nodes} accepts known is) =
+    parsed accepts known
+    (ParsesTo-longer rules text more start memo steps all form (shown_by rules nodes) reply long longer is)
 
 -- ---- files over the limit
 
@@ -85,7 +89,8 @@ over-reply file text task reply long (too_large checks (code_too_large read take
 over-reply file text task reply long (accepted accepts) = absurd (omega (arith, long, accepts.read.within))
 over-reply file text task reply long (coded accepts) = absurd (omega (arith, long, accepts.read.within))
 over-reply file text task reply long (linted accepts is) = absurd (omega (arith, long, accepts.read.within))
-over-reply file text task reply long (parsed accepts is) = absurd (omega (arith, long, accepts.read.within))
+over-reply file text task reply long (no_such_rule name accepts first) = absurd (omega (arith, long, accepts.read.within))
+over-reply file text task reply long (parsed accepts known is) = absurd (omega (arith, long, accepts.read.within))
 
 -- all files over the limit have the same printed replies
 over-printed : (file text other more : List ℕ) (task : ToolTask) (line : List ℕ) (status : ℕ) → max_file_bytes < length file
@@ -163,25 +168,38 @@ right-held IsRight max_steps front (Some input) (Some rest) held line status con
 
 -- the line of a parse by an accepted file is that of its task
 pub parsed-printed : (file text : List ℕ) (rules : List Rule) (start : Option (List ℕ)) (memo : ℕ) (steps : Option ℕ)
-    (all : Bool) (form : TreeForm) (line : List ℕ) (status : ℕ) → Accepts file rules
-    → IsLineOf file (ParsesTo rules text start memo steps all form) line status
-    → IsPrinted (ParseTask start memo steps all form) file text line status
-parsed-printed file text rules start memo steps all form line status accepts is = (is.0, parsed accepts is.1, is.2, is.3)
+    (all : Bool) (form : TreeForm) (nodes : PrintedNodes) (line : List ℕ) (status : ℕ) → Accepts file rules
+    → first_unknown rules nodes ≡ None
+    → IsLineOf file (ParsesTo rules text start memo steps all form (shown_by rules nodes)) line status
+    → IsPrinted (ParseTask start memo steps all form nodes) file text line status
+parsed-printed file text rules start memo steps all form nodes line status accepts known is =
+    (is.0, parsed accepts known is.1, is.2, is.3)
+
+-- the line of an unknown name is that of its task, whatever the text
+pub unknown-reported : (line : Line) (file : List ℕ) (left : Option (List ℕ)) (rules : List Rule)
+    (start : Option (List ℕ)) (memo : ℕ) (steps : Option ℕ) (all : Bool) (form : TreeForm) (nodes : PrintedNodes)
+    (name : List ℕ) → Accepts file rules → first_unknown rules nodes ≡ Some name
+    → IsReply file (Refused (NoSuchRule name)) (line_bytes line) (status_code line.status)
+    → IfSome left (λ text.
+    IsPrinted (ParseTask start memo steps all form nodes) file text (line_bytes line) (status_code line.status))
+unknown-reported line file None rules start memo steps all form nodes name accepts first is = tt
+unknown-reported line file (Some text) rules start memo steps all form nodes name accepts first is =
+    (Refused (NoSuchRule name), no_such_rule name accepts first, is.0, is.1)
 
 -- the reply for the text that was read is the reply for the text
 pub parsed-reported : (result : Result Line ReadFault) (file : List ℕ) (left : Option (List ℕ)) (bytes : List ℕ)
-    (rules : List Rule) (start : Option (List ℕ)) (memo : ℕ) (steps : Option ℕ) (all : Bool) (form : TreeForm)
-    → IsTextOf (ParseTask start memo steps all form) file left bytes
+    (rules : List Rule) (start : Option (List ℕ)) (memo : ℕ) (steps : Option ℕ) (all : Bool) (form : TreeForm) (nodes : PrintedNodes)
+    → IsTextOf (ParseTask start memo steps all form nodes) file left bytes
     → Accepts file rules
     → IfOk result (λ line. IfSome left (λ text.
-    IsPrinted (ParseTask start memo steps all form) file text (line_bytes line) (status_code line.status)))
+    IsPrinted (ParseTask start memo steps all form nodes) file text (line_bytes line) (status_code line.status)))
     → IfOk result (λ line.
-    IsPrinted (ParseTask start memo steps all form) file bytes (line_bytes line) (status_code line.status))
-parsed-reported (Ok line) file left bytes rules start memo steps all form is accepts reported =
+    IsPrinted (ParseTask start memo steps all form nodes) file bytes (line_bytes line) (status_code line.status))
+parsed-reported (Ok line) file left bytes rules start memo steps all form nodes is accepts reported =
     subst (λ (text : Option (List ℕ)). IfSome text (λ read.
-    IsPrinted (ParseTask start memo steps all form) file read (line_bytes line) (status_code line.status)))
+    IsPrinted (ParseTask start memo steps all form nodes) file read (line_bytes line) (status_code line.status)))
     (is rules accepts) reported
-parsed-reported (Err why) file left bytes rules start memo steps all form is accepts reported = tt
+parsed-reported (Err why) file left bytes rules start memo steps all form nodes is accepts reported = tt
 
 -- the reply for a prefix over the limit of a text is the reply for the whole text
 pub IsPrinted-text_front : (task : ToolTask) (file front rest line : List ℕ) (status : ℕ)
@@ -231,7 +249,7 @@ any_text TableTask text file bytes long = tt
 any_text CheckTask text file bytes long = tt
 any_text CodeTask text file bytes long = tt
 any_text (LintTask start selection) text file bytes long = tt
-any_text (ParseTask start memo steps all form) text file bytes long =
+any_text (ParseTask start memo steps all form nodes) text file bytes long =
     λ rules accepts. absurd (omega (arith, long, accepts.read.within))
 
 pub IsRightFor-front : (task : ToolTask) (text : Option (List ℕ)) (front rest line : List ℕ) (status : ℕ)

@@ -2,12 +2,21 @@
 use Rattle.std.specs.Prelude.{option_map}
 use Rattle.peg_parser.specs.Parser.{start_named}
 use Rattle.peg_json.specs.TreeForms.{form_from_options}
+use Rattle.peg_tool.specs.PrintedNodes.{PrintedNodes, AllNodes, NodesOf, NodesExcept, names_listed}
 use Rattle.peg_tool.specs.Task.{ToolTask, TableTask, CheckTask, CodeTask, LintTask, ParseTask}
 use Rattle.peg_tool.specs.Requests.{ToolRequest, InputRequest, HelpRequest, FileRequest, FilesRequest}
 use Rattle.peg_tool.specs.declared.command.Command.{Command}
 use Rattle.peg_tool.specs.declared.command.Command.TheVariants.{Table, Check, Code, Lint, Parse}
+use Rattle.peg_tool.specs.declared.nodes.Nodes.{Nodes}
+use Rattle.peg_tool.specs.declared.nodes.Nodes.TheVariants.{All, Show, Hide}
 use Rattle.peg_tool.specs.declared.request.Request.{Request}
 use Rattle.peg_tool.specs.declared.request.Request.TheVariants as request
+
+-- the nodes that are printed
+abbrev pub nodes_asked : Nodes → PrintedNodes
+nodes_asked All = AllNodes
+nodes_asked (Show list) = NodesOf (names_listed list.now)
+nodes_asked (Hide list) = NodesExcept (names_listed list.now)
 
 -- the task of a command
 abbrev pub task_of : Command → ToolTask
@@ -15,8 +24,8 @@ task_of Table = TableTask
 task_of Check = CheckTask
 task_of Code = CodeTask
 task_of (Lint start selection) = LintTask (option_map (λ name. name.now) start) selection
-task_of (Parse options all rows no_tree) =
-    ParseTask (start_named options) options.memo options.steps all (form_from_options rows no_tree)
+task_of (Parse options all rows no_tree nodes) =
+    ParseTask (start_named options) options.memo options.steps all (form_from_options rows no_tree) (nodes_asked nodes)
 
 -- what a request asks for
 abbrev pub request_of : Request → ToolRequest

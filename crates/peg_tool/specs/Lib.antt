@@ -24,6 +24,7 @@ pub use Rattle.peg_json.specs.TreeForms
 pub mod Commands
 pub mod WritesReply
 pub mod Loaded
+pub mod PrintedNodes
 pub mod CommandOutcome
 pub mod Exits
 pub mod Replies

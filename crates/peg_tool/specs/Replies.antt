@@ -1,5 +1,5 @@
 -- The tool's reply to a task on a grammar file and a text: the first case that applies.
-use Rattle.std.specs.Prelude.{ℕ, Bool, List, Option, length}
+use Rattle.std.specs.Prelude.{◌≡◌, ℕ, Bool, List, Option, None, Some, length}
 use Rattle.peg_code.specs.Code.{entries_of, program_code}
 use Rattle.peg_core.specs.CoreForm.{core_bodies}
 use Rattle.peg_semantics.specs.AbstractOutcomes.{Can}
@@ -7,7 +7,7 @@ use Rattle.peg_semantics.specs.RuleOutcomes.{AreAbstractOutcomes}
 use Rattle.peg_semantics.specs.Rules.{Rule, names}
 use Rattle.peg_lint.specs.declared.warning.Selection.{Selection}
 use Rattle.peg_parser.specs.Accepts.{IsRead, IsAcceptedGrammar, Accepts}
-use Rattle.peg_parser.specs.Cause.{Cause}
+use Rattle.peg_parser.specs.Cause.{Cause, NoSuchRule}
 use Rattle.peg_parser.specs.Refusals.{IsNoGrammar, IsIllFormed, HasTooMuchCode}
 use Rattle.peg_json.specs.Lines.{IsLineOf}
 use Rattle.peg_json.specs.Lints.{LintsTo}
@@ -15,6 +15,7 @@ use Rattle.peg_json.specs.Parses.{ParsesTo}
 use Rattle.peg_json.specs.Reply.{Reply, Refused, Tabled, Accepted, Coded}
 use Rattle.peg_json.specs.declared.tree_form.TreeForm.{TreeForm}
 use Rattle.peg_io.specs.Split.{IsSplit}
+use Rattle.peg_tool.specs.PrintedNodes.{PrintedNodes, first_unknown, shown_by}
 use Rattle.peg_tool.specs.Task.{ToolTask, TableTask, CheckTask, CodeTask, LintTask, ParseTask, Checks, default_task}
 
 -- the reply to a task on a grammar file and a text
@@ -33,9 +34,14 @@ pub data RepliesTo (file text : List ℕ) : ToolTask → Reply → Type 0 where
       (Coded (program_code (core_bodies rules)) (entries_of (core_bodies rules)))
   linted : {rules : List Rule} {start : Option (List ℕ)} {selection : Selection} {reply : Reply} → Accepts file rules
       → LintsTo file rules start selection reply → RepliesTo file text (LintTask start selection) reply
+  no_such_rule : {rules : List Rule} {start : Option (List ℕ)} {memo : ℕ} {steps : Option ℕ} {all : Bool}
+      {form : TreeForm} {nodes : PrintedNodes} (name : List ℕ) → Accepts file rules
+      → first_unknown rules nodes ≡ Some name
+      → RepliesTo file text (ParseTask start memo steps all form nodes) (Refused (NoSuchRule name))
   parsed : {rules : List Rule} {start : Option (List ℕ)} {memo : ℕ} {steps : Option ℕ} {all : Bool} {form : TreeForm}
-      {reply : Reply} → Accepts file rules → ParsesTo rules text start memo steps all form reply
-      → RepliesTo file text (ParseTask start memo steps all form) reply
+      {nodes : PrintedNodes} {reply : Reply} → Accepts file rules → first_unknown rules nodes ≡ None
+      → ParsesTo rules text start memo steps all form (shown_by rules nodes) reply
+      → RepliesTo file text (ParseTask start memo steps all form nodes) reply
 
 -- the line and the exit status of the reply to a task on a grammar file and a text
 abbrev pub IsPrinted : ToolTask → (file text : List ℕ) → (line : List ℕ) → (status : ℕ) → Type 0

@@ -5,6 +5,7 @@ use Rattle.peg_cli.specs.declared.words.Words.{Words}
 use Rattle.peg_cli.specs.declared.words.Words.TheVariants.{Joined, Help, Table, Check, Code, Lint, Parse}
 use Rattle.peg_lint.specs.FileWarnings.{selection_of}
 use Rattle.peg_json.specs.TreeForms.{form_from_options}
+use Rattle.peg_tool.specs.PrintedNodes.{nodes_from_options}
 use Rattle.peg_tool.specs.Task.{ToolTask, TableTask, CheckTask, CodeTask, LintTask, ParseTask}
 
 -- A request: the default task on a grammar file and a text from one input, a help text, a task on the grammar file with
@@ -24,9 +25,9 @@ requested (Check g) = FileRequest CheckTask (string_bytes g)
 requested (Code g) = FileRequest CodeTask (string_bytes g)
 requested (Lint g start proved) =
     FileRequest (LintTask (option_map string_bytes start) (selection_of proved)) (string_bytes g)
-requested (Parse g t start memo steps all rows no_tree) =
-    FilesRequest (ParseTask (option_map string_bytes start) memo steps all (form_from_options rows no_tree))
-    (string_bytes g) (string_bytes t)
+requested (Parse g t start memo steps all rows no_tree show hide) =
+    FilesRequest (ParseTask (option_map string_bytes start) memo steps all (form_from_options rows no_tree)
+    (nodes_from_options (option_map string_bytes show) (option_map string_bytes hide))) (string_bytes g) (string_bytes t)
 
 -- ---- files of a request
 

@@ -1,4 +1,5 @@
 //! The commands of the tool.
+use crate::nodes::Nodes;
 use peg_lint::Selection;
 use peg_parser::ParseOptions;
 
@@ -19,11 +20,12 @@ pub enum Command<'a> {
     },
     /// Parses a text by a rule of the grammar. With `all`, a match of less than the whole text is reported as partial.
     /// With `rows` the tree is a list of its nodes in preorder, with `no_tree` it isn't printed, otherwise it is nested
-    /// objects. `no_tree` prevails over `rows`.
+    /// objects. `no_tree` prevails over `rows`. `nodes` says which nodes of the tree are printed.
     Parse {
         options: ParseOptions<'a>,
         all: bool,
         rows: bool,
         no_tree: bool,
+        nodes: Nodes<'a>,
     },
 }

@@ -9,6 +9,7 @@ ghost use Rattle.peg_tool.specs.WritesReply.{WritesLine};
 ghost use Rattle.peg_json.specs.Lines.{line_bytes};
 
 use crate::loading::{Loaded, load};
+use crate::nodes::Nodes;
 use crate::parse::parse_line;
 use crate::write::{CommandFault, ToolFault, to_tool_result, write_reply};
 use peg_io::{ReadFault, Sink, Source, read_up_to, split};
@@ -95,6 +96,7 @@ fn line_for(alloc: Global, input: &[u8]) -> Result<Line, AllocError>
             &options,
             false,
             TreeForm::Nested,
+            Nodes::All,
         ),
         Loaded::Refused(line) => Ok(line),
     }

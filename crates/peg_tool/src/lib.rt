@@ -6,15 +6,18 @@ mod exit;
 mod joined;
 mod linting;
 mod loading;
+mod nodes;
 mod parse;
 mod program;
 mod request;
+mod selection;
 mod tool;
 mod write;
 
 pub use command::Command;
 pub use exit::{Exit, read_args, run_program};
 pub use joined::run_joined;
+pub use nodes::Nodes;
 pub use peg_cli::{Words, WordsFault, read_words};
 pub use peg_io::{Device, DeviceFault, FileSystem, OpenFault, Opener, Sink, Source, split};
 pub use peg_json::{Fault, Status, answer_json, code_json, lint_json, refusal_json, table_json};

@@ -4,16 +4,23 @@ ghost use Rattle.peg_parser.specs.Cause.{NoSuchStart, TextTooLong};
 ghost use Rattle.peg_parser.specs.Parser.{parser_rules, start_named};
 ghost use Rattle.peg_grammar.specs.Limits.{max_text_bytes};
 ghost use Rattle.peg_json.specs.Lines.{IsLineOf, IsReply, line_bytes};
-ghost use Rattle.peg_json.specs.Parses.{ParsesTo};
+ghost use Rattle.peg_json.specs.Parses.{ParsesTo, PrintsOutcome, selected_outcome};
 ghost use Rattle.peg_json.specs.Reply.{Refused};
 ghost use Rattle.peg_json.specs.Statuses.{status_code};
+ghost use Rattle.peg_parser.specs.Fits.{Fits};
+ghost use Rattle.peg_tool.specs.Commands.{nodes_asked};
+ghost use Rattle.peg_tool.specs.PrintedNodes.{shown_by};
 
+use crate::nodes::Nodes;
+use crate::selection::select_nodes;
 use peg_grammar::MAX_TEXT_BYTES;
 use peg_json::{Line, TreeForm, answer_line, long_text_line, no_start_line, step_limit_line};
-use peg_parser::{ParseFault, ParseOptions, Parser};
+use peg_parser::{Answer, ParseFault, ParseOptions, Parser};
+use peg_tree::laws::a_selected_tree_has_no_other_rules;
 use std::alloc::{AllocError, Global};
 
-/// Returns the line of a parse of a text. A text that is too long is reported before a start that no rule has.
+/// Returns the line of a parse of a text, with these nodes of its tree. A text that is too long is reported before a
+/// start that no rule has.
 pub(crate) fn parse_line(
     alloc: Global,
     parser: &Parser,
@@ -21,14 +28,15 @@ pub(crate) fn parse_line(
     options: &ParseOptions<'_>,
     all: bool,
     form: TreeForm,
+    nodes: Nodes<'_>,
 ) -> Result<Line, AllocError>
     ensures { (file : List ℕ) → IfOk result (λ line. IsLineOf file
         (ParsesTo (parser_rules parser.now) text.now (start_named options.now) options.now.memo options.now.steps all
-        form)
+        form (shown_by (parser_rules parser.now) (nodes_asked nodes.entry)))
         (line_bytes line) (status_code line.status)) }
 {
     match parser.parse(alloc, text, options) {
-        Ok(answer) => answer_line(alloc, parser, answer, text.len() as u32, all, form),
+        Ok(answer) => nodes_line(alloc, parser, answer, text.len() as u32, all, form, nodes),
         // A grammar has a first rule, so a start that is missing was given by name.
         Err(ParseFault::NoSuchStart) => no_start(alloc, text, options.start.unwrap_or("")),
         Err(ParseFault::TextTooLong) => long_text_line(alloc),
@@ -48,4 +56,31 @@ fn no_start(alloc: Global, text: &[u8], name: &str) -> Result<Line, AllocError>
         return long_text_line(alloc);
     }
     no_start_line(alloc, name)
+}
+
+// The line of an answer with these nodes of its tree.
+fn nodes_line(
+    alloc: Global,
+    parser: &Parser,
+    answer: Answer,
+    text_len: u32,
+    all: bool,
+    form: TreeForm,
+    nodes: Nodes<'_>,
+) -> Result<Line, AllocError>
+    requires { Fits (parser_rules parser.now) answer.outcome }
+    ensures { (file : List ℕ) → IfOk result (λ line. IsLineOf file (PrintsOutcome (parser_rules parser.now)
+        (selected_outcome (shown_by (parser_rules parser.now) (nodes_asked nodes.entry)) answer.outcome) text_len all
+        form)
+        (line_bytes line) (status_code line.status)) }
+{
+    match form {
+        // No tree is printed, so none is made.
+        TreeForm::NoTree => answer_line(alloc, parser, answer, text_len, all, form),
+        TreeForm::Nested | TreeForm::Rows => {
+            a_selected_tree_has_no_other_rules();
+            let printed = select_nodes(alloc, parser.grammar(), answer, nodes)?;
+            answer_line(alloc, parser, printed, text_len, all, form)
+        }
+    }
 }

@@ -1,11 +1,12 @@
 //! What the arguments of the program request.
 ghost use Rattle.std.specs.Prelude.{◌≡◌, option_map};
 ghost use Rattle.peg_json.specs.TreeForms.{form_from_options};
-ghost use Rattle.peg_tool.specs.Commands.{request_of, task_of};
+ghost use Rattle.peg_tool.specs.Commands.{nodes_asked, request_of, task_of};
 ghost use Rattle.peg_tool.specs.Requests.{requested};
 ghost use Rattle.peg_tool.specs.Task.{ParseTask};
 
 use crate::command::Command;
+use crate::nodes::Nodes;
 use peg_cli::Words;
 use peg_lint::Selection;
 use peg_parser::ParseOptions;
@@ -67,9 +68,13 @@ impl<'a> Request<'a> {
                 all,
                 rows,
                 no_tree,
+                show,
+                hide,
             } => {
                 let (all, rows, no_tree) = (*all, *rows, *no_tree);
-                let command = parse_command(start.as_deref(), *memo, *steps, all, rows, no_tree);
+                let nodes = Nodes::from_options(show.as_deref(), hide.as_deref());
+                let from = start.as_deref();
+                let command = parse_command(from, *memo, *steps, all, rows, no_tree, nodes);
                 Request::OnFiles { g, t, command }
             }
         }
@@ -77,16 +82,17 @@ impl<'a> Request<'a> {
 }
 
 // The command of a parse with these options.
-fn parse_command(
-    start: Option<&str>,
+fn parse_command<'a>(
+    start: Option<&'a str>,
     memo: u32,
     steps: Option<u64>,
     all: bool,
     rows: bool,
     no_tree: bool,
-) -> Command<'_>
+    nodes: Nodes<'a>,
+) -> Command<'a>
     ensures { task_of result ≡ ParseTask (option_map (λ name. name.now) start.entry) memo steps all
-        (form_from_options rows no_tree) }
+        (form_from_options rows no_tree) (nodes_asked nodes.entry) }
 {
     let options = ParseOptions { start, memo, steps };
     Command::Parse {
@@ -94,5 +100,6 @@ fn parse_command(
         all,
         rows,
         no_tree,
+        nodes,
     }
 }

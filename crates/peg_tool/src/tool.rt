@@ -1,6 +1,6 @@
 //! Runs the tool over a grammar file and a text from separate inputs.
 ghost use Rattle.std.specs.Prelude.{◌≡◌, ◌⊎◌, ℕ, ◌≤◌, ◌↔◌, ◌+◌, true};
-ghost use Rattle.std.specs.Prelude.{false, List, IfOk, IfSome, IsErrOf, length, string_bytes};
+ghost use Rattle.std.specs.Prelude.{false, List, None, IfOk, IfSome, IsErrOf, length, string_bytes};
 ghost use Rattle.peg_bytes.specs.Place.{max_offset};
 ghost use Rattle.std.specs.Io.KnownBytes.{Keeps};
 ghost use Rattle.peg_metagrammar.specs.Notation.{max_file_bytes};
@@ -10,7 +10,8 @@ ghost use Rattle.peg_parser.specs.Accepts.{Accepts};
 ghost use Rattle.peg_parser.specs.Parser.{parser_rules, start_named};
 ghost use Rattle.peg_grammar.specs.Limits.{max_text_bytes};
 ghost use Rattle.peg_json.specs.Statuses.{status_code};
-ghost use Rattle.peg_tool.specs.Commands.{task_of};
+ghost use Rattle.peg_tool.specs.Commands.{nodes_asked, task_of};
+ghost use Rattle.peg_tool.specs.PrintedNodes.{first_unknown};
 ghost use Rattle.peg_tool.specs.Replies.{IsPrinted};
 ghost use Rattle.peg_tool.specs.Task.{IsParse, IsTextOf, ParseTask};
 ghost use Rattle.peg_tool.specs.Written.{Prints, PrintsInPart};
@@ -20,11 +21,12 @@ ghost use Rattle.peg_json.specs.Lines.{line_bytes};
 use crate::command::Command;
 use crate::linting::lint_file;
 use crate::loading::{Loaded, check_file, code_file, load, table_file};
+use crate::nodes::Nodes;
 use crate::parse::parse_line;
 use crate::write::{CommandFault, ToolFault, to_tool_result, write_reply};
 use peg_grammar::MAX_TEXT_BYTES;
 use peg_io::{ReadFault, Sink, Source, read_up_to};
-use peg_json::{Line, TreeForm};
+use peg_json::{Line, TreeForm, no_rule_line};
 use peg_notation::MAX_FILE_BYTES;
 use peg_parser::{ParseOptions, Parser};
 use std::alloc::Global;
@@ -33,7 +35,7 @@ use std::alloc::Global;
 /// nothing written, if an allocation fails. No device may have failed before.
 ///
 /// At most 1,048,577 bytes of the file and 67,108,865 of the text are read and held in memory. The text is only read
-/// for a parse by an accepted file.
+/// for a parse by an accepted file whose lists of rules have known names.
 pub fn run_tool<G: Source, T: Source, W: Sink>(
     alloc: Global,
     grammar: &mut G,
@@ -129,9 +131,10 @@ fn line_of<G: Source, T: Source>(
             all,
             rows,
             no_tree,
+            nodes,
         } => {
             let form = TreeForm::from_options(*rows, *no_tree);
-            parse_reply(alloc, &file, text, options, *all, form)
+            parse_reply(alloc, &file, text, options, *all, form, *nodes)
         }
     }
 }
@@ -144,22 +147,50 @@ fn parse_reply<T: Source>(
     options: &ParseOptions<'_>,
     all: bool,
     form: TreeForm,
+    nodes: Nodes<'_>,
 ) -> Result<Line, ReadFault>
     requires short { length file.now ≤ max_offset }
     requires works { T.failed text.old ≡ false }
     ensures answer { (bytes : List ℕ)
-        → IsTextOf (ParseTask (start_named options.now) options.now.memo options.now.steps all form) file.now
-        (T.left text.old) bytes → IfOk result (λ line.
-        IsPrinted (ParseTask (start_named options.now) options.now.memo options.now.steps all form) file.now bytes
-        (line_bytes line) (status_code line.status)) }
+        → IsTextOf (ParseTask (start_named options.now) options.now.memo options.now.steps all form
+        (nodes_asked nodes.entry)) file.now (T.left text.old) bytes → IfOk result (λ line.
+        IsPrinted (ParseTask (start_named options.now) options.now.memo options.now.steps all form
+        (nodes_asked nodes.entry)) file.now bytes (line_bytes line) (status_code line.status)) }
     ensures held { ConsumesAtMost (T.left text.old) (T.left text.new) (max_text_bytes + 1) }
     ensures refused { ((rules : List Rule) → ¬ Accepts file.now rules) → text.new ≡ text.old }
     ensures device { IsErrOf result ReadFault.Device ↔ (T.failed text.new ≡ true) }
     ensures never { T.never_fails text.old ≡ true → T.failed text.new ≡ false }
 {
     match load(alloc, file)? {
-        Loaded::Accepted(parser) => read_and_parse(alloc, &parser, text, options, all, form),
+        Loaded::Accepted(parser) => reply_by_parser(
+            alloc, &parser, text, options, all, form, nodes,
+        ),
         Loaded::Refused(line) => Ok(line),
+    }
+}
+
+// The line that reports an unknown name, or else reads a text and returns the line of its parse.
+fn reply_by_parser<T: Source>(
+    alloc: Global,
+    parser: &Parser,
+    text: &mut T,
+    options: &ParseOptions<'_>,
+    all: bool,
+    form: TreeForm,
+    nodes: Nodes<'_>,
+) -> Result<Line, ReadFault>
+    requires { T.failed text.old ≡ false }
+    ensures answer { (file : List ℕ) → Accepts file (parser_rules parser.now) → IfOk result (λ line.
+        IfSome (T.left text.old) (λ bytes. IsPrinted (ParseTask (start_named options.now) options.now.memo
+        options.now.steps all form (nodes_asked nodes.entry)) file bytes (line_bytes line)
+        (status_code line.status))) }
+    ensures held { ConsumesAtMost (T.left text.old) (T.left text.new) (max_text_bytes + 1) }
+    ensures device { IsErrOf result ReadFault.Device ↔ (T.failed text.new ≡ true) }
+    ensures never { T.never_fails text.old ≡ true → T.failed text.new ≡ false }
+{
+    match nodes.first_unknown(parser.grammar()) {
+        Some(name) => Ok(no_rule_line(alloc, name)?),
+        None => read_and_parse(alloc, parser, text, options, all, form, nodes),
     }
 }
 
@@ -171,16 +202,18 @@ fn read_and_parse<T: Source>(
     options: &ParseOptions<'_>,
     all: bool,
     form: TreeForm,
+    nodes: Nodes<'_>,
 ) -> Result<Line, ReadFault>
-    requires { T.failed text.old ≡ false }
+    requires works { T.failed text.old ≡ false }
+    requires known { first_unknown (parser_rules parser.now) (nodes_asked nodes) ≡ None }
     ensures answer { (file : List ℕ) → Accepts file (parser_rules parser.now) → IfOk result (λ line.
-        IfSome (T.left text.old) (λ bytes.
-        IsPrinted (ParseTask (start_named options.now) options.now.memo options.now.steps all form) file bytes
-        (line_bytes line) (status_code line.status))) }
+        IfSome (T.left text.old) (λ bytes. IsPrinted (ParseTask (start_named options.now) options.now.memo
+        options.now.steps all form (nodes_asked nodes.entry)) file bytes (line_bytes line)
+        (status_code line.status))) }
     ensures held { ConsumesAtMost (T.left text.old) (T.left text.new) (max_text_bytes + 1) }
     ensures device { IsErrOf result ReadFault.Device ↔ (T.failed text.new ≡ true) }
     ensures never { T.never_fails text.old ≡ true → T.failed text.new ≡ false }
 {
     let bytes = read_up_to(alloc, text, MAX_TEXT_BYTES + 1)?;
-    Ok(parse_line(alloc, parser, &bytes, options, all, form)?)
+    Ok(parse_line(alloc, parser, &bytes, options, all, form, nodes)?)
 }

@@ -1,10 +1,11 @@
-use Rattle.std.proofs.Common.{None, false, subst, arith}
+use Rattle.std.proofs.Common.{None, false, refl, subst, arith}
 use Rattle.std.proofs.lemmas.Result.{IfOk-weaker}
 use Rattle.peg_parser.specs.Parser.{parser_rules}
 use Rattle.peg_json.specs.Statuses.{status_code}
 use Rattle.peg_json.specs.declared.line.Line.{Line}
 use Rattle.peg_json.specs.declared.tree_form.TreeForm.TheVariants.{Nested}
 use Rattle.peg_tool.specs.Loaded.{IsLoadedFrom}
+use Rattle.peg_tool.specs.PrintedNodes.{AllNodes}
 use Rattle.peg_tool.specs.Replies.{IsPrintedJoined}
 use Rattle.peg_tool.specs.Task.{default_memo}
 use Rattle.peg_tool.proofs.RunLemmas.{split-shorter, parsed-printed}
@@ -28,7 +29,7 @@ returns-in-Accepted c =
       file,
       text,
       c.split.ensures,
-      parsed-printed file text rules None default_memo None false Nested (line_bytes line)
-          (status_code line.status) judged is,
+      parsed-printed file text rules None default_memo None false Nested AllNodes (line_bytes line)
+          (status_code line.status) judged refl is,
     ))
     (c.parse_line.ensures file)

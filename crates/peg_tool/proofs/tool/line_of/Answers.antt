@@ -6,7 +6,7 @@ use Rattle.peg_parser.specs.Accepts.{Accepts}
 use Rattle.peg_parser.specs.Parser.{start_named}
 use Rattle.peg_json.specs.Statuses.{status_code}
 use Rattle.peg_json.specs.declared.tree_form.TreeForm.{TreeForm}
-use Rattle.peg_tool.specs.Commands.{task_of}
+use Rattle.peg_tool.specs.Commands.{nodes_asked, task_of}
 use Rattle.peg_tool.specs.Replies.{IsPrinted}
 use Rattle.peg_tool.specs.Task.{ToolTask, TableTask, CheckTask, CodeTask, LintTask, ParseTask, IsTextOf}
 use Rattle.peg_tool.proofs.RunLemmas.{IsRightFor, line-held, reported-held, held-unaccepted}
@@ -94,9 +94,10 @@ returns-clause-answer g c =
     let start = start_named c.in-Parse.options in
     let memo = c.in-Parse.options.memo in
     let steps = c.in-Parse.options.steps in
-    let asked = ParseTask start memo steps c.in-Parse.all c.from_options-form.result in
+    let nodes = nodes_asked c.in-Parse.nodes in
+    let asked = ParseTask start memo steps c.in-Parse.all c.from_options-form.result nodes in
     let is : asked ≡ task =
-    ap (λ (form : TreeForm). ParseTask start memo steps c.in-Parse.all form) c.from_options-form.ensures
+    ap (λ (form : TreeForm). ParseTask start memo steps c.in-Parse.all form nodes) c.from_options-form.ensures
     ∙ sym (ap task_of c.in-Parse.is) in
     let right : (bytes : List ℕ) → IsTextOf task held.items text bytes
     → IfOk c.parse_reply.result (λ line. IsPrinted task held.items bytes (line_bytes line) (status_code line.status)) =

@@ -1,5 +1,6 @@
 use Rattle.std.proofs.Common.{subst}
 use Rattle.peg_parser.specs.Parser.{parser_rules, start_named}
+use Rattle.peg_tool.specs.Commands.{nodes_asked}
 use Rattle.peg_tool.specs.Loaded.{IsLoadedFrom}
 use Rattle.peg_tool.proofs.RunLemmas.{parsed-reported}
 use Rattle.peg_tool.proofs.tool.parse_reply.Goals as goal
@@ -7,10 +8,10 @@ use Rattle.peg_tool.proofs.tool.parse_reply.Goals as goal
 pub returns-in-Accepted-clause-answer : goal.returns-in-Accepted-clause-answer
 returns-in-Accepted-clause-answer g c bytes is =
     let judged = subst (IsLoadedFrom c.args.file.now) c.in-Accepted.is c.in_ok-parser.ensures in
-    parsed-reported c.read_and_parse.result c.args.file.now (g.T.Source.left c.args.text.now) bytes
+    parsed-reported c.reply_by_parser.result c.args.file.now (g.T.Source.left c.args.text.now) bytes
     (parser_rules c.in-Accepted.parser) (start_named c.args.options.now) c.args.options.now.memo
-    c.args.options.now.steps c.args.all c.args.form is judged
-    (c.read_and_parse.ensures.answer c.args.file.now judged)
+    c.args.options.now.steps c.args.all c.args.form (nodes_asked c.args.nodes) is judged
+    (c.reply_by_parser.ensures.answer c.args.file.now judged)
 
 pub returns-in-Accepted-clause-refused : goal.returns-in-Accepted-clause-refused
 returns-in-Accepted-clause-refused g c none =
