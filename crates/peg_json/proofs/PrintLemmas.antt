@@ -9,7 +9,8 @@ use Rattle.peg_tree.specs.declared.outcome.Parsed.{Parsed}
 use Rattle.peg_tree.specs.declared.outcome.Parsed.TheVariants as parsed
 use Rattle.peg_json.specs.Lines.{IsLineOf, IsReply, line_bytes}
 use Rattle.peg_json.specs.Parses.{PrintsOutcome, extents_at, outcome_reply, result_reply, selected_outcome, selected_result}
-use Rattle.peg_json.specs.Reply.{Reply, printed, printed_line, status_of}
+use Rattle.peg_json.specs.Reply.{Reply, printed, printed_line, status_of, with_text}
+use Rattle.peg_json.specs.Reply as reply
 use Rattle.peg_json.specs.Statuses.{status_code}
 use Rattle.peg_json.specs.declared.line.Line.{Line}
 use Rattle.peg_json.specs.declared.status.Status.{Status}
@@ -21,6 +22,17 @@ pub text-reply : (line : Line) (file text : List ℕ) (status : Status) (reply :
     → IsReply file reply (line_bytes line) (status_code line.status)
 text-reply line file text status reply is ends of_reply same =
     (is ∙ ap (λ (l : List ℕ). l ++ 10 ∷ []) of_reply, ap status_code ends ∙ same)
+
+-- a reply with text has the exit status of the same reply without
+pub with_text-status : (text : List ℕ) (reply : Reply) → status_of (with_text text reply) ≡ status_of reply
+with_text-status text (reply.Refused cause) = refl
+with_text-status text (reply.Tabled names cans) = refl
+with_text-status text (reply.Accepted rules) = refl
+with_text-status text (reply.Coded code entries) = refl
+with_text-status text (reply.Linted names warnings) = refl
+with_text-status text (reply.Failed far expected) = refl
+with_text-status text (reply.Matched partial form end far expected names tree) = refl
+with_text-status text (reply.MatchedWithText partial form end far expected names tree other) = refl
 
 -- the line of a reply is the line of some reply of its kind
 pub reply-kind : (result : Result Line AllocError) (file : List ℕ) (Kind : Reply → Type 0) (reply : Reply)

@@ -9,9 +9,9 @@ use Rattle.serde_json.proofs.FreeTexts.{text_of_value}
 use Rattle.std.specs.declared.alloc.AllocError.{AllocError}
 use Rattle.std.specs.declared.alloc.Global.{Global}
 use Rattle.peg_bytes.specs.Extent.{Extent}
-use Rattle.peg_tree.specs.Events.{SendsNested}
+use Rattle.peg_tree.specs.Events.{SendsNested, SendsNestedText}
 use Rattle.peg_tree.specs.Trees.{Trees}
-use Rattle.peg_json.specs.Reply.{matched_data, tree_data}
+use Rattle.peg_json.specs.Reply.{matched_data, text_tree_data, tree_data}
 use Rattle.peg_json.specs.Sending.{SendsMatch}
 
 -- a match serializes its object, if its last member serializes a value
@@ -95,3 +95,40 @@ nested-text (Ok text) partial end far expected key names tree whole tells =
     match-text (Ok text) partial end far expected key (tree_data names tree) whole
     (tells.0, nested_match-sent partial end far expected key names tree (Some []) tells.0 tells.1, tells.2)
 nested-text (Err why) partial end far expected key names tree whole tells = tt
+
+nested_text-sent : (names : List (List ℕ)) (text : List ℕ) (tree : Trees) (old new : Log)
+    → SendsNestedText names text tree old new → SendsValue (text_tree_data names text tree) old new
+nested_text-sent names text tree old new s =
+    subst (λ d. SendsValue d old new) (sym (ap (λ (l : List Data). slice_index_or l 0 null) s.1)) s.2
+
+nested_text_match-sent : (partial : Bool) (end far : ℕ) (expected : List Extent) (key : List ℕ) (names : List (List ℕ))
+    (text : List ℕ) (tree : Trees) (old new : Log)
+    → SendsMatch partial end far expected key (SendsNestedText names text tree) old new
+    → SendsMatch partial end far expected key (SendsValue (text_tree_data names text tree)) old new
+nested_text_match-sent partial end far expected key names text tree old new s = (
+  s.0,
+  s.1,
+  s.2,
+  s.3,
+  s.4,
+  s.5,
+  s.6,
+  s.7,
+  s.8,
+  s.9,
+  s.10,
+  (s.11.0, s.11.1, nested_text-sent names text tree s.11.0 s.5 s.11.2),
+  s.12,
+)
+
+-- the same of a nested tree with text
+pub nested_text-text : (result : Result (String Global) AllocError) (partial : Bool) (end far : ℕ) (expected : List Extent)
+    (key : List ℕ) (names : List (List ℕ)) (text : List ℕ) (tree : Trees)
+    → has_float (matched_data partial end far expected (member key (text_tree_data names text tree) no_members)) ≡ false
+    → TellsBy (SendsMatch partial end far expected key (SendsNestedText names text tree)) result
+    → IfOk result (λ json. string_bytes json
+    ≡ compact_text (matched_data partial end far expected (member key (text_tree_data names text tree) no_members)))
+nested_text-text (Ok json) partial end far expected key names text tree whole tells =
+    match-text (Ok json) partial end far expected key (text_tree_data names text tree) whole
+    (tells.0, nested_text_match-sent partial end far expected key names text tree (Some []) tells.0 tells.1, tells.2)
+nested_text-text (Err why) partial end far expected key names text tree whole tells = tt

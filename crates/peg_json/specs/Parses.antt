@@ -17,7 +17,7 @@ use Rattle.peg_parser.specs.Cause.{NoSuchStart, StepLimit, TooDeep, TextTooLong}
 use Rattle.peg_parser.specs.StepLimits.{TakesMoreSteps}
 use Rattle.peg_grammar.specs.Limits.{max_text_bytes}
 use Rattle.peg_semantics.specs.Starts.{Recognizes, start_name}
-use Rattle.peg_json.specs.Reply.{Reply, Refused, Failed, Matched}
+use Rattle.peg_json.specs.Reply.{Reply, Refused, Failed, Matched, with_text}
 use Rattle.peg_json.specs.declared.tree_form.TreeForm.{TreeForm}
 use Rattle.peg_json.specs.declared.tree_form.TreeForm.TheVariants.{Nested}
 
@@ -90,3 +90,8 @@ abbrev pub PrintsOutcome : List Rule → Outcome → (len : ℕ) → (all : Bool
 PrintsOutcome rules outcome len all form reply =
     ((form ≡ Nested) × IsDeep outcome.result × (reply ≡ Refused TooDeep))
     ⊎ ((form ≡ Nested → ¬ IsDeep outcome.result) × (reply ≡ outcome_reply rules outcome len all form))
+
+-- the same reply, with the bytes of the text where the tree is printed
+abbrev pub PrintsOutcomeWithText : List Rule → Outcome → (text : List ℕ) → (all : Bool) → TreeForm → Reply → Type 0
+PrintsOutcomeWithText rules outcome text all form reply =
+    (plain : Reply) × PrintsOutcome rules outcome (length text) all form plain × (reply ≡ with_text text plain)

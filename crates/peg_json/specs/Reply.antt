@@ -9,6 +9,7 @@ use Rattle.peg_bytes.specs.Extent.{Extent}
 use Rattle.peg_semantics.specs.AbstractOutcomes.{Can}
 use Rattle.peg_tree.specs.Trees.{Trees}
 use Rattle.peg_tree.specs.Json.{nested_data, rows_data}
+use Rattle.peg_tree.specs.TextJson.{nested_text_data, rows_text_data}
 use Rattle.peg_code.specs.Instructions.{Instruction}
 use Rattle.peg_lint.specs.declared.warning.Warning.{Warning}
 use Rattle.peg_parser.specs.Cause.{Cause}
@@ -24,7 +25,7 @@ use Rattle.peg_json.specs.declared.tree_form.TreeForm.TheVariants.{Nested, Rows,
 --
 -- A failure is the furthest failure: a position of the text, and the spans of terminals in the grammar file. A match
 -- adds to these its end, the rules' names and the tree with its printed form. `partial` is a match shorter than asked
--- for.
+-- for. A match with text is one whose tree is printed with the bytes of each node without children.
 pub data Reply : Type 0 where
   Refused : Cause → Reply
   Tabled : (names : List (List ℕ)) → (cans : List Can) → Reply
@@ -34,6 +35,21 @@ pub data Reply : Type 0 where
   Failed : (far : ℕ) → (expected : List Extent) → Reply
   Matched : (partial : Bool) → TreeForm → (end far : ℕ) → (expected : List Extent) → (names : List (List ℕ))
       → (tree : Trees) → Reply
+  MatchedWithText : (partial : Bool) → TreeForm → (end far : ℕ) → (expected : List Extent)
+      → (names : List (List ℕ)) → (tree : Trees) → (text : List ℕ) → Reply
+
+-- the reply with the bytes of a text where a tree is printed
+abbrev pub with_text : (text : List ℕ) → Reply → Reply
+with_text text (Refused cause) = Refused cause
+with_text text (Tabled names cans) = Tabled names cans
+with_text text (Accepted rules) = Accepted rules
+with_text text (Coded code entries) = Coded code entries
+with_text text (Linted names warnings) = Linted names warnings
+with_text text (Failed far expected) = Failed far expected
+with_text text (Matched partial form end far expected names tree) =
+    MatchedWithText partial form end far expected names tree text
+with_text text (MatchedWithText partial form end far expected names tree other) =
+    MatchedWithText partial form end far expected names tree other
 
 -- the exit status of a reply: 0 success, 1 a failed or partial match or warnings, otherwise that of the refusal
 abbrev pub status_of : Reply → ℕ
@@ -44,6 +60,7 @@ status_of (Coded code entries) = 0
 status_of (Linted names warnings) = status_of_warnings warnings
 status_of (Failed far expected) = 1
 status_of (Matched partial form end far expected names tree) = if partial then 1 else 0
+status_of (MatchedWithText partial form end far expected names tree text) = if partial then 1 else 0
 
 -- the JSON of the span of a terminal
 abbrev pub extent_data : Extent → Data
@@ -65,6 +82,18 @@ abbrev pub tree_member : TreeForm → List (List ℕ) → Trees → Members
 tree_member Rows names tree = member (codes "rows") (tree_rows_data names tree) no_members
 tree_member Nested names tree = member (codes "tree") (tree_data names tree) no_members
 tree_member NoTree names tree = no_members
+
+-- the same with the bytes of a text at each node without children
+abbrev pub text_tree_data : List (List ℕ) → (text : List ℕ) → Trees → Data
+text_tree_data names text tree = slice_index_or (nested_text_data names text tree) 0 null
+
+abbrev pub text_rows_data : List (List ℕ) → (text : List ℕ) → Trees → Data
+text_rows_data names text tree = array (items_of (rows_text_data names text 1 tree))
+
+abbrev pub text_tree_member : TreeForm → List (List ℕ) → (text : List ℕ) → Trees → Members
+text_tree_member Rows names text tree = member (codes "rows") (text_rows_data names text tree) no_members
+text_tree_member Nested names text tree = member (codes "tree") (text_tree_data names text tree) no_members
+text_tree_member NoTree names text tree = no_members
 
 -- the `result` of a match: of all that was asked for, or of a part of it
 abbrev pub match_word : (partial : Bool) → List ℕ
@@ -99,6 +128,8 @@ printed file (Linted names warnings) = lint_data file names warnings
 printed file (Failed far expected) = failed_data far expected
 printed file (Matched partial form end far expected names tree) =
     matched_data partial end far expected (tree_member form names tree)
+printed file (MatchedWithText partial form end far expected names tree text) =
+    matched_data partial end far expected (text_tree_member form names text tree)
 
 -- the printed line, with its line end, byte 10
 abbrev pub printed_line : (file : List ℕ) → Reply → List ℕ

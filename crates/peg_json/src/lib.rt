@@ -17,6 +17,7 @@ mod row_lines;
 mod status;
 mod table_text;
 mod text;
+mod text_lines;
 mod tree_form;
 
 pub use answer_text::answer_json;
@@ -31,4 +32,5 @@ pub use lint_text::lint_json;
 pub use refusal_text::refusal_json;
 pub use status::Status;
 pub use table_text::table_json;
+pub use text_lines::answer_line_with_text;
 pub use tree_form::TreeForm;
