@@ -106,6 +106,10 @@ printf '(((x)));' > "$folder/text"
 run 6 /dev/null parse c.peg "$folder/text"
 run 0 /dev/null parse c.peg "$folder/text" --rows
 run 0 /dev/null parse c.peg "$folder/text" --no-tree
+run 0 /dev/null parse c.peg "$folder/text" --show Name,Number
+run 3 /dev/null parse c.peg "$folder/text" --hide Name,Nothing
+grep -q '"name":"Nothing","refusal":"NoSuchRule"' "$folder/line" || fault "no refusal of a name that no rule has"
+run 3 /dev/null parse c.peg "$folder/text" --show Name --hide Number
 
 # Without a memo each parenthesis doubles the steps of a choice whose alternatives begin alike.
 run 6 /dev/null parse cookbook/memo.peg cookbook/memo/match_nested.txt --rows --steps 10000 --memo 0

@@ -1,6 +1,6 @@
 //! Runs of the command `code`: listings worked by hand from the layout, and grammars whose code is too large.
 use peg_fixtures::nest_rule;
-use peg_tool::{Command, Device, ParseOptions, run_tool};
+use peg_tool::{Command, Device, Nodes, ParseOptions, run_tool};
 use std::alloc::{AllocError, Global};
 use std::process::Abort;
 use std::test::Fail;
@@ -99,6 +99,7 @@ fn code_that_is_too_large_is_refused(rt: HostRuntime) -> Result<(), Fail> {
         all: false,
         rows: false,
         no_tree: false,
+        nodes: Nodes::All,
     };
     let large = pluses(alloc, 25)?;
     for command in [Command::Check, Command::Code, parse] {

@@ -2,8 +2,8 @@
 ghost use Rattle.std.specs.Prelude.{◌≡◌, Some, true, false};
 
 use peg_tool::{
-    Command, Device, DeviceFault, Exit, OpenFault, Opener, ParseOptions, ProgramFault, Request,
-    Source, Status, Words, read_args, read_words, run_program, run_words,
+    Command, Device, DeviceFault, Exit, Nodes, OpenFault, Opener, ParseOptions, ProgramFault,
+    Request, Source, Status, Words, read_args, read_words, run_program, run_words,
 };
 use std::alloc::Global;
 use std::io::{Error, ErrorKind};
@@ -329,6 +329,7 @@ fn a_request_has_the_options_of_the_arguments(rt: HostRuntime) -> Result<(), Fai
         all: true,
         rows: false,
         no_tree: false,
+        nodes: Nodes::All,
     };
     let request = Request::OnFiles {
         g: "g",
@@ -336,6 +337,38 @@ fn a_request_has_the_options_of_the_arguments(rt: HostRuntime) -> Result<(), Fai
         command,
     };
     assert!(rt; Request::from_words(&words) == request);
+    Ok(())
+}
+
+// The request of a parse of t by g that prints these nodes.
+fn request_of(nodes: Nodes<'_>) -> Request<'_> {
+    let options = ParseOptions {
+        start: None,
+        memo: 4096,
+        steps: None,
+    };
+    let command = Command::Parse {
+        options,
+        all: false,
+        rows: false,
+        no_tree: false,
+        nodes,
+    };
+    Request::OnFiles {
+        g: "g",
+        t: "t",
+        command,
+    }
+}
+
+#[test]
+fn a_request_has_the_listed_rules(rt: HostRuntime) -> Result<(), Fail> {
+    let words = words_of(rt.alloc(), "parse g t --show A,B")?;
+    assert!(rt; Request::from_words(&words) == request_of(Nodes::Show("A,B")));
+    let words = words_of(rt.alloc(), "parse g t --hide A,B")?;
+    assert!(rt; Request::from_words(&words) == request_of(Nodes::Hide("A,B")));
+    let words = words_of(rt.alloc(), "parse g t")?;
+    assert!(rt; Request::from_words(&words) == request_of(Nodes::All));
     Ok(())
 }
 

@@ -3,7 +3,7 @@
 use peg_fixtures::grammars::{ARITHMETIC, CSV, INI, JSON, NOTATION, URI};
 use peg_fixtures::nest_rule;
 use peg_notation::{NotationFault, figure, figure_text, read};
-use peg_tool::{Command, Device, FigureFault, ParseOptions, read_by_figure, run_tool};
+use peg_tool::{Command, Device, FigureFault, Nodes, ParseOptions, read_by_figure, run_tool};
 use std::alloc::{AllocError, Global};
 use std::process::Abort;
 use std::test::Fail;
@@ -74,6 +74,7 @@ fn the_figure_is_accepted_and_parses_itself(rt: HostRuntime) -> Result<(), Fail>
         all: true,
         rows: true,
         no_tree: false,
+        nodes: Nodes::All,
     };
     let line = printed_by(&rt, rt.alloc(), &parse)?;
     assert!(rt; line.starts_with("{\"consumed\":1086,\"expected\":[["));

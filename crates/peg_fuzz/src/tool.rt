@@ -3,7 +3,7 @@ use crate::lines::Asked;
 use peg_machine::{NoWatch, RunFault, run as run_program};
 use peg_memo::NoMemo;
 use peg_parser::{ParseOptions, Parser};
-use peg_tool::{Command, Device, run_tool};
+use peg_tool::{Command, Device, Nodes, run_tool};
 use std::alloc::{AllocError, Global};
 
 // The most steps of a parse without a memo; parses with more aren't compared.
@@ -49,6 +49,7 @@ pub(crate) fn parse_with(memo: u32, asked: Asked) -> Command<'static> {
         all,
         rows,
         no_tree: false,
+        nodes: Nodes::All,
     }
 }
 

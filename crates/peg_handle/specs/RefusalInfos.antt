@@ -3,8 +3,8 @@ use Rattle.std.specs.Prelude.{ℕ, List, Option, None, Some}
 use Rattle.peg_bytes.specs.Extent.{Extent, between}
 use Rattle.peg_bytes.specs.Place.{line_at, column_at}
 use Rattle.peg_parser.specs.Cause.{Cause, FileTooLong, Syntax, TooNested, BadCount, NoRule, Duplicate, Undefined}
-use Rattle.peg_parser.specs.Cause.{TooManyParts, EmptyLoop, LeftRecursion, CodeTooLarge, NoSuchStart, StepLimit}
-use Rattle.peg_parser.specs.Cause.{TooDeep, TextTooLong}
+use Rattle.peg_parser.specs.Cause.{TooManyParts, EmptyLoop, LeftRecursion, CodeTooLarge, NoSuchStart, NoSuchRule}
+use Rattle.peg_parser.specs.Cause.{StepLimit, TooDeep, TextTooLong}
 use Rattle.peg_handle.specs.declared.refusal_info.RefusalInfo.{RefusalInfo}
 
 -- the number of a kind of cause; only the first eleven reject a grammar file
@@ -24,6 +24,7 @@ cause_kind (NoSuchStart name) = 12
 cause_kind StepLimit = 13
 cause_kind TooDeep = 14
 cause_kind TextTooLong = 15
+cause_kind (NoSuchRule name) = 16
 
 -- the place of a cause in the grammar file, if it has one; an offset is an empty span
 abbrev pub cause_place : Cause → Option Extent

@@ -9,8 +9,8 @@ use peg_check::table_of;
 use peg_core::desugar;
 use peg_json::{
     Fault, TreeForm, accepted_line, answer_json, answer_line, code_json, code_line, lint_json,
-    lint_line, long_text_line, no_start_line, refusal_json, refused_line, step_limit_line,
-    table_json, table_line,
+    lint_line, long_text_line, no_rule_line, no_start_line, refusal_json, refused_line,
+    step_limit_line, table_json, table_line,
 };
 use peg_lint::{Selection, file_warnings, warnings};
 use peg_parser::{ParseOptions, Parser, Refusal, grammar_of};
@@ -18,7 +18,7 @@ use peg_tree::JsonFault;
 use std::alloc::{AllocError, Global};
 use std::io;
 
-pub(crate) const WORDS: [&str; 26] = [
+pub(crate) const WORDS: [&str; 27] = [
     "answer_json",
     "answer_json_rows",
     "answer_json_deep",
@@ -42,6 +42,7 @@ pub(crate) const WORDS: [&str; 26] = [
     "lint_json",
     "lint_line",
     "accepted_line",
+    "no_rule_line",
     "no_start_line",
     "long_text_line",
     "step_limit_line",
@@ -70,6 +71,7 @@ pub(crate) fn call(rt: &impl Print, alloc: Global, word: &str) -> Option<io::Res
         "lint_json" => lint_text(rt, alloc),
         "lint_line" => lint_of_line(rt, alloc),
         "accepted_line" => accepted(rt, alloc),
+        "no_rule_line" => no_rule(rt, alloc),
         "no_start_line" => no_start(rt, alloc),
         "long_text_line" => long_text(rt, alloc),
         "step_limit_line" => step_limit(rt, alloc),
@@ -239,6 +241,13 @@ fn lint_of_line(rt: &impl Print, alloc: Global) -> io::Result<()> {
 fn accepted(rt: &impl Print, alloc: Global) -> io::Result<()> {
     let borrowed = Borrowed::of(alloc, &())?;
     let answer = accepted_line(alloc, 29);
+    report(rt, &borrowed, answer.is_err(), &answer)
+}
+
+fn no_rule(rt: &impl Print, alloc: Global) -> io::Result<()> {
+    let name = "T\"\n";
+    let borrowed = Borrowed::of(alloc, &name)?;
+    let answer = no_rule_line(alloc, name);
     report(rt, &borrowed, answer.is_err(), &answer)
 }
 

@@ -5,13 +5,13 @@ use crate::ending::{Borrowed, report};
 use crate::inputs::{CHAIN, COUNTS, CYCLE, LOOP, MISSING, OPEN, PREFIX, TWICE, WARNED};
 use peg_io::{ReadFault, read_up_to};
 use peg_tool::{
-    Command, Device, OpenFault, Opener, ParseOptions, ProgramFault, Selection, Words, WordsFault,
-    read_args, read_words, run_joined, run_tool, run_words,
+    Command, Device, Nodes, OpenFault, Opener, ParseOptions, ProgramFault, Selection, Words,
+    WordsFault, read_args, read_words, run_joined, run_tool, run_words,
 };
 use std::alloc::{AllocError, Global};
 use std::io;
 
-pub(crate) const WORDS: [&str; 26] = [
+pub(crate) const WORDS: [&str; 29] = [
     "read_up_to",
     "read_words",
     "read_words_help",
@@ -33,6 +33,9 @@ pub(crate) const WORDS: [&str; 26] = [
     "tool_parse",
     "tool_parse_rows",
     "tool_parse_no_start",
+    "tool_parse_show",
+    "tool_parse_hide",
+    "tool_parse_no_rule",
     "joined",
     "joined_open",
     "words_joined",
@@ -102,10 +105,13 @@ fn linted(rt: &impl Print, alloc: Global, word: &str) -> Option<io::Result<()>> 
 }
 
 fn parsed(rt: &impl Print, alloc: Global, word: &str) -> Option<io::Result<()>> {
-    let (start, rows) = match word {
-        "tool_parse" => (None, false),
-        "tool_parse_rows" => (Some("A"), true),
-        "tool_parse_no_start" => (Some("B"), false),
+    let (start, rows, nodes) = match word {
+        "tool_parse" => (None, false, Nodes::All),
+        "tool_parse_rows" => (Some("A"), true, Nodes::All),
+        "tool_parse_no_start" => (Some("B"), false, Nodes::All),
+        "tool_parse_show" => (None, true, Nodes::Show("A")),
+        "tool_parse_hide" => (None, false, Nodes::Hide("A")),
+        "tool_parse_no_rule" => (None, false, Nodes::Show("A,B")),
         _ => return None,
     };
     let (memo, steps) = (7, None);
@@ -116,6 +122,7 @@ fn parsed(rt: &impl Print, alloc: Global, word: &str) -> Option<io::Result<()>> 
         all,
         rows,
         no_tree: false,
+        nodes,
     };
     Some(tool(rt, alloc, PREFIX, b"((((a)y)y)y)y", &command))
 }

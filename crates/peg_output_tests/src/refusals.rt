@@ -40,6 +40,15 @@ fn a_start_that_is_no_rule_has_its_name(rt: HostRuntime) -> Result<(), Fail> {
 }
 
 #[test]
+fn a_listed_name_that_no_rule_has_is_named(rt: HostRuntime) -> Result<(), Fail> {
+    let text = refusal_json(rt.alloc(), &Fault::NoSuchRule("T"), b"", &[])?;
+    is(&rt, &text, "{\"name\":\"T\",\"refusal\":\"NoSuchRule\"}");
+    let text = refusal_json(rt.alloc(), &Fault::NoSuchRule(""), b"", &[])?;
+    is(&rt, &text, "{\"name\":\"\",\"refusal\":\"NoSuchRule\"}");
+    Ok(())
+}
+
+#[test]
 fn limits_of_a_file_are_named(rt: HostRuntime) -> Result<(), Fail> {
     let alloc = rt.alloc();
     let refusal = Refusal::Notation(NotationFault::FileTooLong);

@@ -105,6 +105,8 @@ fn parse(
         all,
         rows,
         no_tree: false,
+        show: None,
+        hide: None,
     })
 }
 
@@ -120,8 +122,54 @@ fn a_parse_may_leave_the_tree_out(rt: HostRuntime) -> Result<(), Fail> {
         all: true,
         rows: false,
         no_tree: true,
+        show: None,
+        hide: None,
     };
     asks(&rt, alloc, "parse g t --all --no-tree", &expected)
+}
+
+// A parse of the text t by the grammar file g that prints some nodes.
+fn parse_some(
+    alloc: Global,
+    rows: bool,
+    show: Option<&str>,
+    hide: Option<&str>,
+) -> Result<Words, AllocError> {
+    let show = match show {
+        Some(list) => Some(String::from_str(alloc, list)?),
+        None => None,
+    };
+    let hide = match hide {
+        Some(list) => Some(String::from_str(alloc, list)?),
+        None => None,
+    };
+    Ok(Words::Parse {
+        g: String::from_str(alloc, "g")?,
+        t: String::from_str(alloc, "t")?,
+        start: None,
+        memo: 4096,
+        steps: None,
+        all: false,
+        rows,
+        no_tree: false,
+        show,
+        hide,
+    })
+}
+
+#[test]
+fn a_parse_may_list_rules(rt: HostRuntime) -> Result<(), Fail> {
+    let alloc = rt.alloc();
+    let cases = [
+        ("parse g t --show A,B", false, Some("A,B"), None),
+        ("parse --show=A g t --rows", true, Some("A"), None),
+        ("parse g t --hide C", false, None, Some("C")),
+        ("parse g --hide -a,,b t", false, None, Some("-a,,b")),
+    ];
+    for (line, rows, show, hide) in cases {
+        asks(&rt, alloc, line, &parse_some(alloc, rows, show, hide)?)?;
+    }
+    Ok(())
 }
 
 #[test]
@@ -219,6 +267,9 @@ fn help_is_printed(rt: HostRuntime) -> Result<(), Fail> {
         ("parse --help", "[default: 4096]"),
         ("parse --help", "--steps <N>"),
         ("parse --help", "--no-tree"),
+        ("parse --help", "--show <LIST>"),
+        ("parse --help", "--hide <LIST>"),
+        ("parse --help", "NoSuchRule, status 3"),
         ("parse --help", "--memo 0 never uses it"),
         (
             "parse --help",
@@ -284,6 +335,17 @@ fn what_is_no_command_line_is_refused(rt: HostRuntime) -> Result<(), Fail> {
             "'--steps <N>' cannot be used multiple times",
         ),
         ("parse g t --rows --no-tree", "cannot be used with"),
+        ("parse g t --show A --hide B", "cannot be used with"),
+        ("parse g t --hide B --show A", "cannot be used with"),
+        (
+            "parse g t --show",
+            "a value is required for '--show <LIST>'",
+        ),
+        (
+            "parse g t --hide A --hide B",
+            "'--hide <LIST>' cannot be used multiple times",
+        ),
+        ("lint g --show A", "unexpected argument '--show'"),
     ];
     for (line, part) in cases {
         refused(&rt, rt.alloc(), line, part)?;

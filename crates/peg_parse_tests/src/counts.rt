@@ -1,6 +1,6 @@
 //! Counted repetition by whole runs of the tool, against lines worked by hand.
 use crate::formats::{parse, replies};
-use peg_tool::{Command, ParseOptions, Parser};
+use peg_tool::{Command, Nodes, ParseOptions, Parser};
 use std::alloc::{AllocError, Global};
 use std::process::Abort;
 use std::test::Fail;
@@ -20,6 +20,7 @@ fn in_steps(memo: u32, steps: u64) -> Command<'static> {
         all,
         rows,
         no_tree: false,
+        nodes: Nodes::All,
     }
 }
 

@@ -1,6 +1,6 @@
 //! The examples of the document on formats, byte for byte.
 use peg_fixtures::nest_rule;
-use peg_tool::{Command, Device, ParseOptions, run_tool};
+use peg_tool::{Command, Device, Nodes, ParseOptions, run_tool};
 use std::alloc::Global;
 use std::process::Abort;
 use std::test::Fail;
@@ -40,6 +40,7 @@ pub(crate) fn parse(start: Option<&str>, all: bool, rows: bool) -> Command<'_> {
         all,
         rows,
         no_tree: false,
+        nodes: Nodes::All,
     }
 }
 
@@ -78,6 +79,7 @@ fn without_tree(all: bool) -> Command<'static> {
         all,
         rows: false,
         no_tree: true,
+        nodes: Nodes::All,
     }
 }
 
@@ -277,6 +279,7 @@ fn refused_parses_tell_why(rt: HostRuntime) -> Result<(), Fail> {
         all: false,
         rows: false,
         no_tree: false,
+        nodes: Nodes::All,
     };
     replies(
         &rt,

@@ -6,6 +6,8 @@ mod counts;
 #[cfg(test)]
 mod formats;
 #[cfg(test)]
+mod nodes;
+#[cfg(test)]
 mod parse;
 #[cfg(test)]
 mod parser;

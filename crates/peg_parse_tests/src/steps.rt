@@ -4,7 +4,7 @@ ghost use Rattle.std.specs.Prelude.{◌<◌};
 use crate::formats::replies;
 use peg_fixtures::grammars::TWICE;
 use peg_fixtures::nest;
-use peg_tool::{Command, ParseFault, ParseOptions, Parser};
+use peg_tool::{Command, Nodes, ParseFault, ParseOptions, Parser};
 use std::alloc::Global;
 use std::process::Abort;
 use std::test::Fail;
@@ -34,6 +34,7 @@ fn answers(
         all,
         rows,
         no_tree: false,
+        nodes: Nodes::All,
     };
     replies(rt, alloc, &command, file, text, line, 0)
 }
@@ -53,6 +54,7 @@ fn gives_up(
         all,
         rows,
         no_tree: false,
+        nodes: Nodes::All,
     };
     let line = "{\"refusal\":\"StepLimit\"}";
     replies(rt, alloc, &command, file, text, line, 6)
@@ -190,6 +192,7 @@ fn a_start_that_is_no_rule_comes_before_the_steps(rt: HostRuntime) -> Result<(),
         all: false,
         rows: false,
         no_tree: false,
+        nodes: Nodes::All,
     };
     let line = "{\"name\":\"T\",\"refusal\":\"NoSuchStart\"}";
     replies(&rt, rt.alloc(), &command, TWICE, b"(a)y", line, 3)

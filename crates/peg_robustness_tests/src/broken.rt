@@ -3,7 +3,8 @@ ghost use Rattle.std.specs.Prelude.{◌≡◌, None, false};
 
 use peg_fixtures::grammars::COUNTS;
 use peg_tool::{
-    Command, Device, DeviceFault, ParseOptions, Sink, Source, ToolFault, run_joined, run_tool,
+    Command, Device, DeviceFault, Nodes, ParseOptions, Sink, Source, ToolFault, run_joined,
+    run_tool,
 };
 use std::alloc::Global;
 use std::io;
@@ -236,6 +237,7 @@ fn parse(
             all,
             rows,
             no_tree: false,
+            nodes: Nodes::All,
         },
     )
 }

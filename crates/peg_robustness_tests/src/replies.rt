@@ -1,5 +1,5 @@
 //! The tool's replies to a file and a text in memory.
-use peg_tool::{Command, Device, ParseOptions, run_tool};
+use peg_tool::{Command, Device, Nodes, ParseOptions, run_tool};
 use std::alloc::Global;
 use std::process::Abort;
 use std::test::Fail;
@@ -59,6 +59,7 @@ pub(crate) fn parses(
         all: false,
         rows: true,
         no_tree: false,
+        nodes: Nodes::All,
     };
     replies(rt, alloc, &command, file, text, wanted)
 }

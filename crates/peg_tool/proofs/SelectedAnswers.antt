@@ -1,5 +1,5 @@
 -- Answers with the nodes that are printed.
-use Rattle.std.proofs.Common.{◌≡◌, ℕ, ◌<◌, Bool, true, false, if◌then◌else◌, List, length, IfOk, Result, Ok, Err, All, refl, sym, ap, ◌∙◌, subst}
+use Rattle.std.proofs.Common.{◌≡◌, ℕ, ◌<◌, Bool, true, if◌then◌else◌, List, length, refl, sym, ap, ◌∙◌}
 use Rattle.peg_semantics.specs.Rules.{Rule}
 use Rattle.peg_tree.specs.Nodes.{RulesBelow}
 use Rattle.peg_tree.specs.Selected.{selected, selected_among}
