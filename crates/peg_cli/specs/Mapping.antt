@@ -27,7 +27,7 @@ IsCommandOf name found (Lint g start proved) = (name ≡ codes "lint")
     × (first_value found (codes "G") ≡ Some (string_bytes g))
     × (first_value found (codes "start") ≡ option_map string_bytes start)
     × IsFlagAt found (codes "proved") proved
-IsCommandOf name found (Parse g t start memo steps all rows no_tree show hide) = (name ≡ codes "parse")
+IsCommandOf name found (Parse g t start memo steps all rows no_tree show hide text) = (name ≡ codes "parse")
     × (first_value found (codes "G") ≡ Some (string_bytes g))
     × (first_value found (codes "T") ≡ Some (string_bytes t))
     × (first_value found (codes "start") ≡ option_map string_bytes start)
@@ -38,3 +38,4 @@ IsCommandOf name found (Parse g t start memo steps all rows no_tree show hide) =
     × IsFlagAt found (codes "no-tree") no_tree
     × (first_value found (codes "show") ≡ option_map string_bytes show)
     × (first_value found (codes "hide") ≡ option_map string_bytes hide)
+    × IsFlagAt found (codes "text") text

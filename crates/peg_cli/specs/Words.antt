@@ -12,5 +12,5 @@ IsAsking (Table g) = Unit {0}
 IsAsking (Check g) = Unit {0}
 IsAsking (Code g) = Unit {0}
 IsAsking (Lint g start proved) = Unit {0}
-IsAsking (Parse g t start memo steps all rows no_tree show hide) =
+IsAsking (Parse g t start memo steps all rows no_tree show hide text) =
     (memo ≤ 1000000) × IfSome steps (λ max_steps. (1 ≤ max_steps) × (max_steps ≤ 1000000000000))

@@ -74,7 +74,8 @@ fn parse<'a>(alloc: Global) -> Result<Command<'a>, AllocError> {
         .arg(rows_flag(alloc))?
         .arg(no_tree_flag(alloc)?)?
         .arg(show_option(alloc))?
-        .arg(hide_option(alloc)?)
+        .arg(hide_option(alloc)?)?
+        .arg(text_flag(alloc)?)
 }
 
 fn grammar_file<'a>(alloc: Global) -> Arg<'a> {
@@ -153,6 +154,14 @@ fn hide_option<'a>(alloc: Global) -> Result<Arg<'a>, AllocError> {
         .allow_hyphen_values(true)
         .help("Prints the root and all nodes but those of these rules, as Name,Name")
         .conflicts_with("show")
+}
+
+fn text_flag<'a>(alloc: Global) -> Result<Arg<'a>, AllocError> {
+    Arg::new(alloc, "text")
+        .long("text")
+        .action(ArgAction::SetTrue)
+        .help("Adds the bytes of each printed node without printed children")
+        .conflicts_with("no-tree")
 }
 
 fn proved_flag<'a>(alloc: Global) -> Arg<'a> {
@@ -242,6 +251,10 @@ needs --rows or --no-tree.
 --show and --hide list rules, with commas between their names. The children of an
 omitted node take its place, and levels are counted without it. A name that no
 rule has is refused: NoSuchRule, status 3.
+
+With --text, a printed node without printed children has its bytes: the member
+\"text\", or a fifth item of a row. Bytes that aren't UTF-8 are \"bytes\", as
+hexadecimal digits.
 
 A memo stores the results of rules at positions, so that a rule that is tried
 again at a position isn't run again. It never changes the answer, only time and

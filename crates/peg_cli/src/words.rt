@@ -54,6 +54,7 @@ pub enum Words {
         no_tree: bool,
         show: Option<String>,
         hide: Option<String>,
+        text: bool,
     },
 }
 
@@ -154,6 +155,7 @@ fn parse_of(alloc: Global, matches: &ArgMatches<'_>) -> Result<Words, WordsFault
         no_tree: matches.get_flag("no-tree"),
         show: optional_text(alloc, matches, "show")?,
         hide: optional_text(alloc, matches, "hide")?,
+        text: matches.get_flag("text"),
     })
 }
 

@@ -99,6 +99,7 @@ fn code_that_is_too_large_is_refused(rt: HostRuntime) -> Result<(), Fail> {
         all: false,
         rows: false,
         no_tree: false,
+        text: false,
         nodes: Nodes::All,
     };
     let large = pluses(alloc, 25)?;

@@ -329,6 +329,7 @@ fn a_request_has_the_options_of_the_arguments(rt: HostRuntime) -> Result<(), Fai
         all: true,
         rows: false,
         no_tree: false,
+        text: false,
         nodes: Nodes::All,
     };
     let request = Request::OnFiles {
@@ -352,6 +353,7 @@ fn request_of(nodes: Nodes<'_>) -> Request<'_> {
         all: false,
         rows: false,
         no_tree: false,
+        text: false,
         nodes,
     };
     Request::OnFiles {

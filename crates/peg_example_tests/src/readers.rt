@@ -74,6 +74,7 @@ fn the_figure_is_accepted_and_parses_itself(rt: HostRuntime) -> Result<(), Fail>
         all: true,
         rows: true,
         no_tree: false,
+        text: false,
         nodes: Nodes::All,
     };
     let line = printed_by(&rt, rt.alloc(), &parse)?;

@@ -49,6 +49,7 @@ pub(crate) fn parse_with(memo: u32, asked: Asked) -> Command<'static> {
         all,
         rows,
         no_tree: false,
+        text: false,
         nodes: Nodes::All,
     }
 }

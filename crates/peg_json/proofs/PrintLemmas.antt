@@ -1,19 +1,23 @@
 -- Lines of replies.
-use Rattle.std.proofs.Common.{◌≡◌, ℕ, Bool, List, [], ◌∷◌, ◌++◌, IfOk, Result, Ok, Err, inl, inr, refl, ap, ◌∙◌}
+use Rattle.std.proofs.Common.{◌≡◌, ℕ, Bool, List, [], ◌∷◌, ◌++◌, IfOk, Result, Ok, Err, inl, inr, length, refl, sym, ap, ◌∙◌}
 use Rattle.std.specs.declared.alloc.AllocError.{AllocError}
 use Rattle.serde_json.specs.Written.{compact_text}
 use Rattle.peg_semantics.specs.Rules.{Rule}
 use Rattle.peg_bytes.specs.Extent.{Extent}
+use Rattle.peg_parser.specs.Cause.{Cause}
+use Rattle.peg_tree.specs.Trees.{Trees}
 use Rattle.peg_tree.specs.declared.outcome.Outcome.{Outcome}
 use Rattle.peg_tree.specs.declared.outcome.Parsed.{Parsed}
 use Rattle.peg_tree.specs.declared.outcome.Parsed.TheVariants as parsed
 use Rattle.peg_json.specs.Lines.{IsLineOf, IsReply, line_bytes}
-use Rattle.peg_json.specs.Parses.{PrintsOutcome, extents_at, outcome_reply, result_reply, selected_outcome, selected_result}
-use Rattle.peg_json.specs.Reply.{Reply, printed, printed_line, status_of, with_text}
+use Rattle.peg_json.specs.Parses.{PrintsOutcome, PrintsOutcomeAsked, extents_at, outcome_reply, result_reply, selected_outcome, selected_result}
+use Rattle.peg_json.specs.Reply.{Reply, Refused, matched_data, printed, printed_line, status_of, text_tree_member}
+use Rattle.peg_json.specs.Reply.{with_text, with_text_if}
 use Rattle.peg_json.specs.Reply as reply
 use Rattle.peg_json.specs.Statuses.{status_code}
 use Rattle.peg_json.specs.declared.line.Line.{Line}
 use Rattle.peg_json.specs.declared.status.Status.{Status}
+use Rattle.peg_json.specs.declared.tree_form.TreeForm.{TreeForm}
 use Rattle.peg_json.specs.declared.tree_form.TreeForm.TheVariants.{Nested, Rows, NoTree}
 
 -- the line and the exit status of one reply
@@ -31,7 +35,9 @@ with_text-status text (reply.Accepted rules) = refl
 with_text-status text (reply.Coded code entries) = refl
 with_text-status text (reply.Linted names warnings) = refl
 with_text-status text (reply.Failed far expected) = refl
-with_text-status text (reply.Matched partial form end far expected names tree) = refl
+with_text-status text (reply.Matched partial Nested end far expected names tree) = refl
+with_text-status text (reply.Matched partial Rows end far expected names tree) = refl
+with_text-status text (reply.Matched partial NoTree end far expected names tree) = refl
 with_text-status text (reply.MatchedWithText partial form end far expected names tree other) = refl
 
 -- the line of a reply is the line of some reply of its kind
@@ -101,3 +107,40 @@ unprinted-line (Ok line) file rules outcome len all shown is = by is.0 is.1 is.2
               ∙ unprinted-text file rules len all shown outcome.far spans outcome.result,
           ends ∙ ap status_of shallow.1 ∙ unprinted-status rules len all shown outcome.far spans outcome.result,
         )
+
+-- ---- replies with text
+
+-- a refusal has no tree
+pub refused-with_text : (asked : Bool) (text : List ℕ) (cause : Cause) → Refused cause ≡ with_text_if asked text (Refused cause)
+refused-with_text false text cause = refl
+refused-with_text true text cause = refl
+
+-- nor has a result whose tree isn't printed
+unprinted-with_text : (asked : Bool) (text : List ℕ) (rules : List Rule) (len : ℕ) (all : Bool) (far : ℕ)
+    (expected : List Extent) (result : Parsed)
+    → result_reply rules len all NoTree far expected result
+    ≡ with_text_if asked text (result_reply rules len all NoTree far expected result)
+unprinted-with_text false text rules len all far expected result = refl
+unprinted-with_text true text rules len all far expected parsed.Failed = refl
+unprinted-with_text true text rules len all far expected (parsed.Matched end tree) = refl
+
+pub unprinted-asked : (asked : Bool) (text : List ℕ) (rules : List Rule) (outcome : Outcome) (all : Bool) (reply : Reply)
+    → PrintsOutcome rules outcome (length text) all NoTree reply
+    → PrintsOutcomeAsked rules outcome text all NoTree asked reply
+unprinted-asked asked text rules outcome all reply (inl deep) = absurd (let bad : NoTree ≡ Nested = deep.0 in cc)
+unprinted-asked asked text rules outcome all reply (inr shallow) = (
+  reply,
+  inr shallow,
+  shallow.1 ∙ unprinted-with_text asked text rules (length text) all outcome.far
+      (extents_at rules outcome.expected.items) outcome.result
+      ∙ sym (ap (with_text_if asked text) shallow.1),
+)
+
+-- the JSON of a match with text, by its form
+pub match-printed : (file text : List ℕ) (partial : Bool) (form : TreeForm) (end far : ℕ) (expected : List Extent)
+    (names : List (List ℕ)) (tree : Trees)
+    → matched_data partial end far expected (text_tree_member form names text tree)
+    ≡ printed file (with_text text (reply.Matched partial form end far expected names tree))
+match-printed file text partial Nested end far expected names tree = refl
+match-printed file text partial Rows end far expected names tree = refl
+match-printed file text partial NoTree end far expected names tree = refl

@@ -17,7 +17,7 @@ use Rattle.peg_parser.specs.Cause.{NoSuchStart, StepLimit, TooDeep, TextTooLong}
 use Rattle.peg_parser.specs.StepLimits.{TakesMoreSteps}
 use Rattle.peg_grammar.specs.Limits.{max_text_bytes}
 use Rattle.peg_semantics.specs.Starts.{Recognizes, start_name}
-use Rattle.peg_json.specs.Reply.{Reply, Refused, Failed, Matched, with_text}
+use Rattle.peg_json.specs.Reply.{Reply, Refused, Failed, Matched, with_text, with_text_if}
 use Rattle.peg_json.specs.declared.tree_form.TreeForm.{TreeForm}
 use Rattle.peg_json.specs.declared.tree_form.TreeForm.TheVariants.{Nested}
 
@@ -95,3 +95,17 @@ PrintsOutcome rules outcome len all form reply =
 abbrev pub PrintsOutcomeWithText : List Rule → Outcome → (text : List ℕ) → (all : Bool) → TreeForm → Reply → Type 0
 PrintsOutcomeWithText rules outcome text all form reply =
     (plain : Reply) × PrintsOutcome rules outcome (length text) all form plain × (reply ≡ with_text text plain)
+
+-- the reply to an outcome, with these bytes if they are asked for
+abbrev pub PrintsOutcomeAsked : List Rule → Outcome → (text : List ℕ) → (all : Bool) → TreeForm → (with_bytes : Bool)
+    → Reply → Type 0
+PrintsOutcomeAsked rules outcome text all form with_bytes reply =
+    (plain : Reply) × PrintsOutcome rules outcome (length text) all form plain
+    × (reply ≡ with_text_if with_bytes text plain)
+
+-- the reply to a parse, with the bytes of the text where the tree is printed, if they are asked for
+abbrev pub ParsesToAsked : List Rule → (text : List ℕ) → (start : Option (List ℕ)) → (memo : ℕ) → (steps : Option ℕ)
+    → (all : Bool) → TreeForm → (shown : ℕ → Bool) → (with_bytes : Bool) → Reply → Type 0
+ParsesToAsked rules text start memo steps all form shown with_bytes reply =
+    (plain : Reply) × ParsesTo rules text start memo steps all form shown plain
+    × (reply ≡ with_text_if with_bytes text plain)

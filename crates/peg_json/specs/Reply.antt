@@ -38,6 +38,15 @@ pub data Reply : Type 0 where
   MatchedWithText : (partial : Bool) → TreeForm → (end far : ℕ) → (expected : List Extent)
       → (names : List (List ℕ)) → (tree : Trees) → (text : List ℕ) → Reply
 
+-- a match with the bytes of a text, if its tree is printed
+abbrev pub match_with_text : (text : List ℕ) → (partial : Bool) → TreeForm → (end far : ℕ) → (expected : List Extent)
+    → (names : List (List ℕ)) → (tree : Trees) → Reply
+match_with_text text partial Nested end far expected names tree =
+    MatchedWithText partial Nested end far expected names tree text
+match_with_text text partial Rows end far expected names tree =
+    MatchedWithText partial Rows end far expected names tree text
+match_with_text text partial NoTree end far expected names tree = Matched partial NoTree end far expected names tree
+
 -- the reply with the bytes of a text where a tree is printed
 abbrev pub with_text : (text : List ℕ) → Reply → Reply
 with_text text (Refused cause) = Refused cause
@@ -47,9 +56,14 @@ with_text text (Coded code entries) = Coded code entries
 with_text text (Linted names warnings) = Linted names warnings
 with_text text (Failed far expected) = Failed far expected
 with_text text (Matched partial form end far expected names tree) =
-    MatchedWithText partial form end far expected names tree text
+    match_with_text text partial form end far expected names tree
 with_text text (MatchedWithText partial form end far expected names tree other) =
     MatchedWithText partial form end far expected names tree other
+
+-- the same if the bytes are asked for
+abbrev pub with_text_if : (asked : Bool) → (text : List ℕ) → Reply → Reply
+with_text_if false text reply = reply
+with_text_if true text reply = with_text text reply
 
 -- the exit status of a reply: 0 success, 1 a failed or partial match or warnings, otherwise that of the refusal
 abbrev pub status_of : Reply → ℕ

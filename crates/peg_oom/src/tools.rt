@@ -122,6 +122,7 @@ fn parsed(rt: &impl Print, alloc: Global, word: &str) -> Option<io::Result<()>> 
         all,
         rows,
         no_tree: false,
+        text: false,
         nodes,
     };
     Some(tool(rt, alloc, PREFIX, b"((((a)y)y)y)y", &command))

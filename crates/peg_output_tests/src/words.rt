@@ -105,6 +105,7 @@ fn parse(
         all,
         rows,
         no_tree: false,
+        text: false,
         show: None,
         hide: None,
     })
@@ -122,6 +123,7 @@ fn a_parse_may_leave_the_tree_out(rt: HostRuntime) -> Result<(), Fail> {
         all: true,
         rows: false,
         no_tree: true,
+        text: false,
         show: None,
         hide: None,
     };
@@ -152,6 +154,7 @@ fn parse_some(
         all: false,
         rows,
         no_tree: false,
+        text: false,
         show,
         hide,
     })

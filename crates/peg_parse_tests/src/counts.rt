@@ -20,6 +20,7 @@ fn in_steps(memo: u32, steps: u64) -> Command<'static> {
         all,
         rows,
         no_tree: false,
+        text: false,
         nodes: Nodes::All,
     }
 }

@@ -40,6 +40,7 @@ pub(crate) fn parse(start: Option<&str>, all: bool, rows: bool) -> Command<'_> {
         all,
         rows,
         no_tree: false,
+        text: false,
         nodes: Nodes::All,
     }
 }
@@ -79,6 +80,7 @@ fn without_tree(all: bool) -> Command<'static> {
         all,
         rows: false,
         no_tree: true,
+        text: false,
         nodes: Nodes::All,
     }
 }
@@ -279,6 +281,7 @@ fn refused_parses_tell_why(rt: HostRuntime) -> Result<(), Fail> {
         all: false,
         rows: false,
         no_tree: false,
+        text: false,
         nodes: Nodes::All,
     };
     replies(

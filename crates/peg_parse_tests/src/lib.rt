@@ -13,3 +13,5 @@ mod parse;
 mod parser;
 #[cfg(test)]
 mod steps;
+#[cfg(test)]
+mod texts;

@@ -25,6 +25,7 @@ fn parse_from<'a>(
         all: false,
         rows,
         no_tree,
+        text: false,
         nodes,
     }
 }

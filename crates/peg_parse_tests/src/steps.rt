@@ -34,6 +34,7 @@ fn answers(
         all,
         rows,
         no_tree: false,
+        text: false,
         nodes: Nodes::All,
     };
     replies(rt, alloc, &command, file, text, line, 0)
@@ -54,6 +55,7 @@ fn gives_up(
         all,
         rows,
         no_tree: false,
+        text: false,
         nodes: Nodes::All,
     };
     let line = "{\"refusal\":\"StepLimit\"}";
@@ -192,6 +194,7 @@ fn a_start_that_is_no_rule_comes_before_the_steps(rt: HostRuntime) -> Result<(),
         all: false,
         rows: false,
         no_tree: false,
+        text: false,
         nodes: Nodes::All,
     };
     let line = "{\"name\":\"T\",\"refusal\":\"NoSuchStart\"}";

@@ -237,6 +237,7 @@ fn parse(
             all,
             rows,
             no_tree: false,
+            text: false,
             nodes: Nodes::All,
         },
     )

@@ -59,6 +59,7 @@ pub(crate) fn parses(
         all: false,
         rows: true,
         no_tree: false,
+        text: false,
         nodes: Nodes::All,
     };
     replies(rt, alloc, &command, file, text, wanted)

@@ -11,33 +11,38 @@ use Rattle.peg_machine.specs.declared.answer.Answer.{Answer}
 use Rattle.peg_parser.specs.declared.parser.ParseFault.{ParseFault}
 use Rattle.peg_parser.specs.declared.parser.ParseFault.TheVariants as fault
 use Rattle.peg_json.specs.Lines.{IsLineOf, IsReply, line_bytes}
-use Rattle.peg_json.specs.Parses.{ParsesTo, text_too_long}
+use Rattle.peg_json.specs.Parses.{ParsesToAsked, text_too_long}
 use Rattle.peg_json.specs.Reply.{Refused}
 use Rattle.peg_json.specs.Statuses.{status_code}
 use Rattle.peg_json.specs.declared.tree_form.TreeForm.{TreeForm}
 use Rattle.peg_json.specs.declared.line.Line.{Line}
 use Rattle.peg_json.proofs.ParseLemmas.{missing-parses}
-use Rattle.peg_json.proofs.PrintLemmas.{reply-kind}
+use Rattle.peg_json.proofs.PrintLemmas.{refused-with_text, reply-kind}
 
 -- the line for a start that no rule has; a text that is too long is reported first
 pub no_start-line : (result : Result Line AllocError) (file : List ℕ) (rules : List Rule) (text : List ℕ)
     (start : Option (List ℕ)) (memo : ℕ) (steps : Option ℕ) (all : Bool) (form : TreeForm) (shown : ℕ → Bool)
-    (name : List ℕ) → start ≡ Some name
+    (with_bytes : Bool) (name : List ℕ) → start ≡ Some name
     → start_name rules start ≡ None
     → (max_text_bytes < length text → IfOk result (λ line.
     IsReply file (Refused TextTooLong) (line_bytes line) (status_code line.status)))
     → (length text ≤ max_text_bytes → IfOk result (λ line.
     IsReply file (Refused (NoSuchStart name)) (line_bytes line) (status_code line.status)))
     → IfOk result (λ line.
-    IsLineOf file (ParsesTo rules text start memo steps all form shown) (line_bytes line) (status_code line.status))
-no_start-line result file rules text start memo steps all form shown name named none long missing =
+    IsLineOf file (ParsesToAsked rules text start memo steps all form shown with_bytes) (line_bytes line)
+    (status_code line.status))
+no_start-line result file rules text start memo steps all form shown with_bytes name named none long missing =
     elim (cases_lt max_text_bytes (length text)) [
       | inl over ↦
-          reply-kind result file (ParsesTo rules text start memo steps all form shown) (Refused TextTooLong) (long over)
-          (text_too_long over)
+          reply-kind result file (ParsesToAsked rules text start memo steps all form shown with_bytes) (Refused TextTooLong)
+          (long over) (Refused TextTooLong, text_too_long over, refused-with_text with_bytes text TextTooLong)
       | inr within ↦
-          reply-kind result file (ParsesTo rules text start memo steps all form shown) (Refused (NoSuchStart name))
-          (missing within) (missing-parses rules text start memo steps all form shown name within named none)
+          reply-kind result file (ParsesToAsked rules text start memo steps all form shown with_bytes)
+          (Refused (NoSuchStart name)) (missing within) (
+            Refused (NoSuchStart name),
+            missing-parses rules text start memo steps all form shown name within named none,
+            refused-with_text with_bytes text (NoSuchStart name),
+          )
     ]
 
 -- the name that was given

@@ -38,7 +38,7 @@ takes_any TableTask file left bytes other = tt
 takes_any CheckTask file left bytes other = tt
 takes_any CodeTask file left bytes other = tt
 takes_any (LintTask start selection) file left bytes other = tt
-takes_any (ParseTask start memo steps all form nodes) file left bytes other = absurd (other tt)
+takes_any (ParseTask start memo steps all form nodes with_bytes) file left bytes other = absurd (other tt)
 
 pub takes_left : (task : ToolTask) (file : List ℕ) (left : Option (List ℕ)) (bytes : List ℕ) → left ≡ Some bytes
     → IsTextOf task file left bytes
@@ -46,7 +46,7 @@ takes_left TableTask file left bytes is = tt
 takes_left CheckTask file left bytes is = tt
 takes_left CodeTask file left bytes is = tt
 takes_left (LintTask start selection) file left bytes is = tt
-takes_left (ParseTask start memo steps all form nodes) file left bytes is = λ rules accepts. is
+takes_left (ParseTask start memo steps all form nodes with_bytes) file left bytes is = λ rules accepts. is
 
 -- a command on an opened file is a result of the program, for each text of the task
 pub opened-outcome : (task : ToolTask) (held left text old new : Option (List ℕ)) (ended : Result ℕ CommandFault)
@@ -134,7 +134,7 @@ reads_none (Table g) = λ parse. parse
 reads_none (Check g) = λ parse. parse
 reads_none (Code g) = λ parse. parse
 reads_none (Lint g start proved) = λ parse. parse
-reads_none (Parse g t start memo steps all rows no_tree show hide) = tt
+reads_none (Parse g t start memo steps all rows no_tree show hide text) = tt
 
 pub one_file-reads_none : (words : Words) (request : ToolRequest) (task : ToolTask) (g : List ℕ)
     → request ≡ requested words → request ≡ FileRequest task g → ¬ IsParse task

@@ -14,7 +14,7 @@ use Rattle.peg_parser.specs.Refusals.{IsNoGrammar, IsIllFormed, code_too_large, 
 use Rattle.peg_parser.specs.Refusals.{a_name_missing, too_many_parts, empty_loop, left_recursion}
 use Rattle.peg_grammar.specs.Limits.{max_text_bytes}
 use Rattle.peg_json.specs.Lines.{IsLineOf, IsReply, line_bytes}
-use Rattle.peg_json.specs.Parses.{ParsesTo, text_too_long, no_such_start, too_many_steps, failed, too_many_levels}
+use Rattle.peg_json.specs.Parses.{ParsesToAsked, text_too_long, no_such_start, too_many_steps, failed, too_many_levels}
 use Rattle.peg_json.specs.Parses.{matched}
 use Rattle.peg_json.specs.Reply.{Reply, Refused, printed_line, status_of}
 use Rattle.peg_json.specs.Statuses.{status_code}
@@ -168,38 +168,38 @@ right-held IsRight max_steps front (Some input) (Some rest) held line status con
 
 -- the line of a parse by an accepted file is that of its task
 pub parsed-printed : (file text : List ℕ) (rules : List Rule) (start : Option (List ℕ)) (memo : ℕ) (steps : Option ℕ)
-    (all : Bool) (form : TreeForm) (nodes : PrintedNodes) (line : List ℕ) (status : ℕ) → Accepts file rules
+    (all : Bool) (form : TreeForm) (nodes : PrintedNodes) (with_bytes : Bool) (line : List ℕ) (status : ℕ) → Accepts file rules
     → first_unknown rules nodes ≡ None
-    → IsLineOf file (ParsesTo rules text start memo steps all form (shown_by rules nodes)) line status
-    → IsPrinted (ParseTask start memo steps all form nodes) file text line status
-parsed-printed file text rules start memo steps all form nodes line status accepts known is =
+    → IsLineOf file (ParsesToAsked rules text start memo steps all form (shown_by rules nodes) with_bytes) line status
+    → IsPrinted (ParseTask start memo steps all form nodes with_bytes) file text line status
+parsed-printed file text rules start memo steps all form nodes with_bytes line status accepts known is =
     (is.0, parsed accepts known is.1, is.2, is.3)
 
 -- the line of an unknown name is that of its task, whatever the text
 pub unknown-reported : (line : Line) (file : List ℕ) (left : Option (List ℕ)) (rules : List Rule)
-    (start : Option (List ℕ)) (memo : ℕ) (steps : Option ℕ) (all : Bool) (form : TreeForm) (nodes : PrintedNodes)
+    (start : Option (List ℕ)) (memo : ℕ) (steps : Option ℕ) (all : Bool) (form : TreeForm) (nodes : PrintedNodes) (with_bytes : Bool)
     (name : List ℕ) → Accepts file rules → first_unknown rules nodes ≡ Some name
     → IsReply file (Refused (NoSuchRule name)) (line_bytes line) (status_code line.status)
     → IfSome left (λ text.
-    IsPrinted (ParseTask start memo steps all form nodes) file text (line_bytes line) (status_code line.status))
-unknown-reported line file None rules start memo steps all form nodes name accepts first is = tt
-unknown-reported line file (Some text) rules start memo steps all form nodes name accepts first is =
+    IsPrinted (ParseTask start memo steps all form nodes with_bytes) file text (line_bytes line) (status_code line.status))
+unknown-reported line file None rules start memo steps all form nodes with_bytes name accepts first is = tt
+unknown-reported line file (Some text) rules start memo steps all form nodes with_bytes name accepts first is =
     (Refused (NoSuchRule name), no_such_rule name accepts first, is.0, is.1)
 
 -- the reply for the text that was read is the reply for the text
 pub parsed-reported : (result : Result Line ReadFault) (file : List ℕ) (left : Option (List ℕ)) (bytes : List ℕ)
-    (rules : List Rule) (start : Option (List ℕ)) (memo : ℕ) (steps : Option ℕ) (all : Bool) (form : TreeForm) (nodes : PrintedNodes)
-    → IsTextOf (ParseTask start memo steps all form nodes) file left bytes
+    (rules : List Rule) (start : Option (List ℕ)) (memo : ℕ) (steps : Option ℕ) (all : Bool) (form : TreeForm) (nodes : PrintedNodes) (with_bytes : Bool)
+    → IsTextOf (ParseTask start memo steps all form nodes with_bytes) file left bytes
     → Accepts file rules
     → IfOk result (λ line. IfSome left (λ text.
-    IsPrinted (ParseTask start memo steps all form nodes) file text (line_bytes line) (status_code line.status)))
+    IsPrinted (ParseTask start memo steps all form nodes with_bytes) file text (line_bytes line) (status_code line.status)))
     → IfOk result (λ line.
-    IsPrinted (ParseTask start memo steps all form nodes) file bytes (line_bytes line) (status_code line.status))
-parsed-reported (Ok line) file left bytes rules start memo steps all form nodes is accepts reported =
+    IsPrinted (ParseTask start memo steps all form nodes with_bytes) file bytes (line_bytes line) (status_code line.status))
+parsed-reported (Ok line) file left bytes rules start memo steps all form nodes with_bytes is accepts reported =
     subst (λ (text : Option (List ℕ)). IfSome text (λ read.
-    IsPrinted (ParseTask start memo steps all form nodes) file read (line_bytes line) (status_code line.status)))
+    IsPrinted (ParseTask start memo steps all form nodes with_bytes) file read (line_bytes line) (status_code line.status)))
     (is rules accepts) reported
-parsed-reported (Err why) file left bytes rules start memo steps all form nodes is accepts reported = tt
+parsed-reported (Err why) file left bytes rules start memo steps all form nodes with_bytes is accepts reported = tt
 
 -- the reply for a prefix over the limit of a text is the reply for the whole text
 pub IsPrinted-text_front : (task : ToolTask) (file front rest line : List ℕ) (status : ℕ)
@@ -249,7 +249,7 @@ any_text TableTask text file bytes long = tt
 any_text CheckTask text file bytes long = tt
 any_text CodeTask text file bytes long = tt
 any_text (LintTask start selection) text file bytes long = tt
-any_text (ParseTask start memo steps all form nodes) text file bytes long =
+any_text (ParseTask start memo steps all form nodes with_bytes) text file bytes long =
     λ rules accepts. absurd (omega (arith, long, accepts.read.within))
 
 pub IsRightFor-front : (task : ToolTask) (text : Option (List ℕ)) (front rest line : List ℕ) (status : ℕ)

@@ -24,8 +24,9 @@ task_of Table = TableTask
 task_of Check = CheckTask
 task_of Code = CodeTask
 task_of (Lint start selection) = LintTask (option_map (λ name. name.now) start) selection
-task_of (Parse options all rows no_tree nodes) =
+task_of (Parse options all rows no_tree nodes text) =
     ParseTask (start_named options) options.memo options.steps all (form_from_options rows no_tree) (nodes_asked nodes)
+    text
 
 -- what a request asks for
 abbrev pub request_of : Request → ToolRequest

@@ -11,7 +11,7 @@ use Rattle.peg_parser.specs.Cause.{Cause, NoSuchRule}
 use Rattle.peg_parser.specs.Refusals.{IsNoGrammar, IsIllFormed, HasTooMuchCode}
 use Rattle.peg_json.specs.Lines.{IsLineOf}
 use Rattle.peg_json.specs.Lints.{LintsTo}
-use Rattle.peg_json.specs.Parses.{ParsesTo}
+use Rattle.peg_json.specs.Parses.{ParsesToAsked}
 use Rattle.peg_json.specs.Reply.{Reply, Refused, Tabled, Accepted, Coded}
 use Rattle.peg_json.specs.declared.tree_form.TreeForm.{TreeForm}
 use Rattle.peg_io.specs.Split.{IsSplit}
@@ -35,13 +35,14 @@ pub data RepliesTo (file text : List ℕ) : ToolTask → Reply → Type 0 where
   linted : {rules : List Rule} {start : Option (List ℕ)} {selection : Selection} {reply : Reply} → Accepts file rules
       → LintsTo file rules start selection reply → RepliesTo file text (LintTask start selection) reply
   no_such_rule : {rules : List Rule} {start : Option (List ℕ)} {memo : ℕ} {steps : Option ℕ} {all : Bool}
-      {form : TreeForm} {nodes : PrintedNodes} (name : List ℕ) → Accepts file rules
+      {form : TreeForm} {nodes : PrintedNodes} {with_bytes : Bool} (name : List ℕ) → Accepts file rules
       → first_unknown rules nodes ≡ Some name
-      → RepliesTo file text (ParseTask start memo steps all form nodes) (Refused (NoSuchRule name))
+      → RepliesTo file text (ParseTask start memo steps all form nodes with_bytes) (Refused (NoSuchRule name))
   parsed : {rules : List Rule} {start : Option (List ℕ)} {memo : ℕ} {steps : Option ℕ} {all : Bool} {form : TreeForm}
-      {nodes : PrintedNodes} {reply : Reply} → Accepts file rules → first_unknown rules nodes ≡ None
-      → ParsesTo rules text start memo steps all form (shown_by rules nodes) reply
-      → RepliesTo file text (ParseTask start memo steps all form nodes) reply
+      {nodes : PrintedNodes} {with_bytes : Bool} {reply : Reply} → Accepts file rules
+      → first_unknown rules nodes ≡ None
+      → ParsesToAsked rules text start memo steps all form (shown_by rules nodes) with_bytes reply
+      → RepliesTo file text (ParseTask start memo steps all form nodes with_bytes) reply
 
 -- the line and the exit status of the reply to a task on a grammar file and a text
 abbrev pub IsPrinted : ToolTask → (file text : List ℕ) → (line : List ℕ) → (status : ℕ) → Type 0

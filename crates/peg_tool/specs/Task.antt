@@ -11,13 +11,14 @@ use Rattle.peg_tool.specs.PrintedNodes.{PrintedNodes, AllNodes}
 -- it, or parse a text. Warnings and a parse have a start rule (the first one without a name). `selection` says which
 -- warnings are printed. A parse has the capacity of its memo (0 for none) and an optional step limit. `all` asks for a
 -- match of the whole text, `form` is that of the printed tree, and `nodes` says which of its nodes are printed.
+-- `with_bytes` asks for the bytes of nodes without children.
 pub data ToolTask : Type 0 where
   TableTask : ToolTask
   CheckTask : ToolTask
   CodeTask : ToolTask
   LintTask : (start : Option (List ℕ)) → (selection : Selection) → ToolTask
   ParseTask : (start : Option (List ℕ)) → (memo : ℕ) → (steps : Option ℕ) → (all : Bool) → (form : TreeForm)
-      → (nodes : PrintedNodes) → ToolTask
+      → (nodes : PrintedNodes) → (with_bytes : Bool) → ToolTask
 
 -- the capacity of the memo where none is given
 abbrev pub default_memo : ℕ
@@ -25,7 +26,7 @@ default_memo = 4096
 
 -- a parse from the first rule without a step limit, where a prefix may match, with a nested tree of all nodes
 abbrev pub default_task : ToolTask
-default_task = ParseTask None default_memo None false Nested AllNodes
+default_task = ParseTask None default_memo None false Nested AllNodes false
 
 -- whether a task needs the grammar to be accepted
 abbrev pub Checks : ToolTask → Type 0
@@ -33,7 +34,7 @@ Checks TableTask = ⊥
 Checks CheckTask = Unit {0}
 Checks CodeTask = Unit {0}
 Checks (LintTask start selection) = Unit {0}
-Checks (ParseTask start memo steps all form nodes) = Unit {0}
+Checks (ParseTask start memo steps all form nodes with_bytes) = Unit {0}
 
 -- whether a task is a parse
 abbrev pub IsParse : ToolTask → Type 0
@@ -41,7 +42,7 @@ IsParse TableTask = ⊥
 IsParse CheckTask = ⊥
 IsParse CodeTask = ⊥
 IsParse (LintTask start selection) = ⊥
-IsParse (ParseTask start memo steps all form nodes) = Unit {0}
+IsParse (ParseTask start memo steps all form nodes with_bytes) = Unit {0}
 
 -- The text of a task on a grammar file: the unread bytes of its reader. Any text will do for a task that reads none
 -- and for a file that isn't accepted.
@@ -50,5 +51,5 @@ IsTextOf TableTask file left text = Unit {0}
 IsTextOf CheckTask file left text = Unit {0}
 IsTextOf CodeTask file left text = Unit {0}
 IsTextOf (LintTask start selection) file left text = Unit {0}
-IsTextOf (ParseTask start memo steps all form nodes) file left text =
+IsTextOf (ParseTask start memo steps all form nodes with_bytes) file left text =
     (rules : List Rule) → Accepts file rules → left ≡ Some text

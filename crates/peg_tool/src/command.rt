@@ -20,12 +20,14 @@ pub enum Command<'a> {
     },
     /// Parses a text by a rule of the grammar. With `all`, a match of less than the whole text is reported as partial.
     /// With `rows` the tree is a list of its nodes in preorder, with `no_tree` it isn't printed, otherwise it is nested
-    /// objects. `no_tree` prevails over `rows`. `nodes` says which nodes of the tree are printed.
+    /// objects. `no_tree` prevails over `rows`. `nodes` says which nodes of the tree are printed. With `text`, each printed
+    /// node without printed children has its bytes.
     Parse {
         options: ParseOptions<'a>,
         all: bool,
         rows: bool,
         no_tree: bool,
         nodes: Nodes<'a>,
+        text: bool,
     },
 }

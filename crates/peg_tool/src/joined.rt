@@ -97,6 +97,7 @@ fn line_for(alloc: Global, input: &[u8]) -> Result<Line, AllocError>
             false,
             TreeForm::Nested,
             Nodes::All,
+            false,
         ),
         Loaded::Refused(line) => Ok(line),
     }

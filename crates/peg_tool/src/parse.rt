@@ -4,7 +4,7 @@ ghost use Rattle.peg_parser.specs.Cause.{NoSuchStart, TextTooLong};
 ghost use Rattle.peg_parser.specs.Parser.{parser_rules, start_named};
 ghost use Rattle.peg_grammar.specs.Limits.{max_text_bytes};
 ghost use Rattle.peg_json.specs.Lines.{IsLineOf, IsReply, line_bytes};
-ghost use Rattle.peg_json.specs.Parses.{ParsesTo, PrintsOutcome, selected_outcome};
+ghost use Rattle.peg_json.specs.Parses.{ParsesToAsked, PrintsOutcomeAsked, selected_outcome};
 ghost use Rattle.peg_json.specs.Reply.{Refused};
 ghost use Rattle.peg_json.specs.Statuses.{status_code};
 ghost use Rattle.peg_parser.specs.Fits.{Fits};
@@ -14,7 +14,10 @@ ghost use Rattle.peg_tool.specs.PrintedNodes.{shown_by};
 use crate::nodes::Nodes;
 use crate::selection::select_nodes;
 use peg_grammar::MAX_TEXT_BYTES;
-use peg_json::{Line, TreeForm, answer_line, long_text_line, no_start_line, step_limit_line};
+use peg_json::{
+    Line, TreeForm, answer_line, answer_line_with_text, long_text_line, no_start_line,
+    step_limit_line,
+};
 use peg_parser::{Answer, ParseFault, ParseOptions, Parser};
 use peg_tree::laws::a_selected_tree_has_no_other_rules;
 use std::alloc::{AllocError, Global};
@@ -29,14 +32,15 @@ pub(crate) fn parse_line(
     all: bool,
     form: TreeForm,
     nodes: Nodes<'_>,
+    with_bytes: bool,
 ) -> Result<Line, AllocError>
     ensures { (file : List ℕ) → IfOk result (λ line. IsLineOf file
-        (ParsesTo (parser_rules parser.now) text.now (start_named options.now) options.now.memo options.now.steps all
-        form (shown_by (parser_rules parser.now) (nodes_asked nodes.entry)))
+        (ParsesToAsked (parser_rules parser.now) text.now (start_named options.now) options.now.memo options.now.steps
+        all form (shown_by (parser_rules parser.now) (nodes_asked nodes.entry)) with_bytes)
         (line_bytes line) (status_code line.status)) }
 {
     match parser.parse(alloc, text, options) {
-        Ok(answer) => nodes_line(alloc, parser, answer, text.len() as u32, all, form, nodes),
+        Ok(answer) => nodes_line(alloc, parser, answer, text, all, form, nodes, with_bytes),
         // A grammar has a first rule, so a start that is missing was given by name.
         Err(ParseFault::NoSuchStart) => no_start(alloc, text, options.start.unwrap_or("")),
         Err(ParseFault::TextTooLong) => long_text_line(alloc),
@@ -58,29 +62,53 @@ fn no_start(alloc: Global, text: &[u8], name: &str) -> Result<Line, AllocError>
     no_start_line(alloc, name)
 }
 
-// The line of an answer with these nodes of its tree.
+// The line of an answer with these nodes of its tree, and with the bytes of the text if they are asked for.
 fn nodes_line(
     alloc: Global,
     parser: &Parser,
     answer: Answer,
-    text_len: u32,
+    text: &[u8],
     all: bool,
     form: TreeForm,
     nodes: Nodes<'_>,
+    with_bytes: bool,
 ) -> Result<Line, AllocError>
-    requires { Fits (parser_rules parser.now) answer.outcome }
-    ensures { (file : List ℕ) → IfOk result (λ line. IsLineOf file (PrintsOutcome (parser_rules parser.now)
-        (selected_outcome (shown_by (parser_rules parser.now) (nodes_asked nodes.entry)) answer.outcome) text_len all
-        form)
+    requires fits { Fits (parser_rules parser.now) answer.outcome }
+    requires short { length text.now ≤ max_text_bytes }
+    ensures { (file : List ℕ) → IfOk result (λ line. IsLineOf file (PrintsOutcomeAsked (parser_rules parser.now)
+        (selected_outcome (shown_by (parser_rules parser.now) (nodes_asked nodes.entry)) answer.outcome) text.now all
+        form with_bytes)
         (line_bytes line) (status_code line.status)) }
 {
     match form {
         // No tree is printed, so none is made.
-        TreeForm::NoTree => answer_line(alloc, parser, answer, text_len, all, form),
+        TreeForm::NoTree => answer_line(alloc, parser, answer, text.len() as u32, all, form),
         TreeForm::Nested | TreeForm::Rows => {
             a_selected_tree_has_no_other_rules();
             let printed = select_nodes(alloc, parser.grammar(), answer, nodes)?;
-            answer_line(alloc, parser, printed, text_len, all, form)
+            tree_line(alloc, parser, printed, text, all, form, with_bytes)
         }
+    }
+}
+
+// The line of an answer with its tree, and with the bytes of the text if they are asked for.
+fn tree_line(
+    alloc: Global,
+    parser: &Parser,
+    answer: Answer,
+    text: &[u8],
+    all: bool,
+    form: TreeForm,
+    with_bytes: bool,
+) -> Result<Line, AllocError>
+    requires fits { Fits (parser_rules parser.now) answer.outcome }
+    requires short { length text.now ≤ max_text_bytes }
+    ensures { (file : List ℕ) → IfOk result (λ line. IsLineOf file (PrintsOutcomeAsked (parser_rules parser.now)
+        answer.outcome text.now all form with_bytes) (line_bytes line) (status_code line.status)) }
+{
+    if with_bytes {
+        answer_line_with_text(alloc, parser, &answer, text, all, form)
+    } else {
+        answer_line(alloc, parser, answer, text.len() as u32, all, form)
     }
 }

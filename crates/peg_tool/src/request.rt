@@ -70,11 +70,12 @@ impl<'a> Request<'a> {
                 no_tree,
                 show,
                 hide,
+                text,
             } => {
-                let (all, rows, no_tree) = (*all, *rows, *no_tree);
+                let (all, rows, no_tree, text) = (*all, *rows, *no_tree, *text);
                 let nodes = Nodes::from_options(show.as_deref(), hide.as_deref());
                 let from = start.as_deref();
-                let command = parse_command(from, *memo, *steps, all, rows, no_tree, nodes);
+                let command = parse_command(from, *memo, *steps, all, rows, no_tree, nodes, text);
                 Request::OnFiles { g, t, command }
             }
         }
@@ -90,9 +91,10 @@ fn parse_command<'a>(
     rows: bool,
     no_tree: bool,
     nodes: Nodes<'a>,
+    text: bool,
 ) -> Command<'a>
     ensures { task_of result ≡ ParseTask (option_map (λ name. name.now) start.entry) memo steps all
-        (form_from_options rows no_tree) (nodes_asked nodes.entry) }
+        (form_from_options rows no_tree) (nodes_asked nodes.entry) text }
 {
     let options = ParseOptions { start, memo, steps };
     Command::Parse {
@@ -101,5 +103,6 @@ fn parse_command<'a>(
         rows,
         no_tree,
         nodes,
+        text,
     }
 }

@@ -132,9 +132,10 @@ fn line_of<G: Source, T: Source>(
             rows,
             no_tree,
             nodes,
+            text: with_bytes,
         } => {
             let form = TreeForm::from_options(*rows, *no_tree);
-            parse_reply(alloc, &file, text, options, *all, form, *nodes)
+            parse_reply(alloc, &file, text, options, *all, form, *nodes, *with_bytes)
         }
     }
 }
@@ -148,14 +149,15 @@ fn parse_reply<T: Source>(
     all: bool,
     form: TreeForm,
     nodes: Nodes<'_>,
+    with_bytes: bool,
 ) -> Result<Line, ReadFault>
     requires short { length file.now ≤ max_offset }
     requires works { T.failed text.old ≡ false }
     ensures answer { (bytes : List ℕ)
         → IsTextOf (ParseTask (start_named options.now) options.now.memo options.now.steps all form
-        (nodes_asked nodes.entry)) file.now (T.left text.old) bytes → IfOk result (λ line.
+        (nodes_asked nodes.entry) with_bytes) file.now (T.left text.old) bytes → IfOk result (λ line.
         IsPrinted (ParseTask (start_named options.now) options.now.memo options.now.steps all form
-        (nodes_asked nodes.entry)) file.now bytes (line_bytes line) (status_code line.status)) }
+        (nodes_asked nodes.entry) with_bytes) file.now bytes (line_bytes line) (status_code line.status)) }
     ensures held { ConsumesAtMost (T.left text.old) (T.left text.new) (max_text_bytes + 1) }
     ensures refused { ((rules : List Rule) → ¬ Accepts file.now rules) → text.new ≡ text.old }
     ensures device { IsErrOf result ReadFault.Device ↔ (T.failed text.new ≡ true) }
@@ -163,7 +165,7 @@ fn parse_reply<T: Source>(
 {
     match load(alloc, file)? {
         Loaded::Accepted(parser) => reply_by_parser(
-            alloc, &parser, text, options, all, form, nodes,
+            alloc, &parser, text, options, all, form, nodes, with_bytes,
         ),
         Loaded::Refused(line) => Ok(line),
     }
@@ -178,11 +180,12 @@ fn reply_by_parser<T: Source>(
     all: bool,
     form: TreeForm,
     nodes: Nodes<'_>,
+    with_bytes: bool,
 ) -> Result<Line, ReadFault>
     requires { T.failed text.old ≡ false }
     ensures answer { (file : List ℕ) → Accepts file (parser_rules parser.now) → IfOk result (λ line.
         IfSome (T.left text.old) (λ bytes. IsPrinted (ParseTask (start_named options.now) options.now.memo
-        options.now.steps all form (nodes_asked nodes.entry)) file bytes (line_bytes line)
+        options.now.steps all form (nodes_asked nodes.entry) with_bytes) file bytes (line_bytes line)
         (status_code line.status))) }
     ensures held { ConsumesAtMost (T.left text.old) (T.left text.new) (max_text_bytes + 1) }
     ensures device { IsErrOf result ReadFault.Device ↔ (T.failed text.new ≡ true) }
@@ -190,7 +193,7 @@ fn reply_by_parser<T: Source>(
 {
     match nodes.first_unknown(parser.grammar()) {
         Some(name) => Ok(no_rule_line(alloc, name)?),
-        None => read_and_parse(alloc, parser, text, options, all, form, nodes),
+        None => read_and_parse(alloc, parser, text, options, all, form, nodes, with_bytes),
     }
 }
 
@@ -203,17 +206,18 @@ fn read_and_parse<T: Source>(
     all: bool,
     form: TreeForm,
     nodes: Nodes<'_>,
+    with_bytes: bool,
 ) -> Result<Line, ReadFault>
     requires works { T.failed text.old ≡ false }
     requires known { first_unknown (parser_rules parser.now) (nodes_asked nodes) ≡ None }
     ensures answer { (file : List ℕ) → Accepts file (parser_rules parser.now) → IfOk result (λ line.
         IfSome (T.left text.old) (λ bytes. IsPrinted (ParseTask (start_named options.now) options.now.memo
-        options.now.steps all form (nodes_asked nodes.entry)) file bytes (line_bytes line)
+        options.now.steps all form (nodes_asked nodes.entry) with_bytes) file bytes (line_bytes line)
         (status_code line.status))) }
     ensures held { ConsumesAtMost (T.left text.old) (T.left text.new) (max_text_bytes + 1) }
     ensures device { IsErrOf result ReadFault.Device ↔ (T.failed text.new ≡ true) }
     ensures never { T.never_fails text.old ≡ true → T.failed text.new ≡ false }
 {
     let bytes = read_up_to(alloc, text, MAX_TEXT_BYTES + 1)?;
-    Ok(parse_line(alloc, parser, &bytes, options, all, form, nodes)?)
+    Ok(parse_line(alloc, parser, &bytes, options, all, form, nodes, with_bytes)?)
 }

@@ -5,7 +5,7 @@ use Rattle.peg_json.specs.Parses.{IsDeep, PrintsOutcomeWithText, outcome_reply}
 use Rattle.peg_json.specs.Reply.{Refused, with_text}
 use Rattle.peg_tree.specs.declared.nested.JsonFault.{JsonFault}
 use Rattle.peg_json.specs.declared.tree_form.TreeForm.TheVariants.{Nested}
-use Rattle.peg_json.proofs.PrintLemmas.{text-reply, reply-kind}
+use Rattle.peg_json.proofs.PrintLemmas.{text-reply, reply-kind, with_text-status}
 use Rattle.peg_json.proofs.text_lines.answer_line_with_text.Goals as goal
 
 pub returns-in-Ok : goal.returns-in-Ok
@@ -19,7 +19,8 @@ returns-in-Ok c file =
     sym c.in-Ok.is ∙ c.json_with_text.ensures.too_deep.1 (nested, deep) in cc in
     reply-kind (Ok c.new.result) file (PrintsOutcomeWithText rules outcome text c.args.all c.args.form) (with_text text plain)
     (text-reply c.new.result file (string_bytes c.in-Ok.json) c.answer_status-status.result (with_text text plain) c.new.ensures.0
-    c.new.ensures.1 (c.in-Ok.ensures.json file) ?)
+    c.new.ensures.1 (c.in-Ok.ensures.json file)
+    (c.answer_status-status.ensures rules c.args.form ∙ sym (with_text-status text plain)))
     (plain, inr (shallow, refl), refl)
 
 pub returns-in-Err-TooDeep : goal.returns-in-Err-TooDeep

@@ -29,7 +29,7 @@ returns-in-Accepted c =
       file,
       text,
       c.split.ensures,
-      parsed-printed file text rules None default_memo None false Nested AllNodes (line_bytes line)
+      parsed-printed file text rules None default_memo None false Nested AllNodes false (line_bytes line)
           (status_code line.status) judged refl is,
     ))
     (c.parse_line.ensures file)

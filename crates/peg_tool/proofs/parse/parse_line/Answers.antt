@@ -3,12 +3,12 @@ use Rattle.peg_parser.specs.Cause.{NoSuchStart, StepLimit, TextTooLong}
 use Rattle.peg_parser.specs.Parser.{parser_rules, start_named}
 use Rattle.peg_semantics.specs.Starts.{start_name}
 use Rattle.peg_parser.specs.declared.parser.ParseFault.TheVariants.{NoSuchStart as NoStart}
-use Rattle.peg_json.specs.Parses.{ParsesTo, PrintsOutcome, selected_outcome, text_too_long, too_many_steps}
+use Rattle.peg_json.specs.Parses.{ParsesToAsked, PrintsOutcomeAsked, selected_outcome, text_too_long, too_many_steps}
 use Rattle.peg_json.specs.Lines.{IsReply, line_bytes}
 use Rattle.peg_json.specs.Reply.{Refused}
 use Rattle.peg_json.specs.Statuses.{status_code}
 use Rattle.peg_json.proofs.ParseLemmas.{outcome-parses, start-given}
-use Rattle.peg_json.proofs.PrintLemmas.{kind-weaker, reply-kind}
+use Rattle.peg_json.proofs.PrintLemmas.{kind-weaker, refused-with_text, reply-kind}
 use Rattle.peg_tool.specs.Commands.{nodes_asked}
 use Rattle.peg_tool.specs.PrintedNodes.{shown_by}
 use Rattle.peg_tool.proofs.ParsedLines.{given-name, no_start-line, long-text, short-text}
@@ -24,11 +24,12 @@ returns-in-Ok c file =
     let steps = c.args.options.now.steps in
     let some : (start_name rules start ≡ None → ⊥) =
     λ none. let both : Ok c.in-Ok.answer ≡ Err NoStart = sym c.in-Ok.is ∙ c.parse.ensures.no_start.1 none in cc in
-    kind-weaker c.nodes_line.result file (PrintsOutcome rules (selected_outcome shown outcome) _ c.args.all c.args.form)
-    (ParsesTo rules c.args.text.now start memo steps c.args.all c.args.form shown)
-    (outcome-parses rules c.args.text.now start memo steps c.args.all c.args.form shown outcome c.in-Ok.ensures.short
-    c.in-Ok.ensures.enough some c.in-Ok.ensures.outcome)
-    (c.nodes_line.ensures file)
+    let parses = outcome-parses rules c.args.text.now start memo steps c.args.all c.args.form shown outcome
+    c.in-Ok.ensures.short c.in-Ok.ensures.enough some c.in-Ok.ensures.outcome in
+    kind-weaker c.nodes_line.result file
+    (PrintsOutcomeAsked rules (selected_outcome shown outcome) c.args.text.now c.args.all c.args.form c.args.with_bytes)
+    (ParsesToAsked rules c.args.text.now start memo steps c.args.all c.args.form shown c.args.with_bytes)
+    (λ reply asked. (asked.0, parses asked.0 asked.1, asked.2)) (c.nodes_line.ensures file)
 
 pub returns-in-Err-NoSuchStart : goal.returns-in-Err-NoSuchStart
 returns-in-Err-NoSuchStart c file =
@@ -41,7 +42,8 @@ returns-in-Err-NoSuchStart c file =
     let named = start-given rules start none in
     let same : c.unwrap_or.result.now ≡ named.0 =
     ap (λ name. name.now) c.unwrap_or.ensures ∙ given-name (λ name. name.now) c.args.options.now.start _ named.0 named.1 in
-    no_start-line c.no_start.result file rules c.args.text.now start memo steps c.args.all c.args.form shown named.0
+    no_start-line c.no_start.result file rules c.args.text.now start memo steps c.args.all c.args.form shown
+    c.args.with_bytes named.0
     named.1 none
     (λ long. c.no_start.ensures.long long file) (λ short. subst (λ name. IfOk c.no_start.result (λ line.
     IsReply file (Refused (NoSuchStart name)) (line_bytes line) (status_code line.status))) same
@@ -56,10 +58,13 @@ returns-in-Err-TextTooLong c file =
     let steps = c.args.options.now.steps in
     let is = c.in-Err-TextTooLong.is ∙ ap Err c.in-Err-TextTooLong.field-0-is in
     reply-kind c.long_text_line.result file
-    (ParsesTo rules c.args.text.now start memo steps c.args.all c.args.form shown) (Refused TextTooLong)
-    (c.long_text_line.ensures file)
-    (text_too_long (long-text c.parse.result rules start (length c.args.text.now) is c.parse.ensures.no_start
-    c.parse.ensures.long))
+    (ParsesToAsked rules c.args.text.now start memo steps c.args.all c.args.form shown c.args.with_bytes)
+    (Refused TextTooLong) (c.long_text_line.ensures file) (
+      Refused TextTooLong,
+      text_too_long (long-text c.parse.result rules start (length c.args.text.now) is c.parse.ensures.no_start
+          c.parse.ensures.long),
+      refused-with_text c.args.with_bytes c.args.text.now TextTooLong,
+    )
 
 pub returns-in-Err-StepLimit : goal.returns-in-Err-StepLimit
 returns-in-Err-StepLimit c file =
@@ -71,6 +76,9 @@ returns-in-Err-StepLimit c file =
     let is = c.in-Err-StepLimit.is ∙ ap Err c.in-Err-StepLimit.field-0-is in
     let more = c.parse.ensures.limited is in
     reply-kind c.step_limit_line.result file
-    (ParsesTo rules c.args.text.now start memo steps c.args.all c.args.form shown) (Refused StepLimit)
-    (c.step_limit_line.ensures file)
-    (too_many_steps (short-text c.parse.result (length c.args.text.now) is (c.parse.ensures.long more.0 more.1)) more)
+    (ParsesToAsked rules c.args.text.now start memo steps c.args.all c.args.form shown c.args.with_bytes)
+    (Refused StepLimit) (c.step_limit_line.ensures file) (
+      Refused StepLimit,
+      too_many_steps (short-text c.parse.result (length c.args.text.now) is (c.parse.ensures.long more.0 more.1)) more,
+      refused-with_text c.args.with_bytes c.args.text.now StepLimit,
+    )

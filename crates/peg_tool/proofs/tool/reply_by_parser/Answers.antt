@@ -14,4 +14,4 @@ returns-in_ok-no_rule_line-in-Some-clause-answer g c file accepts =
     ∙ ap (option_map (λ name. name.now)) c.in-Some.is in
     unknown-reported c.in_ok-no_rule_line-in-Some.field-0 file (g.T.Source.left c.args.text.now)
     (parser_rules c.args.parser.now) (start_named c.args.options.now) c.args.options.now.memo c.args.options.now.steps
-    c.args.all c.args.form nodes c.in-Some.name.now accepts first (c.in_ok-no_rule_line-in-Some.ensures file)
+    c.args.all c.args.form nodes c.args.with_bytes c.in-Some.name.now accepts first (c.in_ok-no_rule_line-in-Some.ensures file)
