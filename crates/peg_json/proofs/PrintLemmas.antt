@@ -1,5 +1,5 @@
 -- Lines of replies.
-use Rattle.std.proofs.Common.{◌≡◌, ℕ, Bool, List, [], ◌∷◌, ◌++◌, IfOk, Result, Ok, Err, inl, inr, length, refl, sym, ap, ◌∙◌}
+use Rattle.std.proofs.Common.{◌≡◌, ℕ, Bool, true, false, List, [], ◌∷◌, ◌++◌, IfOk, Result, Ok, Err, inl, inr, length, refl, sym, ap, ◌∙◌}
 use Rattle.std.specs.declared.alloc.AllocError.{AllocError}
 use Rattle.serde_json.specs.Written.{compact_text}
 use Rattle.peg_semantics.specs.Rules.{Rule}
