@@ -19,14 +19,9 @@ fn texts(alloc: Global, rows: Vec<TreeNode>, text: &[u8]) -> Result<(String, Str
     Ok((rows.ok().ok_or("memory")?, nested.ok().ok_or("memory")?))
 }
 
-// The same of a node alone, with this span.
-fn texts_of_node(
-    alloc: Global,
-    start: u32,
-    end: u32,
-    text: &[u8],
-) -> Result<(String, String), Fail> {
-    texts(alloc, [node(0, start, end, 1)].to_vec(alloc)?, text)
+// The same of a node alone.
+fn texts_of_node(alloc: Global, root: TreeNode, text: &[u8]) -> Result<(String, String), Fail> {
+    texts(alloc, [root].to_vec(alloc)?, text)
 }
 
 #[test]
@@ -49,7 +44,7 @@ fn nodes_without_children_have_their_text(rt: HostRuntime) -> Result<(), Fail> {
 
 #[test]
 fn a_node_of_an_empty_text_has_empty_text(rt: HostRuntime) -> Result<(), Fail> {
-    let (rows, nested) = texts_of_node(rt.alloc(), 0, 0, b"")?;
+    let (rows, nested) = texts_of_node(rt.alloc(), node(0, 0, 0, 1), b"")?;
     assert_eq!(rt; rows.as_str(), "[[1,\"list\",0,0,\"\"]]");
     assert_eq!(rt;
         nested.as_str(),
@@ -60,7 +55,7 @@ fn a_node_of_an_empty_text_has_empty_text(rt: HostRuntime) -> Result<(), Fail> {
 
 #[test]
 fn quotes_and_control_characters_are_escaped(rt: HostRuntime) -> Result<(), Fail> {
-    let (rows, nested) = texts_of_node(rt.alloc(), 0, 6, b"\"\\/\n\x01\x7f")?;
+    let (rows, nested) = texts_of_node(rt.alloc(), node(0, 0, 6, 1), b"\"\\/\n\x01\x7f")?;
     assert_eq!(rt;
         rows.as_str(),
         "[[1,\"list\",0,6,\"\\\"\\\\/\\n\\u0001\x7f\"]]"
@@ -76,8 +71,7 @@ fn quotes_and_control_characters_are_escaped(rt: HostRuntime) -> Result<(), Fail
 fn characters_of_several_bytes_are_text(rt: HostRuntime) -> Result<(), Fail> {
     let (rows, nested) = texts_of_node(
         rt.alloc(),
-        1,
-        10,
+        node(0, 1, 10, 1),
         b"aA\xc3\x9f\xe2\x82\xac\xf0\x9f\x98\x80",
     )?;
     assert_eq!(rt;
@@ -90,8 +84,7 @@ fn characters_of_several_bytes_are_text(rt: HostRuntime) -> Result<(), Fail> {
     );
     let (rows, nested) = texts_of_node(
         rt.alloc(),
-        1,
-        11,
+        node(0, 1, 11, 1),
         b"aA\xc3\x9f\xe2\x82\xac\xf0\x9f\x98\x80",
     )?;
     assert_eq!(rt;
@@ -107,7 +100,7 @@ fn characters_of_several_bytes_are_text(rt: HostRuntime) -> Result<(), Fail> {
 
 #[test]
 fn bytes_that_are_not_utf8_are_digits(rt: HostRuntime) -> Result<(), Fail> {
-    let (rows, nested) = texts_of_node(rt.alloc(), 0, 4, b"\xff\x00\x0a\xc3")?;
+    let (rows, nested) = texts_of_node(rt.alloc(), node(0, 0, 4, 1), b"\xff\x00\x0a\xc3")?;
     assert_eq!(rt;
         rows.as_str(),
         "[[1,\"list\",0,4,{\"bytes\":\"ff000ac3\"}]]"
@@ -122,9 +115,9 @@ fn bytes_that_are_not_utf8_are_digits(rt: HostRuntime) -> Result<(), Fail> {
 // A surrogate, and a character in more bytes than it takes.
 #[test]
 fn what_utf8_excludes_is_digits(rt: HostRuntime) -> Result<(), Fail> {
-    let (rows, _) = texts_of_node(rt.alloc(), 0, 3, b"\xed\xa0\x80")?;
+    let (rows, _) = texts_of_node(rt.alloc(), node(0, 0, 3, 1), b"\xed\xa0\x80")?;
     assert_eq!(rt; rows.as_str(), "[[1,\"list\",0,3,{\"bytes\":\"eda080\"}]]");
-    let (rows, _) = texts_of_node(rt.alloc(), 0, 2, b"\xc0\x80")?;
+    let (rows, _) = texts_of_node(rt.alloc(), node(0, 0, 2, 1), b"\xc0\x80")?;
     assert_eq!(rt; rows.as_str(), "[[1,\"list\",0,2,{\"bytes\":\"c080\"}]]");
     Ok(())
 }
@@ -156,9 +149,9 @@ fn a_character_cut_in_two_is_digits(rt: HostRuntime) -> Result<(), Fail> {
 
 #[test]
 fn text_ends_with_the_text(rt: HostRuntime) -> Result<(), Fail> {
-    let (rows, _) = texts_of_node(rt.alloc(), 2, 7, b"abcd")?;
+    let (rows, _) = texts_of_node(rt.alloc(), node(0, 2, 7, 1), b"abcd")?;
     assert_eq!(rt; rows.as_str(), "[[1,\"list\",2,7,\"cd\"]]");
-    let (rows, _) = texts_of_node(rt.alloc(), 5, 7, b"abcd")?;
+    let (rows, _) = texts_of_node(rt.alloc(), node(0, 5, 7, 1), b"abcd")?;
     assert_eq!(rt; rows.as_str(), "[[1,\"list\",5,7,\"\"]]");
     Ok(())
 }

@@ -31,7 +31,8 @@ module _ (item : ℕ → Row → Data) where
       (append_assoc (rows_of children) (rows_of rest) rows)
       ∙ items_with_levels-append (1 + level) children (levels_of level rest ++ levels) (rows_of rest ++ rows)
       ∙ ap (λ l. items_of_trees (1 + level) children ++ l) (items_with_levels-append level rest levels rows)
-      ∙ sym (append_assoc (items_of_trees (1 + level) children) (items_of_trees level rest) (items_with_levels levels rows)))
+      ∙ sym (append_assoc (items_of_trees (1 + level) children) (items_of_trees level rest)
+      (items_with_levels levels rows)))
 
   -- the items of the nodes of trees with their levels
   pub items_with_levels-rows_of : (trees : Trees)

@@ -28,10 +28,12 @@ printed_trees-followed_by level (Tree rule start end children rest) more =
     ∙ sym (append_assoc (printed_trees (1 + level) children) (printed_trees level rest) (printed_trees level more)))
 
 -- their levels
-pub levels-printed_trees : (level : ℕ) (trees : Trees) → printed_levels (printed_trees level trees) ≡ levels_of level trees
+pub levels-printed_trees : (level : ℕ) (trees : Trees)
+    → printed_levels (printed_trees level trees) ≡ levels_of level trees
 levels-printed_trees level NoTrees = refl
 levels-printed_trees level (Tree rule start end children rest) =
-    ap (λ l. level ∷ l) (map-append (λ (row : PrintedRow). row.level) (printed_trees (1 + level) children) (printed_trees level rest)
+    ap (λ l. level ∷ l) (
+    map-append (λ (row : PrintedRow). row.level) (printed_trees (1 + level) children) (printed_trees level rest)
     ∙ ap (λ l. l ++ printed_levels (printed_trees level rest)) (levels-printed_trees (1 + level) children)
     ∙ ap (λ l. levels_of (1 + level) children ++ l) (levels-printed_trees level rest))
 
@@ -77,7 +79,8 @@ module _ (shown : ℕ → Bool) where
   printed_rows-ended end ends number (row ∷ rows) over =
       let here = (number == 0) || shown row.rule in
       let closed : open_at number (end ∷ ends) ≡ open_at number ends = cond-true _ _ _ (le-leb end number over) in
-      ap (λ still. if here then printed_row (1 + length still) row ∷ printed_rows shown ((number + row.size) ∷ still) (number + 1) rows
+      ap (λ still. if here then printed_row (1 + length still) row
+      ∷ printed_rows shown ((number + row.size) ∷ still) (number + 1) rows
       else printed_rows shown (end ∷ ends) (number + 1) rows) closed
       ∙ ap (λ l. if here then printed_row (1 + length (open_at number ends)) row
       ∷ printed_rows shown ((number + row.size) ∷ open_at number ends) (number + 1) rows else l)
@@ -87,12 +90,14 @@ module _ (shown : ℕ → Bool) where
   abbrev Appends : (trees : Trees) (ends : List ℕ) (number : ℕ) (more : List Row) → Type 0
   Appends trees ends number more =
       printed_rows shown ends number (rows_of trees ++ more)
-      ≡ printed_trees (1 + length ends) (selected_among shown trees) ++ printed_rows shown ends (number + nodes trees) more
+      ≡ printed_trees (1 + length ends) (selected_among shown trees)
+      ++ printed_rows shown ends (number + nodes trees) more
 
   -- the same of a tree and of the trees after it, given that it holds of its children and of the trees after it
   append-tree : (rule start end : ℕ) (children rest : Trees) (ends : List ℕ) (number : ℕ) (more : List Row) → 0 < number
       → Reaches ends (number + nodes (Tree rule start end children rest))
-      → ((inner : List ℕ) → Reaches inner (number + 1 + nodes children) → Appends children inner (number + 1) (rows_of rest ++ more))
+      → ((inner : List ℕ) → Reaches inner (number + 1 + nodes children)
+      → Appends children inner (number + 1) (rows_of rest ++ more))
       → Appends rest ends (number + (1 + nodes children)) more
       → (b : Bool) → shown rule ≡ b → Appends (Tree rule start end children rest) ends number more
   append-tree rule start end children rest ends number more later reaches below after = by
@@ -117,40 +122,46 @@ module _ (shown : ℕ → Bool) where
 
       inside : (inner : List ℕ) → Reaches inner (number + 1 + nodes children)
           → printed_rows shown inner (number + 1) ((rows_of children ++ rows_of rest) ++ more)
-          ≡ printed_trees (1 + length inner) (selected_among shown children) ++ printed_rows shown inner (number + size) (rows_of rest ++ more)
+          ≡ printed_trees (1 + length inner) (selected_among shown children)
+          ++ printed_rows shown inner (number + size) (rows_of rest ++ more)
       inside inner over =
           let e : number + 1 + nodes children ≡ number + size = omega arith in
           ap (printed_rows shown inner (number + 1)) (append_assoc (rows_of children) (rows_of rest) more)
           ∙ below inner over
-          ∙ ap (λ n. printed_trees (1 + length inner) (selected_among shown children) ++ printed_rows shown inner n (rows_of rest ++ more)) e
+          ∙ ap (λ n. printed_trees (1 + length inner) (selected_among shown children)
+          ++ printed_rows shown inner n (rows_of rest ++ more)) e
 
       by : (b : Bool) → shown rule ≡ b → Appends (Tree rule start end children rest) ends number more
       by true is =
           let same = open_at-same ends number last reaches (omega arith) in
           let inner = (number + size) ∷ ends in
           let tail = (rows_of children ++ rows_of rest) ++ more in
-          let chosen = cond-true (shown rule) (Tree rule start end (selected_among shown children) (selected_among shown rest))
+          let chosen = cond-true (shown rule)
+          (Tree rule start end (selected_among shown children) (selected_among shown rest))
           (followed_by (selected_among shown children) (selected_among shown rest)) is in
           let reach : number + 1 + nodes children ≤ number + size = omega arith in
           let deeper : 1 + length inner ≡ 1 + level = omega arith in
           printed_rows-shown ends number row tail (after-root number rule later ∙ is)
-          ∙ ap (λ still. printed_row (1 + length still) row ∷ printed_rows shown ((number + size) ∷ still) (number + 1) tail) same
+          ∙ ap (λ still. printed_row (1 + length still) row
+          ∷ printed_rows shown ((number + size) ∷ still) (number + 1) tail) same
           ∙ ap (λ l. printed_row level row ∷ l) (inside inner reach
-          ∙ ap (λ n. printed_trees n (selected_among shown children) ++ printed_rows shown inner (number + size) (rows_of rest ++ more)) deeper
+          ∙ ap (λ n. printed_trees n (selected_among shown children)
+          ++ printed_rows shown inner (number + size) (rows_of rest ++ more)) deeper
           ∙ ap (λ l. printed_trees (1 + level) (selected_among shown children) ++ l)
           (printed_rows-ended (number + size) ends (number + size) (rows_of rest ++ more) (omega arith) ∙ others)
-          ∙ sym (append_assoc (printed_trees (1 + level) (selected_among shown children)) (printed_trees level (selected_among shown rest))
-          (printed_rows shown ends last more)))
+          ∙ sym (append_assoc (printed_trees (1 + level) (selected_among shown children))
+          (printed_trees level (selected_among shown rest)) (printed_rows shown ends last more)))
           ∙ ap (λ trees. printed_trees level trees ++ printed_rows shown ends last more) (sym chosen)
       by false is =
           let tail = (rows_of children ++ rows_of rest) ++ more in
-          let chosen = cond-false (shown rule) (Tree rule start end (selected_among shown children) (selected_among shown rest))
+          let chosen = cond-false (shown rule)
+          (Tree rule start end (selected_among shown children) (selected_among shown rest))
           (followed_by (selected_among shown children) (selected_among shown rest)) is in
           printed_rows-hidden ends number row tail (after-root number rule later ∙ is)
           ∙ inside ends (Reaches-less ends last (number + 1 + nodes children) (omega arith) reaches)
           ∙ ap (λ l. printed_trees level (selected_among shown children) ++ l) others
-          ∙ sym (append_assoc (printed_trees level (selected_among shown children)) (printed_trees level (selected_among shown rest))
-          (printed_rows shown ends last more))
+          ∙ sym (append_assoc (printed_trees level (selected_among shown children))
+          (printed_trees level (selected_among shown rest)) (printed_rows shown ends last more))
           ∙ ap (λ l. l ++ printed_rows shown ends last more)
           (sym (printed_trees-followed_by level (selected_among shown children) (selected_among shown rest)))
           ∙ ap (λ trees. printed_trees level trees ++ printed_rows shown ends last more) (sym chosen)
@@ -168,7 +179,8 @@ module _ (shown : ℕ → Bool) where
       (Reaches-same ends last (number + (1 + nodes children) + nodes rest) e reaches)) (shown rule) refl
 
   -- what is printed of a node list is the selected tree
-  pub printed_rows-selected : (trees : Trees) → printed_rows shown [] 0 (rows_of trees) ≡ printed_trees 1 (selected shown trees)
+  pub printed_rows-selected : (trees : Trees)
+      → printed_rows shown [] 0 (rows_of trees) ≡ printed_trees 1 (selected shown trees)
   printed_rows-selected NoTrees = refl
   printed_rows-selected (Tree rule start end children rest) =
       let size = 1 + nodes children in
@@ -192,9 +204,11 @@ levels-selected_among shown NoTrees = omega arith
 levels-selected_among shown (Tree rule start end children rest) =
     by (shown rule) (levels-selected_among shown children) (levels-selected_among shown rest)
   where
-    by : (b : Bool) → levels (selected_among shown children) ≤ levels children → levels (selected_among shown rest) ≤ levels rest
+    by : (b : Bool) → levels (selected_among shown children) ≤ levels children
+        → levels (selected_among shown rest) ≤ levels rest
         → levels (if b then Tree rule start end (selected_among shown children) (selected_among shown rest)
-        else followed_by (selected_among shown children) (selected_among shown rest)) ≤ levels (Tree rule start end children rest)
+        else followed_by (selected_among shown children) (selected_among shown rest))
+        ≤ levels (Tree rule start end children rest)
     by true below after = omega arith
     by false below after = omega (arith, levels-followed_by (selected_among shown children) (selected_among shown rest))
 
