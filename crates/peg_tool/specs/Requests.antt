@@ -27,7 +27,8 @@ requested (Lint g start proved) =
     FileRequest (LintTask (option_map string_bytes start) (selection_of proved)) (string_bytes g)
 requested (Parse g t start memo steps all rows no_tree show hide) =
     FilesRequest (ParseTask (option_map string_bytes start) memo steps all (form_from_options rows no_tree)
-    (nodes_from_options (option_map string_bytes show) (option_map string_bytes hide))) (string_bytes g) (string_bytes t)
+    (nodes_from_options (option_map string_bytes show) (option_map string_bytes hide)))
+    (string_bytes g) (string_bytes t)
 
 -- ---- files of a request
 
