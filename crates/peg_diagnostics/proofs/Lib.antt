@@ -1,0 +1,2 @@
+mod BlameLemmas
+mod Simulation

@@ -1,0 +1,1 @@
+-- Grammars worked by hand, with the blame of the first rule on a text.

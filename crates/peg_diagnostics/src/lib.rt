@@ -1,0 +1,4 @@
+//! The diagnostic grammar: a grammar whose failed tests show the furthest failure outside predicates.
+#![tactic(auto)]
+
+pub mod laws;
