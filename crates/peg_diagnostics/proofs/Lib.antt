@@ -1,2 +1,4 @@
 mod BlameLemmas
+mod BlameResults
+mod Renaming
 mod Simulation
