@@ -1,4 +1,5 @@
 mod BlameLemmas
 mod BlameResults
+mod LoudRecords
 mod Renaming
 mod Simulation
