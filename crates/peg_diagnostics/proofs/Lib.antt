@@ -2,4 +2,5 @@ mod BlameLemmas
 mod BlameResults
 mod LoudRecords
 mod Renaming
+mod Placement
 mod Simulation
