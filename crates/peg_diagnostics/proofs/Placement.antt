@@ -18,7 +18,7 @@ use Rattle.peg_diagnostics.proofs.Renaming.{terminals-rename}
 -- ---- the place of a number in a list
 
 -- the place of a number, counted from the given place of the first element
-abbrev place_from : ℕ → ℕ → List ℕ → Option ℕ
+abbrev pub place_from : ℕ → ℕ → List ℕ → Option ℕ
 place_from n first xs = position_from (λ x. x == n) first xs
 
 differ : (x n : ℕ) → x ≢ n → (x == n) ≡ false
@@ -28,7 +28,7 @@ differ x n apart = by (x == n) refl
     by true is = absurd (apart (let same : x ≡ n = grind (arith, nat_tests) in same))
     by false is = is
 
-place_from-none : (n first : ℕ) (xs : List ℕ) → All (λ x. x ≢ n) xs → place_from n first xs ≡ None
+pub place_from-none : (n first : ℕ) (xs : List ℕ) → All (λ x. x ≢ n) xs → place_from n first xs ≡ None
 place_from-none n first [] apart = refl
 place_from-none n first (x ∷ xs) apart =
     ap (λ b. cond b (Some first) (place_from n (first + 1) xs))
@@ -51,16 +51,16 @@ place_from-here n first xs =
 
 -- ---- numbers below and from a bound
 
-abbrev Below : ℕ → List ℕ → Type 0
+abbrev pub Below : ℕ → List ℕ → Type 0
 Below most xs = All (λ x. x < most) xs
 
-abbrev From : ℕ → List ℕ → Type 0
+abbrev pub From : ℕ → List ℕ → Type 0
 From least xs = All (λ x. least ≤ x) xs
 
-Below-more : (low high : ℕ) (xs : List ℕ) → low ≤ high → Below low xs → Below high xs
+pub Below-more : (low high : ℕ) (xs : List ℕ) → low ≤ high → Below low xs → Below high xs
 Below-more low high xs up below = All-weaker (λ x. x < low) (λ x. x < high) (λ x h. omega (arith, h, up)) xs below
 
-From-less : (low high : ℕ) (xs : List ℕ) → low ≤ high → From high xs → From low xs
+pub From-less : (low high : ℕ) (xs : List ℕ) → low ≤ high → From high xs → From low xs
 From-less low high xs up from = All-weaker (λ x. high ≤ x) (λ x. low ≤ x) (λ x h. omega (arith, h, up)) xs from
 
 one_below : (x most : ℕ) → x < most → Below most (x ∷ [])
@@ -97,7 +97,7 @@ terminals-item : (e : Form) → terminals (quiet e) + (1 + 0) ≡ terminals e + 
 terminals-item e = omega (arith, terminals-rename quiet_name e)
 
 mutual
-  length-added : (e : Form) (terminal : ℕ) → length (added_terminals e terminal) ≡ items e
+  pub length-added : (e : Form) (terminal : ℕ) → length (added_terminals e terminal) ≡ items e
   length-added (Literal bytes span) terminal = refl
   length-added (Class set span) terminal = refl
   length-added (Any span) terminal = refl
@@ -120,20 +120,20 @@ mutual
       length-append (added_terminals e terminal) (added_terminals_of_all rest (terminal + terminals (loud e)))
       ∙ ap₂ ◌+◌ (length-added e terminal) (length-added_of_all rest (terminal + terminals (loud e)))
 
-two_parts-below : (xs ys : List ℕ) (terminal one two : ℕ) → Below (terminal + one) xs → Below (terminal + one + two) ys
+pub two_parts-below : (xs ys : List ℕ) (terminal one two : ℕ) → Below (terminal + one) xs → Below (terminal + one + two) ys
     → Below (terminal + (one + two)) (xs ++ ys)
 two_parts-below xs ys terminal one two first second =
     All-append (λ x. x < terminal + (one + two)) xs ys
     (Below-more (terminal + one) (terminal + (one + two)) xs (omega arith) first)
     (Below-more (terminal + one + two) (terminal + (one + two)) ys (omega arith) second)
 
-two_parts-from : (xs ys : List ℕ) (terminal one : ℕ) → From terminal xs → From (terminal + one) ys
+pub two_parts-from : (xs ys : List ℕ) (terminal one : ℕ) → From terminal xs → From (terminal + one) ys
     → From terminal (xs ++ ys)
 two_parts-from xs ys terminal one first second =
     All-append (λ x. terminal ≤ x) xs ys first (From-less terminal (terminal + one) ys (omega arith) second)
 
 mutual
-  added-below : (e : Form) (terminal : ℕ) → Below (terminal + terminals (loud e)) (added_terminals e terminal)
+  pub added-below : (e : Form) (terminal : ℕ) → Below (terminal + terminals (loud e)) (added_terminals e terminal)
   added-below (Literal bytes span) terminal = one_below (terminal + 1) (terminal + (1 + (1 + 0))) (omega arith)
   added-below (Class set span) terminal = one_below (terminal + 1) (terminal + (1 + (1 + 0))) (omega arith)
   added-below (Any span) terminal = one_below (terminal + 1) (terminal + (1 + (1 + 0))) (omega arith)
@@ -164,7 +164,7 @@ mutual
       (all_added-below rest (terminal + terminals (loud e)))
 
 mutual
-  added-from : (e : Form) (terminal : ℕ) → From terminal (added_terminals e terminal)
+  pub added-from : (e : Form) (terminal : ℕ) → From terminal (added_terminals e terminal)
   added-from (Literal bytes span) terminal = one_from (terminal + 1) terminal (omega arith)
   added-from (Class set span) terminal = one_from (terminal + 1) terminal (omega arith)
   added-from (Any span) terminal = one_from (terminal + 1) terminal (omega arith)
@@ -190,15 +190,15 @@ mutual
 -- ---- the added empty classes of an expression, in the list of all
 
 -- A part of the list of all added empty classes: what is before it, where it begins, and what is after it.
-record IsPart (all before part after : List ℕ) (terminal count number : ℕ) : Type 0 where
-  is : all ≡ before ++ (part ++ after)
-  long : length before ≡ number
-  below : Below terminal before
-  from : From (terminal + count) after
+pub record IsPart (all before part after : List ℕ) (terminal count number : ℕ) : Type 0 where
+  pub is : all ≡ before ++ (part ++ after)
+  pub long : length before ≡ number
+  pub below : Below terminal before
+  pub from : From (terminal + count) after
 
 module _ (all before xs ys after : List ℕ) (terminal one two number : ℕ)
     (part : IsPart all before (xs ++ ys) after terminal (one + two) number) where
-  part-front : From (terminal + one) ys → IsPart all before xs (ys ++ after) terminal one number
+  pub part-front : From (terminal + one) ys → IsPart all before xs (ys ++ after) terminal one number
   part-front from = record {
     is = part.is ∙ ap (λ l. before ++ l) (append_assoc xs ys after);
     long = part.long;
@@ -207,7 +207,7 @@ module _ (all before xs ys after : List ℕ) (terminal one two number : ℕ)
         (From-less (terminal + one) (terminal + (one + two)) after (omega arith) part.from);
   }
 
-  part-back : (count : ℕ) → length xs ≡ count → Below (terminal + one) xs
+  pub part-back : (count : ℕ) → length xs ≡ count → Below (terminal + one) xs
       → IsPart all (before ++ xs) ys after (terminal + one) two (number + count)
   part-back count long below = record {
     is = part.is ∙ ap (λ l. before ++ l) (append_assoc xs ys after) ∙ sym (append_assoc before xs (ys ++ after));
@@ -226,7 +226,7 @@ module _ (all : List ℕ) where
       (From-less (terminal + count + 1) (terminal + size) after (omega (arith, long)) part.from)
 
   mutual
-    placed : (e : Form) (before after : List ℕ) (terminal number : ℕ)
+    pub placed : (e : Form) (before after : List ℕ) (terminal number : ℕ)
         → IsPart all before (added_terminals e terminal) after terminal (terminals (loud e)) number
         → IsPlaced (item_in all) e terminal number
     placed (Literal bytes span) before after terminal number part =
