@@ -1,5 +1,6 @@
 -- Blame is monotone in the depth.
-use Rattle.std.proofs.Common.{◌≡◌, ℕ, zero, suc, ◌+◌, List, Option, None, Some, refl, option_map, option_and_then}
+use Rattle.std.proofs.Common.{◌≡◌, ℕ, zero, suc, ◌+◌, List, Option, None, Some, refl, ap, option_map, option_and_then}
+use Rattle.std.proofs.Common.{zero-add, suc-add, add_comm}
 use Rattle.peg_semantics.specs.Form.{Form, Forms, Literal, Class, Any, Name, Seq, Choice, Optional, Star, Plus, Counted}
 use Rattle.peg_semantics.specs.Form.{And, Not, End, Then}
 use Rattle.peg_semantics.specs.Record.{Record, Recognizer, matched_at, then_at, or_else, star_result, as_call, record_in}
@@ -7,7 +8,7 @@ use Rattle.peg_semantics.specs.Rules.{Rule, Meaning}
 use Rattle.peg_semantics.proofs.RecordLemmas.{Extends, Extends-refl, Extends-none, Extends-map, Extends-and_then}
 use Rattle.peg_semantics.proofs.RecordLemmas.{Extends-then_at, Extends-or_else, Extends-star_result}
 use Rattle.peg_semantics.proofs.RecordLemmas.{Extends-recognize_repeat, record_in-more}
-use Rattle.peg_diagnostics.specs.Blame.{item_blame, blame_item, blame_seq, blame_choice, blame_table, blame_in}
+use Rattle.peg_diagnostics.specs.Blame.{item_blame, blame_item, blame_seq, blame_choice, blame_table, blame_in, HasBlame}
 use Rattle.peg_diagnostics.specs.Items.{items, item_meaning_of}
 
 -- every record of the first recognizer is one of the second
@@ -79,3 +80,21 @@ blame_in-more rules text (suc n) e item position =
     Extends-blame_table (record_in rules text (suc n)) (record_in rules text (suc (suc n)))
     (record_in-more rules text (suc n)) (blame_in rules text n) (blame_in rules text (suc n)) (blame_in-more rules text n)
     rules e item position
+
+-- a blame in depth n is a blame in every greater depth
+blame_in-later : (rules : List Rule) (text : List ℕ) (more n : ℕ)
+    → ExtendsAll (blame_in rules text n) (blame_in rules text (more + n))
+blame_in-later rules text zero n e item position r h = rw zero-add h
+blame_in-later rules text (suc more) n e item position r h =
+    rw suc-add (blame_in-more rules text (more + n) e item position r
+    (blame_in-later rules text more n e item position r h))
+
+-- two blames of one expression at one position are equal
+pub one_blame : (rules : List Rule) (text : List ℕ) (e : Form) (item position : ℕ) (r s : Record)
+    → HasBlame rules text e item position r → HasBlame rules text e item position s → r ≡ s
+one_blame rules text e item position r s a b =
+    let first = blame_in-later rules text b.0 a.0 e item position r a.1 in
+    let second = blame_in-later rules text a.0 b.0 e item position s b.1 in
+    let meet : blame_in rules text (b.0 + a.0) e item position ≡ blame_in rules text (a.0 + b.0) e item position =
+        ap (λ k. blame_in rules text k e item position) (add_comm b.0 a.0) in
+    cc

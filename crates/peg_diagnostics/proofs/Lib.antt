@@ -1,7 +1,8 @@
 mod BlameLemmas
 mod BlameResults
-mod LoudRecords
-mod Renaming
+mod DiagnosisLemmas
 mod Lookups
+mod LoudRecords
 mod Placement
+mod Renaming
 mod Simulation

@@ -4,6 +4,7 @@ pub use Rattle.peg_semantics.specs.Rules
 pub use Rattle.peg_semantics.specs.WellFormed
 pub mod Blame
 pub mod BlameExamples
+pub mod Diagnosis
 pub mod Diagnostic
 pub mod Items
 pub mod ItemTests

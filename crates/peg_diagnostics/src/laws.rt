@@ -1,16 +1,37 @@
 //! Laws of the diagnostic grammar, for every grammar and text. Each function does nothing; the contract of the function
 //! is the law.
-ghost use Rattle.std.specs.Prelude.{◌≡◌, ℕ, suc, List, Some};
-ghost use Rattle.peg_diagnostics.specs.Blame.{blame_in};
+ghost use Rattle.std.specs.Prelude.{◌≡◌, ◌≢◌, ℕ, suc, AllPairs, List, Some};
+ghost use Rattle.peg_bytes.specs.Extent.{Extent, between};
+ghost use Rattle.peg_diagnostics.specs.Blame.{blame_in, HasBlame};
+ghost use Rattle.peg_diagnostics.specs.Diagnosis.{Diagnosis};
 ghost use Rattle.peg_diagnostics.specs.Diagnostic.{diagnostic_rules};
-ghost use Rattle.peg_diagnostics.specs.ItemTests.{item_tests};
-ghost use Rattle.peg_semantics.specs.Form.{Form};
-ghost use Rattle.peg_semantics.specs.Record.{Record};
-ghost use Rattle.peg_semantics.specs.Rules.{Rule};
+ghost use Rattle.peg_semantics.specs.Form.{Form, Name};
+ghost use Rattle.peg_semantics.specs.Record.{Record, record_in, start_record};
+ghost use Rattle.peg_semantics.specs.Rules.{Rule, names};
 
 /// Blame is monotone in the depth: a blame in depth n is also the blame in depth n + 1.
 pub fn blame_is_monotone_in_depth()
     ensures { (rules : List Rule) (text : List ℕ) (n : ℕ) (e : Form) (item position : ℕ) (r : Record)
         → blame_in rules text n e item position ≡ Some r
         → blame_in rules text (suc n) e item position ≡ Some r }
+{}
+
+/// Blame is unique: one expression has at most one blame at one position.
+pub fn blame_is_unique()
+    ensures { (rules : List Rule) (text : List ℕ) (e : Form) (item position : ℕ) (r s : Record)
+        → HasBlame rules text e item position r → HasBlame rules text e item position s → r ≡ s }
+{}
+
+/// The diagnostic grammar computes the blame, if all its names are distinct. A name with a record has a blame and a record
+/// in the diagnostic grammar, with the same result. The failed tests of added empty classes are those of the blame.
+pub fn the_diagnostic_grammar_computes_the_blame()
+    ensures names { (rules : List Rule) (text : List ℕ) (n : ℕ) (name : List ℕ) (span : Extent)
+        (terminal other item position : ℕ) (r : Record)
+        → AllPairs (λ (a b : List ℕ). a ≢ b) (names (diagnostic_rules rules))
+        → record_in rules text n (Name name span) terminal position ≡ Some r
+        → Diagnosis rules text (Name name span) other item position r }
+    ensures starts { (rules : List Rule) (text : List ℕ) (n : ℕ) (start : List ℕ) (r : Record)
+        → AllPairs (λ (a b : List ℕ). a ≢ b) (names (diagnostic_rules rules))
+        → start_record rules text n start ≡ Some r
+        → Diagnosis rules text (Name start (between 0 0)) 0 0 0 r }
 {}

@@ -1,0 +1,11 @@
+use Rattle.peg_bytes.specs.Extent.{between}
+use Rattle.peg_diagnostics.proofs.DiagnosisLemmas.{name_diagnosis}
+use Rattle.peg_diagnostics.proofs.laws.the_diagnostic_grammar_computes_the_blame.Goals as goal
+
+pub returns-clause-names : goal.returns-clause-names
+returns-clause-names c = λ rules text n name span terminal other item position r distinct is.
+    name_diagnosis rules text distinct n name span terminal other item position r is
+
+pub returns-clause-starts : goal.returns-clause-starts
+returns-clause-starts c = λ rules text n start r distinct is.
+    name_diagnosis rules text distinct n start (between 0 0) 0 0 0 0 r is
