@@ -77,14 +77,14 @@ module _ (rules : List Rule) (text : List ℕ) where
 -- ---- the rule that a name refers to, with its first terminal and with its first item
 
 -- the same rule and expression
-abbrev SameRule : Meaning → Meaning → Type 0
+abbrev pub SameRule : Meaning → Meaning → Type 0
 SameRule m other = (m.rule ≡ other.rule) × (m.body ≡ other.body)
 
 -- if the first is a meaning, the second is one of the same rule
-abbrev AlsoMeans : (first second : Option Meaning) → Type 0
+abbrev pub AlsoMeans : (first second : Option Meaning) → Type 0
 AlsoMeans first second = IfSome first (λ m. (other : Meaning) × (second ≡ Some other) × SameRule m other)
 
-item_meaning_from-means : (rule terminal item : ℕ) (rules : List Rule) (name : List ℕ)
+pub item_meaning_from-means : (rule terminal item : ℕ) (rules : List Rule) (name : List ℕ)
     → AlsoMeans (meaning_from rule terminal rules name) (item_meaning_from rule item rules name)
 item_meaning_from-means rule terminal item [] name = tt
 item_meaning_from-means rule terminal item (r ∷ rs) name =

@@ -1,6 +1,8 @@
 mod BlameLemmas
 mod BlameResults
 mod DiagnosisLemmas
+mod DiagnosticOutcomes
+mod KnownNames
 mod Lookups
 mod LoudRecords
 mod Placement

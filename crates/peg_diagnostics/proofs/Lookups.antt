@@ -23,7 +23,7 @@ use Rattle.peg_diagnostics.proofs.Renaming.{HasCopy}
 bytes_eq-same : (a b : List ℕ) → bytes_eq a b ≡ true → a ≡ b
 bytes_eq-same a b is = (bytes_eq-Decides a b).0 is
 
-bytes_eq-itself : (a : List ℕ) → bytes_eq a a ≡ true
+pub bytes_eq-itself : (a : List ℕ) → bytes_eq a a ≡ true
 bytes_eq-itself a = (bytes_eq-Decides a a).1 refl
 
 bytes_eq-apart : (a b : List ℕ) → a ≢ b → bytes_eq a b ≡ false
