@@ -48,20 +48,20 @@ CanAll-empty_class rules zero span = CanAll-no_outcome only_fails
 CanAll-empty_class rules (suc n) span = CanAll-refl only_fails
 
 module _ (rules : List Rule) (closed : All (IsKnown (names rules)) (references rules)) where
-  abbrev Known : Form → Type 0
+  abbrev pub Known : Form → Type 0
   Known e = UsesKnown (names rules) e
 
-  abbrev KnownAll : Forms → Type 0
+  abbrev pub KnownAll : Forms → Type 0
   KnownAll items = AllUseKnown (names rules) items
 
-  known-front : (e : Form) (rest : Forms) → All (IsKnown (names rules)) (names_used e ++ names_used_by_all rest) → Known e
+  pub known-front : (e : Form) (rest : Forms) → All (IsKnown (names rules)) (names_used e ++ names_used_by_all rest) → Known e
   known-front e rest known = All-front (IsKnown (names rules)) (names_used e) (names_used_by_all rest) known
 
-  known-back : (e : Form) (rest : Forms) → All (IsKnown (names rules)) (names_used e ++ names_used_by_all rest)
+  pub known-back : (e : Form) (rest : Forms) → All (IsKnown (names rules)) (names_used e ++ names_used_by_all rest)
       → KnownAll rest
   known-back e rest known = All-back (IsKnown (names rules)) (names_used e) (names_used_by_all rest) known
 
-  known-name : (name : List ℕ) (span : Extent) → Known (Name name span) → MeansKnown (names rules) (meaning_of rules name)
+  pub known-name : (name : List ℕ) (span : Extent) → Known (Name name span) → MeansKnown (names rules) (meaning_of rules name)
   known-name name span known =
       known_meaning rules closed name (All-head (IsKnown (names rules)) (record { name = name; span = span }) [] known)
 

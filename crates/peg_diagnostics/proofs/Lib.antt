@@ -2,6 +2,7 @@ mod BlameLemmas
 mod BlameResults
 mod DiagnosisLemmas
 mod DiagnosticOutcomes
+mod DiagnosticWellFormed
 mod KnownNames
 mod Lookups
 mod LoudRecords

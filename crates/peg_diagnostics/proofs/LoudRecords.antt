@@ -306,7 +306,7 @@ abbrev pub twice : ℕ → ℕ
 twice zero = zero
 twice (suc n) = suc (suc (twice n))
 
-twice-more : (n : ℕ) → twice n ≡ n + n
+pub twice-more : (n : ℕ) → twice n ≡ n + n
 twice-more zero = refl
 twice-more (suc n) = omega (arith, twice-more n)
 
