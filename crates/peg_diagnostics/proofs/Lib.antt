@@ -1,6 +1,7 @@
 mod BlameLemmas
 mod BlameResults
 mod DiagnosisLemmas
+mod DiagnosticGrammar
 mod DiagnosticOutcomes
 mod DiagnosticWellFormed
 mod KnownNames

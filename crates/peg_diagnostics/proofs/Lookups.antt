@@ -20,7 +20,7 @@ use Rattle.peg_diagnostics.proofs.Renaming.{HasCopy}
 
 -- ---- equal names
 
-bytes_eq-same : (a b : List ℕ) → bytes_eq a b ≡ true → a ≡ b
+pub bytes_eq-same : (a b : List ℕ) → bytes_eq a b ≡ true → a ≡ b
 bytes_eq-same a b is = (bytes_eq-Decides a b).0 is
 
 pub bytes_eq-itself : (a : List ℕ) → bytes_eq a a ≡ true
@@ -44,10 +44,10 @@ bytes_eq-quiet a b false is =
 -- ---- distinct names
 
 module _ {X : Type 0} (R : X → X → Type 0) where
-  AllPairs-head : (x : X) (xs : List X) → AllPairs R (x ∷ xs) → All (R x) xs
+  pub AllPairs-head : (x : X) (xs : List X) → AllPairs R (x ∷ xs) → All (R x) xs
   AllPairs-head x xs all k d within = all 0 (suc k) d (omega arith) (omega (arith, within))
 
-  AllPairs-tail : (x : X) (xs : List X) → AllPairs R (x ∷ xs) → AllPairs R xs
+  pub AllPairs-tail : (x : X) (xs : List X) → AllPairs R (x ∷ xs) → AllPairs R xs
   AllPairs-tail x xs all i j d before within = all (suc i) (suc j) d (omega (arith, before)) (omega (arith, within))
 
   AllPairs-cross : (xs ys : List X) (y : X) → AllPairs R (xs ++ ys) → Contains ys y → All (λ x. R x y) xs
@@ -71,7 +71,7 @@ names-diagnostic rules =
     map-append (λ (rule : Rule). rule.name) (map loud_rule rules) (map quiet_rule rules)
     ∙ ap (λ l. l ++ names (map quiet_rule rules)) (names-loud rules)
 
-Contains-first : {X : Type 0} (x : X) (xs : List X) → Contains (x ∷ xs) x
+pub Contains-first : {X : Type 0} (x : X) (xs : List X) → Contains (x ∷ xs) x
 Contains-first x xs = Contains-append_left (x ∷ []) xs x (Contains-push [] x)
 
 -- a name that refers to a rule has a quiet copy

@@ -1,10 +1,10 @@
 -- The diagnostic grammar of rules. It recognizes the same texts, and each item that fails there also fails a test of an
 -- added empty class at the item's own start. An empty class matches nothing, so the results stay the same.
-use Rattle.std.specs.Prelude.{ℕ, List, [], ◌∷◌, ◌++◌, map}
+use Rattle.std.specs.Prelude.{ℕ, List, [], ◌∷◌, ◌++◌, map, All, Contains}
 use Rattle.peg_bytes.specs.Extent.{Extent}
 use Rattle.peg_semantics.specs.Form.{Form, Forms, Literal, Class, Any, Name, Seq, Choice, Optional, Star, Plus, Counted}
 use Rattle.peg_semantics.specs.Form.{And, Not, End, Then}
-use Rattle.peg_semantics.specs.Rules.{Rule}
+use Rattle.peg_semantics.specs.Rules.{Rule, names}
 
 -- the name of a rule's quiet copy: the rule's name, then `!`, which no identifier contains
 abbrev pub quiet_name : List ℕ → List ℕ
@@ -68,3 +68,7 @@ quiet_rule rule = record { name = quiet_name rule.name; span = rule.span; body =
 -- all rules made loud, in order, and then the quiet copies of all rules, in order
 abbrev pub diagnostic_rules : List Rule → List Rule
 diagnostic_rules rules = map loud_rule rules ++ map quiet_rule rules
+
+-- no rule has a name with `!`, as for all names that are identifiers
+abbrev pub HaveNoMark : List Rule → Type 0
+HaveNoMark rules = All (λ (name : List ℕ). ¬ Contains name 33) (names rules)

@@ -1,13 +1,15 @@
 //! Laws of the diagnostic grammar, for every grammar and text. Each function does nothing; the contract of the function
 //! is the law.
-ghost use Rattle.std.specs.Prelude.{◌≡◌, ◌≢◌, ℕ, suc, AllPairs, List, Some};
+ghost use Rattle.std.specs.Prelude.{◌≡◌, ◌≢◌, ◌↔◌, ℕ, suc, AllPairs, List, Some};
 ghost use Rattle.peg_bytes.specs.Extent.{Extent, between};
 ghost use Rattle.peg_diagnostics.specs.Blame.{blame_in, HasBlame};
 ghost use Rattle.peg_diagnostics.specs.Diagnosis.{Diagnosis};
-ghost use Rattle.peg_diagnostics.specs.Diagnostic.{diagnostic_rules};
+ghost use Rattle.peg_diagnostics.specs.Diagnostic.{diagnostic_rules, HaveNoMark};
 ghost use Rattle.peg_semantics.specs.Form.{Form, Name};
+ghost use Rattle.peg_semantics.specs.Grammar.{IsGrammar};
 ghost use Rattle.peg_semantics.specs.Record.{Record, record_in, start_record};
 ghost use Rattle.peg_semantics.specs.Rules.{Rule, names};
+ghost use Rattle.peg_semantics.specs.WellFormed.{IsWellFormedGrammar};
 
 /// Blame is monotone in the depth: a blame in depth n is also the blame in depth n + 1.
 pub fn blame_is_monotone_in_depth()
@@ -34,4 +36,13 @@ pub fn the_diagnostic_grammar_computes_the_blame()
         → AllPairs (λ (a b : List ℕ). a ≢ b) (names (diagnostic_rules rules))
         → start_record rules text n start ≡ Some r
         → Diagnosis rules text (Name start (between 0 0)) 0 0 0 r }
+{}
+
+/// The diagnostic grammar of a grammar is a grammar if no name of a rule has a `!`. It is well-formed exactly if the
+/// rules are (Ford 2004, section 3.6).
+pub fn the_diagnostic_grammar_is_a_well_formed_grammar()
+    ensures grammar { (rules : List Rule) → IsGrammar rules → HaveNoMark rules → IsGrammar (diagnostic_rules rules) }
+    ensures well_formed { (rules : List Rule) → IsGrammar rules
+        → AllPairs (λ (a b : List ℕ). a ≢ b) (names (diagnostic_rules rules))
+        → (IsWellFormedGrammar (diagnostic_rules rules) ↔ IsWellFormedGrammar rules) }
 {}

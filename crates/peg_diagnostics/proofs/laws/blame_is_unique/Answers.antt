@@ -1,5 +1,4 @@
 use Rattle.peg_diagnostics.proofs.BlameLemmas.{one_blame}
-use Rattle.peg_diagnostics.proofs.DiagnosticWellFormed.{well_formed_shown}
 use Rattle.peg_diagnostics.proofs.laws.blame_is_unique.Goals as goal
 
 pub returns : goal.returns
