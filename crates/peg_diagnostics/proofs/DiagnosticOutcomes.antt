@@ -13,7 +13,8 @@ use Rattle.peg_semantics.specs.Rules.{Rule, Meaning, names, references, meaning_
 use Rattle.peg_semantics.proofs.RoundsLemmas.{CanAll-refl, CanAll-trans, CanAll-no_outcome, CanAll-seq_outcome}
 use Rattle.peg_semantics.proofs.RoundsLemmas.{CanAll-choice_outcome, CanAll-optional_outcome, CanAll-star_outcome}
 use Rattle.peg_semantics.proofs.RoundsLemmas.{CanAll-plus_outcome, CanAll-repeat_outcome, can_in-more}
-use Rattle.peg_diagnostics.specs.Diagnostic.{rename_all, quiet, quiet_name, or_fail, loud, loud_all, diagnostic_rules}
+use Rattle.peg_diagnostics.specs.Diagnostic.{rename_all, quiet, quiet_name, no_bytes, or_fail, loud, loud_all, diagnostic_rules}
+use Rattle.peg_diagnostics.proofs.EmptySet.{has_some-no_bytes}
 use Rattle.peg_diagnostics.proofs.KnownNames.{All-front, All-back, IsKnown, UsesKnown, AllUseKnown, MeansKnown, known_meaning}
 use Rattle.peg_diagnostics.proofs.KnownNames.{loud_meaning, quiet_meaning}
 use Rattle.peg_diagnostics.proofs.Lookups.{Distinct}
@@ -42,10 +43,12 @@ CanAll-or_fail a b fails =
       fails = true_beside a.fails;
     })
 
-CanAll-empty_class : (rules : List Rule) (n : ℕ) (span : Extent) → CanAll (can_in rules n (Class [] span)) only_fails
+CanAll-empty_class : (rules : List Rule) (n : ℕ) (span : Extent) → CanAll (can_in rules n (Class no_bytes span)) only_fails
 unfolding can_in
 CanAll-empty_class rules zero span = CanAll-no_outcome only_fails
-CanAll-empty_class rules (suc n) span = CanAll-refl only_fails
+CanAll-empty_class rules (suc n) span =
+    subst (λ some. CanAll (record { nothing = false; something = some; fails = true }) only_fails) (sym has_some-no_bytes)
+    (CanAll-refl only_fails)
 
 module _ (rules : List Rule) (closed : All (IsKnown (names rules)) (references rules)) where
   abbrev pub Known : Form → Type 0
@@ -153,8 +156,8 @@ module _ (rules : List Rule) (closed : All (IsKnown (names rules)) (references r
       item-loud : (e : Form) (span : Extent) → Known e
           → CanAll (can_table (diagnostic_rules rules) other (or_fail (quiet e) span)) (can_in rules (suc n) e)
       item-loud e span known =
-          CanAll-trans (choice_outcome (other (quiet e)) (other (Class [] span))) (other (quiet e)) (can_in rules (suc n) e)
-          (CanAll-or_fail (other (quiet e)) (other (Class [] span)) (CanAll-empty_class (diagnostic_rules rules) n span))
+          CanAll-trans (choice_outcome (other (quiet e)) (other (Class no_bytes span))) (other (quiet e)) (can_in rules (suc n) e)
+          (CanAll-or_fail (other (quiet e)) (other (Class no_bytes span)) (CanAll-empty_class (diagnostic_rules rules) n span))
           (subst (λ a. CanAll a (can_in rules (suc n) e)) (sym (can_in-quiet n e known)) (can_in-more rules n e))
 
       can_table-loud : (e : Form) → Known e

@@ -11,7 +11,7 @@ use Rattle.peg_semantics.specs.Rules.{Rule, Meaning, names, references, meaning_
 use Rattle.peg_semantics.specs.WellFormed.{FormPredicate, ItemsAre, AllAre, MeaningIs, RepeatsWell, WellFormedTable}
 use Rattle.peg_semantics.specs.WellFormed.{IsWellFormedIn, IsWellFormed, below, below_all, subexpressions, IsWellFormedGrammar}
 use Rattle.peg_semantics.proofs.RoundsLemmas.{IsWellFormedIn-more, IsWellFormedIn-later}
-use Rattle.peg_diagnostics.specs.Diagnostic.{rename_all, quiet, quiet_name, or_fail, loud, loud_all, loud_rule, quiet_rule}
+use Rattle.peg_diagnostics.specs.Diagnostic.{rename_all, quiet, quiet_name, no_bytes, or_fail, loud, loud_all, loud_rule, quiet_rule}
 use Rattle.peg_diagnostics.specs.Diagnostic.{diagnostic_rules}
 use Rattle.peg_diagnostics.proofs.DiagnosticOutcomes.{Known, KnownAll, known-front, known-back, known-name}
 use Rattle.peg_diagnostics.proofs.DiagnosticOutcomes.{GivesNothing-quiet, GivesNothing-loud}
@@ -240,7 +240,7 @@ module _ (rules : List Rule) (closed : All (IsKnown (names rules)) (references r
       (subst (All (IsWellFormed shown)) (subexpressions-quiet e) all) in
       λ k d within. unquiet_is (get_or (subexpressions e) k d) (subexpressions-use e known k d within) (quieted k d within)
 
-  empty_class_is : (span : Extent) → IsWellFormed shown (Class [] span)
+  empty_class_is : (span : Extent) → IsWellFormed shown (Class no_bytes span)
   unfolding IsWellFormedIn
   empty_class_is span = (suc zero, tt)
 
@@ -248,8 +248,8 @@ module _ (rules : List Rule) (closed : All (IsKnown (names rules)) (references r
   item_parts : (e : Form) (span : Extent) → Uses e → All (IsWellFormed rules) (subexpressions e)
       → All (IsWellFormed shown) (below (or_fail (quiet e) span))
   item_parts e span known all =
-      All-append (IsWellFormed shown) (subexpressions (quiet e)) (Class [] span ∷ []) (all_quiet e known all)
-      (All-cons (IsWellFormed shown) (Class [] span) [] (empty_class_is span) (All-nil (IsWellFormed shown)))
+      All-append (IsWellFormed shown) (subexpressions (quiet e)) (Class no_bytes span ∷ []) (all_quiet e known all)
+      (All-cons (IsWellFormed shown) (Class no_bytes span) [] (empty_class_is span) (All-nil (IsWellFormed shown)))
 
   -- the loud expression itself, and then its parts
   with_parts : (e : Form) → Uses e → All (IsWellFormed rules) (subexpressions e)

@@ -15,9 +15,10 @@ use Rattle.peg_semantics.specs.Record.{if_matched, if_failed, with_result, recog
 use Rattle.peg_semantics.specs.Rules.{Rule, Meaning, meaning_from, meaning_of}
 use Rattle.peg_semantics.proofs.RecordLemmas.{record_in-more, record_in-later}
 use Rattle.peg_diagnostics.specs.Blame.{item_blame, blame_item, blame_seq, blame_choice, blame_table, blame_in}
-use Rattle.peg_diagnostics.specs.Diagnostic.{rename, rename_all, quiet, quiet_name, or_fail, loud, loud_all}
+use Rattle.peg_diagnostics.specs.Diagnostic.{rename, rename_all, quiet, quiet_name, no_bytes, or_fail, loud, loud_all}
 use Rattle.peg_diagnostics.specs.Items.{items, items_of_all, item_meaning_of}
 use Rattle.peg_diagnostics.specs.ItemTests.{as_item_test}
+use Rattle.peg_diagnostics.proofs.EmptySet.{has-no_bytes}
 use Rattle.peg_diagnostics.proofs.Renaming.{EachFrom, HasCopy, Simulates-rename, terminals-rename}
 use Rattle.peg_diagnostics.proofs.Simulation.{Likeness, SameResult, IsLike, Follows, Simulates, Simulates-extends}
 use Rattle.peg_diagnostics.proofs.Simulation.{Simulates-map, Simulates-matched_at, Simulates-then_at, Simulates-or_else}
@@ -174,10 +175,11 @@ module _ (item : ℕ → Option ℕ) where
       (IsLike-item terminal number position is x h.0 bare (subst HasNoTrees h.1 also) h.2)
 
 -- an empty class fails everywhere
-empty_class-fails : (terminal position : ℕ) (rest : List ℕ) → byte_at (has []) terminal position rest
+empty_class-fails : (terminal position : ℕ) (rest : List ℕ) → byte_at (has no_bytes) terminal position rest
     ≡ failed_at terminal position
 empty_class-fails terminal position [] = refl
-empty_class-fails terminal position (c ∷ rest) = refl
+empty_class-fails terminal position (c ∷ rest) =
+    ap (λ b. if b then matched_at (position + 1) else failed_at terminal position) (has-no_bytes c)
 
 -- what a name refers to has a loud copy under the same name, with the same number, placed as its items are
 pub record HasLoud (item : ℕ → Option ℕ) (other : List Rule) (name : List ℕ) (m : Meaning) : Type 0 where
@@ -250,7 +252,7 @@ module _ (item : ℕ → Option ℕ) (rules other : List Rule) (text : List ℕ)
           let at : terminal + terminals e ≡ terminal + terminals (quiet e) =
               ap (λ n. terminal + n) (sym (terminals-rename quiet_name e)) in
           let place = terminal + terminals (quiet e) in
-          let fails = is (Class [] span) place position ∙ ap Some (empty_class-fails place position (drop position text)) in
+          let fails = is (Class no_bytes span) place position ∙ ap Some (empty_class-fails place position (drop position text)) in
           let there = is (quiet e) terminal position in
           subst (λ o. Simulates (same_items item) (blame_item (table rules text low) e number position)
           (or_else (more (quiet e) terminal position) o)) (sym fails)

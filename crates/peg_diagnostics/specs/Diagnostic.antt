@@ -1,6 +1,7 @@
 -- The diagnostic grammar of rules. It recognizes the same texts, and each item that fails there also fails a test of an
 -- added empty class at the item's own start. An empty class matches nothing, so the results stay the same.
-use Rattle.std.specs.Prelude.{ℕ, List, [], ◌∷◌, ◌++◌, map, All, Contains}
+use Rattle.std.specs.Prelude.{ℕ, false, List, [], ◌∷◌, ◌++◌, map, replicate, All, Contains}
+use Rattle.peg_bytes.specs.ByteSet.{Bytes}
 use Rattle.peg_bytes.specs.Extent.{Extent}
 use Rattle.peg_semantics.specs.Form.{Form, Forms, Literal, Class, Any, Name, Seq, Choice, Optional, Star, Plus, Counted}
 use Rattle.peg_semantics.specs.Form.{And, Not, End, Then}
@@ -34,9 +35,13 @@ abbrev mutual
 abbrev pub quiet : Form → Form
 quiet e = rename quiet_name e
 
+-- the empty set of bytes
+unfoldable pub no_bytes : Bytes
+no_bytes = replicate 256 false
+
 -- the expression, or else an empty class, which always fails at the same position; all three have the same span
 abbrev pub or_fail : Form → Extent → Form
-or_fail e span = Choice e (Then (Class [] span) End) span
+or_fail e span = Choice e (Then (Class no_bytes span) End) span
 
 -- An expression outside predicates: an empty class is added to each terminal and to each predicate.
 abbrev mutual
@@ -58,12 +63,28 @@ abbrev mutual
   loud_all End = End
   loud_all (Then e rest) = Then (loud e) (loud_all rest)
 
--- a rule with its expression made loud, and the quiet copy of a rule
+-- the extent of an expression in the file
+abbrev pub extent_of : Form → Extent
+extent_of (Literal bytes span) = span
+extent_of (Class set span) = span
+extent_of (Any span) = span
+extent_of (Name name span) = span
+extent_of (Seq items span) = span
+extent_of (Choice first rest span) = span
+extent_of (Optional part span) = span
+extent_of (Star part span) = span
+extent_of (Plus part span) = span
+extent_of (Counted part min max span) = span
+extent_of (And part span) = span
+extent_of (Not part span) = span
+
+-- A rule with its expression made loud, and the quiet copy of a rule. Both have the extent of the rule's expression in
+-- place of that of its name, since a copy's name is not in the file.
 abbrev pub loud_rule : Rule → Rule
-loud_rule rule = record { name = rule.name; span = rule.span; body = loud rule.body }
+loud_rule rule = record { name = rule.name; span = extent_of rule.body; body = loud rule.body }
 
 abbrev pub quiet_rule : Rule → Rule
-quiet_rule rule = record { name = quiet_name rule.name; span = rule.span; body = quiet rule.body }
+quiet_rule rule = record { name = quiet_name rule.name; span = extent_of rule.body; body = quiet rule.body }
 
 -- all rules made loud, in order, and then the quiet copies of all rules, in order
 abbrev pub diagnostic_rules : List Rule → List Rule
