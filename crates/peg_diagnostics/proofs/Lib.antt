@@ -11,3 +11,4 @@ mod LoudRecords
 mod Placement
 mod Renaming
 mod Simulation
+mod WrittenCopies
