@@ -8,3 +8,4 @@ pub mod Diagnosis
 pub mod Diagnostic
 pub mod Items
 pub mod ItemTests
+pub mod Refusal

@@ -2,5 +2,9 @@
 #![tactic(auto)]
 
 mod builders;
+mod diagnostic;
 pub mod laws;
+mod loud_copies;
 mod quiet_copies;
+
+pub use diagnostic::diagnostic_grammar;
