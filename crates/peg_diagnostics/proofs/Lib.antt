@@ -9,6 +9,8 @@ mod KnownNames
 mod Lookups
 mod LoudRecords
 mod Placement
+mod RefusalLemmas
 mod Renaming
+mod RuleLoops
 mod Simulation
 mod WrittenCopies
