@@ -1,10 +1,13 @@
 //! Laws of the diagnostic grammar, for every grammar and text. Each function does nothing; the contract of the function
 //! is the law.
-ghost use Rattle.std.specs.Prelude.{◌≡◌, ◌≢◌, ◌↔◌, ℕ, suc, AllPairs, List, Some};
+ghost use Rattle.std.specs.Prelude.{◌≡◌, ◌≢◌, ◌↔◌, ℕ, suc, AllPairs, List, [], ◌∷◌, Some, codes};
 ghost use Rattle.peg_bytes.specs.Extent.{Extent, between};
-ghost use Rattle.peg_diagnostics.specs.Blame.{blame_in, HasBlame};
+ghost use Rattle.peg_diagnostics.specs.Blame.{blame_in, HasBlame, StartHasBlame};
+ghost use Rattle.peg_diagnostics.specs.BlameExamples.{guarded, keyword, predicate_blame, literal_blame, matched_blame};
+ghost use Rattle.peg_diagnostics.specs.BlameExamples.{keyword_blame, identifier_blame};
 ghost use Rattle.peg_diagnostics.specs.Diagnosis.{Diagnosis};
 ghost use Rattle.peg_diagnostics.specs.Diagnostic.{diagnostic_rules, HaveNoMark};
+ghost use Rattle.peg_diagnostics.specs.ItemTests.{item_terminals};
 ghost use Rattle.peg_semantics.specs.Form.{Form, Name};
 ghost use Rattle.peg_semantics.specs.Grammar.{IsGrammar};
 ghost use Rattle.peg_semantics.specs.Record.{Record, record_in, start_record};
@@ -22,6 +25,18 @@ pub fn blame_is_monotone_in_depth()
 pub fn blame_is_unique()
     ensures { (rules : List Rule) (text : List ℕ) (e : Form) (item position : ℕ) (r s : Record)
         → HasBlame rules text e item position r → HasBlame rules text e item position s → r ≡ s }
+{}
+
+/// The definitions give the blame of grammars that were worked by hand: result, trees, failed items and calls. They also
+/// give the terminal numbers of the added empty classes.
+pub fn the_definitions_agree_with_hand_worked_grammars()
+    ensures predicate { StartHasBlame guarded (codes "abc") (codes "S") predicate_blame }
+    ensures literal { StartHasBlame guarded (codes "ax") (codes "S") literal_blame }
+    ensures matched { StartHasBlame guarded (codes "abd") (codes "S") matched_blame }
+    ensures keyword { StartHasBlame keyword (codes "if") (codes "S") keyword_blame }
+    ensures identifier { StartHasBlame keyword (codes "ix") (codes "S") identifier_blame }
+    ensures guarded_terminals { item_terminals guarded ≡ 1 ∷ 3 ∷ 5 ∷ [] }
+    ensures keyword_terminals { item_terminals keyword ≡ 0 ∷ 2 ∷ 4 ∷ [] }
 {}
 
 /// The diagnostic grammar computes the blame, if all its names are distinct. A name with a record has a blame and a record
