@@ -1,0 +1,9 @@
+//! Tests of diagnostic grammars, by their public calls.
+#![tactic(auto)]
+
+#[cfg(test)]
+mod grammars;
+#[cfg(test)]
+mod outcomes;
+#[cfg(test)]
+mod texts;
