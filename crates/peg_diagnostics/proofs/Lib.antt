@@ -4,6 +4,7 @@ mod DiagnosisLemmas
 mod DiagnosticGrammar
 mod DiagnosticOutcomes
 mod DiagnosticWellFormed
+mod Drops
 mod EmptySet
 mod KnownNames
 mod Lookups

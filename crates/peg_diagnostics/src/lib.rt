@@ -6,5 +6,7 @@ mod diagnostic;
 pub mod laws;
 mod loud_copies;
 mod quiet_copies;
+mod spans;
 
 pub use diagnostic::diagnostic_grammar;
+pub use spans::item_spans;
