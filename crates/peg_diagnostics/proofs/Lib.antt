@@ -9,6 +9,7 @@ mod EmptySet
 mod KnownNames
 mod Lookups
 mod LoudRecords
+mod NumberLoops
 mod Placement
 mod RefusalLemmas
 mod Renaming

@@ -7,6 +7,8 @@ pub mod laws;
 mod loud_copies;
 mod quiet_copies;
 mod spans;
+mod terminals;
 
 pub use diagnostic::diagnostic_grammar;
 pub use spans::item_spans;
+pub use terminals::item_terminals;
