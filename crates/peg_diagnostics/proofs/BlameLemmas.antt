@@ -1,9 +1,9 @@
 -- Blame is monotone in the depth.
-use Rattle.std.proofs.Common.{◌≡◌, ℕ, zero, suc, ◌+◌, List, Option, None, Some, refl, ap, option_map, option_and_then}
+use Rattle.std.proofs.Common.{◌≡◌, ℕ, zero, suc, ◌+◌, List, Some, ap, option_map}
 use Rattle.std.proofs.Common.{zero-add, suc-add, add_comm}
 use Rattle.peg_semantics.specs.Form.{Form, Forms, Literal, Class, Any, Name, Seq, Choice, Optional, Star, Plus, Counted}
 use Rattle.peg_semantics.specs.Form.{And, Not, End, Then}
-use Rattle.peg_semantics.specs.Record.{Record, Recognizer, matched_at, then_at, or_else, star_result, as_call, record_in}
+use Rattle.peg_semantics.specs.Record.{Record, Recognizer, matched_at, star_result, as_call, record_in}
 use Rattle.peg_semantics.specs.Rules.{Rule, Meaning}
 use Rattle.peg_semantics.proofs.RecordLemmas.{Extends, Extends-refl, Extends-none, Extends-map, Extends-and_then}
 use Rattle.peg_semantics.proofs.RecordLemmas.{Extends-then_at, Extends-or_else, Extends-star_result}
@@ -96,5 +96,5 @@ one_blame rules text e item position r s a b =
     let first = blame_in-later rules text b.0 a.0 e item position r a.1 in
     let second = blame_in-later rules text a.0 b.0 e item position s b.1 in
     let meet : blame_in rules text (b.0 + a.0) e item position ≡ blame_in rules text (a.0 + b.0) e item position =
-        ap (λ k. blame_in rules text k e item position) (add_comm b.0 a.0) in
+    ap (λ k. blame_in rules text k e item position) (add_comm b.0 a.0) in
     cc

@@ -1,16 +1,16 @@
 -- The blame of an expression has the result of its record, in each depth.
 use Rattle.std.proofs.Common.{◌≡◌, ℕ, zero, suc, ◌+◌, Bool, true, false, if◌then◌else◌, List, [], ◌∷◌}
-use Rattle.std.proofs.Common.{Option, None, Some, IfSome, refl, sym, ap, ap₂, ◌∙◌, subst, bytes_eq, option_map, option_and_then}
-use Rattle.peg_tree.specs.Trees.{Trees, NoTrees, Tree, followed_by}
+use Rattle.std.proofs.Common.{Option, None, Some, IfSome, refl, sym, ap, ap₂, subst, bytes_eq, option_map, option_and_then}
+use Rattle.peg_tree.specs.Trees.{NoTrees, Tree, followed_by}
 use Rattle.peg_semantics.specs.Form.{Form, Forms, Literal, Class, Any, Name, Seq, Choice, Optional, Star, Plus, Counted}
 use Rattle.peg_semantics.specs.Form.{And, Not, End, Then, terminals}
-use Rattle.peg_semantics.specs.Record.{Recognition, Failed, Matched, Record, Recognizer, Test, matched_at, then_at, or_else}
-use Rattle.peg_semantics.specs.Record.{star_result, as_call, recognize_seq, recognize_choice, table, record_in}
+use Rattle.peg_semantics.specs.Record.{Recognition, Failed, Matched, Record, Recognizer, matched_at}
+use Rattle.peg_semantics.specs.Record.{as_call, recognize_seq, recognize_choice, table, record_in}
 use Rattle.peg_semantics.specs.Rules.{Rule, Meaning, meaning_from, meaning_of}
 use Rattle.peg_diagnostics.specs.Blame.{item_blame, blame_item, blame_seq, blame_choice, blame_table, blame_in}
 use Rattle.peg_diagnostics.specs.Diagnostic.{rename, rename_all}
 use Rattle.peg_diagnostics.specs.Items.{items, item_meaning_from, item_meaning_of}
-use Rattle.peg_diagnostics.proofs.Renaming.{EachFrom, HasCopy, Simulates-rename}
+use Rattle.peg_diagnostics.proofs.Renaming.{HasCopy, Simulates-rename}
 use Rattle.peg_diagnostics.proofs.Simulation.{Likeness, SameResult, IsLike, Simulates, Simulates-map, Simulates-matched_at}
 use Rattle.peg_diagnostics.proofs.Simulation.{Simulates-then_at, Simulates-or_else, Simulates-rounds}
 use Rattle.peg_diagnostics.proofs.Simulation.{Simulates-recognize_repeat, IsLike-as_call}
@@ -122,9 +122,11 @@ IsLike-item_blame item position x y is = record { results = by x.result y.result
 Simulates-item_blame : (item position : ℕ) (first second : Option Record) → Simulates same_results first second
     → Simulates same_results first (option_map (λ (r : Record). item_blame item position r.result) second)
 Simulates-item_blame item position None second h = tt
-Simulates-item_blame item position (Some x) second h =
-    (item_blame item position (h.0).result, ap (option_map (λ (r : Record). item_blame item position r.result)) h.1,
-    IsLike-item_blame item position x h.0 h.2)
+Simulates-item_blame item position (Some x) second h = (
+  item_blame item position (h.0).result,
+  ap (option_map (λ (r : Record). item_blame item position r.result)) h.1,
+  IsLike-item_blame item position x h.0 h.2,
+)
 
 module _ (rules : List Rule) (text : List ℕ) where
   abbrev SameResults : (take more : Recognizer) → Type 0

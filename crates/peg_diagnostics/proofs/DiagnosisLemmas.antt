@@ -1,5 +1,5 @@
 -- The diagnostic grammar computes the blame of each name.
-use Rattle.std.proofs.Common.{◌≡◌, ℕ, List, Option, Some, refl, sym, ap, ◌∙◌, subst}
+use Rattle.std.proofs.Common.{◌≡◌, ℕ, List, Option, Some, refl, sym, ◌∙◌}
 use Rattle.peg_bytes.specs.Extent.{Extent}
 use Rattle.peg_semantics.specs.Form.{Form, Name}
 use Rattle.peg_semantics.specs.Record.{Recognition, Failed, Matched, Record, record_in}
@@ -35,11 +35,11 @@ module _ (rules : List Rule) (text : List ℕ) (distinct : Distinct (names (diag
   diagnosis n e t terminal number position r placed is =
       let item = item_of rules in
       let blamed = Simulates-gives same_results (record_in rules text n e t position)
-          (blame_in rules text n e number position) r is (Simulates-blame rules text n e t number position) in
+      (blame_in rules text n e number position) r is (Simulates-blame rules text n e t number position) in
       let shown = Simulates-gives (same_items item) (blame_in rules text n e number position)
-          (record_in (diagnostic_rules rules) text (twice n) (loud e) terminal position) blamed.0 blamed.1
-          (Simulates-loud item rules (diagnostic_rules rules) text (loud_copies rules) (quiet_copies rules distinct) n e
-          terminal number position placed) in
+      (record_in (diagnostic_rules rules) text (twice n) (loud e) terminal position) blamed.0 blamed.1
+      (Simulates-loud item rules (diagnostic_rules rules) text (loud_copies rules) (quiet_copies rules distinct) n e
+      terminal number position placed) in
       let same = equal_results r.result (blamed.0).result (blamed.2).results in
       record {
         blame = blamed.0;

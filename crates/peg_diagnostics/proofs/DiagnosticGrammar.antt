@@ -1,19 +1,19 @@
 -- The diagnostic grammar of a grammar is a grammar, if no name of a rule has the mark of quiet copies.
-use Rattle.std.proofs.Common.{◌≡◌, ◌≢◌, ℕ, zero, suc, ◌+◌, ◌<◌, true, List, [], ◌∷◌, ◌++◌, map, All, AllPairs, Contains}
-use Rattle.std.proofs.Common.{get_or, length, append-nil, refl, sym, ap, ap₂, ◌∙◌, subst, arith}
+use Rattle.std.proofs.Common.{◌≡◌, ◌≢◌, ℕ, zero, suc, true, List, [], ◌∷◌, ◌++◌, map, All, AllPairs, Contains}
+use Rattle.std.proofs.Common.{append-nil, refl, sym, ap, ap₂, ◌∙◌, subst, arith}
 use Rattle.std.proofs.lemmas.List.{append_cancel_right}
 use Rattle.std.proofs.lemmas.List.Elements.{All-nil, All-cons, All-head, All-tail, All-append, All-weaker, All-contains}
 use Rattle.std.proofs.lemmas.List.Elements.{Contains-append_left, Contains-append_right, Contains-push}
 use Rattle.std.proofs.lemmas.Grind.{flat_map-append}
 use Rattle.peg_semantics.specs.Form.{Form, Forms, Literal, Class, Any, Name, Seq, Choice, Optional, Star, Plus, Counted}
-use Rattle.peg_semantics.specs.Form.{And, Not, End, Then, Reference, Count, names_used, names_used_by_all}
+use Rattle.peg_semantics.specs.Form.{And, Not, End, Then, Count, names_used, names_used_by_all}
 use Rattle.peg_semantics.specs.Form.{counts_written, counts_written_by_all}
 use Rattle.peg_semantics.specs.Grammar.{IsGrammar, CountsAreInRange, is_in_range}
 use Rattle.peg_semantics.specs.Rules.{Rule, names, references, counts}
 use Rattle.peg_diagnostics.specs.Diagnostic.{rename_all, quiet, quiet_name, loud, loud_all, loud_rule, quiet_rule}
 use Rattle.peg_diagnostics.specs.Diagnostic.{diagnostic_rules, HaveNoMark}
 use Rattle.peg_diagnostics.proofs.KnownNames.{All-front, All-back, IsKnown}
-use Rattle.peg_diagnostics.proofs.Lookups.{Distinct, names-diagnostic, AllPairs-head, AllPairs-tail, bytes_eq-same, Contains-first}
+use Rattle.peg_diagnostics.proofs.Lookups.{Distinct, names-diagnostic, AllPairs-head, AllPairs-tail, Contains-first}
 
 -- ---- distinct names
 
@@ -177,9 +177,9 @@ references_known rules all =
     let copies = names (map quiet_rule rules) in
     let both = names rules ++ copies in
     let louder : (name : List ℕ) → Contains (names rules) name → Contains both name =
-        λ name there. Contains-append_left (names rules) copies name there in
+    λ name there. Contains-append_left (names rules) copies name there in
     let quieter : (name : List ℕ) → Contains (names rules) name → Contains both (quiet_name name) =
-        λ name there. Contains-append_right (names rules) copies (quiet_name name) (quiet_names-known rules name there) in
+    λ name there. Contains-append_right (names rules) copies (quiet_name name) (quiet_names-known rules name there) in
     subst (λ known. All (IsKnown known) (references (diagnostic_rules rules))) (sym (names-diagnostic rules))
     (subst (All (IsKnown both)) (sym (flat_map-append (λ (rule : Rule). names_used rule.body) (map loud_rule rules) (map quiet_rule rules)))
     (All-append (IsKnown both) (references (map loud_rule rules)) (references (map quiet_rule rules))

@@ -1,5 +1,5 @@
 -- The abstract outcomes of quiet and of loud expressions in the diagnostic grammar.
-use Rattle.std.proofs.Common.{◌≡◌, ℕ, zero, suc, ◌+◌, Bool, true, false, ◌&&◌, ◌||◌, List, [], ◌∷◌, Contains, Option, None, Some}
+use Rattle.std.proofs.Common.{◌≡◌, ℕ, zero, suc, Bool, true, false, ◌&&◌, ◌||◌, List, [], ◌∷◌}
 use Rattle.std.proofs.Common.{All, refl, sym, ap, ap₂, ◌∙◌, subst, ◌++◌}
 use Rattle.std.proofs.lemmas.List.Elements.{All-head}
 use Rattle.peg_bytes.specs.Extent.{Extent}
@@ -9,7 +9,7 @@ use Rattle.peg_semantics.specs.AbstractOutcomes.{outcome_of_items, outcome_of_ch
 use Rattle.peg_semantics.specs.AbstractOutcomes.{GivesNothing, always_empty}
 use Rattle.peg_semantics.specs.Form.{Form, Forms, Literal, Class, Any, Name, Seq, Choice, Optional, Star, Plus, Counted}
 use Rattle.peg_semantics.specs.Form.{And, Not, End, Then, names_used, names_used_by_all}
-use Rattle.peg_semantics.specs.Rules.{Rule, Meaning, names, references, meaning_of}
+use Rattle.peg_semantics.specs.Rules.{Rule, names, references, meaning_of}
 use Rattle.peg_semantics.proofs.RoundsLemmas.{CanAll-refl, CanAll-trans, CanAll-no_outcome, CanAll-seq_outcome}
 use Rattle.peg_semantics.proofs.RoundsLemmas.{CanAll-choice_outcome, CanAll-optional_outcome, CanAll-star_outcome}
 use Rattle.peg_semantics.proofs.RoundsLemmas.{CanAll-plus_outcome, CanAll-repeat_outcome, can_in-more}

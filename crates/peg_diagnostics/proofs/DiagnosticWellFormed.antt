@@ -1,21 +1,20 @@
 -- Well-formedness carries over to the diagnostic grammar, and back.
-use Rattle.std.proofs.Common.{◌≡◌, ℕ, zero, suc, ◌+◌, ◌<◌, List, [], ◌∷◌, ◌++◌, map, length, get_or, All, Contains, Option, None, Some}
+use Rattle.std.proofs.Common.{◌≡◌, ℕ, zero, suc, ◌+◌, List, [], ◌∷◌, ◌++◌, map, get_or, All}
 use Rattle.std.proofs.Common.{refl, sym, ap, ap₂, ◌∙◌, subst, arith}
 use Rattle.std.proofs.lemmas.List.{map-append}
 use Rattle.std.proofs.lemmas.List.Elements.{All-nil, All-cons, All-head, All-tail, All-map, All-append}
 use Rattle.peg_bytes.specs.Extent.{Extent}
-use Rattle.peg_semantics.specs.AbstractOutcomes.{GivesNothing}
 use Rattle.peg_semantics.specs.Form.{Form, Forms, Literal, Class, Any, Name, Seq, Choice, Optional, Star, Plus, Counted}
 use Rattle.peg_semantics.specs.Form.{And, Not, End, Then, names_used, names_used_by_all}
-use Rattle.peg_semantics.specs.Rules.{Rule, Meaning, names, references, meaning_of}
+use Rattle.peg_semantics.specs.Rules.{Rule, names, references, meaning_of}
 use Rattle.peg_semantics.specs.WellFormed.{FormPredicate, ItemsAre, AllAre, MeaningIs, RepeatsWell, WellFormedTable}
 use Rattle.peg_semantics.specs.WellFormed.{IsWellFormedIn, IsWellFormed, below, below_all, subexpressions, IsWellFormedGrammar}
 use Rattle.peg_semantics.proofs.RoundsLemmas.{IsWellFormedIn-more, IsWellFormedIn-later}
 use Rattle.peg_diagnostics.specs.Diagnostic.{rename_all, quiet, quiet_name, no_bytes, or_fail, loud, loud_all, loud_rule, quiet_rule}
 use Rattle.peg_diagnostics.specs.Diagnostic.{diagnostic_rules}
-use Rattle.peg_diagnostics.proofs.DiagnosticOutcomes.{Known, KnownAll, known-front, known-back, known-name}
+use Rattle.peg_diagnostics.proofs.DiagnosticOutcomes.{known-front, known-back, known-name}
 use Rattle.peg_diagnostics.proofs.DiagnosticOutcomes.{GivesNothing-quiet, GivesNothing-loud}
-use Rattle.peg_diagnostics.proofs.KnownNames.{All-front, All-back, IsKnown, UsesKnown, MeansKnown, loud_meaning, quiet_meaning}
+use Rattle.peg_diagnostics.proofs.KnownNames.{All-front, All-back, IsKnown, UsesKnown, loud_meaning, quiet_meaning}
 use Rattle.peg_diagnostics.proofs.Lookups.{Distinct}
 use Rattle.peg_diagnostics.proofs.LoudRecords.{twice, twice-more}
 
@@ -137,10 +136,11 @@ module _ (rules : List Rule) (closed : All (IsKnown (names rules)) (references r
   module _ (Is Other : FormPredicate) (same : (e : Form) → Uses e → Is e → Other (loud e)) where
     ItemsAre-loud : (items : Forms) → UsesAll items → ItemsAre rules Is items → ItemsAre shown Other (loud_all items)
     ItemsAre-loud End known are = tt
-    ItemsAre-loud (Then e rest) known are =
-        (same e (front e rest known) are.0,
-        λ gives. ItemsAre-loud rest (back e rest known)
-        (are.1 (GivesNothing-loud rules closed distinct e (front e rest known) gives)))
+    ItemsAre-loud (Then e rest) known are = (
+      same e (front e rest known) are.0,
+      λ gives. ItemsAre-loud rest (back e rest known)
+          (are.1 (GivesNothing-loud rules closed distinct e (front e rest known) gives)),
+    )
 
     AllAre-loud : (items : Forms) → UsesAll items → AllAre Is items → AllAre Other (loud_all items)
     AllAre-loud End known are = tt
@@ -180,10 +180,11 @@ module _ (rules : List Rule) (closed : All (IsKnown (names rules)) (references r
       → WellFormedTable shown (IsWellFormedIn shown (suc (twice n))) (or_fail (quiet e) span)
   unfolding IsWellFormedIn
   item_is n e span known is =
-      let deep : n + suc n ≡ suc (twice n) = omega (arith, twice-more n) in
-      (subst (λ d. IsWellFormedIn shown d (quiet e)) deep
-      (IsWellFormedIn-later shown n (suc n) (quiet e) (subst (λ T. T) (sym (IsWellFormedIn-quiet (suc n) e known)) is)),
-      (tt, tt))
+      let deep : n + suc n ≡ suc (twice n) = omega (arith, twice-more n) in (
+        subst (λ d. IsWellFormedIn shown d (quiet e)) deep
+            (IsWellFormedIn-later shown n (suc n) (quiet e) (subst (λ T. T) (sym (IsWellFormedIn-quiet (suc n) e known)) is)),
+        (tt, tt),
+      )
 
   IsWellFormedIn-loud : (n : ℕ) (e : Form) → Uses e → IsWellFormedIn rules n e → IsWellFormedIn shown (twice n) (loud e)
   unfolding IsWellFormedIn

@@ -1,5 +1,5 @@
 -- The empty set of bytes.
-use Rattle.std.proofs.Common.{◌≡◌, ℕ, zero, suc, false, List, length, replicate, get_or, refl, sym, ◌∙◌, arith}
+use Rattle.std.proofs.Common.{◌≡◌, ℕ, zero, suc, false, length, replicate, get_or, refl, sym, ◌∙◌, arith}
 use Rattle.std.proofs.lemmas.List.{ext_get_or, length-replicate}
 use Rattle.peg_bytes.specs.ByteSet.{has, has_some, bytes_of}
 use Rattle.peg_bytes.specs.declared.byte_set.ByteSet.{ByteSet}

@@ -1,19 +1,19 @@
 -- What names refer to in the diagnostic grammar: the loud rule of the same number, and the quiet copy.
-use Rattle.std.proofs.Common.{◌≡◌, ◌≢◌, ℕ, zero, suc, ◌+◌, ◌<◌, ◌≤◌, Bool, true, false, if◌then◌else◌, List, [], ◌∷◌, ◌++◌}
-use Rattle.std.proofs.Common.{Option, None, Some, refl, sym, ap, ap₂, ◌∙◌, subst, arith, bytes_eq, map, length, All}
-use Rattle.std.proofs.Common.{AllPairs, Contains, get_or, append-nil, le_refl}
-use Rattle.std.proofs.lemmas.List.{append_cancel_right, map-append, get_or_append_left}
+use Rattle.std.proofs.Common.{◌≡◌, ◌≢◌, ℕ, suc, ◌+◌, ◌<◌, ◌≤◌, Bool, true, false, if◌then◌else◌, List, [], ◌∷◌, ◌++◌}
+use Rattle.std.proofs.Common.{Option, Some, refl, sym, ap, ◌∙◌, subst, arith, bytes_eq, map, All}
+use Rattle.std.proofs.Common.{AllPairs, Contains, append-nil, le_refl}
+use Rattle.std.proofs.lemmas.List.{append_cancel_right, map-append}
 use Rattle.std.proofs.lemmas.List.Elements.{All-nil, All-cons, All-head, All-tail, All-contains, Contains-append_left}
 use Rattle.std.proofs.lemmas.List.Elements.{Contains-append_right, Contains-push, All-weaker}
 use Rattle.std.proofs.lemmas.Slice.Eq.{bytes_eq-Decides}
 use Rattle.std.proofs.lemmas.Bool.{false≢true}
 use Rattle.peg_semantics.specs.Form.{terminals}
 use Rattle.peg_semantics.specs.Rules.{Rule, Meaning, names, meaning_from, meaning_of}
-use Rattle.peg_diagnostics.specs.Diagnostic.{rename, quiet, quiet_name, loud, loud_rule, quiet_rule, diagnostic_rules}
+use Rattle.peg_diagnostics.specs.Diagnostic.{quiet, quiet_name, loud, loud_rule, quiet_rule, diagnostic_rules}
 use Rattle.peg_diagnostics.specs.Items.{items, item_meaning_from, item_meaning_of}
 use Rattle.peg_diagnostics.specs.ItemTests.{added_terminals, added_terminals_from, item_terminals, item_of}
 use Rattle.peg_diagnostics.proofs.LoudRecords.{IsOwn, IsPlaced, HasLoud, no_items}
-use Rattle.peg_diagnostics.proofs.Placement.{Below, From, Below-more, From-less, IsPart, item_in, part-front, part-back, placed}
+use Rattle.peg_diagnostics.proofs.Placement.{Below, From, IsPart, item_in, part-front, part-back, placed}
 use Rattle.peg_diagnostics.proofs.Placement.{length-added, added-below, added-from, place_from-none, two_parts-from}
 use Rattle.peg_diagnostics.proofs.Placement.{two_parts-below}
 use Rattle.peg_diagnostics.proofs.Renaming.{HasCopy}
@@ -137,12 +137,13 @@ rules_placed all [] before terminal number part = tt
 rules_placed all (r ∷ rs) before terminal number part =
     let later = terminal + terminals (loud r.body) in
     let xs = added_terminals r.body terminal in
-    let ys = added_terminals_from later rs in
-    (placed all r.body before (ys ++ []) terminal number
-    (part-front all before xs ys [] terminal (terminals (loud r.body)) (loud_terminals rs) number part (rules-from rs later)),
-    rules_placed all rs (before ++ xs) later (number + items r.body)
-    (part-back all before xs ys [] terminal (terminals (loud r.body)) (loud_terminals rs) number part (items r.body)
-    (length-added r.body terminal) (added-below r.body terminal)))
+    let ys = added_terminals_from later rs in (
+      placed all r.body before (ys ++ []) terminal number
+          (part-front all before xs ys [] terminal (terminals (loud r.body)) (loud_terminals rs) number part (rules-from rs later)),
+      rules_placed all rs (before ++ xs) later (number + items r.body)
+          (part-back all before xs ys [] terminal (terminals (loud r.body)) (loud_terminals rs) number part (items r.body)
+          (length-added r.body terminal) (added-below r.body terminal)),
+    )
 
 all_rules_placed : (rules : List Rule) → AreRulesPlaced (item_of rules) rules 0 0
 all_rules_placed rules =
@@ -214,10 +215,13 @@ passes_loud (r ∷ rs) more name rule terminal apart =
     let later = passes_loud rs more name (rule + 1) (terminal + terminals (loud r.body))
     (All-tail (λ n. n ≢ name) r.name (names rs) apart) in
     let other : bytes_eq name r.name ≡ false =
-        bytes_eq-apart name r.name (λ same. All-head (λ n. n ≢ name) r.name (names rs) apart (sym same)) in
-    (later.0, later.1, omega (arith, later.2),
-    ap (λ b. if b then Some (record { rule = rule; terminal = terminal; body = loud r.body }) else meaning_from (rule + 1) (terminal + terminals (loud r.body)) (map loud_rule rs ++ more) name) other
-    ∙ later.3)
+    bytes_eq-apart name r.name (λ same. All-head (λ n. n ≢ name) r.name (names rs) apart (sym same)) in (
+      later.0,
+      later.1,
+      omega (arith, later.2),
+      ap (λ b. if b then Some (record { rule = rule; terminal = terminal; body = loud r.body }) else meaning_from (rule + 1) (terminal + terminals (loud r.body)) (map loud_rule rs ++ more) name) other
+          ∙ later.3,
+    )
 
 -- the quiet copy of what a name refers to, with terminals from a number on
 abbrev FindsQuiet : ℕ → Option Meaning → Meaning → Type 0

@@ -1,22 +1,22 @@
 -- The record of a loud expression in the diagnostic grammar has the result and the failed items of the blame.
-use Rattle.std.proofs.Common.{◌≡◌, ℕ, zero, suc, ◌+◌, ◌<◌, Bool, true, false, if◌then◌else◌, List, [], ◌∷◌, ◌++◌, drop}
+use Rattle.std.proofs.Common.{◌≡◌, ℕ, zero, suc, ◌+◌, Bool, true, false, if◌then◌else◌, List, [], ◌∷◌, ◌++◌, drop}
 use Rattle.std.proofs.Common.{Option, None, Some, IfSome, refl, sym, ap, ap₂, ◌∙◌, subst, arith, option_map, option_and_then}
 use Rattle.std.proofs.Common.{filter_map, ◌==◌}
 use Rattle.std.specs.List.{cons_option}
 use Rattle.std.proofs.lemmas.List.Elements.{filter_map-append}
 use Rattle.peg_bytes.specs.ByteSet.{has}
 use Rattle.peg_bytes.specs.Extent.{Extent}
-use Rattle.peg_tree.specs.Trees.{Trees, NoTrees, Tree, followed_by}
+use Rattle.peg_tree.specs.Trees.{NoTrees, Tree, followed_by}
 use Rattle.peg_semantics.specs.Form.{Form, Forms, Literal, Class, Any, Name, Seq, Choice, Optional, Star, Plus, Counted}
-use Rattle.peg_semantics.specs.Form.{And, Not, End, Then, terminals, terminals_of_all}
+use Rattle.peg_semantics.specs.Form.{And, Not, End, Then, terminals}
 use Rattle.peg_semantics.specs.Record.{Recognition, Failed, Matched, Record, Recognizer, Test, test_of, matched_at, failed_at}
-use Rattle.peg_semantics.specs.Record.{then_at, or_else, choice_result, star_result, as_call, literal_at, byte_at}
+use Rattle.peg_semantics.specs.Record.{or_else, choice_result, as_call, literal_at, byte_at}
 use Rattle.peg_semantics.specs.Record.{if_matched, if_failed, with_result, recognize_seq, recognize_choice, table, record_in}
-use Rattle.peg_semantics.specs.Rules.{Rule, Meaning, meaning_from, meaning_of}
+use Rattle.peg_semantics.specs.Rules.{Rule, Meaning, meaning_of}
 use Rattle.peg_semantics.proofs.RecordLemmas.{record_in-more, record_in-later}
 use Rattle.peg_diagnostics.specs.Blame.{item_blame, blame_item, blame_seq, blame_choice, blame_table, blame_in}
-use Rattle.peg_diagnostics.specs.Diagnostic.{rename, rename_all, quiet, quiet_name, no_bytes, or_fail, loud, loud_all}
-use Rattle.peg_diagnostics.specs.Items.{items, items_of_all, item_meaning_of}
+use Rattle.peg_diagnostics.specs.Diagnostic.{quiet, quiet_name, no_bytes, or_fail, loud, loud_all}
+use Rattle.peg_diagnostics.specs.Items.{items, item_meaning_of}
 use Rattle.peg_diagnostics.specs.ItemTests.{as_item_test}
 use Rattle.peg_diagnostics.proofs.EmptySet.{has-no_bytes}
 use Rattle.peg_diagnostics.proofs.Renaming.{EachFrom, HasCopy, Simulates-rename, terminals-rename}
@@ -151,17 +151,22 @@ module _ (item : ℕ → Option ℕ) where
           → SameResult (no_items item) result other
           → Follows (same_items item) (choice_result other y (Some (failed_at terminal position)))
           (item_blame number position result)
-      by Failed Failed at bare also results =
-          (record { result = Failed; tests = y.tests ++ test_of terminal position ∷ []; calls = y.calls ++ [] }, refl,
-          record { results = tt; tests = item_tests-fail y.tests terminal number position like.tests is })
+      by Failed Failed at bare also results = (
+        record { result = Failed; tests = y.tests ++ test_of terminal position ∷ []; calls = y.calls ++ [] },
+        refl,
+        record { results = tt; tests = item_tests-fail y.tests terminal number position like.tests is },
+      )
       by Failed (Matched end trees) at bare also results = absurd results
       by (Matched end trees) Failed at bare also results = absurd results
-      by (Matched end trees) (Matched end' trees') at bare also results =
-          (y, refl, record {
-            results = subst (λ (r : Recognition). SameResult (same_items item) (Matched end trees) r) (sym at)
-                (results.0, bare ∙ sym also);
-            tests = like.tests;
-          })
+      by (Matched end trees) (Matched end' trees') at bare also results = (
+        y,
+        refl,
+        record {
+          results = subst (λ (r : Recognition). SameResult (same_items item) (Matched end trees) r) (sym at)
+              (results.0, bare ∙ sym also);
+          tests = like.tests;
+        },
+      )
 
   -- an item's expression and then its empty class, against the blame of the item
   Simulates-item : (terminal number position : ℕ) → item terminal ≡ Some number → (first second : Option Record)
@@ -250,7 +255,7 @@ module _ (item : ℕ → Option ℕ) (rules other : List Rule) (text : List ℕ)
           (table other text more (or_fail (quiet e) span) terminal position)
       item_case e span terminal number position placed bare also =
           let at : terminal + terminals e ≡ terminal + terminals (quiet e) =
-              ap (λ n. terminal + n) (sym (terminals-rename quiet_name e)) in
+          ap (λ n. terminal + n) (sym (terminals-rename quiet_name e)) in
           let place = terminal + terminals (quiet e) in
           let fails = is (Class no_bytes span) place position ∙ ap Some (empty_class-fails place position (drop position text)) in
           let there = is (quiet e) terminal position in

@@ -1,18 +1,16 @@
 -- The added empty classes of the diagnostic grammar are those of the items, in order.
-use Rattle.std.proofs.Common.{◌≡◌, ◌≢◌, ℕ, zero, suc, ◌+◌, ◌<◌, ◌≤◌, Bool, true, false, List, [], ◌∷◌, ◌++◌, length, All}
-use Rattle.std.proofs.Common.{Option, None, Some, refl, sym, ap, ap₂, ◌∙◌, subst, arith, ◌==◌, cond, append_assoc}
+use Rattle.std.proofs.Common.{◌≡◌, ◌≢◌, ℕ, suc, ◌+◌, ◌<◌, ◌≤◌, Bool, true, false, List, [], ◌∷◌, ◌++◌, length, All}
+use Rattle.std.proofs.Common.{Option, None, Some, refl, sym, ap, ap₂, ◌∙◌, arith, ◌==◌, cond, append_assoc}
 use Rattle.std.specs.List.{position_from}
 use Rattle.std.proofs.lemmas.Bool.Decides.{nat_tests}
 use Rattle.std.proofs.lemmas.List.{length-append}
 use Rattle.std.proofs.lemmas.List.Elements.{All-nil, All-cons, All-head, All-tail, All-append, All-weaker}
 use Rattle.peg_semantics.specs.Form.{Form, Forms, Literal, Class, Any, Name, Seq, Choice, Optional, Star, Plus, Counted}
 use Rattle.peg_semantics.specs.Form.{And, Not, End, Then, terminals, terminals_of_all}
-use Rattle.peg_semantics.specs.Rules.{Rule}
 use Rattle.peg_diagnostics.specs.Diagnostic.{quiet, quiet_name, loud, loud_all}
 use Rattle.peg_diagnostics.specs.Items.{items, items_of_all}
-use Rattle.peg_diagnostics.specs.ItemTests.{added_terminals, added_terminals_of_all, added_terminals_from, item_terminals}
-use Rattle.peg_diagnostics.specs.ItemTests.{item_of}
-use Rattle.peg_diagnostics.proofs.LoudRecords.{IsOwn, IsItemAt, IsPlaced, AreAllPlaced}
+use Rattle.peg_diagnostics.specs.ItemTests.{added_terminals, added_terminals_of_all}
+use Rattle.peg_diagnostics.proofs.LoudRecords.{IsItemAt, IsPlaced, AreAllPlaced}
 use Rattle.peg_diagnostics.proofs.Renaming.{terminals-rename}
 
 -- ---- the place of a number in a list
@@ -78,17 +76,18 @@ item_in all terminal = place_from terminal 0 all
 item_at : (all before after : List ℕ) (count terminal number : ℕ) → all ≡ before ++ (terminal + count) ∷ after
     → length before ≡ number → Below terminal before → From (terminal + count + 1) after
     → IsItemAt (item_in all) count terminal number
-item_at all before after count terminal number is long below from =
-    (λ k within. ap (place_from (terminal + k) 0) is ∙ place_from-none (terminal + k) 0 (before ++ (terminal + count) ∷ after)
-    (All-append (λ x. x ≢ terminal + k) before ((terminal + count) ∷ after)
-    (All-weaker (λ x. x < terminal) (λ x. x ≢ terminal + k) (λ x h e. omega (arith, h, e)) before below)
-    (All-cons (λ x. x ≢ terminal + k) (terminal + count) after (λ e. omega (arith, e, within))
-    (All-weaker (λ x. terminal + count + 1 ≤ x) (λ x. x ≢ terminal + k) (λ x h e. omega (arith, h, e, within)) after from))),
-    ap (place_from (terminal + count) 0) is
-    ∙ place_from-after (terminal + count) 0 before ((terminal + count) ∷ after)
-    (All-weaker (λ x. x < terminal) (λ x. x ≢ terminal + count) (λ x h e. omega (arith, h, e)) before below)
-    ∙ place_from-here (terminal + count) (0 + length before) after
-    ∙ ap Some (let at : 0 + length before ≡ number = omega (arith, long) in at))
+item_at all before after count terminal number is long below from = (
+  λ k within. ap (place_from (terminal + k) 0) is ∙ place_from-none (terminal + k) 0 (before ++ (terminal + count) ∷ after)
+      (All-append (λ x. x ≢ terminal + k) before ((terminal + count) ∷ after)
+      (All-weaker (λ x. x < terminal) (λ x. x ≢ terminal + k) (λ x h e. omega (arith, h, e)) before below)
+      (All-cons (λ x. x ≢ terminal + k) (terminal + count) after (λ e. omega (arith, e, within))
+      (All-weaker (λ x. terminal + count + 1 ≤ x) (λ x. x ≢ terminal + k) (λ x h e. omega (arith, h, e, within)) after from))),
+  ap (place_from (terminal + count) 0) is
+      ∙ place_from-after (terminal + count) 0 before ((terminal + count) ∷ after)
+      (All-weaker (λ x. x < terminal) (λ x. x ≢ terminal + count) (λ x h e. omega (arith, h, e)) before below)
+      ∙ place_from-here (terminal + count) (0 + length before) after
+      ∙ ap Some (let at : 0 + length before ≡ number = omega (arith, long) in at),
+)
 
 -- ---- the added empty classes of an expression
 
@@ -240,13 +239,14 @@ module _ (all : List ℕ) where
     placed (Choice first rest span) before after terminal number part =
         let later = terminal + terminals (loud first) in
         let xs = added_terminals first terminal in
-        let ys = added_terminals_of_all rest later in
-        (placed first before (ys ++ after) terminal number
-        (part-front all before xs ys after terminal (terminals (loud first)) (terminals_of_all (loud_all rest)) number part
-        (all_added-from rest later)),
-        all_placed rest (before ++ xs) after later (number + items first)
-        (part-back all before xs ys after terminal (terminals (loud first)) (terminals_of_all (loud_all rest)) number part
-        (items first) (length-added first terminal) (added-below first terminal)))
+        let ys = added_terminals_of_all rest later in (
+          placed first before (ys ++ after) terminal number
+              (part-front all before xs ys after terminal (terminals (loud first)) (terminals_of_all (loud_all rest)) number part
+              (all_added-from rest later)),
+          all_placed rest (before ++ xs) after later (number + items first)
+              (part-back all before xs ys after terminal (terminals (loud first)) (terminals_of_all (loud_all rest)) number part
+              (items first) (length-added first terminal) (added-below first terminal)),
+        )
     placed (Optional e span) before after terminal number part = placed e before after terminal number part
     placed (Star e span) before after terminal number part = placed e before after terminal number part
     placed (Plus e span) before after terminal number part = placed e before after terminal number part
@@ -263,10 +263,11 @@ module _ (all : List ℕ) where
     all_placed (Then e rest) before after terminal number part =
         let later = terminal + terminals (loud e) in
         let xs = added_terminals e terminal in
-        let ys = added_terminals_of_all rest later in
-        (placed e before (ys ++ after) terminal number
-        (part-front all before xs ys after terminal (terminals (loud e)) (terminals_of_all (loud_all rest)) number part
-        (all_added-from rest later)),
-        all_placed rest (before ++ xs) after later (number + items e)
-        (part-back all before xs ys after terminal (terminals (loud e)) (terminals_of_all (loud_all rest)) number part
-        (items e) (length-added e terminal) (added-below e terminal)))
+        let ys = added_terminals_of_all rest later in (
+          placed e before (ys ++ after) terminal number
+              (part-front all before xs ys after terminal (terminals (loud e)) (terminals_of_all (loud_all rest)) number part
+              (all_added-from rest later)),
+          all_placed rest (before ++ xs) after later (number + items e)
+              (part-back all before xs ys after terminal (terminals (loud e)) (terminals_of_all (loud_all rest)) number part
+              (items e) (length-added e terminal) (added-below e terminal)),
+        )

@@ -1,7 +1,7 @@
 -- A grammar is refused only for its weight or a failed allocation.
-use Rattle.std.proofs.Common.{◌≡◌, List, None, Some, IfErr, Result, Ok, Err, option_map, refl, sym, ap, ◌∙◌}
+use Rattle.std.proofs.Common.{List, IfErr, Result, Ok, Err, option_map, ap}
 use Rattle.std.proofs.Math.Logic.{∥∥₁_elim}
-use Rattle.peg_semantics.specs.Grammar.{IsGrammar, first_bad_count}
+use Rattle.peg_semantics.specs.Grammar.{IsGrammar}
 use Rattle.peg_semantics.specs.Rules.{Rule}
 use Rattle.peg_semantics.proofs.GrammarLemmas.{searches_from_IsGrammar}
 use Rattle.peg_grammar.specs.Refusal.{IsRefusedBy}

@@ -1,16 +1,15 @@
 -- An expression and its renamed copy have like records, if names refer to renamed rules.
 use Rattle.std.proofs.Common.{◌≡◌, ℕ, zero, suc, ◌+◌, ◌<◌, Bool, true, false, ◌==◌, if◌then◌else◌, List, [], ◌∷◌, drop}
-use Rattle.std.proofs.Common.{Option, None, Some, IfSome, refl, sym, ap, ap₂, ◌∙◌, subst, arith, option_map, option_and_then}
+use Rattle.std.proofs.Common.{Option, None, Some, refl, sym, ap₂, subst, arith, option_map, option_and_then}
 use Rattle.peg_bytes.specs.ByteSet.{has}
-use Rattle.peg_tree.specs.Trees.{Trees}
 use Rattle.peg_semantics.specs.Form.{Form, Forms, Literal, Class, Any, Name, Seq, Choice, Optional, Star, Plus, Counted}
 use Rattle.peg_semantics.specs.Form.{And, Not, End, Then, terminals, terminals_of_all}
-use Rattle.peg_semantics.specs.Record.{Record, Recognizer, test_of, matched_at, failed_at, then_at, or_else, star_result}
+use Rattle.peg_semantics.specs.Record.{Record, Recognizer, test_of, matched_at, failed_at}
 use Rattle.peg_semantics.specs.Record.{as_call, if_matched, if_failed, with_result, literal_at, byte_at}
 use Rattle.peg_semantics.specs.Record.{recognize_seq, recognize_choice, table, record_in}
 use Rattle.peg_semantics.specs.Rules.{Rule, Meaning, meaning_of}
 use Rattle.peg_diagnostics.specs.Diagnostic.{rename, rename_all}
-use Rattle.peg_diagnostics.proofs.Simulation.{Likeness, IsLike, Follows, Simulates, Simulates-some, Simulates-map}
+use Rattle.peg_diagnostics.proofs.Simulation.{Likeness, IsLike, Simulates, Simulates-some, Simulates-map}
 use Rattle.peg_diagnostics.proofs.Simulation.{IsLike-matched_at, Simulates-matched_at, Simulates-then_at}
 use Rattle.peg_diagnostics.proofs.Simulation.{Simulates-or_else, Simulates-rounds, Simulates-recognize_repeat}
 use Rattle.peg_diagnostics.proofs.Simulation.{IsLike-if_matched, IsLike-if_failed, IsLike-as_call, SameNode}

@@ -12,9 +12,11 @@ taken : {X : Type 0} (xs : List X) (i : ℕ) → i < length xs
 taken [] i within = absurd (omega (arith, within))
 taken (x ∷ xs) zero within = (x, refl, refl)
 taken (x ∷ xs) (suc i) within =
-    let later = taken xs i (omega (arith, within)) in
-    (later.0, later.1,
-    ap (λ n. take n (x ∷ xs)) (let at : suc i + 1 ≡ suc (i + 1) = omega arith in at) ∙ ap (λ l. x ∷ l) later.2)
+    let later = taken xs i (omega (arith, within)) in (
+      later.0,
+      later.1,
+      ap (λ n. take n (x ∷ xs)) (let at : suc i + 1 ≡ suc (i + 1) = omega arith in at) ∙ ap (λ l. x ∷ l) later.2,
+    )
 
 module _ (change : Rule → Rule) where
   -- the definitions represent those at the start, and then the first rules changed

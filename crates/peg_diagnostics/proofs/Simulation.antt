@@ -1,5 +1,5 @@
 -- A relation between the records of two expressions that every combinator of the recognition rules preserves.
-use Rattle.std.proofs.Common.{◌≡◌, ℕ, zero, suc, List, [], ◌++◌, Option, None, Some, IfSome, refl, sym, ap, ◌∙◌, subst}
+use Rattle.std.proofs.Common.{◌≡◌, ℕ, zero, suc, List, [], ◌++◌, Option, None, Some, IfSome, refl, sym, ap, subst}
 use Rattle.std.proofs.Common.{option_map, option_and_then}
 use Rattle.peg_tree.specs.Trees.{Trees, NoTrees, Tree, followed_by}
 use Rattle.peg_semantics.specs.Record.{Recognition, Failed, Matched, Test, Record, matched_at, after_both, prepend_trees}
@@ -194,6 +194,8 @@ module _ (like : Likeness) where
       by Failed Failed results = tt
       by Failed (Matched end trees) results = absurd results
       by (Matched end trees) Failed results = absurd results
-      by (Matched end trees) (Matched end' more) results =
-          (results.0, subst (λ at. like.Same (Tree rule position end trees NoTrees) (Tree other position at more NoTrees))
-          results.0 (node position end trees more results.1))
+      by (Matched end trees) (Matched end' more) results = (
+        results.0,
+        subst (λ at. like.Same (Tree rule position end trees NoTrees) (Tree other position at more NoTrees))
+            results.0 (node position end trees more results.1),
+      )

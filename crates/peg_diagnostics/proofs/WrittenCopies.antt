@@ -1,5 +1,5 @@
 -- Lists of copied expressions, as `Forms`.
-use Rattle.std.proofs.Common.{◌≡◌, ℕ, ◌+◌, ◌<◌, List, [], ◌∷◌, ◌++◌, length, map, drop, get_or, refl, sym, ap, ◌∙◌, append_assoc}
+use Rattle.std.proofs.Common.{◌≡◌, List, [], ◌∷◌, map, refl, ap}
 use Rattle.std.proofs.Common.{Result, IfOk, subst}
 use Rattle.peg_semantics.specs.Form.{Form, Then, forms}
 use Rattle.peg_grammar.specs.Written.{form_of}

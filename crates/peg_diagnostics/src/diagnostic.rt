@@ -59,11 +59,7 @@ fn add_quiet_rules(
 }
 
 // Returns a rule made loud.
-fn loud_definition(
-    alloc: Global,
-    grammar: &Grammar,
-    rule: u32,
-) -> Result<Definition, AllocError>
+fn loud_definition(alloc: Global, grammar: &Grammar, rule: u32) -> Result<Definition, AllocError>
     requires { rule < length (rules_in grammar.now) }
     ensures { IfOk result (λ definition. (r : Rule) → slice_get (rules_in grammar.now) rule ≡ Some r
         → rule_of definition ≡ loud_rule r) }
@@ -77,11 +73,7 @@ fn loud_definition(
 }
 
 // Returns the quiet copy of a rule.
-fn quiet_definition(
-    alloc: Global,
-    grammar: &Grammar,
-    rule: u32,
-) -> Result<Definition, AllocError>
+fn quiet_definition(alloc: Global, grammar: &Grammar, rule: u32) -> Result<Definition, AllocError>
     requires { rule < length (rules_in grammar.now) }
     ensures { IfOk result (λ definition. (r : Rule) → slice_get (rules_in grammar.now) rule ≡ Some r
         → rule_of definition ≡ quiet_rule r) }

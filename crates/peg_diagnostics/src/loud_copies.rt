@@ -53,9 +53,12 @@ pub(crate) fn loud_expression(alloc: Global, expression: &Expr) -> Result<Expr, 
         Expr::Optional { part, span } => optional(alloc, loud_expression(alloc, part)?, *span),
         Expr::Star { part, span } => star(alloc, loud_expression(alloc, part)?, *span),
         Expr::Plus { part, span } => plus(alloc, loud_expression(alloc, part)?, *span),
-        Expr::Counted { part, min, max, span } => {
-            counted(alloc, loud_expression(alloc, part)?, *min, *max, *span)
-        }
+        Expr::Counted {
+            part,
+            min,
+            max,
+            span,
+        } => { counted(alloc, loud_expression(alloc, part)?, *min, *max, *span) }
     }
 }
 

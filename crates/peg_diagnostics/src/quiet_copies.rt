@@ -3,7 +3,9 @@ ghost use Rattle.std.specs.Prelude.{◌≡◌, IfOk, map, string_bytes};
 ghost use Rattle.peg_diagnostics.specs.Diagnostic.{quiet, quiet_name};
 ghost use Rattle.peg_grammar.specs.Written.{form_of};
 
-use crate::builders::{and, any, choice, class, counted, literal, name, not, optional, plus, seq, star};
+use crate::builders::{
+    and, any, choice, class, counted, literal, name, not, optional, plus, seq, star,
+};
 use peg_grammar::Expr;
 use std::alloc::{AllocError, Global};
 
@@ -32,14 +34,15 @@ pub(crate) fn quiet_expression(alloc: Global, expression: &Expr) -> Result<Expr,
             let first = quiet_expression(alloc, first)?;
             choice(alloc, first, quiet_items(alloc, rest)?, *span)
         }
-        Expr::Optional { part, span } => {
-            optional(alloc, quiet_expression(alloc, part)?, *span)
-        }
+        Expr::Optional { part, span } => { optional(alloc, quiet_expression(alloc, part)?, *span) }
         Expr::Star { part, span } => star(alloc, quiet_expression(alloc, part)?, *span),
         Expr::Plus { part, span } => plus(alloc, quiet_expression(alloc, part)?, *span),
-        Expr::Counted { part, min, max, span } => {
-            counted(alloc, quiet_expression(alloc, part)?, *min, *max, *span)
-        }
+        Expr::Counted {
+            part,
+            min,
+            max,
+            span,
+        } => { counted(alloc, quiet_expression(alloc, part)?, *min, *max, *span) }
         Expr::And { part, span } => and(alloc, quiet_expression(alloc, part)?, *span),
         Expr::Not { part, span } => not(alloc, quiet_expression(alloc, part)?, *span),
     }

@@ -39,7 +39,11 @@ fn add_numbers(numbers: &mut Vec<u32>, first: u32, expression: &Expr) -> Result<
         Expr::And { part, .. } | Expr::Not { part, .. } => add_predicate(numbers, first, part),
         Expr::Name { .. } => Ok(first),
         Expr::Seq { items, .. } => add_all_numbers(numbers, first, items),
-        Expr::Choice { first: one, rest, .. } => {
+        Expr::Choice {
+            first: one,
+            rest,
+            ..
+        } => {
             let next = add_numbers(numbers, first, one)?;
             add_all_numbers(numbers, next, rest)
         }
@@ -51,11 +55,7 @@ fn add_numbers(numbers: &mut Vec<u32>, first: u32, expression: &Expr) -> Result<
 }
 
 #[cycle(numbers)]
-fn add_all_numbers(
-    numbers: &mut Vec<u32>,
-    first: u32,
-    items: &[Expr],
-) -> Result<u32, AllocError>
+fn add_all_numbers(numbers: &mut Vec<u32>, first: u32, items: &[Expr]) -> Result<u32, AllocError>
     requires { first + terminals_of_all (loud_all (forms (map form_of items.now))) < 2 ^ 32 }
     ensures numbers { OnOk result (numbers.new.items
         ≡ numbers.old.items ++ added_terminals_of_all (forms (map form_of items.now)) first) }

@@ -10,9 +10,9 @@ pub returns-clause-plain : goal.returns-clause-plain
 returns-clause-plain c = λ unmarked.
     let rules = rules_in c.args.grammar.now in
     let both =
-        c.in_ok-add_quiet_rules.ensures
-        ∙ ap (λ l. l ++ map quiet_rule rules)
-        (c.in_ok-add_loud_rules.ensures
-        ∙ ap (λ l. rules_of l ++ map loud_rule rules) c.new-definitions.ensures.items) in
+    c.in_ok-add_quiet_rules.ensures
+    ∙ ap (λ l. l ++ map quiet_rule rules)
+    (c.in_ok-add_loud_rules.ensures
+    ∙ ap (λ l. rules_of l ++ map loud_rule rules) c.new-definitions.ensures.items) in
     plain_refusal c.new.result rules c.args.grammar.now.grammar unmarked
     (subst (λ l. IfErr c.new.result (IsRefusedBy l)) both c.new.ensures.refused)

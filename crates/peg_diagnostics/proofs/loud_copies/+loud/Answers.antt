@@ -1,4 +1,4 @@
-use Rattle.std.proofs.Common.{◌≡◌, map, sym, ap, ap₂, ◌∙◌}
+use Rattle.std.proofs.Common.{map, sym, ap, ap₂, ◌∙◌}
 use Rattle.peg_bytes.specs.Extent.{extent}
 use Rattle.peg_semantics.specs.Form as form
 use Rattle.peg_semantics.specs.Form.{forms}
@@ -25,12 +25,12 @@ loud_expression-returns-in_ok-loud_items-in-Choice t c =
     let span = c.in-Choice.span in
     let first = c.in_ok-first-in-Choice.ensures ∙ ap (λ e. loud (form_of e)) c.deref-in-Choice.ensures in
     let rest =
-        ap forms c.in_ok-loud_items-in-Choice.ensures
-        ∙ ap (λ l. forms (map (λ item. loud (form_of item)) l)) c.deref-in-Choice-2.ensures.value
-        ∙ forms-loud c.in-Choice.rest.items in
+    ap forms c.in_ok-loud_items-in-Choice.ensures
+    ∙ ap (λ l. forms (map (λ item. loud (form_of item)) l)) c.deref-in-Choice-2.ensures.value
+    ∙ forms-loud c.in-Choice.rest.items in
     let whole =
-        ap₂ (λ e l. form.Choice e l (extent span)) first rest
-        ∙ ap loud (sym (form_of-Choice c.in-Choice.first c.in-Choice.rest span))
-        ∙ ap (λ e. loud (form_of e)) (sym c.in-Choice.is) in
+    ap₂ (λ e l. form.Choice e l (extent span)) first rest
+    ∙ ap loud (sym (form_of-Choice c.in-Choice.first c.in-Choice.rest span))
+    ∙ ap (λ e. loud (form_of e)) (sym c.in-Choice.is) in
     IfOk-form c.choice.result (form.Choice (form_of c.in_ok-first-in-Choice.first) (forms (map form_of c.in_ok-loud_items-in-Choice.field-0.items)) (extent span))
     (loud (form_of c.args.expression.now)) whole c.choice.ensures

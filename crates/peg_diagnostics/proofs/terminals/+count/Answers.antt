@@ -1,8 +1,4 @@
-use Rattle.std.proofs.Common.{◌≡◌, ℕ, ◌+◌, ◌<◌, ◌≤◌, List, map, length, get_or, drop, sym, ap, subst, arith}
-use Rattle.peg_semantics.specs.Form.{forms, terminals, terminals_of_all}
-use Rattle.peg_grammar.specs.Written.{form_of}
-use Rattle.peg_grammar.specs.declared.expr.Expr.{Expr}
-use Rattle.peg_grammar.proofs.LoopLemmas.{forms-drop}
+use Rattle.std.proofs.Common.{arith}
 use Rattle.peg_diagnostics.proofs.NumberLoops.{no_deeper, terminals-drop}
 use Rattle.peg_diagnostics.proofs.terminals.+count.Goals as goal
 

@@ -1,4 +1,4 @@
-use Rattle.std.proofs.Common.{◌+◌, ◌++◌, ◌∙◌, arith}
+use Rattle.std.proofs.Common.{◌∙◌, arith}
 use Rattle.peg_diagnostics.proofs.NumberLoops.{no_deeper, loud_terminals-drop, numbers-more}
 use Rattle.peg_diagnostics.proofs.terminals.+numbers.Goals as goal
 

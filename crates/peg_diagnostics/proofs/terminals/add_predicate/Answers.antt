@@ -1,4 +1,4 @@
-use Rattle.std.proofs.Common.{◌+◌, IfOk, arith, subst}
+use Rattle.std.proofs.Common.{arith}
 use Rattle.peg_grammar.specs.Written.{form_of}
 use Rattle.peg_diagnostics.proofs.NumberLoops.{terminals-quiet, next-number}
 use Rattle.peg_diagnostics.proofs.terminals.add_predicate.Goals as goal

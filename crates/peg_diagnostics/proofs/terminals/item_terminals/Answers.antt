@@ -1,4 +1,4 @@
-use Rattle.std.proofs.Common.{◌+◌, ◌++◌, ◌∙◌, sym, ap, arith, drop, append-nil}
+use Rattle.std.proofs.Common.{◌++◌, ◌∙◌, sym, ap, arith, append-nil}
 use Rattle.std.proofs.lemmas.List.{drop_all}
 use Rattle.peg_diagnostics.specs.ItemTests.{added_terminals_from}
 use Rattle.peg_grammar.specs.GrammarRules.{rules_in}
@@ -10,8 +10,8 @@ pub add_numbers-requires : goal.add_numbers-requires
 add_numbers-requires c =
     let rules = rules_in c.args.grammar.now in
     let step =
-        loud_terminals-rules rules c.loop-rule.rule (form_of c.body.result.now)
-        (omega (arith, c.loop-rule-test.true, c.rules-rule-end.ensures.count)) c.body.ensures in
+    loud_terminals-rules rules c.loop-rule.rule (form_of c.body.result.now)
+    (omega (arith, c.loop-rule-test.true, c.rules-rule-end.ensures.count)) c.body.ensures in
     omega (arith, step, c.loop-rule.invariant.counted, loud_terminals-weight rules, c.args.grammar.now.light)
 
 pub loop-rule-preserved : goal.loop-rule-preserved
@@ -27,8 +27,8 @@ loop-rule-preserved c =
           ∙ c.loop-rule.invariant.numbers;
       counted =
           let step =
-              loud_terminals-rules rules c.loop-rule.rule body
-              (omega (arith, c.loop-rule-test.true, c.rules-rule-end.ensures.count)) c.body.ensures in
+          loud_terminals-rules rules c.loop-rule.rule body
+          (omega (arith, c.loop-rule-test.true, c.rules-rule-end.ensures.count)) c.body.ensures in
           omega (arith, step, counts, c.loop-rule.invariant.counted);
     }
 
