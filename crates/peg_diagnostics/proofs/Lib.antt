@@ -6,6 +6,7 @@ mod DiagnosticOutcomes
 mod DiagnosticWellFormed
 mod Drops
 mod EmptySet
+mod ItemNumbers
 mod KnownNames
 mod Lookups
 mod LoudRecords

@@ -1,16 +1,19 @@
 //! Laws of the diagnostic grammar, for every grammar and text. Each function does nothing; the contract of the function
 //! is the law.
-ghost use Rattle.std.specs.Prelude.{◌≡◌, ◌≢◌, ◌↔◌, ℕ, suc, AllPairs, List, [], ◌∷◌, Some, codes};
+ghost use Rattle.std.specs.Prelude.{◌≡◌, ◌≢◌, ◌↔◌, ℕ, ◌<◌, suc, All, AllPairs, List, [], ◌∷◌, Some};
+ghost use Rattle.std.specs.Prelude.{codes, length};
+ghost use Rattle.std.specs.List.Sorted.{IsStrictlyIncreasing};
 ghost use Rattle.peg_bytes.specs.Extent.{Extent, between};
 ghost use Rattle.peg_diagnostics.specs.Blame.{blame_in, HasBlame, StartHasBlame};
 ghost use Rattle.peg_diagnostics.specs.BlameExamples.{guarded, keyword, predicate_blame, literal_blame, matched_blame};
 ghost use Rattle.peg_diagnostics.specs.BlameExamples.{keyword_blame, identifier_blame};
 ghost use Rattle.peg_diagnostics.specs.Diagnosis.{Diagnosis};
 ghost use Rattle.peg_diagnostics.specs.Diagnostic.{diagnostic_rules, HaveNoMark};
-ghost use Rattle.peg_diagnostics.specs.ItemTests.{item_terminals};
+ghost use Rattle.peg_diagnostics.specs.Items.{extents_of_items};
+ghost use Rattle.peg_diagnostics.specs.ItemTests.{item_terminals, item_tests};
 ghost use Rattle.peg_semantics.specs.Form.{Form, Name};
 ghost use Rattle.peg_semantics.specs.Grammar.{IsGrammar};
-ghost use Rattle.peg_semantics.specs.Record.{Record, record_in, start_record};
+ghost use Rattle.peg_semantics.specs.Record.{Record, Test, record_in, start_record};
 ghost use Rattle.peg_semantics.specs.Rules.{Rule, names};
 ghost use Rattle.peg_semantics.specs.WellFormed.{IsWellFormedGrammar};
 
@@ -51,6 +54,14 @@ pub fn the_diagnostic_grammar_computes_the_blame()
         → AllPairs (λ (a b : List ℕ). a ≢ b) (names (diagnostic_rules rules))
         → start_record rules text n start ≡ Some r
         → Diagnosis rules text (Name start (between 0 0)) 0 0 0 r }
+{}
+
+/// The terminal numbers of items ascend, and each item has an extent. A failed test of an item has the number of an item.
+pub fn items_are_numbered_in_written_order()
+    ensures ascending { (rules : List Rule) → IsStrictlyIncreasing (item_terminals rules) }
+    ensures extents { (rules : List Rule) → length (extents_of_items rules) ≡ length (item_terminals rules) }
+    ensures tests { (rules : List Rule) (tests : List Test)
+        → All (λ (test : Test). test.terminal < length (item_terminals rules)) (item_tests rules tests) }
 {}
 
 /// The diagnostic grammar of a grammar is a grammar if no name of a rule has a `!`. It is well-formed exactly if the
