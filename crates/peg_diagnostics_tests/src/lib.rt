@@ -4,6 +4,8 @@
 #[cfg(test)]
 mod grammars;
 #[cfg(test)]
+mod items;
+#[cfg(test)]
 mod outcomes;
 #[cfg(test)]
 mod texts;
