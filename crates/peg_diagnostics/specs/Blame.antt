@@ -1,5 +1,6 @@
--- The blame of an expression: its result, with the failures of items outside predicates. An item that fails counts at its
--- own start. This is the project's own definition; the results are those of Ford's relation (Ford 2004, section 3.3).
+-- The blame of an expression: its result, with the failures of items outside predicates. An item that fails counts at
+-- its own start. This is the project's own definition; the results are those of Ford's relation (Ford 2004, section
+-- 3.3).
 use Rattle.std.specs.Prelude.{◌≡◌, ℕ, zero, suc, ◌+◌, List, [], Option, None, Some, option_map, option_and_then}
 use Rattle.peg_bytes.specs.Extent.{between}
 use Rattle.peg_semantics.specs.Form.{Form, Forms, Literal, Class, Any, Name, Seq, Choice, Optional, Star, Plus, Counted}

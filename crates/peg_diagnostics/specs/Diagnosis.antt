@@ -9,7 +9,8 @@ use Rattle.peg_diagnostics.specs.ItemTests.{item_tests}
 
 -- For an expression with record `r` at a position: its blame, and the record of its loud expression in the diagnostic
 -- grammar. Both have the result of `r`, and the failed tests of added empty classes are, in order, those of the blame.
-pub record Diagnosis (rules : List Rule) (text : List ℕ) (e : Form) (terminal item position : ℕ) (r : Record) : Type 0 where
+pub record Diagnosis (rules : List Rule) (text : List ℕ) (e : Form) (terminal item position : ℕ) (r : Record)
+    : Type 0 where
   pub blame : Record
   pub shown : Record
   pub is_blame : HasBlame rules text e item position blame

@@ -12,11 +12,12 @@ use crate::quiet_copies::{name_of_copy, quiet_expression};
 use peg_grammar::{Definition, Grammar, GrammarFault};
 use std::alloc::{AllocError, Global};
 
-/// Returns the diagnostic grammar of a grammar: its rules in order, with an empty class added to each terminal and to each
-/// predicate outside predicates, and then a quiet copy of each rule for use in predicates.
+/// Returns the diagnostic grammar of a grammar. Its first rules are those of the grammar, with an empty class added to
+/// each terminal and each predicate outside predicates. Then a quiet copy of each rule follows, which predicates call.
+/// Linear in the weight, except for hashing.
 ///
-/// Returns `TooManyParts` if its weight is over `MAX_PARTS`, and `Memory` if an allocation fails. If a rule has a name with
-/// a `!`, it may also return `Duplicate`. Linear in the weight, except for hashing.
+/// Returns `TooManyParts` if the weight of the result is over `MAX_PARTS`, and `Memory` if an allocation fails. If a rule
+/// has a name with a `!`, it can also return `Duplicate`.
 pub fn diagnostic_grammar(alloc: Global, grammar: &Grammar) -> Result<Grammar, GrammarFault>
     ensures rules { IfOk result (λ g. rules_in g ≡ diagnostic_rules (rules_in grammar.now)) }
     ensures refused { IfErr result (IsRefusedBy (diagnostic_rules (rules_in grammar.now))) }

@@ -30,8 +30,8 @@ pub fn blame_is_unique()
         → HasBlame rules text e item position r → HasBlame rules text e item position s → r ≡ s }
 {}
 
-/// The definitions give the blame of grammars that were worked by hand: result, trees, failed items and calls. They also
-/// give the terminal numbers of the added empty classes.
+/// The definitions give the blame of grammars that were worked by hand: result, trees, failed items and calls. They
+/// also give the terminal numbers of the added empty classes.
 pub fn the_definitions_agree_with_hand_worked_grammars()
     ensures predicate { StartHasBlame guarded (codes "abc") (codes "S") predicate_blame }
     ensures literal { StartHasBlame guarded (codes "ax") (codes "S") literal_blame }
@@ -42,8 +42,9 @@ pub fn the_definitions_agree_with_hand_worked_grammars()
     ensures keyword_terminals { item_terminals keyword ≡ 0 ∷ 2 ∷ 4 ∷ [] }
 {}
 
-/// The diagnostic grammar computes the blame, if all its names are distinct. A name with a record has a blame and a record
-/// in the diagnostic grammar, with the same result. The failed tests of added empty classes are those of the blame.
+/// The diagnostic grammar computes the blame, if all its names are distinct. A name with a record has a blame, and a
+/// record in the diagnostic grammar, both with the same result. The failed tests of added empty classes are those of the
+/// blame.
 pub fn the_diagnostic_grammar_computes_the_blame()
     ensures names { (rules : List Rule) (text : List ℕ) (n : ℕ) (name : List ℕ) (span : Extent)
         (terminal other item position : ℕ) (r : Record)
@@ -56,7 +57,8 @@ pub fn the_diagnostic_grammar_computes_the_blame()
         → Diagnosis rules text (Name start (between 0 0)) 0 0 0 r }
 {}
 
-/// The terminal numbers of items ascend, and each item has an extent. A failed test of an item has the number of an item.
+/// The terminal numbers of items ascend, and each item has an extent. A failed test of an item has the number of an
+/// item.
 pub fn items_are_numbered_in_written_order()
     ensures ascending { (rules : List Rule) → IsStrictlyIncreasing (item_terminals rules) }
     ensures extents { (rules : List Rule) → length (extents_of_items rules) ≡ length (item_terminals rules) }

@@ -30,8 +30,8 @@ pub(crate) fn span_of(expr: &Expr) -> Span
     }
 }
 
-/// Returns the expression with an empty class added to each terminal and to each predicate. Predicates become quiet. The
-/// only error is a failed allocation. Recurses as deep as expressions nest.
+/// Returns the expression with an empty class added to each terminal and to each predicate. Predicates become quiet.
+/// The only error is a failed allocation. Recurses as deep as expressions nest.
 #[cycle(loud)]
 pub(crate) fn loud_expression(alloc: Global, expression: &Expr) -> Result<Expr, AllocError>
     ensures { IfOk result (λ e. form_of e ≡ loud (form_of expression.now)) }

@@ -10,8 +10,8 @@ use peg_bytes::Span;
 use peg_grammar::{Expr, Grammar};
 use std::alloc::{AllocError, Global};
 
-/// Returns the span of each item of a grammar in the grammar file, by item number. The only error is a failed allocation.
-/// Linear in the weight of the grammar.
+/// Returns the span of each item of a grammar in the grammar file, by item number. The only error is a failed
+/// allocation. Linear in the weight of the grammar.
 pub fn item_spans(alloc: Global, grammar: &Grammar) -> Result<Vec<Span>, AllocError>
     ensures { IfOk result (λ spans. map extent spans.items ≡ extents_of_items (rules_in grammar.now)) }
 {

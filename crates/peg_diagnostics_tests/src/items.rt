@@ -21,15 +21,16 @@ fn assert_items(
     Ok(())
 }
 
-// Items: 'ab', !'c' and the dot. Terminals: 'ab' 0 and its class 1, 'c' 2, the class of !'c' 3, the dot 4 and its class 5.
+// Items: 'ab', !'c' and the dot. Terminals: 'ab' 0 and its class 1, 'c' 2, the class of !'c' 3, the dot 4 and its class
+// 5.
 #[test]
 fn a_predicate_is_one_item(rt: HostRuntime) -> Result<(), Fail> {
     let spans = [Span::new(5, 9), Span::new(10, 14), Span::new(15, 16)];
     assert_items(&rt, rt.alloc(), b"S <- 'ab' !'c' .", &spans, &[1, 3, 5])
 }
 
-// Items: !K in rule S, 'if' in rule K, the dot in rule I. Terminals: the class of !K 0, 'if' 1 and its class 2, the dot 3
-// and its class 4.
+// Items: !K in rule S, 'if' in rule K, the dot in rule I. Terminals: the class of !K 0, 'if' 1 and its class 2, the dot
+// 3 and its class 4.
 #[test]
 fn items_are_numbered_rule_by_rule(rt: HostRuntime) -> Result<(), Fail> {
     let file = b"S <- !K I\nK <- 'if'\nI <- .+";

@@ -1,5 +1,5 @@
-//! Tests of diagnostic grammars on short texts. The expected values were worked by hand from the recognition table. Each
-//! terminal outside predicates is followed by its empty class, and each predicate by its own.
+//! Tests of diagnostic grammars on short texts. The expected values were worked by hand from the recognition table. An
+//! empty class follows each terminal and each predicate outside predicates.
 use crate::outcomes::assert_cases;
 use peg_fixtures::{failed, matched};
 use std::test::Fail;
