@@ -8,7 +8,8 @@ use Rattle.peg_semantics.specs.Rules.{Rule, Meaning}
 use Rattle.peg_semantics.proofs.RecordLemmas.{Extends, Extends-refl, Extends-none, Extends-map, Extends-and_then}
 use Rattle.peg_semantics.proofs.RecordLemmas.{Extends-then_at, Extends-or_else, Extends-star_result}
 use Rattle.peg_semantics.proofs.RecordLemmas.{Extends-recognize_repeat, record_in-more}
-use Rattle.peg_diagnostics.specs.Blame.{item_blame, blame_item, blame_seq, blame_choice, blame_table, blame_in, HasBlame}
+use Rattle.peg_diagnostics.specs.Blame.{item_blame, blame_item, blame_seq, blame_choice, blame_table, blame_in}
+use Rattle.peg_diagnostics.specs.Blame.{HasBlame}
 use Rattle.peg_diagnostics.specs.Items.{items, item_meaning_of}
 
 -- every record of the first recognizer is one of the second
@@ -78,7 +79,8 @@ unfolding blame_in
 blame_in-more rules text zero e item position = Extends-none (blame_in rules text (suc zero) e item position)
 blame_in-more rules text (suc n) e item position =
     Extends-blame_table (record_in rules text (suc n)) (record_in rules text (suc (suc n)))
-    (record_in-more rules text (suc n)) (blame_in rules text n) (blame_in rules text (suc n)) (blame_in-more rules text n)
+    (record_in-more rules text (suc n)) (blame_in rules text n) (blame_in rules text (suc n))
+    (blame_in-more rules text n)
     rules e item position
 
 -- a blame in depth n is a blame in every greater depth

@@ -1,6 +1,7 @@
 -- The blame of an expression has the result of its record, in each depth.
 use Rattle.std.proofs.Common.{◌≡◌, ℕ, zero, suc, ◌+◌, Bool, true, false, if◌then◌else◌, List, [], ◌∷◌}
-use Rattle.std.proofs.Common.{Option, None, Some, IfSome, refl, sym, ap, ap₂, subst, bytes_eq, option_map, option_and_then}
+use Rattle.std.proofs.Common.{Option, None, Some, IfSome, refl, sym, ap, ap₂, subst, bytes_eq, option_map}
+use Rattle.std.proofs.Common.{option_and_then}
 use Rattle.peg_tree.specs.Trees.{NoTrees, Tree, followed_by}
 use Rattle.peg_semantics.specs.Form.{Form, Forms, Literal, Class, Any, Name, Seq, Choice, Optional, Star, Plus, Counted}
 use Rattle.peg_semantics.specs.Form.{And, Not, End, Then, terminals}
@@ -11,7 +12,8 @@ use Rattle.peg_diagnostics.specs.Blame.{item_blame, blame_item, blame_seq, blame
 use Rattle.peg_diagnostics.specs.Diagnostic.{rename, rename_all}
 use Rattle.peg_diagnostics.specs.Items.{items, item_meaning_from, item_meaning_of}
 use Rattle.peg_diagnostics.proofs.Renaming.{HasCopy, Simulates-rename}
-use Rattle.peg_diagnostics.proofs.Simulation.{Likeness, SameResult, IsLike, Simulates, Simulates-map, Simulates-matched_at}
+use Rattle.peg_diagnostics.proofs.Simulation.{Likeness, SameResult, IsLike, Simulates, Simulates-map}
+use Rattle.peg_diagnostics.proofs.Simulation.{Simulates-matched_at}
 use Rattle.peg_diagnostics.proofs.Simulation.{Simulates-then_at, Simulates-or_else, Simulates-rounds}
 use Rattle.peg_diagnostics.proofs.Simulation.{Simulates-recognize_repeat, IsLike-as_call}
 
@@ -69,7 +71,8 @@ module _ (rules : List Rule) (text : List ℕ) where
   other_terminal : (n : ℕ) (e : Form) (t T position : ℕ)
       → Simulates same_results (record_in rules text n e t position) (record_in rules text n e T position)
   other_terminal n e t T position =
-      subst (λ same. Simulates same_results (record_in rules text n e t position) (record_in rules text n same T position))
+      subst (λ same. Simulates same_results (record_in rules text n e t position)
+      (record_in rules text n same T position))
       (rename-itself e)
       (Simulates-rename same_results AnyTerminal (λ a b at free. tt) itself rules rules text own_copy n e t T position
       (λ k below. tt))
@@ -133,77 +136,78 @@ module _ (rules : List Rule) (text : List ℕ) where
   SameResults take more = (e : Form) (terminal item position : ℕ)
       → Simulates same_results (take e terminal position) (more e item position)
 
-  module _ (judge take more : Recognizer) (j : SameResults (table rules text take) judge) (h : SameResults take more) where
-    Simulates-item : (e : Form) (terminal item position : ℕ)
-        → Simulates same_results (table rules text take e terminal position) (blame_item judge e item position)
-    Simulates-item e terminal item position =
-        Simulates-item_blame item position (table rules text take e terminal position) (judge e 0 position)
-        (j e terminal 0 position)
+  module _ (judge take more : Recognizer) (j : SameResults (table rules text take) judge) (h : SameResults take more)
+    where
+      Simulates-item : (e : Form) (terminal item position : ℕ)
+          → Simulates same_results (table rules text take e terminal position) (blame_item judge e item position)
+      Simulates-item e terminal item position =
+          Simulates-item_blame item position (table rules text take e terminal position) (judge e 0 position)
+          (j e terminal 0 position)
 
-    Simulates-seq : (parts : Forms) (terminal item position : ℕ)
-        → Simulates same_results (recognize_seq take parts terminal position) (blame_seq more parts item position)
-    Simulates-seq End terminal item position = Simulates-matched_at same_results position
-    Simulates-seq (Then e rest) terminal item position =
-        Simulates-then_at same_results (take e terminal position) (more e item position)
-        (λ end. recognize_seq take rest (terminal + terminals e) end) (λ end. blame_seq more rest (item + items e) end)
-        (h e terminal item position) (λ end. Simulates-seq rest (terminal + terminals e) (item + items e) end)
+      Simulates-seq : (parts : Forms) (terminal item position : ℕ)
+          → Simulates same_results (recognize_seq take parts terminal position) (blame_seq more parts item position)
+      Simulates-seq End terminal item position = Simulates-matched_at same_results position
+      Simulates-seq (Then e rest) terminal item position =
+          Simulates-then_at same_results (take e terminal position) (more e item position)
+          (λ end. recognize_seq take rest (terminal + terminals e) end) (λ end. blame_seq more rest (item + items e) end)
+          (h e terminal item position) (λ end. Simulates-seq rest (terminal + terminals e) (item + items e) end)
 
-    Simulates-choice : (e : Form) (rest : Forms) (terminal item position : ℕ)
-        → Simulates same_results (recognize_choice take e rest terminal position)
-        (blame_choice more e rest item position)
-    Simulates-choice e End terminal item position = h e terminal item position
-    Simulates-choice e (Then next rest) terminal item position =
-        Simulates-or_else same_results (take e terminal position) (more e item position)
-        (recognize_choice take next rest (terminal + terminals e) position)
-        (blame_choice more next rest (item + items e) position) (h e terminal item position)
-        (Simulates-choice next rest (terminal + terminals e) (item + items e) position)
+      Simulates-choice : (e : Form) (rest : Forms) (terminal item position : ℕ)
+          → Simulates same_results (recognize_choice take e rest terminal position)
+          (blame_choice more e rest item position)
+      Simulates-choice e End terminal item position = h e terminal item position
+      Simulates-choice e (Then next rest) terminal item position =
+          Simulates-or_else same_results (take e terminal position) (more e item position)
+          (recognize_choice take next rest (terminal + terminals e) position)
+          (blame_choice more next rest (item + items e) position) (h e terminal item position)
+          (Simulates-choice next rest (terminal + terminals e) (item + items e) position)
 
-    abbrev Call : Recognizer → ℕ → Meaning → Option Record
-    Call by position m = option_map (as_call m.rule position) (by m.body m.terminal position)
+      abbrev Call : Recognizer → ℕ → Meaning → Option Record
+      Call by position m = option_map (as_call m.rule position) (by m.body m.terminal position)
 
-    Simulates-call : (position : ℕ) (first second : Option Meaning) → AlsoMeans first second
-        → Simulates same_results (option_and_then (Call take position) first)
-        (option_and_then (Call more position) second)
-    Simulates-call position None second means = tt
-    Simulates-call position (Some m) second means =
-        let other = means.0 in
-        subst (λ o. Simulates same_results (Call take position m) (option_and_then (Call more position) o))
-        (sym means.1)
-        (Simulates-map same_results (as_call m.rule position) (as_call other.rule position)
-        (IsLike-as_call same_results m.rule other.rule position
-        (λ start end a b same. ap₂ (λ rule trees. Tree rule start end trees NoTrees) (means.2).0 same))
-        (take m.body m.terminal position) (more other.body other.terminal position)
-        (subst (λ body. Simulates same_results (take m.body m.terminal position) (more body other.terminal position))
-        (means.2).1 (h m.body m.terminal other.terminal position)))
+      Simulates-call : (position : ℕ) (first second : Option Meaning) → AlsoMeans first second
+          → Simulates same_results (option_and_then (Call take position) first)
+          (option_and_then (Call more position) second)
+      Simulates-call position None second means = tt
+      Simulates-call position (Some m) second means =
+          let other = means.0 in
+          subst (λ o. Simulates same_results (Call take position m) (option_and_then (Call more position) o))
+          (sym means.1)
+          (Simulates-map same_results (as_call m.rule position) (as_call other.rule position)
+          (IsLike-as_call same_results m.rule other.rule position
+          (λ start end a b same. ap₂ (λ rule trees. Tree rule start end trees NoTrees) (means.2).0 same))
+          (take m.body m.terminal position) (more other.body other.terminal position)
+          (subst (λ body. Simulates same_results (take m.body m.terminal position) (more body other.terminal position))
+          (means.2).1 (h m.body m.terminal other.terminal position)))
 
-    Simulates-table : SameResults (table rules text take) (blame_table rules judge more)
-    Simulates-table (Literal bytes span) terminal item position =
-        Simulates-item (Literal bytes span) terminal item position
-    Simulates-table (Class set span) terminal item position = Simulates-item (Class set span) terminal item position
-    Simulates-table (Any span) terminal item position = Simulates-item (Any span) terminal item position
-    Simulates-table (Name name span) terminal item position =
-        Simulates-call position (meaning_of rules name) (item_meaning_of rules name)
-        (item_meaning_from-means 0 0 0 rules name)
-    Simulates-table (Seq parts span) terminal item position = Simulates-seq parts terminal item position
-    Simulates-table (Choice first rest span) terminal item position =
-        Simulates-choice first rest terminal item position
-    Simulates-table (Optional part span) terminal item position =
-        Simulates-or_else same_results (take part terminal position) (more part item position)
-        (Some (matched_at position)) (Some (matched_at position)) (h part terminal item position)
-        (Simulates-matched_at same_results position)
-    Simulates-table (Star part span) terminal item position =
-        Simulates-rounds same_results (take part terminal position) (more part item position) position
-        (λ end. take (Star part span) terminal end) (λ end. more (Star part span) item end)
-        (h part terminal item position) (λ end. h (Star part span) terminal item end)
-    Simulates-table (Plus part span) terminal item position =
-        Simulates-then_at same_results (take part terminal position) (more part item position)
-        (λ end. take (Star part span) terminal end) (λ end. more (Star part span) item end)
-        (h part terminal item position) (λ end. h (Star part span) terminal item end)
-    Simulates-table (Counted part min max span) terminal item position =
-        Simulates-recognize_repeat same_results (λ at. take part terminal at) (λ at. more part item at)
-        (λ at. h part terminal item at) min max position
-    Simulates-table (And part span) terminal item position = Simulates-item (And part span) terminal item position
-    Simulates-table (Not part span) terminal item position = Simulates-item (Not part span) terminal item position
+      Simulates-table : SameResults (table rules text take) (blame_table rules judge more)
+      Simulates-table (Literal bytes span) terminal item position =
+          Simulates-item (Literal bytes span) terminal item position
+      Simulates-table (Class set span) terminal item position = Simulates-item (Class set span) terminal item position
+      Simulates-table (Any span) terminal item position = Simulates-item (Any span) terminal item position
+      Simulates-table (Name name span) terminal item position =
+          Simulates-call position (meaning_of rules name) (item_meaning_of rules name)
+          (item_meaning_from-means 0 0 0 rules name)
+      Simulates-table (Seq parts span) terminal item position = Simulates-seq parts terminal item position
+      Simulates-table (Choice first rest span) terminal item position =
+          Simulates-choice first rest terminal item position
+      Simulates-table (Optional part span) terminal item position =
+          Simulates-or_else same_results (take part terminal position) (more part item position)
+          (Some (matched_at position)) (Some (matched_at position)) (h part terminal item position)
+          (Simulates-matched_at same_results position)
+      Simulates-table (Star part span) terminal item position =
+          Simulates-rounds same_results (take part terminal position) (more part item position) position
+          (λ end. take (Star part span) terminal end) (λ end. more (Star part span) item end)
+          (h part terminal item position) (λ end. h (Star part span) terminal item end)
+      Simulates-table (Plus part span) terminal item position =
+          Simulates-then_at same_results (take part terminal position) (more part item position)
+          (λ end. take (Star part span) terminal end) (λ end. more (Star part span) item end)
+          (h part terminal item position) (λ end. h (Star part span) terminal item end)
+      Simulates-table (Counted part min max span) terminal item position =
+          Simulates-recognize_repeat same_results (λ at. take part terminal at) (λ at. more part item at)
+          (λ at. h part terminal item at) min max position
+      Simulates-table (And part span) terminal item position = Simulates-item (And part span) terminal item position
+      Simulates-table (Not part span) terminal item position = Simulates-item (Not part span) terminal item position
 
   -- in each depth an expression with a record has a blame with the same result
   pub Simulates-blame : (n : ℕ) → SameResults (record_in rules text n) (blame_in rules text n)

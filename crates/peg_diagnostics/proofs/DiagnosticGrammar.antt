@@ -85,7 +85,8 @@ module _ (known shown : List (List ℕ)) (loud_known : (name : List ℕ) → Con
     quiet-refers (Any span) all = All-nil (IsKnown shown)
     quiet-refers (Name name span) all =
         All-cons (IsKnown shown) (record { name = quiet_name name; span = span }) []
-        (quiet_known name (All-head (IsKnown known) (record { name = name; span = span }) [] all)) (All-nil (IsKnown shown))
+        (quiet_known name (All-head (IsKnown known) (record { name = name; span = span }) [] all))
+        (All-nil (IsKnown shown))
     quiet-refers (Seq items span) all = all_quiet-refer items all
     quiet-refers (Choice first rest span) all =
         All-append (IsKnown shown) (names_used (quiet first)) (names_used_by_all (rename_all quiet_name rest))
@@ -119,7 +120,8 @@ module _ (known shown : List (List ℕ)) (loud_known : (name : List ℕ) → Con
     loud-refers (Any span) all = All-nil (IsKnown shown)
     loud-refers (Name name span) all =
         All-cons (IsKnown shown) (record { name = name; span = span }) []
-        (loud_known name (All-head (IsKnown known) (record { name = name; span = span }) [] all)) (All-nil (IsKnown shown))
+        (loud_known name (All-head (IsKnown known) (record { name = name; span = span }) [] all))
+        (All-nil (IsKnown shown))
     loud-refers (Seq items span) all = all_loud-refer items all
     loud-refers (Choice first rest span) all =
         All-append (IsKnown shown) (names_used (loud first)) (names_used_by_all (loud_all rest))
@@ -181,7 +183,8 @@ references_known rules all =
     let quieter : (name : List ℕ) → Contains (names rules) name → Contains both (quiet_name name) =
     λ name there. Contains-append_right (names rules) copies (quiet_name name) (quiet_names-known rules name there) in
     subst (λ known. All (IsKnown known) (references (diagnostic_rules rules))) (sym (names-diagnostic rules))
-    (subst (All (IsKnown both)) (sym (flat_map-append (λ (rule : Rule). names_used rule.body) (map loud_rule rules) (map quiet_rule rules)))
+    (subst (All (IsKnown both))
+    (sym (flat_map-append (λ (rule : Rule). names_used rule.body) (map loud_rule rules) (map quiet_rule rules)))
     (All-append (IsKnown both) (references (map loud_rule rules)) (references (map quiet_rule rules))
     (loud_rules-refer (names rules) both louder quieter rules all)
     (quiet_rules-refer (names rules) both louder quieter rules all)))

@@ -4,8 +4,10 @@ use Rattle.std.proofs.Common.{All, refl, sym, ap, ap₂, ◌∙◌, subst, ◌++
 use Rattle.std.proofs.lemmas.List.Elements.{All-head}
 use Rattle.peg_bytes.specs.Extent.{Extent}
 use Rattle.peg_semantics.specs.AbstractOutcomes.{Can, CanAll, no_outcome, seq_outcome, choice_outcome, optional_outcome}
-use Rattle.peg_semantics.specs.AbstractOutcomes.{star_outcome, plus_outcome, repeat_outcome, and_outcome, not_outcome, OutcomeOf}
-use Rattle.peg_semantics.specs.AbstractOutcomes.{outcome_of_items, outcome_of_choice, outcome_of_meaning, can_table, can_in}
+use Rattle.peg_semantics.specs.AbstractOutcomes.{star_outcome, plus_outcome, repeat_outcome, and_outcome, not_outcome}
+use Rattle.peg_semantics.specs.AbstractOutcomes.{OutcomeOf}
+use Rattle.peg_semantics.specs.AbstractOutcomes.{outcome_of_items, outcome_of_choice, outcome_of_meaning, can_table}
+use Rattle.peg_semantics.specs.AbstractOutcomes.{can_in}
 use Rattle.peg_semantics.specs.AbstractOutcomes.{GivesNothing, always_empty}
 use Rattle.peg_semantics.specs.Form.{Form, Forms, Literal, Class, Any, Name, Seq, Choice, Optional, Star, Plus, Counted}
 use Rattle.peg_semantics.specs.Form.{And, Not, End, Then, names_used, names_used_by_all}
@@ -13,9 +15,11 @@ use Rattle.peg_semantics.specs.Rules.{Rule, names, references, meaning_of}
 use Rattle.peg_semantics.proofs.RoundsLemmas.{CanAll-refl, CanAll-trans, CanAll-no_outcome, CanAll-seq_outcome}
 use Rattle.peg_semantics.proofs.RoundsLemmas.{CanAll-choice_outcome, CanAll-optional_outcome, CanAll-star_outcome}
 use Rattle.peg_semantics.proofs.RoundsLemmas.{CanAll-plus_outcome, CanAll-repeat_outcome, can_in-more}
-use Rattle.peg_diagnostics.specs.Diagnostic.{rename_all, quiet, quiet_name, no_bytes, or_fail, loud, loud_all, diagnostic_rules}
+use Rattle.peg_diagnostics.specs.Diagnostic.{rename_all, quiet, quiet_name, no_bytes, or_fail, loud, loud_all}
+use Rattle.peg_diagnostics.specs.Diagnostic.{diagnostic_rules}
 use Rattle.peg_diagnostics.proofs.EmptySet.{has_some-no_bytes}
-use Rattle.peg_diagnostics.proofs.KnownNames.{All-front, All-back, IsKnown, UsesKnown, AllUseKnown, MeansKnown, known_meaning}
+use Rattle.peg_diagnostics.proofs.KnownNames.{All-front, All-back, IsKnown, UsesKnown, AllUseKnown, MeansKnown}
+use Rattle.peg_diagnostics.proofs.KnownNames.{known_meaning}
 use Rattle.peg_diagnostics.proofs.KnownNames.{loud_meaning, quiet_meaning}
 use Rattle.peg_diagnostics.proofs.Lookups.{Distinct}
 
@@ -43,11 +47,13 @@ CanAll-or_fail a b fails =
       fails = true_beside a.fails;
     })
 
-CanAll-empty_class : (rules : List Rule) (n : ℕ) (span : Extent) → CanAll (can_in rules n (Class no_bytes span)) only_fails
+CanAll-empty_class : (rules : List Rule) (n : ℕ) (span : Extent)
+    → CanAll (can_in rules n (Class no_bytes span)) only_fails
 unfolding can_in
 CanAll-empty_class rules zero span = CanAll-no_outcome only_fails
 CanAll-empty_class rules (suc n) span =
-    subst (λ some. CanAll (record { nothing = false; something = some; fails = true }) only_fails) (sym has_some-no_bytes)
+    subst (λ some. CanAll (record { nothing = false; something = some; fails = true }) only_fails)
+    (sym has_some-no_bytes)
     (CanAll-refl only_fails)
 
 module _ (rules : List Rule) (closed : All (IsKnown (names rules)) (references rules)) where
@@ -57,14 +63,16 @@ module _ (rules : List Rule) (closed : All (IsKnown (names rules)) (references r
   abbrev pub KnownAll : Forms → Type 0
   KnownAll items = AllUseKnown (names rules) items
 
-  pub known-front : (e : Form) (rest : Forms) → All (IsKnown (names rules)) (names_used e ++ names_used_by_all rest) → Known e
+  pub known-front : (e : Form) (rest : Forms) → All (IsKnown (names rules)) (names_used e ++ names_used_by_all rest)
+      → Known e
   known-front e rest known = All-front (IsKnown (names rules)) (names_used e) (names_used_by_all rest) known
 
   pub known-back : (e : Form) (rest : Forms) → All (IsKnown (names rules)) (names_used e ++ names_used_by_all rest)
       → KnownAll rest
   known-back e rest known = All-back (IsKnown (names rules)) (names_used e) (names_used_by_all rest) known
 
-  pub known-name : (name : List ℕ) (span : Extent) → Known (Name name span) → MeansKnown (names rules) (meaning_of rules name)
+  pub known-name : (name : List ℕ) (span : Extent) → Known (Name name span)
+      → MeansKnown (names rules) (meaning_of rules name)
   known-name name span known =
       known_meaning rules closed name (All-head (IsKnown (names rules)) (record { name = name; span = span }) [] known)
 
@@ -82,7 +90,8 @@ module _ (rules : List Rule) (closed : All (IsKnown (names rules)) (references r
           → outcome_of_choice other (quiet e) (rename_all quiet_name rest) ≡ outcome_of_choice judge e rest
       first-quiet e End known also = same e known
       first-quiet e (Then next rest) known also =
-          ap₂ choice_outcome (same e known) (first-quiet next rest (known-front next rest also) (known-back next rest also))
+          ap₂ choice_outcome (same e known)
+          (first-quiet next rest (known-front next rest also) (known-back next rest also))
 
       name-quiet : (name : List ℕ) (span : Extent) → Known (Name name span)
           → outcome_of_meaning other (meaning_of (diagnostic_rules rules) (quiet_name name))
@@ -93,7 +102,8 @@ module _ (rules : List Rule) (closed : All (IsKnown (names rules)) (references r
           ap (outcome_of_meaning other) copy.1 ∙ ap other copy.2 ∙ same (means.0).body means.2
           ∙ sym (ap (outcome_of_meaning judge) means.1)
 
-      can_table-quiet : (e : Form) → Known e → can_table (diagnostic_rules rules) other (quiet e) ≡ can_table rules judge e
+      can_table-quiet : (e : Form) → Known e → can_table (diagnostic_rules rules) other (quiet e)
+          ≡ can_table rules judge e
       can_table-quiet (Literal [] span) known = refl
       can_table-quiet (Literal (b ∷ bs) span) known = refl
       can_table-quiet (Class set span) known = refl
@@ -115,12 +125,14 @@ module _ (rules : List Rule) (closed : All (IsKnown (names rules)) (references r
     can_in-quiet (suc n) e known =
         can_table-quiet (can_in rules n) (can_in (diagnostic_rules rules) n) (can_in-quiet n) e known
 
-    pub GivesNothing-quiet : (e : Form) → Known e → GivesNothing (diagnostic_rules rules) (quiet e) ≡ GivesNothing rules e
+    pub GivesNothing-quiet : (e : Form) → Known e → GivesNothing (diagnostic_rules rules) (quiet e)
+        ≡ GivesNothing rules e
     GivesNothing-quiet e known = λ i. (n : ℕ) × ((can_in-quiet n e known i).nothing ≡ true)
 
     -- ---- loud expressions
 
-    module _ (n : ℕ) (same : (e : Form) → Known e → CanAll (can_in (diagnostic_rules rules) n (loud e)) (can_in rules n e)) where
+    module _ (n : ℕ) (same : (e : Form) → Known e
+        → CanAll (can_in (diagnostic_rules rules) n (loud e)) (can_in rules n e)) where
       abbrev judge : OutcomeOf
       judge = can_in rules n
 
@@ -131,7 +143,8 @@ module _ (rules : List Rule) (closed : All (IsKnown (names rules)) (references r
           → CanAll (outcome_of_items other (loud_all items)) (outcome_of_items judge items)
       items-loud End known = CanAll-refl always_empty
       items-loud (Then e rest) known =
-          CanAll-seq_outcome (other (loud e)) (outcome_of_items other (loud_all rest)) (judge e) (outcome_of_items judge rest)
+          CanAll-seq_outcome (other (loud e)) (outcome_of_items other (loud_all rest)) (judge e)
+          (outcome_of_items judge rest)
           (same e (known-front e rest known)) (items-loud rest (known-back e rest known))
 
       first-loud : (e : Form) (rest : Forms) → Known e → KnownAll rest
@@ -156,8 +169,10 @@ module _ (rules : List Rule) (closed : All (IsKnown (names rules)) (references r
       item-loud : (e : Form) (span : Extent) → Known e
           → CanAll (can_table (diagnostic_rules rules) other (or_fail (quiet e) span)) (can_in rules (suc n) e)
       item-loud e span known =
-          CanAll-trans (choice_outcome (other (quiet e)) (other (Class no_bytes span))) (other (quiet e)) (can_in rules (suc n) e)
-          (CanAll-or_fail (other (quiet e)) (other (Class no_bytes span)) (CanAll-empty_class (diagnostic_rules rules) n span))
+          CanAll-trans (choice_outcome (other (quiet e)) (other (Class no_bytes span))) (other (quiet e))
+          (can_in rules (suc n) e)
+          (CanAll-or_fail (other (quiet e)) (other (Class no_bytes span))
+          (CanAll-empty_class (diagnostic_rules rules) n span))
           (subst (λ a. CanAll a (can_in rules (suc n) e)) (sym (can_in-quiet n e known)) (can_in-more rules n e))
 
       can_table-loud : (e : Form) → Known e
@@ -179,7 +194,8 @@ module _ (rules : List Rule) (closed : All (IsKnown (names rules)) (references r
       can_table-loud (And part span) known = item-loud (And part span) span known
       can_table-loud (Not part span) known = item-loud (Not part span) span known
 
-    pub can_in-loud : (n : ℕ) (e : Form) → Known e → CanAll (can_in (diagnostic_rules rules) n (loud e)) (can_in rules n e)
+    pub can_in-loud : (n : ℕ) (e : Form) → Known e
+        → CanAll (can_in (diagnostic_rules rules) n (loud e)) (can_in rules n e)
     unfolding can_in
     can_in-loud zero e known = CanAll-refl no_outcome
     can_in-loud (suc n) e known = can_table-loud n (can_in-loud n) e known

@@ -8,9 +8,11 @@ use Rattle.peg_semantics.specs.Form.{Form, Forms, Literal, Class, Any, Name, Seq
 use Rattle.peg_semantics.specs.Form.{And, Not, End, Then, names_used, names_used_by_all}
 use Rattle.peg_semantics.specs.Rules.{Rule, names, references, meaning_of}
 use Rattle.peg_semantics.specs.WellFormed.{FormPredicate, ItemsAre, AllAre, MeaningIs, RepeatsWell, WellFormedTable}
-use Rattle.peg_semantics.specs.WellFormed.{IsWellFormedIn, IsWellFormed, below, below_all, subexpressions, IsWellFormedGrammar}
+use Rattle.peg_semantics.specs.WellFormed.{IsWellFormedIn, IsWellFormed, below, below_all, subexpressions}
+use Rattle.peg_semantics.specs.WellFormed.{IsWellFormedGrammar}
 use Rattle.peg_semantics.proofs.RoundsLemmas.{IsWellFormedIn-more, IsWellFormedIn-later}
-use Rattle.peg_diagnostics.specs.Diagnostic.{rename_all, quiet, quiet_name, no_bytes, or_fail, loud, loud_all, loud_rule, quiet_rule}
+use Rattle.peg_diagnostics.specs.Diagnostic.{rename_all, quiet, quiet_name, no_bytes, or_fail, loud, loud_all}
+use Rattle.peg_diagnostics.specs.Diagnostic.{loud_rule, quiet_rule}
 use Rattle.peg_diagnostics.specs.Diagnostic.{diagnostic_rules}
 use Rattle.peg_diagnostics.proofs.DiagnosticOutcomes.{known-front, known-back, known-name}
 use Rattle.peg_diagnostics.proofs.DiagnosticOutcomes.{GivesNothing-quiet, GivesNothing-loud}
@@ -144,7 +146,8 @@ module _ (rules : List Rule) (closed : All (IsKnown (names rules)) (references r
 
     AllAre-loud : (items : Forms) → UsesAll items → AllAre Is items → AllAre Other (loud_all items)
     AllAre-loud End known are = tt
-    AllAre-loud (Then e rest) known are = (same e (front e rest known) are.0, AllAre-loud rest (back e rest known) are.1)
+    AllAre-loud (Then e rest) known are =
+        (same e (front e rest known) are.0, AllAre-loud rest (back e rest known) are.1)
 
     MeaningIs-loud : (name : List ℕ) (span : Extent) → Uses (Name name span) → MeaningIs Is (meaning_of rules name)
         → MeaningIs Other (meaning_of shown name)
@@ -182,7 +185,8 @@ module _ (rules : List Rule) (closed : All (IsKnown (names rules)) (references r
   item_is n e span known is =
       let deep : n + suc n ≡ suc (twice n) = omega (arith, twice-more n) in (
         subst (λ d. IsWellFormedIn shown d (quiet e)) deep
-            (IsWellFormedIn-later shown n (suc n) (quiet e) (subst (λ T. T) (sym (IsWellFormedIn-quiet (suc n) e known)) is)),
+            (IsWellFormedIn-later shown n (suc n) (quiet e)
+            (subst (λ T. T) (sym (IsWellFormedIn-quiet (suc n) e known)) is)),
         (tt, tt),
       )
 
@@ -239,7 +243,8 @@ module _ (rules : List Rule) (closed : All (IsKnown (names rules)) (references r
   all_unquiet e known all =
       let quieted = All-unmap (IsWellFormed shown) quiet (subexpressions e)
       (subst (All (IsWellFormed shown)) (subexpressions-quiet e) all) in
-      λ k d within. unquiet_is (get_or (subexpressions e) k d) (subexpressions-use e known k d within) (quieted k d within)
+      λ k d within. unquiet_is (get_or (subexpressions e) k d) (subexpressions-use e known k d within)
+      (quieted k d within)
 
   empty_class_is : (span : Extent) → IsWellFormed shown (Class no_bytes span)
   unfolding IsWellFormedIn
@@ -297,7 +302,8 @@ module _ (rules : List Rule) (closed : All (IsKnown (names rules)) (references r
         All-append (IsWellFormed shown) (subexpressions (loud e)) (below_all (loud_all rest))
         (with_parts e (front e rest known) (All-front (IsWellFormed rules) (subexpressions e) (below_all rest) all)
         (loud_parts e (front e rest known) (All-front (IsWellFormed rules) (subexpressions e) (below_all rest) all)))
-        (all_loud_parts rest (back e rest known) (All-back (IsWellFormed rules) (subexpressions e) (below_all rest) all))
+        (all_loud_parts rest (back e rest known)
+        (All-back (IsWellFormed rules) (subexpressions e) (below_all rest) all))
 
   loud_whole : (e : Form) → Uses e → All (IsWellFormed rules) (subexpressions e)
       → All (IsWellFormed shown) (subexpressions (loud e))

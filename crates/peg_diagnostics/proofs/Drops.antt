@@ -1,6 +1,7 @@
 -- The rules from an index on: that rule, and those after it.
 use Rattle.std.proofs.lemmas.List.Sums.{sum_by-cons}
-use Rattle.std.proofs.Common.{◌≡◌, ℕ, zero, suc, ◌+◌, ◌*◌, ◌<◌, ◌≤◌, sum_by, append_assoc, List, [], ◌∷◌, ◌++◌, length, drop, slice_get, Some, option_map}
+use Rattle.std.proofs.Common.{◌≡◌, ℕ, zero, suc, ◌+◌, ◌*◌, ◌<◌, ◌≤◌, sum_by, append_assoc, List, [], ◌∷◌, ◌++◌, length}
+use Rattle.std.proofs.Common.{drop, slice_get, Some, option_map}
 use Rattle.std.proofs.Common.{refl, sym, ap, ◌∙◌, arith}
 use Rattle.peg_diagnostics.specs.Items.{item_extents, extents_of_items}
 use Rattle.peg_diagnostics.specs.Diagnostic.{loud}
@@ -17,8 +18,12 @@ pub dropped : (rules : List Rule) (i : ℕ) (body : Form) → i < length rules
 dropped [] i body within is = absurd (omega (arith, within))
 dropped (r ∷ rs) zero body within is = (r, (let same : r.body ≡ body = cc in same), refl)
 dropped (r ∷ rs) (suc i) body within is =
-    let later = dropped rs i body (omega (arith, within)) is in
-    (later.0, later.1, later.2 ∙ ap (λ l. later.0 ∷ l) (ap (λ n. drop n (r ∷ rs)) (let at : suc (i + 1) ≡ suc i + 1 = omega arith in at)))
+    let later = dropped rs i body (omega (arith, within)) is in (
+      later.0,
+      later.1,
+      later.2
+          ∙ ap (λ l. later.0 ∷ l) (ap (λ n. drop n (r ∷ rs)) (let at : suc (i + 1) ≡ suc i + 1 = omega arith in at)),
+    )
 
 -- the extents of the items of those rules
 pub extents-drop : (rules : List Rule) (i : ℕ) (body : Form) → i < length rules
@@ -46,7 +51,8 @@ numbers-rule rules i body so_far more next after within is adds counts =
     let rest = drop (i + 1) rules in
     (λ j. adds j ++ added_terminals_from (counts j) rest)
     ∙ append_assoc so_far (added_terminals body next) (added_terminals_from (next + terminals (loud body)) rest)
-    ∙ ap (λ e. so_far ++ (added_terminals e next ++ added_terminals_from (next + terminals (loud e)) rest)) (sym later.1)
+    ∙ ap (λ e. so_far ++ (added_terminals e next ++ added_terminals_from (next + terminals (loud e)) rest))
+    (sym later.1)
     ∙ ap (λ l. so_far ++ added_terminals_from next l) (sym later.2)
 
 abbrev weight_of_body : Rule → ℕ

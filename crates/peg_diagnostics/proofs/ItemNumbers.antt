@@ -12,7 +12,8 @@ use Rattle.peg_semantics.specs.Rules.{Rule}
 use Rattle.peg_semantics.proofs.Ascending.{RisesFrom, RisesFrom-to_increasing}
 use Rattle.peg_diagnostics.specs.Diagnostic.{loud}
 use Rattle.peg_diagnostics.specs.Items.{items, item_extents, item_extents_of_all, extents_of_items}
-use Rattle.peg_diagnostics.specs.ItemTests.{added_terminals, added_terminals_of_all, added_terminals_from, item_terminals}
+use Rattle.peg_diagnostics.specs.ItemTests.{added_terminals, added_terminals_of_all, added_terminals_from}
+use Rattle.peg_diagnostics.specs.ItemTests.{item_terminals}
 use Rattle.peg_diagnostics.specs.ItemTests.{as_item_test, item_of, item_tests}
 use Rattle.peg_diagnostics.proofs.Placement.{Below, added-below}
 
@@ -26,8 +27,11 @@ RisesFrom-append : (low high : ℕ) (xs ys : List ℕ) → low ≤ high → Rise
     → RisesFrom low (xs ++ ys)
 RisesFrom-append low high [] ys up first below second = RisesFrom-lower low high ys up second
 RisesFrom-append low high (x ∷ xs) ys up first below second =
-    let small = All-head (λ n. n < high) x xs below in
-    (first.0, RisesFrom-append (suc x) high xs ys (omega (arith, small)) first.1 (All-tail (λ n. n < high) x xs below) second)
+    let small = All-head (λ n. n < high) x xs below in (
+      first.0,
+      RisesFrom-append (suc x) high xs ys (omega (arith, small)) first.1 (All-tail (λ n. n < high) x xs below)
+          second,
+    )
 
 mutual
   added-rises : (e : Form) (terminal : ℕ) → RisesFrom terminal (added_terminals e terminal)
@@ -135,7 +139,8 @@ module _ (rules : List Rule) where
     where
       by : (found : Option ℕ) → IfSome found (λ k. k < 0 + length (item_terminals rules))
           → All IsOfItem (item_tests rules tests)
-          → All IsOfItem (cons_option (option_map (λ number. test_of number test.position) found) (item_tests rules tests))
+          → All IsOfItem (cons_option (option_map (λ number. test_of number test.position) found)
+          (item_tests rules tests))
       by None within later = later
       by (Some k) within later =
           All-cons IsOfItem (test_of k test.position) (item_tests rules tests) (omega (arith, within)) later

@@ -2,7 +2,8 @@
 use Rattle.std.proofs.Common.{◌≡◌, inl, inr, ℕ, ◌+◌, Bool, true, false, if◌then◌else◌, List, [], ◌∷◌, ◌++◌, All}
 use Rattle.std.proofs.Common.{Contains, Option, Some, IfSome, bytes_eq, refl, sym, ap, ◌∙◌, subst, arith}
 use Rattle.std.proofs.lemmas.Bool.{false≢true}
-use Rattle.std.proofs.lemmas.List.Elements.{All-nil, All-cons, All-head, All-tail, Contains-append_cases, Contains-push_cases}
+use Rattle.std.proofs.lemmas.List.Elements.{All-nil, All-cons, All-head, All-tail, Contains-append_cases}
+use Rattle.std.proofs.lemmas.List.Elements.{Contains-push_cases}
 use Rattle.peg_semantics.specs.Form.{Form, Forms, Reference, terminals, names_used, names_used_by_all}
 use Rattle.peg_semantics.specs.Rules.{Rule, Meaning, names, references, meaning_from, meaning_of}
 use Rattle.peg_diagnostics.specs.Diagnostic.{quiet, quiet_name, loud, diagnostic_rules}
@@ -41,7 +42,8 @@ later_name name first rest apart there =
     elim (Contains-append_cases (first ∷ []) rest name there) [
       | inl a ↦ elim (Contains-push_cases [] first name a) [
         | inl none ↦ absurd (omega (arith, none.1))
-        | inr same ↦ absurd (false≢true (sym apart ∙ subst (λ n. bytes_eq name n ≡ true) (sym same) (bytes_eq-itself name)))
+        | inr same ↦ absurd (false≢true
+            (sym apart ∙ subst (λ n. bytes_eq name n ≡ true) (sym same) (bytes_eq-itself name)))
       ]
       | inr b ↦ b
     ]
@@ -78,7 +80,8 @@ module _ (rules : List Rule) (closed : All (IsKnown (names rules)) (references r
 pub loud_meaning : (rules : List Rule) (name : List ℕ) (m : Meaning) → meaning_of rules name ≡ Some m
     → MeansCopy loud (meaning_of (diagnostic_rules rules) name) m
 loud_meaning rules name m is =
-    let also = subst (λ found. IfSome found (λ n. (other : Meaning) × (item_meaning_of rules name ≡ Some other) × SameRule n other))
+    let also = subst (λ found. IfSome found
+    (λ n. (other : Meaning) × (item_meaning_of rules name ≡ Some other) × SameRule n other))
     is (item_meaning_from-means 0 0 0 rules name) in
     let copy = loud_copies rules name also.0 also.1 in
     (copy.copy, copy.found, copy.loudened ∙ ap loud (sym (also.2).1))

@@ -35,7 +35,8 @@ bytes_eq-apart a b apart = by (bytes_eq a b) refl
 
 -- names of quiet copies are equal exactly if the names are
 bytes_eq-quiet : (a b : List ℕ) (equal : Bool) → bytes_eq a b ≡ equal → bytes_eq (quiet_name a) (quiet_name b) ≡ equal
-bytes_eq-quiet a b true is = subst (λ n. bytes_eq (quiet_name a) (quiet_name n) ≡ true) (bytes_eq-same a b is) (bytes_eq-itself (quiet_name a))
+bytes_eq-quiet a b true is =
+    subst (λ n. bytes_eq (quiet_name a) (quiet_name n) ≡ true) (bytes_eq-same a b is) (bytes_eq-itself (quiet_name a))
 bytes_eq-quiet a b false is =
     bytes_eq-apart (quiet_name a) (quiet_name b)
     (λ same. absurd (false≢true (sym is ∙ subst (λ n. bytes_eq a n ≡ true)
@@ -86,7 +87,10 @@ quiet-known rule terminal (r ∷ rs) name m is =
 
     by : (b : Bool) → bytes_eq name r.name ≡ b
         → (meaning_from (rule + 1) (terminal + terminals r.body) rs name ≡ Some m → Contains copies (quiet_name name))
-        → (if b then Some (record { rule = rule; terminal = terminal; body = r.body }) else meaning_from (rule + 1) (terminal + terminals r.body) rs name) ≡ Some m
+        → (if b
+        then Some (record { rule = rule; terminal = terminal; body = r.body })
+        else meaning_from (rule + 1) (terminal + terminals r.body) rs name)
+        ≡ Some m
         → Contains (quiet_name r.name ∷ copies) (quiet_name name)
     by true equal later found =
         subst (λ n. Contains (quiet_name n ∷ copies) (quiet_name name)) (bytes_eq-same name r.name equal)
@@ -139,9 +143,11 @@ rules_placed all (r ∷ rs) before terminal number part =
     let xs = added_terminals r.body terminal in
     let ys = added_terminals_from later rs in (
       placed all r.body before (ys ++ []) terminal number
-          (part-front all before xs ys [] terminal (terminals (loud r.body)) (loud_terminals rs) number part (rules-from rs later)),
+          (part-front all before xs ys [] terminal (terminals (loud r.body)) (loud_terminals rs) number part
+          (rules-from rs later)),
       rules_placed all rs (before ++ xs) later (number + items r.body)
-          (part-back all before xs ys [] terminal (terminals (loud r.body)) (loud_terminals rs) number part (items r.body)
+          (part-back all before xs ys [] terminal (terminals (loud r.body)) (loud_terminals rs) number part
+          (items r.body)
           (length-added r.body terminal) (added-below r.body terminal)),
     )
 
@@ -219,7 +225,9 @@ passes_loud (r ∷ rs) more name rule terminal apart =
       later.0,
       later.1,
       omega (arith, later.2),
-      ap (λ b. if b then Some (record { rule = rule; terminal = terminal; body = loud r.body }) else meaning_from (rule + 1) (terminal + terminals (loud r.body)) (map loud_rule rs ++ more) name) other
+      ap (λ b. if b
+          then Some (record { rule = rule; terminal = terminal; body = loud r.body })
+          else meaning_from (rule + 1) (terminal + terminals (loud r.body)) (map loud_rule rs ++ more) name) other
           ∙ later.3,
     )
 

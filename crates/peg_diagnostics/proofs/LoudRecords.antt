@@ -1,6 +1,7 @@
 -- The record of a loud expression in the diagnostic grammar has the result and the failed items of the blame.
 use Rattle.std.proofs.Common.{◌≡◌, ℕ, zero, suc, ◌+◌, Bool, true, false, if◌then◌else◌, List, [], ◌∷◌, ◌++◌, drop}
-use Rattle.std.proofs.Common.{Option, None, Some, IfSome, refl, sym, ap, ap₂, ◌∙◌, subst, arith, option_map, option_and_then}
+use Rattle.std.proofs.Common.{Option, None, Some, IfSome, refl, sym, ap, ap₂, ◌∙◌, subst, arith, option_map}
+use Rattle.std.proofs.Common.{option_and_then}
 use Rattle.std.proofs.Common.{filter_map, ◌==◌}
 use Rattle.std.specs.List.{cons_option}
 use Rattle.std.proofs.lemmas.List.Elements.{filter_map-append}
@@ -9,9 +10,11 @@ use Rattle.peg_bytes.specs.Extent.{Extent}
 use Rattle.peg_tree.specs.Trees.{NoTrees, Tree, followed_by}
 use Rattle.peg_semantics.specs.Form.{Form, Forms, Literal, Class, Any, Name, Seq, Choice, Optional, Star, Plus, Counted}
 use Rattle.peg_semantics.specs.Form.{And, Not, End, Then, terminals}
-use Rattle.peg_semantics.specs.Record.{Recognition, Failed, Matched, Record, Recognizer, Test, test_of, matched_at, failed_at}
+use Rattle.peg_semantics.specs.Record.{Recognition, Failed, Matched, Record, Recognizer, Test, test_of, matched_at}
+use Rattle.peg_semantics.specs.Record.{failed_at}
 use Rattle.peg_semantics.specs.Record.{or_else, choice_result, as_call, literal_at, byte_at}
-use Rattle.peg_semantics.specs.Record.{if_matched, if_failed, with_result, recognize_seq, recognize_choice, table, record_in}
+use Rattle.peg_semantics.specs.Record.{if_matched, if_failed, with_result, recognize_seq, recognize_choice, table}
+use Rattle.peg_semantics.specs.Record.{record_in}
 use Rattle.peg_semantics.specs.Rules.{Rule, Meaning, meaning_of}
 use Rattle.peg_semantics.proofs.RecordLemmas.{record_in-more, record_in-later}
 use Rattle.peg_diagnostics.specs.Blame.{item_blame, blame_item, blame_seq, blame_choice, blame_table, blame_in}
@@ -222,7 +225,8 @@ module _ (item : ℕ → Option ℕ) (rules other : List Rule) (text : List ℕ)
         (blame_choice take next rest (number + items e) position)
         (recognize_choice more (loud next) (loud_all rest) (terminal + terminals (loud e)) position)
         (h e terminal number position placed)
-        (Simulates-choice next rest (terminal + terminals (loud e)) (number + items e) position more_placed.0 more_placed.1)
+        (Simulates-choice next rest (terminal + terminals (loud e)) (number + items e) position more_placed.0
+        more_placed.1)
 
     abbrev Call : Recognizer → ℕ → Meaning → Option Record
     Call by position m = option_map (as_call m.rule position) (by m.body m.terminal position)
@@ -239,7 +243,8 @@ module _ (item : ℕ → Option ℕ) (rules other : List Rule) (text : List ℕ)
         (IsLike-as_call (same_items item) m.rule c.copy.rule position
         (λ start end a b same. ap₂ (λ rule trees. Tree rule start end trees NoTrees) c.numbered same))
         (take m.body m.terminal position) (more c.copy.body c.copy.terminal position)
-        (subst (λ body. Simulates (same_items item) (take m.body m.terminal position) (more body c.copy.terminal position))
+        (subst (λ body. Simulates (same_items item) (take m.body m.terminal position)
+        (more body c.copy.terminal position))
         (sym c.loudened) (h m.body c.copy.terminal m.terminal position c.placed)))
 
     module _ (low mid : Recognizer)
@@ -257,7 +262,8 @@ module _ (item : ℕ → Option ℕ) (rules other : List Rule) (text : List ℕ)
           let at : terminal + terminals e ≡ terminal + terminals (quiet e) =
           ap (λ n. terminal + n) (sym (terminals-rename quiet_name e)) in
           let place = terminal + terminals (quiet e) in
-          let fails = is (Class no_bytes span) place position ∙ ap Some (empty_class-fails place position (drop position text)) in
+          let fails = is (Class no_bytes span) place position
+          ∙ ap Some (empty_class-fails place position (drop position text)) in
           let there = is (quiet e) terminal position in
           subst (λ o. Simulates (same_items item) (blame_item (table rules text low) e number position)
           (or_else (more (quiet e) terminal position) o)) (sym fails)
@@ -335,7 +341,8 @@ module _ (item : ℕ → Option ℕ) (rules other : List Rule) (text : List ℕ)
       (Simulates-extends (no_items item) (record_in rules text (suc n) e t position)
       (record_in other text (suc n) (quiet e) T position) (record_in other text (n + suc n) (quiet e) T position)
       (record_in-later other text n (suc n) (quiet e) T position)
-      (Simulates-rename (no_items item) (IsOwn item) own_fits quiet_name rules other text copied (suc n) e t T position own))
+      (Simulates-rename (no_items item) (IsOwn item) own_fits quiet_name rules other text copied (suc n) e t T position
+      own))
 
   -- the blame in depth n, and the record of the loud expression in depth 2 * n
   pub Simulates-loud : (n : ℕ) (e : Form) (terminal number position : ℕ) → IsPlaced item e terminal number

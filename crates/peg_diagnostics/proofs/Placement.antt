@@ -77,11 +77,13 @@ item_at : (all before after : List ℕ) (count terminal number : ℕ) → all �
     → length before ≡ number → Below terminal before → From (terminal + count + 1) after
     → IsItemAt (item_in all) count terminal number
 item_at all before after count terminal number is long below from = (
-  λ k within. ap (place_from (terminal + k) 0) is ∙ place_from-none (terminal + k) 0 (before ++ (terminal + count) ∷ after)
+  λ k within. ap (place_from (terminal + k) 0) is
+      ∙ place_from-none (terminal + k) 0 (before ++ (terminal + count) ∷ after)
       (All-append (λ x. x ≢ terminal + k) before ((terminal + count) ∷ after)
       (All-weaker (λ x. x < terminal) (λ x. x ≢ terminal + k) (λ x h e. omega (arith, h, e)) before below)
       (All-cons (λ x. x ≢ terminal + k) (terminal + count) after (λ e. omega (arith, e, within))
-      (All-weaker (λ x. terminal + count + 1 ≤ x) (λ x. x ≢ terminal + k) (λ x h e. omega (arith, h, e, within)) after from))),
+      (All-weaker (λ x. terminal + count + 1 ≤ x) (λ x. x ≢ terminal + k) (λ x h e. omega (arith, h, e, within)) after
+      from))),
   ap (place_from (terminal + count) 0) is
       ∙ place_from-after (terminal + count) 0 before ((terminal + count) ∷ after)
       (All-weaker (λ x. x < terminal) (λ x. x ≢ terminal + count) (λ x h e. omega (arith, h, e)) before below)
@@ -119,7 +121,8 @@ mutual
       length-append (added_terminals e terminal) (added_terminals_of_all rest (terminal + terminals (loud e)))
       ∙ ap₂ ◌+◌ (length-added e terminal) (length-added_of_all rest (terminal + terminals (loud e)))
 
-pub two_parts-below : (xs ys : List ℕ) (terminal one two : ℕ) → Below (terminal + one) xs → Below (terminal + one + two) ys
+pub two_parts-below : (xs ys : List ℕ) (terminal one two : ℕ) → Below (terminal + one) xs
+    → Below (terminal + one + two) ys
     → Below (terminal + (one + two)) (xs ++ ys)
 two_parts-below xs ys terminal one two first second =
     All-append (λ x. x < terminal + (one + two)) xs ys
@@ -158,7 +161,8 @@ mutual
       → Below (terminal + terminals_of_all (loud_all parts)) (added_terminals_of_all parts terminal)
   all_added-below End terminal = All-nil (λ x. x < terminal + 0)
   all_added-below (Then e rest) terminal =
-      two_parts-below (added_terminals e terminal) (added_terminals_of_all rest (terminal + terminals (loud e))) terminal
+      two_parts-below (added_terminals e terminal) (added_terminals_of_all rest (terminal + terminals (loud e)))
+      terminal
       (terminals (loud e)) (terminals_of_all (loud_all rest)) (added-below e terminal)
       (all_added-below rest (terminal + terminals (loud e)))
 
@@ -241,10 +245,12 @@ module _ (all : List ℕ) where
         let xs = added_terminals first terminal in
         let ys = added_terminals_of_all rest later in (
           placed first before (ys ++ after) terminal number
-              (part-front all before xs ys after terminal (terminals (loud first)) (terminals_of_all (loud_all rest)) number part
+              (part-front all before xs ys after terminal (terminals (loud first)) (terminals_of_all (loud_all rest))
+              number part
               (all_added-from rest later)),
           all_placed rest (before ++ xs) after later (number + items first)
-              (part-back all before xs ys after terminal (terminals (loud first)) (terminals_of_all (loud_all rest)) number part
+              (part-back all before xs ys after terminal (terminals (loud first)) (terminals_of_all (loud_all rest))
+              number part
               (items first) (length-added first terminal) (added-below first terminal)),
         )
     placed (Optional e span) before after terminal number part = placed e before after terminal number part
@@ -257,7 +263,8 @@ module _ (all : List ℕ) where
         placed-item before after (terminals e) (terminals (quiet e) + (1 + 0)) terminal number (terminals-item e) part
 
     all_placed : (parts : Forms) (before after : List ℕ) (terminal number : ℕ)
-        → IsPart all before (added_terminals_of_all parts terminal) after terminal (terminals_of_all (loud_all parts)) number
+        → IsPart all before (added_terminals_of_all parts terminal) after terminal (terminals_of_all (loud_all parts))
+        number
         → AreAllPlaced (item_in all) parts terminal number
     all_placed End before after terminal number part = tt
     all_placed (Then e rest) before after terminal number part =
@@ -265,9 +272,11 @@ module _ (all : List ℕ) where
         let xs = added_terminals e terminal in
         let ys = added_terminals_of_all rest later in (
           placed e before (ys ++ after) terminal number
-              (part-front all before xs ys after terminal (terminals (loud e)) (terminals_of_all (loud_all rest)) number part
+              (part-front all before xs ys after terminal (terminals (loud e)) (terminals_of_all (loud_all rest)) number
+              part
               (all_added-from rest later)),
           all_placed rest (before ++ xs) after later (number + items e)
-              (part-back all before xs ys after terminal (terminals (loud e)) (terminals_of_all (loud_all rest)) number part
+              (part-back all before xs ys after terminal (terminals (loud e)) (terminals_of_all (loud_all rest)) number
+              part
               (items e) (length-added e terminal) (added-below e terminal)),
         )

@@ -2,7 +2,8 @@
 use Rattle.std.proofs.Common.{◌≡◌, ℕ, zero, suc, List, [], ◌++◌, Option, None, Some, IfSome, refl, sym, ap, subst}
 use Rattle.std.proofs.Common.{option_map, option_and_then}
 use Rattle.peg_tree.specs.Trees.{Trees, NoTrees, Tree, followed_by}
-use Rattle.peg_semantics.specs.Record.{Recognition, Failed, Matched, Test, Record, matched_at, after_both, prepend_trees}
+use Rattle.peg_semantics.specs.Record.{Recognition, Failed, Matched, Test, Record, matched_at, after_both}
+use Rattle.peg_semantics.specs.Record.{prepend_trees}
 use Rattle.peg_semantics.specs.Record.{then_result, then_at, choice_result, or_else, star_result, recognize_repeat}
 use Rattle.peg_semantics.specs.Record.{as_tree, as_call, if_matched, if_failed, with_result}
 use Rattle.peg_semantics.proofs.RecordLemmas.{Extends}
@@ -88,7 +89,8 @@ module _ (like : Likeness) where
   Simulates-then_result Failed (Matched end trees) x y next later results is h = absurd results
   Simulates-then_result (Matched end trees) Failed x y next later results is h = absurd results
   Simulates-then_result (Matched end trees) (Matched other more) x y next later results is h =
-      Simulates-map (λ r. after_both x r (prepend_trees trees r.result)) (λ r. after_both y r (prepend_trees more r.result))
+      Simulates-map (λ r. after_both x r (prepend_trees trees r.result))
+      (λ r. after_both y r (prepend_trees more r.result))
       (λ a b ab. IsLike-after_both x y a b (prepend_trees trees a.result) (prepend_trees more b.result) is ab
       (SameResult-prepend_trees trees more a.result b.result results.1 ab.results))
       (next end) (later other) (subst (λ at. Simulates like (next end) (later at)) results.0 (h end))

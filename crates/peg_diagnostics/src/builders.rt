@@ -4,8 +4,8 @@ ghost use Rattle.peg_bytes.specs.ByteSet.{bytes_of};
 ghost use Rattle.peg_bytes.specs.Extent.{extent};
 ghost use Rattle.peg_diagnostics.specs.Diagnostic.{no_bytes, or_fail};
 ghost use Rattle.peg_grammar.specs.Written.{form_of};
-ghost use Rattle.peg_semantics.specs.Form.{Literal, Class, Any, Name, Seq, Choice, Optional, Star, Plus, Counted, And, Not};
-ghost use Rattle.peg_semantics.specs.Form.{forms};
+ghost use Rattle.peg_semantics.specs.Form.{Literal, Class, Any, Name, Seq, Choice, Optional, Star, Plus, Counted};
+ghost use Rattle.peg_semantics.specs.Form.{And, Not, forms};
 
 use peg_bytes::{ByteSet, Span};
 use peg_grammar::Expr;

@@ -16,8 +16,8 @@ use std::alloc::{AllocError, Global};
 /// each terminal and each predicate outside predicates. Then a quiet copy of each rule follows, which predicates call.
 /// Linear in the weight, except for hashing.
 ///
-/// Returns `TooManyParts` if the weight of the result is over `MAX_PARTS`, and `Memory` if an allocation fails. If a rule
-/// has a name with a `!`, it can also return `Duplicate`.
+/// Returns `TooManyParts` if the weight of the result is over `MAX_PARTS`, and `Memory` if an allocation fails. If a
+/// rule has a name with a `!`, it can also return `Duplicate`.
 pub fn diagnostic_grammar(alloc: Global, grammar: &Grammar) -> Result<Grammar, GrammarFault>
     ensures rules { IfOk result (λ g. rules_in g ≡ diagnostic_rules (rules_in grammar.now)) }
     ensures refused { IfErr result (IsRefusedBy (diagnostic_rules (rules_in grammar.now))) }

@@ -43,8 +43,8 @@ pub fn the_definitions_agree_with_hand_worked_grammars()
 {}
 
 /// The diagnostic grammar computes the blame, if all its names are distinct. A name with a record has a blame, and a
-/// record in the diagnostic grammar, both with the same result. The failed tests of added empty classes are those of the
-/// blame.
+/// record in the diagnostic grammar, both with the same result. The failed tests of added empty classes are those of
+/// the blame.
 pub fn the_diagnostic_grammar_computes_the_blame()
     ensures names { (rules : List Rule) (text : List ℕ) (n : ℕ) (name : List ℕ) (span : Extent)
         (terminal other item position : ℕ) (r : Record)

@@ -13,7 +13,8 @@ returns c =
     let span = extent c.args.span in
     let class = c.class.ensures ∙ ap (λ set. Class set span) (bytes_of-empty c.empty.result c.empty.ensures) in
     let rest =
-    ap (λ l. forms (map form_of l)) (c.in_ok-push.ensures.items ∙ ap (λ l. l ++ c.class.result ∷ []) c.new-rest.ensures.items)
+    ap (λ l. forms (map form_of l))
+    (c.in_ok-push.ensures.items ∙ ap (λ l. l ++ c.class.result ∷ []) c.new-rest.ensures.items)
     ∙ ap (λ e. Then e End) class in
     IfOk-form c.choice.result (Choice (form_of c.args.first) (forms (map form_of c.push.new.self.items)) span)
     (or_fail (form_of c.args.first) span) (ap (λ l. Choice (form_of c.args.first) l span) rest) c.choice.ensures

@@ -7,4 +7,5 @@ use Rattle.peg_diagnostics.proofs.diagnostic.add_loud_rules.Given as goal
 -- after those at the start come the first rules made loud
 abbrev pub invariant-loop-rule : goal.invariant-loop-rule
 invariant-loop-rule l =
-    rules_of l.definitions.items ≡ rules_of l.initial.definitions.items ++ map loud_rule (take l.rule (rules_in l.grammar))
+    rules_of l.definitions.items ≡ rules_of l.initial.definitions.items
+    ++ map loud_rule (take l.rule (rules_in l.grammar))

@@ -32,5 +32,7 @@ loud_expression-returns-in_ok-loud_items-in-Choice t c =
     ap₂ (λ e l. form.Choice e l (extent span)) first rest
     ∙ ap loud (sym (form_of-Choice c.in-Choice.first c.in-Choice.rest span))
     ∙ ap (λ e. loud (form_of e)) (sym c.in-Choice.is) in
-    IfOk-form c.choice.result (form.Choice (form_of c.in_ok-first-in-Choice.first) (forms (map form_of c.in_ok-loud_items-in-Choice.field-0.items)) (extent span))
+    IfOk-form c.choice.result
+    (form.Choice (form_of c.in_ok-first-in-Choice.first)
+    (forms (map form_of c.in_ok-loud_items-in-Choice.field-0.items)) (extent span))
     (loud (form_of c.args.expression.now)) whole c.choice.ensures

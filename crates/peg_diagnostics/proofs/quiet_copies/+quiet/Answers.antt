@@ -32,5 +32,7 @@ quiet_expression-returns-in_ok-quiet_items-in-Choice t c =
     ap₂ (λ e l. form.Choice e l (extent span)) first rest
     ∙ ap quiet (sym (form_of-Choice c.in-Choice.first c.in-Choice.rest span))
     ∙ ap (λ e. quiet (form_of e)) (sym c.in-Choice.is) in
-    IfOk-form c.choice.result (form.Choice (form_of c.in_ok-first-in-Choice.first) (forms (map form_of c.in_ok-quiet_items-in-Choice.field-0.items)) (extent span))
+    IfOk-form c.choice.result
+    (form.Choice (form_of c.in_ok-first-in-Choice.first)
+    (forms (map form_of c.in_ok-quiet_items-in-Choice.field-0.items)) (extent span))
     (quiet (form_of c.args.expression.now)) whole c.choice.ensures

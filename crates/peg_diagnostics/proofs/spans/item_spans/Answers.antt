@@ -14,6 +14,7 @@ loop-rule-preserved c =
     ap (λ l. l ++ later) c.in_ok-add_spans.ensures
     ∙ append_assoc (map extent c.loop-rule.spans.items) (item_extents body) later
     ∙ ap (λ l. map extent c.loop-rule.spans.items ++ l)
-    (sym (extents-drop rules c.loop-rule.rule body (omega (arith, c.loop-rule-test.true, c.rules-rule-end.ensures.count))
+    (sym (extents-drop rules c.loop-rule.rule body
+    (omega (arith, c.loop-rule-test.true, c.rules-rule-end.ensures.count))
     c.body.ensures))
     ∙ c.loop-rule.invariant

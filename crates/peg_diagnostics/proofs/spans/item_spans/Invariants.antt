@@ -7,4 +7,5 @@ use Rattle.peg_diagnostics.proofs.spans.item_spans.Given as goal
 -- the spans so far and those of the remaining rules are those of all rules
 abbrev pub invariant-loop-rule : goal.invariant-loop-rule
 invariant-loop-rule l =
-    map extent l.spans.items ++ extents_of_items (drop l.rule (rules_in l.grammar)) ≡ extents_of_items (rules_in l.grammar)
+    map extent l.spans.items ++ extents_of_items (drop l.rule (rules_in l.grammar))
+    ≡ extents_of_items (rules_in l.grammar)
