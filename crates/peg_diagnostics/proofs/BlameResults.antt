@@ -68,7 +68,7 @@ module _ (rules : List Rule) (text : List ℕ) where
     node = λ start end a b same. ap (λ trees. Tree m.rule start end trees NoTrees) same;
   }
 
-  other_terminal : (n : ℕ) (e : Form) (t T position : ℕ)
+  pub other_terminal : (n : ℕ) (e : Form) (t T position : ℕ)
       → Simulates same_results (record_in rules text n e t position) (record_in rules text n e T position)
   other_terminal n e t T position =
       subst (λ same. Simulates same_results (record_in rules text n e t position)

@@ -14,13 +14,13 @@ use Rattle.peg_diagnostics.proofs.LoudRecords.{IsPlaced, same_items, twice, Simu
 use Rattle.peg_diagnostics.proofs.Simulation.{SameResult, Simulates-gives}
 
 -- related results with equal trees are equal
-equal_results : (result other : Recognition) → SameResult same_results result other → other ≡ result
+pub equal_results : (result other : Recognition) → SameResult same_results result other → other ≡ result
 equal_results Failed Failed same = refl
 equal_results Failed (Matched end trees) same = absurd same
 equal_results (Matched end trees) Failed same = absurd same
 equal_results (Matched end trees) (Matched other more) same = λ i. Matched (sym same.0 i) (sym same.1 i)
 
-equal_items : (item : ℕ → Option ℕ) (result other : Recognition) → SameResult (same_items item) result other
+pub equal_items : (item : ℕ → Option ℕ) (result other : Recognition) → SameResult (same_items item) result other
     → other ≡ result
 equal_items item Failed Failed same = refl
 equal_items item Failed (Matched end trees) same = absurd same

@@ -1,3 +1,4 @@
+mod AnyExpression
 mod BlameLemmas
 mod BlameResults
 mod DiagnosisLemmas

@@ -16,7 +16,7 @@ use Rattle.peg_diagnostics.proofs.LoudRecords.{IsOwn, IsPlaced, HasLoud, no_item
 use Rattle.peg_diagnostics.proofs.Placement.{Below, From, IsPart, item_in, part-front, part-back, placed}
 use Rattle.peg_diagnostics.proofs.Placement.{length-added, added-below, added-from, place_from-none, two_parts-from}
 use Rattle.peg_diagnostics.proofs.Placement.{two_parts-below}
-use Rattle.peg_diagnostics.proofs.Renaming.{HasCopy}
+use Rattle.peg_diagnostics.proofs.Renaming.{HasCopy, terminals-rename}
 
 -- ---- equal names
 
@@ -112,7 +112,7 @@ abbrev pub loud_terminals : List Rule → ℕ
 loud_terminals [] = 0
 loud_terminals (rule ∷ rules) = terminals (loud rule.body) + loud_terminals rules
 
-rules-below : (rules : List Rule) (terminal : ℕ)
+pub rules-below : (rules : List Rule) (terminal : ℕ)
     → Below (terminal + loud_terminals rules) (added_terminals_from terminal rules)
 rules-below [] terminal = All-nil (λ x. x < terminal + 0)
 rules-below (r ∷ rs) terminal =
@@ -128,32 +128,32 @@ rules-from (r ∷ rs) terminal =
     (added-from r.body terminal) (rules-from rs later)
 
 -- the added empty classes of each rule are those of its items
-abbrev AreRulesPlaced : (ℕ → Option ℕ) → List Rule → (terminal number : ℕ) → Type 0
+abbrev pub AreRulesPlaced : (ℕ → Option ℕ) → List Rule → (terminal number : ℕ) → Type 0
 AreRulesPlaced item [] terminal number = Unit {0}
 AreRulesPlaced item (r ∷ rs) terminal number =
     IsPlaced item r.body terminal number
     × AreRulesPlaced item rs (terminal + terminals (loud r.body)) (number + items r.body)
 
-rules_placed : (all : List ℕ) (rules : List Rule) (before : List ℕ) (terminal number : ℕ)
-    → IsPart all before (added_terminals_from terminal rules) [] terminal (loud_terminals rules) number
+pub rules_placed : (all : List ℕ) (rules : List Rule) (before after : List ℕ) (terminal number : ℕ)
+    → IsPart all before (added_terminals_from terminal rules) after terminal (loud_terminals rules) number
     → AreRulesPlaced (item_in all) rules terminal number
-rules_placed all [] before terminal number part = tt
-rules_placed all (r ∷ rs) before terminal number part =
+rules_placed all [] before after terminal number part = tt
+rules_placed all (r ∷ rs) before after terminal number part =
     let later = terminal + terminals (loud r.body) in
     let xs = added_terminals r.body terminal in
     let ys = added_terminals_from later rs in (
-      placed all r.body before (ys ++ []) terminal number
-          (part-front all before xs ys [] terminal (terminals (loud r.body)) (loud_terminals rs) number part
+      placed all r.body before (ys ++ after) terminal number
+          (part-front all before xs ys after terminal (terminals (loud r.body)) (loud_terminals rs) number part
           (rules-from rs later)),
-      rules_placed all rs (before ++ xs) later (number + items r.body)
-          (part-back all before xs ys [] terminal (terminals (loud r.body)) (loud_terminals rs) number part
+      rules_placed all rs (before ++ xs) after later (number + items r.body)
+          (part-back all before xs ys after terminal (terminals (loud r.body)) (loud_terminals rs) number part
           (items r.body)
           (length-added r.body terminal) (added-below r.body terminal)),
     )
 
 all_rules_placed : (rules : List Rule) → AreRulesPlaced (item_of rules) rules 0 0
 all_rules_placed rules =
-    rules_placed (item_terminals rules) rules [] 0 0 (record {
+    rules_placed (item_terminals rules) rules [] [] 0 0 (record {
       is = sym (append-nil (item_terminals rules));
       long = refl;
       below = All-nil (λ x. x < 0);
@@ -163,15 +163,15 @@ all_rules_placed rules =
 -- ---- loud rules
 
 -- the loud copy of what a name refers to
-record IsLoudOf (item : ℕ → Option ℕ) (copy m : Meaning) : Type 0 where
-  numbered : m.rule ≡ copy.rule
-  loudened : copy.body ≡ loud m.body
-  placed : IsPlaced item m.body copy.terminal m.terminal
+pub record IsLoudOf (item : ℕ → Option ℕ) (copy m : Meaning) : Type 0 where
+  pub numbered : m.rule ≡ copy.rule
+  pub loudened : copy.body ≡ loud m.body
+  pub placed : IsPlaced item m.body copy.terminal m.terminal
 
-abbrev FindsLoud : (ℕ → Option ℕ) → Option Meaning → Meaning → Type 0
+abbrev pub FindsLoud : (ℕ → Option ℕ) → Option Meaning → Meaning → Type 0
 FindsLoud item found m = (copy : Meaning) × (found ≡ Some copy) × IsLoudOf item copy m
 
-finds_loud : (item : ℕ → Option ℕ) (rules more : List Rule) (rule terminal number : ℕ) (name : List ℕ) (m : Meaning)
+pub finds_loud : (item : ℕ → Option ℕ) (rules more : List Rule) (rule terminal number : ℕ) (name : List ℕ) (m : Meaning)
     → AreRulesPlaced item rules terminal number → item_meaning_from rule number rules name ≡ Some m
     → FindsLoud item (meaning_from rule terminal (map loud_rule rules ++ more) name) m
 finds_loud item [] more rule terminal number name m there is = cc
@@ -214,7 +214,7 @@ loud_copies rules name m is =
 
 -- a lookup passes over loud rules of other names
 passes_loud : (rules more : List Rule) (name : List ℕ) (rule terminal : ℕ) → All (λ n. n ≢ name) (names rules)
-    → (number : ℕ) × (start : ℕ) × (terminal + loud_terminals rules ≤ start)
+    → (number : ℕ) × (start : ℕ) × (terminal + loud_terminals rules ≡ start)
     × (meaning_from rule terminal (map loud_rule rules ++ more) name ≡ meaning_from number start more name)
 passes_loud [] more name rule terminal apart = (rule, terminal, omega arith, refl)
 passes_loud (r ∷ rs) more name rule terminal apart =
@@ -231,14 +231,20 @@ passes_loud (r ∷ rs) more name rule terminal apart =
           ∙ later.3,
     )
 
--- the quiet copy of what a name refers to, with terminals from a number on
-abbrev FindsQuiet : ℕ → Option Meaning → Meaning → Type 0
-FindsQuiet least found m =
+-- the number of terminals of the quiet copies of rules
+abbrev pub quiet_terminals : List Rule → ℕ
+quiet_terminals [] = 0
+quiet_terminals (rule ∷ rules) = terminals (quiet rule.body) + quiet_terminals rules
+
+-- the quiet copy of what a name refers to, with terminals from a number up to another
+abbrev pub FindsQuiet : (least most : ℕ) → Option Meaning → Meaning → Type 0
+FindsQuiet least most found m =
     (copy : Meaning) × (found ≡ Some copy) × (copy.body ≡ quiet m.body) × (least ≤ copy.terminal)
+    × (copy.terminal + terminals m.body ≤ most)
 
 finds_quiet : (rules : List Rule) (rule terminal number start : ℕ) (name : List ℕ) (m : Meaning)
     → meaning_from rule terminal rules name ≡ Some m
-    → FindsQuiet start (meaning_from number start (map quiet_rule rules) (quiet_name name)) m
+    → FindsQuiet start (start + quiet_terminals rules) (meaning_from number start (map quiet_rule rules) (quiet_name name)) m
 finds_quiet [] rule terminal number start name m is = cc
 finds_quiet (r ∷ rs) rule terminal number start name m is =
     by (bytes_eq name r.name) refl
@@ -255,28 +261,29 @@ finds_quiet (r ∷ rs) rule terminal number start name m is =
 
     by : (b : Bool) → bytes_eq name r.name ≡ b
         → (meaning_from (rule + 1) (terminal + terminals r.body) rs name ≡ Some m
-        → FindsQuiet (start + terminals (quiet r.body)) others m)
+        → FindsQuiet (start + terminals (quiet r.body)) (start + terminals (quiet r.body) + quiet_terminals rs) others m)
         → (if b then Some first else meaning_from (rule + 1) (terminal + terminals r.body) rs name) ≡ Some m
-        → FindsQuiet start (if bytes_eq (quiet_name name) (quiet_name r.name) then Some copy else others) m
+        → FindsQuiet start (start + quiet_terminals (r ∷ rs)) (if bytes_eq (quiet_name name) (quiet_name r.name) then Some copy else others) m
     by true equal later found =
         let same : first ≡ m = cc in
-        subst (λ b. FindsQuiet start (if b then Some copy else others) m)
+        subst (λ b. FindsQuiet start (start + quiet_terminals (r ∷ rs)) (if b then Some copy else others) m)
         (sym (bytes_eq-quiet name r.name true equal))
-        (subst (FindsQuiet start (Some copy)) same (copy, refl, refl, le_refl start))
+        (subst (FindsQuiet start (start + quiet_terminals (r ∷ rs)) (Some copy)) same
+        (copy, refl, refl, le_refl start, omega (arith, terminals-rename quiet_name r.body)))
     by false equal later found =
         let more = later found in
-        subst (λ b. FindsQuiet start (if b then Some copy else others) m)
+        subst (λ b. FindsQuiet start (start + quiet_terminals (r ∷ rs)) (if b then Some copy else others) m)
         (sym (bytes_eq-quiet name r.name false equal))
-        (more.0, more.1, more.2, omega (arith, more.3))
+        (more.0, more.1, more.2, omega (arith, more.3), omega (arith, more.4))
 
 module _ (rules : List Rule) (distinct : Distinct (names (diagnostic_rules rules))) where
   pub quiet_copy : (name : List ℕ) (m : Meaning) → meaning_of rules name ≡ Some m
-      → FindsQuiet (loud_terminals rules) (meaning_of (diagnostic_rules rules) (quiet_name name)) m
+      → FindsQuiet (loud_terminals rules) (loud_terminals rules + quiet_terminals rules) (meaning_of (diagnostic_rules rules) (quiet_name name)) m
   quiet_copy name m is =
       let passed = passes_loud rules (map quiet_rule rules) (quiet_name name) 0 0
       (apart_from_quiet rules distinct name m is) in
       let found = finds_quiet rules 0 0 passed.0 passed.1 name m is in
-      (found.0, passed.3 ∙ found.1, found.2, omega (arith, passed.2, found.3))
+      (found.0, passed.3 ∙ found.1, found.2, omega (arith, passed.2, found.3), omega (arith, passed.2, found.4))
 
   pub quiet_copies : (name : List ℕ) (m : Meaning) → meaning_of rules name ≡ Some m
       → HasCopy (no_items (item_of rules)) (IsOwn (item_of rules)) quiet_name (diagnostic_rules rules) name m

@@ -8,12 +8,12 @@ ghost use Rattle.peg_diagnostics.specs.Blame.{blame_in, HasBlame, StartHasBlame}
 ghost use Rattle.peg_diagnostics.specs.BlameExamples.{guarded, keyword, predicate_blame, literal_blame, matched_blame};
 ghost use Rattle.peg_diagnostics.specs.BlameExamples.{keyword_blame, identifier_blame};
 ghost use Rattle.peg_diagnostics.specs.Diagnosis.{Diagnosis};
-ghost use Rattle.peg_diagnostics.specs.Diagnostic.{diagnostic_rules, HaveNoMark};
+ghost use Rattle.peg_diagnostics.specs.Diagnostic.{diagnostic_rules, loud, HaveNoMark};
 ghost use Rattle.peg_diagnostics.specs.Items.{extents_of_items};
 ghost use Rattle.peg_diagnostics.specs.ItemTests.{item_terminals, item_tests};
 ghost use Rattle.peg_semantics.specs.Form.{Form, Name};
 ghost use Rattle.peg_semantics.specs.Grammar.{IsGrammar};
-ghost use Rattle.peg_semantics.specs.Record.{Record, Test, record_in, start_record};
+ghost use Rattle.peg_semantics.specs.Record.{Record, IsRecord, Test, record_in, start_record};
 ghost use Rattle.peg_semantics.specs.Rules.{Rule, names};
 ghost use Rattle.peg_semantics.specs.WellFormed.{IsWellFormedGrammar};
 
@@ -55,6 +55,19 @@ pub fn the_diagnostic_grammar_computes_the_blame()
         → AllPairs (λ (a b : List ℕ). a ≢ b) (names (diagnostic_rules rules))
         → start_record rules text n start ≡ Some r
         → Diagnosis rules text (Name start (between 0 0)) 0 0 0 r }
+{}
+
+/// Each expression with a record has a blame with the same result. If all names of the diagnostic grammar are distinct,
+/// its loud expression has a record with the same result there. The results don't depend on where terminals and items
+/// are numbered from.
+pub fn the_diagnostic_grammar_keeps_results()
+    ensures blame { (rules : List Rule) (text : List ℕ) (n : ℕ) (e : Form) (terminal item position : ℕ) (r : Record)
+        → record_in rules text n e terminal position ≡ Some r
+        → (b : Record) × HasBlame rules text e item position b × (b.result ≡ r.result) }
+    ensures loud { (rules : List Rule) (text : List ℕ) (n : ℕ) (e : Form) (terminal other position : ℕ) (r : Record)
+        → AllPairs (λ (a b : List ℕ). a ≢ b) (names (diagnostic_rules rules))
+        → record_in rules text n e terminal position ≡ Some r
+        → (d : Record) × IsRecord (diagnostic_rules rules) text (loud e) other position d × (d.result ≡ r.result) }
 {}
 
 /// The terminal numbers of items ascend, and each item has an extent. A failed test of an item has the number of an

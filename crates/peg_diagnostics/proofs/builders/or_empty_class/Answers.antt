@@ -1,10 +1,10 @@
-use Rattle.std.proofs.Common.{[], ◌∷◌, ◌++◌, map, ap, ◌∙◌}
+use Rattle.std.proofs.Common.{◌≡◌, [], ◌∷◌, ◌++◌, map, ap, ◌∙◌}
 use Rattle.peg_bytes.specs.Extent.{extent}
 use Rattle.peg_semantics.specs.Form.{Class, Choice, Then, End, forms}
 use Rattle.peg_grammar.specs.Written.{form_of}
 use Rattle.peg_diagnostics.proofs.EmptySet.{bytes_of-empty}
 use Rattle.peg_diagnostics.proofs.WrittenCopies.{IfOk-form}
-use Rattle.peg_diagnostics.specs.Diagnostic.{or_fail}
+use Rattle.peg_diagnostics.specs.Diagnostic.{no_bytes, or_fail}
 use Rattle.peg_diagnostics.proofs.builders.or_empty_class.Goals as goal
 
 -- src/builders.rt:141:1
@@ -12,7 +12,7 @@ pub returns : goal.returns
 returns c =
     let span = extent c.args.span in
     let class = c.class.ensures ∙ ap (λ set. Class set span) (bytes_of-empty c.empty.result c.empty.ensures) in
-    let rest =
+    let rest : forms (map form_of c.push.new.self.items) ≡ Then (Class no_bytes span) End =
     ap (λ l. forms (map form_of l))
     (c.in_ok-push.ensures.items ∙ ap (λ l. l ++ c.class.result ∷ []) c.new-rest.ensures.items)
     ∙ ap (λ e. Then e End) class in
