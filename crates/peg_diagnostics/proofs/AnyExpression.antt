@@ -1,5 +1,5 @@
 -- An expression and its loud expression have the same results, wherever their terminals are numbered from.
-use Rattle.std.proofs.Common.{◌≡◌, ◌≢◌, ℕ, ◌+◌, ◌<◌, ◌≤◌, List, [], ◌++◌, length, map, All, Option, Some, refl}
+use Rattle.std.proofs.Common.{◌≡◌, ◌≢◌, ℕ, ◌+◌, ◌<◌, ◌≤◌, List, [], ◌++◌, length, map, Option, Some, refl}
 use Rattle.std.proofs.Common.{sym, ap, ◌∙◌, arith, append-nil}
 use Rattle.std.proofs.lemmas.List.Elements.{All-nil, All-append, All-weaker}
 use Rattle.peg_semantics.specs.Form.{Form, terminals}
@@ -11,10 +11,10 @@ use Rattle.peg_diagnostics.specs.Items.{item_meaning_of}
 use Rattle.peg_diagnostics.specs.ItemTests.{added_terminals, item_terminals}
 use Rattle.peg_diagnostics.proofs.BlameResults.{same_results, Simulates-blame, other_terminal}
 use Rattle.peg_diagnostics.proofs.DiagnosisLemmas.{equal_results, equal_items}
-use Rattle.peg_diagnostics.proofs.Lookups.{Distinct, AreRulesPlaced, FindsLoud, FindsQuiet, rules_placed, rules-below}
+use Rattle.peg_diagnostics.proofs.Lookups.{Distinct, AreRulesPlaced, rules_placed, rules-below}
 use Rattle.peg_diagnostics.proofs.Lookups.{finds_loud, quiet_copy, loud_terminals, quiet_terminals}
 use Rattle.peg_diagnostics.proofs.LoudRecords.{IsOwn, IsPlaced, HasLoud, no_items, same_items, twice, Simulates-loud}
-use Rattle.peg_diagnostics.proofs.Placement.{Below, From, Below-more, From-less, added-from, item_in, placed}
+use Rattle.peg_diagnostics.proofs.Placement.{Below-more, From-less, added-from, item_in, placed}
 use Rattle.peg_diagnostics.proofs.Placement.{place_from-none}
 use Rattle.peg_diagnostics.proofs.Renaming.{HasCopy}
 use Rattle.peg_diagnostics.proofs.Simulation.{Simulates-gives}
@@ -25,7 +25,7 @@ pub blame_of_record : (rules : List Rule) (text : List ℕ) (n : ℕ) (e : Form)
     → (b : Record) × HasBlame rules text e item position b × (b.result ≡ r.result)
 blame_of_record rules text n e terminal item position r is =
     let blamed = Simulates-gives same_results (record_in rules text n e terminal position)
-        (blame_in rules text n e item position) r is (Simulates-blame rules text n e terminal item position) in
+    (blame_in rules text n e item position) r is (Simulates-blame rules text n e terminal item position) in
     (blamed.0, (n, blamed.1), equal_results r.result (blamed.0).result (blamed.2).results)
 
 -- An expression whose terminals are numbered after all others. Then each added empty class is that of one item.
@@ -96,14 +96,16 @@ module _ (rules : List Rule) (distinct : Distinct (names (diagnostic_rules rules
       let shown_rules = diagnostic_rules rules in
       let number = length (item_terminals rules) in
       let blamed = Simulates-gives same_results (record_in rules text n e terminal position)
-          (blame_in rules text n e number position) r is (Simulates-blame rules text n e terminal number position) in
+      (blame_in rules text n e number position) r is (Simulates-blame rules text n e terminal number position) in
       let there = Simulates-gives (same_items item) (blame_in rules text n e number position)
-          (record_in shown_rules text (twice n) (loud e) past position) blamed.0 blamed.1
-          (Simulates-loud item rules shown_rules text loud_there quiet_there n e past number position itself_there) in
+      (record_in shown_rules text (twice n) (loud e) past position) blamed.0 blamed.1
+      (Simulates-loud item rules shown_rules text loud_there quiet_there n e past number position itself_there) in
       let moved = Simulates-gives same_results (record_in shown_rules text (twice n) (loud e) past position)
-          (record_in shown_rules text (twice n) (loud e) other position) there.0 there.1
-          (other_terminal shown_rules text (twice n) (loud e) past other position) in
-      (moved.0, (twice n, moved.1),
-      equal_results (there.0).result (moved.0).result (moved.2).results
-      ∙ equal_items item (blamed.0).result (there.0).result (there.2).results
-      ∙ equal_results r.result (blamed.0).result (blamed.2).results)
+      (record_in shown_rules text (twice n) (loud e) other position) there.0 there.1
+      (other_terminal shown_rules text (twice n) (loud e) past other position) in (
+        moved.0,
+        (twice n, moved.1),
+        equal_results (there.0).result (moved.0).result (moved.2).results
+            ∙ equal_items item (blamed.0).result (there.0).result (there.2).results
+            ∙ equal_results r.result (blamed.0).result (blamed.2).results,
+      )

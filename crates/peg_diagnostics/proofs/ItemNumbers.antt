@@ -1,6 +1,6 @@
 -- The added terminals of items ascend, there are as many as extents, and item tests have the numbers of items.
 use Rattle.std.proofs.Common.{◌≡◌, ℕ, suc, ◌+◌, ◌<◌, ◌≤◌, Bool, true, false, List, [], ◌∷◌, ◌++◌, length, All, cond}
-use Rattle.std.proofs.Common.{Option, None, Some, IfSome, filter_map, option_map, refl, sym, ap, ap₂, ◌∙◌, arith, ◌==◌}
+use Rattle.std.proofs.Common.{Option, None, Some, IfSome, option_map, refl, sym, ap₂, ◌∙◌, arith, ◌==◌}
 use Rattle.std.proofs.lemmas.List.{length-append}
 use Rattle.std.proofs.lemmas.List.Elements.{All-nil, All-cons, All-head, All-tail}
 use Rattle.std.specs.List.{cons_option, position_from}
@@ -11,10 +11,10 @@ use Rattle.peg_semantics.specs.Record.{Test, test_of}
 use Rattle.peg_semantics.specs.Rules.{Rule}
 use Rattle.peg_semantics.proofs.Ascending.{RisesFrom, RisesFrom-to_increasing}
 use Rattle.peg_diagnostics.specs.Diagnostic.{loud}
-use Rattle.peg_diagnostics.specs.Items.{items, item_extents, item_extents_of_all, extents_of_items}
+use Rattle.peg_diagnostics.specs.Items.{item_extents, item_extents_of_all, extents_of_items}
 use Rattle.peg_diagnostics.specs.ItemTests.{added_terminals, added_terminals_of_all, added_terminals_from}
 use Rattle.peg_diagnostics.specs.ItemTests.{item_terminals}
-use Rattle.peg_diagnostics.specs.ItemTests.{as_item_test, item_of, item_tests}
+use Rattle.peg_diagnostics.specs.ItemTests.{item_of, item_tests}
 use Rattle.peg_diagnostics.proofs.Placement.{Below, added-below}
 
 -- ---- ascending numbers
