@@ -13,7 +13,8 @@ use Rattle.peg_diagnostics.proofs.BlameResults.{same_results, Simulates-blame, o
 use Rattle.peg_diagnostics.proofs.DiagnosisLemmas.{equal_results, equal_items}
 use Rattle.peg_diagnostics.proofs.Lookups.{Distinct, AreRulesPlaced, rules_placed, rules-below}
 use Rattle.peg_diagnostics.proofs.Lookups.{finds_loud, quiet_copy, loud_terminals, quiet_terminals}
-use Rattle.peg_diagnostics.proofs.LoudRecords.{IsOwn, IsPlaced, HasLoud, no_items, same_items, twice, Simulates-loud}
+use Rattle.peg_diagnostics.specs.Placed.{IsPlaced}
+use Rattle.peg_diagnostics.proofs.LoudRecords.{IsOwn, HasLoud, no_items, same_items, twice, Simulates-loud}
 use Rattle.peg_diagnostics.proofs.Placement.{Below-more, From-less, added-from, item_in, placed}
 use Rattle.peg_diagnostics.proofs.Placement.{place_from-none}
 use Rattle.peg_diagnostics.proofs.Renaming.{HasCopy}

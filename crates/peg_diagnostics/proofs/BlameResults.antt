@@ -149,7 +149,8 @@ module _ (rules : List Rule) (text : List ℕ) where
       Simulates-seq End terminal item position = Simulates-matched_at same_results position
       Simulates-seq (Then e rest) terminal item position =
           Simulates-then_at same_results (take e terminal position) (more e item position)
-          (λ end. recognize_seq take rest (terminal + terminals e) end) (λ end. blame_seq more rest (item + items e) end)
+          (λ end. recognize_seq take rest (terminal + terminals e) end)
+          (λ end. blame_seq more rest (item + items e) end)
           (h e terminal item position) (λ end. Simulates-seq rest (terminal + terminals e) (item + items e) end)
 
       Simulates-choice : (e : Form) (rest : Forms) (terminal item position : ℕ)

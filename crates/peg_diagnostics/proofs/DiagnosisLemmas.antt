@@ -10,7 +10,8 @@ use Rattle.peg_diagnostics.specs.Diagnostic.{loud, diagnostic_rules}
 use Rattle.peg_diagnostics.specs.ItemTests.{item_of}
 use Rattle.peg_diagnostics.proofs.BlameResults.{same_results, Simulates-blame}
 use Rattle.peg_diagnostics.proofs.Lookups.{Distinct, loud_copies, quiet_copies}
-use Rattle.peg_diagnostics.proofs.LoudRecords.{IsPlaced, same_items, twice, Simulates-loud}
+use Rattle.peg_diagnostics.specs.Placed.{IsPlaced}
+use Rattle.peg_diagnostics.proofs.LoudRecords.{same_items, twice, Simulates-loud}
 use Rattle.peg_diagnostics.proofs.Simulation.{SameResult, Simulates-gives}
 
 -- related results with equal trees are equal

@@ -12,7 +12,8 @@ use Rattle.peg_semantics.specs.Rules.{Rule, Meaning, names, meaning_from, meanin
 use Rattle.peg_diagnostics.specs.Diagnostic.{quiet, quiet_name, loud, loud_rule, quiet_rule, diagnostic_rules}
 use Rattle.peg_diagnostics.specs.Items.{items, item_meaning_from, item_meaning_of}
 use Rattle.peg_diagnostics.specs.ItemTests.{added_terminals, added_terminals_from, item_terminals, item_of}
-use Rattle.peg_diagnostics.proofs.LoudRecords.{IsOwn, IsPlaced, HasLoud, no_items}
+use Rattle.peg_diagnostics.specs.Placed.{IsPlaced}
+use Rattle.peg_diagnostics.proofs.LoudRecords.{IsOwn, HasLoud, no_items}
 use Rattle.peg_diagnostics.proofs.Placement.{Below, From, IsPart, item_in, part-front, part-back, placed}
 use Rattle.peg_diagnostics.proofs.Placement.{length-added, added-below, added-from, place_from-none, two_parts-from}
 use Rattle.peg_diagnostics.proofs.Placement.{two_parts-below}
@@ -244,7 +245,8 @@ FindsQuiet least most found m =
 
 finds_quiet : (rules : List Rule) (rule terminal number start : ℕ) (name : List ℕ) (m : Meaning)
     → meaning_from rule terminal rules name ≡ Some m
-    → FindsQuiet start (start + quiet_terminals rules) (meaning_from number start (map quiet_rule rules) (quiet_name name)) m
+    → FindsQuiet start (start + quiet_terminals rules)
+    (meaning_from number start (map quiet_rule rules) (quiet_name name)) m
 finds_quiet [] rule terminal number start name m is = cc
 finds_quiet (r ∷ rs) rule terminal number start name m is =
     by (bytes_eq name r.name) refl
@@ -261,9 +263,11 @@ finds_quiet (r ∷ rs) rule terminal number start name m is =
 
     by : (b : Bool) → bytes_eq name r.name ≡ b
         → (meaning_from (rule + 1) (terminal + terminals r.body) rs name ≡ Some m
-        → FindsQuiet (start + terminals (quiet r.body)) (start + terminals (quiet r.body) + quiet_terminals rs) others m)
+        → FindsQuiet (start + terminals (quiet r.body)) (start + terminals (quiet r.body) + quiet_terminals rs) others
+        m)
         → (if b then Some first else meaning_from (rule + 1) (terminal + terminals r.body) rs name) ≡ Some m
-        → FindsQuiet start (start + quiet_terminals (r ∷ rs)) (if bytes_eq (quiet_name name) (quiet_name r.name) then Some copy else others) m
+        → FindsQuiet start (start + quiet_terminals (r ∷ rs))
+        (if bytes_eq (quiet_name name) (quiet_name r.name) then Some copy else others) m
     by true equal later found =
         let same : first ≡ m = cc in
         subst (λ b. FindsQuiet start (start + quiet_terminals (r ∷ rs)) (if b then Some copy else others) m)
@@ -278,7 +282,8 @@ finds_quiet (r ∷ rs) rule terminal number start name m is =
 
 module _ (rules : List Rule) (distinct : Distinct (names (diagnostic_rules rules))) where
   pub quiet_copy : (name : List ℕ) (m : Meaning) → meaning_of rules name ≡ Some m
-      → FindsQuiet (loud_terminals rules) (loud_terminals rules + quiet_terminals rules) (meaning_of (diagnostic_rules rules) (quiet_name name)) m
+      → FindsQuiet (loud_terminals rules) (loud_terminals rules + quiet_terminals rules)
+      (meaning_of (diagnostic_rules rules) (quiet_name name)) m
   quiet_copy name m is =
       let passed = passes_loud rules (map quiet_rule rules) (quiet_name name) 0 0
       (apart_from_quiet rules distinct name m is) in

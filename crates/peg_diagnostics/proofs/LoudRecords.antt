@@ -21,6 +21,7 @@ use Rattle.peg_diagnostics.specs.Blame.{item_blame, blame_item, blame_seq, blame
 use Rattle.peg_diagnostics.specs.Diagnostic.{quiet, quiet_name, no_bytes, or_fail, loud, loud_all}
 use Rattle.peg_diagnostics.specs.Items.{items, item_meaning_of}
 use Rattle.peg_diagnostics.specs.ItemTests.{as_item_test}
+use Rattle.peg_diagnostics.specs.Placed.{IsItemAt, IsPlaced, AreAllPlaced}
 use Rattle.peg_diagnostics.proofs.EmptySet.{has-no_bytes}
 use Rattle.peg_diagnostics.proofs.Renaming.{EachFrom, HasCopy, Simulates-rename, terminals-rename}
 use Rattle.peg_diagnostics.proofs.Simulation.{Likeness, SameResult, IsLike, Follows, Simulates, Simulates-extends}
@@ -56,33 +57,6 @@ same_items item = record {
 -- a terminal that is no added empty class
 abbrev pub IsOwn : (ℕ → Option ℕ) → ℕ → Type 0
 IsOwn item terminal = item terminal ≡ None
-
--- An item with some terminals from a number on: these are no added empty classes, and the one after them is the item's.
-abbrev pub IsItemAt : (ℕ → Option ℕ) → (count terminal number : ℕ) → Type 0
-IsItemAt item count terminal number = EachFrom (IsOwn item) count terminal × (item (terminal + count) ≡ Some number)
-
--- The added empty classes of a loud expression are those of the expression's items, from the given numbers on.
-abbrev mutual
-  pub IsPlaced : (ℕ → Option ℕ) → Form → (terminal number : ℕ) → Type 0
-  IsPlaced item (Literal bytes span) terminal number = IsItemAt item 1 terminal number
-  IsPlaced item (Class set span) terminal number = IsItemAt item 1 terminal number
-  IsPlaced item (Any span) terminal number = IsItemAt item 1 terminal number
-  IsPlaced item (Name name span) terminal number = Unit {0}
-  IsPlaced item (Seq parts span) terminal number = AreAllPlaced item parts terminal number
-  IsPlaced item (Choice first rest span) terminal number =
-      IsPlaced item first terminal number
-      × AreAllPlaced item rest (terminal + terminals (loud first)) (number + items first)
-  IsPlaced item (Optional part span) terminal number = IsPlaced item part terminal number
-  IsPlaced item (Star part span) terminal number = IsPlaced item part terminal number
-  IsPlaced item (Plus part span) terminal number = IsPlaced item part terminal number
-  IsPlaced item (Counted part min max span) terminal number = IsPlaced item part terminal number
-  IsPlaced item (And part span) terminal number = IsItemAt item (terminals part) terminal number
-  IsPlaced item (Not part span) terminal number = IsItemAt item (terminals part) terminal number
-
-  pub AreAllPlaced : (ℕ → Option ℕ) → Forms → (terminal number : ℕ) → Type 0
-  AreAllPlaced item End terminal number = Unit {0}
-  AreAllPlaced item (Then e rest) terminal number =
-      IsPlaced item e terminal number × AreAllPlaced item rest (terminal + terminals (loud e)) (number + items e)
 
 -- ---- items
 

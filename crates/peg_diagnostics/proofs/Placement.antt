@@ -10,7 +10,7 @@ use Rattle.peg_semantics.specs.Form.{And, Not, End, Then, terminals, terminals_o
 use Rattle.peg_diagnostics.specs.Diagnostic.{quiet, quiet_name, loud, loud_all}
 use Rattle.peg_diagnostics.specs.Items.{items, items_of_all}
 use Rattle.peg_diagnostics.specs.ItemTests.{added_terminals, added_terminals_of_all}
-use Rattle.peg_diagnostics.proofs.LoudRecords.{IsItemAt, IsPlaced, AreAllPlaced}
+use Rattle.peg_diagnostics.specs.Placed.{IsItemAt, IsPlaced, AreAllPlaced}
 use Rattle.peg_diagnostics.proofs.Renaming.{terminals-rename}
 
 -- ---- the place of a number in a list

@@ -8,4 +8,5 @@ pub mod Diagnosis
 pub mod Diagnostic
 pub mod Items
 pub mod ItemTests
+pub mod Placed
 pub mod Refusal

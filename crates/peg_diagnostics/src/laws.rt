@@ -9,12 +9,13 @@ ghost use Rattle.peg_diagnostics.specs.BlameExamples.{guarded, keyword, predicat
 ghost use Rattle.peg_diagnostics.specs.BlameExamples.{keyword_blame, identifier_blame};
 ghost use Rattle.peg_diagnostics.specs.Diagnosis.{Diagnosis};
 ghost use Rattle.peg_diagnostics.specs.Diagnostic.{diagnostic_rules, loud, HaveNoMark};
-ghost use Rattle.peg_diagnostics.specs.Items.{extents_of_items};
-ghost use Rattle.peg_diagnostics.specs.ItemTests.{item_terminals, item_tests};
+ghost use Rattle.peg_diagnostics.specs.Items.{extents_of_items, item_meaning_of};
+ghost use Rattle.peg_diagnostics.specs.ItemTests.{item_of, item_terminals, item_tests};
+ghost use Rattle.peg_diagnostics.specs.Placed.{IsPlaced};
 ghost use Rattle.peg_semantics.specs.Form.{Form, Name};
 ghost use Rattle.peg_semantics.specs.Grammar.{IsGrammar};
 ghost use Rattle.peg_semantics.specs.Record.{Record, IsRecord, Test, record_in, start_record};
-ghost use Rattle.peg_semantics.specs.Rules.{Rule, names};
+ghost use Rattle.peg_semantics.specs.Rules.{Rule, Meaning, meaning_of, names};
 ghost use Rattle.peg_semantics.specs.WellFormed.{IsWellFormedGrammar};
 
 /// Blame is monotone in the depth: a blame in depth n is also the blame in depth n + 1.
@@ -42,10 +43,20 @@ pub fn the_definitions_agree_with_hand_worked_grammars()
     ensures keyword_terminals { item_terminals keyword ≡ 0 ∷ 2 ∷ 4 ∷ [] }
 {}
 
-/// The diagnostic grammar computes the blame, if all its names are distinct. A name with a record has a blame, and a
-/// record in the diagnostic grammar, both with the same result. The failed tests of added empty classes are those of
-/// the blame.
+/// The diagnostic grammar computes the blame, if all its names are distinct. An expression with a record has a blame,
+/// and its loud expression has a record in the diagnostic grammar, both with the same result. The failed tests of added
+/// empty classes are those of the blame. Each rule has a loud copy of the same number, placed by its first terminal and
+/// its first item.
 pub fn the_diagnostic_grammar_computes_the_blame()
+    ensures expressions { (rules : List Rule) (text : List ℕ) (n : ℕ) (e : Form)
+        (terminal other item position : ℕ) (r : Record)
+        → AllPairs (λ (a b : List ℕ). a ≢ b) (names (diagnostic_rules rules))
+        → IsPlaced (item_of rules) e other item
+        → record_in rules text n e terminal position ≡ Some r
+        → Diagnosis rules text e other item position r }
+    ensures rules { (rules : List Rule) (name : List ℕ) (m : Meaning) → item_meaning_of rules name ≡ Some m
+        → (copy : Meaning) × (meaning_of (diagnostic_rules rules) name ≡ Some copy) × (m.rule ≡ copy.rule)
+        × (copy.body ≡ loud m.body) × IsPlaced (item_of rules) m.body copy.terminal m.terminal }
     ensures names { (rules : List Rule) (text : List ℕ) (n : ℕ) (name : List ℕ) (span : Extent)
         (terminal other item position : ℕ) (r : Record)
         → AllPairs (λ (a b : List ℕ). a ≢ b) (names (diagnostic_rules rules))
