@@ -7,7 +7,7 @@ use Rattle.peg_semantics.specs.Rules.{Rule, names}
 use Rattle.peg_diagnostics.specs.Blame.{blame_in}
 use Rattle.peg_diagnostics.specs.Diagnosis.{Diagnosis}
 use Rattle.peg_diagnostics.specs.Diagnostic.{loud, diagnostic_rules}
-use Rattle.peg_diagnostics.specs.ItemTests.{item_of}
+use Rattle.peg_diagnostics.specs.ItemTests.{item_of_terminal}
 use Rattle.peg_diagnostics.proofs.BlameResults.{same_results, Simulates-blame}
 use Rattle.peg_diagnostics.proofs.Lookups.{Distinct, loud_copies, quiet_copies}
 use Rattle.peg_diagnostics.specs.Placed.{IsPlaced}
@@ -31,10 +31,10 @@ equal_items item (Matched end trees) (Matched other more) same = λ i. Matched (
 module _ (rules : List Rule) (text : List ℕ) (distinct : Distinct (names (diagnostic_rules rules))) where
   -- an expression whose added empty classes are those of its items
   pub diagnosis : (n : ℕ) (e : Form) (t terminal number position : ℕ) (r : Record)
-      → IsPlaced (item_of rules) e terminal number → record_in rules text n e t position ≡ Some r
+      → IsPlaced (item_of_terminal rules) e terminal number → record_in rules text n e t position ≡ Some r
       → Diagnosis rules text e terminal number position r
   diagnosis n e t terminal number position r placed is =
-      let item = item_of rules in
+      let item = item_of_terminal rules in
       let blamed = Simulates-gives same_results (record_in rules text n e t position)
       (blame_in rules text n e number position) r is (Simulates-blame rules text n e t number position) in
       let shown = Simulates-gives (same_items item) (blame_in rules text n e number position)

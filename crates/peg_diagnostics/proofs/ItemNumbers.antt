@@ -14,7 +14,7 @@ use Rattle.peg_diagnostics.specs.Diagnostic.{loud}
 use Rattle.peg_diagnostics.specs.Items.{item_extents, item_extents_of_all, extents_of_items}
 use Rattle.peg_diagnostics.specs.ItemTests.{added_terminals, added_terminals_of_all, added_terminals_from}
 use Rattle.peg_diagnostics.specs.ItemTests.{item_terminals}
-use Rattle.peg_diagnostics.specs.ItemTests.{item_of, item_tests}
+use Rattle.peg_diagnostics.specs.ItemTests.{item_of_terminal, item_tests}
 use Rattle.peg_diagnostics.proofs.Placement.{Below, added-below}
 
 -- ---- ascending numbers
@@ -135,7 +135,8 @@ module _ (rules : List Rule) where
   pub item_tests-within : (tests : List Test) → All IsOfItem (item_tests rules tests)
   item_tests-within [] = All-nil IsOfItem
   item_tests-within (test ∷ tests) =
-      by (item_of rules test.terminal) (place-within test.terminal 0 (item_terminals rules)) (item_tests-within tests)
+      by (item_of_terminal rules test.terminal) (place-within test.terminal 0 (item_terminals rules))
+      (item_tests-within tests)
     where
       by : (found : Option ℕ) → IfSome found (λ k. k < 0 + length (item_terminals rules))
           → All IsOfItem (item_tests rules tests)

@@ -11,7 +11,7 @@ use Rattle.peg_semantics.specs.Form.{terminals}
 use Rattle.peg_semantics.specs.Rules.{Rule, Meaning, names, meaning_from, meaning_of}
 use Rattle.peg_diagnostics.specs.Diagnostic.{quiet, quiet_name, loud, loud_rule, quiet_rule, diagnostic_rules}
 use Rattle.peg_diagnostics.specs.Items.{items, item_meaning_from, item_meaning_of}
-use Rattle.peg_diagnostics.specs.ItemTests.{added_terminals, added_terminals_from, item_terminals, item_of}
+use Rattle.peg_diagnostics.specs.ItemTests.{added_terminals, added_terminals_from, item_terminals, item_of_terminal}
 use Rattle.peg_diagnostics.specs.Placed.{IsPlaced}
 use Rattle.peg_diagnostics.proofs.LoudRecords.{IsOwn, HasLoud, no_items}
 use Rattle.peg_diagnostics.proofs.Placement.{Below, From, IsPart, item_in, part-front, part-back, placed}
@@ -152,7 +152,7 @@ rules_placed all (r ∷ rs) before after terminal number part =
           (length-added r.body terminal) (added-below r.body terminal)),
     )
 
-all_rules_placed : (rules : List Rule) → AreRulesPlaced (item_of rules) rules 0 0
+all_rules_placed : (rules : List Rule) → AreRulesPlaced (item_of_terminal rules) rules 0 0
 all_rules_placed rules =
     rules_placed (item_terminals rules) rules [] [] 0 0 (record {
       is = sym (append-nil (item_terminals rules));
@@ -200,9 +200,10 @@ finds_loud item (r ∷ rs) more rule terminal number name m there is =
     by false later found = later found
 
 pub loud_copies : (rules : List Rule) (name : List ℕ) (m : Meaning) → item_meaning_of rules name ≡ Some m
-    → HasLoud (item_of rules) (diagnostic_rules rules) name m
+    → HasLoud (item_of_terminal rules) (diagnostic_rules rules) name m
 loud_copies rules name m is =
-    let found = finds_loud (item_of rules) rules (map quiet_rule rules) 0 0 0 name m (all_rules_placed rules) is in
+    let found = finds_loud (item_of_terminal rules) rules (map quiet_rule rules) 0 0 0 name m (all_rules_placed rules)
+    is in
     record {
       copy = found.0;
       found = found.1;
@@ -291,7 +292,8 @@ module _ (rules : List Rule) (distinct : Distinct (names (diagnostic_rules rules
       (found.0, passed.3 ∙ found.1, found.2, omega (arith, passed.2, found.3), omega (arith, passed.2, found.4))
 
   pub quiet_copies : (name : List ℕ) (m : Meaning) → meaning_of rules name ≡ Some m
-      → HasCopy (no_items (item_of rules)) (IsOwn (item_of rules)) quiet_name (diagnostic_rules rules) name m
+      → HasCopy (no_items (item_of_terminal rules)) (IsOwn (item_of_terminal rules)) quiet_name (diagnostic_rules rules)
+      name m
   quiet_copies name m is =
       let found = quiet_copy name m is in
       record {

@@ -64,27 +64,27 @@ abbrev mutual
   loud_all (Then e rest) = Then (loud e) (loud_all rest)
 
 -- the extent of an expression in the file
-abbrev pub extent_of : Form → Extent
-extent_of (Literal bytes span) = span
-extent_of (Class set span) = span
-extent_of (Any span) = span
-extent_of (Name name span) = span
-extent_of (Seq items span) = span
-extent_of (Choice first rest span) = span
-extent_of (Optional part span) = span
-extent_of (Star part span) = span
-extent_of (Plus part span) = span
-extent_of (Counted part min max span) = span
-extent_of (And part span) = span
-extent_of (Not part span) = span
+abbrev pub form_extent : Form → Extent
+form_extent (Literal bytes span) = span
+form_extent (Class set span) = span
+form_extent (Any span) = span
+form_extent (Name name span) = span
+form_extent (Seq items span) = span
+form_extent (Choice first rest span) = span
+form_extent (Optional part span) = span
+form_extent (Star part span) = span
+form_extent (Plus part span) = span
+form_extent (Counted part min max span) = span
+form_extent (And part span) = span
+form_extent (Not part span) = span
 
 -- A rule with its expression made loud, and the quiet copy of a rule. Both have the extent of the rule's expression in
 -- place of that of its name, since a copy's name is not in the file.
 abbrev pub loud_rule : Rule → Rule
-loud_rule rule = record { name = rule.name; span = extent_of rule.body; body = loud rule.body }
+loud_rule rule = record { name = rule.name; span = form_extent rule.body; body = loud rule.body }
 
 abbrev pub quiet_rule : Rule → Rule
-quiet_rule rule = record { name = quiet_name rule.name; span = extent_of rule.body; body = quiet rule.body }
+quiet_rule rule = record { name = quiet_name rule.name; span = form_extent rule.body; body = quiet rule.body }
 
 -- all rules made loud, in order, and then the quiet copies of all rules, in order
 abbrev pub diagnostic_rules : List Rule → List Rule

@@ -41,8 +41,8 @@ abbrev pub item_terminals : List Rule → List ℕ
 item_terminals rules = added_terminals_from 0 rules
 
 -- the item whose empty class has a terminal number, if there is one
-abbrev pub item_of : List Rule → (terminal : ℕ) → Option ℕ
-item_of rules terminal = position_from (λ added. added == terminal) 0 (item_terminals rules)
+abbrev pub item_of_terminal : List Rule → (terminal : ℕ) → Option ℕ
+item_of_terminal rules terminal = position_from (λ added. added == terminal) 0 (item_terminals rules)
 
 -- a failed test of an empty class as a failed test of its item, given the item of each terminal that has one
 abbrev pub as_item_test : (item : ℕ → Option ℕ) → Test → Option Test
@@ -50,4 +50,4 @@ as_item_test item test = option_map (λ number. test_of number test.position) (i
 
 -- the failed tests of added empty classes, in order, as failed tests of items
 abbrev pub item_tests : List Rule → List Test → List Test
-item_tests rules tests = filter_map (as_item_test (item_of rules)) tests
+item_tests rules tests = filter_map (as_item_test (item_of_terminal rules)) tests

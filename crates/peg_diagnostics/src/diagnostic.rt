@@ -18,6 +18,14 @@ use std::alloc::{AllocError, Global};
 ///
 /// Returns `TooManyParts` if the weight of the result is over `MAX_PARTS`, and `Memory` if an allocation fails. If a
 /// rule has a name with a `!`, it can also return `Duplicate`.
+///
+/// # Example
+///
+/// ```
+/// let grammar = Grammar::new(alloc, read(alloc, b"S <- !T 'a'    T <- 'b'")?)?;
+/// let shown = diagnostic_grammar(alloc, &grammar)?;
+/// assert_eq!((shown.rules(), shown.rule_name(3)), (4, "T!"));
+/// ```
 pub fn diagnostic_grammar(alloc: Global, grammar: &Grammar) -> Result<Grammar, GrammarFault>
     ensures rules { IfOk result (λ g. rules_in g ≡ diagnostic_rules (rules_in grammar.now)) }
     ensures refused { IfErr result (IsRefusedBy (diagnostic_rules (rules_in grammar.now))) }

@@ -10,7 +10,7 @@ ghost use Rattle.peg_diagnostics.specs.BlameExamples.{keyword_blame, identifier_
 ghost use Rattle.peg_diagnostics.specs.Diagnosis.{Diagnosis};
 ghost use Rattle.peg_diagnostics.specs.Diagnostic.{diagnostic_rules, loud, HaveNoMark};
 ghost use Rattle.peg_diagnostics.specs.Items.{extents_of_items, item_meaning_of};
-ghost use Rattle.peg_diagnostics.specs.ItemTests.{item_of, item_terminals, item_tests};
+ghost use Rattle.peg_diagnostics.specs.ItemTests.{item_of_terminal, item_terminals, item_tests};
 ghost use Rattle.peg_diagnostics.specs.Placed.{IsPlaced};
 ghost use Rattle.peg_semantics.specs.Form.{Form, Name};
 ghost use Rattle.peg_semantics.specs.Grammar.{IsGrammar};
@@ -51,12 +51,12 @@ pub fn the_diagnostic_grammar_computes_the_blame()
     ensures expressions { (rules : List Rule) (text : List ℕ) (n : ℕ) (e : Form)
         (terminal other item position : ℕ) (r : Record)
         → AllPairs (λ (a b : List ℕ). a ≢ b) (names (diagnostic_rules rules))
-        → IsPlaced (item_of rules) e other item
+        → IsPlaced (item_of_terminal rules) e other item
         → record_in rules text n e terminal position ≡ Some r
         → Diagnosis rules text e other item position r }
     ensures rules { (rules : List Rule) (name : List ℕ) (m : Meaning) → item_meaning_of rules name ≡ Some m
         → (copy : Meaning) × (meaning_of (diagnostic_rules rules) name ≡ Some copy) × (m.rule ≡ copy.rule)
-        × (copy.body ≡ loud m.body) × IsPlaced (item_of rules) m.body copy.terminal m.terminal }
+        × (copy.body ≡ loud m.body) × IsPlaced (item_of_terminal rules) m.body copy.terminal m.terminal }
     ensures names { (rules : List Rule) (text : List ℕ) (n : ℕ) (name : List ℕ) (span : Extent)
         (terminal other item position : ℕ) (r : Record)
         → AllPairs (λ (a b : List ℕ). a ≢ b) (names (diagnostic_rules rules))

@@ -1,7 +1,7 @@
 //! Loud copies of expressions.
 ghost use Rattle.std.specs.Prelude.{◌≡◌, IfOk, map};
 ghost use Rattle.peg_bytes.specs.Extent.{extent};
-ghost use Rattle.peg_diagnostics.specs.Diagnostic.{extent_of, loud};
+ghost use Rattle.peg_diagnostics.specs.Diagnostic.{form_extent, loud};
 ghost use Rattle.peg_grammar.specs.Written.{form_of};
 
 use crate::builders::{choice, counted, name, optional, or_empty_class, plus, seq, star};
@@ -12,7 +12,7 @@ use std::alloc::{AllocError, Global};
 
 /// Returns the span of an expression in the grammar file.
 pub(crate) fn span_of(expr: &Expr) -> Span
-    ensures { extent result ≡ extent_of (form_of expr.now) }
+    ensures { extent result ≡ form_extent (form_of expr.now) }
 {
     match expr {
         Expr::Literal { span, .. }

@@ -12,6 +12,13 @@ use std::alloc::{AllocError, Global};
 
 /// Returns the span of each item of a grammar in the grammar file, by item number. The only error is a failed
 /// allocation. Linear in the weight of the grammar.
+///
+/// # Example
+///
+/// ```
+/// let grammar = Grammar::new(alloc, read(alloc, b"S <- 'ab' !'c' .")?)?;
+/// assert_eq!(item_spans(alloc, &grammar)?.as_slice()[1], Span::new(10, 14));
+/// ```
 pub fn item_spans(alloc: Global, grammar: &Grammar) -> Result<Vec<Span>, AllocError>
     ensures { IfOk result (λ spans. map extent spans.items ≡ extents_of_items (rules_in grammar.now)) }
 {

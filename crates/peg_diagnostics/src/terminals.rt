@@ -12,6 +12,13 @@ use std::alloc::{AllocError, Global};
 
 /// Returns, by item number, the number of the item's empty class among the terminals of the diagnostic grammar of a
 /// grammar. The numbers ascend. The only error is a failed allocation. Linear in the weight of the grammar.
+///
+/// # Example
+///
+/// ```
+/// let grammar = Grammar::new(alloc, read(alloc, b"S <- 'ab' !'c' .")?)?;
+/// assert_eq!(item_terminals(alloc, &grammar)?.as_slice()[1], 3);
+/// ```
 pub fn item_terminals(alloc: Global, grammar: &Grammar) -> Result<Vec<u32>, AllocError>
     ensures { IfOk result (λ numbers. numbers.items ≡ terminals_of_items (rules_in grammar.now)) }
 {
