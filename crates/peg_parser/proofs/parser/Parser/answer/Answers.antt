@@ -20,10 +20,13 @@ returns-in-Ok-clause-outcome g c =
 -- the calls shown are those of Ford's record
 pub returns-in-Ok-clause-traced : goal.returns-in-Ok-clause-traced
 returns-in-Ok-clause-traced g c =
-    let traced = c.in-Ok.ensures.traced in
-    (traced.0, traced.1, parser-calls c.args.self.now c.args.text.now c.args.start c.in-Ok.answer.outcome traced.0
-    (All-from_get_or (λ byte. byte < 256) c.args.text.now 0 (λ i within. (c.type_inv.text i).fits)) c.requires.start
-    c.in-Ok.ensures.outcome traced.2.visited)
+    let traced = c.in-Ok.ensures.traced in (
+      traced.0,
+      traced.1,
+      parser-calls c.args.self.now c.args.text.now c.args.start c.in-Ok.answer.outcome traced.0
+          (All-from_get_or (λ byte. byte < 256) c.args.text.now 0 (λ i within. (c.type_inv.text i).fits)) c.requires.start
+          c.in-Ok.ensures.outcome traced.2.visited,
+    )
 
 pub returns-in-Ok-clause-enough : goal.returns-in-Ok-clause-enough
 returns-in-Ok-clause-enough g c never more =
