@@ -67,6 +67,18 @@ outcome-line (Ok line) file rules outcome len all status is ends same =
     (inr (λ nested. absurd (let bad : Rows ≡ Nested = nested in cc), refl))
 outcome-line (Err why) file rules outcome len all status is ends same = tt
 
+-- an outcome has the same exit status, whichever nodes are shown
+pub selected-status : (rules : List Rule) (len : ℕ) (all : Bool) (shown : ℕ → Bool) (outcome : Outcome)
+    → status_of (outcome_reply rules outcome len all Rows) ≡ status_of (outcome_reply rules (selected_outcome shown outcome) len all Rows)
+selected-status rules len all shown outcome = by outcome.result
+  where
+    by : (result : Parsed)
+        → status_of (result_reply rules len all Rows outcome.far (extents_at rules outcome.expected.items) result)
+        ≡ status_of (result_reply rules len all Rows outcome.far (extents_at rules outcome.expected.items)
+        (selected_result shown result))
+    by parsed.Failed = refl
+    by (parsed.Matched end tree) = refl
+
 -- ---- results without a printed tree
 
 -- the line of a result is the same whichever nodes are shown

@@ -14,6 +14,7 @@ mod lint_text;
 mod positions;
 mod refusal_text;
 mod row_lines;
+mod shown_lines;
 mod status;
 mod table_text;
 mod text;
@@ -30,6 +31,7 @@ pub use lines::{
 };
 pub use lint_text::lint_json;
 pub use refusal_text::refusal_json;
+pub use shown_lines::shown_rows_line;
 pub use status::Status;
 pub use table_text::table_json;
 pub use text_lines::answer_line_with_text;

@@ -69,15 +69,15 @@ fn outcome_line(
     }
 }
 
-// Whether the match is shorter than asked for.
-fn is_partial(all: bool, end: u32, text_len: u32) -> bool
+/// Returns whether the match is shorter than asked for.
+pub(crate) fn is_partial(all: bool, end: u32, text_len: u32) -> bool
     ensures { result ≡ (all && nat_lt end text_len) }
 {
     all && end < text_len
 }
 
-// The JSON of a failure of the terminals with these numbers.
-fn failure(
+/// Returns the JSON of a failure of the terminals with these numbers.
+pub(crate) fn failure(
     alloc: Global,
     parser: &Parser,
     far: u32,
@@ -90,8 +90,8 @@ fn failure(
     failed_text(alloc, far, ExpectedSpans::new(parser, terminals))
 }
 
-// The JSON of a match up to the opening bracket of the list of its nodes.
-fn match_head(
+/// Returns the JSON of a match up to the opening bracket of the list of its nodes.
+pub(crate) fn match_head(
     alloc: Global,
     parser: &Parser,
     partial: bool,

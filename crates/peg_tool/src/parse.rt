@@ -4,22 +4,22 @@ ghost use Rattle.peg_parser.specs.Cause.{NoSuchStart, TextTooLong};
 ghost use Rattle.peg_parser.specs.Parser.{parser_rules, start_named};
 ghost use Rattle.peg_grammar.specs.Limits.{max_text_bytes};
 ghost use Rattle.peg_json.specs.Lines.{IsLineOf, IsReply, line_bytes};
-ghost use Rattle.peg_json.specs.Parses.{ParsesToAsked, PrintsOutcomeAsked, selected_outcome};
+ghost use Rattle.peg_json.specs.Parses.{ParsesToAsked, PrintsOutcome, PrintsOutcomeAsked, selected_outcome};
 ghost use Rattle.peg_json.specs.Reply.{Refused};
 ghost use Rattle.peg_json.specs.Statuses.{status_code};
 ghost use Rattle.peg_parser.specs.Fits.{Fits};
 ghost use Rattle.peg_tool.specs.Commands.{nodes_asked};
 ghost use Rattle.peg_tool.specs.PrintedNodes.{shown_by};
 
-use crate::nodes::Nodes;
+use crate::nodes::{Nodes, listed_rules, other_rules};
 use crate::selection::select_nodes;
 use peg_grammar::MAX_TEXT_BYTES;
 use peg_json::{
     Line, TreeForm, answer_line, answer_line_with_text, long_text_line, no_start_line,
-    step_limit_line,
+    shown_rows_line, step_limit_line,
 };
 use peg_parser::{Answer, ParseFault, ParseOptions, Parser};
-use peg_tree::laws::a_selected_tree_has_no_other_rules;
+use peg_tree::laws::{a_selected_tree_has_no_other_rules, selecting_all_rules_changes_nothing};
 use std::alloc::{AllocError, Global};
 
 /// Returns the line of a parse of a text, with these nodes of its tree. A text that is too long is reported before a
@@ -83,10 +83,44 @@ fn nodes_line(
     match form {
         // No tree is printed, so none is made.
         TreeForm::NoTree => answer_line(alloc, parser, answer, text.len() as u32, all, form),
+        TreeForm::Rows if !with_bytes => {
+            rows_line(alloc, parser, answer, text.len() as u32, all, nodes)
+        }
         TreeForm::Nested | TreeForm::Rows => {
             a_selected_tree_has_no_other_rules();
             let printed = select_nodes(alloc, parser.grammar(), answer, nodes)?;
             tree_line(alloc, parser, printed, text, all, form, with_bytes)
+        }
+    }
+}
+
+// The line of an answer with these nodes of its tree as a list. There is no second tree.
+fn rows_line(
+    alloc: Global,
+    parser: &Parser,
+    answer: Answer,
+    text_len: u32,
+    all: bool,
+    nodes: Nodes<'_>,
+) -> Result<Line, AllocError>
+    requires { Fits (parser_rules parser.now) answer.outcome }
+    ensures { (file : List ℕ) → IfOk result (λ line. IsLineOf file (PrintsOutcome (parser_rules parser.now)
+        (selected_outcome (shown_by (parser_rules parser.now) (nodes_asked nodes.entry)) answer.outcome) text_len all
+        TreeForm.Rows)
+        (line_bytes line) (status_code line.status)) }
+{
+    match nodes {
+        Nodes::All => {
+            selecting_all_rules_changes_nothing();
+            answer_line(alloc, parser, answer, text_len, all, TreeForm::Rows)
+        }
+        Nodes::Show(list) => {
+            let shown = listed_rules(alloc, parser.grammar(), list)?;
+            shown_rows_line(alloc, parser, answer, shown, text_len, all)
+        }
+        Nodes::Hide(list) => {
+            let shown = other_rules(alloc, parser.grammar(), list)?;
+            shown_rows_line(alloc, parser, answer, shown, text_len, all)
         }
     }
 }

@@ -1,4 +1,4 @@
-use Rattle.std.proofs.Common.{◌≡◌, ◌∙◌, IfOk, List, length, ap, subst, sym}
+use Rattle.std.proofs.Common.{◌≡◌, ◌∙◌, Bool, false, IfOk, List, length, refl, ap, subst, sym}
 use Rattle.peg_semantics.specs.Rules.{Rule}
 use Rattle.peg_tree.specs.declared.outcome.Outcome.{Outcome}
 use Rattle.peg_parser.specs.Parser.{parser_rules}
@@ -6,7 +6,7 @@ use Rattle.peg_json.specs.Lines.{IsLineOf, line_bytes}
 use Rattle.peg_json.specs.Parses.{PrintsOutcome, PrintsOutcomeAsked, selected_outcome}
 use Rattle.peg_json.specs.Statuses.{status_code}
 use Rattle.peg_json.specs.declared.tree_form.TreeForm.{TreeForm}
-use Rattle.peg_json.specs.declared.tree_form.TreeForm.TheVariants.{NoTree}
+use Rattle.peg_json.specs.declared.tree_form.TreeForm.TheVariants.{NoTree, Rows}
 use Rattle.peg_json.proofs.PrintLemmas.{kind-weaker, unprinted-asked, unprinted-line}
 use Rattle.peg_tool.specs.Commands.{nodes_asked}
 use Rattle.peg_tool.specs.PrintedNodes.{shown_by}
@@ -28,6 +28,21 @@ returns-in-NoTree c file =
     (subst (λ (form : TreeForm). IfOk c.answer_line.result (λ line. IsLineOf file
     (PrintsOutcome rules outcome (length text) c.args.all form) (line_bytes line) (status_code line.status)))
     c.in-NoTree.is (c.answer_line.ensures file))))
+
+pub returns-in-Rows : goal.returns-in-Rows
+returns-in-Rows c file =
+    let rules = parser_rules c.args.parser.now in
+    let outcome = selected_outcome (shown_by rules (nodes_asked c.args.nodes)) c.args.answer.outcome in
+    let text = c.args.text.now in
+    subst (λ (asked : Bool). IfOk c.rows_line.result (λ line. IsLineOf file
+    (PrintsOutcomeAsked rules outcome text c.args.all c.args.form asked) (line_bytes line) (status_code line.status)))
+    (sym c.if-not-with_bytes.true)
+    (subst (λ (form : TreeForm). IfOk c.rows_line.result (λ line. IsLineOf file
+    (PrintsOutcomeAsked rules outcome text c.args.all form false) (line_bytes line) (status_code line.status)))
+    (sym c.in-Rows.is)
+    (kind-weaker c.rows_line.result file (PrintsOutcome rules outcome (length text) c.args.all Rows)
+    (PrintsOutcomeAsked rules outcome text c.args.all Rows false) (λ reply prints. (reply, prints, refl))
+    (c.rows_line.ensures file)))
 
 pub returns-in_ok-printed-in-Nested : goal.returns-in_ok-printed-in-Nested
 returns-in_ok-printed-in-Nested c file =
