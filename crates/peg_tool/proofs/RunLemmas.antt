@@ -9,15 +9,16 @@ use Rattle.peg_io.specs.declared.transfer.ReadFault.{ReadFault}
 use Rattle.peg_io.specs.Split.{IsSplit, at_separator, without_separator}
 use Rattle.peg_io.proofs.SplitLaws.{TellsSplit, separator_in_front, separator_further, front_split}
 use Rattle.peg_parser.specs.Accepts.{Accepts}
-use Rattle.peg_parser.specs.Cause.{Cause, FileTooLong, NoSuchRule}
+use Rattle.peg_parser.specs.Cause.{Cause, FileTooLong, NoSuchRule, TextTooLong}
 use Rattle.peg_parser.specs.Refusals.{IsNoGrammar, IsIllFormed, code_too_large, file_too_long, not_in_the_notation, count_out_of_range, too_nested, a_name_twice}
 use Rattle.peg_parser.specs.Refusals.{a_name_missing, too_many_parts, empty_loop, left_recursion}
 use Rattle.peg_grammar.specs.Limits.{max_text_bytes}
 use Rattle.peg_json.specs.Lines.{IsLineOf, IsReply, line_bytes}
-use Rattle.peg_json.specs.Parses.{ParsesToAsked, text_too_long, no_such_start, too_many_steps, failed, too_many_levels}
+use Rattle.peg_json.specs.Parses.{ParsesTo, ParsesToAsked, text_too_long, no_such_start, too_many_steps, failed, too_many_levels}
 use Rattle.peg_json.specs.Parses.{matched}
-use Rattle.peg_json.specs.Reply.{Reply, Refused, printed_line, status_of}
+use Rattle.peg_json.specs.Reply.{Reply, Refused, printed_line, status_of, with_text_if}
 use Rattle.peg_json.specs.Statuses.{status_code}
+use Rattle.peg_json.proofs.PrintLemmas.{refused-with_text}
 use Rattle.peg_json.specs.declared.tree_form.TreeForm.{TreeForm}
 use Rattle.peg_json.specs.declared.line.Line.{Line}
 use Rattle.peg_tool.specs.Replies.{RepliesTo, IsPrinted, IsPrintedJoined, max_joined_bytes, refused_grammar, tabled, refused_form}
@@ -47,6 +48,27 @@ ParsesTo-longer rules text more start memo steps all form shown reply long longe
     (matched within enough starts found is shallow furthest) =
     absurd (omega (arith, long, within))
 
+-- their replies are the same with and without bytes, since they have no tree
+same-longer : (rules : List Rule) (text more : List ℕ) (start : Option (List ℕ)) (memo : ℕ) (steps : Option ℕ)
+    (all : Bool) (form : TreeForm) (shown : ℕ → Bool) (with_bytes : Bool) (reply : Reply) → max_text_bytes < length text
+    → ParsesTo rules text start memo steps all form shown reply
+    → with_text_if with_bytes text reply ≡ with_text_if with_bytes more reply
+same-longer rules text more start memo steps all form shown with_bytes reply long (text_too_long over) =
+    sym (refused-with_text with_bytes text TextTooLong) ∙ refused-with_text with_bytes more TextTooLong
+same-longer rules text more start memo steps all form shown with_bytes reply long (no_such_start name within named missing) =
+    absurd (omega (arith, long, within))
+same-longer rules text more start memo steps all form shown with_bytes reply long (too_many_steps within more_steps) =
+    absurd (omega (arith, long, within))
+same-longer rules text more start memo steps all form shown with_bytes reply long
+    (failed within enough starts found is furthest) =
+    absurd (omega (arith, long, within))
+same-longer rules text more start memo steps all form shown with_bytes reply long
+    (too_many_levels within enough starts found is nested deep) =
+    absurd (omega (arith, long, within))
+same-longer rules text more start memo steps all form shown with_bytes reply long
+    (matched within enough starts found is shallow furthest) =
+    absurd (omega (arith, long, within))
+
 -- the same for any task
 RepliesTo-longer : (file text more : List ℕ) (task : ToolTask) (reply : Reply) → max_text_bytes < length text
     → max_text_bytes < length more → RepliesTo file text task reply → RepliesTo file more task reply
@@ -59,9 +81,13 @@ RepliesTo-longer file text more task reply long longer (coded accepts) = coded a
 RepliesTo-longer file text more task reply long longer (linted accepts is) = linted accepts is
 RepliesTo-longer file text more task reply long longer (no_such_rule name accepts first) = no_such_rule name accepts first
 RepliesTo-longer file text more task reply long longer
-    (parsed {rules} {start} {memo} {steps} {all} {form} {nodes} accepts known is) =
-    parsed accepts known
-    (ParsesTo-longer rules text more start memo steps all form (shown_by rules nodes) reply long longer is)
+    (parsed {rules} {start} {memo} {steps} {all} {form} {nodes} {with_bytes} accepts known is) =
+    let shown = shown_by rules nodes in
+    parsed accepts known (
+      is.0,
+      ParsesTo-longer rules text more start memo steps all form shown is.0 long longer is.1,
+      is.2 ∙ same-longer rules text more start memo steps all form shown with_bytes is.0 long is.1,
+    )
 
 -- ---- files over the limit
 

@@ -36,6 +36,6 @@ returns-in_ok-printed-in-Nested c file =
     ≡ selected_outcome (shown_by rules (nodes_asked c.args.nodes)) c.args.answer.outcome =
     c.in_ok-printed-in-Nested.ensures
     ∙ ap (λ (l : List Rule). selected_outcome (shown_by l (nodes_asked c.args.nodes)) c.args.answer.outcome) c.grammar.ensures in
-    subst (λ (o : Outcome). IfOk c.tree_line-in-Nested.result (λ line. IsLineOf file
+    subst (λ (o : Outcome). IfOk c.tree_line.result (λ line. IsLineOf file
     (PrintsOutcomeAsked rules o c.args.text.now c.args.all c.args.form c.args.with_bytes) (line_bytes line) (status_code line.status)))
-    same (c.tree_line-in-Nested.ensures file)
+    same (c.tree_line.ensures file)

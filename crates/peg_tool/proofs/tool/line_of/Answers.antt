@@ -95,9 +95,9 @@ returns-clause-answer g c =
     let memo = c.in-Parse.options.memo in
     let steps = c.in-Parse.options.steps in
     let nodes = nodes_asked c.in-Parse.nodes in
-    let asked = ParseTask start memo steps c.in-Parse.all c.from_options-form.result nodes c.in-Parse.text in
+    let asked = ParseTask start memo steps c.in-Parse.all c.from_options-form.result nodes c.in-Parse.with_bytes in
     let is : asked ≡ task =
-    ap (λ (form : TreeForm). ParseTask start memo steps c.in-Parse.all form nodes c.in-Parse.text) c.from_options-form.ensures
+    ap (λ (form : TreeForm). ParseTask start memo steps c.in-Parse.all form nodes c.in-Parse.with_bytes) c.from_options-form.ensures
     ∙ sym (ap task_of c.in-Parse.is) in
     let right : (bytes : List ℕ) → IsTextOf task held.items text bytes
     → IfOk c.parse_reply.result (λ line. IsPrinted task held.items bytes (line_bytes line) (status_code line.status)) =

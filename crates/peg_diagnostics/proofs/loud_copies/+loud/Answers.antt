@@ -1,0 +1,38 @@
+use Rattle.std.proofs.Common.{map, sym, ap, ap₂, ◌∙◌}
+use Rattle.peg_bytes.specs.Extent.{extent}
+use Rattle.peg_semantics.specs.Form as form
+use Rattle.peg_semantics.specs.Form.{forms}
+use Rattle.peg_diagnostics.specs.Diagnostic.{loud}
+use Rattle.peg_grammar.specs.Written.{form_of}
+use Rattle.peg_grammar.proofs.WrittenForms.{form_of-Seq, form_of-Choice}
+use Rattle.peg_diagnostics.proofs.WrittenCopies.{forms-loud, IfOk-form}
+use Rattle.peg_diagnostics.proofs.loud_copies.+loud.Goals as goal
+
+pub loud_expression-returns-in_ok-loud_items-in-Seq :
+    goal.loud_expression-returns-in_ok-loud_items-in-Seq
+loud_expression-returns-in_ok-loud_items-in-Seq t c =
+    let span = c.in-Seq.span in
+    c.seq.ensures
+    ∙ ap (λ l. form.Seq (forms l) (extent span)) c.in_ok-loud_items-in-Seq.ensures
+    ∙ ap (λ l. form.Seq (forms (map (λ item. loud (form_of item)) l)) (extent span)) c.deref-in-Seq.ensures.value
+    ∙ ap (λ l. form.Seq l (extent span)) (forms-loud c.in-Seq.items.items)
+    ∙ ap loud (sym (form_of-Seq c.in-Seq.items span))
+    ∙ ap (λ e. loud (form_of e)) (sym c.in-Seq.is)
+
+pub loud_expression-returns-in_ok-loud_items-in-Choice :
+    goal.loud_expression-returns-in_ok-loud_items-in-Choice
+loud_expression-returns-in_ok-loud_items-in-Choice t c =
+    let span = c.in-Choice.span in
+    let first = c.in_ok-first-in-Choice.ensures ∙ ap (λ e. loud (form_of e)) c.deref-in-Choice.ensures in
+    let rest =
+    ap forms c.in_ok-loud_items-in-Choice.ensures
+    ∙ ap (λ l. forms (map (λ item. loud (form_of item)) l)) c.deref-in-Choice-2.ensures.value
+    ∙ forms-loud c.in-Choice.rest.items in
+    let whole =
+    ap₂ (λ e l. form.Choice e l (extent span)) first rest
+    ∙ ap loud (sym (form_of-Choice c.in-Choice.first c.in-Choice.rest span))
+    ∙ ap (λ e. loud (form_of e)) (sym c.in-Choice.is) in
+    IfOk-form c.choice.result
+    (form.Choice (form_of c.in_ok-first-in-Choice.first)
+    (forms (map form_of c.in_ok-loud_items-in-Choice.field-0.items)) (extent span))
+    (loud (form_of c.args.expression.now)) whole c.choice.ensures

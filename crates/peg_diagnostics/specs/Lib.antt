@@ -1,0 +1,12 @@
+pub use Rattle.peg_semantics.specs.Form
+pub use Rattle.peg_semantics.specs.Record
+pub use Rattle.peg_semantics.specs.Rules
+pub use Rattle.peg_semantics.specs.WellFormed
+pub mod Blame
+pub mod BlameExamples
+pub mod Diagnosis
+pub mod Diagnostic
+pub mod Items
+pub mod ItemTests
+pub mod Placed
+pub mod Refusal

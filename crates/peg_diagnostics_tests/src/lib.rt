@@ -1,0 +1,11 @@
+//! Tests of diagnostic grammars, by their public calls.
+#![tactic(auto)]
+
+#[cfg(test)]
+mod grammars;
+#[cfg(test)]
+mod items;
+#[cfg(test)]
+mod outcomes;
+#[cfg(test)]
+mod texts;
