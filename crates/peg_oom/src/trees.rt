@@ -50,8 +50,8 @@ impl Names for Rules {
     }
 }
 
-/// Makes the call that the argument names, on a tree of a root and two children, or of 61 levels. Returns nothing if the
-/// name is not known here.
+/// Makes the call that the argument names, on a tree of a root and two children, or of 61 levels. Returns nothing if
+/// the name is not known here.
 pub(crate) fn call(rt: &impl Print, alloc: Global, word: &str) -> Option<io::Result<()>> {
     let made = match word {
         "rows_json" => rows_value(rt, alloc),
