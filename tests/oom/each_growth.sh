@@ -33,6 +33,8 @@ file "S <- 'a' S / 'b'\n" chain.peg
 file 'aab' chain.txt
 file "D <- &(A !'b') 'a'* B !.\nA <- 'a' A 'b' / ''\nB <- 'b' B 'c' / ''\n" counts.peg
 file 'aabbcc' counts.txt
+file 'B <- .\n' byte.peg
+file '\377' byte.txt
 file "D <- N ('/' N){1,2} !.\nN <- [0-9]{1,3} ''{2}\n" repeats.peg
 file '24/12' repeats.txt
 file "A <- B 'x'\nB <- 'y'? A\n" cycle.peg
@@ -65,6 +67,12 @@ refuse 'parse, deep, memo of 1' /dev/null parse "$work/prefix.peg" "$work/deep.t
 refuse 'parse, deep, memo of 4096' /dev/null parse "$work/prefix.peg" "$work/deep.txt" --rows --memo 4096
 refuse 'parse, shortcuts through calls' /dev/null parse "$work/list.peg" "$work/list.txt" --rows --all --memo 0
 refuse 'parse, shortcuts and a memo' /dev/null parse "$work/list.peg" "$work/list.txt" --rows --all
+refuse 'parse, shown rule' /dev/null parse "$work/counts.peg" "$work/counts.txt" --show A --rows
+refuse 'parse, hidden rules' /dev/null parse "$work/counts.peg" "$work/counts.txt" --hide A,B
+refuse 'parse, no such rule' /dev/null parse "$work/counts.peg" "$work/counts.txt" --show A,C
+refuse 'parse, text' /dev/null parse "$work/counts.peg" "$work/counts.txt" --text
+refuse 'parse, bytes' /dev/null parse "$work/byte.peg" "$work/byte.txt" --text
+refuse 'parse, bytes in rows' /dev/null parse "$work/byte.peg" "$work/byte.txt" --text --rows
 refuse 'parse, no start' /dev/null parse "$work/chain.peg" "$work/chain.txt" --start T
 refuse 'parse, left cycle' /dev/null parse "$work/cycle.peg" "$work/chain.txt"
 for grammar in chain counts repeats cycle loop plus star twice missing open nested large long; do

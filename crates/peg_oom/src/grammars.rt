@@ -1,4 +1,4 @@
-//! Calls on grammars, core forms, tables, checks, code, and the reference evaluators.
+//! Calls on grammars, core forms, tables, checks, code, diagnostic grammars, and the reference evaluators.
 use crate::ending::{Borrowed, report};
 use crate::inputs::{
     CHAIN, COUNTS, CYCLE, LOOP, MISSING, PREFIX, Pair, REPEATS, TWICE, checked, compiled, core,
@@ -7,11 +7,12 @@ use crate::inputs::{
 use peg_check::{CheckFault, check, table_of};
 use peg_code::{CodeFault, compile};
 use peg_core::desugar;
+use peg_diagnostics::{diagnostic_grammar, item_spans, item_terminals};
 use peg_grammar::{Grammar, GrammarFault, PlainFault, TotalFault, plain_match, plain_total};
 use std::alloc::Global;
 use std::io;
 
-pub(crate) const WORDS: [&str; 17] = [
+pub(crate) const WORDS: [&str; 20] = [
     "grammar_new",
     "grammar_new_twice",
     "grammar_new_missing",
@@ -19,6 +20,9 @@ pub(crate) const WORDS: [&str; 17] = [
     "plain_match",
     "plain_match_deep",
     "plain_total",
+    "diagnostic_grammar",
+    "item_spans",
+    "item_terminals",
     "desugar",
     "desugar_repeats",
     "table_of",
@@ -41,6 +45,9 @@ pub(crate) fn call(rt: &impl Print, alloc: Global, word: &str) -> Option<io::Res
         "plain_match" => matched(rt, alloc, 1000),
         "plain_match_deep" => matched(rt, alloc, 3),
         "plain_total" => total(rt, alloc),
+        "diagnostic_grammar" => diagnostic(rt, alloc),
+        "item_spans" => spans(rt, alloc),
+        "item_terminals" => terminals(rt, alloc),
         "desugar" => desugared(rt, alloc, COUNTS),
         "desugar_repeats" => desugared(rt, alloc, REPEATS),
         "table_of" => tabled(rt, alloc),
@@ -90,6 +97,28 @@ fn total(rt: &impl Print, alloc: Global) -> io::Result<()> {
         matches!(answer, Err(TotalFault::Memory)),
         &answer,
     )
+}
+
+fn diagnostic(rt: &impl Print, alloc: Global) -> io::Result<()> {
+    let grammar = grammar(alloc, COUNTS)?;
+    let borrowed = Borrowed::of(alloc, &grammar)?;
+    let answer = diagnostic_grammar(alloc, &grammar);
+    let memory = matches!(answer, Err(GrammarFault::Memory));
+    report(rt, &borrowed, memory, &answer)
+}
+
+fn spans(rt: &impl Print, alloc: Global) -> io::Result<()> {
+    let grammar = grammar(alloc, COUNTS)?;
+    let borrowed = Borrowed::of(alloc, &grammar)?;
+    let answer = item_spans(alloc, &grammar);
+    report(rt, &borrowed, answer.is_err(), &answer)
+}
+
+fn terminals(rt: &impl Print, alloc: Global) -> io::Result<()> {
+    let grammar = grammar(alloc, COUNTS)?;
+    let borrowed = Borrowed::of(alloc, &grammar)?;
+    let answer = item_terminals(alloc, &grammar);
+    report(rt, &borrowed, answer.is_err(), &answer)
 }
 
 fn desugared(rt: &impl Print, alloc: Global, file: &[u8]) -> io::Result<()> {

@@ -20,6 +20,9 @@ pub(crate) const COUNTS: &[u8] = b"\
     A <- 'a' A 'b' / ''\n\
     B <- 'b' B 'c' / ''\n";
 
+/// Matches any byte.
+pub(crate) const BYTE: &[u8] = b"B <- .\n";
+
 /// Matches `(a)y`; without a memo the parentheses are parsed twice.
 pub(crate) const PREFIX: &[u8] = b"A <- '(' A ')' 'x' / '(' A ')' 'y' / 'a'\n";
 

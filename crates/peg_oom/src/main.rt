@@ -9,11 +9,12 @@
 //! Without a known argument the calls are listed.
 //!
 //! The calls are the public ones of the libraries that `grep -rn 'alloc: Global' crates/*/src` finds. Calls on values
-//! with an allocator are added: `keep` of the memos, `begin` of `ListWatch`, `parse`, and what `FlatTree` and
-//! `NestedTree` send to a serializer.
+//! with an allocator are added: `keep` of the memos, `begin` of `ListWatch`, `parse`, `trace`, and what `FlatTree`,
+//! `NestedTree`, `FlatTextTree` and `NestedTextTree` send to a serializer.
 //!
-//! Two calls are only made inside others. These are `definitions_of`, which needs the metagrammar's tree of a file, in
-//! `read_by_figure`, and `serialize_member` in `answer_json` and `table_json`.
+//! Some calls are only made inside others. These are `definitions_of`, which needs the metagrammar's tree of a file, in
+//! `read_by_figure`, and `serialize_member` in `answer_json` and `table_json`. Also `choice_of` and `sequence_of` in
+//! `read`, and `SetPool::add` in `desugar`. `tests/c/memory.c` makes the calls of `peg_handle`.
 #![tactic(auto)]
 
 mod ending;
@@ -22,6 +23,7 @@ mod grammars;
 mod inputs;
 mod memos;
 mod parsers;
+mod profiles;
 mod replies;
 mod runs;
 mod shortcuts;
@@ -71,6 +73,7 @@ fn call(rt: &impl Print, alloc: std::alloc::Global, word: &str) -> Option<io::Re
         .or_else(|| runs::call(rt, alloc, word))
         .or_else(|| shortcuts::call(rt, alloc, word))
         .or_else(|| parsers::call(rt, alloc, word))
+        .or_else(|| profiles::call(rt, alloc, word))
         .or_else(|| replies::call(rt, alloc, word))
         .or_else(|| tools::call(rt, alloc, word))
 }
@@ -84,6 +87,7 @@ fn print_words(rt: &impl Print) -> io::Result<()> {
     print_all(rt, &runs::WORDS)?;
     print_all(rt, &shortcuts::WORDS)?;
     print_all(rt, &parsers::WORDS)?;
+    print_all(rt, &profiles::WORDS)?;
     print_all(rt, &replies::WORDS)?;
     print_all(rt, &tools::WORDS)
 }

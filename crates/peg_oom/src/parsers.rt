@@ -1,6 +1,7 @@
 //! Calls on parsers of grammar files, on parses of texts, and on the reader by the metagrammar.
 use crate::ending::{Borrowed, report};
 use crate::inputs::{CHAIN, COUNTS, CYCLE, LOOP, MISSING, OPEN, PREFIX, REPEATS, TWICE, pluses};
+use peg_machine::ListWatch;
 use peg_parser::{
     DEFAULT_MEMO, FigureFault, ParseFault, ParseOptions, Parser, Refusal, grammar_of,
     read_by_figure,
@@ -8,7 +9,7 @@ use peg_parser::{
 use std::alloc::{AllocError, Global};
 use std::io;
 
-pub(crate) const WORDS: [&str; 18] = [
+pub(crate) const WORDS: [&str; 21] = [
     "grammar_of",
     "grammar_of_missing",
     "from_file",
@@ -24,6 +25,9 @@ pub(crate) const WORDS: [&str; 18] = [
     "parse_memo_1",
     "parse_memo",
     "parse_no_start",
+    "trace",
+    "trace_memo",
+    "trace_no_start",
     "read_by_figure",
     "read_by_figure_fault",
     "read_by_figure_repeats",
@@ -43,6 +47,9 @@ pub(crate) fn call(rt: &impl Print, alloc: Global, word: &str) -> Option<io::Res
         "parse_memo_1" => parsed(rt, alloc, MANY, None, 1),
         "parse_memo" => parsed(rt, alloc, MANY, Some("A"), DEFAULT_MEMO),
         "parse_no_start" => parsed(rt, alloc, FEW, Some("B"), DEFAULT_MEMO),
+        "trace" => traced(rt, alloc, None, 0),
+        "trace_memo" => traced(rt, alloc, Some("A"), DEFAULT_MEMO),
+        "trace_no_start" => traced(rt, alloc, Some("B"), 0),
         "read_by_figure" => figured(rt, alloc, COUNTS),
         "read_by_figure_fault" => figured(rt, alloc, OPEN),
         "read_by_figure_repeats" => figured(rt, alloc, REPEATS),
@@ -113,9 +120,13 @@ pub(crate) fn parser(alloc: Global, file: &[u8]) -> Result<Parser, AllocError> {
     }
 }
 
-// Parentheses that a parse matches without a memo, and more of them, for which it needs the memo.
-const FEW: &[u8] = b"((((a)y)y)y)y";
+/// Parentheses that a parse matches without a memo.
+pub(crate) const FEW: &[u8] = b"((((a)y)y)y)y";
 
+// The rule calls in a parse of this text. Some of them occur more than once.
+const CALLS: [(u32, u32); 5] = [(0, 0), (0, 1), (0, 2), (0, 3), (0, 4)];
+
+// More parentheses, for which a parse needs the memo.
 const MANY: &[u8] = b"((((((((((a)y)y)y)y)y)y)y)y)y)y";
 
 // The steps aren't printed: a result that couldn't be stored is computed again.
@@ -133,6 +144,26 @@ fn parsed(
     let steps = None;
     let options = ParseOptions { start, memo, steps };
     let answer = parser.parse(alloc, &text, &options);
+    let memory = matches!(answer, Err(ParseFault::Memory));
+    let outcome = answer.as_ref().map(|answer| &answer.outcome);
+    report(rt, &borrowed, memory, &outcome)
+}
+
+// With a memo a rule body may run again at a position whose result couldn't be stored. An error leaves a part of the
+// calls.
+fn traced(rt: &impl Print, alloc: Global, start: Option<&str>, memo: u32) -> io::Result<()> {
+    let parser = parser(alloc, PREFIX)?;
+    let borrowed = (parser.grammar(), parser.program(), FEW);
+    let mut borrowed = Borrowed::of(alloc, &borrowed)?;
+    let steps = None;
+    let options = ParseOptions { start, memo, steps };
+    let mut watch = ListWatch::new(alloc);
+    let answer = parser.trace(alloc, FEW, &options, &mut watch);
+    let pairs = watch.pairs();
+    let missing = answer.is_ok() && !CALLS.iter().all(|call| pairs.contains(call));
+    if missing || !pairs.iter().all(|call| CALLS.contains(call)) {
+        borrowed.spoil();
+    }
     let memory = matches!(answer, Err(ParseFault::Memory));
     let outcome = answer.as_ref().map(|answer| &answer.outcome);
     report(rt, &borrowed, memory, &outcome)

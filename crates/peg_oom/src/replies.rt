@@ -3,14 +3,16 @@ ghost use Rattle.std.specs.Prelude.{◌≤◌, length};
 ghost use Rattle.peg_bytes.specs.Place.{max_offset};
 
 use crate::ending::{Borrowed, report};
-use crate::inputs::{CHAIN, COUNTS, CYCLE, LOOP, MISSING, OPEN, PREFIX, TWICE, WARNED, grammar};
+use crate::inputs::{
+    BYTE, CHAIN, COUNTS, CYCLE, LOOP, MISSING, OPEN, PREFIX, TWICE, WARNED, grammar,
+};
 use crate::parsers::parser;
 use peg_check::table_of;
 use peg_core::desugar;
 use peg_json::{
-    Fault, TreeForm, accepted_line, answer_json, answer_line, code_json, code_line, lint_json,
-    lint_line, long_text_line, no_rule_line, no_start_line, refusal_json, refused_line,
-    step_limit_line, table_json, table_line,
+    Fault, TreeForm, accepted_line, answer_json, answer_line, answer_line_with_text, code_json,
+    code_line, lint_json, lint_line, long_text_line, no_rule_line, no_start_line, refusal_json,
+    refused_line, step_limit_line, table_json, table_line,
 };
 use peg_lint::{Selection, file_warnings, warnings};
 use peg_parser::{ParseOptions, Parser, Refusal, grammar_of};
@@ -18,7 +20,7 @@ use peg_tree::JsonFault;
 use std::alloc::{AllocError, Global};
 use std::io;
 
-pub(crate) const WORDS: [&str; 27] = [
+pub(crate) const WORDS: [&str; 34] = [
     "answer_json",
     "answer_json_rows",
     "answer_json_deep",
@@ -27,6 +29,13 @@ pub(crate) const WORDS: [&str; 27] = [
     "answer_line_deep",
     "answer_line_rows",
     "answer_line_rows_failed",
+    "answer_line_with_text",
+    "answer_line_with_text_rows",
+    "answer_line_with_text_bytes",
+    "answer_line_with_text_rows_bytes",
+    "answer_line_with_text_no_tree",
+    "answer_line_with_text_deep",
+    "answer_line_with_text_failed",
     "refusal_json",
     "refused_line_cycle",
     "refused_line_loop",
@@ -52,6 +61,9 @@ pub(crate) const WORDS: [&str; 27] = [
 pub(crate) fn call(rt: &impl Print, alloc: Global, word: &str) -> Option<io::Result<()>> {
     if word.starts_with("refus") {
         return refused(rt, alloc, word);
+    }
+    if word.starts_with("answer_line_with_text") {
+        return answered_with_text(rt, alloc, word);
     }
     let made = match word {
         "answer_json" => answered(rt, alloc, b"aab", false),
@@ -88,6 +100,20 @@ fn refused(rt: &impl Print, alloc: Global, word: &str) -> Option<io::Result<()>>
         "refused_line_twice" => refusal_line(rt, alloc, TWICE),
         "refused_line_missing" => refusal_line(rt, alloc, MISSING),
         "refused_line_open" => refusal_line(rt, alloc, OPEN),
+        _ => return None,
+    };
+    Some(made)
+}
+
+fn answered_with_text(rt: &impl Print, alloc: Global, word: &str) -> Option<io::Result<()>> {
+    let made = match word {
+        "answer_line_with_text" => with_text(rt, alloc, CHAIN, b"aab", TreeForm::Nested),
+        "answer_line_with_text_rows" => with_text(rt, alloc, CHAIN, b"aab", TreeForm::Rows),
+        "answer_line_with_text_bytes" => with_text(rt, alloc, BYTE, b"\xff", TreeForm::Nested),
+        "answer_line_with_text_rows_bytes" => with_text(rt, alloc, BYTE, b"\xff", TreeForm::Rows),
+        "answer_line_with_text_no_tree" => with_text(rt, alloc, CHAIN, b"aab", TreeForm::NoTree),
+        "answer_line_with_text_deep" => with_text_deep(rt, alloc),
+        "answer_line_with_text_failed" => with_text(rt, alloc, CHAIN, b"aa", TreeForm::Nested),
         _ => return None,
     };
     Some(made)
@@ -138,6 +164,27 @@ fn answer_of(rt: &impl Print, alloc: Global, text: &[u8], form: TreeForm) -> io:
     let borrowed = (parser.grammar(), parser.program());
     let borrowed = Borrowed::of(alloc, &borrowed)?;
     let answer = answer_line(alloc, &parser, parsed, text.len() as u32, true, form);
+    report(rt, &borrowed, answer.is_err(), &answer)
+}
+
+fn with_text_deep(rt: &impl Print, alloc: Global) -> io::Result<()> {
+    with_text(rt, alloc, CHAIN, &deep(alloc)?, TreeForm::Nested)
+}
+
+fn with_text(
+    rt: &impl Print,
+    alloc: Global,
+    file: &[u8],
+    text: &[u8],
+    form: TreeForm,
+) -> io::Result<()> {
+    let parser = parser(alloc, file)?;
+    let Ok(parsed) = parser.parse(alloc, text, &OPTIONS) else {
+        return Err(io::Error::from(AllocError));
+    };
+    let borrowed = (parser.grammar(), parser.program(), &parsed, text);
+    let borrowed = Borrowed::of(alloc, &borrowed)?;
+    let answer = answer_line_with_text(alloc, &parser, &parsed, text, true, form);
     report(rt, &borrowed, answer.is_err(), &answer)
 }
 

@@ -5,13 +5,13 @@ use crate::ending::{Borrowed, report};
 use crate::inputs::{CHAIN, COUNTS, PREFIX, Pair, compiled};
 use crate::memos::are_alike;
 use peg_code::Program;
-use peg_machine::{ListWatch, NoWatch, RunFault, Watch, run};
+use peg_machine::{ListWatch, NoWatch, RunFault, Watch, run, run_packrat};
 use peg_memo::{Keep, LruMemo, NoMemo};
 use peg_memo_policy::{RerunCosts, SelectiveMemo};
 use std::alloc::{AllocError, Global};
 use std::io;
 
-pub(crate) const WORDS: [&str; 11] = [
+pub(crate) const WORDS: [&str; 12] = [
     "run",
     "run_counts",
     "run_prefix",
@@ -22,6 +22,7 @@ pub(crate) const WORDS: [&str; 11] = [
     "run_selective_counts",
     "run_watch",
     "run_watch_prefix",
+    "run_packrat",
     "watch_begin",
 ];
 
@@ -46,6 +47,7 @@ pub(crate) fn call(rt: &impl Print, alloc: Global, word: &str) -> Option<io::Res
         "run_selective_counts" => selecting(rt, alloc, COUNTS, b"aabbcc"),
         "run_watch" => watched(rt, alloc, CHAIN, b"aab", &[(0, 0), (0, 1), (0, 2)]),
         "run_watch_prefix" => watched(rt, alloc, PREFIX, b"(a)y", &[(0, 0), (0, 1), (0, 1)]),
+        "run_packrat" => packrat(rt, alloc, b"(((a)y)y)y", &[(0, 0), (0, 1), (0, 2), (0, 3)]),
         "watch_begin" => begun(rt, alloc),
         _ => return None,
     };
@@ -164,6 +166,26 @@ fn watched(
         matches!(answer, Err(RunFault::Memory)),
         &answer,
     )
+}
+
+// The tracer has no other calls, and each of them once, unless an allocation failed.
+fn packrat(rt: &impl Print, alloc: Global, text: &[u8], pairs: &[(u32, u32)]) -> io::Result<()> {
+    let pair = compiled(alloc, PREFIX)?;
+    let whole = whole(alloc, &pair, text)?;
+    let mut memo = LruMemo::new(alloc, RULES * PLACES)?;
+    let program = &pair.program;
+    let borrowed = (program, text);
+    let mut borrowed = Borrowed::of(alloc, &borrowed)?;
+    let mut watch = ListWatch::new(alloc);
+    let answer = run_packrat(alloc, program, text, 0, &mut memo, &mut watch, None);
+    let traced = watch.pairs();
+    let once = answer.is_err() || memo.was_refused() || traced == pairs;
+    if !once || !traced.iter().all(|pair| pairs.contains(pair)) || !is_part(&mut memo, &whole) {
+        borrowed.spoil();
+    }
+    let memory = matches!(answer, Err(RunFault::Memory));
+    let outcome = answer.as_ref().map(|answer| &answer.outcome);
+    report(rt, &borrowed, memory, &outcome)
 }
 
 // Whether the pairs of a tracer are those that it claimed to store.

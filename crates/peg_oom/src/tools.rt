@@ -5,13 +5,13 @@ use crate::ending::{Borrowed, report};
 use crate::inputs::{CHAIN, COUNTS, CYCLE, LOOP, MISSING, OPEN, PREFIX, TWICE, WARNED};
 use peg_io::{ReadFault, read_up_to};
 use peg_tool::{
-    Command, Device, Nodes, OpenFault, Opener, ParseOptions, ProgramFault, Selection, Words,
-    WordsFault, read_args, read_words, run_joined, run_tool, run_words,
+    Command, Device, Exit, Nodes, OpenFault, Opener, ParseOptions, ProgramFault, Selection, Words,
+    WordsFault, read_args, read_words, run_joined, run_program, run_tool, run_words,
 };
 use std::alloc::{AllocError, Global};
 use std::io;
 
-pub(crate) const WORDS: [&str; 29] = [
+pub(crate) const WORDS: [&str; 34] = [
     "read_up_to",
     "read_words",
     "read_words_help",
@@ -36,11 +36,16 @@ pub(crate) const WORDS: [&str; 29] = [
     "tool_parse_show",
     "tool_parse_hide",
     "tool_parse_no_rule",
+    "tool_parse_text",
+    "tool_parse_text_hide",
     "joined",
     "joined_open",
     "words_joined",
     "words_lint",
     "words_parse",
+    "words_text",
+    "program",
+    "program_usage",
 ];
 
 // More bytes than any line here has, so that the output never grows.
@@ -75,6 +80,9 @@ pub(crate) fn call(rt: &impl Print, alloc: Global, word: &str) -> Option<io::Res
         "words_joined" => led(rt, alloc, ""),
         "words_lint" => led(rt, alloc, "lint chain --start S --proved"),
         "words_parse" => led(rt, alloc, "parse chain aab --rows"),
+        "words_text" => led(rt, alloc, "parse chain aab --rows --text --hide S"),
+        "program" => left(rt, alloc, "parse chain aab --show S"),
+        "program_usage" => left(rt, alloc, "parse chain aab --memo many"),
         _ => return None,
     };
     Some(made)
@@ -105,13 +113,15 @@ fn linted(rt: &impl Print, alloc: Global, word: &str) -> Option<io::Result<()>> 
 }
 
 fn parsed(rt: &impl Print, alloc: Global, word: &str) -> Option<io::Result<()>> {
-    let (start, rows, nodes) = match word {
-        "tool_parse" => (None, false, Nodes::All),
-        "tool_parse_rows" => (Some("A"), true, Nodes::All),
-        "tool_parse_no_start" => (Some("B"), false, Nodes::All),
-        "tool_parse_show" => (None, true, Nodes::Show("A")),
-        "tool_parse_hide" => (None, false, Nodes::Hide("A")),
-        "tool_parse_no_rule" => (None, false, Nodes::Show("A,B")),
+    let (start, rows, nodes, text) = match word {
+        "tool_parse" => (None, false, Nodes::All, false),
+        "tool_parse_rows" => (Some("A"), true, Nodes::All, false),
+        "tool_parse_no_start" => (Some("B"), false, Nodes::All, false),
+        "tool_parse_show" => (None, true, Nodes::Show("A"), false),
+        "tool_parse_hide" => (None, false, Nodes::Hide("A"), false),
+        "tool_parse_no_rule" => (None, false, Nodes::Show("A,B"), false),
+        "tool_parse_text" => (None, false, Nodes::All, true),
+        "tool_parse_text_hide" => (None, true, Nodes::Hide("A"), true),
         _ => return None,
     };
     let (memo, steps) = (7, None);
@@ -122,8 +132,8 @@ fn parsed(rt: &impl Print, alloc: Global, word: &str) -> Option<io::Result<()>> 
         all,
         rows,
         no_tree: false,
-        text: false,
         nodes,
+        text,
     };
     Some(tool(rt, alloc, PREFIX, b"((((a)y)y)y)y", &command))
 }
@@ -274,4 +284,37 @@ fn led(rt: &impl Print, alloc: Global, text: &str) -> io::Result<()> {
     );
     let memory = answer == Err(ProgramFault::Memory);
     report_run(rt, &mut borrowed, memory, &answer, &written)
+}
+
+// A program's exit for arguments that are read before.
+fn left(rt: &impl Print, alloc: Global, text: &str) -> io::Result<()> {
+    let words = match read_words(alloc, &list_of(alloc, text)?) {
+        Err(WordsFault::Memory) => return Err(io::Error::from(AllocError)),
+        words => words,
+    };
+    let mut written = Vec::with_capacity(alloc, ROOM)?;
+    let mut borrowed = Borrowed::of(alloc, &())?;
+    let shelf = Shelf {
+        chain: CHAIN,
+        aab: b"aab",
+    };
+    let input = b"".as_slice();
+    let exit = run_program(
+        alloc,
+        &shelf,
+        &mut Device::new(input),
+        &mut Device::new(&mut written),
+        words,
+    );
+    let fault = ProgramFault::Memory;
+    let memory = exit == Exit::Fault { fault };
+    if memory && !written.is_empty() {
+        borrowed.spoil();
+    }
+    report(
+        rt,
+        &borrowed,
+        memory,
+        &(exit, std::str::from_utf8(&written)),
+    )
 }

@@ -5,23 +5,34 @@ ghost use Rattle.peg_tree.specs.Nodes.{RulesBelow};
 use crate::ending::{Borrowed, report};
 use peg_bytes::Span;
 use peg_tree::{
-    FlatTree, FlatTreeWriter, JsonFault, Names, NestedTree, RuleSet, Tree, TreeNode, nested_json,
-    one_tree, rows_json,
+    FlatTextTree, FlatTree, FlatTreeWriter, JsonFault, Names, NestedTextTree, NestedTree, RuleSet,
+    Tree, TreeNode, nested_json, one_tree, rows_json,
 };
 use std::alloc::{AllocError, Global};
 use std::io;
 
-pub(crate) const WORDS: [&str; 9] = [
+pub(crate) const WORDS: [&str; 15] = [
     "rows_json",
     "nested_json",
     "nested_json_deep",
     "tree_rows",
     "nested_tree",
+    "text_rows",
+    "text_rows_bytes",
+    "nested_text",
+    "nested_text_bytes",
+    "nested_text_deep",
     "rows_text",
+    "shown_rows_text",
     "no_rules",
     "all_rules",
     "select",
 ];
+
+// A text, and bytes that are not UTF-8.
+const TEXT: &[u8] = b"\"";
+
+const BYTES: &[u8] = b"\xff";
 
 // Rule 0 is `list`, and rule 1 is `word`.
 #[derive(Debug)]
@@ -39,8 +50,8 @@ impl Names for Rules {
     }
 }
 
-/// Makes the call that the argument names, on a tree of a root and two children, or of 61 levels. Returns nothing if the
-/// name is not known here.
+/// Makes the call that the argument names, on a tree of a root and two children, or of 61 levels. Returns nothing if
+/// the name is not known here.
 pub(crate) fn call(rt: &impl Print, alloc: Global, word: &str) -> Option<io::Result<()>> {
     let made = match word {
         "rows_json" => rows_value(rt, alloc),
@@ -48,7 +59,13 @@ pub(crate) fn call(rt: &impl Print, alloc: Global, word: &str) -> Option<io::Res
         "nested_json_deep" => nested_chain(rt, alloc),
         "tree_rows" => rows_sent(rt, alloc),
         "nested_tree" => nested_sent(rt, alloc),
+        "text_rows" => text_rows_sent(rt, alloc, TEXT),
+        "text_rows_bytes" => text_rows_sent(rt, alloc, BYTES),
+        "nested_text" => nested_text_family(rt, alloc, TEXT),
+        "nested_text_bytes" => nested_text_family(rt, alloc, BYTES),
+        "nested_text_deep" => nested_text_chain(rt, alloc),
         "rows_text" => rows_filled(rt, alloc),
+        "shown_rows_text" => shown_rows_filled(rt, alloc),
         "no_rules" => no_rules(rt, alloc),
         "all_rules" => all_rules(rt, alloc),
         "select" => selected(rt, alloc),
@@ -136,16 +153,59 @@ fn nested_sent(rt: &impl Print, alloc: Global) -> io::Result<()> {
     report(rt, &borrowed, answer.is_err(), &answer)
 }
 
-// Fills the first piece of the list of nodes too, which doesn't allocate.
+// Each child has the whole text.
+fn text_rows_sent(rt: &impl Print, alloc: Global, text: &[u8]) -> io::Result<()> {
+    let tree = family(alloc)?;
+    let borrowed = (&tree, text);
+    let borrowed = Borrowed::of(alloc, &borrowed)?;
+    let answer = serde_json::to_string(alloc, &FlatTextTree::new(alloc, &tree, &Rules, text));
+    report(rt, &borrowed, answer.is_err(), &answer)
+}
+
+fn nested_text_family(rt: &impl Print, alloc: Global, text: &[u8]) -> io::Result<()> {
+    nested_text_sent(rt, alloc, &family(alloc)?, text)
+}
+
+fn nested_text_chain(rt: &impl Print, alloc: Global) -> io::Result<()> {
+    nested_text_sent(rt, alloc, &chain(alloc)?, TEXT)
+}
+
+fn nested_text_sent(rt: &impl Print, alloc: Global, tree: &Tree, text: &[u8]) -> io::Result<()>
+    requires { RulesBelow 2 tree.now }
+{
+    let borrowed = (tree, text);
+    let borrowed = Borrowed::of(alloc, &borrowed)?;
+    let answer = serde_json::to_string(alloc, &NestedTextTree::new(alloc, tree, &Rules, text));
+    report(rt, &borrowed, answer.is_err(), &answer)
+}
+
 fn rows_filled(rt: &impl Print, alloc: Global) -> io::Result<()> {
     let tree = family(alloc)?;
     let borrowed = Borrowed::of(alloc, &Rules)?;
-    let mut answer = FlatTreeWriter::new(alloc, tree, &Rules);
+    let answer = FlatTreeWriter::new(alloc, tree, &Rules);
+    report_piece(rt, &borrowed, answer)
+}
+
+// Only the root is shown.
+fn shown_rows_filled(rt: &impl Print, alloc: Global) -> io::Result<()> {
+    let tree = family(alloc)?;
+    let shown = RuleSet::none(alloc, 2)?;
+    let borrowed = Borrowed::of(alloc, &Rules)?;
+    let answer = FlatTreeWriter::of_shown(alloc, tree, &Rules, shown);
+    report_piece(rt, &borrowed, answer)
+}
+
+// Fills the first piece of the list of nodes too, which doesn't allocate.
+fn report_piece(
+    rt: &impl Print,
+    borrowed: &Borrowed<'_, Rules>,
+    mut answer: Result<FlatTreeWriter, AllocError>,
+) -> io::Result<()> {
     if let Ok(text) = &mut answer {
         text.fill();
     }
     let piece = answer.as_ref().map(|text| text.piece());
-    report(rt, &borrowed, answer.is_err(), &piece)
+    report(rt, borrowed, answer.is_err(), &piece)
 }
 
 fn no_rules(rt: &impl Print, alloc: Global) -> io::Result<()> {

@@ -1,0 +1,60 @@
+//! Calls that count the calls of rules.
+use crate::ending::{Borrowed, report};
+use crate::inputs::PREFIX;
+use crate::parsers::{FEW, parser};
+use peg_parser::{DEFAULT_MEMO, ParseFault, ParseOptions};
+use peg_profile::{Profile, RuleProfile, rule_profiles};
+use std::alloc::Global;
+use std::io;
+
+pub(crate) const WORDS: [&str; 4] = [
+    "rule_profiles",
+    "profile",
+    "profile_memo",
+    "profile_no_start",
+];
+
+/// Makes the call that the argument names. Returns nothing if the name is not known here.
+pub(crate) fn call(rt: &impl Print, alloc: Global, word: &str) -> Option<io::Result<()>> {
+    let made = match word {
+        "rule_profiles" => counted(rt, alloc),
+        "profile" => profiled(rt, alloc, None, 0),
+        "profile_memo" => profiled(rt, alloc, Some("A"), DEFAULT_MEMO),
+        "profile_no_start" => profiled(rt, alloc, Some("B"), 0),
+        _ => return None,
+    };
+    Some(made)
+}
+
+// There is no rule 2.
+fn counted(rt: &impl Print, alloc: Global) -> io::Result<()> {
+    let calls = [(0, 3), (1, 0), (0, 1), (2, 0), (0, 3), (0, 2), (0, 0)];
+    let borrowed = Borrowed::of(alloc, &calls)?;
+    let answer = rule_profiles(alloc, 2, &calls);
+    report(rt, &borrowed, answer.is_err(), &answer)
+}
+
+// The number of calls isn't printed if there is a memo: a result that couldn't be stored is computed again.
+fn profiled(rt: &impl Print, alloc: Global, start: Option<&str>, memo: u32) -> io::Result<()> {
+    let parser = parser(alloc, PREFIX)?;
+    let borrowed = (parser.grammar(), parser.program(), FEW);
+    let borrowed = Borrowed::of(alloc, &borrowed)?;
+    let steps = None;
+    let options = ParseOptions { start, memo, steps };
+    let answer = Profile::of_text(alloc, &parser, FEW, &options);
+    let memory = matches!(answer, Err(ParseFault::Memory));
+    let outcome = answer.as_ref().map(|profile| (
+        &profile.answer.outcome,
+        first_counts(profile, memo == 0),
+    ));
+    report(rt, &borrowed, memory, &outcome)
+}
+
+// The positions of the first rule's calls, and the number of these calls if it is asked for.
+fn first_counts(profile: &Profile, with_calls: bool) -> Option<(usize, Option<usize>)> {
+    match profile.rules.first() {
+        Some(RuleProfile { calls, places }) if with_calls => Some((*places, Some(*calls))),
+        Some(RuleProfile { places, .. }) => Some((*places, None)),
+        None => None,
+    }
+}
