@@ -41,7 +41,7 @@ pub enum Words {
         start: Option<String>,
         proved: bool,
     },
-    /// Parse text file `t` by grammar file `g`. `show` and `hide` are lists of rules, of which at most one is given. The
+    /// Parse text file `t` by grammar file `g`. At most one of `show` and `hide` is given; each is a list of rules. The
     /// other fields are those of `Command::Parse` and `ParseOptions`.
     Parse {
         g: String,

@@ -42,7 +42,8 @@ deep-parses : (rules : List Rule) (text : List ℕ) (start : Option (List ℕ)) 
     (all : Bool) (form : TreeForm) (shown : ℕ → Bool) (r : Record) (far : ℕ) (expected : List ℕ) (result : Parsed)
     → Parse rules text start memo steps r far expected
     → result ≡ parsed_of r.result
-    → form ≡ Nested → IsDeep (selected_result shown result) → ParsesTo rules text start memo steps all form shown (Refused TooDeep)
+    → form ≡ Nested → IsDeep (selected_result shown result)
+    → ParsesTo rules text start memo steps all form shown (Refused TooDeep)
 deep-parses rules text start memo steps all form shown r far expected parsed.Failed it is nested deep = absurd deep
 deep-parses rules text start memo steps all form shown r far expected (parsed.Matched end tree) it is nested deep =
     too_many_levels it.within it.enough it.starts it.recognized (parsed-matched r.result end tree is) nested deep
@@ -69,7 +70,8 @@ pub prints-parses : (rules : List Rule) (text : List ℕ) (start : Option (List 
     → length text ≤ max_text_bytes → HasEnoughSteps rules text start memo steps → (from : List ℕ)
     → start_name rules start ≡ Some from
     → IsParseOutcome rules text from outcome → (reply : Reply)
-    → PrintsOutcome rules (selected_outcome shown outcome) (length text) all form reply → ParsesTo rules text start memo steps all form shown reply
+    → PrintsOutcome rules (selected_outcome shown outcome) (length text) all form reply
+    → ParsesTo rules text start memo steps all form shown reply
 prints-parses rules text start memo steps all form shown outcome within enough from starts is reply prints = by prints
   where
     r : Record
@@ -85,7 +87,8 @@ prints-parses rules text start memo steps all form shown outcome within enough f
       furthest = is.1.3;
     }
 
-    by : PrintsOutcome rules (selected_outcome shown outcome) (length text) all form reply → ParsesTo rules text start memo steps all form shown reply
+    by : PrintsOutcome rules (selected_outcome shown outcome) (length text) all form reply
+        → ParsesTo rules text start memo steps all form shown reply
     by (inl deep) =
         subst (ParsesTo rules text start memo steps all form shown) (sym deep.2)
         (deep-parses rules text start memo steps all form shown r outcome.far outcome.expected.items outcome.result it is.1.2
@@ -116,7 +119,8 @@ pub outcome-parses : (rules : List Rule) (text : List ℕ) (start : Option (List
     (all : Bool) (form : TreeForm) (shown : ℕ → Bool) (outcome : Outcome)
     → length text ≤ max_text_bytes → HasEnoughSteps rules text start memo steps → (start_name rules start ≡ None → ⊥)
     → IfSome (start_name rules start) (λ from. IsParseOutcome rules text from outcome) → (reply : Reply)
-    → PrintsOutcome rules (selected_outcome shown outcome) (length text) all form reply → ParsesTo rules text start memo steps all form shown reply
+    → PrintsOutcome rules (selected_outcome shown outcome) (length text) all form reply
+    → ParsesTo rules text start memo steps all form shown reply
 outcome-parses rules text start memo steps all form shown outcome within enough some is reply prints =
     by (start_name rules start) refl some is
   where

@@ -38,7 +38,8 @@ HasEnoughSteps rules text start memo steps = memo ≡ 0 → ¬ TakesMoreSteps ru
 -- If the parse exceeds the step limit, that is reported; with a memo, the result of the parse may be reported too.
 pub data ParsesTo (rules : List Rule) (text : List ℕ) (start : Option (List ℕ)) (memo : ℕ) (steps : Option ℕ)
     (all : Bool) (form : TreeForm) (shown : ℕ → Bool) : Reply → Type 0 where
-  text_too_long : max_text_bytes < length text → ParsesTo rules text start memo steps all form shown (Refused TextTooLong)
+  text_too_long : max_text_bytes < length text
+      → ParsesTo rules text start memo steps all form shown (Refused TextTooLong)
   no_such_start : (name : List ℕ) → length text ≤ max_text_bytes → start ≡ Some name → is_defined rules name ≡ false
       → ParsesTo rules text start memo steps all form shown (Refused (NoSuchStart name))
   too_many_steps : length text ≤ max_text_bytes → TakesMoreSteps rules text start steps

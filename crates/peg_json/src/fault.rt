@@ -1,7 +1,8 @@
 //! The faults that are reported instead of an answer.
 use peg_parser::Refusal;
 
-/// What `refusal_json` reports: why a grammar file, the name of a rule or a text is rejected, or why an answer isn't printed.
+/// What `refusal_json` reports: why a grammar file, the name of a rule or a text is rejected, or why an answer isn't
+/// printed.
 #[derive(Clone, Copy, Debug)]
 pub enum Fault<'a> {
     /// The grammar file is rejected.

@@ -27,7 +27,11 @@ requested (Lint g start proved) =
     FileRequest (LintTask (option_map string_bytes start) (selection_of proved)) (string_bytes g)
 requested (Parse g t start memo steps all rows no_tree show hide text) =
     FilesRequest (ParseTask (option_map string_bytes start) memo steps all (form_from_options rows no_tree)
+<<<<<<< HEAD
     (nodes_from_options (option_map string_bytes show) (option_map string_bytes hide)) text)
+=======
+    (nodes_from_options (option_map string_bytes show) (option_map string_bytes hide)))
+>>>>>>> cca0b72335a778d25b3485e750cf1ca7b15d6fc7
     (string_bytes g) (string_bytes t)
 
 -- ---- files of a request
