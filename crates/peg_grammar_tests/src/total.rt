@@ -37,6 +37,21 @@ fn choice(alloc: Global, first: Expr, rest: Vec<Expr>, span: Span) -> Result<Exp
     Ok(Expr::Choice { first, rest, span })
 }
 
+fn one_or_more(alloc: Global, part: Expr, span: Span) -> Result<Expr, AllocError>
+    ensures { IfOk result (λ e. form_of e ≡ Plus (form_of part) (extent span)) }
+{
+    let part = Box::new(alloc, part)?;
+    Ok(Expr::Plus { part, span })
+}
+
+// !.
+fn end_of_text(alloc: Global, any: Span, span: Span) -> Result<Expr, AllocError>
+    ensures { IfOk result (λ e. form_of e ≡ Not (Any (extent any)) (extent span)) }
+{
+    let part = Box::new(alloc, Expr::Any { span: any })?;
+    Ok(Expr::Not { part, span })
+}
+
 // 'a' S / 'b'
 fn nested_body(alloc: Global) -> Result<Expr, AllocError>
     ensures { IfOk result (λ body. form_of body ≡ Choice
@@ -60,17 +75,9 @@ fn run_body(alloc: Global) -> Result<Expr, AllocError>
         (Then (Not (Any (between 11 12)) (between 10 12)) End))
         (between 5 12)) }
 {
-    let part = Box::new(alloc, literal(alloc, b"a", Span::new(5, 8))?)?;
-    let span = Span::new(5, 9);
-    let run = Expr::Plus { part, span };
-    let part = Box::new(
-        alloc,
-        Expr::Any {
-            span: Span::new(11, 12),
-        },
-    )?;
-    let span = Span::new(10, 12);
-    let end = Expr::Not { part, span };
+    let a = literal(alloc, b"a", Span::new(5, 8))?;
+    let run = one_or_more(alloc, a, Span::new(5, 9))?;
+    let end = end_of_text(alloc, Span::new(11, 12), Span::new(10, 12))?;
     let items = vec![in alloc; run, end]?;
     let span = Span::new(5, 12);
     Ok(Expr::Seq { items, span })

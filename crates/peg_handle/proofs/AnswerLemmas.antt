@@ -1,5 +1,5 @@
 -- The answer of a parser is the answer that a handle holds.
-use Rattle.std.proofs.Common.{◌≡◌, ℕ, ◌≤◌, List, IfSome, Option, map, subst, sym}
+use Rattle.std.proofs.Common.{◌≡◌, ℕ, ◌≤◌, List, IfSome, IsErrAnd, IsErrOf, Option, Result, Err, map, ap, subst, sym}
 use Rattle.peg_grammar.specs.Outcomes.{IsParseOutcome}
 use Rattle.peg_json.specs.Parses.{extents_at}
 use Rattle.peg_machine.specs.CoreOutcome.{saturated}
@@ -37,3 +37,9 @@ is_answer rules text start memo named answer found named_is answer_is expected o
       (subst (λ (a : Answer). (count : ℕ) × TakesPlainSteps rules text named count × (a.steps ≡ saturated count))
       (sym answer_is) (exact no_memo));
 }
+
+-- an error that is passed on is the error of the call
+pub err_of : {V W E : Type 0} (passed : Result V E) (error fault : E) → IsErrAnd passed (λ stated. stated ≡ error)
+    → IsErrOf passed fault → IsErrOf {T = W} (Err error) fault
+err_of {V = V} {E = E} passed error fault stated is =
+    ap Err (sym (subst (λ (r : Result V E). IsErrAnd r (λ stated. stated ≡ error)) is stated))

@@ -12,15 +12,15 @@ use peg_core::desugar;
 use peg_json::{
     Fault, TreeForm, accepted_line, answer_json, answer_line, answer_line_with_text, code_json,
     code_line, lint_json, lint_line, long_text_line, no_rule_line, no_start_line, refusal_json,
-    refused_line, step_limit_line, table_json, table_line,
+    refused_line, shown_rows_line, step_limit_line, table_json, table_line,
 };
 use peg_lint::{Selection, file_warnings, warnings};
 use peg_parser::{ParseOptions, Parser, Refusal, grammar_of};
-use peg_tree::JsonFault;
+use peg_tree::{JsonFault, RuleSet};
 use std::alloc::{AllocError, Global};
 use std::io;
 
-pub(crate) const WORDS: [&str; 34] = [
+pub(crate) const WORDS: [&str; 35] = [
     "answer_json",
     "answer_json_rows",
     "answer_json_deep",
@@ -36,6 +36,7 @@ pub(crate) const WORDS: [&str; 34] = [
     "answer_line_with_text_no_tree",
     "answer_line_with_text_deep",
     "answer_line_with_text_failed",
+    "shown_rows_line",
     "refusal_json",
     "refused_line_cycle",
     "refused_line_loop",
@@ -74,6 +75,7 @@ pub(crate) fn call(rt: &impl Print, alloc: Global, word: &str) -> Option<io::Res
         "answer_line_deep" => answer_of_deep(rt, alloc),
         "answer_line_rows" => answer_of(rt, alloc, b"aab", TreeForm::Rows),
         "answer_line_rows_failed" => answer_of(rt, alloc, b"aa", TreeForm::Rows),
+        "shown_rows_line" => shown_rows(rt, alloc, b"aab"),
         "table_json" => table_text(rt, alloc),
         "table_line" => table_of_line(rt, alloc),
         "code_json" => code_text(rt, alloc),
@@ -164,6 +166,18 @@ fn answer_of(rt: &impl Print, alloc: Global, text: &[u8], form: TreeForm) -> io:
     let borrowed = (parser.grammar(), parser.program());
     let borrowed = Borrowed::of(alloc, &borrowed)?;
     let answer = answer_line(alloc, &parser, parsed, text.len() as u32, true, form);
+    report(rt, &borrowed, answer.is_err(), &answer)
+}
+
+fn shown_rows(rt: &impl Print, alloc: Global, text: &[u8]) -> io::Result<()> {
+    let parser = parser(alloc, CHAIN)?;
+    let Ok(parsed) = parser.parse(alloc, text, &OPTIONS) else {
+        return Err(io::Error::from(AllocError));
+    };
+    let shown = RuleSet::none(alloc, parser.grammar().rules())?;
+    let borrowed = (parser.grammar(), parser.program());
+    let borrowed = Borrowed::of(alloc, &borrowed)?;
+    let answer = shown_rows_line(alloc, &parser, parsed, shown, text.len() as u32, true);
     report(rt, &borrowed, answer.is_err(), &answer)
 }
 

@@ -2,7 +2,7 @@ use Rattle.std.proofs.Common.{ℕ, List, Option, option_map, subst, sym}
 use Rattle.peg_handle.specs.Starts.{start_of_bytes}
 use Rattle.peg_parser.specs.Parser.{parser_rules}
 use Rattle.peg_parser.specs.StepLimits.{TakesMoreSteps}
-use Rattle.peg_handle.proofs.AnswerLemmas.{is_answer}
+use Rattle.peg_handle.proofs.AnswerLemmas.{err_of, is_answer}
 use Rattle.peg_handle.proofs.parsing.parse.Goals as goal
 
 pub returns-clause-answer : goal.returns-clause-answer
@@ -23,3 +23,13 @@ returns-clause-enough c no_memo takes =
     c.in_ok-answer.ensures.enough no_memo
     (subst (λ (start : Option (List ℕ)). TakesMoreSteps rules text start c.limit_from.result)
     (sym c.in_ok-start.ensures.named) by_start)
+
+pub returns-in_err-answer-clause-limited : goal.returns-in_err-answer-clause-limited
+returns-in_err-answer-clause-limited c is =
+    let rules = parser_rules c.args.parser.now in
+    let text = c.args.text.now in
+    subst (λ (limit : Option ℕ). TakesMoreSteps rules text (start_of_bytes c.args.start.now) limit)
+    c.limit_from.ensures
+    (subst (λ (start : Option (List ℕ)). TakesMoreSteps rules text start c.limit_from.result)
+    c.in_ok-start.ensures.named (c.in_err-answer.ensures.limited
+    (err_of _ _ _ c.from_residual-in_err-answer.ensures.1 is)))
