@@ -1,5 +1,5 @@
--- The calls that a run shows are those of Ford's record of the grammar as written.
-use Rattle.std.proofs.Common.{◌≡◌, ◌↔◌, ℕ, ◌<◌, List, Contains, Some, length, sym, ap, ◌∙◌, subst}
+-- The calls that a run shows are those of Ford's record of the grammar as written, and its outcome fits the grammar.
+use Rattle.std.proofs.Common.{◌≡◌, ◌↔◌, ℕ, ◌<◌, List, Contains, IfOk, Result, Ok, Err, Some, length, sym, ap, ◌∙◌, subst}
 use Rattle.peg_bytes.specs.Extent.{between}
 use Rattle.peg_core.specs.CoreForm.{CoreForm, core_bodies, core_form}
 use Rattle.peg_core.specs.CoreForm.{Rule as use_of}
@@ -13,10 +13,15 @@ use Rattle.peg_semantics.specs.Rules.{Rule, name_of}
 use Rattle.peg_machine.specs.CoreOutcome.{IsCoreOutcome}
 use Rattle.peg_machine.specs.Traced.{IsVisited}
 use Rattle.peg_tree.specs.declared.outcome.Outcome.{Outcome}
+use Rattle.peg_grammar.specs.Outcomes.{IsParseOutcome}
+use Rattle.peg_machine.specs.declared.answer.Answer.{Answer}
 use Rattle.peg_parser.specs.Calls.{AreCallsOf}
+use Rattle.peg_parser.specs.Fits.{Fits}
+use Rattle.peg_parser.specs.declared.parser.ParseFault.{ParseFault}
 use Rattle.peg_parser.specs.Parser.{parser_rules}
 use Rattle.peg_parser.specs.declared.parser.Parser.{Parser}
 use Rattle.peg_parser.proofs.CoreStarts.{number-named, same-bodies}
+use Rattle.peg_parser.proofs.OutcomeFits.{outcome-fits}
 
 -- the calls are those of the rule's record on core forms
 abbrev AreVisitedCalls : List CoreForm → List ℕ → (start : ℕ) → List RuleCall → Type 0
@@ -51,3 +56,11 @@ parser-calls parser text start outcome calls bytes less is visited =
     (held.0, ap (λ (rule : ℕ). core_record_in (core_bodies rules) text held.0 (use_of rule) 0) (number-named parser start less) ∙ held.1.1) in
     written-calls rules text start r calls bytes named (held.0, held.1.1)
     (subst (λ (bodies : List CoreForm). AreVisitedCalls bodies text start calls) (same-bodies parser) visited)
+
+-- the outcome of an answer fits the grammar
+pub answer-fits : (parser : Parser) (text : List ℕ) (start : ℕ) (result : Result Answer ParseFault)
+    → IfOk result (λ answer. IsParseOutcome (parser_rules parser) text (name_of (parser_rules parser) start) answer.outcome)
+    → IfOk result (λ answer. Fits (parser_rules parser) answer.outcome)
+answer-fits parser text start (Ok answer) is =
+    let rules = parser_rules parser in outcome-fits rules text (name_of rules start) answer.outcome is
+answer-fits parser text start (Err fault) is = tt

@@ -272,7 +272,8 @@ impl Parser {
     /// all calls. The calls shown are, as a set, those of Ford's record of the text (Ford 2004, section 3.3), whatever
     /// the memo answers.
     ///
-    /// The errors are those of `parse`. After an error the tracer has been shown some of the calls.
+    /// The errors are those of `parse`. After `NoSuchStart` and `TextTooLong` the tracer is as it was; after another error
+    /// it may have been shown some of the calls.
     ///
     /// # Example
     ///
@@ -292,10 +293,11 @@ impl Parser {
         ensures no_start { IsErrOf result ParseFault.NoSuchStart
             ↔ (start_name (parser_rules self.now) (start_named options.now) ≡ None) }
         ensures long { (start : List ℕ) → start_name (parser_rules self.now) (start_named options.now) ≡ Some start
-            → IsErrOf result ParseFault.TextTooLong → max_text_bytes < length text.now }
+            → (IsErrOf result ParseFault.TextTooLong ↔ (max_text_bytes < length text.now)) }
         ensures short { OnOk result (length text.now ≤ max_text_bytes) }
         ensures outcome { IfOk result (λ answer. IfSome (start_name (parser_rules self.now) (start_named options.now))
             (λ start. IsParseOutcome (parser_rules self.now) text.now start answer.outcome)) }
+        ensures fits { IfOk result (λ answer. Fits (parser_rules self.now) answer.outcome) }
         ensures traced { OnOk result (IfSome (start_name (parser_rules self.now) (start_named options.now))
             (λ start. TracesCallsOf (parser_rules self.now) text.now start W.records (W.traced watch.old)
             (W.traced watch.new))) }
@@ -304,10 +306,18 @@ impl Parser {
             → TakesMoreSteps (parser_rules self.now) text.now (start_named options.now) options.now.steps }
         ensures enough { options.now.memo ≡ 0 → OnOk result
             (¬ TakesMoreSteps (parser_rules self.now) text.now (start_named options.now) options.now.steps) }
+        ensures steps { IfOk result (λ answer. (count : ℕ) × TakesPlainSteps (parser_rules self.now) text.now
+            (start_named options.now) count × (answer.steps ≤ count)) }
+        ensures exact { options.now.memo ≡ 0 → IfOk result (λ answer. (count : ℕ)
+            × TakesPlainSteps (parser_rules self.now) text.now (start_named options.now) count
+            × (answer.steps ≡ saturated count)) }
+        ensures untraced { IsErrOf result ParseFault.NoSuchStart → watch.new ≡ watch.old }
+        ensures untraced_long { IsErrOf result ParseFault.TextTooLong → watch.new ≡ watch.old }
     {
         let (memo, max_steps) = (options.memo, options.steps);
         match self.start(options) {
             None => Err(ParseFault::NoSuchStart),
+            Some(_) if text.len() > MAX_TEXT_BYTES => Err(ParseFault::TextTooLong),
             Some(start) if memo == 0 => {
                 self.answer(alloc, text, start, &mut NoMemo, watch, max_steps)
             }

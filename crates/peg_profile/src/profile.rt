@@ -6,7 +6,8 @@ ghost use Rattle.peg_semantics.specs.Record.{RuleCall};
 ghost use Rattle.peg_semantics.specs.Starts.{start_name};
 ghost use Rattle.peg_parser.specs.Calls.{AreCallsOf};
 ghost use Rattle.peg_parser.specs.Parser.{parser_rules, start_named};
-ghost use Rattle.peg_parser.specs.StepLimits.{TakesMoreSteps};
+ghost use Rattle.peg_parser.specs.StepLimits.{TakesMoreSteps, TakesPlainSteps};
+ghost use Rattle.peg_machine.specs.CoreOutcome.{saturated};
 ghost use Rattle.peg_profile.specs.Profiles.{AreProfilesOf};
 
 use crate::counts::{RuleProfile, rule_profiles};
@@ -22,7 +23,7 @@ pub struct Profile {
 }
 
 impl Profile {
-    /// Parses a prefix of a text as `Parser::parse` does, but in one run, and counts the calls of each rule whose bodies ran.
+    /// Parses a prefix of a text as `Parser::parse` does, but in one run. Counts the calls of each rule whose bodies ran.
     ///
     /// The positions of a rule's calls are those of its calls in Ford's record of the text (Ford 2004, section 3.3), whatever
     /// the memo. A body that runs again at a position is work that a memo can save (Ford 2002).
@@ -45,7 +46,7 @@ impl Profile {
         ensures no_start { IsErrOf result ParseFault.NoSuchStart
             ↔ (start_name (parser_rules parser.now) (start_named options.now) ≡ None) }
         ensures long { (start : List ℕ) → start_name (parser_rules parser.now) (start_named options.now) ≡ Some start
-            → IsErrOf result ParseFault.TextTooLong → max_text_bytes < length text.now }
+            → (IsErrOf result ParseFault.TextTooLong ↔ (max_text_bytes < length text.now)) }
         ensures short { OnOk result (length text.now ≤ max_text_bytes) }
         ensures outcome { IfOk result (λ profile. IfSome (start_name (parser_rules parser.now) (start_named options.now))
             (λ start. IsParseOutcome (parser_rules parser.now) text.now start profile.answer.outcome)) }
@@ -58,6 +59,11 @@ impl Profile {
             → TakesMoreSteps (parser_rules parser.now) text.now (start_named options.now) options.now.steps }
         ensures enough { options.now.memo ≡ 0 → OnOk result
             (¬ TakesMoreSteps (parser_rules parser.now) text.now (start_named options.now) options.now.steps) }
+        ensures steps { IfOk result (λ profile. (count : ℕ) × TakesPlainSteps (parser_rules parser.now) text.now
+            (start_named options.now) count × (profile.answer.steps ≤ count)) }
+        ensures exact { options.now.memo ≡ 0 → IfOk result (λ profile. (count : ℕ)
+            × TakesPlainSteps (parser_rules parser.now) text.now (start_named options.now) count
+            × (profile.answer.steps ≡ saturated count)) }
     {
         let mut calls = ListWatch::new(alloc);
         let answer = parser.trace(alloc, text, options, &mut calls)?;

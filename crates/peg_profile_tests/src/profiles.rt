@@ -113,6 +113,10 @@ fn errors_are_those_of_a_parse(rt: HostRuntime) -> Result<(), Fail> {
     assert!(rt; matches!(limited, Err(ParseFault::StepLimit)));
     let enough = Profile::of_text(alloc, &parser, b"aab", &options(None, 0, Some(15)))?;
     assert_eq!(rt; enough.answer.steps, 15);
+    let mut calls = ListWatch::new(alloc);
+    let untraced = parser.trace(alloc, b"aab", &options(Some("T"), 0, None), &mut calls);
+    assert!(rt; matches!(untraced, Err(ParseFault::NoSuchStart)));
+    assert!(rt; calls.pairs().is_empty());
     Ok(())
 }
 

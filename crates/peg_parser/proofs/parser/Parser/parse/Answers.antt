@@ -11,17 +11,9 @@ use Rattle.peg_parser.specs.Fits.{Fits}
 use Rattle.peg_parser.specs.Parser.{parser_rules, start_named}
 use Rattle.peg_parser.specs.declared.parser.ParseFault.{ParseFault}
 use Rattle.peg_parser.specs.declared.parser.Parser.{Parser}
-use Rattle.peg_parser.proofs.OutcomeFits.{outcome-fits}
+use Rattle.peg_parser.proofs.TraceLemmas.{answer-fits}
 use Rattle.peg_parser.proofs.StepLemmas.{of-start, plain-steps, to-start}
 use Rattle.peg_parser.proofs.parser.Parser.parse.Goals as goal
-
--- an outcome of a grammar fits the grammar
-fits : (parser : Parser) (text : List ℕ) (start : ℕ) (result : Result Answer ParseFault)
-    → IfOk result (λ answer. IsParseOutcome (parser_rules parser) text (name_of (parser_rules parser) start) answer.outcome)
-    → IfOk result (λ answer. Fits (parser_rules parser) answer.outcome)
-fits parser text start (Ok answer) is =
-    let rules = parser_rules parser in outcome-fits rules text (name_of rules start) answer.outcome is
-fits parser text start (Err fault) is = tt
 
 pub answer-requires-clause-empty : goal.answer-requires-clause-empty
 answer-requires-clause-empty c = len-empty key_cmp StoredResult
@@ -31,15 +23,15 @@ answer-requires-2-clause-empty c = len-empty key_cmp StoredResult
 
 pub returns-then-options-eq0-clause-fits : goal.returns-then-options-eq0-clause-fits
 returns-then-options-eq0-clause-fits c =
-    fits c.args.self.now c.args.text.now c.in-Some.start c.answer.result c.answer.ensures.outcome
+    answer-fits c.args.self.now c.args.text.now c.in-Some.start c.answer.result c.answer.ensures.outcome
 
 pub returns-in_default-answer-2-clause-fits : goal.returns-in_default-answer-2-clause-fits
 returns-in_default-answer-2-clause-fits c =
-    fits c.args.self.now c.args.text.now c.in-Some.start c.answer-2.result c.answer-2.ensures.outcome
+    answer-fits c.args.self.now c.args.text.now c.in-Some.start c.answer-2.result c.answer-2.ensures.outcome
 
 pub returns-in-Err-StepLimit-clause-fits : goal.returns-in-Err-StepLimit-clause-fits
 returns-in-Err-StepLimit-clause-fits c =
-    fits c.args.self.now c.args.text.now c.in-Some.start c.answer_with_memo.result c.answer_with_memo.ensures.outcome
+    answer-fits c.args.self.now c.args.text.now c.in-Some.start c.answer_with_memo.result c.answer_with_memo.ensures.outcome
 
 pub returns-then-options-eq0-clause-limited : goal.returns-then-options-eq0-clause-limited
 returns-then-options-eq0-clause-limited c is =

@@ -1,27 +1,59 @@
+use Rattle.std.proofs.Common.{◌≡◌, ◌≤◌}
 use Rattle.std.proofs.lemmas.Result.{on_ok_weaker}
 use Rattle.std.specs.FinMap.{len-empty}
+use Rattle.peg_machine.specs.CoreOutcome.{saturated}
 use Rattle.peg_memo.specs.StoredResult.{StoredResult}
 use Rattle.peg_memo.specs.MemoKey.{key_cmp}
 use Rattle.peg_parser.specs.Parser.{start_named}
-use Rattle.peg_parser.proofs.StepLemmas.{of-start, to-start}
+use Rattle.peg_parser.proofs.StepLemmas.{of-start, plain-steps, to-start}
+use Rattle.peg_parser.proofs.TraceLemmas.{answer-fits}
 use Rattle.peg_parser.proofs.parser.Parser.trace.Goals as goal
 
 pub answer-requires-clause-empty : goal.answer-requires-clause-empty
 answer-requires-clause-empty g c = len-empty key_cmp StoredResult
 
-pub returns-in-Some-clause-limited : goal.returns-in-Some-clause-limited
-returns-in-Some-clause-limited g c is =
-    of-start c.args.self.now c.args.text.now (start_named c.args.options.now) c.in-Some.start c.args.options.now.steps
-    c.in-Some.ensures.some c.in-Some.ensures.named (c.answer.ensures.limited is)
+-- ---- without a memo there is never an entry
 
--- without a memo there is never an entry
-pub returns-in-Some-clause-enough : goal.returns-in-Some-clause-enough
-returns-in-Some-clause-enough g c none =
-    on_ok_weaker c.answer.result (λ not more. not (to-start c.args.self.now c.args.text.now
-    (start_named c.args.options.now) c.in-Some.start c.args.options.now.steps c.in-Some.ensures.some
-    c.in-Some.ensures.named more)) (c.answer.ensures.enough (λ any. len-empty key_cmp StoredResult))
+pub returns-in-Some-2-clause-fits : goal.returns-in-Some-2-clause-fits
+returns-in-Some-2-clause-fits g c =
+    answer-fits c.args.self.now c.args.text.now c.in-Some.field-0 c.answer.result c.answer.ensures.outcome
 
 pub returns-in-Some-2-clause-limited : goal.returns-in-Some-2-clause-limited
 returns-in-Some-2-clause-limited g c is =
-    of-start c.args.self.now c.args.text.now (start_named c.args.options.now) c.in-Some.start c.args.options.now.steps
+    of-start c.args.self.now c.args.text.now (start_named c.args.options.now) c.in-Some.field-0 c.args.options.now.steps
+    c.in-Some.ensures.some c.in-Some.ensures.named (c.answer.ensures.limited is)
+
+pub returns-in-Some-2-clause-enough : goal.returns-in-Some-2-clause-enough
+returns-in-Some-2-clause-enough g c none =
+    on_ok_weaker c.answer.result (λ not more. not (to-start c.args.self.now c.args.text.now
+    (start_named c.args.options.now) c.in-Some.field-0 c.args.options.now.steps c.in-Some.ensures.some
+    c.in-Some.ensures.named more)) (c.answer.ensures.enough (λ any. len-empty key_cmp StoredResult))
+
+pub returns-in-Some-2-clause-steps : goal.returns-in-Some-2-clause-steps
+returns-in-Some-2-clause-steps g c =
+    plain-steps c.args.self.now c.args.text.now (start_named c.args.options.now) c.in-Some.field-0
+    (λ answer count. answer.steps ≤ count) c.in-Some.ensures.some c.in-Some.ensures.named c.answer.result
+    c.answer.ensures.steps
+
+pub returns-in-Some-2-clause-exact : goal.returns-in-Some-2-clause-exact
+returns-in-Some-2-clause-exact g c none =
+    plain-steps c.args.self.now c.args.text.now (start_named c.args.options.now) c.in-Some.field-0
+    (λ answer count. answer.steps ≡ saturated count) c.in-Some.ensures.some c.in-Some.ensures.named c.answer.result
+    (c.answer.ensures.exact (λ any. len-empty key_cmp StoredResult))
+
+-- ---- with a memo
+
+pub returns-in-Some-3-clause-fits : goal.returns-in-Some-3-clause-fits
+returns-in-Some-3-clause-fits g c =
+    answer-fits c.args.self.now c.args.text.now c.in-Some.field-0 c.answer_with_memo.result c.answer_with_memo.ensures.outcome
+
+pub returns-in-Some-3-clause-limited : goal.returns-in-Some-3-clause-limited
+returns-in-Some-3-clause-limited g c is =
+    of-start c.args.self.now c.args.text.now (start_named c.args.options.now) c.in-Some.field-0 c.args.options.now.steps
     c.in-Some.ensures.some c.in-Some.ensures.named (c.answer_with_memo.ensures.limited is)
+
+pub returns-in-Some-3-clause-steps : goal.returns-in-Some-3-clause-steps
+returns-in-Some-3-clause-steps g c =
+    plain-steps c.args.self.now c.args.text.now (start_named c.args.options.now) c.in-Some.field-0
+    (λ answer count. answer.steps ≤ count) c.in-Some.ensures.some c.in-Some.ensures.named c.answer_with_memo.result
+    c.answer_with_memo.ensures.steps
