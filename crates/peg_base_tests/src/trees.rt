@@ -6,7 +6,7 @@ use peg_tree::{JsonFault, Names, Tree, nested_json, one_tree, rows_json};
 use std::test::Fail;
 
 #[test]
-fn sizes_tell_one_tree(rt: HostRuntime) {
+fn sizes_determine_whether_nodes_are_one_tree(rt: HostRuntime) {
     let leaf = node(1, 0, 0, 1);
     assert!(rt; one_tree(&[node(0, 0, 0, 3), leaf, leaf]));
     assert!(rt; !one_tree(&[node(0, 0, 0, 2), leaf, leaf]));

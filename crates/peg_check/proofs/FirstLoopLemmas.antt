@@ -55,9 +55,9 @@ module _ (bodies : List CoreForm) where
   -- if the first empty loop is none, no star in the form is one
   pub none-first : (form : CoreForm) (found : FormLoops) → IsFirstCoreLoop bodies form found → found.first ≡ None
       → (part : CoreForm) (origin : Extent) → IsSubformOf (Star part origin) form → ¬ CoreGivesNothing bodies part
-  none-first Empty found is none part origin stands = cc
-  none-first (Test set terminal) found is none part origin stands = cc
-  none-first (Rule rule) found is none part origin stands = cc
+  none-first Empty found is none part origin is_subform = cc
+  none-first (Test set terminal) found is none part origin is_subform = cc
+  none-first (Rule rule) found is none part origin is_subform = cc
   none-first (Seq one rest) found is none part origin (inl same) = cc
   none-first (Seq one rest) found is none part origin (inr (inl here)) =
       let both = sequence-none is.0 is.1 found (in_part-none rest is.1 is.3) is.4 none in
@@ -70,7 +70,7 @@ module _ (bodies : List CoreForm) where
       none-first one is.0 is.2 (or-none is.0.first is.1.first (sym is.5 ∙ none)).0 part origin here
   none-first (Choice one rest) found is none part origin (inr (inr there)) =
       none-first rest is.1 is.3 (or-none is.0.first is.1.first (sym is.5 ∙ none)).1 part origin there
-  none-first (Star whole span) found (a, first, in_part, inl idle) none part origin stands =
+  none-first (Star whole span) found (a, first, in_part, inl idle) none part origin is_subform =
       let bad : Some span ≡ None = sym idle.1 ∙ none in cc
   none-first (Star whole span) found (a, first, in_part, inr never) none part origin (inl same) =
       let parts : part ≡ whole = cc in λ gives. never.0 (subst (CoreGivesNothing bodies) parts gives)
@@ -117,31 +117,31 @@ module _ (core : Desugared) (spelled : AllAreFormsOfNodes core) where
       → NodeFits number (length core.bodies) (length core.spans) n
       → ((part : ℕ) → part < number → IsSubformOf form (form_at core.forms part) → IsNumbered form)
       → IsSubformOf form (shape core.forms origin n) → IsNumbered form
-  numbered-by form number within origin node.Empty is fits later stands = (number, within, is ∙ sym stands)
-  numbered-by form number within origin (node.Test s terminal) is fits later stands = (number, within, is ∙ sym stands)
-  numbered-by form number within origin (node.Rule rule) is fits later stands = (number, within, is ∙ sym stands)
+  numbered-by form number within origin node.Empty is fits later is_subform = (number, within, is ∙ sym is_subform)
+  numbered-by form number within origin (node.Test s terminal) is fits later is_subform = (number, within, is ∙ sym is_subform)
+  numbered-by form number within origin (node.Rule rule) is fits later is_subform = (number, within, is ∙ sym is_subform)
   numbered-by form number within origin (node.Seq first rest) is fits later (inl same) = (number, within, is ∙ sym same)
-  numbered-by form number within origin (node.Seq first rest) is fits later (inr (inl stands)) = later first fits.0 stands
-  numbered-by form number within origin (node.Seq first rest) is fits later (inr (inr stands)) = later rest fits.1 stands
+  numbered-by form number within origin (node.Seq first rest) is fits later (inr (inl is_subform)) = later first fits.0 is_subform
+  numbered-by form number within origin (node.Seq first rest) is fits later (inr (inr is_subform)) = later rest fits.1 is_subform
   numbered-by form number within origin (node.Choice first rest) is fits later (inl same) =
       (number, within, is ∙ sym same)
-  numbered-by form number within origin (node.Choice first rest) is fits later (inr (inl stands)) =
-      later first fits.0 stands
-  numbered-by form number within origin (node.Choice first rest) is fits later (inr (inr stands)) =
-      later rest fits.1 stands
+  numbered-by form number within origin (node.Choice first rest) is fits later (inr (inl is_subform)) =
+      later first fits.0 is_subform
+  numbered-by form number within origin (node.Choice first rest) is fits later (inr (inr is_subform)) =
+      later rest fits.1 is_subform
   numbered-by form number within origin (node.Star part) is fits later (inl same) = (number, within, is ∙ sym same)
-  numbered-by form number within origin (node.Star part) is fits later (inr stands) = later part fits stands
+  numbered-by form number within origin (node.Star part) is fits later (inr is_subform) = later part fits is_subform
   numbered-by form number within origin (node.Not part) is fits later (inl same) = (number, within, is ∙ sym same)
-  numbered-by form number within origin (node.Not part) is fits later (inr stands) = later part fits stands
+  numbered-by form number within origin (node.Not part) is fits later (inr is_subform) = later part fits is_subform
 
   pub numbered : (form : CoreForm) (bound number : ℕ) → number < bound → number < length core.forms
       → IsSubformOf form (form_at core.forms number) → IsNumbered form
-  numbered form zero number less within stands = absurd (omega arith)
-  numbered form (suc bound) number less within stands =
+  numbered form zero number less within is_subform = absurd (omega arith)
+  numbered form (suc bound) number less within is_subform =
       let h = spelled number within in
       numbered-by form number within h.1.0 h.0 h.1.1 h.2
       (λ part before inside. numbered form bound part (omega arith) (omega arith) inside)
-      (subst (IsSubformOf form) h.1.1 stands)
+      (subst (IsSubformOf form) h.1.1 is_subform)
 
   -- the form has an empty loop with this span
   abbrev pub HasLoop : (origin : Extent) → CoreForm → Type 0
@@ -168,13 +168,13 @@ module _ (core : Desugared) (spelled : AllAreFormsOfNodes core) where
 in-body : (bodies : List CoreForm) (part : CoreForm) (origin : Extent) (body : Option CoreForm)
     → CoreGivesNothing bodies part → BodyIs (IsSubformOf (Star part origin)) body
     → BodyIs (λ form. (p : CoreForm) × (IsSubformOf (Star p origin) form × CoreGivesNothing bodies p)) body
-in-body bodies part origin None gives stands = stands
-in-body bodies part origin (Some body) gives stands = (part, (stands, gives))
+in-body bodies part origin None gives is_subform = is_subform
+in-body bodies part origin (Some body) gives is_subform = (part, (is_subform, gives))
 
 -- each form is part of a body, so if no rule has an empty loop, no form is one
 pub none-loops : (core : Desugared) → All (IsSubformOfBody (bodies_of core)) core.forms → HasNoEmptyLoop core → HasNoLoop core
 none-loops core owned none number within loops =
-    let stands = owned number Empty within in
-    none stands.0 loops.1
-    (in-body (bodies_of core) loops.0 loops.1 (slice_get (bodies_of core) stands.0) loops.3
-    (subst (λ form. BodyIs (IsSubformOf form) (slice_get (bodies_of core) stands.0)) loops.2 stands.1))
+    let owner = owned number Empty within in
+    none owner.0 loops.1
+    (in-body (bodies_of core) loops.0 loops.1 (slice_get (bodies_of core) owner.0) loops.3
+    (subst (λ form. BodyIs (IsSubformOf form) (slice_get (bodies_of core) owner.0)) loops.2 owner.1))

@@ -236,7 +236,7 @@ fn meet_often(shortcuts: &mut Shortcuts<'_>, byte: u8, times: u32) {
 }
 
 #[test]
-fn a_table_finds_after_so_many_meetings(rt: HostRuntime) -> Result<(), Fail> {
+fn a_table_finds_a_shortcut_after_its_threshold(rt: HostRuntime) -> Result<(), Fail> {
     let alloc = rt.alloc();
     let program = program_of(alloc, STAR)?;
     for (after, met) in [(0, 0), (2, 2), (126, 126), (u16::MAX, 126)] {

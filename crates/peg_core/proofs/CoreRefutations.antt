@@ -5,7 +5,7 @@ use Rattle.peg_bytes.specs.Extent.{Extent}
 use Rattle.peg_core.specs.CoreForm.{CoreForm, Empty, Test, Rule, Seq, Choice, Star, Not}
 use Rattle.peg_core.specs.CoreLoops.{CoreCanCallFirst, CoreLeftCalls, IsCoreChain, IsCoreEmptyLoop, IsCoreLeftCycle, IsSubformOf, IsSubformOfBody}
 use Rattle.peg_core.specs.CoreOutcomes.{CoreGivesNothing, BodyIs, IsCoreWellFormedIn, IsCoreWellFormed}
-use Rattle.peg_core.proofs.StandingLemmas.{stands-itself}
+use Rattle.peg_core.proofs.SubformLemmas.{subform-itself}
 
 -- ---- empty loops
 
@@ -97,7 +97,7 @@ module _ (bodies : List CoreForm) (all : (form : CoreForm) → IsSubformOfBody b
       → (n : ℕ) × BodyIs (IsCoreWellFormedIn bodies n) (slice_get bodies rule)
   body-fine rule next None is meets = absurd meets
   body-fine rule next (Some body) is meets =
-      let fine = all body (rule, subst (BodyIs (IsSubformOf body)) (sym is) (stands-itself body)) in
+      let fine = all body (rule, subst (BodyIs (IsSubformOf body)) (sym is) (subform-itself body)) in
       (fine.0, subst (BodyIs (IsCoreWellFormedIn bodies fine.0)) (sym is) fine.1)
 
   pub no-left-cycle : (path : List ℕ) → IsCoreLeftCycle bodies path → ⊥

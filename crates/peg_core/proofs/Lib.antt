@@ -15,7 +15,7 @@ mod ReachedInSome
 mod RuleLemmas
 mod Sets
 mod SlotLemmas
-pub mod StandingLemmas
+pub mod SubformLemmas
 pub mod SugarLoops
 pub mod SugarMeets
 pub mod SugarOutcomes

@@ -6,24 +6,24 @@ use Rattle.peg_semantics.specs.Rules.{Rule, Meaning, meaning_from, meaning_of}
 use Rattle.peg_core.specs.CoreForm.{core_form, core_bodies_from, core_bodies, number_of}
 
 -- a name denotes the rule with this number after the first, and the core form of its body is at this index
-abbrev StandsAt : List Rule → (rule terminal : ℕ) → List Rule → Meaning → Type 0
-StandsAt rules rule terminal some m =
+abbrev IsMeaningAt : List Rule → (rule terminal : ℕ) → List Rule → Meaning → Type 0
+IsMeaningAt rules rule terminal some m =
     (i : ℕ) × (m.rule ≡ i + rule) × (slice_get (core_bodies_from rules terminal some) i ≡ Some (core_form rules m.terminal m.body))
 
-meaning_from-stands : (rules : List Rule) (rule terminal : ℕ) (some : List Rule) (name : List ℕ) (m : Meaning)
-    → meaning_from rule terminal some name ≡ Some m → StandsAt rules rule terminal some m
-meaning_from-stands rules rule terminal [] name m is = cc
-meaning_from-stands rules rule terminal (r ∷ rs) name m is =
-    by (bytes_eq name r.name) (meaning_from-stands rules (rule + 1) (terminal + terminals r.body) rs name m) is
+meaning_from-at : (rules : List Rule) (rule terminal : ℕ) (some : List Rule) (name : List ℕ) (m : Meaning)
+    → meaning_from rule terminal some name ≡ Some m → IsMeaningAt rules rule terminal some m
+meaning_from-at rules rule terminal [] name m is = cc
+meaning_from-at rules rule terminal (r ∷ rs) name m is =
+    by (bytes_eq name r.name) (meaning_from-at rules (rule + 1) (terminal + terminals r.body) rs name m) is
   where
     first : Meaning
     first = record { rule = rule; terminal = terminal; body = r.body }
 
     by : (b : Bool)
         → (meaning_from (rule + 1) (terminal + terminals r.body) rs name ≡ Some m
-        → StandsAt rules (rule + 1) (terminal + terminals r.body) rs m)
+        → IsMeaningAt rules (rule + 1) (terminal + terminals r.body) rs m)
         → (if b then Some first else meaning_from (rule + 1) (terminal + terminals r.body) rs name) ≡ Some m
-        → StandsAt rules rule terminal (r ∷ rs) m
+        → IsMeaningAt rules rule terminal (r ∷ rs) m
     by true later found =
         let same : first ≡ m = cc in (
           0,
@@ -52,9 +52,9 @@ number_of-meaning_of rules name m is = ap (λ o. unwrap_or (option_map (λ (m : 
 pub body-meaning_of : (rules : List Rule) (name : List ℕ) (m : Meaning) → meaning_of rules name ≡ Some m
     → slice_get (core_bodies rules) (number_of rules name) ≡ Some (core_form rules m.terminal m.body)
 body-meaning_of rules name m is =
-    let stands = meaning_from-stands rules 0 0 rules name m is in
-    let number : number_of rules name ≡ stands.0 = number_of-meaning_of rules name m is ∙ omega (arith, stands.1) in
-    ap (slice_get (core_bodies rules)) number ∙ stands.2
+    let at = meaning_from-at rules 0 0 rules name m is in
+    let number : number_of rules name ≡ at.0 = number_of-meaning_of rules name m is ∙ omega (arith, at.1) in
+    ap (slice_get (core_bodies rules)) number ∙ at.2
 
 -- a name that denotes no rule has the number of rules as its number
 pub body-unmeant : (rules : List Rule) (name : List ℕ) → meaning_of rules name ≡ None

@@ -64,95 +64,95 @@ all-there (form ∷ forms) =
 
 module _ (rules : List grammar.Rule) where
   -- the core form of a numbered expression is among these
-  abbrev pub Stands : List CoreForm → Numbered → Type 0
-  Stands parts n = Contains parts (core_form rules n.terminal n.form)
+  abbrev pub HasCoreForm : List CoreForm → Numbered → Type 0
+  HasCoreForm parts n = Contains parts (core_form rules n.terminal n.form)
 
   -- and still is among more
-  more-left : (parts more : List CoreForm) (some : List Numbered) → All (Stands parts) some → All (Stands (parts ++ more)) some
+  more-left : (parts more : List CoreForm) (some : List Numbered) → All (HasCoreForm parts) some → All (HasCoreForm (parts ++ more)) some
   more-left parts more some =
-      All-weaker (Stands parts) (Stands (parts ++ more)) (λ n h. Contains-append_left parts more (core_form rules n.terminal n.form) h) some
+      All-weaker (HasCoreForm parts) (HasCoreForm (parts ++ more)) (λ n h. Contains-append_left parts more (core_form rules n.terminal n.form) h) some
 
-  more-right : (more parts : List CoreForm) (some : List Numbered) → All (Stands parts) some → All (Stands (more ++ parts)) some
+  more-right : (more parts : List CoreForm) (some : List Numbered) → All (HasCoreForm parts) some → All (HasCoreForm (more ++ parts)) some
   more-right more parts some =
-      All-weaker (Stands parts) (Stands (more ++ parts)) (λ n h. Contains-append_right more parts (core_form rules n.terminal n.form) h) some
+      All-weaker (HasCoreForm parts) (HasCoreForm (more ++ parts)) (λ n h. Contains-append_right more parts (core_form rules n.terminal n.form) h) some
 
   mutual
     -- all subexpressions of an expression, itself first
-    pub stand : (e : Form) (t : ℕ) → All (Stands (core_parts rules t e)) (numbered_in t e)
-    stand (Literal bytes span) t =
-        All-cons (Stands (core_parts rules t (Literal bytes span))) (numbered_as t (Literal bytes span)) []
+    pub has_core_forms : (e : Form) (t : ℕ) → All (HasCoreForm (core_parts rules t e)) (numbered_in t e)
+    has_core_forms (Literal bytes span) t =
+        All-cons (HasCoreForm (core_parts rules t (Literal bytes span))) (numbered_as t (Literal bytes span)) []
         (sequence-there (tests_of t bytes) (tests_of t bytes) (all-there (tests_of t bytes)))
-        (All-nil (Stands (core_parts rules t (Literal bytes span))))
-    stand (Class set span) t =
-        All-cons (Stands (Test set t ∷ [])) (numbered_as t (Class set span)) [] (Contains-first (Test set t) [])
-        (All-nil (Stands (Test set t ∷ [])))
-    stand (Any span) t =
-        All-cons (Stands (core_parts rules t (Any span))) (numbered_as t (Any span)) []
-        (Contains-first (core_form rules t (Any span)) []) (All-nil (Stands (core_parts rules t (Any span))))
-    stand (Name name span) t =
-        All-cons (Stands (core_parts rules t (Name name span))) (numbered_as t (Name name span)) []
-        (Contains-first (core_form rules t (Name name span)) []) (All-nil (Stands (core_parts rules t (Name name span))))
-    stand (written.Seq items span) t =
+        (All-nil (HasCoreForm (core_parts rules t (Literal bytes span))))
+    has_core_forms (Class set span) t =
+        All-cons (HasCoreForm (Test set t ∷ [])) (numbered_as t (Class set span)) [] (Contains-first (Test set t) [])
+        (All-nil (HasCoreForm (Test set t ∷ [])))
+    has_core_forms (Any span) t =
+        All-cons (HasCoreForm (core_parts rules t (Any span))) (numbered_as t (Any span)) []
+        (Contains-first (core_form rules t (Any span)) []) (All-nil (HasCoreForm (core_parts rules t (Any span))))
+    has_core_forms (Name name span) t =
+        All-cons (HasCoreForm (core_parts rules t (Name name span))) (numbered_as t (Name name span)) []
+        (Contains-first (core_form rules t (Name name span)) []) (All-nil (HasCoreForm (core_parts rules t (Name name span))))
+    has_core_forms (written.Seq items span) t =
         let parts = core_parts_of_all rules t items in
         let forms = core_forms rules t items in
-        All-cons (Stands (parts ++ sequences_of forms)) (numbered_as t (written.Seq items span)) (numbered_below_all t items)
-        (sequence-there parts forms (items-there items t)) (more-left parts (sequences_of forms) (numbered_below_all t items) (stand_all items t))
-    stand (written.Choice first rest span) t =
+        All-cons (HasCoreForm (parts ++ sequences_of forms)) (numbered_as t (written.Seq items span)) (numbered_below_all t items)
+        (sequence-there parts forms (items-there items t)) (more-left parts (sequences_of forms) (numbered_below_all t items) (all-have_core_forms items t))
+    has_core_forms (written.Choice first rest span) t =
         let later = t + terminals first in
         let parts = core_parts rules t first in
         let more = core_parts_of_all rules later rest in
         let choices = choices_of (core_form rules t first) (core_forms rules later rest) in
-        let here = stand first t in
-        let there : Contains (parts ++ more) (core_form rules t first) = Contains-append_left parts more (core_form rules t first) (All-head (Stands parts) (numbered_as t first) (numbered_below t first) here) in
-        All-cons (Stands (parts ++ more ++ choices)) (numbered_as t (written.Choice first rest span)) (numbered_in t first ++ numbered_below_all later rest)
+        let here = has_core_forms first t in
+        let there : Contains (parts ++ more) (core_form rules t first) = Contains-append_left parts more (core_form rules t first) (All-head (HasCoreForm parts) (numbered_as t first) (numbered_below t first) here) in
+        All-cons (HasCoreForm (parts ++ more ++ choices)) (numbered_as t (written.Choice first rest span)) (numbered_in t first ++ numbered_below_all later rest)
         (choice-there (parts ++ more) (core_form rules t first) (core_forms rules later rest) there)
         (more-left (parts ++ more) choices (numbered_in t first ++ numbered_below_all later rest)
-        (All-append (Stands (parts ++ more)) (numbered_in t first) (numbered_below_all later rest)
-        (more-left parts more (numbered_in t first) here) (more-right parts more (numbered_below_all later rest) (stand_all rest later))))
-    stand (Optional part span) t =
+        (All-append (HasCoreForm (parts ++ more)) (numbered_in t first) (numbered_below_all later rest)
+        (more-left parts more (numbered_in t first) here) (more-right parts more (numbered_below_all later rest) (all-have_core_forms rest later))))
+    has_core_forms (Optional part span) t =
         let parts = core_parts rules t part in
         let form = core_form rules t part in
-        All-cons (Stands (parts ++ optional_forms form)) (numbered_as t (Optional part span)) (numbered_in t part)
+        All-cons (HasCoreForm (parts ++ optional_forms form)) (numbered_as t (Optional part span)) (numbered_in t part)
         (Contains-append_right parts (optional_forms form) (Choice form Empty) (Contains-push (Empty ∷ []) (Choice form Empty)))
-        (more-left parts (optional_forms form) (numbered_in t part) (stand part t))
-    stand (written.Star part span) t =
+        (more-left parts (optional_forms form) (numbered_in t part) (has_core_forms part t))
+    has_core_forms (written.Star part span) t =
         let parts = core_parts rules t part in
         let form = core_form rules t part in
-        All-cons (Stands (parts ++ Star form span ∷ [])) (numbered_as t (written.Star part span)) (numbered_in t part)
-        (Contains-push parts (Star form span)) (more-left parts (Star form span ∷ []) (numbered_in t part) (stand part t))
-    stand (Plus part span) t =
+        All-cons (HasCoreForm (parts ++ Star form span ∷ [])) (numbered_as t (written.Star part span)) (numbered_in t part)
+        (Contains-push parts (Star form span)) (more-left parts (Star form span ∷ []) (numbered_in t part) (has_core_forms part t))
+    has_core_forms (Plus part span) t =
         let parts = core_parts rules t part in
         let form = core_form rules t part in
-        All-cons (Stands (parts ++ plus_forms form span)) (numbered_as t (Plus part span)) (numbered_in t part)
+        All-cons (HasCoreForm (parts ++ plus_forms form span)) (numbered_as t (Plus part span)) (numbered_in t part)
         (Contains-append_right parts (plus_forms form span) (Seq form (Star form span)) (Contains-push (Star form span ∷ []) (Seq form (Star form span))))
-        (more-left parts (plus_forms form span) (numbered_in t part) (stand part t))
-    stand (Counted part min max span) t =
+        (more-left parts (plus_forms form span) (numbered_in t part) (has_core_forms part t))
+    has_core_forms (Counted part min max span) t =
         let parts = core_parts rules t part in
         let form = core_form rules t part in
         let own = count_forms form min max in
-        All-cons (Stands (parts ++ own)) (numbered_as t (Counted part min max span)) (numbered_in t part)
+        All-cons (HasCoreForm (parts ++ own)) (numbered_as t (Counted part min max span)) (numbered_in t part)
         (Contains-append_right parts own (count_form form min max) (count-there form min max))
-        (more-left parts own (numbered_in t part) (stand part t))
-    stand (And part span) t =
+        (more-left parts own (numbered_in t part) (has_core_forms part t))
+    has_core_forms (And part span) t =
         let parts = core_parts rules t part in
         let form = core_form rules t part in
-        All-cons (Stands (parts ++ and_forms form)) (numbered_as t (And part span)) (numbered_in t part)
+        All-cons (HasCoreForm (parts ++ and_forms form)) (numbered_as t (And part span)) (numbered_in t part)
         (Contains-append_right parts (and_forms form) (Not (Not form)) (Contains-push (Not form ∷ []) (Not (Not form))))
-        (more-left parts (and_forms form) (numbered_in t part) (stand part t))
-    stand (written.Not part span) t =
+        (more-left parts (and_forms form) (numbered_in t part) (has_core_forms part t))
+    has_core_forms (written.Not part span) t =
         let parts = core_parts rules t part in
         let form = core_form rules t part in
-        All-cons (Stands (parts ++ Not form ∷ [])) (numbered_as t (written.Not part span)) (numbered_in t part)
-        (Contains-push parts (Not form)) (more-left parts (Not form ∷ []) (numbered_in t part) (stand part t))
+        All-cons (HasCoreForm (parts ++ Not form ∷ [])) (numbered_as t (written.Not part span)) (numbered_in t part)
+        (Contains-push parts (Not form)) (more-left parts (Not form ∷ []) (numbered_in t part) (has_core_forms part t))
 
-    stand_all : (items : Forms) (t : ℕ) → All (Stands (core_parts_of_all rules t items)) (numbered_below_all t items)
-    stand_all End t = All-nil (Stands [])
-    stand_all (Then e rest) t =
+    all-have_core_forms : (items : Forms) (t : ℕ) → All (HasCoreForm (core_parts_of_all rules t items)) (numbered_below_all t items)
+    all-have_core_forms End t = All-nil (HasCoreForm [])
+    all-have_core_forms (Then e rest) t =
         let later = t + terminals e in
         let parts = core_parts rules t e in
         let more = core_parts_of_all rules later rest in
-        All-append (Stands (parts ++ more)) (numbered_in t e) (numbered_below_all later rest)
-        (more-left parts more (numbered_in t e) (stand e t)) (more-right parts more (numbered_below_all later rest) (stand_all rest later))
+        All-append (HasCoreForm (parts ++ more)) (numbered_in t e) (numbered_below_all later rest)
+        (more-left parts more (numbered_in t e) (has_core_forms e t)) (more-right parts more (numbered_below_all later rest) (all-have_core_forms rest later))
 
     -- the core forms of items
     items-there : (items : Forms) (t : ℕ) → All (Contains (core_parts_of_all rules t items)) (core_forms rules t items)
@@ -162,22 +162,22 @@ module _ (rules : List grammar.Rule) where
         let parts = core_parts rules t e in
         let more = core_parts_of_all rules later rest in
         All-cons (Contains (parts ++ more)) (core_form rules t e) (core_forms rules later rest)
-        (Contains-append_left parts more (core_form rules t e) (All-head (Stands parts) (numbered_as t e) (numbered_below t e) (stand e t)))
+        (Contains-append_left parts more (core_form rules t e) (All-head (HasCoreForm parts) (numbered_as t e) (numbered_below t e) (has_core_forms e t)))
         (All-weaker (Contains more) (Contains (parts ++ more)) (λ x h. Contains-append_right parts more x h) (core_forms rules later rest) (items-there rest later))
 
-  stand_from : (some : List grammar.Rule) (t : ℕ) → All (Stands (core_parts_from rules t some)) (numbered_from t some)
-  stand_from [] t = All-nil (Stands [])
-  stand_from (r ∷ rs) t =
+  rules-have_core_forms : (some : List grammar.Rule) (t : ℕ) → All (HasCoreForm (core_parts_from rules t some)) (numbered_from t some)
+  rules-have_core_forms [] t = All-nil (HasCoreForm [])
+  rules-have_core_forms (r ∷ rs) t =
       let later = t + terminals r.body in
       let parts = core_parts rules t r.body in
       let more = core_parts_from rules later rs in
-      All-append (Stands (parts ++ more)) (numbered_in t r.body) (numbered_from later rs)
-      (more-left parts more (numbered_in t r.body) (stand r.body t)) (more-right parts more (numbered_from later rs) (stand_from rs later))
+      All-append (HasCoreForm (parts ++ more)) (numbered_in t r.body) (numbered_from later rs)
+      (more-left parts more (numbered_in t r.body) (has_core_forms r.body t)) (more-right parts more (numbered_from later rs) (rules-have_core_forms rs later))
 
 -- the core form of each written subexpression is among those of all rules
-pub subexpressions-stand : (rules : List grammar.Rule)
+pub subexpressions-have_core_forms : (rules : List grammar.Rule)
     → All (λ (n : Numbered). Contains (all_core_parts rules) (core_form rules n.terminal n.form)) (numbered_subexpressions rules)
-subexpressions-stand rules = stand_from rules rules 0
+subexpressions-have_core_forms rules = rules-have_core_forms rules rules 0
 
 -- ---- the subexpressions are the numbered ones
 
@@ -305,8 +305,8 @@ module _ (rules : List grammar.Rule) where
       stars-both (core_parts rules t r.body) (core_parts_from rules later rs) (core_stars rules t r.body) (core_stars_from rules later rs) (stars r.body t) (stars_from rs later)
 
 -- the stars among the core forms of all rules are those of the written stars and pluses
-pub stars-stand : (rules : List grammar.Rule) → filter is_star (all_core_parts rules) ≡ all_core_stars rules
-stars-stand rules = stars_from rules rules 0
+pub stars-filtered : (rules : List grammar.Rule) → filter is_star (all_core_parts rules) ≡ all_core_stars rules
+stars-filtered rules = stars_from rules rules 0
 
 -- ---- well-formed grammars
 
@@ -521,12 +521,12 @@ module _ (rules : List grammar.Rule) where
       (rights_from rs later (All-tail FineRule r rs all))
 
   -- from the core forms back
-  fine-numbered : (parts : List CoreForm) → All Right parts → (some : List Numbered) → All (Stands rules parts) some
+  fine-numbered : (parts : List CoreForm) → All Right parts → (some : List Numbered) → All (HasCoreForm rules parts) some
       → All Fine (map (λ (n : Numbered). n.form) some)
-  fine-numbered parts right some stands =
+  fine-numbered parts right some have_core_forms =
       All-map Fine (λ (n : Numbered). n.form) some
-      (All-weaker (Stands rules parts) (λ (n : Numbered). Fine n.form)
-      (λ n there. IsWellFormed-from_core rules n.form n.terminal (All-contains Right parts (core_form rules n.terminal n.form) right there)) some stands)
+      (All-weaker (HasCoreForm rules parts) (λ (n : Numbered). Fine n.form)
+      (λ n there. IsWellFormed-from_core rules n.form n.terminal (All-contains Right parts (core_form rules n.terminal n.form) right there)) some have_core_forms)
 
   fine_from : (some : List grammar.Rule) (t : ℕ) → All Right (core_parts_from rules t some) → All FineRule some
   fine_from [] t all = All-nil FineRule
@@ -536,7 +536,7 @@ module _ (rules : List grammar.Rule) where
       let more = core_parts_from rules later rs in
       All-cons FineRule r rs
       (subst (All Fine) (ap (λ l. r.body ∷ l) (forms_below r.body t))
-      (fine-numbered parts (all-left Right parts more all) (numbered_in t r.body) (stand rules r.body t)))
+      (fine-numbered parts (all-left Right parts more all) (numbered_in t r.body) (has_core_forms rules r.body t)))
       (fine_from rs later (all-right Right parts more all))
 
 -- a grammar is well-formed exactly if all its core forms are

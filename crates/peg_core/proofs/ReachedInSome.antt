@@ -179,9 +179,9 @@ times-match take (suc max) position r is =
     (λ part more end trees e f g. prepend_trees-matches trees more.result (times-match take max end more g)) is
 
 -- so an iteration that matched is kept
-round-stands : (x : Recognition) → x ≢ Failed → (r : Record) (other : Option Record) → choice_result x r other ≡ Some r
-round-stands Failed matches r other = absurd (matches refl)
-round-stands (Matched end trees) matches r other = refl
+round-chosen : (x : Recognition) → x ≢ Failed → (r : Record) (other : Option Record) → choice_result x r other ≡ Some r
+round-chosen Failed matches r other = absurd (matches refl)
+round-chosen (Matched end trees) matches r other = refl
 
 pub rounds-times : (take : ℕ → Option Record) (max position : ℕ) (tried : Option Record)
     → option_and_then (λ (round : Record). star_result round.result position round (λ end. recognize_repeat take zero max end)) tried
@@ -199,7 +199,7 @@ rounds-times take max position (Some round) = by round.result refl
     matched end trees (Some more) is =
         let both = after_both round more (prepend_trees trees more.result) in
         sym
-        (round-stands both.result (prepend_trees-matches trees more.result (times-match take max end more is)) both
+        (round-chosen both.result (prepend_trees-matches trees more.result (times-match take max end more is)) both
         (Some (matched_at position)))
 
     by : (x : Recognition) → round.result ≡ x

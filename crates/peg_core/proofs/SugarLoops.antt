@@ -16,59 +16,59 @@ use Rattle.peg_core.specs.CoreLoops.{IsSubformOf, IsCoreEmptyLoop}
 use Rattle.peg_core.specs.CoreOutcomes.{CoreGivesNothing, BodyIs}
 use Rattle.peg_core.specs.CoreParts.{core_parts}
 use Rattle.peg_core.specs.Subexpressions.{Numbered, numbered_in}
-use Rattle.peg_core.proofs.PartsLemmas.{Stands, stand, forms_below}
-use Rattle.peg_core.proofs.StandingLemmas.{stands-itself, parts-stand}
+use Rattle.peg_core.proofs.PartsLemmas.{HasCoreForm, has_core_forms, forms_below}
+use Rattle.peg_core.proofs.SubformLemmas.{subform-itself, parts-subforms}
 use Rattle.peg_core.proofs.SugarMeets.{BodyAt, body-at}
 use Rattle.peg_core.proofs.SugarOutcomes.{GivesNothing-to_core, GivesNothing-from_core}
 
 -- ---- the star of a written loop is part of the core form
 
 -- the last part of a form is part of each form that contains the form
-stands-last : (first last whole : CoreForm) → IsSubformOf (Seq first last) whole → IsSubformOf last whole
-stands-last first last Empty is = cc
-stands-last first last (Test set terminal) is = cc
-stands-last first last (Rule rule) is = cc
-stands-last first last (Seq a b) (inl is) =
-    let same : last ≡ b = cc in inr (inr (subst (IsSubformOf last) same (stands-itself last)))
-stands-last first last (Seq a b) (inr (inl in_first)) = inr (inl (stands-last first last a in_first))
-stands-last first last (Seq a b) (inr (inr in_rest)) = inr (inr (stands-last first last b in_rest))
-stands-last first last (Choice a b) (inl is) = cc
-stands-last first last (Choice a b) (inr (inl in_first)) = inr (inl (stands-last first last a in_first))
-stands-last first last (Choice a b) (inr (inr in_rest)) = inr (inr (stands-last first last b in_rest))
-stands-last first last (Star part origin) (inl is) = cc
-stands-last first last (Star part origin) (inr in_part) = inr (stands-last first last part in_part)
-stands-last first last (Not part) (inl is) = cc
-stands-last first last (Not part) (inr in_part) = inr (stands-last first last part in_part)
+last-subform : (first last whole : CoreForm) → IsSubformOf (Seq first last) whole → IsSubformOf last whole
+last-subform first last Empty is = cc
+last-subform first last (Test set terminal) is = cc
+last-subform first last (Rule rule) is = cc
+last-subform first last (Seq a b) (inl is) =
+    let same : last ≡ b = cc in inr (inr (subst (IsSubformOf last) same (subform-itself last)))
+last-subform first last (Seq a b) (inr (inl in_first)) = inr (inl (last-subform first last a in_first))
+last-subform first last (Seq a b) (inr (inr in_rest)) = inr (inr (last-subform first last b in_rest))
+last-subform first last (Choice a b) (inl is) = cc
+last-subform first last (Choice a b) (inr (inl in_first)) = inr (inl (last-subform first last a in_first))
+last-subform first last (Choice a b) (inr (inr in_rest)) = inr (inr (last-subform first last b in_rest))
+last-subform first last (Star part origin) (inl is) = cc
+last-subform first last (Star part origin) (inr in_part) = inr (last-subform first last part in_part)
+last-subform first last (Not part) (inl is) = cc
+last-subform first last (Not part) (inr in_part) = inr (last-subform first last part in_part)
 
 module _ (rules : List grammar.Rule) where
   -- the core form of an expression is part of this one
-  abbrev Standing : CoreForm → Form → Type 0
-  Standing whole e = (terminal : ℕ) × IsSubformOf (core_form rules terminal e) whole
+  abbrev IsCoreFormIn : CoreForm → Form → Type 0
+  IsCoreFormIn whole e = (terminal : ℕ) × IsSubformOf (core_form rules terminal e) whole
 
-  subexpressions-standing : (e : Form) (terminal : ℕ) → All (Standing (core_form rules terminal e)) (subexpressions e)
-  subexpressions-standing e terminal =
+  subexpressions-in_core_form : (e : Form) (terminal : ℕ) → All (IsCoreFormIn (core_form rules terminal e)) (subexpressions e)
+  subexpressions-in_core_form e terminal =
       let whole = core_form rules terminal e in
       let parts = core_parts rules terminal e in
       let numbered = numbered_in terminal e in
-      subst (All (Standing whole)) (ap (λ l. e ∷ l) (forms_below e terminal))
-      (All-map (Standing whole) (λ (n : Numbered). n.form) numbered
-      (All-weaker (Stands rules parts) (λ (n : Numbered). Standing whole n.form)
+      subst (All (IsCoreFormIn whole)) (ap (λ l. e ∷ l) (forms_below e terminal))
+      (All-map (IsCoreFormIn whole) (λ (n : Numbered). n.form) numbered
+      (All-weaker (HasCoreForm rules parts) (λ (n : Numbered). IsCoreFormIn whole n.form)
       (λ n there.
       let form = core_form rules n.terminal n.form in
-      (n.terminal, All-contains (λ form. IsSubformOf form whole) parts form (parts-stand rules terminal e) there))
-      numbered (stand rules e terminal)))
+      (n.terminal, All-contains (λ form. IsSubformOf form whole) parts form (parts-subforms rules terminal e) there))
+      numbered (has_core_forms rules e terminal)))
 
-  loop-standing : (e : Form) (terminal : ℕ) (part : Form) (span : Extent) → HasLoopOver (subexpressions e) part span
+  loop-in_core_form : (e : Form) (terminal : ℕ) (part : Form) (span : Extent) → HasLoopOver (subexpressions e) part span
       → (t : ℕ) × IsSubformOf (Star (core_form rules t part) span) (core_form rules terminal e)
-  loop-standing e terminal part span (inl star) =
-      All-contains (Standing (core_form rules terminal e)) (subexpressions e) (written_form.Star part span)
-      (subexpressions-standing e terminal) star
-  loop-standing e terminal part span (inr plus) =
+  loop-in_core_form e terminal part span (inl star) =
+      All-contains (IsCoreFormIn (core_form rules terminal e)) (subexpressions e) (written_form.Star part span)
+      (subexpressions-in_core_form e terminal) star
+  loop-in_core_form e terminal part span (inr plus) =
       let whole = core_form rules terminal e in
-      let all = subexpressions-standing e terminal in
-      let there = All-contains (Standing whole) (subexpressions e) (Plus part span) all plus in
+      let all = subexpressions-in_core_form e terminal in
+      let there = All-contains (IsCoreFormIn whole) (subexpressions e) (Plus part span) all plus in
       let form = core_form rules there.0 part in
-      (there.0, stands-last form (Star form span) whole there.1)
+      (there.0, last-subform form (Star form span) whole there.1)
 
 -- ---- a star in a core form comes from a written loop
 
@@ -83,17 +83,17 @@ module _ (part : CoreForm) (origin : Extent) where
 
   in_order-some : (first : CoreForm) (rest : List CoreForm) → IsSubformOf star (in_order first rest)
       → InSome (first ∷ rest)
-  in_order-some first [] stands = inl stands
+  in_order-some first [] is_subform = inl is_subform
   in_order-some first (next ∷ rest) (inl is) = cc
   in_order-some first (next ∷ rest) (inr (inl here)) = inl here
   in_order-some first (next ∷ rest) (inr (inr there)) = inr (in_order-some next rest there)
 
   all_in_order-some : (forms : List CoreForm) → IsSubformOf star (all_in_order forms) → InSome forms
   all_in_order-some [] is = cc
-  all_in_order-some (first ∷ rest) stands = in_order-some first rest stands
+  all_in_order-some (first ∷ rest) is_subform = in_order-some first rest is_subform
 
   one_of-some : (first : CoreForm) (rest : List CoreForm) → IsSubformOf star (one_of first rest) → InSome (first ∷ rest)
-  one_of-some first [] stands = inl stands
+  one_of-some first [] is_subform = inl is_subform
   one_of-some first (next ∷ rest) (inl is) = cc
   one_of-some first (next ∷ rest) (inr (inl here)) = inl here
   one_of-some first (next ∷ rest) (inr (inr there)) = inr (one_of-some next rest there)
@@ -119,8 +119,8 @@ module _ (part : CoreForm) (origin : Extent) where
   count-part round min zero (inl is) = cc
   count-part round min zero (inr (inl is)) = cc
   count-part round min zero (inr (inr here)) = here
-  count-part round min (suc max) stands =
-      unfolded-part round (min - left_out round min) (suc (max - left_out round min)) stands
+  count-part round min (suc max) is_subform =
+      unfolded-part round (min - left_out round min) (suc (max - left_out round min)) is_subform
 
   module _ (rules : List grammar.Rule) where
     -- the star is that of a loop among these expressions
@@ -165,18 +165,18 @@ module _ (part : CoreForm) (origin : Extent) where
 
     mutual
       star-comes : (e : Form) (terminal : ℕ) → IsSubformOf star (core_form rules terminal e) → ComesOf (subexpressions e)
-      star-comes (Literal bytes span) terminal stands =
-          absurd (not-test terminal bytes (all_in_order-some (tests_of terminal bytes) stands))
+      star-comes (Literal bytes span) terminal is_subform =
+          absurd (not-test terminal bytes (all_in_order-some (tests_of terminal bytes) is_subform))
       star-comes (Class set span) terminal is = cc
       star-comes (Any span) terminal is = cc
       star-comes (Name name span) terminal is = cc
-      star-comes (written_form.Seq items span) terminal stands =
+      star-comes (written_form.Seq items span) terminal is_subform =
           comes-below (written_form.Seq items span) (below_all items)
-          (items-come items terminal (all_in_order-some (core_forms rules terminal items) stands))
-      star-comes (written_form.Choice first rest span) terminal stands =
+          (items-come items terminal (all_in_order-some (core_forms rules terminal items) is_subform))
+      star-comes (written_form.Choice first rest span) terminal is_subform =
           let later = terminal + terminals first in
           comes-below (written_form.Choice first rest span) (subexpressions first ++ below_all rest)
-          (elim (one_of-some (core_form rules terminal first) (core_forms rules later rest) stands) [
+          (elim (one_of-some (core_form rules terminal first) (core_forms rules later rest) is_subform) [
             | inl here ↦ comes-left (subexpressions first) (below_all rest) (star-comes first terminal here)
             | inr there ↦ comes-right (subexpressions first) (below_all rest) (items-come rest later there)
           ])
@@ -193,9 +193,9 @@ module _ (part : CoreForm) (origin : Extent) where
       star-comes (Plus e span) terminal (inr (inr (inl is))) = from-plus e span terminal is
       star-comes (Plus e span) terminal (inr (inr (inr here))) =
           comes-below (Plus e span) (subexpressions e) (star-comes e terminal here)
-      star-comes (Counted e min max span) terminal stands =
+      star-comes (Counted e min max span) terminal is_subform =
           comes-below (Counted e min max span) (subexpressions e)
-          (star-comes e terminal (count-part (core_form rules terminal e) min max stands))
+          (star-comes e terminal (count-part (core_form rules terminal e) min max is_subform))
       star-comes (And e span) terminal (inl is) = cc
       star-comes (And e span) terminal (inr (inl is)) = cc
       star-comes (And e span) terminal (inr (inr here)) =
@@ -227,7 +227,7 @@ module _ (rules : List grammar.Rule) (span : Extent) where
       let same : loop.rule ≡ some.0 = cc in
       let Writes : grammar.Rule → Type 0 = λ r. HasLoopOver (subexpressions r.body) loop.part span in
       let written = subst Writes same loop.written in
-      let there = loop-standing rules some.0.body some.1 loop.part span written in
+      let there = loop-in_core_form rules some.0.body some.1 loop.part span written in
       subst (BodyIs HasLoop) (sym some.3) (
         core_form rules there.0 loop.part,
         (there.1, GivesNothing-to_core rules loop.part there.0 loop.idle),

@@ -88,16 +88,16 @@ is_separator_at-front front rest position within =
 -- What the split of a prefix says about the split of the whole input. A separator in the prefix is also that of the
 -- whole, and the bytes after it continue with the rest. Without one, the part before the whole's separator has all of
 -- the prefix except for at most two bytes.
-pub data TellsSplit (front rest before after before' after' : List ℕ) : Type 0 where
+pub data SplitOfWhole (front rest before after before' after' : List ℕ) : Type 0 where
   separator_in_front : before' ≡ before → after' ≡ after ++ rest → length before + 3 + length after ≡ length front
-      → TellsSplit front rest before after before' after'
+      → SplitOfWhole front rest before after before' after'
   separator_further : before ≡ front → after ≡ [] → length front ≤ length before' + 2
-      → TellsSplit front rest before after before' after'
+      → SplitOfWhole front rest before after before' after'
 
 -- the split of a prefix, and the split of the whole that it determines
 pub front_split : (front rest before after : List ℕ) → IsSplit front before after
     → (before' : List ℕ) × (after' : List ℕ) × IsSplit (front ++ rest) before' after'
-    × TellsSplit front rest before after before' after'
+    × SplitOfWhole front rest before after before' after'
 front_split front rest before after (at_separator position found b a) =
     let within = separator_within front position found.here in
     let here = is_separator_at-front front rest position within ∙ found.here in
@@ -125,7 +125,7 @@ front_split front rest before after (without_separator none b a) =
     ]
   where
     further : (position : ℕ) → IsFirstSeparator (front ++ rest) position → (before' : List ℕ) × (after' : List ℕ)
-        × IsSplit (front ++ rest) before' after' × TellsSplit front rest before after before' after'
+        × IsSplit (front ++ rest) before' after' × SplitOfWhole front rest before after before' after'
     further position found =
         let within = separator_within (front ++ rest) position found.here in
         let all_before : length (take position (front ++ rest)) ≡ position =
@@ -144,7 +144,7 @@ front_split front rest before after (without_separator none b a) =
 -- the same for the first `limit` bytes of an input, as a bounded read returns them
 pub first_bytes_split : (input : List ℕ) (limit : ℕ) (before after : List ℕ) → IsSplit (take limit input) before after
     → (before' : List ℕ) × (after' : List ℕ) × IsSplit input before' after'
-    × TellsSplit (take limit input) (drop limit input) before after before' after'
+    × SplitOfWhole (take limit input) (drop limit input) before after before' after'
 first_bytes_split input limit before after part =
     let whole = front_split (take limit input) (drop limit input) before after part in
     let all = subst (λ (bytes : List ℕ). IsSplit bytes whole.0 whole.1) (take-append-drop limit input) whole.2 in

@@ -71,10 +71,10 @@ never_unexpected file start part_read (lexeme ∷ more) at is = by (is_bad_count
     by true is = cc
     by false is = cc
 
-suffix_goes_on : (file : List ℕ) (inner : Option Reading) (lexemes : List Lexeme) (part_read : FormRead) (at : ℕ)
+suffix_continues : (file : List ℕ) (inner : Option Reading) (lexemes : List Lexeme) (part_read : FormRead) (at : ℕ)
     → primary file inner lexemes ≡ Ok part_read → suffix file inner lexemes ≡ Err (Unexpected at) → ⊥
 unfolding suffix
-suffix_goes_on file inner lexemes part_read at read is =
+suffix_continues file inner lexemes part_read at read is =
     never_unexpected file (place_of (length file) lexemes) part_read (drop part_read.token_count lexemes) at
     (sym (ap (λ (x : Result FormRead ReadError). and_read x (λ (p : FormRead). then_suffix file (place_of (length file) lexemes) p
     (drop p.token_count lexemes))) read) ∙ is)
@@ -92,7 +92,7 @@ begun_stuck file inner p at (_ ∷ more) (Stream.next k piece lexeme found is re
         → prefix file inner (lexeme_at kind.Ident p piece.length ∷ more) ≡ Err (Unexpected at) → IsStuck file p
     name true arrow yes_begins e = cc
     name false arrow yes_begins e =
-        absurd (suffix_goes_on file inner (lexeme_at kind.Ident p piece.length ∷ more) (record {
+        absurd (suffix_continues file inner (lexeme_at kind.Ident p piece.length ∷ more) (record {
           form = form.Name (part file p (p + piece.length)) (between p (p + piece.length));
           token_count = 1;
           last = p + piece.length;
@@ -106,11 +106,11 @@ begun_stuck file inner p at (_ ∷ more) (Stream.next k piece lexeme found is re
     by kind.Open there yes_begins e = record { kind = kind.Open; piece = piece; found = there; opens = inr (inr refl) }
     by kind.Ident there yes_begins e = name (starts_with_arrow more) refl yes_begins e
     by kind.Literal there yes_begins e =
-        absurd (suffix_goes_on file inner (lexeme_at kind.Literal p piece.length ∷ more) _ at refl e)
+        absurd (suffix_continues file inner (lexeme_at kind.Literal p piece.length ∷ more) _ at refl e)
     by kind.Class there yes_begins e =
-        absurd (suffix_goes_on file inner (lexeme_at kind.Class p piece.length ∷ more) _ at refl e)
+        absurd (suffix_continues file inner (lexeme_at kind.Class p piece.length ∷ more) _ at refl e)
     by kind.Dot there yes_begins e =
-        absurd (suffix_goes_on file inner (lexeme_at kind.Dot p piece.length ∷ more) _ at refl e)
+        absurd (suffix_continues file inner (lexeme_at kind.Dot p piece.length ∷ more) _ at refl e)
     by kind.Arrow there yes_begins e = cc
     by kind.Slash there yes_begins e = cc
     by kind.Question there yes_begins e = cc

@@ -137,10 +137,10 @@ TakesBody m =
 -- a name has one meaning
 meant_body : (name used : List ℕ) (m known : Meaning) → used ≡ name → meaning_of figure name ≡ Some known
     → meaning_of figure used ≡ Some m → TakesBody known → TakesBody m
-meant_body name used m known is there found takes =
+meant_body name used m known is there found body_is =
     let same : Some known ≡ Some m = sym there ∙ (ap (meaning_of figure) (sym is) ∙ found) in
     let one : known ≡ m = cc in
-    subst (λ (x : Meaning). TakesBody x) one takes
+    subst (λ (x : Meaning). TakesBody x) one body_is
 
 body-takes : (used : List ℕ) (m : Meaning) → IsSyntax used → meaning_of figure used ≡ Some m → TakesBody m
 body-takes used m (IsSyntax.is_definition is) found =
@@ -197,37 +197,37 @@ bad_places-append file (lexeme ∷ a) b =
 
 -- There are tokens between two offsets, and each of their parentheses is closed. The trees have the same nesting depth
 -- and the same counts out of range.
-record Stand (file : List ℕ) (position end : ℕ) (trees : Trees) : Type 0 where
+record TokensBetween (file : List ℕ) (position end : ℕ) (trees : Trees) : Type 0 where
   pub list : List Lexeme
-  pub stand : Lexemes file position list end
+  pub are_lexemes : Lexemes file position list end
   pub even : opens list ≡ closes list
   pub deep : deepest list ≤ nesting trees
   pub counts : bad_counts file trees ≡ bad_places file list
 
 -- the same for the result of an expression, if it matches
-abbrev Stood : List ℕ → (position : ℕ) → Recognition → Type 0
-Stood file position Failed = Unit {0}
-Stood file position (Matched end trees) = Stand file position end trees
+abbrev ResultHasTokens : List ℕ → (position : ℕ) → Recognition → Type 0
+ResultHasTokens file position Failed = Unit {0}
+ResultHasTokens file position (Matched end trees) = TokensBetween file position end trees
 
-nothing : (file : List ℕ) (position : ℕ) → Stand file position position NoTrees
+nothing : (file : List ℕ) (position : ℕ) → TokensBetween file position position NoTrees
 nothing file position = record {
   list = [];
-  stand = Lexemes.none;
+  are_lexemes = Lexemes.none;
   even = refl;
   deep = omega arith;
   counts = refl;
 }
 
-and_stand : {file : List ℕ} {a b c : ℕ} {list more : List Lexeme} → Lexemes file a list b → Lexemes file b more c
+lexemes-append : {file : List ℕ} {a b c : ℕ} {list more : List Lexeme} → Lexemes file a list b → Lexemes file b more c
     → Lexemes file a (list ++ more) c
-and_stand Lexemes.none next = next
-and_stand (Lexemes.one first rest) next = Lexemes.one first (and_stand rest next)
+lexemes-append Lexemes.none next = next
+lexemes-append (Lexemes.one first rest) next = Lexemes.one first (lexemes-append rest next)
 
-both_stand : {file : List ℕ} {a b c : ℕ} {one more trees : Trees} → Stand file a b one → Stand file b c more
-    → trees ≡ followed_by one more → Stand file a c trees
-both_stand {file} {one = one} {more = more} x y is = record {
+both-have_tokens : {file : List ℕ} {a b c : ℕ} {one more trees : Trees} → TokensBetween file a b one → TokensBetween file b c more
+    → trees ≡ followed_by one more → TokensBetween file a c trees
+both-have_tokens {file} {one = one} {more = more} x y is = record {
   list = x.list ++ y.list;
-  stand = and_stand x.stand y.stand;
+  are_lexemes = lexemes-append x.are_lexemes y.are_lexemes;
   even = omega (arith, opens-append x.list y.list, closes-append x.list y.list, x.even, y.even);
   deep =
       omega (arith, deepest-append x.list y.list, x.even, x.deep, y.deep, ap nesting is, nesting-seq_matcher one more);
@@ -236,10 +236,10 @@ both_stand {file} {one = one} {more = more} x y is = record {
       ∙ ((λ i. x.counts i ++ y.counts i) ∙ sym (bad_places-append file x.list y.list)));
 }
 
-following_stands : {file : List ℕ} {position middle : ℕ} {one : Trees} → Stand file position middle one → (x : Recognition)
-    → Stood file middle x → Stood file position (prepend_trees one x)
-following_stands first Failed rest = tt
-following_stands first (Matched end more) rest = both_stand first rest refl
+following-has_tokens : {file : List ℕ} {position middle : ℕ} {one : Trees} → TokensBetween file position middle one → (x : Recognition)
+    → ResultHasTokens file middle x → ResultHasTokens file position (prepend_trees one x)
+following-has_tokens first Failed rest = tt
+following-has_tokens first (Matched end more) rest = both-have_tokens first rest refl
 
 -- a node of a rule other than COUNT has the counts of its children
 node-counts : (file : List ℕ) (number position end : ℕ) (inside : Trees) → (number == count_rule) ≡ false
@@ -250,11 +250,11 @@ node-counts file number position end inside no_count =
     ∙ append-nil (bad_counts file inside)
 
 -- the trees of a rule's node nest at least as deep as those inside
-node_stands : {file : List ℕ} {position end : ℕ} {inside tree : Trees} (number : ℕ) → (number == count_rule) ≡ false
-    → Stand file position end inside → tree ≡ Tree number position end inside NoTrees → Stand file position end tree
-node_stands {file} {position} {end} {inside = inside} number no_count x is = record {
+node-has_tokens : {file : List ℕ} {position end : ℕ} {inside tree : Trees} (number : ℕ) → (number == count_rule) ≡ false
+    → TokensBetween file position end inside → tree ≡ Tree number position end inside NoTrees → TokensBetween file position end tree
+node-has_tokens {file} {position} {end} {inside = inside} number no_count x is = record {
   list = x.list;
-  stand = x.stand;
+  are_lexemes = x.are_lexemes;
   even = x.even;
   deep = omega (arith, x.deep, ap nesting is, by (number == primary_rule && has_open inside));
   counts = ap (bad_counts file) is ∙ (node-counts file number position end inside no_count ∙ x.counts);
@@ -319,16 +319,16 @@ token-counts {file} {span} {position} {end} {trees} k d = by (matcher_of k (drop
         ∙ ((λ i. if count-number k i && not (bounds_in_range (bounds_spelled (numerals_in (sym pieces i)))) then position ∷ []
         else []) ∙ sym (append-nil (if is_bad_count file (lexeme_here k position trees) then position ∷ [] else []))))
 
-token_stands : {file : List ℕ} {used : List ℕ} {span : Extent} {position : ℕ} (x : Recognition) → IsToken used
-    → Derives figure file (Name used span) position x → Stood file position x
-token_stands Failed is d = tt
-token_stands {file} {used} {span} {position} (Matched end trees) is d =
+token-has_tokens : {file : List ℕ} {used : List ℕ} {span : Extent} {position : ℕ} (x : Recognition) → IsToken used
+    → Derives figure file (Name used span) position x → ResultHasTokens file position x
+token-has_tokens Failed is d = tt
+token-has_tokens {file} {used} {span} {position} (Matched end trees) is d =
     let here : Derives figure file (Name (rule_of_kind is.kind) span) position (Matched end trees) =
     subst (λ n. Derives figure file (Name n span) position (Matched end trees)) is.is d in
     let lexeme : Lexeme = lexeme_here is.kind position trees in
     record {
       list = lexeme ∷ [];
-      stand = one_token is.kind here;
+      are_lexemes = one_token is.kind here;
       even = omega (arith, opens-cons lexeme [], closes-cons lexeme [], is.no_open, is.no_close);
       deep = omega (arith, is.no_open);
       counts = token-counts is.kind here;
@@ -339,7 +339,7 @@ token_stands {file} {used} {span} {position} (Matched end trees) is d =
 -- an expression, and the closing parenthesis after it
 record Closing (file : List ℕ) (position end : ℕ) (trees : Trees) : Type 0 where
   pub list : List Lexeme
-  pub stand : Lexemes file position list end
+  pub are_lexemes : Lexemes file position list end
   pub odd : suc (opens list) ≡ closes list
   pub deep : deepest list ≤ nesting trees
   pub counts : bad_counts file trees ≡ bad_places file list
@@ -348,14 +348,14 @@ abbrev Closed : List ℕ → (position : ℕ) → Recognition → Type 0
 Closed file position Failed = Unit {0}
 Closed file position (Matched end trees) = Closing file position end trees
 
-close_stands : {file : List ℕ} {last : Extent} {position : ℕ} {x : Recognition}
+close-has_tokens : {file : List ℕ} {last : Extent} {position : ℕ} {x : Recognition}
     → DerivesItems figure file (Then (Name (codes "CLOSE") last) End) position x → Closed file position x
-close_stands (DerivesItems.items_failed d) = tt
-close_stands {file} {last} {position} (DerivesItems.items_then {middle = middle} {trees = one} d DerivesItems.items_none is) =
+close-has_tokens (DerivesItems.items_failed d) = tt
+close-has_tokens {file} {last} {position} (DerivesItems.items_then {middle = middle} {trees = one} d DerivesItems.items_none is) =
     let lexeme : Lexeme = lexeme_here kind.Close position one in
     subst (Closed file position) (sym is) (record {
       list = lexeme ∷ [];
-      stand = one_token kind.Close d;
+      are_lexemes = one_token kind.Close d;
       odd = omega (arith, opens-cons lexeme [], closes-cons lexeme []);
       deep = omega arith;
       counts =
@@ -363,12 +363,12 @@ close_stands {file} {last} {position} (DerivesItems.items_then {middle = middle}
           ∙ (append-nil (bad_counts file one) ∙ token-counts kind.Close d);
     })
 
-following_closes : {file : List ℕ} {position middle : ℕ} {one : Trees} → Stand file position middle one → (x : Recognition)
+following-is_closed : {file : List ℕ} {position middle : ℕ} {one : Trees} → TokensBetween file position middle one → (x : Recognition)
     → Closed file middle x → Closed file position (prepend_trees one x)
-following_closes first Failed rest = tt
-following_closes {file} {one = one} first (Matched end more) rest = record {
+following-is_closed first Failed rest = tt
+following-is_closed {file} {one = one} first (Matched end more) rest = record {
   list = first.list ++ rest.list;
-  stand = and_stand first.stand rest.stand;
+  are_lexemes = lexemes-append first.are_lexemes rest.are_lexemes;
   odd = omega (arith, opens-append first.list rest.list, closes-append first.list rest.list, first.even, rest.odd);
   deep =
       omega (
@@ -387,7 +387,7 @@ following_closes {file} {one = one} first (Matched end more) rest = record {
 -- the trees of an expression in parentheses, inside their Primary
 record Parentheses (file : List ℕ) (position end : ℕ) (trees : Trees) : Type 0 where
   pub list : List Lexeme
-  pub stand : Lexemes file position list end
+  pub are_lexemes : Lexemes file position list end
   pub even : opens list ≡ closes list
   pub deep : deepest list ≤ suc (nesting trees)
   pub opening : has_open trees ≡ true
@@ -396,7 +396,7 @@ record Parentheses (file : List ℕ) (position end : ℕ) (trees : Trees) : Type
 -- the inside of a Primary
 abbrev InPrimary : List ℕ → (position : ℕ) → Recognition → Type 0
 InPrimary file position Failed = Unit {0}
-InPrimary file position (Matched end trees) = Stand file position end trees ⊎ Parentheses file position end trees
+InPrimary file position (Matched end trees) = TokensBetween file position end trees ⊎ Parentheses file position end trees
 
 -- the tree of OPEN
 open-tree : {file : List ℕ} {first : Extent} {position end : ℕ} {trees : Trees}
@@ -406,15 +406,15 @@ open-tree {position = position} {end = end} (Derives.name_matched {meaning = m} 
     let number : m.rule ≡ open_sign_rule = cc in
     ap has_open t ∙ ap (λ n. has_open (Tree n position end inside NoTrees)) number
 
-opened_stands : {file : List ℕ} {first : Extent} {position middle : ℕ} {one : Trees}
+opened-has_tokens : {file : List ℕ} {first : Extent} {position middle : ℕ} {one : Trees}
     → Derives figure file (Name (codes "OPEN") first) position (Matched middle one) → (x : Recognition)
     → Closed file middle x → InPrimary file position (prepend_trees one x)
-opened_stands d Failed rest = tt
-opened_stands {file} {first} {position} {middle} {one} d (Matched end more) rest =
+opened-has_tokens d Failed rest = tt
+opened-has_tokens {file} {first} {position} {middle} {one} d (Matched end more) rest =
     let lexeme : Lexeme = lexeme_here kind.Open position one in
     inr (record {
       list = lexeme ∷ rest.list;
-      stand = and_stand (one_token kind.Open d) rest.stand;
+      are_lexemes = lexemes-append (one_token kind.Open d) rest.are_lexemes;
       even = omega (arith, opens-cons lexeme rest.list, closes-cons lexeme rest.list, rest.odd);
       deep = omega (arith, rest.deep, nesting-seq_matcher one more);
       opening = has_open-followed one more ∙ ap (λ (t : Bool). t || has_open more) (open-tree d);
@@ -423,23 +423,23 @@ opened_stands {file} {first} {position} {middle} {one} d (Matched end more) rest
           ∙ sym (bad_places-append file (lexeme ∷ []) rest.list));
     })
 
-in_primary : (file : List ℕ) (position : ℕ) (x : Recognition) → Stood file position x → InPrimary file position x
+in_primary : (file : List ℕ) (position : ℕ) (x : Recognition) → ResultHasTokens file position x → InPrimary file position x
 in_primary file position Failed s = tt
 in_primary file position (Matched end trees) s = inl s
 
 -- a Primary's tree
-primary_stands : {file : List ℕ} {position end : ℕ} {inside tree : Trees} (number : ℕ) → (number == count_rule) ≡ false
+primary-has_tokens : {file : List ℕ} {position end : ℕ} {inside tree : Trees} (number : ℕ) → (number == count_rule) ≡ false
     → number ≡ primary_rule → InPrimary file position (Matched end inside) → tree ≡ Tree number position end inside NoTrees
-    → Stand file position end tree
-primary_stands number no_count primary (inl s) is = node_stands number no_count s is
-primary_stands {file} {position} {end} {inside} number no_count primary (inr s) is =
+    → TokensBetween file position end tree
+primary-has_tokens number no_count primary (inl s) is = node-has_tokens number no_count s is
+primary-has_tokens {file} {position} {end} {inside} number no_count primary (inr s) is =
     let test : (number == primary_rule && has_open inside) ≡ true =
     λ i. primary i == primary_rule && s.opening i in
     let one : max ((if number == primary_rule && has_open inside then 1 else 0) + nesting inside) 0
     ≡ max (1 + nesting inside) 0 = ap (λ (t : Bool). max ((if t then 1 else 0) + nesting inside) 0) test in
     record {
       list = s.list;
-      stand = s.stand;
+      are_lexemes = s.are_lexemes;
       even = s.even;
       deep = omega (arith, s.deep, ap nesting is, one);
       counts = ap (bad_counts file) is ∙ (node-counts file number position end inside no_count ∙ s.counts);
@@ -448,99 +448,99 @@ primary_stands {file} {position} {end} {inside} number no_count primary (inr s) 
 -- ---- what is matched has tokens
 
 mutual
-  stands : {file : List ℕ} {e : Form} {position : ℕ} {x : Recognition} → OfTokens e → Derives figure file e position x
-      → Stood file position x
-  stands takes (Derives.literal_matched a b) = absurd takes
-  stands takes (Derives.literal_failed a) = absurd takes
-  stands takes (Derives.class_matched a b) = absurd takes
-  stands takes (Derives.class_failed a) = absurd takes
-  stands takes (Derives.any_matched a b) = absurd takes
-  stands takes (Derives.any_failed a) = absurd takes
-  stands (inl word) (Derives.name_matched {span = span} {end = last} {tree = tree} found d t) =
-      token_stands {span = span} (Matched last tree) word (Derives.name_matched found d t)
-  stands (inr syntax) (Derives.name_matched {used = used} {meaning = m} found d t) =
+  form-has_tokens : {file : List ℕ} {e : Form} {position : ℕ} {x : Recognition} → OfTokens e → Derives figure file e position x
+      → ResultHasTokens file position x
+  form-has_tokens of_tokens (Derives.literal_matched a b) = absurd of_tokens
+  form-has_tokens of_tokens (Derives.literal_failed a) = absurd of_tokens
+  form-has_tokens of_tokens (Derives.class_matched a b) = absurd of_tokens
+  form-has_tokens of_tokens (Derives.class_failed a) = absurd of_tokens
+  form-has_tokens of_tokens (Derives.any_matched a b) = absurd of_tokens
+  form-has_tokens of_tokens (Derives.any_failed a) = absurd of_tokens
+  form-has_tokens (inl word) (Derives.name_matched {span = span} {end = last} {tree = tree} found d t) =
+      token-has_tokens {span = span} (Matched last tree) word (Derives.name_matched found d t)
+  form-has_tokens (inr syntax) (Derives.name_matched {used = used} {meaning = m} found d t) =
       let body = body-takes used m syntax found in
       elim body.0 [
-        | inl takes ↦ node_stands m.rule body.1 (stands takes d) t
-        | inr primary ↦ primary_stands m.rule body.1 primary.1 (alternatives_stand primary.0 d) t
+        | inl of_tokens ↦ node-has_tokens m.rule body.1 (form-has_tokens of_tokens d) t
+        | inr primary ↦ primary-has_tokens m.rule body.1 primary.1 (alternatives-have_tokens primary.0 d) t
       ]
-  stands takes (Derives.name_failed found d) = tt
-  stands takes (Derives.sequence items) = items_stand takes items
-  stands takes (Derives.choice first) = first_stands takes.0 takes.1 first
-  stands takes (Derives.optional_some d) = stands takes d
-  stands {file} {position = position} takes (Derives.optional_none d) = nothing file position
-  stands {file} {position = position} takes (Derives.star_none d) = nothing file position
-  stands takes (Derives.star_more d rest t) = both_stand (stands takes d) (stands takes rest) t
-  stands takes (Derives.plus_failed d) = tt
-  stands takes (Derives.plus_matched d rest t) = both_stand (stands takes d) (stands takes rest) t
-  stands takes (Derives.counted times) = absurd takes
-  stands {file} {position = position} takes (Derives.and_matched d) = nothing file position
-  stands takes (Derives.and_failed d) = tt
-  stands {file} {position = position} takes (Derives.not_matched d) = nothing file position
-  stands takes (Derives.not_failed d) = tt
+  form-has_tokens of_tokens (Derives.name_failed found d) = tt
+  form-has_tokens of_tokens (Derives.sequence items) = items-have_tokens of_tokens items
+  form-has_tokens of_tokens (Derives.choice first) = first-has_tokens of_tokens.0 of_tokens.1 first
+  form-has_tokens of_tokens (Derives.optional_some d) = form-has_tokens of_tokens d
+  form-has_tokens {file} {position = position} of_tokens (Derives.optional_none d) = nothing file position
+  form-has_tokens {file} {position = position} of_tokens (Derives.star_none d) = nothing file position
+  form-has_tokens of_tokens (Derives.star_more d rest t) = both-have_tokens (form-has_tokens of_tokens d) (form-has_tokens of_tokens rest) t
+  form-has_tokens of_tokens (Derives.plus_failed d) = tt
+  form-has_tokens of_tokens (Derives.plus_matched d rest t) = both-have_tokens (form-has_tokens of_tokens d) (form-has_tokens of_tokens rest) t
+  form-has_tokens of_tokens (Derives.counted times) = absurd of_tokens
+  form-has_tokens {file} {position = position} of_tokens (Derives.and_matched d) = nothing file position
+  form-has_tokens of_tokens (Derives.and_failed d) = tt
+  form-has_tokens {file} {position = position} of_tokens (Derives.not_matched d) = nothing file position
+  form-has_tokens of_tokens (Derives.not_failed d) = tt
 
-  alternatives_stand : {file : List ℕ} {e : Form} {position : ℕ} {x : Recognition} → IsPrimaryChoice e
+  alternatives-have_tokens : {file : List ℕ} {e : Form} {position : ℕ} {x : Recognition} → IsPrimaryChoice e
       → Derives figure file e position x → InPrimary file position x
-  alternatives_stand takes (Derives.choice first) = either_stands takes.0 takes.1 first
-  alternatives_stand takes (Derives.literal_matched a b) = absurd takes
-  alternatives_stand takes (Derives.literal_failed a) = absurd takes
-  alternatives_stand takes (Derives.class_matched a b) = absurd takes
-  alternatives_stand takes (Derives.class_failed a) = absurd takes
-  alternatives_stand takes (Derives.any_matched a b) = absurd takes
-  alternatives_stand takes (Derives.any_failed a) = absurd takes
-  alternatives_stand takes (Derives.name_matched found d t) = absurd takes
-  alternatives_stand takes (Derives.name_failed found d) = absurd takes
-  alternatives_stand takes (Derives.sequence items) = absurd takes
-  alternatives_stand takes (Derives.optional_some d) = absurd takes
-  alternatives_stand takes (Derives.optional_none d) = absurd takes
-  alternatives_stand takes (Derives.star_none d) = absurd takes
-  alternatives_stand takes (Derives.star_more d rest t) = absurd takes
-  alternatives_stand takes (Derives.plus_failed d) = absurd takes
-  alternatives_stand takes (Derives.plus_matched d rest t) = absurd takes
-  alternatives_stand takes (Derives.counted times) = absurd takes
-  alternatives_stand takes (Derives.and_matched d) = absurd takes
-  alternatives_stand takes (Derives.and_failed d) = absurd takes
-  alternatives_stand takes (Derives.not_matched d) = absurd takes
-  alternatives_stand takes (Derives.not_failed d) = absurd takes
+  alternatives-have_tokens is_choice (Derives.choice first) = either-has_tokens is_choice.0 is_choice.1 first
+  alternatives-have_tokens is_choice (Derives.literal_matched a b) = absurd is_choice
+  alternatives-have_tokens is_choice (Derives.literal_failed a) = absurd is_choice
+  alternatives-have_tokens is_choice (Derives.class_matched a b) = absurd is_choice
+  alternatives-have_tokens is_choice (Derives.class_failed a) = absurd is_choice
+  alternatives-have_tokens is_choice (Derives.any_matched a b) = absurd is_choice
+  alternatives-have_tokens is_choice (Derives.any_failed a) = absurd is_choice
+  alternatives-have_tokens is_choice (Derives.name_matched found d t) = absurd is_choice
+  alternatives-have_tokens is_choice (Derives.name_failed found d) = absurd is_choice
+  alternatives-have_tokens is_choice (Derives.sequence items) = absurd is_choice
+  alternatives-have_tokens is_choice (Derives.optional_some d) = absurd is_choice
+  alternatives-have_tokens is_choice (Derives.optional_none d) = absurd is_choice
+  alternatives-have_tokens is_choice (Derives.star_none d) = absurd is_choice
+  alternatives-have_tokens is_choice (Derives.star_more d rest t) = absurd is_choice
+  alternatives-have_tokens is_choice (Derives.plus_failed d) = absurd is_choice
+  alternatives-have_tokens is_choice (Derives.plus_matched d rest t) = absurd is_choice
+  alternatives-have_tokens is_choice (Derives.counted times) = absurd is_choice
+  alternatives-have_tokens is_choice (Derives.and_matched d) = absurd is_choice
+  alternatives-have_tokens is_choice (Derives.and_failed d) = absurd is_choice
+  alternatives-have_tokens is_choice (Derives.not_matched d) = absurd is_choice
+  alternatives-have_tokens is_choice (Derives.not_failed d) = absurd is_choice
 
-  either_stands : {file : List ℕ} {first : Form} {rest : Forms} {position : ℕ} {x : Recognition} → OfPrimary first
+  either-has_tokens : {file : List ℕ} {first : Form} {rest : Forms} {position : ℕ} {x : Recognition} → OfPrimary first
       → AllOfPrimary rest → DerivesFirst figure file first rest position x → InPrimary file position x
-  either_stands {file} {position = position} {x = x} (inl takes) more (DerivesFirst.alternative_last d) =
-      in_primary file position x (stands takes d)
-  either_stands (inr (IsParenthesized.parenthesized takes)) more
-      (DerivesFirst.alternative_last (Derives.sequence items)) = parentheses_stand takes items
-  either_stands {file} {position = position} (inl takes) more
-      (DerivesFirst.alternative_matched {end = end} {trees = trees} d) = in_primary file position (Matched end trees) (stands takes d)
-  either_stands (inr (IsParenthesized.parenthesized takes)) more
-      (DerivesFirst.alternative_matched (Derives.sequence items)) = parentheses_stand takes items
-  either_stands takes more (DerivesFirst.alternative_failed d rest) = either_stands more.0 more.1 rest
+  either-has_tokens {file} {position = position} {x = x} (inl of_tokens) more (DerivesFirst.alternative_last d) =
+      in_primary file position x (form-has_tokens of_tokens d)
+  either-has_tokens (inr (IsParenthesized.parenthesized of_tokens)) more
+      (DerivesFirst.alternative_last (Derives.sequence items)) = parentheses-have_tokens of_tokens items
+  either-has_tokens {file} {position = position} (inl of_tokens) more
+      (DerivesFirst.alternative_matched {end = end} {trees = trees} d) = in_primary file position (Matched end trees) (form-has_tokens of_tokens d)
+  either-has_tokens (inr (IsParenthesized.parenthesized of_tokens)) more
+      (DerivesFirst.alternative_matched (Derives.sequence items)) = parentheses-have_tokens of_tokens items
+  either-has_tokens of_tokens more (DerivesFirst.alternative_failed d rest) = either-has_tokens more.0 more.1 rest
 
-  parentheses_stand : {file : List ℕ} {inside : Form} {first last : Extent} {position : ℕ} {x : Recognition}
+  parentheses-have_tokens : {file : List ℕ} {inside : Form} {first last : Extent} {position : ℕ} {x : Recognition}
       → OfTokens inside → DerivesItems figure file
       (Then (Name (codes "OPEN") first) (Then inside (Then (Name (codes "CLOSE") last) End))) position x
       → InPrimary file position x
-  parentheses_stand takes (DerivesItems.items_failed d) = tt
-  parentheses_stand {file} {position = position} takes (DerivesItems.items_then {more = more} d rest is) =
-      subst (InPrimary file position) (sym is) (opened_stands d more (closing_stands takes rest))
+  parentheses-have_tokens of_tokens (DerivesItems.items_failed d) = tt
+  parentheses-have_tokens {file} {position = position} of_tokens (DerivesItems.items_then {more = more} d rest is) =
+      subst (InPrimary file position) (sym is) (opened-has_tokens d more (closing-has_tokens of_tokens rest))
 
-  closing_stands : {file : List ℕ} {inside : Form} {last : Extent} {position : ℕ} {x : Recognition} → OfTokens inside
+  closing-has_tokens : {file : List ℕ} {inside : Form} {last : Extent} {position : ℕ} {x : Recognition} → OfTokens inside
       → DerivesItems figure file (Then inside (Then (Name (codes "CLOSE") last) End)) position x → Closed file position x
-  closing_stands takes (DerivesItems.items_failed d) = tt
-  closing_stands {file} {position = position} takes (DerivesItems.items_then {more = more} d rest is) =
-      subst (Closed file position) (sym is) (following_closes (stands takes d) more (close_stands rest))
+  closing-has_tokens of_tokens (DerivesItems.items_failed d) = tt
+  closing-has_tokens {file} {position = position} of_tokens (DerivesItems.items_then {more = more} d rest is) =
+      subst (Closed file position) (sym is) (following-is_closed (form-has_tokens of_tokens d) more (close-has_tokens rest))
 
-  items_stand : {file : List ℕ} {items : Forms} {position : ℕ} {x : Recognition} → AllOfTokens items
-      → DerivesItems figure file items position x → Stood file position x
-  items_stand {file} {position = position} takes DerivesItems.items_none = nothing file position
-  items_stand takes (DerivesItems.items_failed d) = tt
-  items_stand {file} {position = position} takes (DerivesItems.items_then {more = more} d rest is) =
-      subst (Stood file position) (sym is) (following_stands (stands takes.0 d) more (items_stand takes.1 rest))
+  items-have_tokens : {file : List ℕ} {items : Forms} {position : ℕ} {x : Recognition} → AllOfTokens items
+      → DerivesItems figure file items position x → ResultHasTokens file position x
+  items-have_tokens {file} {position = position} of_tokens DerivesItems.items_none = nothing file position
+  items-have_tokens of_tokens (DerivesItems.items_failed d) = tt
+  items-have_tokens {file} {position = position} of_tokens (DerivesItems.items_then {more = more} d rest is) =
+      subst (ResultHasTokens file position) (sym is) (following-has_tokens (form-has_tokens of_tokens.0 d) more (items-have_tokens of_tokens.1 rest))
 
-  first_stands : {file : List ℕ} {first : Form} {rest : Forms} {position : ℕ} {x : Recognition} → OfTokens first
-      → AllOfTokens rest → DerivesFirst figure file first rest position x → Stood file position x
-  first_stands takes more (DerivesFirst.alternative_last d) = stands takes d
-  first_stands takes more (DerivesFirst.alternative_matched d) = stands takes d
-  first_stands takes more (DerivesFirst.alternative_failed d rest) = first_stands more.0 more.1 rest
+  first-has_tokens : {file : List ℕ} {first : Form} {rest : Forms} {position : ℕ} {x : Recognition} → OfTokens first
+      → AllOfTokens rest → DerivesFirst figure file first rest position x → ResultHasTokens file position x
+  first-has_tokens of_tokens more (DerivesFirst.alternative_last d) = form-has_tokens of_tokens d
+  first-has_tokens of_tokens more (DerivesFirst.alternative_matched d) = form-has_tokens of_tokens d
+  first-has_tokens of_tokens more (DerivesFirst.alternative_failed d rest) = first-has_tokens more.0 more.1 rest
 
 -- ---- whole files
 
@@ -678,8 +678,8 @@ has_tokens file end trees m =
     let past : length file ≤ rules.middle = no_byte inside.1 last.middle inside.0 refl in
     let start : gap.middle ≤ length file = ends_within gap.item (omega arith) in
     let within : rules.middle ≤ length file = ends_within rules.item start in
-    let tokens : Stand file gap.middle rules.middle rules.one =
-    stands (inr (IsSyntax.is_definition refl)) rules.item in
+    let tokens : TokensBetween file gap.middle rules.middle rules.one =
+    form-has_tokens (inr (IsSyntax.is_definition refl)) rules.item in
     let last_end : rules.middle ≡ length file = omega (arith, past, within) in
     record {
       lexemes = tokens.list;
@@ -687,7 +687,7 @@ has_tokens file end trees m =
         gap.middle,
         gap.one,
         matches (elsewhere (between 0 0) gap.item),
-        subst (Lexemes file gap.middle tokens.list) last_end tokens.stand,
+        subst (Lexemes file gap.middle tokens.list) last_end tokens.are_lexemes,
       );
       deep =
           omega (

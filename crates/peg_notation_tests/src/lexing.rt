@@ -174,7 +174,7 @@ fn other_escapes_are_none(rt: HostRuntime) {
 // If the escape in `[a-ESCAPE-]` is one character, the last dash is a character and the class is closed. If its last
 // digit is a character of its own, that digit, the dash and the bracket are a range, and the class isn't closed.
 #[test]
-fn an_escape_has_so_many_digits(rt: HostRuntime) -> Result<(), Fail> {
+fn an_escape_has_a_limited_number_of_digits(rt: HostRuntime) -> Result<(), Fail> {
     let alloc = rt.alloc();
     let closed: &[&[u8]] = &[
         b"[a-\\0-]",
@@ -430,7 +430,7 @@ fn the_figures_text_has_its_tokens(rt: HostRuntime) -> Result<(), Fail> {
 }
 
 #[test]
-fn the_figure_has_its_text_and_names_where_they_stand(rt: HostRuntime) -> Result<(), Fail> {
+fn the_figure_has_its_text_and_its_names_at_their_offsets(rt: HostRuntime) -> Result<(), Fail> {
     let text = figure_text();
     assert_eq!(rt; text, NOTATION);
     let rules = figure(rt.alloc())?;

@@ -97,7 +97,7 @@ fn each_front_of_the_figure_is_read_or_refused_within_it(rt: HostRuntime) {
 }
 
 #[test]
-fn a_fault_is_the_first_token_that_can_not_stand_there(rt: HostRuntime) {
+fn a_fault_is_the_first_token_that_is_not_allowed_there(rt: HostRuntime) {
     let files: [(&[u8], u32); 16] = [
         (b"", 0),
         (b"A", 1),

@@ -185,7 +185,7 @@ fn grammars_are_accepted_and_tabled(rt: HostRuntime) -> Result<(), Fail> {
 }
 
 #[test]
-fn refused_files_tell_where(rt: HostRuntime) -> Result<(), Fail> {
+fn refused_files_report_the_place(rt: HostRuntime) -> Result<(), Fail> {
     let cases: [(&[u8], &str); 5] = [
         (
             b"A <- [a-]\n",
@@ -248,7 +248,7 @@ fn files_over_a_limit_are_refused(rt: HostRuntime) -> Result<(), Fail> {
 }
 
 #[test]
-fn refused_parses_tell_why(rt: HostRuntime) -> Result<(), Fail> {
+fn refused_parses_report_the_cause(rt: HostRuntime) -> Result<(), Fail> {
     let alloc = rt.alloc();
     replies(
         &rt,

@@ -146,7 +146,7 @@ fn a_byte_at_a_time_is_enough(rt: HostRuntime) -> Result<(), Fail> {
 const REFUSAL: &[u8] = b"{\"at\":17,\"column\":1,\"line\":2,\"refusal\":\"Syntax\"}\n";
 
 #[test]
-fn a_command_tells_a_failed_read(rt: HostRuntime) -> Result<(), Fail> {
+fn a_command_reports_a_failed_read(rt: HostRuntime) -> Result<(), Fail> {
     for breaks_at in 0..=INPUT.len() {
         let mut file = ShortReader::new(INPUT, breaks_at);
         let mut text = ShortReader::new(INPUT, 0);
@@ -166,7 +166,7 @@ fn a_command_tells_a_failed_read(rt: HostRuntime) -> Result<(), Fail> {
 }
 
 #[test]
-fn a_command_tells_a_failed_write(rt: HostRuntime) -> Result<(), Fail> {
+fn a_command_reports_a_failed_write(rt: HostRuntime) -> Result<(), Fail> {
     for breaks_at in 0..REFUSAL.len() {
         let mut file = ShortReader::new(INPUT, 1000);
         let mut text = ShortReader::new(INPUT, 0);
@@ -272,7 +272,7 @@ fn assert_reads(
 }
 
 #[test]
-fn a_parse_tells_a_failed_read_of_either(rt: HostRuntime) -> Result<(), Fail> {
+fn a_parse_reports_a_failed_read_of_either(rt: HostRuntime) -> Result<(), Fail> {
     assert_reads(&rt, rt.alloc(), FILE, TEXT)?;
     assert_reads(&rt, rt.alloc(), COUNTS, b"aabbcc")
 }
@@ -283,7 +283,7 @@ const COMMENTED: &[u8] = b"A <- 'x' #end\n";
 const ACCEPTED: &[u8] = b"{\"result\":\"accepted\",\"rules\":1}\n";
 
 #[test]
-fn a_check_tells_a_failed_write(rt: HostRuntime) -> Result<(), Fail> {
+fn a_check_reports_a_failed_write(rt: HostRuntime) -> Result<(), Fail> {
     for breaks_at in 0..ACCEPTED.len() {
         let mut file = ShortReader::new(COMMENTED, 1000);
         let mut text = ShortReader::new(TEXT, 0);
@@ -332,7 +332,7 @@ fn a_writer_that_takes_no_byte_is_reported(rt: HostRuntime) -> Result<(), Fail> 
 }
 
 #[test]
-fn rows_tell_a_failed_write(rt: HostRuntime) -> Result<(), Fail> {
+fn rows_report_a_failed_write(rt: HostRuntime) -> Result<(), Fail> {
     for breaks_at in 0..=ROWS.len() {
         let mut file = ShortReader::new(FILE, 1000);
         let mut text = ShortReader::new(TEXT, 1000);
@@ -353,7 +353,7 @@ fn rows_tell_a_failed_write(rt: HostRuntime) -> Result<(), Fail> {
 }
 
 #[test]
-fn a_parse_tells_a_failed_write(rt: HostRuntime) -> Result<(), Fail> {
+fn a_parse_reports_a_failed_write(rt: HostRuntime) -> Result<(), Fail> {
     for breaks_at in 0..LINE.len() {
         let mut file = ShortReader::new(FILE, 1000);
         let mut text = ShortReader::new(TEXT, 1000);

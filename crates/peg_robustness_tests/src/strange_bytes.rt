@@ -37,7 +37,7 @@ fn assert_no_token(rt: &impl Abort, alloc: Global, byte: u8) -> Result<(), Fail>
 }
 
 #[test]
-fn bytes_that_are_no_text_stand_in_literals_classes_and_comments(
+fn bytes_that_are_no_text_occur_in_literals_classes_and_comments(
     rt: HostRuntime,
 ) -> Result<(), Fail> {
     assert_is_read(&rt, rt.alloc(), 0)?;

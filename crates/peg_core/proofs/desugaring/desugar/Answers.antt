@@ -20,12 +20,12 @@ use Rattle.peg_core.specs.Layout.{Layout, Desugared, form_at}
 use Rattle.peg_core.proofs.AddLemmas.{AppendsForm-room, AppendsForm-few, are_defined-left, are_defined-right, are_in_range-left, are_in_range-right}
 use Rattle.peg_core.proofs.RuleLemmas.{body_weights, rules-drop, grammar-defined, grammar-ranged, length-all_core_parts, RulesSoFar}
 use Rattle.peg_core.proofs.RuleLemmas.{RulesSoFar-start, RulesSoFar-more}
-use Rattle.peg_core.proofs.PartsLemmas.{subexpressions-stand, stars-stand, grammar-right, grammar-fine}
+use Rattle.peg_core.proofs.PartsLemmas.{subexpressions-have_core_forms, stars-filtered, grammar-right, grammar-fine}
 use Rattle.peg_core.proofs.Meanings.{length-core_bodies}
 use Rattle.peg_core.proofs.SugarLoops.{IsEmptyLoop-to_core, IsEmptyLoop-from_core}
 use Rattle.peg_core.proofs.SugarMeets.{LeftCalls-to_core, LeftCalls-from_core, IsLeftCycle-to_core}
 use Rattle.peg_core.proofs.SugarMeets.{IsLeftCycle-from_core}
-use Rattle.peg_core.proofs.StandingLemmas.{all-stand}
+use Rattle.peg_core.proofs.SubformLemmas.{all-subforms}
 use Rattle.peg_core.proofs.desugaring.desugar.Goals as goal
 use Rattle.peg_core.proofs.desugaring.desugar.Goals.{After-new}
 
@@ -112,7 +112,7 @@ new-requires-clause-owned c =
     let forms : builder.forms ≡ all_core_parts rules = sym (append-nil builder.forms) ∙ (ap (λ rest. builder.forms ++ core_parts_from rules t rest) (sym none) ∙ c.loop-rule.invariant.so_far.forms) in
     let each : map (form_at builder.forms) bodies ≡ core_bodies rules = sym (append-nil (map (form_at builder.forms) bodies)) ∙ (ap (λ rest. map (form_at builder.forms) bodies ++ core_bodies_from rules t rest) (sym none) ∙ c.loop-rule.invariant.so_far.each) in
     subst (λ some. All (IsSubformOfBody some) builder.forms) (sym each)
-    (subst (All (IsSubformOfBody (core_bodies rules))) (sym forms) (all-stand rules))
+    (subst (All (IsSubformOfBody (core_bodies rules))) (sym forms) (all-subforms rules))
 
 pub returns-clause-few : goal.returns-clause-few
 returns-clause-few c =
@@ -145,10 +145,10 @@ pub returns-clause-subexpressions : goal.returns-clause-subexpressions
 returns-clause-subexpressions c =
     let rules = rules_in c.args.grammar.now in
     subst (λ forms. All (λ (e : Numbered). Contains forms (core_form rules e.terminal e.form)) (numbered_subexpressions rules))
-    (sym (are_parts c)) (subexpressions-stand rules)
+    (sym (are_parts c)) (subexpressions-have_core_forms rules)
 
 pub returns-clause-stars : goal.returns-clause-stars
-returns-clause-stars c = ap (filter is_star) (are_parts c) ∙ stars-stand (rules_in c.args.grammar.now)
+returns-clause-stars c = ap (filter is_star) (are_parts c) ∙ stars-filtered (rules_in c.args.grammar.now)
 
 pub returns-clause-well_formed : goal.returns-clause-well_formed
 returns-clause-well_formed c =
