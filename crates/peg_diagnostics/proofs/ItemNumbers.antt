@@ -3,18 +3,18 @@ use Rattle.std.proofs.Common.{◌≡◌, ℕ, suc, ◌+◌, ◌<◌, ◌≤◌, 
 use Rattle.std.proofs.Common.{Option, None, Some, IfSome, option_map, refl, sym, ap₂, ◌∙◌, arith, ◌==◌}
 use Rattle.std.proofs.lemmas.List.{length-append}
 use Rattle.std.proofs.lemmas.List.Elements.{All-nil, All-cons, All-head, All-tail}
-use Rattle.std.specs.List.{cons_option, position_from}
 use Rattle.std.specs.List.Sorted.{IsStrictlyIncreasing}
 use Rattle.peg_semantics.specs.Form.{Form, Forms, Literal, Class, Any, Name, Seq, Choice, Optional, Star, Plus, Counted}
 use Rattle.peg_semantics.specs.Form.{And, Not, End, Then, terminals}
-use Rattle.peg_semantics.specs.Record.{Test, test_of}
+use Rattle.peg_semantics.specs.Record.{Test}
 use Rattle.peg_semantics.specs.Rules.{Rule}
 use Rattle.peg_semantics.proofs.Ascending.{RisesFrom, RisesFrom-to_increasing}
+use Rattle.peg_semantics.proofs.TestsAmongLemmas.{among-within}
 use Rattle.peg_diagnostics.specs.Diagnostic.{loud}
 use Rattle.peg_diagnostics.specs.Items.{item_extents, item_extents_of_all, extents_of_items}
 use Rattle.peg_diagnostics.specs.ItemTests.{added_terminals, added_terminals_of_all, added_terminals_from}
 use Rattle.peg_diagnostics.specs.ItemTests.{item_terminals}
-use Rattle.peg_diagnostics.specs.ItemTests.{item_of_terminal, item_tests}
+use Rattle.peg_diagnostics.specs.ItemTests.{item_tests}
 use Rattle.peg_diagnostics.proofs.Placement.{Below, added-below}
 
 -- ---- ascending numbers
@@ -113,35 +113,6 @@ extents-terminals rules = extents-from rules 0
 
 -- ---- item tests have the numbers of items
 
-place-within : (n first : ℕ) (xs : List ℕ)
-    → IfSome (position_from (λ x. x == n) first xs) (λ k. k < first + length xs)
-place-within n first [] = tt
-place-within n first (x ∷ xs) = by (x == n) (place-within n (first + 1) xs)
-  where
-    more : (found : Option ℕ) → IfSome found (λ k. k < first + 1 + length xs)
-        → IfSome found (λ k. k < first + suc (length xs))
-    more None later = tt
-    more (Some k) later = omega (arith, later)
-
-    by : (b : Bool) → IfSome (position_from (λ x. x == n) (first + 1) xs) (λ k. k < first + 1 + length xs)
-        → IfSome (cond b (Some first) (position_from (λ x. x == n) (first + 1) xs)) (λ k. k < first + suc (length xs))
-    by true later = omega arith
-    by false later = more (position_from (λ x. x == n) (first + 1) xs) later
-
-module _ (rules : List Rule) where
-  abbrev IsOfItem : Test → Type 0
-  IsOfItem test = test.terminal < length (item_terminals rules)
-
-  pub item_tests-within : (tests : List Test) → All IsOfItem (item_tests rules tests)
-  item_tests-within [] = All-nil IsOfItem
-  item_tests-within (test ∷ tests) =
-      by (item_of_terminal rules test.terminal) (place-within test.terminal 0 (item_terminals rules))
-      (item_tests-within tests)
-    where
-      by : (found : Option ℕ) → IfSome found (λ k. k < 0 + length (item_terminals rules))
-          → All IsOfItem (item_tests rules tests)
-          → All IsOfItem (cons_option (option_map (λ number. test_of number test.position) found)
-          (item_tests rules tests))
-      by None within later = later
-      by (Some k) within later =
-          All-cons IsOfItem (test_of k test.position) (item_tests rules tests) (omega (arith, within)) later
+pub item_tests-within : (rules : List Rule) (tests : List Test)
+    → All (λ (test : Test). test.terminal < length (item_terminals rules)) (item_tests rules tests)
+item_tests-within rules tests = among-within (item_terminals rules) tests

@@ -1,15 +1,15 @@
 mod AnyExpression
 mod BlameLemmas
 mod BlameResults
-mod DiagnosisLemmas
+pub mod DiagnosisLemmas
 mod DiagnosticGrammar
 mod DiagnosticOutcomes
-mod DiagnosticWellFormed
+pub mod DiagnosticWellFormed
 mod Drops
 mod EmptySet
-mod ItemNumbers
+pub mod ItemNumbers
 mod KnownNames
-mod Lookups
+pub mod Lookups
 mod LoudRecords
 mod NumberLoops
 mod Placement

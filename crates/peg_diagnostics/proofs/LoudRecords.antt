@@ -16,11 +16,11 @@ use Rattle.peg_semantics.specs.Record.{or_else, choice_result, as_call, literal_
 use Rattle.peg_semantics.specs.Record.{if_matched, if_failed, with_result, recognize_seq, recognize_choice, table}
 use Rattle.peg_semantics.specs.Record.{record_in}
 use Rattle.peg_semantics.specs.Rules.{Rule, Meaning, meaning_of}
+use Rattle.peg_semantics.specs.TestsAmong.{renumbered}
 use Rattle.peg_semantics.proofs.RecordLemmas.{record_in-more, record_in-later}
 use Rattle.peg_diagnostics.specs.Blame.{item_blame, blame_item, blame_seq, blame_choice, blame_table, blame_in}
 use Rattle.peg_diagnostics.specs.Diagnostic.{quiet, quiet_name, no_bytes, or_fail, loud, loud_all}
 use Rattle.peg_diagnostics.specs.Items.{items, item_meaning_of}
-use Rattle.peg_diagnostics.specs.ItemTests.{as_item_test}
 use Rattle.peg_diagnostics.specs.Placed.{IsItemAt, IsPlaced, AreAllPlaced}
 use Rattle.peg_diagnostics.proofs.EmptySet.{has-no_bytes}
 use Rattle.peg_diagnostics.proofs.Renaming.{EachFrom, HasCopy, Simulates-rename, terminals-rename}
@@ -30,7 +30,7 @@ use Rattle.peg_diagnostics.proofs.Simulation.{Simulates-rounds, Simulates-recogn
 
 -- the failed tests of added empty classes as failed tests of items, given the item of each terminal that has one
 abbrev pub tests_by : (ℕ → Option ℕ) → List Test → List Test
-tests_by item tests = filter_map (as_item_test item) tests
+tests_by item tests = filter_map (renumbered item) tests
 
 -- results of the same kind and end, and no failed test of an added empty class in the second
 abbrev pub no_items : (ℕ → Option ℕ) → Likeness
@@ -40,7 +40,7 @@ no_items item = record {
   no_trees = tt;
   more_trees = λ a b c d same more. tt;
   no_tests = refl;
-  more_tests = λ a b c d first second. filter_map-append (as_item_test item) b d ∙ ap₂ ◌++◌ first second;
+  more_tests = λ a b c d first second. filter_map-append (renumbered item) b d ∙ ap₂ ◌++◌ first second;
 }
 
 -- the same result, and as failed tests of items in the second the failed tests of the first
@@ -51,7 +51,7 @@ same_items item = record {
   no_trees = refl;
   more_trees = λ a b c d same more. ap₂ followed_by same more;
   no_tests = refl;
-  more_tests = λ a b c d first second. filter_map-append (as_item_test item) b d ∙ ap₂ ◌++◌ first second;
+  more_tests = λ a b c d first second. filter_map-append (renumbered item) b d ∙ ap₂ ◌++◌ first second;
 }
 
 -- a terminal that is no added empty class
@@ -114,7 +114,7 @@ module _ (item : ℕ → Option ℕ) where
       → item terminal ≡ Some number
       → tests_by item (tests ++ test_of terminal position ∷ []) ≡ test_of number position ∷ []
   item_tests-fail tests terminal number position none is =
-      filter_map-append (as_item_test item) tests (test_of terminal position ∷ [])
+      filter_map-append (renumbered item) tests (test_of terminal position ∷ [])
       ∙ ap₂ ◌++◌ none (ap (λ o. cons_option (option_map (λ k. test_of k position) o) []) is)
 
   IsLike-item : (terminal number position : ℕ) → item terminal ≡ Some number → (x y : Record) → IsBare x.result

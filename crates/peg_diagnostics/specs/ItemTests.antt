@@ -1,10 +1,10 @@
 -- The failed tests of the empty classes that the diagnostic grammar adds, as failed tests of items.
-use Rattle.std.specs.Prelude.{ℕ, ◌+◌, List, [], ◌∷◌, ◌++◌, Option, option_map, filter_map, ◌==◌}
-use Rattle.std.specs.List.{position_from}
+use Rattle.std.specs.Prelude.{ℕ, ◌+◌, List, [], ◌∷◌, ◌++◌, Option}
 use Rattle.peg_semantics.specs.Form.{Form, Forms, Literal, Class, Any, Name, Seq, Choice, Optional, Star, Plus, Counted}
 use Rattle.peg_semantics.specs.Form.{And, Not, End, Then, terminals}
-use Rattle.peg_semantics.specs.Record.{Test, test_of}
+use Rattle.peg_semantics.specs.Record.{Test}
 use Rattle.peg_semantics.specs.Rules.{Rule}
+use Rattle.peg_semantics.specs.TestsAmong.{index_in, tests_among}
 use Rattle.peg_diagnostics.specs.Diagnostic.{loud}
 
 -- The terminal number of the empty class that is added for each item of an expression, in written order. `terminal` is
@@ -42,12 +42,8 @@ item_terminals rules = added_terminals_from 0 rules
 
 -- the item whose empty class has a terminal number, if there is one
 abbrev pub item_of_terminal : List Rule → (terminal : ℕ) → Option ℕ
-item_of_terminal rules terminal = position_from (λ added. added == terminal) 0 (item_terminals rules)
-
--- a failed test of an empty class as a failed test of its item, given the item of each terminal that has one
-abbrev pub as_item_test : (item : ℕ → Option ℕ) → Test → Option Test
-as_item_test item test = option_map (λ number. test_of number test.position) (item test.terminal)
+item_of_terminal rules terminal = index_in (item_terminals rules) terminal
 
 -- the failed tests of added empty classes, in order, as failed tests of items
 abbrev pub item_tests : List Rule → List Test → List Test
-item_tests rules tests = filter_map (as_item_test (item_of_terminal rules)) tests
+item_tests rules tests = tests_among (item_terminals rules) tests

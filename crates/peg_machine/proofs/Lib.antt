@@ -1,5 +1,6 @@
 mod AccountEvents
 mod AccountLemmas
+mod AmongLemmas
 mod CallRules
 mod CodeLemmas
 mod EntryLemmas

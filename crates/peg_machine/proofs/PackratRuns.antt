@@ -12,12 +12,12 @@ use Rattle.peg_semantics.specs.Record.{RuleCall}
 use Rattle.peg_core.specs.CoreForm.{CoreForm, Rule}
 use Rattle.peg_core.proofs.CoreWithin.{core_record_in-uses_in_text}
 use Rattle.peg_machine.specs.PackratRun.{RanOnce}
-use Rattle.peg_machine.specs.Traced.{HasTraced, IsFullCapacity, IsVisited, Traces}
+use Rattle.peg_machine.specs.Traced.{IsFullCapacity, IsVisited, Traces}
 use Rattle.peg_machine.specs.declared.answer.Answer.{Answer}
 use Rattle.peg_machine.specs.declared.fault.RunFault.{RunFault}
 use Rattle.peg_machine.proofs.CallRules.{core_record_in-of_rules}
 
--- the call is of one of so many rules, at a position of a text of this length
+-- the call is of one of this number of rules, at a position of a text of this length
 abbrev IsCallIn : (rules long : ℕ) → RuleCall → Type 0
 IsCallIn rules long call = (call.rule < rules) × (call.position ≤ long)
 

@@ -16,6 +16,7 @@ pub mod PartialRuns
 pub mod RunInvariant
 pub mod Running
 pub mod Runs
+pub mod SelectedTests
 pub mod ShortcutSteps
 pub mod Starts
 pub mod StepExamples

@@ -3,6 +3,8 @@
 #![tactic(auto)]
 
 #[cfg(test)]
+mod among;
+#[cfg(test)]
 mod counts;
 #[cfg(test)]
 mod deep;

@@ -21,4 +21,5 @@ mod ShownOutcomes
 mod StableRounds
 mod States
 pub mod TerminalLemmas
+pub mod TestsAmongLemmas
 pub mod TreeRules

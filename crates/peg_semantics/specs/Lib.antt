@@ -19,4 +19,5 @@ pub mod RuleOutcomes
 pub mod Rules
 pub mod Starts
 pub mod Terminals
+pub mod TestsAmong
 pub mod WellFormed

@@ -1,9 +1,9 @@
-use Rattle.peg_machine.proofs.Expectations.{stands_there, not_the_end, takes_away, fails_twice}
+use Rattle.peg_machine.proofs.Expectations.{has_instruction, not_the_end, takes_away, fails_twice}
 use Rattle.peg_machine.proofs.run_laws.a_run_is_never_stuck.Goals as goal
 
 pub returns : goal.returns
 returns c = record {
-  there = stands_there;
+  there = has_instruction;
   no_end = not_the_end;
   commits = takes_away;
   fails_twice = fails_twice;
