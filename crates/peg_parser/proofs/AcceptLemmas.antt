@@ -45,8 +45,8 @@ use Rattle.peg_parser.proofs.RuleNames.{name-numbered, names-of-path}
 -- an error equal to a refusal has the refusal's cause
 pub stated-error : {X : Type 0} (Kind : Cause → Type 0) (size : ℕ) (result : Result X Refusal) (why : Refusal)
     → IsErrAnd result (λ other. other ≡ why) → HasCause Kind size why → IfErr result (HasCause Kind size)
-stated-error Kind size (Ok x) why is tells = tt
-stated-error Kind size (Err other) why is tells = subst (HasCause Kind size) (sym is) tells
+stated-error Kind size (Ok x) why is has_cause = tt
+stated-error Kind size (Err other) why is has_cause = subst (HasCause Kind size) (sym is) has_cause
 
 -- ---- reading
 
@@ -132,7 +132,7 @@ stated-code file rules code.Memory read taken formed over = out_of_memory refl
 pub stated-early : (file : List ℕ) (size : ℕ) (why : Refusal) → HasCause (IsNoGrammar file) size why
     → HasCause (IsRefusalOf file) size why
 stated-early file size why (out_of_memory is) = out_of_memory is
-stated-early file size why (of_cause cause tells holds starts named) = of_cause cause tells (inl holds) starts named
+stated-early file size why (of_cause cause cause_is holds starts named) = of_cause cause cause_is (inl holds) starts named
 
 shows : (file : List ℕ) (cause : Cause) → IsRefusalOf file cause → RefusalImplies file cause
 shows file cause (inl (file_too_long over)) = tt
@@ -153,16 +153,16 @@ shows file cause (inr (inr (code_too_large read taken formed over))) = tt
 pub stated-means : (file : List ℕ) (size : ℕ) (why : Refusal) → HasCause (IsRefusalOf file) size why → RefusalMeaning file why
 stated-means file size why (out_of_memory is) =
     subst (λ (w : Refusal). IfSome (cause_of w) (RefusalImplies file)) (sym is) tt
-stated-means file size why (of_cause cause tells holds starts named) =
-    subst (λ (stated : Option Cause). IfSome stated (RefusalImplies file)) (sym tells) (shows file cause holds)
+stated-means file size why (of_cause cause cause_is holds starts named) =
+    subst (λ (stated : Option Cause). IfSome stated (RefusalImplies file)) (sym cause_is) (shows file cause holds)
 
 -- an error equal to a refusal of the file has the refusal's meaning
 pub stated-meaning : {X : Type 0} (file : List ℕ) (result : Result X Refusal) (why : Refusal)
     → IsErrAnd result (λ other. other ≡ why) → HasCause (IsRefusalOf file) (length file) why
     → IfErr result (RefusalMeaning file)
-stated-meaning file (Ok x) why is tells = tt
-stated-meaning file (Err other) why is tells =
-    subst (RefusalMeaning file) (sym is) (stated-means file (length file) why tells)
+stated-meaning file (Ok x) why is has_cause = tt
+stated-meaning file (Err other) why is has_cause =
+    subst (RefusalMeaning file) (sym is) (stated-means file (length file) why has_cause)
 
 -- ---- accepted files
 

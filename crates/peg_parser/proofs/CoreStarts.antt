@@ -19,10 +19,10 @@ use Rattle.peg_core.proofs.SugarRecords.{IsRecord-from_core}
 use Rattle.peg_semantics.specs.Form.{Form, Name, terminals}
 use Rattle.peg_semantics.specs.Grammar.{IsGrammar}
 use Rattle.peg_semantics.specs.Rules.{Meaning, Rule, meaning_from, name_of, names}
-use Rattle.peg_grammar.specs.Outcomes.{IsParseOutcome}
-use Rattle.peg_machine.specs.CoreOutcome.{IsCoreOutcome}
+use Rattle.peg_machine.specs.SelectedTests.{IsCoreOutcomeBy}
 use Rattle.peg_tree.specs.declared.outcome.Outcome.{Outcome}
 use Rattle.peg_parser.specs.Parser.{parser_rules}
+use Rattle.peg_parser.specs.SelectedOutcomes.{IsParseOutcomeBy}
 use Rattle.peg_parser.specs.declared.parser.Parser.{Parser}
 use Rattle.peg_parser.proofs.RuleNames.{name-numbered}
 
@@ -85,10 +85,11 @@ number-named parser start less =
 -- ---- outcomes
 
 -- the outcome of a rule's call on core forms is that of the rule's name
-written-outcome : (rules : List Rule) (text : List ℕ) (start : ℕ) (outcome : Outcome) → AreBytes text
-    → number_of rules (name_of rules start) ≡ start → IsCoreOutcome (core_bodies rules) text start outcome
-    → IsParseOutcome rules text (name_of rules start) outcome
-written-outcome rules text start outcome bytes same is =
+written-outcome : (among : Option (List ℕ)) (rules : List Rule) (text : List ℕ) (start : ℕ) (outcome : Outcome)
+    → AreBytes text → number_of rules (name_of rules start) ≡ start
+    → IsCoreOutcomeBy among (core_bodies rules) text start outcome
+    → IsParseOutcomeBy among rules text (name_of rules start) outcome
+written-outcome among rules text start outcome bytes same is =
     let held = is.1 in
     let name : Form = Name (name_of rules start) (between 0 0) in
     let there : IsCoreRecord (core_bodies rules) text (core_form rules 0 name) 0 held.0 =
@@ -97,10 +98,11 @@ written-outcome rules text start outcome bytes same is =
     (found.0, (held.0, found.1, held.2, held.3))
 
 -- the result of a parser's program on a text is the outcome of the grammar as written
-pub parser-outcome : (parser : Parser) (text : List ℕ) (start : ℕ) (outcome : Outcome) → AreBytes text
-    → start < length (parser_rules parser) → IsCoreOutcome (bodies_of parser.program.core) text start outcome
-    → IsParseOutcome (parser_rules parser) text (name_of (parser_rules parser) start) outcome
-parser-outcome parser text start outcome bytes less is =
+pub parser-outcome : (among : Option (List ℕ)) (parser : Parser) (text : List ℕ) (start : ℕ) (outcome : Outcome)
+    → AreBytes text → start < length (parser_rules parser)
+    → IsCoreOutcomeBy among (bodies_of parser.program.core) text start outcome
+    → IsParseOutcomeBy among (parser_rules parser) text (name_of (parser_rules parser) start) outcome
+parser-outcome among parser text start outcome bytes less is =
     let rules = parser_rules parser in
-    written-outcome rules text start outcome bytes (number-named parser start less)
-    (subst (λ (bodies : List CoreForm). IsCoreOutcome bodies text start outcome) (same-bodies parser) is)
+    written-outcome among rules text start outcome bytes (number-named parser start less)
+    (subst (λ (bodies : List CoreForm). IsCoreOutcomeBy among bodies text start outcome) (same-bodies parser) is)

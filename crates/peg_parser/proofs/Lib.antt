@@ -2,12 +2,14 @@ mod AcceptLemmas
 mod CheckLemmas
 mod CoreStarts
 mod CutLemmas
+mod DefinitionLemmas
 mod FigureCode
 mod FigureGrammar
 mod FigureReading
+mod GrammarRefusalLemmas
 mod NameLemmas
 pub mod OutcomeFits
-mod RuleNames
+pub mod RuleNames
 mod StartLemmas
 mod StepLemmas
 mod TraceLemmas

@@ -10,12 +10,12 @@ use Rattle.peg_semantics.specs.Rules.{Rule, references, defined_at, is_defined}
 use Rattle.peg_notation.specs.Spans.{LiesIn, FormLiesIn, FormsLieIn, RuleLiesIn}
 
 -- a name within a file of this length
-abbrev StandsIn : (size : ℕ) → Reference → Type 0
-StandsIn size name = LiesIn size name.span
+abbrev NameLiesIn : (size : ℕ) → Reference → Type 0
+NameLiesIn size name = LiesIn size name.span
 
 -- a duplicate name is the name of one of the rules
 duplicate-inside : (size : ℕ) (earlier : List (List ℕ)) (rules : List Rule) (name : Reference)
-    → All (RuleLiesIn size) rules → duplicate_after earlier rules ≡ Some name → StandsIn size name
+    → All (RuleLiesIn size) rules → duplicate_after earlier rules ≡ Some name → NameLiesIn size name
 duplicate-inside size earlier [] name inside is = cc
 duplicate-inside size earlier (rule ∷ rules) name inside is =
     by (list_any (bytes_eq rule.name) earlier) is (duplicate-inside size (earlier ++ rule.name ∷ []) rules name
@@ -23,22 +23,22 @@ duplicate-inside size earlier (rule ∷ rules) name inside is =
   where
     by : (known : Bool) → (if known then Some (defined_at rule) else duplicate_after (earlier ++ rule.name ∷ [])
         rules) ≡ Some name
-        → (duplicate_after (earlier ++ rule.name ∷ []) rules ≡ Some name → StandsIn size name) → StandsIn size name
+        → (duplicate_after (earlier ++ rule.name ∷ []) rules ≡ Some name → NameLiesIn size name) → NameLiesIn size name
     by true here later =
         let same : defined_at rule ≡ name = cc in
-        subst (StandsIn size) same (All-head (RuleLiesIn size) rule rules inside).0
+        subst (NameLiesIn size) same (All-head (RuleLiesIn size) rule rules inside).0
     by false there later = later there
 
 -- the names that an expression calls are within the expression
 mutual
-  names-inside : (size : ℕ) (e : Form) → FormLiesIn size e → All (StandsIn size) (names_used e)
-  names-inside size (Literal bytes span) inside = All-nil (StandsIn size)
-  names-inside size (Class set span) inside = All-nil (StandsIn size)
-  names-inside size (Any span) inside = All-nil (StandsIn size)
-  names-inside size (Name name span) inside = All-cons (StandsIn size) _ [] inside (All-nil (StandsIn size))
+  names-inside : (size : ℕ) (e : Form) → FormLiesIn size e → All (NameLiesIn size) (names_used e)
+  names-inside size (Literal bytes span) inside = All-nil (NameLiesIn size)
+  names-inside size (Class set span) inside = All-nil (NameLiesIn size)
+  names-inside size (Any span) inside = All-nil (NameLiesIn size)
+  names-inside size (Name name span) inside = All-cons (NameLiesIn size) _ [] inside (All-nil (NameLiesIn size))
   names-inside size (Seq items span) inside = all_names-inside size items inside.1
   names-inside size (Choice first rest span) inside =
-      All-append (StandsIn size) (names_used first) (names_used_by_all rest) (names-inside size first inside.1)
+      All-append (NameLiesIn size) (names_used first) (names_used_by_all rest) (names-inside size first inside.1)
       (all_names-inside size rest inside.2)
   names-inside size (Optional part span) inside = names-inside size part inside.1
   names-inside size (Star part span) inside = names-inside size part inside.1
@@ -47,31 +47,31 @@ mutual
   names-inside size (And part span) inside = names-inside size part inside.1
   names-inside size (Not part span) inside = names-inside size part inside.1
 
-  all_names-inside : (size : ℕ) (items : Forms) → FormsLieIn size items → All (StandsIn size) (names_used_by_all items)
-  all_names-inside size End inside = All-nil (StandsIn size)
+  all_names-inside : (size : ℕ) (items : Forms) → FormsLieIn size items → All (NameLiesIn size) (names_used_by_all items)
+  all_names-inside size End inside = All-nil (NameLiesIn size)
   all_names-inside size (Then e rest) inside =
-      All-append (StandsIn size) (names_used e) (names_used_by_all rest) (names-inside size e inside.0)
+      All-append (NameLiesIn size) (names_used e) (names_used_by_all rest) (names-inside size e inside.0)
       (all_names-inside size rest inside.1)
 
-references-inside : (size : ℕ) (rules : List Rule) → All (RuleLiesIn size) rules → All (StandsIn size) (references rules)
-references-inside size [] inside = All-nil (StandsIn size)
+references-inside : (size : ℕ) (rules : List Rule) → All (RuleLiesIn size) rules → All (NameLiesIn size) (references rules)
+references-inside size [] inside = All-nil (NameLiesIn size)
 references-inside size (rule ∷ rules) inside =
-    All-append (StandsIn size) (names_used rule.body) (references rules)
+    All-append (NameLiesIn size) (names_used rule.body) (references rules)
     (names-inside size rule.body (All-head (RuleLiesIn size) rule rules inside).1)
     (references-inside size rules (All-tail (RuleLiesIn size) rule rules inside))
 
 -- a name that a search finds is in the list
 found-inside : (size : ℕ) (test : Reference → Bool) (names : List Reference) (name : Reference)
-    → All (StandsIn size) names → find test names ≡ Some name → StandsIn size name
+    → All (NameLiesIn size) names → find test names ≡ Some name → NameLiesIn size name
 found-inside size test [] name inside is = cc
 found-inside size test (first ∷ rest) name inside is =
-    by (test first) is (found-inside size test rest name (All-tail (StandsIn size) first rest inside))
+    by (test first) is (found-inside size test rest name (All-tail (NameLiesIn size) first rest inside))
   where
     by : (passes : Bool) → (if passes then Some first else find test rest) ≡ Some name
-        → (find test rest ≡ Some name → StandsIn size name) → StandsIn size name
+        → (find test rest ≡ Some name → NameLiesIn size name) → NameLiesIn size name
     by true here later =
         let same : first ≡ name = cc in
-        subst (StandsIn size) same (All-head (StandsIn size) first rest inside)
+        subst (NameLiesIn size) same (All-head (NameLiesIn size) first rest inside)
     by false there later = later there
 
 -- a duplicate name and an undefined name are within the file

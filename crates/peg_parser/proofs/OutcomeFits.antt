@@ -1,17 +1,19 @@
 -- The tree of an outcome has rules of the grammar, and its terminals are the grammar's.
 use Rattle.std.proofs.Common.{◌≡◌, ℕ, List, length, refl, sym, Some}
-use Rattle.peg_grammar.specs.Outcomes.{IsParseOutcome, parsed_of}
+use Rattle.peg_grammar.specs.Outcomes.{IsParseOutcome, IsParseOutcomeAmong, parsed_of}
 use Rattle.peg_semantics.specs.Record.{Recognition, Record, start_record}
 use Rattle.peg_semantics.specs.Record as recognition
 use Rattle.peg_semantics.specs.Rules.{Rule}
 use Rattle.peg_semantics.specs.Terminals.{extents_of_terminals}
+use Rattle.peg_semantics.specs.TestsAmong.{tests_among}
 use Rattle.peg_semantics.proofs.TerminalLemmas.{expected-below, start_record-below}
+use Rattle.peg_semantics.proofs.TestsAmongLemmas.{among-within}
 use Rattle.peg_semantics.proofs.TreeRules.{start_record-rules}
 use Rattle.peg_tree.specs.Trees.{Trees}
 use Rattle.peg_tree.specs.declared.outcome.Outcome.{Outcome}
 use Rattle.peg_tree.specs.declared.outcome.Parsed.{Parsed}
 use Rattle.peg_tree.specs.declared.outcome.Parsed.TheVariants as parsed
-use Rattle.peg_parser.specs.Fits.{Fits, ResultFits}
+use Rattle.peg_parser.specs.Fits.{Fits, FitsAmong, ResultFits}
 
 -- the result of an outcome in terms of the record's
 pub parsed-failed : (result : Recognition) → parsed.Failed ≡ parsed_of result → result ≡ recognition.Failed
@@ -42,4 +44,15 @@ outcome-fits rules text start outcome is =
       tree = result-fits rules text is.0 start held.0 held.1 outcome.result held.2;
       terminals = expected-below (length (extents_of_terminals rules)) held.0.tests outcome.far outcome.expected.items
           held.3 (start_record-below rules text is.0 start held.0 held.1);
+    }
+
+-- the same with indices into a list of terminals
+pub outcome-fits_among : (rules : List Rule) (terminals text start : List ℕ) (outcome : Outcome)
+    → IsParseOutcomeAmong rules text start terminals outcome → FitsAmong rules terminals outcome
+outcome-fits_among rules terminals text start outcome is =
+    let held = is.1 in
+    record {
+      tree = result-fits rules text is.0 start held.0 held.1 outcome.result held.2;
+      indices = expected-below (length terminals) (tests_among terminals held.0.tests) outcome.far outcome.expected.items
+          held.3 (among-within terminals held.0.tests);
     }

@@ -1,5 +1,5 @@
 -- The calls that a run shows are those of Ford's record of the grammar as written, and its outcome fits the grammar.
-use Rattle.std.proofs.Common.{◌≡◌, ◌↔◌, ℕ, ◌<◌, List, Contains, IfOk, Result, Ok, Err, Some, length, sym, ap, ◌∙◌, subst}
+use Rattle.std.proofs.Common.{◌≡◌, ◌↔◌, ℕ, ◌<◌, List, Contains, IfOk, Result, Ok, Err, Option, None, Some, length, ap, ◌∙◌, subst}
 use Rattle.peg_bytes.specs.Extent.{between}
 use Rattle.peg_core.specs.CoreForm.{CoreForm, core_bodies, core_form}
 use Rattle.peg_core.specs.CoreForm.{Rule as use_of}
@@ -7,21 +7,20 @@ use Rattle.peg_core.specs.CoreRecord.{AreBytes, IsCoreRecord, core_record_in}
 use Rattle.peg_core.specs.Layout.{bodies_of}
 use Rattle.peg_core.proofs.CoreRounds.{one_core_record}
 use Rattle.peg_core.proofs.SugarRecords.{IsRecord-from_core}
-use Rattle.peg_semantics.specs.Form.{Form, Name}
+use Rattle.peg_semantics.specs.Form.{Name}
 use Rattle.peg_semantics.specs.Record.{Record, RuleCall}
 use Rattle.peg_semantics.specs.Rules.{Rule, name_of}
-use Rattle.peg_machine.specs.CoreOutcome.{IsCoreOutcome}
+use Rattle.peg_machine.specs.SelectedTests.{IsCoreOutcomeBy}
 use Rattle.peg_machine.specs.Traced.{IsVisited}
 use Rattle.peg_tree.specs.declared.outcome.Outcome.{Outcome}
-use Rattle.peg_grammar.specs.Outcomes.{IsParseOutcome}
 use Rattle.peg_machine.specs.declared.answer.Answer.{Answer}
 use Rattle.peg_parser.specs.Calls.{AreCallsOf}
-use Rattle.peg_parser.specs.Fits.{Fits}
+use Rattle.peg_parser.specs.SelectedOutcomes.{FitsBy, IsParseOutcomeBy}
 use Rattle.peg_parser.specs.declared.parser.ParseFault.{ParseFault}
 use Rattle.peg_parser.specs.Parser.{parser_rules}
 use Rattle.peg_parser.specs.declared.parser.Parser.{Parser}
 use Rattle.peg_parser.proofs.CoreStarts.{number-named, same-bodies}
-use Rattle.peg_parser.proofs.OutcomeFits.{outcome-fits}
+use Rattle.peg_parser.proofs.OutcomeFits.{outcome-fits, outcome-fits_among}
 
 -- the calls are those of the rule's record on core forms
 abbrev AreVisitedCalls : List CoreForm → List ℕ → (start : ℕ) → List RuleCall → Type 0
@@ -44,13 +43,14 @@ written-calls rules text start r calls bytes named here visited =
     from call has = (visited call).1 (here.0, r, here.1, has)
 
 -- the calls of a run of a parser's program
-pub parser-calls : (parser : Parser) (text : List ℕ) (start : ℕ) (outcome : Outcome) (calls : List RuleCall) → AreBytes text
-    → start < length (parser_rules parser) → IsCoreOutcome (bodies_of parser.program.core) text start outcome
+pub parser-calls : (among : Option (List ℕ)) (parser : Parser) (text : List ℕ) (start : ℕ) (outcome : Outcome)
+    (calls : List RuleCall) → AreBytes text → start < length (parser_rules parser)
+    → IsCoreOutcomeBy among (bodies_of parser.program.core) text start outcome
     → AreVisitedCalls (bodies_of parser.program.core) text start calls
     → AreCallsOf (parser_rules parser) text (name_of (parser_rules parser) start) calls
-parser-calls parser text start outcome calls bytes less is visited =
+parser-calls among parser text start outcome calls bytes less is visited =
     let rules = parser_rules parser in
-    let held = subst (λ (bodies : List CoreForm). IsCoreOutcome bodies text start outcome) (same-bodies parser) is in
+    let held = subst (λ (bodies : List CoreForm). IsCoreOutcomeBy among bodies text start outcome) (same-bodies parser) is in
     let r = held.1.0 in
     let named : IsCoreRecord (core_bodies rules) text (core_form rules 0 (Name (name_of rules start) (between 0 0))) 0 r =
     (held.0, ap (λ (rule : ℕ). core_record_in (core_bodies rules) text held.0 (use_of rule) 0) (number-named parser start less) ∙ held.1.1) in
@@ -58,9 +58,12 @@ parser-calls parser text start outcome calls bytes less is visited =
     (subst (λ (bodies : List CoreForm). AreVisitedCalls bodies text start calls) (same-bodies parser) visited)
 
 -- the outcome of an answer fits the grammar
-pub answer-fits : (parser : Parser) (text : List ℕ) (start : ℕ) (result : Result Answer ParseFault)
-    → IfOk result (λ answer. IsParseOutcome (parser_rules parser) text (name_of (parser_rules parser) start) answer.outcome)
-    → IfOk result (λ answer. Fits (parser_rules parser) answer.outcome)
-answer-fits parser text start (Ok answer) is =
+pub answer-fits : (among : Option (List ℕ)) (parser : Parser) (text : List ℕ) (start : ℕ)
+    (result : Result Answer ParseFault)
+    → IfOk result (λ answer. IsParseOutcomeBy among (parser_rules parser) text (name_of (parser_rules parser) start) answer.outcome)
+    → IfOk result (λ answer. FitsBy among (parser_rules parser) answer.outcome)
+answer-fits None parser text start (Ok answer) is =
     let rules = parser_rules parser in outcome-fits rules text (name_of rules start) answer.outcome is
-answer-fits parser text start (Err fault) is = tt
+answer-fits (Some terminals) parser text start (Ok answer) is =
+    let rules = parser_rules parser in outcome-fits_among rules terminals text (name_of rules start) answer.outcome is
+answer-fits among parser text start (Err fault) is = tt

@@ -7,7 +7,7 @@ use Rattle.peg_check.specs.declared.fault.CheckFault.{CheckFault}
 use Rattle.peg_check.specs.declared.fault.CheckFault.TheVariants as check
 use Rattle.peg_code.specs.declared.fault.CodeFault.{CodeFault}
 use Rattle.peg_code.specs.declared.fault.CodeFault.TheVariants as code
-use Rattle.peg_semantics.specs.Rules.{names}
+use Rattle.peg_semantics.specs.Rules.{Rule, defined_at, names}
 use Rattle.peg_grammar.specs.GrammarRules.{rules_in}
 use Rattle.peg_grammar.specs.declared.fault.GrammarFault.{GrammarFault}
 use Rattle.peg_grammar.specs.declared.fault.GrammarFault.TheVariants as grammar
@@ -16,6 +16,7 @@ use Rattle.peg_notation.specs.declared.fault.NotationFault.{NotationFault}
 use Rattle.peg_notation.specs.declared.fault.NotationFault.TheVariants as notation
 use Rattle.peg_tree.specs.Names.{name_at}
 use Rattle.peg_parser.specs.Cause.{Cause, FileTooLong, Syntax, TooNested, BadCount, NoRule, Duplicate, Undefined}
+use Rattle.peg_parser.specs.Accepts.{IsRead}
 use Rattle.peg_parser.specs.Cause.{TooManyParts, EmptyLoop, LeftRecursion, CodeTooLarge, reference}
 use Rattle.peg_parser.specs.Refusals.{RefusalImplies}
 use Rattle.peg_parser.specs.declared.refusal.Refusal.{Refusal}
@@ -106,6 +107,13 @@ pub data HasCause (Kind : Cause → Type 0) (size : ℕ) (why : Refusal) : Type 
 -- a refusal that a file of this length can have
 abbrev pub IsTrueRefusal : (size : ℕ) → Refusal → Type 0
 IsTrueRefusal size why = HasCause (λ cause. Unit {0}) size why
+
+-- The rules of a refusal, if it has a grammar, are defined where those of the file are: they have the same names and spans
+-- in the same order. Their counts may be cut.
+abbrev pub HasDefinitionsOf : List ℕ → Refusal → Type 0
+HasDefinitionsOf file (refusal.NotWellFormed why grammar) = (rules : List Rule) × IsRead file rules
+    × (map defined_at (rules_in grammar) ≡ map defined_at rules)
+HasDefinitionsOf file other = Unit {0}
 
 -- what a refusal implies about the file
 abbrev pub RefusalMeaning : List ℕ → Refusal → Type 0

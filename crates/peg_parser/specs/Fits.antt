@@ -16,3 +16,8 @@ ResultFits rules (parsed.Matched end tree) = RulesBelow rules tree
 pub record Fits (rules : List Rule) (outcome : Outcome) : Type 0 where
   pub tree : ResultFits (length rules) outcome.result
   pub terminals : All (λ terminal. terminal < length (extents_of_terminals rules)) outcome.expected.items
+
+-- the same with indices into a list of terminals
+pub record FitsAmong (rules : List Rule) (terminals : List ℕ) (outcome : Outcome) : Type 0 where
+  pub tree : ResultFits (length rules) outcome.result
+  pub indices : All (λ index. index < length terminals) outcome.expected.items

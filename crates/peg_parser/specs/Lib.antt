@@ -29,8 +29,10 @@ pub mod Calls
 pub mod Cause
 pub mod Faults
 pub mod Fits
+pub mod GrammarRefusals
 pub mod Parser
 pub mod ProgramOf
 pub mod ReadsByFigure
 pub mod Refusals
+pub mod SelectedOutcomes
 pub mod StepLimits

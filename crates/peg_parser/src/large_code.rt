@@ -4,7 +4,7 @@ ghost use Rattle.peg_code.specs.Compiled.{max_instructions};
 ghost use Rattle.peg_grammar.specs.GrammarRules.{rules_in};
 ghost use Rattle.peg_notation.specs.Spans.{RuleLiesIn};
 ghost use Rattle.peg_parser.specs.Accepts.{IsRead, IsAcceptedGrammar, code_size};
-ghost use Rattle.peg_parser.specs.Faults.{HasCause};
+ghost use Rattle.peg_parser.specs.Faults.{HasCause, HasDefinitionsOf};
 ghost use Rattle.peg_parser.specs.Refusals.{IsRefusalOf};
 
 use crate::refusal::Refusal;
@@ -17,9 +17,10 @@ use std::alloc::Global;
 // code. Counts are cut to one iteration before the check, which gives the same verdict on fewer core forms.
 pub(crate) fn refusal_of_large_code(alloc: Global, grammar: Grammar) -> Refusal
     requires { max_instructions < code_size (rules_in grammar) }
-    ensures { (file : List ℕ) → IsRead file (rules_in grammar) → IsAcceptedGrammar (rules_in grammar)
+    ensures refused { (file : List ℕ) → IsRead file (rules_in grammar) → IsAcceptedGrammar (rules_in grammar)
         → All (RuleLiesIn (length file)) (rules_in grammar)
         → HasCause (IsRefusalOf file) (length file) result }
+    ensures definitions { (file : List ℕ) → IsRead file (rules_in grammar) → HasDefinitionsOf file result }
 {
     let grammar = grammar.with_cut_counts();
     let core = match desugar(alloc, &grammar) {

@@ -6,8 +6,10 @@ mod large_code;
 pub mod laws;
 mod meta_reader;
 mod options;
+mod parse_among;
 mod parser;
 mod refusal;
+mod selecting;
 
 pub use grammar_file::grammar_of;
 pub use meta_reader::{FigureFault, read_by_figure};

@@ -2,6 +2,8 @@
 ghost use Rattle.std.specs.Prelude.{◌≡◌, ◌<◌, ◌≤◌, ◌↔◌, ℕ, List, All, None};
 ghost use Rattle.std.specs.Prelude.{length, slice_get, Some, IfOk, IfErr, IfSome, IsErrOf, OnOk};
 ghost use Rattle.std.specs.FinMap as map;
+ghost use Rattle.std.specs.List.Sorted.{IsStrictlyIncreasing};
+ghost use Rattle.std.specs.Option.{ForSome};
 ghost use Rattle.peg_bytes.specs.Extent.{extent};
 ghost use Rattle.peg_core.specs.CoreForm.{core_bodies};
 ghost use Rattle.peg_core.specs.Layout.{bodies_of};
@@ -13,16 +15,18 @@ ghost use Rattle.peg_grammar.specs.Outcomes.{IsParseOutcome};
 ghost use Rattle.peg_semantics.specs.Terminals.{extents_of_terminals};
 ghost use Rattle.peg_semantics.specs.WellFormed.{IsWellFormedGrammar};
 ghost use Rattle.peg_machine.specs.CoreOutcome.{ExceedsStepLimit, saturated, TakesSteps};
+ghost use Rattle.peg_machine.specs.SelectedTests.{listed};
 
 use crate::large_code::refusal_of_large_code;
 use crate::options::ParseOptions;
 use crate::refusal::Refusal;
+use crate::selecting::run_selecting;
 use peg_bytes::Span;
 use peg_check::check;
 use peg_code::{MAX_INSTRUCTIONS, Program, code_size, compile};
 use peg_core::desugar;
 use peg_grammar::{Grammar, MAX_TEXT_BYTES};
-use peg_machine::{Answer, NoWatch, RunFault, Watch, run};
+use peg_machine::{Answer, NoWatch, RunFault, Watch};
 use peg_memo::{Keep, NoMemo};
 use peg_memo_policy::{RerunCosts, SelectiveMemo};
 use peg_notation::read;
@@ -93,11 +97,13 @@ impl Parser {
     ghost use Rattle.peg_notation.specs.Spans.{RuleLiesIn};
     ghost use Rattle.peg_parser.specs.Accepts.{Accepts, IsRead, IsAcceptedGrammar, code_size};
     ghost use Rattle.peg_parser.specs.Calls.{TracesCallsOf};
-    ghost use Rattle.peg_parser.specs.Faults.{RefusalMeaning, HasCause};
+    ghost use Rattle.peg_parser.specs.Faults.{RefusalMeaning, HasCause, HasDefinitionsOf};
     ghost use Rattle.peg_parser.specs.Fits.{Fits};
+    ghost use Rattle.peg_parser.specs.GrammarRefusals.{IsRefusalOfGrammar};
     ghost use Rattle.peg_parser.specs.Parser.{parser_rules, start_named};
     ghost use Rattle.peg_parser.specs.ProgramOf.{IsProgramOf};
     ghost use Rattle.peg_parser.specs.Refusals.{IsRefusalOf};
+    ghost use Rattle.peg_parser.specs.SelectedOutcomes.{FitsBy, IsParseOutcomeBy};
     ghost use Rattle.peg_parser.specs.StepLimits.{TakesMoreSteps, TakesPlainSteps};
     ghost use Rattle.peg_semantics.specs.Starts.{start_name};
 
@@ -118,6 +124,7 @@ impl Parser {
         ensures accepted { IfOk result (λ parser. Accepts file.now (parser_rules parser)) }
         ensures refused { IfErr result (HasCause (IsRefusalOf file.now) (length file.now)) }
         ensures wrong { IfErr result (RefusalMeaning file.now) }
+        ensures definitions { IfErr result (HasDefinitionsOf file.now) }
     {
         let definitions = read(alloc, file)?;
         let grammar = Grammar::new(alloc, definitions)?;
@@ -134,18 +141,28 @@ impl Parser {
         }
     }
 
-    // The parser of a grammar that isn't from a file, if it is well-formed and its code isn't too large.
-    pub(crate) fn from_grammar(alloc: Global, grammar: Grammar) -> Result<Parser, Refusal>
+    /// Returns the parser of a grammar that isn't from a file, or why it has none. It has one if it is well-formed (Ford
+    /// 2004, section 3.6), its code is within the limit, and no allocation fails.
+    ///
+    /// Returns `NotWellFormed`, or `CodeTooLarge` for a well-formed grammar, or `Memory` if an allocation fails.
+    ///
+    /// # Example
+    ///
+    /// ```
+    /// let grammar = grammar_of(alloc, b"S <- 'a' S / 'b'")?;
+    /// let parser = Parser::from_grammar(alloc, grammar)?;
+    /// assert_eq!(parser.grammar().rule_name(0), "S");
+    /// ```
+    pub fn from_grammar(alloc: Global, grammar: Grammar) -> Result<Parser, Refusal>
         ensures rules { IfOk result (λ parser. parser_rules parser ≡ rules_in grammar) }
+        ensures well_formed { OnOk result (IsWellFormedGrammar (rules_in grammar)) }
+        ensures small { OnOk result (code_size (rules_in grammar) ≤ max_instructions) }
+        ensures refused { IfErr result (IsRefusalOfGrammar (rules_in grammar)) }
         ensures refused_where { IsWellFormedGrammar (rules_in grammar)
             → code_size (rules_in grammar) ≤ max_instructions → IfErr result (λ why. why ≡ Refusal.Memory) }
     {
-        let core = desugar(alloc, &grammar)?;
-        match check(alloc, core) {
-            Ok(checked) => {
-                let program = compile(alloc, checked)?;
-                Parser::from_program(alloc, grammar, program)
-            }
+        match check(alloc, desugar(alloc, &grammar)?) {
+            Ok(checked) => Parser::from_program(alloc, grammar, compile(alloc, checked)?),
             Err(fault) => Err(Refusal::from_check(fault, grammar)),
         }
     }
@@ -239,17 +256,59 @@ impl Parser {
             × TakesPlainSteps (parser_rules self.now) text.now (start_named options.now) count
             × (answer.steps ≡ saturated count)) }
     {
+        self.parse_selecting(alloc, text, options, None)
+    }
+
+    // Parses a text. The furthest failure is that of the terminals in `among`, or of all.
+    pub(crate) fn parse_selecting(
+        &self,
+        alloc: Global,
+        text: &[u8],
+        options: &ParseOptions<'_>,
+        among: Option<&[u32]>,
+    ) -> Result<Answer, ParseFault>
+        requires { ForSome among (λ terminals. IsStrictlyIncreasing terminals.now) }
+        ensures no_start { IsErrOf result ParseFault.NoSuchStart
+            ↔ (start_name (parser_rules self.now) (start_named options.now) ≡ None) }
+        ensures long { (start : List ℕ) → start_name (parser_rules self.now) (start_named options.now) ≡ Some start
+            → (IsErrOf result ParseFault.TextTooLong ↔ (max_text_bytes < length text.now)) }
+        ensures short { OnOk result (length text.now ≤ max_text_bytes) }
+        ensures outcome { IfOk result (λ answer. IfSome (start_name (parser_rules self.now) (start_named options.now))
+            (λ start. IsParseOutcomeBy (listed among.entry) (parser_rules self.now) text.now start
+            answer.outcome)) }
+        ensures fits { IfOk result (λ answer. FitsBy (listed among.entry) (parser_rules self.now)
+            answer.outcome) }
+        ensures allowed { IfOk result (λ answer. (limit : ℕ) → options.now.steps ≡ Some limit → answer.steps ≤ limit) }
+        ensures limited { IsErrOf result ParseFault.StepLimit
+            → TakesMoreSteps (parser_rules self.now) text.now (start_named options.now) options.now.steps }
+        ensures enough { options.now.memo ≡ 0 → OnOk result
+            (¬ TakesMoreSteps (parser_rules self.now) text.now (start_named options.now) options.now.steps) }
+        ensures steps { IfOk result (λ answer. (count : ℕ) × TakesPlainSteps (parser_rules self.now) text.now
+            (start_named options.now) count × (answer.steps ≤ count)) }
+        ensures exact { options.now.memo ≡ 0 → IfOk result (λ answer. (count : ℕ)
+            × TakesPlainSteps (parser_rules self.now) text.now (start_named options.now) count
+            × (answer.steps ≡ saturated count)) }
+    {
         let Some(start) = self.start(options) else {
             return Err(ParseFault::NoSuchStart);
         };
         if options.memo == 0 || text.len() > MAX_TEXT_BYTES {
-            return self.answer(alloc, text, start, &mut NoMemo, &mut NoWatch, options.steps);
+            return self.answer(
+                alloc,
+                text,
+                start,
+                among,
+                &mut NoMemo,
+                &mut NoWatch,
+                options.steps,
+            );
         }
         let plain_steps = plain_steps(text.len(), options.steps);
         match self.answer(
             alloc,
             text,
             start,
+            among,
             &mut NoMemo,
             &mut NoWatch,
             Some(plain_steps),
@@ -259,6 +318,7 @@ impl Parser {
                     alloc,
                     text,
                     start,
+                    among,
                     options.memo,
                     &mut NoWatch,
                     options.steps,
@@ -319,9 +379,11 @@ impl Parser {
             None => Err(ParseFault::NoSuchStart),
             Some(_) if text.len() > MAX_TEXT_BYTES => Err(ParseFault::TextTooLong),
             Some(start) if memo == 0 => {
-                self.answer(alloc, text, start, &mut NoMemo, watch, max_steps)
+                self.answer(alloc, text, start, None, &mut NoMemo, watch, max_steps)
             }
-            Some(start) => self.answer_with_memo(alloc, text, start, memo, watch, max_steps),
+            Some(start) => {
+                self.answer_with_memo(alloc, text, start, None, memo, watch, max_steps)
+            }
         }
     }
 
@@ -331,17 +393,19 @@ impl Parser {
         alloc: Global,
         text: &[u8],
         start: u32,
+        among: Option<&[u32]>,
         capacity: u32,
         watch: &mut W,
         max_steps: Option<u64>,
     ) -> Result<Answer, ParseFault>
         requires start { start < length (parser_rules self.now) }
+        requires ascending { ForSome among (λ terminals. IsStrictlyIncreasing terminals.now) }
         requires capacity { 1 ≤ capacity }
         ensures started { ¬ IsErrOf result ParseFault.NoSuchStart }
         ensures long { IsErrOf result ParseFault.TextTooLong → max_text_bytes < length text.now }
         ensures short { OnOk result (length text.now ≤ max_text_bytes) }
-        ensures outcome { IfOk result (λ answer. IsParseOutcome (parser_rules self.now) text.now
-            (name_of (parser_rules self.now) start) answer.outcome) }
+        ensures outcome { IfOk result (λ answer. IsParseOutcomeBy (listed among.entry)
+            (parser_rules self.now) text.now (name_of (parser_rules self.now) start) answer.outcome) }
         ensures traced { OnOk result (TracesCallsOf (parser_rules self.now) text.now (name_of (parser_rules self.now) start)
             W.records (W.traced watch.old) (W.traced watch.new)) }
         ensures allowed { IfOk result (λ answer. (limit : ℕ) → max_steps ≡ Some limit → answer.steps ≤ limit) }
@@ -351,7 +415,7 @@ impl Parser {
             × TakesSteps (core_bodies (parser_rules self.now)) text.now start count × (answer.steps ≤ count)) }
     {
         let mut memo = SelectiveMemo::new(alloc, capacity, &self.costs, text)?;
-        self.answer(alloc, text, start, &mut memo, watch, max_steps)
+        self.answer(alloc, text, start, among, &mut memo, watch, max_steps)
     }
 
     // Runs the machine on a text from a rule, with an empty memo and a tracer.
@@ -360,16 +424,18 @@ impl Parser {
         alloc: Global,
         text: &[u8],
         start: u32,
+        among: Option<&[u32]>,
         memo: &mut K,
         watch: &mut W,
         max_steps: Option<u64>,
     ) -> Result<Answer, ParseFault>
         requires start { start < length (parser_rules self.now) }
+        requires ascending { ForSome among (λ terminals. IsStrictlyIncreasing terminals.now) }
         requires empty { map.len (K.entries memo.old) ≡ 0 }
         ensures started { ¬ IsErrOf result ParseFault.NoSuchStart }
         ensures long { IsErrOf result ParseFault.TextTooLong ↔ (max_text_bytes < length text.now) }
-        ensures outcome { IfOk result (λ answer. IsParseOutcome (parser_rules self.now) text.now
-            (name_of (parser_rules self.now) start) answer.outcome) }
+        ensures outcome { IfOk result (λ answer. IsParseOutcomeBy (listed among.entry)
+            (parser_rules self.now) text.now (name_of (parser_rules self.now) start) answer.outcome) }
         ensures traced { OnOk result (TracesCallsOf (parser_rules self.now) text.now (name_of (parser_rules self.now) start)
             W.records (W.traced watch.old) (W.traced watch.new)) }
         ensures allowed { IfOk result (λ answer. (limit : ℕ) → max_steps ≡ Some limit → answer.steps ≤ limit) }
@@ -383,7 +449,16 @@ impl Parser {
             × TakesSteps (core_bodies (parser_rules self.now)) text.now start count
             × (answer.steps ≡ saturated count)) }
     {
-        match run(alloc, &self.program, text, start, memo, watch, max_steps) {
+        match run_selecting(
+            alloc,
+            &self.program,
+            text,
+            start,
+            among,
+            memo,
+            watch,
+            max_steps,
+        ) {
             Ok(answer) => Ok(answer),
             Err(RunFault::TextTooLong) => Err(ParseFault::TextTooLong),
             Err(RunFault::StepLimit) => Err(ParseFault::StepLimit),

@@ -1,19 +1,20 @@
 use Rattle.std.proofs.Common.{◌≡◌, ◌≤◌, ◌<◌, ◌∙◌, ℕ, List, Err, ap, arith, subst}
 use Rattle.std.proofs.lemmas.List.Elements.{All-from_get_or}
 use Rattle.peg_core.specs.CoreForm.{CoreForm}
+use Rattle.peg_machine.specs.SelectedTests.{listed}
 use Rattle.peg_machine.specs.CoreOutcome.{saturated, TakesSteps}
 use Rattle.peg_parser.proofs.CoreStarts.{length-bodies, parser-outcome, same-bodies}
 use Rattle.peg_parser.proofs.StepLemmas.{of-program, to-program}
 use Rattle.peg_parser.proofs.TraceLemmas.{parser-calls}
 use Rattle.peg_parser.proofs.parser.Parser.answer.Goals as goal
 
-pub run-requires-clause-rule : goal.run-requires-clause-rule
-run-requires-clause-rule g c = omega (arith, c.requires.start, length-bodies c.args.self.now)
+pub run_selecting-requires-clause-rule : goal.run_selecting-requires-clause-rule
+run_selecting-requires-clause-rule g c = omega (arith, c.requires.start, length-bodies c.args.self.now)
 
 -- the machine's answer is Ford's outcome
 pub returns-in-Ok-clause-outcome : goal.returns-in-Ok-clause-outcome
 returns-in-Ok-clause-outcome g c =
-    parser-outcome c.args.self.now c.args.text.now c.args.start c.in-Ok.answer.outcome
+    parser-outcome (listed c.args.among) c.args.self.now c.args.text.now c.args.start c.in-Ok.answer.outcome
     (All-from_get_or (λ byte. byte < 256) c.args.text.now 0 (λ i within. (c.type_inv.text i).fits)) c.requires.start
     c.in-Ok.ensures.outcome
 
@@ -23,7 +24,7 @@ returns-in-Ok-clause-traced g c =
     let traced = c.in-Ok.ensures.traced in (
       traced.0,
       traced.1,
-      parser-calls c.args.self.now c.args.text.now c.args.start c.in-Ok.answer.outcome traced.0
+      parser-calls (listed c.args.among) c.args.self.now c.args.text.now c.args.start c.in-Ok.answer.outcome traced.0
           (All-from_get_or (λ byte. byte < 256) c.args.text.now 0 (λ i within. (c.type_inv.text i).fits)) c.requires.start
           c.in-Ok.ensures.outcome traced.2.visited,
     )
@@ -35,7 +36,7 @@ returns-in-Ok-clause-enough g c never more =
 pub returns-in-Err-StepLimit-clause-limited : goal.returns-in-Err-StepLimit-clause-limited
 returns-in-Err-StepLimit-clause-limited g c is =
     of-program c.args.self.now c.args.text.now c.args.start c.args.max_steps
-    (c.run.ensures.limited (c.in-Err-StepLimit.is ∙ ap Err c.in-Err-StepLimit.field-0-is))
+    (c.run_selecting.ensures.limited (c.in-Err-StepLimit.is ∙ ap Err c.in-Err-StepLimit.field-0-is))
 
 pub returns-in-Ok-clause-steps : goal.returns-in-Ok-clause-steps
 returns-in-Ok-clause-steps g c =

@@ -1,4 +1,4 @@
-use Rattle.std.proofs.Common.{ℕ, ◌<◌, ◌≤◌, ◌∙◌, All, Err, List, ap, length, subst, sym}
+use Rattle.std.proofs.Common.{ℕ, ◌<◌, ◌≤◌, ◌∙◌, All, Err, List, ap, length, refl, subst, sym}
 use Rattle.peg_check.specs.Verdicts.{NamesRules}
 use Rattle.peg_code.specs.Code.{program_code}
 use Rattle.peg_code.specs.Compiled.{max_instructions}
@@ -9,9 +9,10 @@ use Rattle.peg_grammar.specs.Written.{rules_of}
 use Rattle.peg_notation.specs.Spans.{RuleLiesIn}
 use Rattle.peg_semantics.specs.Rules.{Rule}
 use Rattle.peg_parser.specs.Accepts.{IsRead, IsAcceptedGrammar}
-use Rattle.peg_parser.specs.Faults.{HasCause, of_code, of_grammar, of_notation}
+use Rattle.peg_parser.specs.Faults.{HasCause, HasDefinitionsOf, of_code, of_grammar, of_notation}
 use Rattle.peg_parser.specs.Refusals.{IsRefusalOf}
 use Rattle.peg_parser.proofs.AcceptLemmas.{accepted-whole, stated-check, stated-code, stated-early, stated-error, stated-grammar, stated-meaning, stated-means, stated-notation}
+use Rattle.peg_parser.proofs.DefinitionLemmas.{check-defined, code-defined, grammar-defined, memory-defined, notation-defined, same-defined}
 use Rattle.peg_parser.proofs.parser.Parser.from_file.Goals as goal
 use Rattle.peg_parser.proofs.parser.Parser.from_file.Goals.{After-from_check, After-refusal_of_large_code, In_err-definitions, In_err-grammar, In_ok-grammar, In_ok-core}
 
@@ -80,7 +81,7 @@ returns-in_err-grammar-clause-wrong c =
 -- a grammar with too much code
 large : (c : After-refusal_of_large_code) → Known c.args.file.now (rules_in c.in_ok-grammar.grammar)
     → HasCause (IsRefusalOf c.args.file.now) (length c.args.file.now) c.refusal_of_large_code.result
-large c of_file = c.refusal_of_large_code.ensures c.args.file.now of_file.read of_file.taken of_file.inside
+large c of_file = c.refusal_of_large_code.ensures.refused c.args.file.now of_file.read of_file.taken of_file.inside
 
 pub returns-then-code_size-gt-MAX_INSTRUCTIONS-clause-refused :
     goal.returns-then-code_size-gt-MAX_INSTRUCTIONS-clause-refused
@@ -146,3 +147,37 @@ returns-in_ok-program-in-Ok-clause-accepted c =
     accepted-whole c.args.file.now rules c.from_program.result of_file.read of_file.taken c.from_program.ensures.rules
     (c.in-Ok.ensures.grammar rules forms)
     (subst (λ bodies. length (program_code bodies) ≤ max_instructions) bodies c.in_ok-program-in-Ok.ensures.within)
+
+-- ---- the definitions of a refused grammar
+
+pub returns-in_err-definitions-clause-definitions : goal.returns-in_err-definitions-clause-definitions
+returns-in_err-definitions-clause-definitions c =
+    same-defined c.args.file.now c.from_residual.result (of_notation c.in_err-definitions.field-0.0)
+    c.from_residual.ensures.1 (notation-defined c.args.file.now c.in_err-definitions.field-0.0)
+
+pub returns-in_err-grammar-clause-definitions : goal.returns-in_err-grammar-clause-definitions
+returns-in_err-grammar-clause-definitions c =
+    same-defined c.args.file.now c.from_residual-in_err-grammar.result (of_grammar c.in_err-grammar.field-0.0)
+    c.from_residual-in_err-grammar.ensures.1 (grammar-defined c.args.file.now c.in_err-grammar.field-0.0)
+
+pub returns-then-code_size-gt-MAX_INSTRUCTIONS-clause-definitions :
+    goal.returns-then-code_size-gt-MAX_INSTRUCTIONS-clause-definitions
+returns-then-code_size-gt-MAX_INSTRUCTIONS-clause-definitions c =
+    let of_file = known (goal.at.returns-then-code_size-gt-MAX_INSTRUCTIONS-clause-definitions c).In_ok-grammar in
+    c.refusal_of_large_code.ensures.definitions c.args.file.now of_file.read
+
+pub returns-in-Err-clause-definitions : goal.returns-in-Err-clause-definitions
+returns-in-Err-clause-definitions c =
+    let file = c.args.file.now in
+    let of_file = known (goal.at.returns-in-Err-clause-definitions c).In_ok-grammar in
+    subst (HasDefinitionsOf file) (sym c.from_check.ensures)
+    (check-defined file (rules_in c.in_ok-grammar.grammar) c.in_ok-grammar.grammar c.in-Err.fault of_file.read refl)
+
+pub returns-in_err-program-in-Ok-clause-definitions : goal.returns-in_err-program-in-Ok-clause-definitions
+returns-in_err-program-in-Ok-clause-definitions c =
+    same-defined c.args.file.now c.from_residual-in_err-program-in-Ok.result (of_code c.in_err-program-in-Ok.field-0.0)
+    c.from_residual-in_err-program-in-Ok.ensures.1 (code-defined c.args.file.now c.in_err-program-in-Ok.field-0.0)
+
+pub returns-in_ok-program-in-Ok-clause-definitions : goal.returns-in_ok-program-in-Ok-clause-definitions
+returns-in_ok-program-in-Ok-clause-definitions c =
+    memory-defined c.args.file.now c.from_program.result c.from_program.ensures.memory

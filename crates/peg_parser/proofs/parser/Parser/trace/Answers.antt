@@ -1,4 +1,4 @@
-use Rattle.std.proofs.Common.{◌≡◌, ◌≤◌}
+use Rattle.std.proofs.Common.{◌≡◌, ◌≤◌, None}
 use Rattle.std.proofs.lemmas.Result.{on_ok_weaker}
 use Rattle.std.specs.FinMap.{len-empty}
 use Rattle.peg_machine.specs.CoreOutcome.{saturated}
@@ -16,7 +16,7 @@ answer-requires-clause-empty g c = len-empty key_cmp StoredResult
 
 pub returns-in-Some-2-clause-fits : goal.returns-in-Some-2-clause-fits
 returns-in-Some-2-clause-fits g c =
-    answer-fits c.args.self.now c.args.text.now c.in-Some.field-0 c.answer.result c.answer.ensures.outcome
+    answer-fits None c.args.self.now c.args.text.now c.in-Some.field-0 c.answer.result c.answer.ensures.outcome
 
 pub returns-in-Some-2-clause-limited : goal.returns-in-Some-2-clause-limited
 returns-in-Some-2-clause-limited g c is =
@@ -45,7 +45,7 @@ returns-in-Some-2-clause-exact g c none =
 
 pub returns-in-Some-3-clause-fits : goal.returns-in-Some-3-clause-fits
 returns-in-Some-3-clause-fits g c =
-    answer-fits c.args.self.now c.args.text.now c.in-Some.field-0 c.answer_with_memo.result c.answer_with_memo.ensures.outcome
+    answer-fits None c.args.self.now c.args.text.now c.in-Some.field-0 c.answer_with_memo.result c.answer_with_memo.ensures.outcome
 
 pub returns-in-Some-3-clause-limited : goal.returns-in-Some-3-clause-limited
 returns-in-Some-3-clause-limited g c is =

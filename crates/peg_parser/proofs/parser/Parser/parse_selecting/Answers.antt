@@ -1,19 +1,14 @@
-use Rattle.std.proofs.Common.{◌≡◌, ◌≤◌, List, ℕ, Result, Ok, Err, IfOk}
+use Rattle.std.proofs.Common.{◌≡◌, ◌≤◌}
 use Rattle.std.proofs.lemmas.Result.{on_ok_weaker}
 use Rattle.std.specs.FinMap.{len-empty}
-use Rattle.peg_semantics.specs.Rules.{name_of}
-use Rattle.peg_grammar.specs.Outcomes.{IsParseOutcome}
+use Rattle.peg_machine.specs.SelectedTests.{listed}
 use Rattle.peg_machine.specs.CoreOutcome.{saturated}
-use Rattle.peg_machine.specs.declared.answer.Answer.{Answer}
 use Rattle.peg_memo.specs.StoredResult.{StoredResult}
 use Rattle.peg_memo.specs.MemoKey.{key_cmp}
-use Rattle.peg_parser.specs.Fits.{Fits}
-use Rattle.peg_parser.specs.Parser.{parser_rules, start_named}
-use Rattle.peg_parser.specs.declared.parser.ParseFault.{ParseFault}
-use Rattle.peg_parser.specs.declared.parser.Parser.{Parser}
+use Rattle.peg_parser.specs.Parser.{start_named}
 use Rattle.peg_parser.proofs.TraceLemmas.{answer-fits}
 use Rattle.peg_parser.proofs.StepLemmas.{of-start, plain-steps, to-start}
-use Rattle.peg_parser.proofs.parser.Parser.parse.Goals as goal
+use Rattle.peg_parser.proofs.parser.Parser.parse_selecting.Goals as goal
 
 pub answer-requires-clause-empty : goal.answer-requires-clause-empty
 answer-requires-clause-empty c = len-empty key_cmp StoredResult
@@ -23,15 +18,15 @@ answer-requires-2-clause-empty c = len-empty key_cmp StoredResult
 
 pub returns-then-options-eq0-clause-fits : goal.returns-then-options-eq0-clause-fits
 returns-then-options-eq0-clause-fits c =
-    answer-fits c.args.self.now c.args.text.now c.in-Some.start c.answer.result c.answer.ensures.outcome
+    answer-fits (listed c.args.among) c.args.self.now c.args.text.now c.in-Some.start c.answer.result c.answer.ensures.outcome
 
 pub returns-in_default-answer-2-clause-fits : goal.returns-in_default-answer-2-clause-fits
 returns-in_default-answer-2-clause-fits c =
-    answer-fits c.args.self.now c.args.text.now c.in-Some.start c.answer-2.result c.answer-2.ensures.outcome
+    answer-fits (listed c.args.among) c.args.self.now c.args.text.now c.in-Some.start c.answer-2.result c.answer-2.ensures.outcome
 
 pub returns-in-Err-StepLimit-clause-fits : goal.returns-in-Err-StepLimit-clause-fits
 returns-in-Err-StepLimit-clause-fits c =
-    answer-fits c.args.self.now c.args.text.now c.in-Some.start c.answer_with_memo.result c.answer_with_memo.ensures.outcome
+    answer-fits (listed c.args.among) c.args.self.now c.args.text.now c.in-Some.start c.answer_with_memo.result c.answer_with_memo.ensures.outcome
 
 pub returns-then-options-eq0-clause-limited : goal.returns-then-options-eq0-clause-limited
 returns-then-options-eq0-clause-limited c is =
