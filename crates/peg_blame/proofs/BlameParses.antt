@@ -1,0 +1,65 @@
+-- What the parser of the diagnostic grammar answers, in terms of the grammar as written.
+use Rattle.std.proofs.Common.{◌≡◌, ◌<◌, ℕ, true, false, List, [], ◌∷◌, All, length, Option, None, Some, IfSome, is_some}
+use Rattle.std.proofs.Common.{refl, sym, subst, ap, ◌∙◌, arith}
+use Rattle.std.proofs.Math.Logic.{∥∥₁_elim}
+use Rattle.peg_diagnostics.specs.Diagnostic.{diagnostic_rules}
+use Rattle.peg_diagnostics.specs.Items.{extents_of_items}
+use Rattle.peg_diagnostics.specs.ItemTests.{item_terminals}
+use Rattle.peg_diagnostics.proofs.ItemNumbers.{extents-terminals}
+use Rattle.peg_diagnostics.proofs.Lookups.{Distinct}
+use Rattle.peg_grammar.specs.Outcomes.{IsParseOutcomeAmong}
+use Rattle.peg_semantics.specs.Grammar.{IsGrammar}
+use Rattle.peg_semantics.specs.Rules.{Rule, names}
+use Rattle.peg_semantics.specs.Starts.{start_name}
+use Rattle.peg_semantics.specs.WellFormed.{IsWellFormedGrammar}
+use Rattle.peg_tree.specs.declared.outcome.Outcome.{Outcome}
+use Rattle.peg_blame.specs.BlameOutcome.{IsBlameOutcome}
+use Rattle.peg_blame.proofs.BlameOutcomes.{blame-outcome}
+use Rattle.peg_blame.proofs.BlameStarts.{same-start, start-numbered}
+
+-- a grammar has a rule
+pub nonempty : (rules : List Rule) → ∥ IsGrammar rules ∥₁ → 0 < length rules
+nonempty [] is = absurd (∥∥₁_elim is (hlevel) (λ grammar. grammar.some refl))
+nonempty (rule ∷ rules) is = omega arith
+
+-- a start is none or some name
+pub none-from : (start : Option (List ℕ)) → is_some start ≡ false → start ≡ None
+none-from None is = refl
+none-from (Some name) is = cc
+
+pub some-from : (start : Option (List ℕ)) → is_some start ≡ true → (name : List ℕ) × (start ≡ Some name)
+some-from None is = cc
+some-from (Some name) is = (name, refl)
+
+module _ (rules shown : List Rule) (named : Option (List ℕ)) (same : shown ≡ diagnostic_rules rules)
+    (some : 0 < length rules) where
+  -- a start of the grammar as written is a start of the parser
+  pub shown-start : (start : List ℕ) → start_name rules named ≡ Some start → start_name shown named ≡ Some start
+  shown-start start is =
+      subst (λ (all : List Rule). start_name all named ≡ Some start) (sym same)
+      (same-start rules named start some is)
+
+  -- the outcome from a start
+  pub start-outcome : (text terminals : List ℕ) (outcome : Outcome) → terminals ≡ item_terminals rules
+      → Distinct (names (diagnostic_rules rules)) → ∥ IsWellFormedGrammar rules ∥₁
+      → IfSome (start_name shown named) (λ start. IsParseOutcomeAmong shown text start terminals outcome)
+      → IfSome (start_name rules named) (λ start. IsBlameOutcome rules text start outcome)
+  start-outcome text terminals outcome listed distinct formed is = by (start_name rules named) refl
+    where
+      by : (start : Option (List ℕ)) → start_name rules named ≡ start
+          → IfSome start (λ start. IsBlameOutcome rules text start outcome)
+      by None found = tt
+      by (Some start) found =
+          let at = start-numbered rules named start some found in
+          let here : IsParseOutcomeAmong shown text start terminals outcome =
+          subst (λ (o : Option (List ℕ)). IfSome o (λ start. IsParseOutcomeAmong shown text start terminals outcome))
+          (shown-start start found) is in
+          blame-outcome rules distinct text start outcome at.0 at.1 at.2 formed
+          (subst (λ (l : List ℕ). IsParseOutcomeAmong (diagnostic_rules rules) text start l outcome) listed
+          (subst (λ (all : List Rule). IsParseOutcomeAmong all text start terminals outcome) same here))
+
+-- indices of terminals are numbers of items
+pub items-fit : (rules : List Rule) (terminals expected : List ℕ) → terminals ≡ item_terminals rules
+    → All (λ index. index < length terminals) expected → All (λ item. item < length (extents_of_items rules)) expected
+items-fit rules terminals expected listed all =
+    subst (λ (n : ℕ). All (λ item. item < n) expected) (ap length listed ∙ sym (extents-terminals rules)) all

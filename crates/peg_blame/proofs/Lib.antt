@@ -1,0 +1,4 @@
+mod BlameFaults
+mod BlameOutcomes
+mod BlameParses
+mod BlameStarts

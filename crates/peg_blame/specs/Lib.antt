@@ -1,0 +1,10 @@
+pub use Rattle.peg_diagnostics.specs.Blame
+pub use Rattle.peg_diagnostics.specs.Diagnostic
+pub use Rattle.peg_diagnostics.specs.Items
+pub use Rattle.peg_semantics.specs.Furthest
+pub use Rattle.peg_semantics.specs.Record
+pub use Rattle.peg_semantics.specs.Rules
+pub use Rattle.peg_semantics.specs.Starts
+pub mod BlameOutcome
+pub mod BlameParser
+pub mod Faults

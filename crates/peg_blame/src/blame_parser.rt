@@ -1,0 +1,155 @@
+//! Parsers that blame items: the furthest failure of a text outside predicates.
+ghost use Rattle.std.specs.Prelude.{◌≡◌, ◌<◌, ◌≤◌, ◌↔◌, ℕ, List, All, IfErr, IfOk, IfSome, IsErrOf, None, OnOk, Some};
+ghost use Rattle.std.specs.Prelude.{is_some, length, map};
+ghost use Rattle.std.specs.List.Sorted.{IsStrictlyIncreasing};
+ghost use Rattle.peg_blame.specs.BlameOutcome.{IsBlameOutcome};
+ghost use Rattle.peg_blame.specs.Faults.{IsBlameRefusal, IsParserRefusal};
+ghost use Rattle.peg_bytes.specs.Extent.{extent};
+ghost use Rattle.peg_diagnostics.specs.Diagnostic.{diagnostic_rules};
+ghost use Rattle.peg_diagnostics.specs.Items.{extents_of_items};
+ghost use Rattle.peg_grammar.specs.GrammarRules.{rules_in};
+ghost use Rattle.peg_grammar.specs.Limits.{max_text_bytes};
+ghost use Rattle.peg_machine.specs.CoreOutcome.{saturated};
+ghost use Rattle.peg_parser.specs.Parser.{parser_rules, start_named};
+ghost use Rattle.peg_parser.specs.StepLimits.{TakesMoreSteps, TakesPlainSteps};
+ghost use Rattle.peg_semantics.specs.Rules.{Rule};
+ghost use Rattle.peg_semantics.specs.Starts.{start_name};
+ghost use Rattle.peg_semantics.specs.WellFormed.{IsWellFormedGrammar};
+
+use crate::fault::BlameFault;
+use peg_bytes::Span;
+use peg_diagnostics::{diagnostic_grammar, item_spans, item_terminals};
+use peg_grammar::Grammar;
+use peg_parser::{Answer, ParseFault, ParseOptions, Parser, Refusal};
+use std::alloc::Global;
+
+/// The parser of a grammar's diagnostic grammar. It parses as the grammar does, and finds the furthest failure of an
+/// item: a terminal or a predicate, outside predicates.
+#[derive(Drop)]
+pub struct BlameParser {
+    parser: Parser,
+    rules: u32,
+    terminals: Vec<u32>,
+    items: Vec<Span>,
+    ghost ascending: { IsStrictlyIncreasing terminals.items },
+}
+
+impl BlameParser {
+    ghost use Rattle.peg_blame.specs.BlameParser.{IsBlameParserOf};
+
+    /// Returns the parser of blame for a grammar, or why it has none. It has one if four things hold. The grammar is
+    /// well-formed (Ford 2004, section 3.6). No name of a rule contains `!`. The diagnostic grammar and its code are
+    /// within the limits. No allocation fails.
+    ///
+    /// # Example
+    ///
+    /// ```
+    /// let blames = BlameParser::new(alloc, parser.grammar())?;
+    /// println!("{} items", blames.items().len());
+    /// ```
+    pub fn new(alloc: Global, grammar: &Grammar) -> Result<BlameParser, BlameFault>
+        ensures made { IfOk result (IsBlameParserOf (rules_in grammar.now)) }
+        ensures refused { IfErr result (IsBlameRefusal (rules_in grammar.now)) }
+    {
+        let diagnostic = diagnostic_grammar(alloc, grammar)?;
+        let parser = diagnostic_parser(alloc, diagnostic)?;
+        let terminals = item_terminals(alloc, grammar)?;
+        let items = item_spans(alloc, grammar)?;
+        Ok(BlameParser {
+            parser,
+            rules: grammar.rules(),
+            terminals,
+            items,
+        })
+    }
+
+    /// Returns the span of each item in the grammar file, by item number. Constant time.
+    pub fn items(&self) -> &[Span]
+        ensures { (rules : List Rule) → IsBlameParserOf rules self.now
+            → map extent result.now ≡ extents_of_items rules }
+    {
+        self.items.as_slice()
+    }
+
+    /// Parses a prefix of a text by the grammar as written. Success, consumed length and tree are those of Ford's
+    /// relation (Ford 2004, section 3.3). The furthest failure is that of the blame: the greatest offset where an item
+    /// failed outside predicates, and the numbers of the items that failed there, ascending.
+    ///
+    /// The errors are those of `Parser::parse` for the grammar as written. The steps are those of the diagnostic
+    /// grammar.
+    ///
+    /// # Example
+    ///
+    /// ```
+    /// // The grammar `S <- !'if' [a-z]+ ';'`, whose items are the predicate, the class and ';'.
+    /// let answer = blames.blame(alloc, b"if;", &options)?;
+    /// assert_eq!((answer.outcome.far, answer.outcome.expected.as_slice()), (0, [0].as_slice()));
+    /// ```
+    pub fn blame(
+        &self,
+        alloc: Global,
+        text: &[u8],
+        options: &ParseOptions<'_>,
+    ) -> Result<Answer, ParseFault>
+        ensures no_start { (rules : List Rule) → IsBlameParserOf rules self.now
+            → (IsErrOf result ParseFault.NoSuchStart ↔ (start_name rules (start_named options.now) ≡ None)) }
+        ensures long { (rules : List Rule) (start : List ℕ) → IsBlameParserOf rules self.now
+            → start_name rules (start_named options.now) ≡ Some start
+            → (IsErrOf result ParseFault.TextTooLong ↔ (max_text_bytes < length text.now)) }
+        ensures short { OnOk result (length text.now ≤ max_text_bytes) }
+        ensures outcome { (rules : List Rule) → IsBlameParserOf rules self.now → IfOk result (λ answer.
+            IfSome (start_name rules (start_named options.now))
+            (λ start. IsBlameOutcome rules text.now start answer.outcome)) }
+        ensures fits { (rules : List Rule) → IsBlameParserOf rules self.now → IfOk result (λ answer.
+            All (λ item. item < length (extents_of_items rules)) answer.outcome.expected.items) }
+
+        // The step limit and the steps, in plain steps of the diagnostic grammar.
+        ensures allowed { IfOk result (λ answer. (limit : ℕ) → options.now.steps ≡ Some limit → answer.steps ≤ limit) }
+        ensures limited { (rules : List Rule) → IsBlameParserOf rules self.now → IsErrOf result ParseFault.StepLimit
+            → TakesMoreSteps (diagnostic_rules rules) text.now (start_named options.now) options.now.steps }
+        ensures enough { (rules : List Rule) → IsBlameParserOf rules self.now → options.now.memo ≡ 0 → OnOk result
+            (¬ TakesMoreSteps (diagnostic_rules rules) text.now (start_named options.now) options.now.steps) }
+        ensures steps { (rules : List Rule) → IsBlameParserOf rules self.now → IfOk result (λ answer. (count : ℕ)
+            × TakesPlainSteps (diagnostic_rules rules) text.now (start_named options.now) count
+            × (answer.steps ≤ count)) }
+        ensures exact { (rules : List Rule) → IsBlameParserOf rules self.now → options.now.memo ≡ 0
+            → IfOk result (λ answer. (count : ℕ)
+            × TakesPlainSteps (diagnostic_rules rules) text.now (start_named options.now) count
+            × (answer.steps ≡ saturated count)) }
+    {
+        if !self.has_start(options) {
+            return Err(ParseFault::NoSuchStart);
+        }
+        self.parser
+            .parse_among(alloc, text, options, &self.terminals)
+    }
+
+    // Whether the start is a rule of the grammar as written. The diagnostic grammar has a quiet copy of each rule, too.
+    fn has_start(&self, options: &ParseOptions<'_>) -> bool
+        ensures { (rules : List Rule) → IsBlameParserOf rules self.now
+            → result ≡ is_some (start_name rules (start_named options.now)) }
+    {
+        match options.start {
+            None => true,
+            Some(name) => match self.parser.grammar().rule_number(name) {
+                Some(rule) => rule < self.rules,
+                None => false,
+            },
+        }
+    }
+}
+
+// The parser of the diagnostic grammar.
+fn diagnostic_parser(alloc: Global, diagnostic: Grammar) -> Result<Parser, BlameFault>
+    ensures rules { IfOk result (λ parser. parser_rules parser ≡ rules_in diagnostic) }
+    ensures well_formed { OnOk result (IsWellFormedGrammar (rules_in diagnostic)) }
+    ensures refused { IfErr result (IsParserRefusal (rules_in diagnostic)) }
+{
+    match Parser::from_grammar(alloc, diagnostic) {
+        Ok(parser) => Ok(parser),
+        Err(Refusal::NotWellFormed(_, _)) => Err(BlameFault::NotWellFormed),
+        Err(Refusal::CodeTooLarge) => Err(BlameFault::CodeTooLarge),
+        Err(Refusal::Memory) => Err(BlameFault::Memory),
+        Err(Refusal::Notation(_) | Refusal::Grammar(_)) => unreachable!(),
+    }
+}

@@ -1,0 +1,91 @@
+//! Tests of parsers of blame: their items and starts, and which grammars have none.
+use crate::outcomes::blame_parser_of;
+use crate::texts::QUERIES;
+use peg_blame::{BlameFault, BlameParser, ParseFault, ParseOptions};
+use peg_bytes::Span;
+use peg_grammar::Grammar;
+use peg_notation::read;
+use std::alloc::Global;
+use std::test::Fail;
+
+// The items on the first two lines: `!.` at 21, `!K` at 29 and the class at 32, without its plus.
+#[test]
+fn items_have_their_spans(rt: HostRuntime) -> Result<(), Fail> {
+    let parser = blame_parser_of(rt.alloc(), QUERIES)?;
+    let items = parser.items();
+    assert_eq!(rt; items.len(), 6);
+    assert_eq!(rt; items[0], Span::new(21, 23));
+    assert_eq!(rt; items[1], Span::new(29, 31));
+    assert_eq!(rt; items[2], Span::new(32, 40));
+    Ok(())
+}
+
+fn starting(start: &str) -> ParseOptions<'_> {
+    ParseOptions {
+        start: Some(start),
+        memo: 0,
+        steps: None,
+    }
+}
+
+// `N!` is the name of a quiet copy, which is no rule of the grammar.
+#[test]
+fn a_start_is_a_rule_as_written(rt: HostRuntime) -> Result<(), Fail> {
+    let alloc = rt.alloc();
+    let parser = blame_parser_of(alloc, QUERIES)?;
+    for name in ["N!", "Q!", "X", ""] {
+        let fault = parser.blame(alloc, b"a", &starting(name)).err();
+        assert_eq!(rt; fault, Some(ParseFault::NoSuchStart), "from {name}");
+    }
+    let outcome = parser.blame(alloc, b"FROM", &starting("N"))?.outcome;
+    assert_eq!(rt;
+        (outcome.far, outcome.expected.as_slice()),
+        (0, [1].as_slice())
+    );
+    Ok(())
+}
+
+#[test]
+fn the_step_limit_is_reported(rt: HostRuntime) -> Result<(), Fail> {
+    let alloc = rt.alloc();
+    let parser = blame_parser_of(alloc, QUERIES)?;
+    let options = ParseOptions {
+        start: None,
+        memo: 0,
+        steps: Some(5),
+    };
+    let fault = parser.blame(alloc, b"SELECT a FROM t", &options).err();
+    assert_eq!(rt; fault, Some(ParseFault::StepLimit));
+    Ok(())
+}
+
+// The fault of a grammar file without a parser of blame.
+fn fault_of(alloc: Global, file: &[u8]) -> Result<Option<BlameFault>, Fail> {
+    let grammar = Grammar::new(alloc, read(alloc, file)?)?;
+    Ok(BlameParser::new(alloc, &grammar).err())
+}
+
+// The counts make 520,200 tests of a byte. With the empty classes there are more instructions than 1,000,000.
+#[test]
+fn grammars_without_a_parser_are_refused(rt: HostRuntime) -> Result<(), Fail> {
+    let alloc = rt.alloc();
+    let looping = fault_of(alloc, b"S <- S 'a' / 'b'")?;
+    assert_eq!(rt; looping, Some(BlameFault::NotWellFormed));
+    let large = fault_of(alloc, b"S <- (('a'{255}){255}){8}")?;
+    assert_eq!(rt; large, Some(BlameFault::CodeTooLarge));
+    assert_eq!(rt; fault_of(alloc, b"S <- 'a'")?, None);
+    Ok(())
+}
+
+// A rule with the name of another rule's quiet copy.
+#[test]
+fn names_with_a_mark_are_refused(rt: HostRuntime) -> Result<(), Fail> {
+    let alloc = rt.alloc();
+    let mut definitions = read(alloc, b"S <- 'a'    T <- 'b'")?;
+    assert_eq!(rt; definitions.len(), 2);
+    definitions[1].name = String::from_str(alloc, "S!")?;
+    let grammar = Grammar::new(alloc, definitions)?;
+    let fault = BlameParser::new(alloc, &grammar).err();
+    assert_eq!(rt; fault, Some(BlameFault::MarkedName));
+    Ok(())
+}
