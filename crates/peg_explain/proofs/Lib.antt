@@ -1,0 +1,4 @@
+mod ExpectedLemmas
+mod ExplanationLemmas
+mod MappedLemmas
+pub mod RefusalLemmas

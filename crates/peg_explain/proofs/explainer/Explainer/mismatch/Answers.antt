@@ -1,0 +1,52 @@
+use Rattle.std.proofs.Common.{rules as by_rules, ◌≡◌, ◌∙◌, IfSome, List, ap, inr, map, subst}
+use Rattle.peg_blame.specs.BlameParser.{IsBlameParserOf}
+use Rattle.peg_bytes.specs.Extent.{Extent, extent}
+use Rattle.peg_diagnostics.specs.Items.{extents_of_items}
+use Rattle.peg_grammar.specs.Outcomes.{IsParseOutcome}
+use Rattle.peg_parser.specs.Parser.{start_named}
+use Rattle.peg_parser.specs.StepLimits.{TakesMoreSteps}
+use Rattle.peg_semantics.specs.Rules.{Rule}
+use Rattle.peg_semantics.specs.Starts.{start_name}
+use Rattle.peg_semantics.specs.Terminals.{extents_of_terminals}
+use Rattle.peg_explain.specs.Explainers.{IsBlameOf}
+use Rattle.peg_explain.specs.Explanations.{HasMismatch, HasNoBlameParser, expected_spans}
+use Rattle.peg_explain.proofs.ExplanationLemmas.{blame-explains, tests-explain}
+use Rattle.peg_explain.proofs.explainer.Explainer.mismatch.Goals as goal
+
+pub returns-in_ok-spans-in-Some-clause-mismatch : goal.returns-in_ok-spans-in-Some-clause-mismatch
+returns-in_ok-spans-in-Some-clause-mismatch c file rules of_explainer =
+    let text = c.args.text.now in
+    let outcome = c.in_ok-answer-in-Some.answer.outcome in
+    let blames : IsBlameParserOf rules c.in-Some.blames = subst (IsBlameOf rules) c.in-Some.is of_explainer.blames in
+    let spans : map extent c.in_ok-spans-in-Some.spans.items ≡ expected_spans (extents_of_items rules) outcome =
+    c.in_ok-spans-in-Some.ensures.spans
+    ∙ ap (λ (l : List Extent). expected_spans l outcome) (c.items.ensures rules blames) in
+    blame-explains rules text (start_name rules (start_named c.args.options.now)) outcome
+    (λ all parsed. HasMismatch all text parsed c.mismatch_in.result)
+    (c.in_ok-answer-in-Some.ensures.outcome rules blames) (c.mismatch_in.ensures.mismatch (extents_of_items rules) spans)
+
+pub returns-in_ok-spans-in-None-clause-mismatch : goal.returns-in_ok-spans-in-None-clause-mismatch
+returns-in_ok-spans-in-None-clause-mismatch c file rules of_explainer =
+    let text = c.args.text.now in
+    let outcome = c.in_ok-answer-in-None.answer.outcome in
+    let start = start_named c.args.options.now in
+    let same = of_explainer.has_parser in
+    let lacks : HasNoBlameParser rules = subst (IsBlameOf rules) c.in-None.is of_explainer.blames in
+    let spans : map extent c.in_ok-spans-in-None.spans.items ≡ expected_spans (extents_of_terminals rules) outcome =
+    c.in_ok-spans-in-None.ensures.spans
+    ∙ ap (λ (l : List Rule). expected_spans (extents_of_terminals l) outcome) same in
+    let parsed = subst (λ (l : List Rule). IfSome (start_name l start) (λ from. IsParseOutcome l text from outcome)) same
+    c.in_ok-answer-in-None.ensures.outcome in
+    tests-explain rules text (start_name rules start) outcome
+    (λ all parsed. HasMismatch all text parsed c.mismatch_in-in-None.result) lacks parsed
+    (c.mismatch_in-in-None.ensures.mismatch (extents_of_terminals rules) spans)
+
+pub returns-in_err-answer-in-None-clause-limited : goal.returns-in_err-answer-in-None-clause-limited
+returns-in_err-answer-in-None-clause-limited c file rules of_explainer is_limit =
+    let lacks : HasNoBlameParser rules = subst (IsBlameOf rules) c.in-None.is of_explainer.blames in
+    let more = c.in_err-answer-in-None.ensures.limited in
+    inr (
+      lacks,
+      subst (λ (l : List Rule). TakesMoreSteps l c.args.text.now (start_named c.args.options.now)
+          c.args.options.now.steps) of_explainer.has_parser (more (search by_rules)),
+    )

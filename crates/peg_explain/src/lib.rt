@@ -1,0 +1,12 @@
+//! Explanations: where texts don't match a grammar file, and why a grammar file is refused, as messages for people.
+#![tactic(auto)]
+
+mod expected;
+mod explainer;
+mod mismatch;
+mod outcomes;
+mod refusals;
+
+pub use explainer::Explainer;
+pub use mismatch::Mismatch;
+pub use refusals::refusal_message;

@@ -1,0 +1,7 @@
+//! Tests of explanations, worked by hand.
+#![tactic(auto)]
+
+#[cfg(test)]
+mod explanations;
+#[cfg(test)]
+mod refusals;

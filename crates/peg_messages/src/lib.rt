@@ -1,0 +1,25 @@
+//! Messages for people: where a text doesn't match, and why a grammar file is refused.
+#![tactic(auto)]
+
+mod blanks;
+mod causes;
+mod characters;
+mod failure;
+mod found;
+mod items;
+mod listing;
+mod numbers;
+mod reason;
+mod rejection;
+mod scanning;
+mod sentences;
+mod shown;
+mod source;
+mod syntax;
+
+pub use causes::SyntaxCause;
+pub use failure::Failure;
+pub use items::Item;
+pub use reason::Reason;
+pub use rejection::Rejection;
+pub use syntax::syntax_cause;

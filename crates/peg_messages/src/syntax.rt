@@ -1,0 +1,104 @@
+//! Finding why a grammar file isn't in the notation.
+ghost use Rattle.std.specs.Prelude.{◌≡◌, ◌+◌, ◌<◌, ◌≤◌, length};
+ghost use Rattle.peg_bytes.specs.Place.{max_offset};
+ghost use Rattle.peg_messages.specs.SyntaxCauses.{cause_from, is_at_mark, is_other_arrow, open_cause};
+ghost use Rattle.peg_messages.specs.SyntaxCauses.{opened_cause, syntax_cause, token_cause};
+ghost use Rattle.peg_messages.specs.SyntaxCausesCode.{IsBelow};
+
+use crate::causes::SyntaxCause;
+use crate::scanning::{byte_at, bytes_after, inside_len};
+
+/// Returns why a grammar file isn't in the notation, given the offset at which it is refused. Takes time linear in the
+/// literal or class that begins there.
+pub fn syntax_cause(file: &[u8], at: u32) -> SyntaxCause
+    requires { length file.now ≤ max_offset }
+    ensures cause { result ≡ syntax_cause file.now at }
+    ensures within { IsBelow (length file.now) result }
+{
+    if file.len() <= at as usize {
+        return SyntaxCause::EndsEarly;
+    }
+    if is_at_mark(file, at) {
+        return SyntaxCause::ByteOrderMark;
+    }
+    cause_from(at, &file[at as usize..])
+}
+
+// Returns whether a file begins with a byte order mark, at the offset.
+fn is_at_mark(file: &[u8], at: u32) -> bool
+    ensures { result ≡ is_at_mark file.now at }
+{
+    at == 0 && file.starts_with(b"\xEF\xBB\xBF")
+}
+
+// Returns the cause at an offset, from which on the file has these bytes.
+#[tactic(auto, unfolding(crate::specs::SyntaxCauses::cause_from))]
+fn cause_from(at: u32, rest: &[u8]) -> SyntaxCause
+    requires { at + length rest.now ≤ max_offset }
+    ensures cause { result ≡ cause_from at rest.now }
+    ensures within { IsBelow (at + length rest.now) result }
+{
+    let first = byte_at(rest, 0);
+    if first == b'\'' || first == b'"' {
+        opened_cause(false, first, at, bytes_after(rest, 1))
+    } else if first == b'[' {
+        opened_cause(true, b']', at, bytes_after(rest, 1))
+    } else {
+        token_cause(rest)
+    }
+}
+
+// Returns the cause where a literal or class begins, given what follows its first byte.
+#[tactic(auto, unfolding(crate::specs::SyntaxCauses::opened_cause))]
+fn opened_cause(is_class: bool, close: u8, at: u32, inside: &[u8]) -> SyntaxCause
+    requires { at + 1 + length inside.now ≤ max_offset }
+    ensures cause { result ≡ opened_cause is_class close at inside.now }
+    ensures within { IsBelow (at + 1 + length inside.now) result }
+{
+    let end = inside_len(is_class, close, inside);
+    if inside.len() <= end {
+        open_cause(is_class)
+    } else if byte_at(inside, end) == close {
+        SyntaxCause::Unexpected
+    } else {
+        SyntaxCause::BadEscape {
+            at: at + 1 + end as u32,
+        }
+    }
+}
+
+// Returns the cause of a literal or class without a closing byte.
+fn open_cause(is_class: bool) -> SyntaxCause
+    ensures { result ≡ open_cause is_class }
+{
+    if is_class {
+        SyntaxCause::OpenClass
+    } else {
+        SyntaxCause::OpenLiteral
+    }
+}
+
+// Returns the cause where no literal or class begins.
+fn token_cause(rest: &[u8]) -> SyntaxCause
+    ensures cause { result ≡ token_cause rest.now }
+    ensures within { IsBelow 0 result }
+{
+    match byte_at(rest, 0) {
+        b'#' => SyntaxCause::OpenComment,
+        _ if is_other_arrow(rest) => SyntaxCause::NoArrow,
+        b'|' => SyntaxCause::Bar,
+        b';' => SyntaxCause::Semicolon,
+        _ => SyntaxCause::Unexpected,
+    }
+}
+
+// Returns whether some bytes begin with another sign for the arrow of a definition.
+fn is_other_arrow(rest: &[u8]) -> bool
+    ensures { result ≡ is_other_arrow rest.now }
+{
+    let (first, second) = (byte_at(rest, 0), byte_at(rest, 1));
+    first == b'='
+        || first == b':'
+        || (first == b'-' && second == b'>')
+        || (first == b'<' && second != b'-')
+}
