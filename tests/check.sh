@@ -151,6 +151,22 @@ for words in "" "--proved"; do
 done
 run 3 /dev/null lint lint/fixed.peg --start None
 
+# Profiles: of each text that matches, with the number of consumed bytes of its parse.
+for grammar in *.peg; do
+  for text in "${grammar%.peg}"/match*; do
+    run 0 /dev/null profile "$grammar" "$text"
+    is_json profile "$grammar" "$text"
+    consumed=$(cut -d , -f 1 "$folder/line")
+    run 0 /dev/null parse "$grammar" "$text" --no-tree
+    [ "$(cut -d , -f 1 "$folder/line")" = "$consumed" ] || fault "not the end of the parse: profile $grammar $text"
+  done
+done
+run 1 /dev/null profile semver.peg semver/no_match_letter.txt
+run 2 /dev/null profile "$folder/refused.peg" "$folder"
+run 3 /dev/null profile json.peg json/match_object.txt --start Nothing
+run 6 /dev/null profile cookbook/memo.peg cookbook/memo/match_nested.txt --steps 10000
+file_fault profile json.peg "$folder/missing"
+
 # Words that are no command line.
 for words in "parse json.peg" "parse json.peg text --memo 1000001" "parse json.peg text --memo -1" \
   "parse json.peg text --steps 0" "parse json.peg text --steps 1000000000001" "tables json.peg"; do
@@ -167,7 +183,7 @@ run 0 /dev/null parse --help
 mkdir "$folder/own"
 printf "List <- Value (',' Value)*\nValue <- [a-z]+\n" > "$folder/own/grammar.peg"
 printf 'ab,c' > "$folder/own/text"
-for words in "--help" "check --help" "table --help" "code --help" "lint --help" "parse --help"; do
+for words in "--help" "check --help" "table --help" "code --help" "lint --help" "profile --help" "parse --help"; do
   # shellcheck disable=SC2086
   run 0 /dev/null $words
   example=$(sed -n 's/^Example: pegtool //p' "$folder/line")
@@ -208,29 +224,59 @@ done
 exec 4>&-
 
 # Where texts don't match, and where grammars are refused.
-prints 1 "toml/no_match_open_string.txt:1:12: expected '\"' or '\\\\', found '\n'" \
-  ./explain.py toml.peg toml/match_tables.txt toml/no_match_open_string.txt
-prints 1 "log/no_match_second_line.txt:2:5: expected ' ' or [!-~], found '\n'" \
-  ./explain.py log.peg log/no_match_second_line.txt
-prints 1 "http/no_match_body.txt:3:1: expected the end, found 'x'" ./explain.py http.peg http/no_match_body.txt
-prints 0 "" ./explain.py json.peg json/match_object.txt
+explains() { # the wanted status, the wanted lines, and the words after the command
+  prints "$1" "$2" "$program" explain "${@:3}"
+}
+basic='no ["\\\0-\10\12-\37\177]'
+explains 1 "toml/no_match_open_string.txt:1:12: expected $basic, '\"' or '\\\\', found '\n'"$'\nname = "Tom\n           ^' \
+  toml.peg toml/match_tables.txt toml/no_match_open_string.txt
+explains 1 "log/no_match_second_line.txt:2:5: expected ' ' or [!-~], found '\n'"$'\noops\n    ^' \
+  log.peg log/no_match_second_line.txt
+explains 1 "http/no_match_body.txt:3:1: expected the end or [], found 'x'"$'\nx\n^' http.peg http/no_match_body.txt
+explains 0 "" json.peg json/match_object.txt
+explains 0 "" json.peg
 printf 'A <- B\n  B <- [+-] "x"\n' > "$folder/refused.peg"
-prints 2 "$folder/refused.peg:2:8: Syntax"$'\n  B <- [+-] "x"\n       ^' ./explain.py "$folder/refused.peg" json.peg
+explains 2 "$folder/refused.peg:2:8: this class isn't closed: a bracket after a dash, as in [a-], ends a range"$'\n  B <- [+-] "x"\n       ^' \
+  "$folder/refused.peg" json.peg
 printf 'A <- B / C\nB <- "b"\n' > "$folder/refused.peg"
-prints 2 "$folder/refused.peg:1:10: Undefined C"$'\nA <- B / C\n         ^' ./explain.py "$folder/refused.peg" json.peg
+explains 2 "$folder/refused.peg:1:10: the rule C is not defined"$'\nA <- B / C\n         ^' "$folder/refused.peg" json.peg
 printf 'A <- B\r\nB <- ("b"*)*' > "$folder/refused.peg"
-prints 2 "$folder/refused.peg:2:6: EmptyLoop B"$'\nB <- ("b"*)*\n     ^' ./explain.py "$folder/refused.peg" json.peg
+explains 2 "$folder/refused.peg:2:6: this repetition matches the empty text again and again, in B"$'\nB <- ("b"*)*\n     ^' \
+  "$folder/refused.peg" json.peg
 printf 'S <- A\nA <- B "x"\nB <- A\n' > "$folder/refused.peg"
-prints 2 "$folder/refused.peg:2:1: LeftRecursion A B"$'\nA <- B "x"\n^' ./explain.py "$folder/refused.peg" json.peg
-prints 4 "" ./explain.py json.peg "$folder/missing"
-prints 1 "" ./explain.py json.peg
+explains 2 "$folder/refused.peg:2:1: left recursion: A -> B -> A"$'\nA <- B "x"\n^' "$folder/refused.peg"
 printf "A <- 'a'\n" > "$folder/part.peg"
 printf 'ab' > "$folder/text"
-prints 1 "$folder/text:1:2: expected the end, found 'b'" ./explain.py "$folder/part.peg" "$folder/text"
+explains 1 "$folder/text:1:2: expected the end, found 'b'"$'\nab\n ^' "$folder/part.peg" "$folder/text"
+explains 1 "" --quiet "$folder/part.peg" "$folder/text"
 printf "A <- 'a'+\n" > "$folder/part.peg"
-prints 1 "$folder/text:1:2: expected 'a' or the end, found 'b'" ./explain.py "$folder/part.peg" "$folder/text"
+explains 1 "$folder/text:1:2: expected 'a' or the end, found 'b'"$'\nab\n ^' "$folder/part.peg" "$folder/text"
 printf "A <- 'a' !.\n" > "$folder/part.peg"
-prints 1 "$folder/text:1:1: expected something else, found 'a'" ./explain.py "$folder/part.peg" "$folder/text"
+explains 1 "$folder/text:1:2: expected the end, found 'b'"$'\nab\n ^' "$folder/part.peg" "$folder/text"
+
+# Bytes that aren't text, and names with quotes and blanks.
+printf '\377\0a' > "$folder/it's \"binary\""
+explains 1 "$folder/it's \"binary\":1:1: expected 'a', found '\\xFF'"$'\n\\xFF\\x00a\n^' "$folder/part.peg" "$folder/it's \"binary\""
+explains 4 "" "$folder/part.peg" "$folder/no 'such' \"file\""
+
+# Files that can't be opened or read are named, and the others are explained. A list gives further names.
+named() { # the wanted line on standard error
+  [ "$(cat "$folder/stderr")" = "$1" ] || fault "standard error isn't: $1"
+}
+explains 4 "$folder/text:1:2: expected the end, found 'b'"$'\nab\n ^' "$folder/part.peg" "$folder/missing" "$folder/text"
+named "pegtool: $folder/missing: can't be opened"
+explains 4 "" "$folder/part.peg" "$folder"
+named "pegtool: $folder: can't be read"
+explains 4 "" "$folder/missing" "$folder/text"
+named "pegtool: $folder/missing: can't be opened"
+printf '%s\n\n%s\n' "$folder/text" "$folder/text" > "$folder/names"
+explains 1 "$folder/text:1:2: expected the end, found 'b'"$'\nab\n ^\n'"$folder/text:1:2: expected the end, found 'b'"$'\nab\n ^' \
+  "$folder/part.peg" --files-from "$folder/names"
+printf '%s\0' "$folder/text" > "$folder/names"
+explains 1 "$folder/text:1:2: expected the end, found 'b'"$'\nab\n ^' "$folder/part.peg" --files-from "$folder/names" --null
+printf '\377\n' > "$folder/names"
+explains 4 "" "$folder/part.peg" --files-from "$folder/names"
+named "pegtool: $folder/names: the names aren't UTF-8"
 
 all_json
 

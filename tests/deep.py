@@ -31,6 +31,17 @@ def parsed(grammar, text, *words):
     return done.returncode, json.loads(done.stdout)
 
 
+def explained(grammar, text):
+    """The status of an explanation, and what it prints after the name of the text."""
+    with tempfile.TemporaryDirectory() as folder:
+        files = [os.path.join(folder, name) for name in ("grammar", "text")]
+        for path, content in zip(files, (grammar, text)):
+            with open(path, "wb") as file:
+                file.write(content)
+        done = subprocess.run([PROGRAM, "explain", *files], capture_output=True)
+        return done.returncode, done.stdout.decode().replace(f"{files[1]}:", "")
+
+
 def wanted(what, answer, status, line):
     """Compares a status and a line with those that are wanted."""
     global faults
@@ -54,6 +65,23 @@ wanted(
     parsed(NESTED, b"(" * MILLION + b"x" + b")" * MILLION, "--rows"),
     0,
     matched(2 * MILLION + 1, MILLION, [[5, 8]], [[n + 1, "S", n, 2 * MILLION + 1 - n] for n in range(MILLION + 1)]),
+)
+for form, printed in (
+    ("--rows", {"rows": [[1, "S", 0, 2 * MILLION + 1]]}),
+    ("--all", {"tree": {"children": [], "end": 2 * MILLION + 1, "rule": "S", "start": 0}}),
+):
+    wanted(
+        f"a million levels, hidden but the root, with {form}",
+        parsed(NESTED, b"(" * MILLION + b"x" + b")" * MILLION, form, "--hide", "S"),
+        0,
+        {"consumed": 2 * MILLION + 1, "expected": [[5, 8]], "far": MILLION, "result": "matched", **printed},
+    )
+wanted("an explanation of a million parentheses", explained(NESTED, b"(" * MILLION + b"x" + b")" * MILLION), 0, "")
+wanted(
+    "an explanation of a million parentheses, of which one isn't closed",
+    explained(NESTED, b"(" * MILLION + b"x" + b")" * (MILLION - 1)),
+    1,
+    f"1:{2 * MILLION + 1}: expected ')', found the end\n{')' * 80}\n{' ' * 80}^\n",
 )
 wanted(
     "a failure through a million uses",

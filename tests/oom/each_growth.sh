@@ -87,6 +87,14 @@ for grammar in chain warned open; do
 done
 refuse 'lint, start' /dev/null lint "$work/warned.peg" --start T
 refuse 'lint, no start' /dev/null lint "$work/warned.peg" --start V
+for grammar in chain cycle loop twice missing open; do
+  refuse "explain, $grammar" /dev/null explain "$work/$grammar.peg"
+done
+printf '%s\n' "$work/chain.txt" "$work/repeats.txt" > "$work/names"
+refuse 'explain, texts' /dev/null explain "$work/counts.peg" "$work/counts.txt" "$work/chain.txt"
+refuse 'explain, list' "$work/names" explain "$work/chain.peg" "$work/missing" --files-from -
+refuse 'explain, no start' /dev/null explain "$work/chain.peg" --start T
+refuse 'explain, quiet' /dev/null explain "$work/chain.peg" "$work/repeats.txt" --quiet
 refuse 'help' /dev/null --help
 refuse 'no command' /dev/null tables
 echo "$faults faults"

@@ -108,7 +108,7 @@ pub(crate) fn run(rt: &impl Print, alloc: Global, word: &str) -> io::Result<()> 
 }
 
 // Reads a file of this kind by the metagrammar, and prints the number of its rules or the fault.
-fn tell_by_figure(rt: &impl Print, alloc: Global, kind: &str, share: Share) -> io::Result<()> {
+fn print_by_figure(rt: &impl Print, alloc: Global, kind: &str, share: Share) -> io::Result<()> {
     let file = file_of(alloc, kind, share)?;
     match read_by_figure(alloc, &file) {
         Ok(rules) => println!(rt; "{kind} {} bytes {} rules", file.len(), rules.len()),
@@ -129,7 +129,7 @@ pub(crate) fn run_by_figure(
     };
     for kind in KINDS {
         if word.is_empty() || word == kind {
-            tell_by_figure(rt, alloc, kind, share)?;
+            print_by_figure(rt, alloc, kind, share)?;
         }
     }
     Ok(())

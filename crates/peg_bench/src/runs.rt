@@ -23,6 +23,21 @@ fn program_of(alloc: Global, file: &[u8]) -> Option<Program> {
     compile(alloc, checked).ok()
 }
 
+// A run without a memo.
+fn run_alone(alloc: Global, program: &Program, text: &[u8]) -> Result<Answer, RunFault>
+    requires { 0 < length program.now.core.bodies }
+{
+    run_program(alloc, program, text, 0, &mut NoMemo, &mut NoWatch, None)
+}
+
+// The number of nodes of an answer's tree; 0 without a match.
+fn row_count(answer: &Answer) -> usize {
+    match &answer.outcome.result {
+        Parsed::Matched { tree, .. } => tree.len(),
+        Parsed::Failed => 0,
+    }
+}
+
 pub(crate) fn run(rt: HostRuntime, alloc: Global, grammar: &str, text: &str) -> io::Result<()> {
     let grammar = fs::read(&rt, grammar)?;
     let text = fs::read(&rt, text)?;
@@ -33,26 +48,12 @@ pub(crate) fn run(rt: HostRuntime, alloc: Global, grammar: &str, text: &str) -> 
         return println!(rt; "no rule");
     }
     let start = Instant::now(&rt)?;
-    let result = run_program(
-        alloc,
-        &program,
-        text.as_slice(),
-        0,
-        &mut NoMemo,
-        &mut NoWatch,
-        None,
-    );
-    match result {
-        Err(_) => println!(rt; "no answer"),
-        Ok(answer) => {
-            let time = start.elapsed(&rt)?.as_micros();
-            let rows = match &answer.outcome.result {
-                Parsed::Matched { tree, .. } => tree.len(),
-                Parsed::Failed => 0,
-            };
-            println!(rt; "{} steps, {rows} rows, {time} us", answer.steps)
-        }
-    }
+    let Ok(answer) = run_alone(alloc, &program, text.as_slice()) else {
+        return println!(rt; "no answer");
+    };
+    let time = start.elapsed(&rt)?.as_micros();
+    let rows = row_count(&answer);
+    println!(rt; "{} steps, {rows} rows, {time} us", answer.steps)
 }
 
 // A run without a memo, with a table of shortcuts.

@@ -1,10 +1,14 @@
 -- Describes code: which argument of the command line goes to which field.
-use Rattle.std.specs.Prelude.{◌≡◌, true, false, ℕ, Bool, List, Option, None, Some, option_map, string_bytes, codes}
+use Rattle.std.specs.Prelude.{◌≡◌, true, false, ℕ, Bool, List, [], Option, None, Some, map, unwrap_or, option_map, string_bytes, codes}
 use Rattle.std.specs.Str.Parse.{digits_value, without_leading_plus}
-use Rattle.clap.specs.Matches.{first_value, one_text}
+use Rattle.clap.specs.Matches.{first_value, matched_of, one_text, raw_values}
 use Rattle.clap.specs.declared.parser.matches.Found.{Found}
 use Rattle.peg_cli.specs.declared.words.Words.{Words}
-use Rattle.peg_cli.specs.declared.words.Words.TheVariants.{Joined, Help, Table, Check, Code, Lint, Parse}
+use Rattle.peg_cli.specs.declared.words.Words.TheVariants.{Joined, Help, Table, Check, Code, Lint, Profile, Explain, Parse}
+
+-- all values of an argument, in the order of the command line; none if it is not given
+abbrev pub all_values : Found → (id : List ℕ) → List (List ℕ)
+all_values found id = unwrap_or (option_map raw_values (matched_of found id)) []
 
 -- the first value of an argument, read as a decimal number; a plus may come first
 abbrev pub number_at : Found → (id : List ℕ) → Option ℕ
@@ -27,6 +31,21 @@ IsCommandOf name found (Lint g start proved) = (name ≡ codes "lint")
     × (first_value found (codes "G") ≡ Some (string_bytes g))
     × (first_value found (codes "start") ≡ option_map string_bytes start)
     × IsFlagAt found (codes "proved") proved
+IsCommandOf name found (Profile g t start memo steps) = (name ≡ codes "profile")
+    × (first_value found (codes "G") ≡ Some (string_bytes g))
+    × (first_value found (codes "T") ≡ Some (string_bytes t))
+    × (first_value found (codes "start") ≡ option_map string_bytes start)
+    × (number_at found (codes "memo") ≡ Some memo)
+    × (number_at found (codes "steps") ≡ steps)
+IsCommandOf name found (Explain g texts files_from null start memo steps quiet) = (name ≡ codes "explain")
+    × (first_value found (codes "G") ≡ Some (string_bytes g))
+    × (all_values found (codes "T") ≡ map string_bytes texts.items)
+    × (first_value found (codes "files-from") ≡ option_map string_bytes files_from)
+    × IsFlagAt found (codes "null") null
+    × (first_value found (codes "start") ≡ option_map string_bytes start)
+    × (number_at found (codes "memo") ≡ Some memo)
+    × (number_at found (codes "steps") ≡ steps)
+    × IsFlagAt found (codes "quiet") quiet
 IsCommandOf name found (Parse g t start memo steps all rows no_tree show hide text) = (name ≡ codes "parse")
     × (first_value found (codes "G") ≡ Some (string_bytes g))
     × (first_value found (codes "T") ≡ Some (string_bytes t))

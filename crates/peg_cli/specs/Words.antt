@@ -1,10 +1,14 @@
 -- What the command line arguments request.
-use Rattle.std.specs.Prelude.{◌≤◌, IfSome}
+use Rattle.std.specs.Prelude.{ℕ, ◌≤◌, Option, IfSome}
 use Rattle.peg_cli.specs.declared.words.Words.{Words}
-use Rattle.peg_cli.specs.declared.words.Words.TheVariants.{Joined, Help, Table, Check, Code, Lint, Parse}
+use Rattle.peg_cli.specs.declared.words.Words.TheVariants.{Joined, Help, Table, Check, Code, Lint, Profile, Explain, Parse}
 
--- The arguments request a command or help. In a parse the memo has at most 1,000,000 entries, and a step limit is from
--- 1 to 1,000,000,000,000.
+-- a memo has at most 1,000,000 entries, and a step limit is from 1 to 1,000,000,000,000
+abbrev pub AreInRange : (memo : ℕ) → (steps : Option ℕ) → Type 0
+AreInRange memo steps =
+    (memo ≤ 1000000) × IfSome steps (λ max_steps. (1 ≤ max_steps) × (max_steps ≤ 1000000000000))
+
+-- The arguments request a command or help. The capacity of a memo and a step limit are in their ranges.
 abbrev pub IsAsking : Words → Type 0
 IsAsking Joined = ⊥
 IsAsking (Help text) = Unit {0}
@@ -12,5 +16,6 @@ IsAsking (Table g) = Unit {0}
 IsAsking (Check g) = Unit {0}
 IsAsking (Code g) = Unit {0}
 IsAsking (Lint g start proved) = Unit {0}
-IsAsking (Parse g t start memo steps all rows no_tree show hide text) =
-    (memo ≤ 1000000) × IfSome steps (λ max_steps. (1 ≤ max_steps) × (max_steps ≤ 1000000000000))
+IsAsking (Profile g t start memo steps) = AreInRange memo steps
+IsAsking (Explain g texts files_from null start memo steps quiet) = AreInRange memo steps
+IsAsking (Parse g t start memo steps all rows no_tree show hide text) = AreInRange memo steps

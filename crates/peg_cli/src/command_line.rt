@@ -5,6 +5,9 @@ use std::alloc::{AllocError, Global};
 /// The largest value of `--memo`.
 pub(crate) const MAX_MEMO: u32 = 1_000_000;
 
+// The default value of `--memo` for `parse` and `explain`.
+const DEFAULT_MEMO: &str = "4096";
+
 /// The largest value of `--steps`.
 pub(crate) const MAX_STEPS: u64 = 1_000_000_000_000;
 
@@ -14,6 +17,8 @@ pub(crate) fn program<'a>(alloc: Global) -> Result<Command<'a>, AllocError> {
     let table = table(alloc)?;
     let code = code(alloc)?;
     let lint = lint(alloc)?;
+    let profile = profile(alloc)?;
+    let explain = explain(alloc)?;
     let parse = parse(alloc)?;
     Command::new(alloc, "pegtool")
         .about("Parses texts by parsing expression grammars (Ford, POPL 2004)")
@@ -25,6 +30,8 @@ pub(crate) fn program<'a>(alloc: Global) -> Result<Command<'a>, AllocError> {
         .subcommand(table)?
         .subcommand(code)?
         .subcommand(lint)?
+        .subcommand(profile)?
+        .subcommand(explain)?
         .subcommand(parse)?
         .bin_name("pegtool")
 }
@@ -61,6 +68,33 @@ fn lint<'a>(alloc: Global) -> Result<Command<'a>, AllocError> {
         .arg(proved_flag(alloc))
 }
 
+fn profile<'a>(alloc: Global) -> Result<Command<'a>, AllocError> {
+    Command::new(alloc, "profile")
+        .about("Prints how often a parse calls each rule, and at how many positions")
+        .after_help(PROFILE_NOTES)
+        .arg(grammar_file(alloc))?
+        .arg(text_file(alloc))?
+        .arg(start_option(alloc))?
+        .arg(memo_option(alloc, "0"))?
+        .arg(steps_option(alloc).default_value("1000000000"))
+}
+
+fn explain<'a>(alloc: Global) -> Result<Command<'a>, AllocError> {
+    Command::new(alloc, "explain")
+        .about(
+            "Prints where texts don't match a grammar, or why the grammar is refused, for people",
+        )
+        .after_help(EXPLAIN_NOTES)
+        .arg(grammar_file(alloc))?
+        .arg(text_files(alloc))?
+        .arg(files_from_option(alloc))?
+        .arg(null_flag(alloc)?)?
+        .arg(start_option(alloc))?
+        .arg(memo_option(alloc, DEFAULT_MEMO))?
+        .arg(optional_steps_option(alloc))?
+        .arg(quiet_flag(alloc))
+}
+
 fn parse<'a>(alloc: Global) -> Result<Command<'a>, AllocError> {
     Command::new(alloc, "parse")
         .about("Parses a text and prints its tree and the furthest failure")
@@ -68,8 +102,8 @@ fn parse<'a>(alloc: Global) -> Result<Command<'a>, AllocError> {
         .arg(grammar_file(alloc))?
         .arg(text_file(alloc))?
         .arg(start_option(alloc))?
-        .arg(memo_option(alloc))?
-        .arg(steps_option(alloc))?
+        .arg(memo_option(alloc, DEFAULT_MEMO))?
+        .arg(optional_steps_option(alloc))?
         .arg(all_flag(alloc))?
         .arg(rows_flag(alloc))?
         .arg(no_tree_flag(alloc)?)?
@@ -88,6 +122,37 @@ fn text_file<'a>(alloc: Global) -> Arg<'a> {
         .required(true)
 }
 
+// Any number of files, before, between and after options.
+fn text_files<'a>(alloc: Global) -> Arg<'a> {
+    Arg::new(alloc, "T")
+        .num_args(0..)
+        .help("The files to explain")
+}
+
+// A list of files. Hyphen values are allowed, as for the start rule.
+fn files_from_option<'a>(alloc: Global) -> Arg<'a> {
+    Arg::new(alloc, "files-from")
+        .long("files-from")
+        .value_name("FILE")
+        .allow_hyphen_values(true)
+        .help("A file that lists further files, one name a line; - is standard input")
+}
+
+fn null_flag<'a>(alloc: Global) -> Result<Arg<'a>, AllocError> {
+    Arg::new(alloc, "null")
+        .long("null")
+        .action(ArgAction::SetTrue)
+        .help("Names in the list end at a zero byte instead of a line end")
+        .requires_arg("files-from")
+}
+
+fn quiet_flag<'a>(alloc: Global) -> Arg<'a> {
+    Arg::new(alloc, "quiet")
+        .long("quiet")
+        .action(ArgAction::SetTrue)
+        .help("Prints nothing; the exit status alone says the result")
+}
+
 // The start rule. Hyphen values are allowed, so that a name that begins with a hyphen is reported as an unknown rule.
 fn start_option<'a>(alloc: Global) -> Arg<'a> {
     Arg::new(alloc, "start")
@@ -97,13 +162,13 @@ fn start_option<'a>(alloc: Global) -> Arg<'a> {
         .help("The rule to start from [default: the first rule of the file]")
 }
 
-fn memo_option<'a>(alloc: Global) -> Arg<'a> {
+fn memo_option<'a>(alloc: Global, default: &'static str) -> Arg<'a> {
     Arg::new(alloc, "memo")
         .long("memo")
         .value_name("N")
         .value_parser(value_parser!(u32).range(..=i64::from(MAX_MEMO)))
         .allow_negative_numbers(true)
-        .default_value("4096")
+        .default_value(default)
         .help("The capacity of the memo, in entries, 0 to 1000000")
 }
 
@@ -113,7 +178,11 @@ fn steps_option<'a>(alloc: Global) -> Arg<'a> {
         .value_name("N")
         .value_parser(value_parser!(u64).range(1..=MAX_STEPS as i64))
         .allow_negative_numbers(true)
-        .help("The maximum number of steps, 1 to 1000000000000 [default: no limit]")
+        .help("The maximum number of steps, 1 to 1000000000000")
+}
+
+fn optional_steps_option<'a>(alloc: Global) -> Arg<'a> {
+    steps_option(alloc).help("The maximum number of steps, 1 to 1000000000000 [default: no limit]")
 }
 
 fn all_flag<'a>(alloc: Global) -> Arg<'a> {
@@ -176,7 +245,8 @@ const PROGRAM_NOTES: &str = "\
 Without arguments, pegtool reads standard input: a grammar file, a line `%%` and
 a text. It parses the text by the grammar's first rule.
 
-A run with an answer or a refusal prints one line of JSON. The exit status is:
+A run with an answer or a refusal prints one line of JSON; `explain` prints
+messages for people instead. The exit status is:
   0  success: matched, accepted, printed, no warnings, or help
   1  no match, a partial match under --all, or warnings of `lint`
   2  the grammar is refused
@@ -240,6 +310,41 @@ an unknown start rule; 4 a file can't be opened or read, or the output can't be
 written; 5 out of memory.
 
 Example: pegtool lint grammar.peg --start Value";
+
+// The text after the help of `profile`.
+const PROFILE_NOTES: &str = "\
+Prints one line of JSON: for each rule, in order, the number of its calls, the
+number of different positions of these calls, and how many calls were made again
+at a position. A memo can save the work of calls that are made again.
+
+The calls are those of a run with this memo; without one they show what the
+grammar asks for by itself. The positions don't depend on the memo. \"consumed\"
+is there if the parse matched, and \"steps\" is the number of instructions.
+
+Status: 0 matched; 1 failed; 2 the grammar is refused; 3 wrong arguments, or an
+unknown rule; 4 a file can't be opened or read, or the output can't be written; 5
+out of memory; 6 TextTooLong or StepLimit.
+
+Example: pegtool profile grammar.peg text";
+
+// The text after the help of `explain`.
+const EXPLAIN_NOTES: &str = "\
+For each text that doesn't match as a whole, prints a message, the line of the text
+and a caret below the column. Nothing is printed for a text that matches. A message
+has this form:
+
+  FILE:LINE:COLUMN: expected A, B or C, found 'x'
+
+The position is the furthest failure outside predicates, where a predicate fails at
+its own start. Columns count bytes from 1. Without texts, only the grammar is checked.
+A refused grammar has a message with its place and cause.
+
+Status: 0 all texts match; 1 some text doesn't; 2 the grammar is refused; 3 wrong
+arguments, or an unknown rule; 4 a file can't be opened or read (standard error
+names it, and the other files are still read), or the output can't be written; 5 out
+of memory; 6 a text is too long, or --steps is too small for it.
+
+Example: pegtool explain grammar.peg *.txt";
 
 // The text after the help of `parse`.
 const PARSE_NOTES: &str = "\

@@ -1,10 +1,10 @@
 //! Parsing the command line arguments.
-ghost use Rattle.std.specs.Prelude.{◌≡◌, ◌≢◌, ◌≤◌, ℕ, List, [], IfOk, IfSome, Some, option_map, string_bytes, codes};
+ghost use Rattle.std.specs.Prelude.{◌≡◌, ◌≢◌, ◌≤◌, ℕ, List, [], IfOk, IfSome, Some, map, option_map, string_bytes, codes};
 ghost use Rattle.clap.specs.Matches.{found_of, first_value};
 ghost use Rattle.clap.specs.declared.parser.matches.Found.{Found};
 ghost use Rattle.clap.specs.Simple.{subcommand_rows_of};
 ghost use Rattle.clap.specs.Walk.{rows_of};
-ghost use Rattle.peg_cli.specs.Mapping.{IsCommandOf, number_at};
+ghost use Rattle.peg_cli.specs.Mapping.{IsCommandOf, all_values, number_at};
 ghost use Rattle.peg_cli.specs.Words.{IsAsking};
 
 use crate::command_line::{MAX_MEMO, MAX_STEPS, program};
@@ -40,6 +40,28 @@ pub enum Words {
         g: String,
         start: Option<String>,
         proved: bool,
+    },
+    /// Print what the rules of grammar file `g` do in a parse of text file `t`. The other fields are those of
+    /// `ParseOptions`.
+    Profile {
+        g: String,
+        t: String,
+        start: Option<String>,
+        memo: u32,
+        steps: Option<u64>,
+    },
+    /// Print where texts don't match grammar file `g`, as messages for people: first the text files `texts`, then those
+    /// that file `files_from` lists; `-` is standard input. With `null`, names in that list end at a zero byte,
+    /// otherwise at a line end. With `quiet` nothing is printed. The other fields are those of `ParseOptions`.
+    Explain {
+        g: String,
+        texts: Vec<String>,
+        files_from: Option<String>,
+        null: bool,
+        start: Option<String>,
+        memo: u32,
+        steps: Option<u64>,
+        quiet: bool,
     },
     /// Parse text file `t` by grammar file `g`. At most one of `show` and `hide` is given; each is a list of rules. The
     /// other fields are those of `Command::Parse` and `ParseOptions`.
@@ -124,6 +146,8 @@ fn named_command(alloc: Global, name: &str, words: &ArgMatches<'_>) -> Result<Wo
             g: file_name(alloc, words, "G")?,
         }),
         "lint" => lint_of(alloc, words),
+        "profile" => profile_of(alloc, words),
+        "explain" => explain_of(alloc, words),
         "parse" => parse_of(alloc, words),
         _ => Err(internal_usage_error(alloc)),
     }
@@ -137,6 +161,40 @@ fn lint_of(alloc: Global, matches: &ArgMatches<'_>) -> Result<Words, WordsFault>
         g: file_name(alloc, matches, "G")?,
         start: optional_text(alloc, matches, "start")?,
         proved: matches.get_flag("proved"),
+    })
+}
+
+fn profile_of(alloc: Global, matches: &ArgMatches<'_>) -> Result<Words, WordsFault>
+    ensures asking { IfOk result IsAsking }
+    ensures command { IfOk result (IsCommandOf (codes "profile") (found_of matches.now)) }
+{
+    let g = file_name(alloc, matches, "G")?;
+    let t = file_name(alloc, matches, "T")?;
+    let start = optional_text(alloc, matches, "start")?;
+    let memo = memo_size(alloc, matches)?;
+    let steps = step_limit(alloc, matches)?;
+    Ok(Words::Profile {
+        g,
+        t,
+        start,
+        memo,
+        steps,
+    })
+}
+
+fn explain_of(alloc: Global, matches: &ArgMatches<'_>) -> Result<Words, WordsFault>
+    ensures asking { IfOk result IsAsking }
+    ensures command { IfOk result (IsCommandOf (codes "explain") (found_of matches.now)) }
+{
+    Ok(Words::Explain {
+        g: file_name(alloc, matches, "G")?,
+        texts: file_names(alloc, matches, "T")?,
+        files_from: optional_text(alloc, matches, "files-from")?,
+        null: matches.get_flag("null"),
+        start: optional_text(alloc, matches, "start")?,
+        memo: memo_size(alloc, matches)?,
+        steps: step_limit(alloc, matches)?,
+        quiet: matches.get_flag("quiet"),
     })
 }
 
@@ -166,6 +224,26 @@ fn file_name(alloc: Global, matches: &ArgMatches<'_>, id: &str) -> Result<String
         Some(name) => Ok(String::from_str(alloc, name)?),
         None => Err(internal_usage_error(alloc)),
     }
+}
+
+// The values of an argument in the order of the command line; none if it is not given.
+fn file_names(alloc: Global, matches: &ArgMatches<'_>, id: &str) -> Result<Vec<String>, AllocError>
+    ensures { IfOk result (λ names. map string_bytes names.items ≡ all_values (found_of matches.now) id.now) }
+{
+    match matches.get_strs(id) {
+        Some(names) => copies_of(alloc, names),
+        None => Ok(Vec::new(alloc)),
+    }
+}
+
+fn copies_of(alloc: Global, texts: &[&str]) -> Result<Vec<String>, AllocError>
+    ensures { IfOk result (λ copies. map string_bytes copies.items ≡ map (λ text. text.now) texts.now) }
+{
+    let mut copies = Vec::new(alloc);
+    for text in texts {
+        copies.push(String::from_str(alloc, text)?)?;
+    }
+    Ok(copies)
 }
 
 // The text of an option, if it is given.
@@ -249,6 +327,8 @@ fn hint_for(first: &str) -> &'static str {
         "table" => "For this command: pegtool table --help\n",
         "code" => "For this command: pegtool code --help\n",
         "lint" => "For this command: pegtool lint --help\n",
+        "profile" => "For this command: pegtool profile --help\n",
+        "explain" => "For this command: pegtool explain --help\n",
         "parse" => "For this command: pegtool parse --help\n",
         _ => "To parse a text T by a grammar file G: pegtool parse G T\n",
     }

@@ -6,11 +6,15 @@ mod check;
 #[cfg(test)]
 mod code;
 #[cfg(test)]
+mod explain;
+#[cfg(test)]
 mod joined;
 #[cfg(test)]
 mod lint;
 #[cfg(test)]
 mod outcomes;
+#[cfg(test)]
+mod profile;
 #[cfg(test)]
 mod tool;
 #[cfg(test)]

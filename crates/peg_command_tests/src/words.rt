@@ -237,8 +237,13 @@ fn faults_have_a_text_and_a_status(rt: HostRuntime) -> Result<(), Fail> {
     Ok(())
 }
 
-// The exit of the program for these arguments, of which the first is its name, and what it writes.
-fn exit_for(rt: &impl Abort, alloc: Global, args: &[&str], written: &str) -> Result<Exit, Fail> {
+/// Returns the exit of the program for these arguments, of which the first is its name. Compares what it writes.
+pub(crate) fn exit_for(
+    rt: &impl Abort,
+    alloc: Global,
+    args: &[&str],
+    written: &str,
+) -> Result<Exit, Fail> {
     let mut all = Vec::new(alloc);
     for word in args {
         all.push(String::from_str(alloc, word)?)?;

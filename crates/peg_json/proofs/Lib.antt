@@ -4,6 +4,7 @@ mod LintLemmas
 pub mod ParseLemmas
 mod PositionLemmas
 pub mod PrintLemmas
+mod ProfileLemmas
 mod RefusalLemmas
 mod RefusedLines
 mod RowLines

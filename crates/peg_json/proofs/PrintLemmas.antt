@@ -34,6 +34,7 @@ with_text-status text (reply.Tabled names cans) = refl
 with_text-status text (reply.Accepted rules) = refl
 with_text-status text (reply.Coded code entries) = refl
 with_text-status text (reply.Linted names warnings) = refl
+with_text-status text (reply.Profiled end steps names profiles) = refl
 with_text-status text (reply.Failed far expected) = refl
 with_text-status text (reply.Matched partial Nested end far expected names tree) = refl
 with_text-status text (reply.Matched partial Rows end far expected names tree) = refl

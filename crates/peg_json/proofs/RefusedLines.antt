@@ -15,24 +15,24 @@ use Rattle.peg_json.specs.declared.line.Line.{Line}
 use Rattle.peg_json.specs.declared.status.Status.{Status}
 
 -- the facts about a refusal other than `MemoState`, given the names of the rules
-pub record Tellable (size : ℕ) (names : List (List ℕ)) (why : Refusal) : Type 0 where
+pub record IsReportable (size : ℕ) (names : List (List ℕ)) (why : Refusal) : Type 0 where
   pub reported : is_some (refusal_cause names why) ≡ true
   pub places : IfSome (refusal_cause names why) (StartsIn size)
   pub rules : RefusalNames (length names) why
 
 by_own_names : (size : ℕ) (why : Refusal) → why ≢ refusal.Memory → IsTrueRefusal size why
-    → Tellable size (refusal_names why) why
+    → IsReportable size (refusal_names why) why
 by_own_names size why other (out_of_memory is) = absurd (other is)
-by_own_names size why other (of_cause cause tells kind starts named) = record {
-  reported = ap is_some tells;
-  places = subst (λ (reported : Option Cause). IfSome reported (StartsIn size)) (sym tells) starts;
+by_own_names size why other (of_cause cause cause_is kind starts named) = record {
+  reported = ap is_some cause_is;
+  places = subst (λ (reported : Option Cause). IfSome reported (StartsIn size)) (sym cause_is) starts;
   rules = named;
 }
 
-pub tellable : (size : ℕ) (names : List (List ℕ)) (why : Refusal) → names ≡ refusal_names why → why ≢ refusal.Memory
-    → IsTrueRefusal size why → Tellable size names why
-tellable size names why same other is =
-    subst (λ (list : List (List ℕ)). Tellable size list why) (sym same) (by_own_names size why other is)
+pub reportable : (size : ℕ) (names : List (List ℕ)) (why : Refusal) → names ≡ refusal_names why → why ≢ refusal.Memory
+    → IsTrueRefusal size why → IsReportable size names why
+reportable size names why same other is =
+    subst (λ (list : List (List ℕ)). IsReportable size list why) (sym same) (by_own_names size why other is)
 
 some-reported : (result : Result Line AllocError) (file : List ℕ) (found : Option Cause) → is_some found ≡ true
     → IfOk result (λ line. IfSome found (λ cause.
@@ -61,6 +61,6 @@ pub fault-reply : (line : Line) (file text : List ℕ) (status : Status) (found 
     → IfSome found (λ cause. text ≡ compact_text (cause_data file cause))
     → IfSome found (λ cause. status_code status ≡ cause_status cause)
     → IfSome found (λ cause. IsReply file (Refused cause) (line_bytes line) (status_code line.status))
-fault-reply line file text status None is ends tells same = tt
-fault-reply line file text status (Some cause) is ends tells same =
-    (is ∙ ap (λ (l : List ℕ). l ++ 10 ∷ []) tells, ap status_code ends ∙ same)
+fault-reply line file text status None is ends same_text same = tt
+fault-reply line file text status (Some cause) is ends same_text same =
+    (is ∙ ap (λ (l : List ℕ). l ++ 10 ∷ []) same_text, ap status_code ends ∙ same)

@@ -68,33 +68,33 @@ nested_match-sent partial end far expected key names tree old new s = (
 )
 
 -- the text of something that serializes a value is the text of that value
-abbrev pub TellsBy : (Log → Log → Type 0) → Result (String Global) AllocError → Type 0
-TellsBy Sent result = IfOk result (λ text. (log : Log) × Sent (Some []) log × IsTextOf log (string_bytes text))
+abbrev pub IsTextSentBy : (Log → Log → Type 0) → Result (String Global) AllocError → Type 0
+IsTextSentBy Sent result = IfOk result (λ text. (log : Log) × Sent (Some []) log × IsTextOf log (string_bytes text))
 
 pub value-text : (result : Result (String Global) AllocError) (value : Data) → has_float value ≡ false
-    → TellsBy (SendsValue value) result → IfOk result (λ text. string_bytes text ≡ compact_text value)
-value-text (Ok text) value whole tells = text_of_value value tells.0 (string_bytes text) tells.1 tells.2 whole
-value-text (Err why) value whole tells = tt
+    → IsTextSentBy (SendsValue value) result → IfOk result (λ text. string_bytes text ≡ compact_text value)
+value-text (Ok text) value whole sent = text_of_value value sent.0 (string_bytes text) sent.1 sent.2 whole
+value-text (Err why) value whole sent = tt
 
 pub match-text : (result : Result (String Global) AllocError) (partial : Bool) (end far : ℕ) (expected : List Extent)
     (key : List ℕ) (value : Data) → has_float (matched_data partial end far expected (member key value no_members)) ≡ false
-    → TellsBy (SendsMatch partial end far expected key (SendsValue value)) result
+    → IsTextSentBy (SendsMatch partial end far expected key (SendsValue value)) result
     → IfOk result (λ text. string_bytes text ≡ compact_text (matched_data partial end far expected (member key value no_members)))
-match-text (Ok text) partial end far expected key value whole tells =
-    text_of_value (matched_data partial end far expected (member key value no_members)) tells.0 (string_bytes text)
-    (match-sent partial end far expected key value (Some []) tells.0 tells.1) tells.2 whole
-match-text (Err why) partial end far expected key value whole tells = tt
+match-text (Ok text) partial end far expected key value whole sent =
+    text_of_value (matched_data partial end far expected (member key value no_members)) sent.0 (string_bytes text)
+    (match-sent partial end far expected key value (Some []) sent.0 sent.1) sent.2 whole
+match-text (Err why) partial end far expected key value whole sent = tt
 
 pub nested-text : (result : Result (String Global) AllocError) (partial : Bool) (end far : ℕ) (expected : List Extent)
     (key : List ℕ) (names : List (List ℕ)) (tree : Trees)
     → has_float (matched_data partial end far expected (member key (tree_data names tree) no_members)) ≡ false
-    → TellsBy (SendsMatch partial end far expected key (SendsNested names tree)) result
+    → IsTextSentBy (SendsMatch partial end far expected key (SendsNested names tree)) result
     → IfOk result (λ text. string_bytes text
     ≡ compact_text (matched_data partial end far expected (member key (tree_data names tree) no_members)))
-nested-text (Ok text) partial end far expected key names tree whole tells =
+nested-text (Ok text) partial end far expected key names tree whole sent =
     match-text (Ok text) partial end far expected key (tree_data names tree) whole
-    (tells.0, nested_match-sent partial end far expected key names tree (Some []) tells.0 tells.1, tells.2)
-nested-text (Err why) partial end far expected key names tree whole tells = tt
+    (sent.0, nested_match-sent partial end far expected key names tree (Some []) sent.0 sent.1, sent.2)
+nested-text (Err why) partial end far expected key names tree whole sent = tt
 
 nested_text-sent : (names : List (List ℕ)) (text : List ℕ) (tree : Trees) (old new : Log)
     → SendsNestedText names text tree old new → SendsValue (text_tree_data names text tree) old new
@@ -125,10 +125,10 @@ nested_text_match-sent partial end far expected key names text tree old new s = 
 pub nested_text-text : (result : Result (String Global) AllocError) (partial : Bool) (end far : ℕ) (expected : List Extent)
     (key : List ℕ) (names : List (List ℕ)) (text : List ℕ) (tree : Trees)
     → has_float (matched_data partial end far expected (member key (text_tree_data names text tree) no_members)) ≡ false
-    → TellsBy (SendsMatch partial end far expected key (SendsNestedText names text tree)) result
+    → IsTextSentBy (SendsMatch partial end far expected key (SendsNestedText names text tree)) result
     → IfOk result (λ json. string_bytes json
     ≡ compact_text (matched_data partial end far expected (member key (text_tree_data names text tree) no_members)))
-nested_text-text (Ok json) partial end far expected key names text tree whole tells =
+nested_text-text (Ok json) partial end far expected key names text tree whole sent =
     match-text (Ok json) partial end far expected key (text_tree_data names text tree) whole
-    (tells.0, nested_text_match-sent partial end far expected key names text tree (Some []) tells.0 tells.1, tells.2)
-nested_text-text (Err why) partial end far expected key names text tree whole tells = tt
+    (sent.0, nested_text_match-sent partial end far expected key names text tree (Some []) sent.0 sent.1, sent.2)
+nested_text-text (Err why) partial end far expected key names text tree whole sent = tt

@@ -15,11 +15,13 @@ pub use Rattle.peg_grammar.specs.Limits
 pub use Rattle.peg_lint.specs.Never
 pub use Rattle.peg_lint.specs.FileWarnings
 pub use Rattle.peg_lint.specs.Warnings
+pub use Rattle.peg_parser.specs.Calls
 pub use Rattle.peg_parser.specs.Cause
 pub use Rattle.peg_parser.specs.Faults
 pub use Rattle.peg_parser.specs.Fits
 pub use Rattle.peg_parser.specs.Parser
 pub use Rattle.peg_parser.specs.StepLimits
+pub use Rattle.peg_profile.specs.Profiles
 pub use Rattle.peg_tree.specs.Json
 pub use Rattle.peg_tree.specs.Names
 pub use Rattle.peg_tree.specs.Nodes
@@ -33,6 +35,8 @@ pub mod LintText
 pub mod Lints
 pub mod Parses
 pub mod Positions
+pub mod ProfileReplies
+pub mod ProfileText
 pub mod Reply
 pub mod RowsHead
 pub mod Sending

@@ -1,5 +1,5 @@
 -- The line and the exit status of the tool's replies.
-use Rattle.std.specs.Prelude.{ℕ, Bool, true, false, List, [], ◌∷◌, ◌++◌, codes, map, slice_index_or, if◌then◌else◌}
+use Rattle.std.specs.Prelude.{ℕ, Bool, true, false, List, [], ◌∷◌, ◌++◌, Option, codes, map, slice_index_or, if◌then◌else◌}
 use Rattle.serde_json.specs.Data.{Data, Members, unsigned, number, string}
 use Rattle.serde_json.specs.Data.{array, object, no_members, member, no_items, item}
 use Rattle.serde_json.specs.Data.{null}
@@ -13,16 +13,20 @@ use Rattle.peg_tree.specs.TextJson.{nested_text_data, rows_text_data}
 use Rattle.peg_code.specs.Instructions.{Instruction}
 use Rattle.peg_lint.specs.declared.warning.Warning.{Warning}
 use Rattle.peg_parser.specs.Cause.{Cause}
+use Rattle.peg_profile.specs.declared.counts.RuleProfile.{RuleProfile}
 use Rattle.peg_json.specs.CauseText.{cause_data, cause_status}
 use Rattle.peg_json.specs.CodeText.{code_data}
 use Rattle.peg_json.specs.LintText.{lint_data, status_of_warnings}
+use Rattle.peg_json.specs.ProfileText.{profile_data, status_of_end}
 use Rattle.peg_json.specs.TableText.{table_data}
 use Rattle.peg_json.specs.declared.tree_form.TreeForm.{TreeForm}
 use Rattle.peg_json.specs.declared.tree_form.TreeForm.TheVariants.{Nested, Rows, NoTree}
 
 -- A reply of the tool: a refusal, a table of outcomes with the rules' names, or the number of rules of an accepted
--- grammar. Others are the code with the entry of each rule, the rules' names with warnings, a failure, and a match.
+-- grammar. Others are the code with the entry of each rule, the rules' names with warnings, a profile, a failure, and a
+-- match.
 --
+-- A profile has the end of the parse if it matched, the number of its steps, and the rules' names with their profiles.
 -- A failure is the furthest failure: a position of the text, and the spans of terminals in the grammar file. A match
 -- adds to these its end, the rules' names and the tree with its printed form. `partial` is a match shorter than asked
 -- for. A match with text is one whose tree is printed with the bytes of each node without children.
@@ -32,6 +36,7 @@ pub data Reply : Type 0 where
   Accepted : (rules : ℕ) → Reply
   Coded : (code : List Instruction) → (entries : List ℕ) → Reply
   Linted : (names : List (List ℕ)) → List Warning → Reply
+  Profiled : (end : Option ℕ) → (steps : ℕ) → (names : List (List ℕ)) → List RuleProfile → Reply
   Failed : (far : ℕ) → (expected : List Extent) → Reply
   Matched : (partial : Bool) → TreeForm → (end far : ℕ) → (expected : List Extent) → (names : List (List ℕ))
       → (tree : Trees) → Reply
@@ -54,6 +59,7 @@ with_text text (Tabled names cans) = Tabled names cans
 with_text text (Accepted rules) = Accepted rules
 with_text text (Coded code entries) = Coded code entries
 with_text text (Linted names warnings) = Linted names warnings
+with_text text (Profiled end steps names profiles) = Profiled end steps names profiles
 with_text text (Failed far expected) = Failed far expected
 with_text text (Matched partial form end far expected names tree) =
     match_with_text text partial form end far expected names tree
@@ -72,6 +78,7 @@ status_of (Tabled names cans) = 0
 status_of (Accepted rules) = 0
 status_of (Coded code entries) = 0
 status_of (Linted names warnings) = status_of_warnings warnings
+status_of (Profiled end steps names profiles) = status_of_end end
 status_of (Failed far expected) = 1
 status_of (Matched partial form end far expected names tree) = if partial then 1 else 0
 status_of (MatchedWithText partial form end far expected names tree text) = if partial then 1 else 0
@@ -139,6 +146,7 @@ printed file (Tabled names cans) = table_data names cans
 printed file (Accepted rules) = accepted_data rules
 printed file (Coded code entries) = code_data code entries
 printed file (Linted names warnings) = lint_data file names warnings
+printed file (Profiled end steps names profiles) = profile_data end steps names profiles
 printed file (Failed far expected) = failed_data far expected
 printed file (Matched partial form end far expected names tree) =
     matched_data partial end far expected (tree_member form names tree)

@@ -1,5 +1,5 @@
-//! Replies: the line of JSON and the exit status for an answer, a refusal, a table, code, warnings or an accepted
-//! grammar.
+//! Replies: the line of JSON and the exit status for an answer, a refusal, a table, code, warnings, a profile or an
+//! accepted grammar.
 #![tactic(auto)]
 
 mod answer_object;
@@ -12,6 +12,8 @@ mod line;
 mod lines;
 mod lint_text;
 mod positions;
+mod profile_lines;
+mod profile_text;
 mod refusal_text;
 mod row_lines;
 mod shown_lines;
@@ -30,6 +32,8 @@ pub use lines::{
     refused_line, step_limit_line, table_line,
 };
 pub use lint_text::lint_json;
+pub use profile_lines::profile_line;
+pub use profile_text::profile_json;
 pub use refusal_text::refusal_json;
 pub use shown_lines::shown_rows_line;
 pub use status::Status;

@@ -42,7 +42,7 @@ use std::alloc::{AllocError, Global};
 /// Returns the line of a rejected grammar file. The refusal must not be `Memory`.
 pub fn refused_line(alloc: Global, file: &[u8], refusal: &Refusal) -> Result<Line, AllocError>
     requires short { length file.now ≤ max_offset }
-    requires tellable { IsTrueRefusal (length file.now) refusal.now }
+    requires true_refusal { IsTrueRefusal (length file.now) refusal.now }
     requires has_cause { refusal.now ≢ Refusal.Memory }
     ensures { IfOk result (λ line. (cause : Cause) × (cause_of refusal.now ≡ Some cause)
         × IsReply file.now (Refused cause) (line_bytes line) (status_code line.status)) }

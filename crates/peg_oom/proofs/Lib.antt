@@ -1,1 +1,1 @@
-mod Tellable
+mod TrueRefusals

@@ -1,17 +1,23 @@
 //! Calls that count the calls of rules.
+ghost use Rattle.std.specs.Prelude.{◌≡◌, IfOk, length};
+ghost use Rattle.peg_parser.specs.Parser.{parser_rules};
+
 use crate::ending::{Borrowed, report};
 use crate::inputs::PREFIX;
 use crate::parsers::{FEW, parser};
-use peg_parser::{DEFAULT_MEMO, ParseFault, ParseOptions};
+use peg_json::{profile_json, profile_line};
+use peg_parser::{DEFAULT_MEMO, ParseFault, ParseOptions, Parser};
 use peg_profile::{Profile, RuleProfile, rule_profiles};
-use std::alloc::Global;
+use std::alloc::{AllocError, Global};
 use std::io;
 
-pub(crate) const WORDS: [&str; 4] = [
+pub(crate) const WORDS: [&str; 6] = [
     "rule_profiles",
     "profile",
     "profile_memo",
     "profile_no_start",
+    "profile_json",
+    "profile_line",
 ];
 
 /// Makes the call that the argument names. Returns nothing if the name is not known here.
@@ -21,6 +27,8 @@ pub(crate) fn call(rt: &impl Print, alloc: Global, word: &str) -> Option<io::Res
         "profile" => profiled(rt, alloc, None, 0),
         "profile_memo" => profiled(rt, alloc, Some("A"), DEFAULT_MEMO),
         "profile_no_start" => profiled(rt, alloc, Some("B"), 0),
+        "profile_json" => printed(rt, alloc),
+        "profile_line" => printed_line(rt, alloc),
         _ => return None,
     };
     Some(made)
@@ -31,6 +39,38 @@ fn counted(rt: &impl Print, alloc: Global) -> io::Result<()> {
     let calls = [(0, 3), (1, 0), (0, 1), (2, 0), (0, 3), (0, 2), (0, 0)];
     let borrowed = Borrowed::of(alloc, &calls)?;
     let answer = rule_profiles(alloc, 2, &calls);
+    report(rt, &borrowed, answer.is_err(), &answer)
+}
+
+// The parser of a grammar, and the profile of a parse by it.
+fn profile_of(alloc: Global) -> io::Result<(Parser, Profile)>
+    ensures { IfOk result (λ both. length both.1.rules.items ≡ length (parser_rules both.0)) }
+{
+    let parser = parser(alloc, PREFIX)?;
+    let options = ParseOptions {
+        start: None,
+        memo: 0,
+        steps: None,
+    };
+    match Profile::of_text(alloc, &parser, FEW, &options) {
+        Ok(profile) => Ok((parser, profile)),
+        Err(_) => Err(io::Error::from(AllocError)),
+    }
+}
+
+fn printed(rt: &impl Print, alloc: Global) -> io::Result<()> {
+    let (parser, profile) = profile_of(alloc)?;
+    let borrowed = (parser.grammar(), &profile.rules);
+    let borrowed = Borrowed::of(alloc, &borrowed)?;
+    let answer = profile_json(alloc, parser.grammar(), &profile);
+    report(rt, &borrowed, answer.is_err(), &answer)
+}
+
+fn printed_line(rt: &impl Print, alloc: Global) -> io::Result<()> {
+    let (parser, profile) = profile_of(alloc)?;
+    let borrowed = (parser.grammar(), &profile.rules);
+    let borrowed = Borrowed::of(alloc, &borrowed)?;
+    let answer = profile_line(alloc, parser.grammar(), &profile);
     report(rt, &borrowed, answer.is_err(), &answer)
 }
 

@@ -11,7 +11,7 @@ use peg_tool::{
 use std::alloc::{AllocError, Global};
 use std::io;
 
-pub(crate) const WORDS: [&str; 34] = [
+pub(crate) const WORDS: [&str; 40] = [
     "read_up_to",
     "read_words",
     "read_words_help",
@@ -38,13 +38,19 @@ pub(crate) const WORDS: [&str; 34] = [
     "tool_parse_no_rule",
     "tool_parse_text",
     "tool_parse_text_hide",
+    "tool_profile",
+    "tool_profile_no_start",
     "joined",
     "joined_open",
+    "words_explain",
+    "words_explain_open",
     "words_joined",
     "words_lint",
     "words_parse",
+    "words_profile",
     "words_text",
     "program",
+    "program_explain",
     "program_usage",
 ];
 
@@ -65,6 +71,9 @@ pub(crate) fn call(rt: &impl Print, alloc: Global, word: &str) -> Option<io::Res
     if word.starts_with("tool_parse") {
         return parsed(rt, alloc, word);
     }
+    if word.starts_with("tool_profile") {
+        return profiled(rt, alloc, word);
+    }
     let made = match word {
         "read_up_to" => bytes(rt, alloc),
         "read_words" => asked(rt, alloc, "parse g t --start A --memo 7 --all --rows"),
@@ -77,11 +86,15 @@ pub(crate) fn call(rt: &impl Print, alloc: Global, word: &str) -> Option<io::Res
         "tool_code" => tool(rt, alloc, COUNTS, b"", &Command::Code),
         "joined" => joined(rt, alloc, b"S <- 'a' S / 'b'\n%%\naab"),
         "joined_open" => joined(rt, alloc, b"A <- [a-]\n%%\naab"),
+        "words_explain" => led(rt, alloc, "explain chain chain aab --files-from aab"),
+        "words_explain_open" => led(rt, alloc, "explain aab chain"),
         "words_joined" => led(rt, alloc, ""),
         "words_lint" => led(rt, alloc, "lint chain --start S --proved"),
         "words_parse" => led(rt, alloc, "parse chain aab --rows"),
+        "words_profile" => led(rt, alloc, "profile chain aab"),
         "words_text" => led(rt, alloc, "parse chain aab --rows --text --hide S"),
         "program" => left(rt, alloc, "parse chain aab --show S"),
+        "program_explain" => left(rt, alloc, "explain chain nowhere chain"),
         "program_usage" => left(rt, alloc, "parse chain aab --memo many"),
         _ => return None,
     };
@@ -135,6 +148,18 @@ fn parsed(rt: &impl Print, alloc: Global, word: &str) -> Option<io::Result<()>> 
         nodes,
         text,
     };
+    Some(tool(rt, alloc, PREFIX, b"((((a)y)y)y)y", &command))
+}
+
+fn profiled(rt: &impl Print, alloc: Global, word: &str) -> Option<io::Result<()>> {
+    let start = match word {
+        "tool_profile" => None,
+        "tool_profile_no_start" => Some("B"),
+        _ => return None,
+    };
+    let (memo, steps) = (0, None);
+    let options = ParseOptions { start, memo, steps };
+    let command = Command::Profile { options };
     Some(tool(rt, alloc, PREFIX, b"((((a)y)y)y)y", &command))
 }
 

@@ -78,7 +78,7 @@ fn a_match_has_its_tree(rt: HostRuntime) -> Result<(), Fail> {
 }
 
 #[test]
-fn a_failure_tells_its_terminals(rt: HostRuntime) -> Result<(), Fail> {
+fn a_failure_lists_its_terminals(rt: HostRuntime) -> Result<(), Fail> {
     let line = "{\"expected\":[[5,8],[13,16]],\"far\":0,\"result\":\"failed\"}";
     for all in [false, true] {
         assert_answer(&rt, rt.alloc(), NESTED, b"", Asked { all, rows: all }, line)?;

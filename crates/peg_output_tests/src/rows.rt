@@ -19,7 +19,7 @@ fn line_of(alloc: Global, file: &[u8], text: &[u8]) -> Result<Line, Fail> {
 }
 
 #[test]
-fn rows_stand_between_the_head_and_the_tail(rt: HostRuntime) -> Result<(), Fail> {
+fn rows_are_between_the_head_and_the_tail(rt: HostRuntime) -> Result<(), Fail> {
     let line = line_of(rt.alloc(), b"S <- 'a' S / 'b'\n", b"aab")?;
     assert_eq!(rt;
         line.head.as_str(),

@@ -7,15 +7,23 @@ use std::test::Fail;
 
 // Parses these arguments.
 fn read(alloc: Global, words: &[&str]) -> Result<Words, WordsFault> {
-    let mut list = Vec::new(alloc);
-    for word in words {
-        let word = String::from_str(alloc, word)?;
-        match list.push(word) {
-            Ok(()) => (),
-            Err(_) => return Err(WordsFault::Memory),
-        }
-    }
+    let list = strings(alloc, words)?;
     read_words(alloc, &list)
+}
+
+fn strings(alloc: Global, texts: &[&str]) -> Result<Vec<String>, AllocError> {
+    let mut list = Vec::new(alloc);
+    for text in texts {
+        list.push(String::from_str(alloc, text)?)?;
+    }
+    Ok(list)
+}
+
+fn optional_string(alloc: Global, text: Option<&str>) -> Result<Option<String>, AllocError> {
+    match text {
+        Some(text) => Ok(Some(String::from_str(alloc, text)?)),
+        None => Ok(None),
+    }
 }
 
 #[test]
@@ -176,6 +184,132 @@ fn a_parse_may_list_rules(rt: HostRuntime) -> Result<(), Fail> {
 }
 
 #[test]
+fn profile_has_its_options(rt: HostRuntime) -> Result<(), Fail> {
+    let alloc = rt.alloc();
+    let cases = [
+        ("profile g t", None, 0, Some(1_000_000_000)),
+        ("profile g t --memo 9", None, 9, Some(1_000_000_000)),
+        ("profile --start A g t --steps 8", Some("A"), 0, Some(8)),
+    ];
+    for (line, name, memo, steps) in cases {
+        let start = match name {
+            Some(name) => Some(String::from_str(alloc, name)?),
+            None => None,
+        };
+        let g = String::from_str(alloc, "g")?;
+        let t = String::from_str(alloc, "t")?;
+        let expected = Words::Profile {
+            g,
+            t,
+            start,
+            memo,
+            steps,
+        };
+        asks(&rt, alloc, line, &expected)?;
+    }
+    Ok(())
+}
+
+#[test]
+fn explain_takes_any_number_of_texts(rt: HostRuntime) -> Result<(), Fail> {
+    let alloc = rt.alloc();
+    let cases = [
+        ("explain g", ""),
+        ("explain g t", "t"),
+        ("explain g t u t", "t u t"),
+        ("explain g - t -", "- t -"),
+        ("explain --memo 4096 g t u", "t u"),
+        ("explain g t --memo 4096 u v", "t u v"),
+        ("explain g t -- -u --quiet", "t -u --quiet"),
+    ];
+    for (line, texts) in cases {
+        let texts: Vec<&str> = texts.split_whitespace().collect(alloc)?;
+        let expected = explain(alloc, &texts, None, false, false)?;
+        asks(&rt, alloc, line, &expected)?;
+    }
+    Ok(())
+}
+
+// An explanation of these texts by the grammar file g, with defaults for the options that aren't given.
+fn explain(
+    alloc: Global,
+    texts: &[&str],
+    files_from: Option<&str>,
+    null: bool,
+    quiet: bool,
+) -> Result<Words, AllocError> {
+    Ok(Words::Explain {
+        g: String::from_str(alloc, "g")?,
+        texts: strings(alloc, texts)?,
+        files_from: optional_string(alloc, files_from)?,
+        null,
+        start: None,
+        memo: 4096,
+        steps: None,
+        quiet,
+    })
+}
+
+#[test]
+fn explain_may_read_a_list_of_files(rt: HostRuntime) -> Result<(), Fail> {
+    let alloc = rt.alloc();
+    let cases = [
+        ("explain g t --files-from list", Some("list"), false, false),
+        ("explain --files-from - g t", Some("-"), false, false),
+        ("explain g --null t --files-from=l", Some("l"), true, false),
+        (
+            "explain g t --files-from -l --quiet",
+            Some("-l"),
+            false,
+            true,
+        ),
+        (
+            "explain g --files-from --null t",
+            Some("--null"),
+            false,
+            false,
+        ),
+        ("explain --quiet g t", None, false, true),
+    ];
+    for (line, files_from, null, quiet) in cases {
+        let expected = explain(alloc, &["t"], files_from, null, quiet)?;
+        asks(&rt, alloc, line, &expected)?;
+    }
+    Ok(())
+}
+
+#[test]
+fn explain_has_the_options_of_a_parse(rt: HostRuntime) -> Result<(), Fail> {
+    let alloc = rt.alloc();
+    let cases = [
+        ("explain g t", None, 4096, None),
+        ("explain g t --memo 0 --steps 1", None, 0, Some(1)),
+        ("explain --start A g t --steps 8", Some("A"), 4096, Some(8)),
+        ("explain g t --start -a --memo 7", Some("-a"), 7, None),
+        (
+            "explain g t --memo 1000000 --steps 1000000000000",
+            None,
+            1_000_000,
+            Some(1_000_000_000_000),
+        ),
+    ];
+    for (line, start, memo, steps) in cases {
+        let expected = Words::Explain {
+            g: String::from_str(alloc, "g")?,
+            texts: strings(alloc, &["t"])?,
+            files_from: None,
+            null: false,
+            start: optional_string(alloc, start)?,
+            memo,
+            steps,
+            quiet: false,
+        };
+        asks(&rt, alloc, line, &expected)?;
+    }
+    Ok(())
+}
+
+#[test]
 fn the_default_memo_is_that_of_the_command_line(rt: HostRuntime) {
     assert_eq!(rt; DEFAULT_MEMO, 4096);
 }
@@ -266,6 +400,13 @@ fn help_is_printed(rt: HostRuntime) -> Result<(), Fail> {
             "lint --help",
             "Example: pegtool lint grammar.peg --start Value",
         ),
+        ("profile --help", "Usage: pegtool profile [OPTIONS] <G> <T>"),
+        ("profile --help", "[default: 0]"),
+        ("profile --help", "[default: 1000000000]"),
+        (
+            "profile --help",
+            "Example: pegtool profile grammar.peg text",
+        ),
         ("parse --help", "Usage: pegtool parse [OPTIONS] <G> <T>"),
         ("parse --help", "[default: 4096]"),
         ("parse --help", "--steps <N>"),
@@ -281,6 +422,39 @@ fn help_is_printed(rt: HostRuntime) -> Result<(), Fail> {
         (
             "parse --help",
             "Example: pegtool parse grammar.peg text --start Value --all --rows",
+        ),
+    ];
+    for (line, part) in cases {
+        helps(&rt, rt.alloc(), line, part)?;
+    }
+    Ok(())
+}
+
+#[test]
+fn help_of_explain_is_printed(rt: HostRuntime) -> Result<(), Fail> {
+    let cases = [
+        (
+            "--help",
+            "explain  Prints where texts don't match a grammar",
+        ),
+        ("--help", "`explain` prints\nmessages for people"),
+        (
+            "explain --help",
+            "Usage: pegtool explain [OPTIONS] <G> [T]...",
+        ),
+        ("explain --help", "--files-from <FILE>"),
+        ("explain --help", "--null"),
+        ("explain --help", "--start <NAME>"),
+        ("explain --help", "[default: 4096]"),
+        ("explain --help", "[default: no limit]"),
+        ("explain --help", "--quiet"),
+        (
+            "explain --help",
+            "FILE:LINE:COLUMN: expected A, B or C, found 'x'",
+        ),
+        (
+            "explain --help",
+            "Example: pegtool explain grammar.peg *.txt",
         ),
     ];
     for (line, part) in cases {
@@ -357,12 +531,55 @@ fn what_is_no_command_line_is_refused(rt: HostRuntime) -> Result<(), Fail> {
 }
 
 #[test]
+fn wrong_arguments_of_explain_are_refused(rt: HostRuntime) -> Result<(), Fail> {
+    let cases = [
+        ("explain", "<G>"),
+        ("explain --quiet", "<G>"),
+        ("explain --files-from list", "<G>"),
+        ("explain g --null", "--files-from <FILE>"),
+        ("explain g t u --null", "--files-from <FILE>"),
+        ("explain g --rows", "unexpected argument '--rows'"),
+        ("explain g -t", "unexpected argument '-t'"),
+        (
+            "explain g --files-from",
+            "a value is required for '--files-from <FILE>'",
+        ),
+        (
+            "explain g --files-from a --files-from b",
+            "'--files-from <FILE>' cannot be used multiple times",
+        ),
+        (
+            "explain g --quiet --quiet",
+            "'--quiet' cannot be used multiple times",
+        ),
+        ("explain g --memo 1000001", "1000001 is not in 0..=1000000"),
+        ("explain g --memo -1", "-1 is not in 0..=1000000"),
+        ("explain g t --steps 0", "0 is not in 1..=1000000000000"),
+        (
+            "explain g t --steps 1000000000001",
+            "1000000000001 is not in 1..=1000000000000",
+        ),
+        (
+            "explain g --start",
+            "a value is required for '--start <NAME>'",
+        ),
+    ];
+    for (line, part) in cases {
+        refused(&rt, rt.alloc(), line, part)?;
+    }
+    Ok(())
+}
+
+#[test]
 fn faults_point_at_the_command_that_was_meant(rt: HostRuntime) -> Result<(), Fail> {
     let cases = [
         ("check", "pegtool check --help"),
         ("table x y", "pegtool table --help"),
         ("code --all x", "pegtool code --help"),
         ("lint", "pegtool lint --help"),
+        ("profile g", "pegtool profile --help"),
+        ("explain", "pegtool explain --help"),
+        ("explain g --null", "pegtool explain --help"),
         ("parse g", "pegtool parse --help"),
         ("g.peg text", "pegtool parse G T"),
         ("--rows g t", "pegtool parse G T"),

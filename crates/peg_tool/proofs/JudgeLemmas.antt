@@ -13,9 +13,9 @@ use Rattle.peg_tool.specs.Replies.{IsPrinted, RepliesTo, refused_grammar, refuse
 use Rattle.peg_tool.specs.Task.{ToolTask, Checks}
 
 -- a refusal with a cause of some kind is one that the file can have
-pub reported-tellable : (Kind : Cause → Type 0) (size : ℕ) (why : Refusal) → HasCause Kind size why → IsTrueRefusal size why
-reported-tellable Kind size why (out_of_memory is) = out_of_memory is
-reported-tellable Kind size why (of_cause cause tells holds starts named) = of_cause cause tells tt starts named
+pub reported-true_refusal : (Kind : Cause → Type 0) (size : ℕ) (why : Refusal) → HasCause Kind size why → IsTrueRefusal size why
+reported-true_refusal Kind size why (out_of_memory is) = out_of_memory is
+reported-true_refusal Kind size why (of_cause cause cause_is holds starts named) = of_cause cause cause_is tt starts named
 
 -- a reason why a file isn't accepted is a reply to each task that needs it accepted
 pub refuses-replies : (file text : List ℕ) (task : ToolTask) → Checks task → (cause : Cause) → IsRefusalOf file cause
@@ -31,8 +31,8 @@ reported-printed : (Kind : Cause → Type 0) (file text : List ℕ) (size : ℕ)
     → IsPrinted task file text line status
 reported-printed Kind file text size task why line status (out_of_memory is) replies printed =
     absurd (let none : None ≡ Some printed.0 = sym (ap cause_of is) ∙ printed.1 in cc)
-reported-printed Kind file text size task why line status (of_cause cause tells holds starts named) replies printed =
-    let both : Some cause ≡ Some printed.0 = sym tells ∙ printed.1 in
+reported-printed Kind file text size task why line status (of_cause cause cause_is holds starts named) replies printed =
+    let both : Some cause ≡ Some printed.0 = sym cause_is ∙ printed.1 in
     let same : printed.0 ≡ cause = cc in
     let is = subst (λ (c : Cause). IsReply file (Refused c) line status) same printed.2 in
     (Refused cause, replies cause holds, is.0, is.1)
@@ -43,9 +43,9 @@ pub refusal-line : (Kind : Cause → Type 0) (file text : List ℕ) (size : ℕ)
     → IfOk result (λ line. (cause : Cause) × (cause_of why ≡ Some cause)
     × IsReply file (Refused cause) (line_bytes line) (status_code line.status))
     → IfOk result (λ line. IsPrinted task file text (line_bytes line) (status_code line.status))
-refusal-line Kind file text size task why (Ok line) tells replies printed =
-    reported-printed Kind file text size task why (line_bytes line) (status_code line.status) tells replies printed
-refusal-line Kind file text size task why (Err other) tells replies printed = tt
+refusal-line Kind file text size task why (Ok line) has_cause replies printed =
+    reported-printed Kind file text size task why (line_bytes line) (status_code line.status) has_cause replies printed
+refusal-line Kind file text size task why (Err other) has_cause replies printed = tt
 
 -- the line of a file that isn't accepted, for every text and task that needs it accepted
 pub judged-refused : (file : List ℕ) (size : ℕ) (why : Refusal) (line : Line) → HasCause (IsRefusalOf file) size why
@@ -53,6 +53,6 @@ pub judged-refused : (file : List ℕ) (size : ℕ) (why : Refusal) (line : Line
     × IsReply file (Refused cause) (line_bytes line) (status_code line.status)
     → (task : ToolTask) (text : List ℕ) → Checks task
     → IsPrinted task file text (line_bytes line) (status_code line.status)
-judged-refused file size why line tells printed task text checks =
-    reported-printed (IsRefusalOf file) file text size task why (line_bytes line) (status_code line.status) tells
+judged-refused file size why line has_cause printed task text checks =
+    reported-printed (IsRefusalOf file) file text size task why (line_bytes line) (status_code line.status) has_cause
     (refuses-replies file text task checks) printed

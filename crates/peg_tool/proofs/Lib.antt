@@ -3,6 +3,7 @@ mod JudgeLemmas
 mod LintLemmas
 mod ListedNames
 mod ParsedLines
+mod ProfiledLines
 mod ProgramLemmas
 mod RunLemmas
 mod SelectedAnswers

@@ -3,11 +3,11 @@ use Rattle.std.proofs.Common.{◌≡◌, ◌↔◌, ℕ, Bool, true, false, inl,
 use Rattle.std.proofs.Common.{IsSome, refl, rules, subst, sym, ◌∙◌}
 use Rattle.peg_io.specs.NamedFile.{NamedFile, Unspecified, Missing, Holds, Readable, bytes_of, is_readable}
 use Rattle.peg_cli.specs.declared.words.Words.{Words}
-use Rattle.peg_cli.specs.declared.words.Words.TheVariants.{Joined, Help, Table, Check, Code, Lint, Parse}
+use Rattle.peg_cli.specs.declared.words.Words.TheVariants.{Joined, Help, Table, Check, Code, Lint, Profile, Explain, Parse}
 use Rattle.peg_tool.specs.CommandOutcome.{WritesOrFails, program_result}
 use Rattle.peg_tool.specs.Replies.{IsPrinted}
-use Rattle.peg_tool.specs.Requests.{ToolRequest, InputRequest, HelpRequest, FileRequest, FilesRequest, requested}
-use Rattle.peg_tool.specs.Task.{ToolTask, TableTask, CheckTask, CodeTask, LintTask, ParseTask, IsParse, IsTextOf}
+use Rattle.peg_tool.specs.Requests.{ToolRequest, InputRequest, HelpRequest, FileRequest, FilesRequest, ExplainRequest, requested}
+use Rattle.peg_tool.specs.Task.{ToolTask, TableTask, CheckTask, CodeTask, LintTask, ProfileTask, ParseTask, HasText, IsTextOf}
 use Rattle.peg_tool.specs.WritesReply.{WritesLine}
 use Rattle.peg_tool.specs.declared.write.CommandFault.{CommandFault}
 use Rattle.peg_tool.specs.declared.write.CommandFault.TheVariants as command
@@ -31,13 +31,14 @@ input-outcome IsRight (Some input) old new ended result is written =
     subst (λ (r : Result ℕ ProgramFault). WritesOrFails (IsRight input) old new r) (sym is)
     (writes-outcome (IsRight input) old new ended written)
 
--- a task that is no parse takes any text
-pub takes_any : (task : ToolTask) (file : List ℕ) (left : Option (List ℕ)) (bytes : List ℕ) → ¬ IsParse task
+-- a task without a text takes any text
+pub takes_any : (task : ToolTask) (file : List ℕ) (left : Option (List ℕ)) (bytes : List ℕ) → ¬ HasText task
     → IsTextOf task file left bytes
 takes_any TableTask file left bytes other = tt
 takes_any CheckTask file left bytes other = tt
 takes_any CodeTask file left bytes other = tt
 takes_any (LintTask start selection) file left bytes other = tt
+takes_any (ProfileTask start memo steps) file left bytes other = absurd (other tt)
 takes_any (ParseTask start memo steps all form nodes with_bytes) file left bytes other = absurd (other tt)
 
 pub takes_left : (task : ToolTask) (file : List ℕ) (left : Option (List ℕ)) (bytes : List ℕ) → left ≡ Some bytes
@@ -46,6 +47,7 @@ takes_left TableTask file left bytes is = tt
 takes_left CheckTask file left bytes is = tt
 takes_left CodeTask file left bytes is = tt
 takes_left (LintTask start selection) file left bytes is = tt
+takes_left (ProfileTask start memo steps) file left bytes is = λ rules accepts. is
 takes_left (ParseTask start memo steps all form nodes with_bytes) file left bytes is = λ rules accepts. is
 
 -- a command on an opened file is a result of the program, for each text of the task
@@ -64,7 +66,7 @@ opened-outcome task (Some file) left text old new ended result opened is written
 
 -- a task on a file alone, for any text
 pub alone-outcome : (task : ToolTask) (held text old new : Option (List ℕ)) (result : Result ℕ ProgramFault)
-    → ¬ IsParse task
+    → ¬ HasText task
     → IfSome held (λ file. (bytes : List ℕ) → IsTextOf task file text bytes
     → WritesOrFails (IsPrinted task file bytes) old new result)
     → IfSome held (λ file. (bytes : List ℕ) → WritesOrFails (IsPrinted task file bytes) old new result)
@@ -120,12 +122,13 @@ not_failed failed is bad = let both : false ≡ true = sym is ∙ bad in cc
 
 -- ---- requests
 
--- a request on one file has no parse
+-- a request on one file has no text
 abbrev ReadsNone : ToolRequest → Type 0
 ReadsNone InputRequest = Unit {0}
 ReadsNone (HelpRequest text) = Unit {0}
-ReadsNone (FileRequest task g) = ¬ IsParse task
+ReadsNone (FileRequest task g) = ¬ HasText task
 ReadsNone (FilesRequest task g t) = Unit {0}
+ReadsNone (ExplainRequest question printing) = Unit {0}
 
 reads_none : (words : Words) → ReadsNone (requested words)
 reads_none Joined = tt
@@ -134,8 +137,10 @@ reads_none (Table g) = λ parse. parse
 reads_none (Check g) = λ parse. parse
 reads_none (Code g) = λ parse. parse
 reads_none (Lint g start proved) = λ parse. parse
+reads_none (Profile g t start memo steps) = tt
+reads_none (Explain g texts files_from null start memo steps quiet) = tt
 reads_none (Parse g t start memo steps all rows no_tree show hide text) = tt
 
 pub one_file-reads_none : (words : Words) (request : ToolRequest) (task : ToolTask) (g : List ℕ)
-    → request ≡ requested words → request ≡ FileRequest task g → ¬ IsParse task
+    → request ≡ requested words → request ≡ FileRequest task g → ¬ HasText task
 one_file-reads_none words request task g is has = subst ReadsNone (sym is ∙ has) (reads_none words)

@@ -7,7 +7,7 @@ use Rattle.peg_metagrammar.specs.Notation.{max_file_bytes}
 use Rattle.peg_semantics.specs.Rules.{Rule}
 use Rattle.peg_io.specs.declared.transfer.ReadFault.{ReadFault}
 use Rattle.peg_io.specs.Split.{IsSplit, at_separator, without_separator}
-use Rattle.peg_io.proofs.SplitLaws.{TellsSplit, separator_in_front, separator_further, front_split}
+use Rattle.peg_io.proofs.SplitLaws.{SplitOfWhole, separator_in_front, separator_further, front_split}
 use Rattle.peg_parser.specs.Accepts.{Accepts}
 use Rattle.peg_parser.specs.Cause.{Cause, FileTooLong, NoSuchRule, TextTooLong}
 use Rattle.peg_parser.specs.Refusals.{IsNoGrammar, IsIllFormed, code_too_large, file_too_long, not_in_the_notation, count_out_of_range, too_nested, a_name_twice}
@@ -16,15 +16,16 @@ use Rattle.peg_grammar.specs.Limits.{max_text_bytes}
 use Rattle.peg_json.specs.Lines.{IsLineOf, IsReply, line_bytes}
 use Rattle.peg_json.specs.Parses.{ParsesTo, ParsesToAsked, text_too_long, no_such_start, too_many_steps, failed, too_many_levels}
 use Rattle.peg_json.specs.Parses.{matched}
+use Rattle.peg_json.specs.ProfileReplies.{ProfilesTo, text_over_limit, start_without_rule, steps_over_limit, has_profile}
 use Rattle.peg_json.specs.Reply.{Reply, Refused, printed_line, status_of, with_text_if}
 use Rattle.peg_json.specs.Statuses.{status_code}
 use Rattle.peg_json.proofs.PrintLemmas.{refused-with_text}
 use Rattle.peg_json.specs.declared.tree_form.TreeForm.{TreeForm}
 use Rattle.peg_json.specs.declared.line.Line.{Line}
 use Rattle.peg_tool.specs.Replies.{RepliesTo, IsPrinted, IsPrintedJoined, max_joined_bytes, refused_grammar, tabled, refused_form}
-use Rattle.peg_tool.specs.Replies.{too_large, accepted, coded, linted, no_such_rule, parsed}
+use Rattle.peg_tool.specs.Replies.{too_large, accepted, coded, linted, profiled, no_such_rule, parsed}
 use Rattle.peg_tool.specs.PrintedNodes.{PrintedNodes, first_unknown, shown_by}
-use Rattle.peg_tool.specs.Task.{ToolTask, TableTask, CheckTask, CodeTask, LintTask, ParseTask, IsTextOf, default_task}
+use Rattle.peg_tool.specs.Task.{ToolTask, TableTask, CheckTask, CodeTask, LintTask, ProfileTask, ParseTask, IsTextOf, default_task}
 
 -- ---- texts over the limit
 
@@ -69,6 +70,19 @@ same-longer rules text more start memo steps all form shown with_bytes reply lon
     (matched within enough starts found is shallow furthest) =
     absurd (omega (arith, long, within))
 
+-- all texts over the limit have the same replies to a request for a profile
+pub ProfilesTo-longer : (rules : List Rule) (text more : List ℕ) (start : Option (List ℕ)) (memo : ℕ) (steps : Option ℕ)
+    (reply : Reply) → max_text_bytes < length text → max_text_bytes < length more
+    → ProfilesTo rules text start memo steps reply → ProfilesTo rules more start memo steps reply
+ProfilesTo-longer rules text more start memo steps reply long longer (text_over_limit over) = text_over_limit longer
+ProfilesTo-longer rules text more start memo steps reply long longer (start_without_rule name within named missing) =
+    absurd (omega (arith, long, within))
+ProfilesTo-longer rules text more start memo steps reply long longer (steps_over_limit within more_steps) =
+    absurd (omega (arith, long, within))
+ProfilesTo-longer rules text more start memo steps reply long longer
+    (has_profile within enough starts found taken calls profiles) =
+    absurd (omega (arith, long, within))
+
 -- the same for any task
 RepliesTo-longer : (file text more : List ℕ) (task : ToolTask) (reply : Reply) → max_text_bytes < length text
     → max_text_bytes < length more → RepliesTo file text task reply → RepliesTo file more task reply
@@ -79,6 +93,8 @@ RepliesTo-longer file text more task reply long longer (too_large checks is) = t
 RepliesTo-longer file text more task reply long longer (accepted accepts) = accepted accepts
 RepliesTo-longer file text more task reply long longer (coded accepts) = coded accepts
 RepliesTo-longer file text more task reply long longer (linted accepts is) = linted accepts is
+RepliesTo-longer file text more task reply long longer (profiled {rules} {start} {memo} {steps} accepts is) =
+    profiled accepts (ProfilesTo-longer rules text more start memo steps reply long longer is)
 RepliesTo-longer file text more task reply long longer (no_such_rule name accepts first) = no_such_rule name accepts first
 RepliesTo-longer file text more task reply long longer
     (parsed {rules} {start} {memo} {steps} {all} {form} {nodes} {with_bytes} accepts known is) =
@@ -115,6 +131,7 @@ over-reply file text task reply long (too_large checks (code_too_large read take
 over-reply file text task reply long (accepted accepts) = absurd (omega (arith, long, accepts.read.within))
 over-reply file text task reply long (coded accepts) = absurd (omega (arith, long, accepts.read.within))
 over-reply file text task reply long (linted accepts is) = absurd (omega (arith, long, accepts.read.within))
+over-reply file text task reply long (profiled accepts is) = absurd (omega (arith, long, accepts.read.within))
 over-reply file text task reply long (no_such_rule name accepts first) = absurd (omega (arith, long, accepts.read.within))
 over-reply file text task reply long (parsed accepts known is) = absurd (omega (arith, long, accepts.read.within))
 
@@ -163,7 +180,7 @@ IsPrintedJoined-front front rest line status long given =
     (whole.0, whole.1, whole.2, by given.0 given.1 given.3 whole.0 whole.1 whole.3)
   where
     by : (file text : List ℕ) → IsPrinted default_task file text line status → (before after : List ℕ)
-        → TellsSplit front rest file text before after → IsPrinted default_task before after line status
+        → SplitOfWhole front rest file text before after → IsPrinted default_task before after line status
     by file text is before after (separator_in_front same more lengths) =
         subst (λ l. IsPrinted default_task l after line status) (sym same)
         (subst (λ l. IsPrinted default_task file l line status) (sym more)
@@ -211,6 +228,16 @@ pub unknown-reported : (line : Line) (file : List ℕ) (left : Option (List ℕ)
 unknown-reported line file None rules start memo steps all form nodes with_bytes name accepts first is = tt
 unknown-reported line file (Some text) rules start memo steps all form nodes with_bytes name accepts first is =
     (Refused (NoSuchRule name), no_such_rule name accepts first, is.0, is.1)
+
+-- the reply for the text that was read is the reply for the text, for any task that has one
+pub task-reported : (result : Result Line ReadFault) (task : ToolTask) (file : List ℕ) (left : Option (List ℕ))
+    (bytes : List ℕ) → left ≡ Some bytes
+    → IfOk result (λ line. IfSome left (λ text. IsPrinted task file text (line_bytes line) (status_code line.status)))
+    → IfOk result (λ line. IsPrinted task file bytes (line_bytes line) (status_code line.status))
+task-reported (Ok line) task file left bytes is reported =
+    subst (λ (text : Option (List ℕ)). IfSome text (λ read. IsPrinted task file read (line_bytes line)
+    (status_code line.status))) is reported
+task-reported (Err why) task file left bytes is reported = tt
 
 -- the reply for the text that was read is the reply for the text
 pub parsed-reported : (result : Result Line ReadFault) (file : List ℕ) (left : Option (List ℕ)) (bytes : List ℕ)
@@ -275,6 +302,8 @@ any_text TableTask text file bytes long = tt
 any_text CheckTask text file bytes long = tt
 any_text CodeTask text file bytes long = tt
 any_text (LintTask start selection) text file bytes long = tt
+any_text (ProfileTask start memo steps) text file bytes long =
+    λ rules accepts. absurd (omega (arith, long, accepts.read.within))
 any_text (ParseTask start memo steps all form nodes with_bytes) text file bytes long =
     λ rules accepts. absurd (omega (arith, long, accepts.read.within))
 

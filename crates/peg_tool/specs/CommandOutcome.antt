@@ -5,9 +5,11 @@ use Rattle.std.specs.Io.KnownBytes.{Appends, Keeps}
 use Rattle.peg_io.specs.declared.opener.OpenFault.{OpenFault}
 use Rattle.peg_io.specs.declared.opener.OpenFault.TheVariants as opening
 use Rattle.peg_io.specs.NamedFile.{NamedFile, bytes_of}
+use Rattle.peg_tool.specs.Explanations.{ExplanationOutcome}
 use Rattle.peg_tool.specs.Replies.{IsPrinted, IsPrintedJoined}
-use Rattle.peg_tool.specs.Requests.{ToolRequest, InputRequest, HelpRequest, FileRequest, FilesRequest}
+use Rattle.peg_tool.specs.Requests.{ToolRequest, InputRequest, HelpRequest, FileRequest, FilesRequest, ExplainRequest}
 use Rattle.peg_tool.specs.Written.{PrintsInPart}
+use Rattle.peg_tool.specs.declared.explaining.Explanation.{Explanation}
 use Rattle.peg_tool.specs.declared.write.CommandFault.{CommandFault}
 use Rattle.peg_tool.specs.declared.write.CommandFault.TheVariants as command
 use Rattle.peg_tool.specs.declared.program.ProgramFault.{ProgramFault}
@@ -25,6 +27,11 @@ WritesOrFails IsRight old new (Err File) = Keeps old new ⊎ PrintsInPart IsRigh
 abbrev pub IsHelp : (text : List ℕ) → (line : List ℕ) → (status : ℕ) → Type 0
 IsHelp text line status = (line ≡ text) × (status ≡ 0)
 
+-- the result of the program for that of an explanation
+abbrev pub status_result : Result Explanation ProgramFault → Result ℕ ProgramFault
+status_result (Ok explanation) = Ok explanation.status
+status_result (Err fault) = Err fault
+
 -- The result of the program for a request, over files by name and an input. It promises nothing if the bytes of a file
 -- or of the input aren't specified.
 abbrev pub CommandOutcome : ToolRequest → (file_at : List ℕ → NamedFile) → (input : Option (List ℕ))
@@ -37,6 +44,9 @@ CommandOutcome (FileRequest task g) file_at input old new result =
 CommandOutcome (FilesRequest task g t) file_at input old new result =
     IfSome (bytes_of (file_at g)) (λ file. IfSome (bytes_of (file_at t)) (λ text.
     WritesOrFails (IsPrinted task file text) old new result))
+CommandOutcome (ExplainRequest question printing) file_at input old new result =
+    (ended : Result Explanation ProgramFault) × ExplanationOutcome question printing file_at input old new ended
+    × (result ≡ status_result ended)
 
 -- ---- how results are converted
 

@@ -1,12 +1,13 @@
 -- Describes code: the tasks of commands, and what requests are.
 use Rattle.std.specs.Prelude.{option_map}
+use Rattle.peg_explain_files.specs.Questions.{question_of}
 use Rattle.peg_parser.specs.Parser.{start_named}
 use Rattle.peg_json.specs.TreeForms.{form_from_options}
 use Rattle.peg_tool.specs.PrintedNodes.{PrintedNodes, AllNodes, NodesOf, NodesExcept, names_listed}
-use Rattle.peg_tool.specs.Task.{ToolTask, TableTask, CheckTask, CodeTask, LintTask, ParseTask}
-use Rattle.peg_tool.specs.Requests.{ToolRequest, InputRequest, HelpRequest, FileRequest, FilesRequest}
+use Rattle.peg_tool.specs.Task.{ToolTask, TableTask, CheckTask, CodeTask, LintTask, ProfileTask, ParseTask}
+use Rattle.peg_tool.specs.Requests.{ToolRequest, InputRequest, HelpRequest, FileRequest, FilesRequest, ExplainRequest}
 use Rattle.peg_tool.specs.declared.command.Command.{Command}
-use Rattle.peg_tool.specs.declared.command.Command.TheVariants.{Table, Check, Code, Lint, Parse}
+use Rattle.peg_tool.specs.declared.command.Command.TheVariants.{Table, Check, Code, Lint, Profile, Parse}
 use Rattle.peg_tool.specs.declared.nodes.Nodes.{Nodes}
 use Rattle.peg_tool.specs.declared.nodes.Nodes.TheVariants.{All, Show, Hide}
 use Rattle.peg_tool.specs.declared.request.Request.{Request}
@@ -24,6 +25,7 @@ task_of Table = TableTask
 task_of Check = CheckTask
 task_of Code = CodeTask
 task_of (Lint start selection) = LintTask (option_map (λ name. name.now) start) selection
+task_of (Profile options) = ProfileTask (start_named options) options.memo options.steps
 task_of (Parse options all rows no_tree nodes text) =
     ParseTask (start_named options) options.memo options.steps all (form_from_options rows no_tree) (nodes_asked nodes)
     text
@@ -34,3 +36,4 @@ request_of request.Joined = InputRequest
 request_of (request.Help text) = HelpRequest text.now
 request_of (request.OnFile g command) = FileRequest (task_of command) g.now
 request_of (request.OnFiles g t command) = FilesRequest (task_of command) g.now t.now
+request_of (request.Explain query printing) = ExplainRequest (question_of query) printing

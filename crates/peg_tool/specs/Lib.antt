@@ -5,6 +5,9 @@ pub use Rattle.peg_semantics.specs.RuleOutcomes
 pub use Rattle.peg_semantics.specs.Rules
 pub use Rattle.peg_grammar.specs.GrammarRules
 pub use Rattle.peg_grammar.specs.Limits
+pub use Rattle.peg_explain_files.specs.Explained
+pub use Rattle.peg_explain_files.specs.Names
+pub use Rattle.peg_explain_files.specs.Questions
 pub use Rattle.peg_io.specs.NamedFile
 pub use Rattle.peg_io.specs.Split
 pub use Rattle.peg_io.specs.Transfer
@@ -18,6 +21,8 @@ pub use Rattle.peg_parser.specs.Refusals
 pub use Rattle.peg_json.specs.Lines
 pub use Rattle.peg_json.specs.Lints
 pub use Rattle.peg_json.specs.Parses
+pub use Rattle.peg_json.specs.ProfileReplies
+pub use Rattle.peg_json.specs.ProfileText
 pub use Rattle.peg_json.specs.Reply
 pub use Rattle.peg_json.specs.Statuses
 pub use Rattle.peg_json.specs.TreeForms
@@ -27,6 +32,7 @@ pub mod Loaded
 pub mod PrintedNodes
 pub mod CommandOutcome
 pub mod Exits
+pub mod Explanations
 pub mod Replies
 pub mod Requests
 pub mod Task

@@ -1,20 +1,25 @@
 -- What the arguments of the program request.
-use Rattle.std.specs.Prelude.{◌≡◌, true, ℕ, List, option_map, string_bytes}
+use Rattle.std.specs.Prelude.{◌≡◌, true, ℕ, List, map, option_map, string_bytes}
+use Rattle.peg_explain_files.specs.Names.{IsInput, name_end}
+use Rattle.peg_explain_files.specs.Questions.{Question}
 use Rattle.peg_io.specs.NamedFile.{NamedFile, Missing, is_readable}
 use Rattle.peg_cli.specs.declared.words.Words.{Words}
-use Rattle.peg_cli.specs.declared.words.Words.TheVariants.{Joined, Help, Table, Check, Code, Lint, Parse}
+use Rattle.peg_cli.specs.declared.words.Words.TheVariants.{Joined, Help, Table, Check, Code, Lint, Profile, Explain, Parse}
 use Rattle.peg_lint.specs.FileWarnings.{selection_of}
 use Rattle.peg_json.specs.TreeForms.{form_from_options}
+use Rattle.peg_tool.specs.Explanations.{printing_of}
 use Rattle.peg_tool.specs.PrintedNodes.{nodes_from_options}
-use Rattle.peg_tool.specs.Task.{ToolTask, TableTask, CheckTask, CodeTask, LintTask, ParseTask}
+use Rattle.peg_tool.specs.declared.explaining.Printing.{Printing}
+use Rattle.peg_tool.specs.Task.{ToolTask, TableTask, CheckTask, CodeTask, LintTask, ProfileTask, ParseTask}
 
 -- A request: the default task on a grammar file and a text from one input, a help text, a task on the grammar file with
--- a name, or a task on a grammar file and a text with two names.
+-- a name, a task on a grammar file and a text with two names, or an explanation of texts.
 pub data ToolRequest : Type 0 where
   InputRequest : ToolRequest
   HelpRequest : (text : List ℕ) → ToolRequest
   FileRequest : (task : ToolTask) → (g : List ℕ) → ToolRequest
   FilesRequest : (task : ToolTask) → (g t : List ℕ) → ToolRequest
+  ExplainRequest : (question : Question) → (printing : Printing) → ToolRequest
 
 -- what the arguments request
 abbrev pub requested : Words → ToolRequest
@@ -25,6 +30,17 @@ requested (Check g) = FileRequest CheckTask (string_bytes g)
 requested (Code g) = FileRequest CodeTask (string_bytes g)
 requested (Lint g start proved) =
     FileRequest (LintTask (option_map string_bytes start) (selection_of proved)) (string_bytes g)
+requested (Profile g t start memo steps) =
+    FilesRequest (ProfileTask (option_map string_bytes start) memo steps) (string_bytes g) (string_bytes t)
+requested (Explain g texts files_from null start memo steps quiet) =
+    ExplainRequest record {
+      grammar = string_bytes g;
+      texts = map string_bytes texts.items;
+      list = option_map string_bytes files_from;
+      end = name_end null;
+      start = option_map string_bytes start;
+      steps = steps;
+    } (printing_of quiet)
 requested (Parse g t start memo steps all rows no_tree show hide text) =
     FilesRequest (ParseTask (option_map string_bytes start) memo steps all (form_from_options rows no_tree)
     (nodes_from_options (option_map string_bytes show) (option_map string_bytes hide)) text)
@@ -32,12 +48,13 @@ requested (Parse g t start memo steps all rows no_tree show hide text) =
 
 -- ---- files of a request
 
--- the grammar file that a request names can't be opened
+-- The grammar file that a request names can't be opened. An explanation reports that itself.
 abbrev pub LacksGrammar : ToolRequest → (file_at : List ℕ → NamedFile) → Type 0
 LacksGrammar InputRequest file_at = ⊥
 LacksGrammar (HelpRequest text) file_at = ⊥
 LacksGrammar (FileRequest task g) file_at = file_at g ≡ Missing
 LacksGrammar (FilesRequest task g t) file_at = file_at g ≡ Missing
+LacksGrammar (ExplainRequest question printing) file_at = ⊥
 
 -- the text file that a request names can't be opened
 abbrev pub LacksText : ToolRequest → (file_at : List ℕ → NamedFile) → Type 0
@@ -45,6 +62,7 @@ LacksText InputRequest file_at = ⊥
 LacksText (HelpRequest text) file_at = ⊥
 LacksText (FileRequest task g) file_at = ⊥
 LacksText (FilesRequest task g t) file_at = file_at t ≡ Missing
+LacksText (ExplainRequest question printing) file_at = ⊥
 
 -- the files that a request names hold specified bytes, and reads of them don't fail
 abbrev pub HasReadableFiles : ToolRequest → (file_at : List ℕ → NamedFile) → Type 0
@@ -52,3 +70,22 @@ HasReadableFiles InputRequest file_at = Unit {0}
 HasReadableFiles (HelpRequest text) file_at = Unit {0}
 HasReadableFiles (FileRequest task g) file_at = is_readable (file_at g) ≡ true
 HasReadableFiles (FilesRequest task g t) file_at = (is_readable (file_at g) ≡ true) × (is_readable (file_at t) ≡ true)
+HasReadableFiles (ExplainRequest question printing) file_at = ⊥
+
+-- ---- explanations
+
+-- whether an explanation is requested, which reports files that can't be opened or read itself
+abbrev pub IsExplainRequest : ToolRequest → Type 0
+IsExplainRequest InputRequest = ⊥
+IsExplainRequest (HelpRequest text) = ⊥
+IsExplainRequest (FileRequest task g) = ⊥
+IsExplainRequest (FilesRequest task g t) = ⊥
+IsExplainRequest (ExplainRequest question printing) = Unit {0}
+
+-- whether a request is about the input
+abbrev pub ReadsInput : ToolRequest → Type 0
+ReadsInput InputRequest = Unit {0}
+ReadsInput (HelpRequest text) = ⊥
+ReadsInput (FileRequest task g) = ⊥
+ReadsInput (FilesRequest task g t) = ⊥
+ReadsInput (ExplainRequest question printing) = IsInput question.list

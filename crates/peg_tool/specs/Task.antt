@@ -8,15 +8,16 @@ use Rattle.peg_json.specs.declared.tree_form.TreeForm.TheVariants.{Nested}
 use Rattle.peg_tool.specs.PrintedNodes.{PrintedNodes, AllNodes}
 
 -- A task: print the table of outcomes, check whether the grammar is accepted, print its code, print the warnings about
--- it, or parse a text. Warnings and a parse have a start rule (the first one without a name). `selection` says which
--- warnings are printed. A parse has the capacity of its memo (0 for none) and an optional step limit. `all` asks for a
--- match of the whole text, `form` is that of the printed tree, and `nodes` says which of its nodes are printed.
--- `with_bytes` asks for the bytes of nodes without children.
+-- it, parse a text, or print the profile of a parse. Warnings and a parse have a start rule (the first one without a
+-- name). `selection` says which warnings are printed. A parse has the capacity of its memo (0 for none) and an optional
+-- step limit. `all` asks for a match of the whole text, `form` is that of the printed tree, and `nodes` says which of
+-- its nodes are printed. `with_bytes` asks for the bytes of nodes without children.
 pub data ToolTask : Type 0 where
   TableTask : ToolTask
   CheckTask : ToolTask
   CodeTask : ToolTask
   LintTask : (start : Option (List ℕ)) → (selection : Selection) → ToolTask
+  ProfileTask : (start : Option (List ℕ)) → (memo : ℕ) → (steps : Option ℕ) → ToolTask
   ParseTask : (start : Option (List ℕ)) → (memo : ℕ) → (steps : Option ℕ) → (all : Bool) → (form : TreeForm)
       → (nodes : PrintedNodes) → (with_bytes : Bool) → ToolTask
 
@@ -34,15 +35,17 @@ Checks TableTask = ⊥
 Checks CheckTask = Unit {0}
 Checks CodeTask = Unit {0}
 Checks (LintTask start selection) = Unit {0}
+Checks (ProfileTask start memo steps) = Unit {0}
 Checks (ParseTask start memo steps all form nodes with_bytes) = Unit {0}
 
--- whether a task is a parse
-abbrev pub IsParse : ToolTask → Type 0
-IsParse TableTask = ⊥
-IsParse CheckTask = ⊥
-IsParse CodeTask = ⊥
-IsParse (LintTask start selection) = ⊥
-IsParse (ParseTask start memo steps all form nodes with_bytes) = Unit {0}
+-- whether a task has a text: whether it parses one
+abbrev pub HasText : ToolTask → Type 0
+HasText TableTask = ⊥
+HasText CheckTask = ⊥
+HasText CodeTask = ⊥
+HasText (LintTask start selection) = ⊥
+HasText (ProfileTask start memo steps) = Unit {0}
+HasText (ParseTask start memo steps all form nodes with_bytes) = Unit {0}
 
 -- The text of a task on a grammar file: the unread bytes of its reader. Any text will do for a task that reads none
 -- and for a file that isn't accepted.
@@ -51,5 +54,7 @@ IsTextOf TableTask file left text = Unit {0}
 IsTextOf CheckTask file left text = Unit {0}
 IsTextOf CodeTask file left text = Unit {0}
 IsTextOf (LintTask start selection) file left text = Unit {0}
+IsTextOf (ProfileTask start memo steps) file left text =
+    (rules : List Rule) → Accepts file rules → left ≡ Some text
 IsTextOf (ParseTask start memo steps all form nodes with_bytes) file left text =
     (rules : List Rule) → Accepts file rules → left ≡ Some text

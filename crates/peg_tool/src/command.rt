@@ -18,6 +18,10 @@ pub enum Command<'a> {
         start: Option<&'a str>,
         selection: Selection,
     },
+    /// Parses a text by a rule of the grammar, and prints how often each rule is called and at how many positions.
+    Profile {
+        options: ParseOptions<'a>,
+    },
     /// Parses a text by a rule of the grammar. With `all`, a match of less than the whole text is reported as partial.
     /// With `rows` the tree is a list of its nodes in preorder, with `no_tree` it isn't printed, otherwise it is nested
     /// objects. `no_tree` prevails over `rows`. `nodes` says which nodes of the tree are printed. With `text`, each printed

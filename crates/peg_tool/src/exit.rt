@@ -2,11 +2,12 @@
 ghost use Rattle.std.specs.Prelude.{◌≡◌, ℕ, ◌<◌, ◌≤◌, true, false, List, length, drop, Result, Ok, Err, IfOk, IfErr, IsErrAnd};
 ghost use Rattle.std.specs.Vec.Iter.{into_iter_items};
 ghost use Rattle.peg_cli.specs.Words.{IsAsking};
-ghost use Rattle.peg_tool.specs.CommandOutcome.{CommandOutcome};
-ghost use Rattle.peg_tool.specs.Exits.{exit_of, words_exit, exit_status, exit_message, IsArgsFault};
+ghost use Rattle.peg_tool.specs.Exits.{IsArgsFault, IsExitOf, exit_message, exit_of, exit_status, explanation_exit, words_exit};
 ghost use Rattle.peg_tool.specs.Requests.{requested};
 
+use crate::explaining::{Explanation, explain};
 use crate::program::{ProgramFault, run_words};
+use crate::request::Request;
 use peg_cli::{Words, WordsFault, read_words};
 use peg_io::{Opener, Sink, Source};
 use peg_json::Status;
@@ -23,6 +24,8 @@ const NOT_UTF8: &str = "error: a word isn't UTF-8\n\nFor more information, try '
 pub enum Exit {
     /// The output is written, and this is the exit status.
     Done { status: u8 },
+    /// The output is written, and this is the exit status. `faults` has a line for each file that can't be opened or read.
+    Reported { status: u8, faults: String },
     /// The arguments are not a valid command line. `text` says what is wrong.
     Usage { text: String },
     /// A device or an allocation failed.
@@ -35,7 +38,7 @@ impl Exit {
         ensures { result ≡ exit_status self.now }
     {
         match self {
-            Exit::Done { status } => *status,
+            Exit::Done { status } | Exit::Reported { status, .. } => *status,
             Exit::Usage { .. } => Status::Usage.code(),
             Exit::Fault { fault } => fault.status(),
         }
@@ -47,6 +50,7 @@ impl Exit {
     {
         match self {
             Exit::Done { .. } => "",
+            Exit::Reported { faults, .. } => faults,
             Exit::Usage { text } => text,
             Exit::Fault { fault } => fault.message(),
         }
@@ -58,6 +62,18 @@ impl Exit {
         match ended {
             Ok(status) => Exit::Done { status },
             Err(fault) => Exit::Fault { fault },
+        }
+    }
+
+    fn from_explanation(ended: Result<Explanation, ProgramFault>) -> Exit
+        ensures { result ≡ explanation_exit ended }
+    {
+        match ended {
+            Ok(explained) => Exit::Reported {
+                status: explained.status,
+                faults: explained.faults,
+            },
+            Err(why) => Exit::Fault { fault: why },
         }
     }
 }
@@ -110,18 +126,39 @@ pub fn run_program<O: Opener, I: Source, W: Sink>(
 ) -> Exit
     requires input_works { I.failed input.old ≡ false }
     requires output_works { W.failed output.old ≡ false }
-    ensures runs { IfOk words (λ asked. (ended : Result ℕ ProgramFault) × (result ≡ exit_of ended)
-        × CommandOutcome (requested asked) (O.file_at files.now) (I.left input.old) (W.written output.old)
-        (W.written output.new) ended) }
+    ensures runs { IfOk words (λ asked. IsExitOf (requested asked) (O.file_at files.now) (I.left input.old)
+        (W.written output.old) (W.written output.new) result) }
     ensures rejected { IfErr words (λ fault. result ≡ words_exit fault) }
     ensures untouched { IfErr words (λ _. (input.new ≡ input.old) × (output.new ≡ output.old)) }
     ensures write_fault { W.failed output.new ≡ true → result ≡ Exit.Fault ProgramFault.File }
 {
     match words {
-        Ok(words) => Exit::from_result(run_words(alloc, files, input, output, &words)),
+        Ok(words) => run_request(alloc, files, input, output, &words),
         Err(WordsFault::Usage { text }) => Exit::Usage { text },
         Err(WordsFault::Memory) => Exit::Fault {
             fault: ProgramFault::Memory,
         },
+    }
+}
+
+// Runs the program for its parsed arguments.
+fn run_request<O: Opener, I: Source, W: Sink>(
+    alloc: Global,
+    files: &O,
+    input: &mut I,
+    output: &mut W,
+    words: &Words,
+) -> Exit
+    requires input_works { I.failed input.old ≡ false }
+    requires output_works { W.failed output.old ≡ false }
+    ensures runs { IsExitOf (requested words.now) (O.file_at files.now) (I.left input.old) (W.written output.old)
+        (W.written output.new) result }
+    ensures write_fault { W.failed output.new ≡ true → result ≡ Exit.Fault ProgramFault.File }
+{
+    match Request::from_words(words) {
+        Request::Explain { query, printing } => {
+            Exit::from_explanation(explain(alloc, files, input, output, &query, printing))
+        }
+        _ => Exit::from_result(run_words(alloc, files, input, output, words)),
     }
 }

@@ -3,11 +3,13 @@
 
 mod command;
 mod exit;
+mod explaining;
 mod joined;
 mod linting;
 mod loading;
 mod nodes;
 mod parse;
+mod profiling;
 mod program;
 mod request;
 mod selection;
@@ -16,15 +18,20 @@ mod write;
 
 pub use command::Command;
 pub use exit::{Exit, read_args, run_program};
+pub use explaining::Printing;
 pub use joined::run_joined;
 pub use nodes::Nodes;
 pub use peg_cli::{Words, WordsFault, read_words};
+pub use peg_explain_files::{NameEnd, Query};
 pub use peg_io::{Device, DeviceFault, FileSystem, OpenFault, Opener, Sink, Source, split};
-pub use peg_json::{Fault, Status, answer_json, code_json, lint_json, refusal_json, table_json};
+pub use peg_json::{
+    Fault, Status, answer_json, code_json, lint_json, profile_json, refusal_json, table_json,
+};
 pub use peg_lint::{Selection, Warning, WarningKind, file_warnings, warnings};
 pub use peg_parser::{
     Answer, FigureFault, ParseFault, ParseOptions, Parser, Refusal, read_by_figure,
 };
+pub use peg_profile::{Profile, RuleProfile};
 pub use program::{ProgramFault, run_words};
 pub use request::Request;
 pub use tool::run_tool;

@@ -50,7 +50,7 @@ pub(crate) fn parse_line(
 }
 
 // The line for a start that no rule has, unless the text is too long.
-fn no_start(alloc: Global, text: &[u8], name: &str) -> Result<Line, AllocError>
+pub(crate) fn no_start(alloc: Global, text: &[u8], name: &str) -> Result<Line, AllocError>
     ensures long { max_text_bytes < length text.now → (file : List ℕ) → IfOk result
         (λ line. IsReply file (Refused TextTooLong) (line_bytes line) (status_code line.status)) }
     ensures missing { length text.now ≤ max_text_bytes → (file : List ℕ) → IfOk result

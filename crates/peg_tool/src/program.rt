@@ -3,12 +3,13 @@ ghost use Rattle.std.specs.Prelude.{◌≡◌, ◌≢◌, ◌⊎◌, ◌↔◌, 
 ghost use Rattle.std.specs.Io.KnownBytes.{Keeps};
 ghost use Rattle.peg_io.specs.NamedFile.{Missing, bytes_of, is_readable};
 ghost use Rattle.peg_tool.specs.Commands.{task_of};
-ghost use Rattle.peg_tool.specs.CommandOutcome.{CommandOutcome, WritesOrFails, IsHelp, program_result};
+ghost use Rattle.peg_tool.specs.CommandOutcome.{CommandOutcome, WritesOrFails, IsHelp, program_result, status_result};
 ghost use Rattle.peg_tool.specs.Replies.{IsPrinted};
-ghost use Rattle.peg_tool.specs.Requests.{requested, LacksGrammar, LacksText, HasReadableFiles};
-ghost use Rattle.peg_tool.specs.Task.{IsParse};
+ghost use Rattle.peg_tool.specs.Requests.{HasReadableFiles, IsExplainRequest, LacksGrammar, LacksText, ReadsInput, requested};
+ghost use Rattle.peg_tool.specs.Task.{HasText};
 
 use crate::command::Command;
+use crate::explaining::{Explanation, explain};
 use crate::joined::run_input;
 use crate::request::Request;
 use crate::tool::run_command;
@@ -16,7 +17,7 @@ use crate::write::CommandFault;
 use peg_cli::Words;
 use peg_io::{Device, OpenFault, Opener, Sink, Source, write_all_bytes};
 use peg_json::Status;
-use std::alloc::Global;
+use std::alloc::{AllocError, Global};
 use std::io;
 use thiserror::Error;
 
@@ -70,11 +71,23 @@ impl From<OpenFault> for ProgramFault {
     }
 }
 
+impl From<AllocError> for ProgramFault {
+    ghost use Rattle.std.specs.Prelude.{◌≡◌};
+    ghost use Rattle.peg_tool.specs.declared.program.ProgramFault.TheVariants.{Memory};
+
+    ghost from_gives = { λ _ fault. fault ≡ Memory };
+
+    fn from(_error: AllocError) -> ProgramFault {
+        ProgramFault::Memory
+    }
+}
+
 /// Runs the program for its parsed arguments, over files by name, an input and an output, and returns the exit status.
 /// The grammar file is opened first, then the text; both are opened before either is read.
 ///
 /// Returns `File` if a file can't be opened or read, or if the output can't be written. Returns `Memory`, with nothing
-/// written, if an allocation fails. No device may have failed before.
+/// written, if an allocation fails. For an explanation of texts, a file that can't be opened or read is status 4, and
+/// the other texts are read; `run_program` names it. No device may have failed before.
 pub fn run_words<O: Opener, I: Source, W: Sink>(
     alloc: Global,
     files: &O,
@@ -86,7 +99,7 @@ pub fn run_words<O: Opener, I: Source, W: Sink>(
     requires output_works { W.failed output.old ≡ false }
     ensures leads { CommandOutcome (requested words.now) (O.file_at files.now) (I.left input.old) (W.written output.old)
         (W.written output.new) result }
-    ensures unread { words.now ≢ Words.Joined → input.new ≡ input.old }
+    ensures unread { ¬ ReadsInput (requested words.now) → input.new ≡ input.old }
 
     // A grammar that can't be opened is reported first, then a text. Nothing is written then.
     ensures no_grammar { LacksGrammar (requested words.now) (O.file_at files.now)
@@ -99,6 +112,8 @@ pub fn run_words<O: Opener, I: Source, W: Sink>(
     ensures device_fault { HasReadableFiles (requested words.now) (O.file_at files.now)
         → (IsErrOf result ProgramFault.File ↔ ((I.failed input.new ≡ true) ⊎ (W.failed output.new ≡ true))) }
     ensures write_fault { W.failed output.new ≡ true → IsErrOf result ProgramFault.File }
+    ensures explain_fault { IsExplainRequest (requested words.now)
+        → (IsErrOf result ProgramFault.File ↔ (W.failed output.new ≡ true)) }
     ensures memory { IsErrOf result ProgramFault.Memory → Keeps (W.written output.old) (W.written output.new) }
 {
     match Request::from_words(words) {
@@ -106,6 +121,19 @@ pub fn run_words<O: Opener, I: Source, W: Sink>(
         Request::Help { text } => help(output, text),
         Request::OnFile { g, command } => on_file(alloc, files, output, g, &command),
         Request::OnFiles { g, t, command } => on_files(alloc, files, output, g, t, &command),
+        Request::Explain { query, printing } => {
+            to_status(explain(alloc, files, input, output, &query, printing))
+        }
+    }
+}
+
+// The exit status of an explanation.
+fn to_status(ended: Result<Explanation, ProgramFault>) -> Result<u8, ProgramFault>
+    ensures { result ≡ status_result ended }
+{
+    match ended {
+        Ok(explanation) => Ok(explanation.status),
+        Err(fault) => Err(fault),
     }
 }
 
@@ -132,7 +160,7 @@ fn on_file<O: Opener, W: Sink>(
     command: &Command<'_>,
 ) -> Result<u8, ProgramFault>
     requires works { W.failed output.old ≡ false }
-    requires alone { ¬ IsParse (task_of command.now) }
+    requires alone { ¬ HasText (task_of command.now) }
     ensures leads { IfSome (bytes_of (O.file_at files.now g.now)) (λ file. (text : List ℕ)
         → WritesOrFails (IsPrinted (task_of command.now) file text) (W.written output.old)
         (W.written output.new) result) }

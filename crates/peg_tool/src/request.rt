@@ -6,8 +6,10 @@ ghost use Rattle.peg_tool.specs.Requests.{requested};
 ghost use Rattle.peg_tool.specs.Task.{ParseTask};
 
 use crate::command::Command;
+use crate::explaining::Printing;
 use crate::nodes::Nodes;
 use peg_cli::Words;
+use peg_explain_files::{NameEnd, Query};
 use peg_lint::Selection;
 use peg_parser::ParseOptions;
 
@@ -25,11 +27,16 @@ pub enum Request<'a> {
         g: &'a str,
         command: Command<'a>,
     },
-    /// Parses the text file with name `t` by the grammar file with name `g`.
+    /// Runs a command on the grammar file with name `g` and the text file with name `t`.
     OnFiles {
         g: &'a str,
         t: &'a str,
         command: Command<'a>,
+    },
+    /// Explains where texts don't match a grammar file.
+    Explain {
+        query: Query<'a>,
+        printing: Printing,
     },
 }
 
@@ -58,6 +65,45 @@ impl<'a> Request<'a> {
                 let selection = Selection::from_proved(*proved);
                 let command = Command::Lint { start, selection };
                 Request::OnFile { g, command }
+            }
+            Words::Profile {
+                g,
+                t,
+                start,
+                memo,
+                steps,
+            } => {
+                let (start, memo, steps) = (start.as_deref(), *memo, *steps);
+                let options = ParseOptions { start, memo, steps };
+                Request::OnFiles {
+                    g,
+                    t,
+                    command: Command::Profile { options },
+                }
+            }
+            Words::Explain {
+                g,
+                texts,
+                files_from,
+                null,
+                start,
+                memo,
+                steps,
+                quiet,
+            } => {
+                let query = Query {
+                    grammar: g,
+                    texts,
+                    list: files_from.as_deref(),
+                    end: NameEnd::from_null(*null),
+                    options: ParseOptions {
+                        start: start.as_deref(),
+                        memo: *memo,
+                        steps: *steps,
+                    },
+                };
+                let printing = Printing::from_quiet(*quiet);
+                Request::Explain { query, printing }
             }
             Words::Parse {
                 g,

@@ -13,7 +13,7 @@ ghost use Rattle.peg_json.specs.Statuses.{status_code};
 ghost use Rattle.peg_tool.specs.Commands.{nodes_asked, task_of};
 ghost use Rattle.peg_tool.specs.PrintedNodes.{first_unknown};
 ghost use Rattle.peg_tool.specs.Replies.{IsPrinted};
-ghost use Rattle.peg_tool.specs.Task.{IsParse, IsTextOf, ParseTask};
+ghost use Rattle.peg_tool.specs.Task.{HasText, IsTextOf, ParseTask};
 ghost use Rattle.peg_tool.specs.Written.{Prints, PrintsInPart};
 ghost use Rattle.peg_tool.specs.WritesReply.{WritesLine};
 ghost use Rattle.peg_json.specs.Lines.{line_bytes};
@@ -23,6 +23,7 @@ use crate::linting::lint_file;
 use crate::loading::{Loaded, check_file, code_file, load, table_file};
 use crate::nodes::Nodes;
 use crate::parse::parse_line;
+use crate::profiling::profile_reply;
 use crate::write::{CommandFault, ToolFault, to_tool_result, write_reply};
 use peg_grammar::MAX_TEXT_BYTES;
 use peg_io::{ReadFault, Sink, Source, read_up_to};
@@ -51,7 +52,7 @@ pub fn run_tool<G: Source, T: Source, W: Sink>(
         Prints (IsPrinted (task_of command.now) file bytes) (W.written output.old) (W.written output.new) status)) }
     ensures held { ConsumesAtMost (G.left grammar.old) (G.left grammar.new) (max_file_bytes + 1) }
     ensures text_held { ConsumesAtMost (T.left text.old) (T.left text.new) (max_text_bytes + 1) }
-    ensures unread { ¬ IsParse (task_of command.now) → text.new ≡ text.old }
+    ensures unread { ¬ HasText (task_of command.now) → text.new ≡ text.old }
     ensures refused { IfSome (G.left grammar.old) (λ file.
         ((rules : List Rule) → ¬ Accepts file rules) → text.new ≡ text.old) }
 
@@ -83,7 +84,7 @@ pub(crate) fn run_command<G: Source, T: Source, W: Sink>(
         → WritesLine (IsPrinted (task_of command.now) file bytes) (W.written output.old) (W.written output.new) result) }
     ensures held { ConsumesAtMost (G.left grammar.old) (G.left grammar.new) (max_file_bytes + 1) }
     ensures text_held { ConsumesAtMost (T.left text.old) (T.left text.new) (max_text_bytes + 1) }
-    ensures unread { ¬ IsParse (task_of command.now) → text.new ≡ text.old }
+    ensures unread { ¬ HasText (task_of command.now) → text.new ≡ text.old }
     ensures refused { IfSome (G.left grammar.old) (λ file.
         ((rules : List Rule) → ¬ Accepts file rules) → text.new ≡ text.old) }
     ensures read_fault { IsErrOf result CommandFault.Read
@@ -112,7 +113,7 @@ fn line_of<G: Source, T: Source>(
         IsPrinted (task_of command.now) file bytes (line_bytes line) (status_code line.status))) }
     ensures held { ConsumesAtMost (G.left grammar.old) (G.left grammar.new) (max_file_bytes + 1) }
     ensures text_held { ConsumesAtMost (T.left text.old) (T.left text.new) (max_text_bytes + 1) }
-    ensures unread { ¬ IsParse (task_of command.now) → text.new ≡ text.old }
+    ensures unread { ¬ HasText (task_of command.now) → text.new ≡ text.old }
     ensures refused { IfSome (G.left grammar.old) (λ file.
         ((rules : List Rule) → ¬ Accepts file rules) → text.new ≡ text.old) }
     ensures device { IsErrOf result ReadFault.Device
@@ -126,6 +127,7 @@ fn line_of<G: Source, T: Source>(
         Command::Check => Ok(check_file(alloc, &file)?),
         Command::Code => Ok(code_file(alloc, &file)?),
         Command::Lint { start, selection } => { Ok(lint_file(alloc, &file, *start, *selection)?) }
+        Command::Profile { options } => profile_reply(alloc, &file, text, options),
         Command::Parse {
             options,
             all,

@@ -9,7 +9,7 @@ use Rattle.peg_json.specs.Reply.{matched_data, tree_member, tree_rows_data}
 use Rattle.peg_json.specs.Sending.{SendsMatch, spans_of}
 use Rattle.peg_json.specs.declared.tree_form.TreeForm.TheVariants.{Nested, Rows, NoTree}
 use Rattle.peg_json.proofs.AnswerLemmas.{match-without_floats}
-use Rattle.peg_json.proofs.Sent.{TellsBy, match-text, nested-text, value-text}
+use Rattle.peg_json.proofs.Sent.{IsTextSentBy, match-text, nested-text, value-text}
 use Rattle.peg_json.proofs.answer_text.matched_text.Goals as goal
 
 pub returns-in-Rows : goal.returns-in-Rows
@@ -18,9 +18,9 @@ returns-in-Rows c =
     let places = spans_of reported.expected in
     let list = names (rules_in c.args.grammar.now) in
     let tree = c.args.tree.now in
-    let named = subst (λ n. TellsBy (SendsMatch reported.partial reported.end reported.far places (codes "rows")
+    let named = subst (λ n. IsTextSentBy (SendsMatch reported.partial reported.end reported.far places (codes "rows")
     (SendsValue (tree_rows_data (names (rules_in n)) c.new.result.tree.now))) c.text_of.result) c.new.ensures.names c.text_of.ensures in
-    let sent = subst (λ t. TellsBy (SendsMatch reported.partial reported.end reported.far places (codes "rows")
+    let sent = subst (λ t. IsTextSentBy (SendsMatch reported.partial reported.end reported.far places (codes "rows")
     (SendsValue (tree_rows_data list t))) c.text_of.result) c.new.ensures.tree named in
     subst (λ f. IfOk c.text_of.result (λ text. string_bytes text
     ≡ compact_text (matched_data reported.partial reported.end reported.far places (tree_member f list tree)))) (sym c.in-Rows.is)
@@ -34,9 +34,9 @@ returns-in-Nested c =
     let list = names (rules_in c.args.grammar.now) in
     let tree = c.args.tree.now in
     let result = c.text_of-in-Nested.result in
-    let named = subst (λ n. TellsBy (SendsMatch reported.partial reported.end reported.far places (codes "tree")
+    let named = subst (λ n. IsTextSentBy (SendsMatch reported.partial reported.end reported.far places (codes "tree")
     (SendsNested (names (rules_in n)) c.new-in-Nested.result.tree.now)) result) c.new-in-Nested.ensures.names c.text_of-in-Nested.ensures in
-    let sent = subst (λ t. TellsBy (SendsMatch reported.partial reported.end reported.far places (codes "tree")
+    let sent = subst (λ t. IsTextSentBy (SendsMatch reported.partial reported.end reported.far places (codes "tree")
     (SendsNested list t)) result) c.new-in-Nested.ensures.tree named in
     subst (λ f. IfOk result (λ text. string_bytes text
     ≡ compact_text (matched_data reported.partial reported.end reported.far places (tree_member f list tree)))) (sym c.in-Nested.is)

@@ -1,7 +1,7 @@
 use Rattle.std.proofs.Common.{◌≡◌, ◌∙◌, ℕ, ap, length, map, subst}
 use Rattle.std.proofs.lemmas.List.{length-map}
 use Rattle.peg_parser.specs.Faults.{RefusalNames, refusal_names}
-use Rattle.peg_json.proofs.RefusedLines.{tellable, reported-by_names}
+use Rattle.peg_json.proofs.RefusedLines.{reportable, reported-by_names}
 use Rattle.peg_json.proofs.lines.refused_line.Goals as goal
 
 pub fault_line-requires : goal.fault_line-requires
@@ -9,7 +9,7 @@ fault_line-requires c =
     let list = map (λ name. name.now) c.deref.result.now in
     let same : list ≡ refusal_names c.args.refusal.now =
     ap (map (λ name. name.now)) c.deref.ensures.value ∙ c.in_ok-names.ensures in
-    let known = tellable (length c.args.file.now) list c.args.refusal.now same c.requires.has_cause c.requires.tellable in
+    let known = reportable (length c.args.file.now) list c.args.refusal.now same c.requires.has_cause c.requires.true_refusal in
     let count : length list ≡ length c.deref.result.now = length-map c.deref.result.now (λ name. name.now) in
     record {
       has_cause = known.reported;
@@ -23,5 +23,5 @@ returns c =
     let list = map (λ name. name.now) c.deref.result.now in
     let same : list ≡ refusal_names c.args.refusal.now =
     ap (map (λ name. name.now)) c.deref.ensures.value ∙ c.in_ok-names.ensures in
-    let known = tellable (length c.args.file.now) list c.args.refusal.now same c.requires.has_cause c.requires.tellable in
+    let known = reportable (length c.args.file.now) list c.args.refusal.now same c.requires.has_cause c.requires.true_refusal in
     reported-by_names c.fault_line.result c.args.file.now list c.args.refusal.now same known.reported c.fault_line.ensures

@@ -10,7 +10,7 @@ use Rattle.peg_json.specs.Reply.{matched_data, text_rows_data, text_tree_member}
 use Rattle.peg_json.specs.Sending.{SendsMatch, spans_of}
 use Rattle.peg_json.specs.declared.tree_form.TreeForm.TheVariants.{Nested, Rows, NoTree}
 use Rattle.peg_json.proofs.AnswerLemmas.{text_match-without_floats}
-use Rattle.peg_json.proofs.Sent.{TellsBy, match-text, nested_text-text, value-text}
+use Rattle.peg_json.proofs.Sent.{IsTextSentBy, match-text, nested_text-text, value-text}
 use Rattle.peg_json.proofs.text_lines.matched_with_text.Goals as goal
 
 pub returns-in-Rows : goal.returns-in-Rows
@@ -20,7 +20,7 @@ returns-in-Rows c =
     let list = names (rules_in c.args.grammar.now) in
     let text = c.args.text.now in
     let tree = c.args.tree.now in
-    let Sends : List (List ℕ) → List ℕ → Trees → Type 0 = λ names text tree. TellsBy (SendsMatch reported.partial reported.end reported.far places (codes "rows")
+    let Sends : List (List ℕ) → List ℕ → Trees → Type 0 = λ names text tree. IsTextSentBy (SendsMatch reported.partial reported.end reported.far places (codes "rows")
     (SendsValue (text_rows_data names text tree))) c.text_of.result in
     let named = subst (λ n. Sends (names (rules_in n)) c.new.result.text.now c.new.result.tree.now) c.new.ensures.names c.text_of.ensures in
     let read = subst (λ t. Sends list t c.new.result.tree.now) c.new.ensures.text named in
@@ -39,7 +39,7 @@ returns-in-Nested c =
     let tree = c.args.tree.now in
     let result = c.text_of-in-Nested.result in
     let new = c.new-in-Nested in
-    let Sends : List (List ℕ) → List ℕ → Trees → Type 0 = λ names text tree. TellsBy (SendsMatch reported.partial reported.end reported.far places (codes "tree")
+    let Sends : List (List ℕ) → List ℕ → Trees → Type 0 = λ names text tree. IsTextSentBy (SendsMatch reported.partial reported.end reported.far places (codes "tree")
     (SendsNestedText names text tree)) result in
     let named = subst (λ n. Sends (names (rules_in n)) new.result.text.now new.result.tree.now) new.ensures.names c.text_of-in-Nested.ensures in
     let read = subst (λ t. Sends list t new.result.tree.now) new.ensures.text named in

@@ -2,12 +2,12 @@ use Rattle.std.proofs.Common.{length}
 use Rattle.peg_parser.specs.Refusals.{IsNoGrammar}
 use Rattle.peg_tool.specs.Replies.{refused_grammar}
 use Rattle.peg_tool.specs.Task.{TableTask}
-use Rattle.peg_tool.proofs.JudgeLemmas.{reported-tellable, refusal-line}
+use Rattle.peg_tool.proofs.JudgeLemmas.{reported-true_refusal, refusal-line}
 use Rattle.peg_tool.proofs.loading.table_file.Goals as goal
 
-pub refused_line-requires-clause-tellable : goal.refused_line-requires-clause-tellable
-refused_line-requires-clause-tellable c =
-    reported-tellable (IsNoGrammar c.args.file.now) (length c.args.file.now) c.in-Err.refusal c.in-Err.ensures.refused
+pub refused_line-requires-clause-true_refusal : goal.refused_line-requires-clause-true_refusal
+refused_line-requires-clause-true_refusal c =
+    reported-true_refusal (IsNoGrammar c.args.file.now) (length c.args.file.now) c.in-Err.refusal c.in-Err.ensures.refused
 
 pub returns-in-Err : goal.returns-in-Err
 returns-in-Err c text =

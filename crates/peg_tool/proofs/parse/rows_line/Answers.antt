@@ -1,4 +1,4 @@
-use Rattle.std.proofs.Common.{◌≡◌, ◌∙◌, ◌<◌, ℕ, Bool, IfOk, List, ap, length, subst, sym}
+use Rattle.std.proofs.Common.{◌≡◌, ◌∙◌, ◌<◌, ℕ, IfOk, List, ap, length, subst, sym}
 use Rattle.peg_semantics.specs.Rules.{Rule}
 use Rattle.peg_tree.specs.Selected.{has_rule}
 use Rattle.peg_tree.specs.declared.outcome.Outcome.{Outcome}
@@ -8,7 +8,7 @@ use Rattle.peg_json.specs.Parses.{PrintsOutcome, selected_outcome}
 use Rattle.peg_json.specs.Statuses.{status_code}
 use Rattle.peg_json.specs.declared.tree_form.TreeForm.TheVariants.{Rows}
 use Rattle.peg_tool.specs.Commands.{nodes_asked}
-use Rattle.peg_tool.specs.PrintedNodes.{NodesOf, NodesExcept, PrintedNodes, names_listed, shown_by}
+use Rattle.peg_tool.specs.PrintedNodes.{NodesOf, NodesExcept, names_listed, shown_by}
 use Rattle.peg_tool.specs.declared.nodes.Nodes.{Nodes}
 use Rattle.peg_tool.proofs.SelectedAnswers.{outcome-all, outcome-same}
 use Rattle.peg_tool.proofs.parse.rows_line.Goals as goal

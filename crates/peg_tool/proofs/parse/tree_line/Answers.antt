@@ -1,6 +1,6 @@
-use Rattle.std.proofs.Common.{◌≡◌, true, false, IfOk, Bool, length, refl, subst, sym}
+use Rattle.std.proofs.Common.{false, IfOk, Bool, length, refl, subst, sym}
 use Rattle.peg_parser.specs.Parser.{parser_rules}
-use Rattle.peg_json.specs.Parses.{PrintsOutcome, PrintsOutcomeAsked, PrintsOutcomeWithText}
+use Rattle.peg_json.specs.Parses.{PrintsOutcome, PrintsOutcomeAsked}
 use Rattle.peg_json.specs.Lines.{IsLineOf, line_bytes}
 use Rattle.peg_json.specs.Statuses.{status_code}
 use Rattle.peg_json.proofs.PrintLemmas.{kind-weaker}

@@ -8,7 +8,7 @@ use Rattle.peg_json.specs.Statuses.{status_code}
 use Rattle.peg_json.specs.declared.tree_form.TreeForm.{TreeForm}
 use Rattle.peg_tool.specs.Commands.{nodes_asked, task_of}
 use Rattle.peg_tool.specs.Replies.{IsPrinted}
-use Rattle.peg_tool.specs.Task.{ToolTask, TableTask, CheckTask, CodeTask, LintTask, ParseTask, IsTextOf}
+use Rattle.peg_tool.specs.Task.{ToolTask, TableTask, CheckTask, CodeTask, LintTask, ProfileTask, ParseTask, IsTextOf}
 use Rattle.peg_tool.proofs.RunLemmas.{IsRightFor, line-held, reported-held, held-unaccepted}
 use Rattle.peg_tool.proofs.tool.line_of.Goals as goal
 use Rattle.peg_json.specs.Lines.{line_bytes}
@@ -85,6 +85,27 @@ returns-in-Lint-clause-answer g c =
     λ less. c.in_ok-file.ensures.end (omega (arith, held.ok.0)) in
     line-held task text (g.G.Source.left c.args.grammar.now) (g.G.Source.left c.read_up_to.new.input) held.items line
     (status_code reply.status) c.in_ok-file.ensures.bytes within at_end right
+
+pub returns-in-Profile-clause-answer : goal.returns-in-Profile-clause-answer
+returns-in-Profile-clause-answer g c =
+    let held = c.in_ok-file.file in
+    let text = g.T.Source.left c.args.text.now in
+    let task = task_of c.args.command.now in
+    let options = c.in-Profile.options in
+    let asked = ProfileTask (start_named options) options.memo options.steps in
+    let is : asked ≡ task = sym (ap task_of c.in-Profile.is) in
+    let right : (bytes : List ℕ) → IsTextOf task held.items text bytes
+    → IfOk c.profile_reply.result (λ line. IsPrinted task held.items bytes (line_bytes line) (status_code line.status)) =
+    subst (λ (t : ToolTask). (bytes : List ℕ) → IsTextOf t held.items text bytes
+    → IfOk c.profile_reply.result (λ line. IsPrinted t held.items bytes (line_bytes line) (status_code line.status))) is
+    (subst (λ (l : List ℕ). (bytes : List ℕ) → IsTextOf asked l text bytes
+    → IfOk c.profile_reply.result (λ line. IsPrinted asked l bytes (line_bytes line) (status_code line.status)))
+    c.deref-in-Profile.ensures.value c.profile_reply.ensures.answer) in
+    let within : length held.items ≤ max_file_bytes + 1 = omega (arith, held.ok.0, c.in_ok-file.ensures.limit) in
+    let at_end : length held.items < max_file_bytes + 1 → IsAtEnd (g.G.Source.left c.read_up_to.new.input) =
+    λ less. c.in_ok-file.ensures.end (omega (arith, held.ok.0)) in
+    reported-held c.profile_reply.result task text (g.G.Source.left c.args.grammar.now)
+    (g.G.Source.left c.read_up_to.new.input) held.items c.in_ok-file.ensures.bytes within at_end right
 
 pub returns-clause-answer : goal.returns-clause-answer
 returns-clause-answer g c =

@@ -1,0 +1,4 @@
+mod ExplainedLemmas
+mod NameLemmas
+mod ReportLemmas
+mod StartLemmas

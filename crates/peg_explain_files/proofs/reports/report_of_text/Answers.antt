@@ -1,0 +1,31 @@
+use Rattle.std.proofs.Common.{◌≡◌, ◌∙◌, ℕ, List, Option, None, Some, Err, ap, sym}
+use Rattle.peg_parser.specs.Parser.{start_named}
+use Rattle.peg_semantics.specs.Starts.{start_name}
+use Rattle.peg_explain_files.specs.TextReports.{differs, matches, too_long, too_many_steps}
+use Rattle.peg_explain_files.proofs.ReportLemmas.{explained-from}
+use Rattle.peg_explain_files.proofs.reports.report_of_text.Goals as goal
+
+pub returns-in-Ok-None : goal.returns-in-Ok-None
+returns-in-Ok-None c file rules of from is =
+    matches is (explained-from file rules c.as_bytes.result.now c.args.name.now c.args.text.now from
+    (start_name rules (start_named c.args.options.now)) c.in-Ok-None.field-0 None is c.as_bytes.ensures.value
+    c.in-Ok-None.field-0-is (c.in-Ok-None.ensures.explanation file rules of))
+
+pub returns-in-Ok-Some : goal.returns-in-Ok-Some
+returns-in-Ok-Some c file rules of from is =
+    differs is (explained-from file rules c.as_bytes.result.now c.args.name.now c.args.text.now from
+    (start_name rules (start_named c.args.options.now)) c.in-Ok-Some.field-0 (Some c.in-Ok-Some.message) is
+    c.as_bytes.ensures.value c.in-Ok-Some.field-0-is (c.in-Ok-Some.ensures.explanation file rules of))
+
+pub returns-in-Err-TextTooLong : goal.returns-in-Err-TextTooLong
+returns-in-Err-TextTooLong c file rules of from is =
+    too_long ((c.in-Err-TextTooLong.ensures.long file rules from of is).0 (ap Err c.in-Err-TextTooLong.field-0-is))
+
+pub returns-in-Err-StepLimit : goal.returns-in-Err-StepLimit
+returns-in-Err-StepLimit c file rules of from is =
+    too_many_steps (c.in-Err-StepLimit.ensures.limited file rules of (ap Err c.in-Err-StepLimit.field-0-is))
+
+pub returns-in-Err-NoSuchStart : goal.returns-in-Err-NoSuchStart
+returns-in-Err-NoSuchStart c file rules of from is =
+    let none = (c.in-Err-NoSuchStart.ensures.no_start file rules of).0 (ap Err c.in-Err-NoSuchStart.field-0-is) in
+    let both : None ≡ Some from = sym none ∙ is in cc

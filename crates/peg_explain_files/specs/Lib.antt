@@ -1,0 +1,17 @@
+pub use Rattle.peg_explain.specs.Explanations
+pub use Rattle.peg_explain.specs.RefusalMessages
+pub use Rattle.peg_grammar.specs.Limits
+pub use Rattle.peg_io.specs.NamedFile
+pub use Rattle.peg_metagrammar.specs.Notation
+pub use Rattle.peg_parser.specs.Accepts
+pub use Rattle.peg_parser.specs.Cause
+pub use Rattle.peg_parser.specs.Parser
+pub use Rattle.peg_parser.specs.Refusals
+pub use Rattle.peg_semantics.specs.Rules
+pub use Rattle.peg_semantics.specs.Starts
+pub mod Contents
+pub mod Entries
+pub mod Explained
+pub mod Names
+pub mod Questions
+pub mod TextReports

@@ -1,0 +1,38 @@
+-- What is reported of a text.
+use Rattle.std.specs.Prelude.{◌≡◌, ℕ, ◌+◌, ◌<◌, List, Option, None, Some, length}
+use Rattle.std.specs.declared.alloc.Global.{Global}
+use Rattle.std.specs.declared.vec.Vec.{Vec}
+use Rattle.peg_explain.specs.Explanations.{ExplainingTakesMoreSteps, IsExplanation}
+use Rattle.peg_grammar.specs.Limits.{max_text_bytes}
+use Rattle.peg_io.specs.NamedFile.{NamedFile}
+use Rattle.peg_semantics.specs.Rules.{Rule}
+use Rattle.peg_semantics.specs.Starts.{start_name}
+use Rattle.peg_explain_files.specs.Contents.{IsContentOf}
+use Rattle.peg_explain_files.specs.declared.content.Content.{Content}
+use Rattle.peg_explain_files.specs.declared.content.Content.TheVariants.{Bytes, Unopened, Unreadable}
+use Rattle.peg_explain_files.specs.declared.reports.TextReport.{TextReport}
+use Rattle.peg_explain_files.specs.declared.reports.TextReport.TheVariants as report
+
+-- What is reported of a text from a start rule: nothing, if it matches as a whole; a message, if it doesn't; or that it
+-- or its parse is over a limit.
+pub data IsReport (file : List ℕ) (rules : List Rule) (start : Option (List ℕ)) (steps : Option ℕ) (name text : List ℕ)
+    : TextReport → Type 0 where
+  matches : {from : List ℕ} → start_name rules start ≡ Some from → IsExplanation file rules name text from None
+      → IsReport file rules start steps name text report.Matches
+  differs : {from : List ℕ} {message : Vec ℕ Global} → start_name rules start ≡ Some from
+      → IsExplanation file rules name text from (Some message.items)
+      → IsReport file rules start steps name text (report.Differs message)
+  too_long : max_text_bytes < length text → IsReport file rules start steps name text report.TooLong
+  too_many_steps : ExplainingTakesMoreSteps rules text start steps
+      → IsReport file rules start steps name text report.TooManySteps
+
+-- what is reported of what is read of a text
+abbrev pub IsReportBy : (IsRight : List ℕ → TextReport → Type 0) → Content → TextReport → Type 0
+IsReportBy IsRight (Bytes held) result = IsRight held.items result
+IsReportBy IsRight Unopened result = result ≡ report.Unopened
+IsReportBy IsRight Unreadable result = result ≡ report.Unreadable
+
+-- What is reported of the text in a file. It is read up to the limit of a text and one byte more.
+abbrev pub IsReportOf : (IsRight : List ℕ → TextReport → Type 0) → NamedFile → TextReport → Type 0
+IsReportOf IsRight file result =
+    (content : Content) × IsContentOf (max_text_bytes + 1) file content × IsReportBy IsRight content result

@@ -1,0 +1,76 @@
+//! What is reported of a text.
+ghost use Rattle.std.specs.Prelude.{◌≡◌, ℕ, List, IfOk, Some};
+ghost use Rattle.peg_explain.specs.Explainers.{IsExplainerOf};
+ghost use Rattle.peg_parser.specs.Parser.{start_named};
+ghost use Rattle.peg_semantics.specs.Rules.{Rule};
+ghost use Rattle.peg_semantics.specs.Starts.{start_name};
+ghost use Rattle.peg_explain_files.specs.TextReports.{IsReport, IsReportOf};
+
+use crate::content::{Content, content_of};
+use peg_explain::Explainer;
+use peg_grammar::MAX_TEXT_BYTES;
+use peg_io::Opener;
+use peg_parser::{ParseFault, ParseOptions};
+use std::alloc::{AllocError, Global};
+
+/// What is reported of a text.
+#[derive(Drop)]
+pub(crate) enum TextReport {
+    /// The text matches as a whole.
+    Matches,
+    /// The text doesn't match as a whole; the message says where.
+    Differs(Vec<u8>),
+    /// The text is over its limit.
+    TooLong,
+    /// The parse takes more steps than its limit.
+    TooManySteps,
+    /// The list of names isn't UTF-8.
+    NotUtf8,
+    /// The file can't be opened.
+    Unopened,
+    /// The file can't be read.
+    Unreadable,
+}
+
+/// Returns what is reported of the text with this name. The only error is a failed allocation.
+pub(crate) fn report_of<O: Opener>(
+    alloc: Global,
+    files: &O,
+    explainer: &Explainer<'_>,
+    name: &str,
+    options: &ParseOptions<'_>,
+) -> Result<TextReport, AllocError>
+    ensures { (file : List ℕ) (rules : List Rule) → IsExplainerOf file rules explainer.now
+        → (from : List ℕ) → start_name rules (start_named options.now) ≡ Some from → IfOk result
+        (IsReportOf (IsReport file rules (start_named options.now) options.now.steps name.now)
+        (O.file_at files.now name.now)) }
+{
+    match content_of(alloc, files, name, MAX_TEXT_BYTES + 1)? {
+        Content::Bytes(text) => report_of_text(alloc, explainer, name, &text, options),
+        Content::Unopened => Ok(TextReport::Unopened),
+        Content::Unreadable => Ok(TextReport::Unreadable),
+    }
+}
+
+// Returns what is reported of this text.
+fn report_of_text(
+    alloc: Global,
+    explainer: &Explainer<'_>,
+    name: &str,
+    text: &[u8],
+    options: &ParseOptions<'_>,
+) -> Result<TextReport, AllocError>
+    ensures { (file : List ℕ) (rules : List Rule) → IsExplainerOf file rules explainer.now
+        → (from : List ℕ) → start_name rules (start_named options.now) ≡ Some from → IfOk result
+        (IsReport file rules (start_named options.now) options.now.steps name.now text.now) }
+{
+    match explainer.explain(alloc, name.as_bytes(), text, options) {
+        Ok(None) => Ok(TextReport::Matches),
+        Ok(Some(message)) => Ok(TextReport::Differs(message)),
+        Err(ParseFault::TextTooLong) => Ok(TextReport::TooLong),
+        Err(ParseFault::StepLimit) => Ok(TextReport::TooManySteps),
+        // The start is a rule of the grammar.
+        Err(ParseFault::NoSuchStart) => Ok(TextReport::Unreadable),
+        Err(ParseFault::Memory) => Err(AllocError),
+    }
+}

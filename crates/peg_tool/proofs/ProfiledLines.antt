@@ -1,0 +1,107 @@
+-- Lines of profiles.
+use Rattle.std.proofs.Common.{◌≡◌, ◌↔◌, inl, inr, ℕ, ◌<◌, ◌≤◌, Bool, true, false, List, IfOk, IfSome, Option, None, Some, Result, Err}
+use Rattle.std.proofs.Common.{if◌then◌else◌, length, refl, subst, sym, ap, ◌∙◌}
+use Rattle.std.proofs.lemmas.Bool.{cases_lt}
+use Rattle.std.specs.declared.alloc.AllocError.{AllocError}
+use Rattle.peg_grammar.specs.Limits.{max_text_bytes}
+use Rattle.peg_grammar.specs.Outcomes.{IsParseOutcome}
+use Rattle.peg_semantics.specs.Record.{RuleCall}
+use Rattle.peg_semantics.specs.Rules.{Rule, is_defined, names}
+use Rattle.peg_semantics.specs.Starts.{start_name}
+use Rattle.peg_tree.specs.declared.outcome.Parsed.{Parsed}
+use Rattle.peg_parser.specs.Calls.{AreCallsOf}
+use Rattle.peg_parser.specs.Cause.{NoSuchStart, TextTooLong}
+use Rattle.peg_parser.specs.declared.parser.ParseFault.{ParseFault}
+use Rattle.peg_parser.specs.declared.parser.ParseFault.TheVariants as fault
+use Rattle.peg_profile.specs.Profiles.{AreProfilesOf}
+use Rattle.peg_profile.specs.declared.profile.Profile.{Profile}
+use Rattle.peg_json.specs.Lines.{IsLineOf, IsReply, line_bytes}
+use Rattle.peg_json.specs.Parses.{HasEnoughSteps}
+use Rattle.peg_json.specs.ProfileReplies.{AreSteps, ProfilesTo, has_profile, start_without_rule, text_over_limit}
+use Rattle.peg_json.specs.ProfileText.{end_of}
+use Rattle.peg_json.specs.Reply.{Refused, Profiled}
+use Rattle.peg_json.specs.Statuses.{status_code}
+use Rattle.peg_json.specs.declared.line.Line.{Line}
+use Rattle.peg_json.proofs.PrintLemmas.{reply-kind}
+
+-- a profile whose parts are right is the reply
+pub profile-replies : (rules : List Rule) (text : List ℕ) (start : Option (List ℕ)) (memo : ℕ) (steps : Option ℕ)
+    (profile : Profile) → length text ≤ max_text_bytes → HasEnoughSteps rules text start memo steps
+    → (start_name rules start ≡ None → ⊥)
+    → IfSome (start_name rules start) (λ from. IsParseOutcome rules text from profile.answer.outcome)
+    → IfSome (start_name rules start) (λ from. (calls : List RuleCall) × AreCallsOf rules text from calls
+    × AreProfilesOf (length rules) calls profile.rules.items)
+    → AreSteps rules text start memo profile.answer.steps
+    → ProfilesTo rules text start memo steps
+    (Profiled (end_of profile.answer.outcome.result) profile.answer.steps (names rules) profile.rules.items)
+profile-replies rules text start memo steps profile within enough some is called taken =
+    by (start_name rules start) refl some is called
+  where
+    by : (found : Option (List ℕ)) → start_name rules start ≡ found → (found ≡ None → ⊥)
+        → IfSome found (λ from. IsParseOutcome rules text from profile.answer.outcome)
+        → IfSome found (λ from. (calls : List RuleCall) × AreCallsOf rules text from calls
+        × AreProfilesOf (length rules) calls profile.rules.items)
+        → ProfilesTo rules text start memo steps
+        (Profiled (end_of profile.answer.outcome.result) profile.answer.steps (names rules) profile.rules.items)
+    by None there some is called = absurd (some refl)
+    by (Some from) there some is called =
+        subst (λ (parsed : Parsed). ProfilesTo rules text start memo steps
+        (Profiled (end_of parsed) profile.answer.steps (names rules) profile.rules.items)) (sym is.1.2)
+        (has_profile within enough there (is.0, is.1.1) taken called.1 called.2)
+
+-- the name of a start that no rule has
+missing-profile : (rules : List Rule) (text : List ℕ) (start : Option (List ℕ)) (memo : ℕ) (steps : Option ℕ)
+    (name : List ℕ) → length text ≤ max_text_bytes → start ≡ Some name → start_name rules start ≡ None
+    → ProfilesTo rules text start memo steps (Refused (NoSuchStart name))
+missing-profile rules text start memo steps name within named none =
+    start_without_rule name within named (by (is_defined rules name) refl)
+  where
+    missing : start_name rules (Some name) ≡ None
+    missing = sym (ap (start_name rules) named) ∙ none
+
+    by : (known : Bool) → is_defined rules name ≡ known → is_defined rules name ≡ false
+    by true is =
+        let both : Some name ≡ None =
+        sym (ap (λ (b : Bool). if b then Some name else None) is) ∙ missing in cc
+    by false is = is
+
+-- the line for a start that no rule has; a text that is too long is reported first
+pub no_start-profile : (result : Result Line AllocError) (file : List ℕ) (rules : List Rule) (text : List ℕ)
+    (start : Option (List ℕ)) (memo : ℕ) (steps : Option ℕ) (name : List ℕ) → start ≡ Some name
+    → start_name rules start ≡ None
+    → (max_text_bytes < length text → IfOk result (λ line.
+    IsReply file (Refused TextTooLong) (line_bytes line) (status_code line.status)))
+    → (length text ≤ max_text_bytes → IfOk result (λ line.
+    IsReply file (Refused (NoSuchStart name)) (line_bytes line) (status_code line.status)))
+    → IfOk result (λ line. IsLineOf file (ProfilesTo rules text start memo steps) (line_bytes line)
+    (status_code line.status))
+no_start-profile result file rules text start memo steps name named none long missing =
+    elim (cases_lt max_text_bytes (length text)) [
+      | inl over ↦
+          reply-kind result file (ProfilesTo rules text start memo steps) (Refused TextTooLong) (long over)
+          (text_over_limit over)
+      | inr within ↦
+          reply-kind result file (ProfilesTo rules text start memo steps) (Refused (NoSuchStart name)) (missing within)
+          (missing-profile rules text start memo steps name within named none)
+    ]
+
+-- a text that is rejected as too long is too long, since the start was found first
+pub long-profile : (result : Result Profile ParseFault) (rules : List Rule) (start : Option (List ℕ)) (size : ℕ)
+    → result ≡ Err fault.TextTooLong → (result ≡ Err fault.NoSuchStart) ↔ (start_name rules start ≡ None)
+    → ((from : List ℕ) → start_name rules start ≡ Some from
+    → (result ≡ Err fault.TextTooLong) ↔ (max_text_bytes < size))
+    → max_text_bytes < size
+long-profile result rules start size is none long = by (start_name rules start) refl
+  where
+    by : (found : Option (List ℕ)) → start_name rules start ≡ found → max_text_bytes < size
+    by None there =
+        absurd (let bad : Err fault.TextTooLong ≡ Err fault.NoSuchStart = sym is ∙ none.1 there in cc)
+    by (Some from) there = (long from there).0 is
+
+-- a text whose parse exceeds the step limit isn't too long
+pub short-profile : (result : Result Profile ParseFault) (size : ℕ) → result ≡ Err fault.StepLimit
+    → (result ≡ Err fault.TextTooLong) ↔ (max_text_bytes < size) → size ≤ max_text_bytes
+short-profile result size is long = elim (cases_lt max_text_bytes size) [
+  | inl over ↦ absurd (let bad : Err fault.StepLimit ≡ Err fault.TextTooLong = sym is ∙ long.1 over in cc)
+  | inr within ↦ within
+]
