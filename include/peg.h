@@ -6,9 +6,10 @@
  * Handles
  *   A handle is a struct of one pointer. A null handle, `PEG_NULL`, holds nothing. Initialise each handle to it before
  *   the first call. A call that fills a handle releases what it held before; a call that fails leaves it unchanged.
- *   The caller owns what a handle holds and releases it with `peg_grammar_free` or `peg_match_free`, which leave the
- *   handle null. Releasing a null handle does nothing. Move a handle by copying the struct and no longer using the old
- *   one: two copies are two owners, and using both is undefined. A match doesn't depend on its grammar.
+ *   The caller owns what a handle holds and releases it with `peg_grammar_free`, `peg_match_free` or
+ *   `peg_explanation_free`, which leave the handle null. Releasing a null handle does nothing. Move a handle by copying the struct and no longer using the old
+ *   one: two copies are two owners, and using both is undefined. A match and an
+ *   explanation don't depend on their grammar.
  *
  * Memory
  *   The library keeps no pointer to the caller's memory: a grammar file and a text may be freed after the call. Memory
@@ -44,7 +45,7 @@ extern "C" {
 #define PEG_ABI 1u
 
 /* A grammar handle holds a grammar, or the reason why a grammar file was refused. A match handle holds the answer to a
- * parse. The member is private. */
+ * parse, and an explanation handle says where a text doesn't match. The member is private. */
 typedef struct peg_grammar {
     void *opaque;
 } peg_grammar;
@@ -52,6 +53,10 @@ typedef struct peg_grammar {
 typedef struct peg_match {
     void *opaque;
 } peg_match;
+
+typedef struct peg_explanation {
+    void *opaque;
+} peg_explanation;
 
 /* The initialiser of a null handle. */
 #define PEG_NULL {0}
@@ -127,6 +132,13 @@ typedef struct peg_summary {
     uint64_t steps;    /* the number of instructions executed */
 } peg_summary;
 
+/* Where a text doesn't match as a whole. An item is a terminal or a predicate outside predicates. */
+typedef struct peg_mismatch {
+    uint32_t position;     /* the offset in the text, at most its length */
+    uint32_t end_expected; /* 1 if the end of the text is expected there, else 0 */
+    uint64_t expected;     /* the number of items that are expected there, at most 65,536 */
+} peg_mismatch;
+
 /* The capacity of the memo that pegtool uses if none is given. */
 #define PEG_DEFAULT_MEMO 4096u
 
@@ -187,6 +199,36 @@ size_t peg_match_nodes(peg_match *match, size_t from, peg_node *out, size_t out_
  * terminals, from number `from` on, to `out`: as many as there are and fit.
  * Returns their number, which is 0 if the handle holds no answer. The rest of `out` is unchanged. */
 size_t peg_match_expected(peg_match *match, size_t from, peg_span *out, size_t out_length);
+
+/* ---- explanations */
+
+/* Explains where a text doesn't match as a whole, as `pegtool explain` does, and stores the explanation in `out`. `name`
+ * is how the message calls the text. `start`, `memo` and `steps` are those of `peg_parse`. `grammar` is unchanged.
+ * The parse is by a larger grammar, whose items tell where predicates fail: it takes more steps than `peg_parse`, and
+ * each call compiles that grammar. So parse first, and explain only what doesn't match.
+ * Returns PEG_OK if the text matches as a whole; `out` is then unchanged.
+ * Returns PEG_FAILED if it doesn't; `out` then holds the explanation, and the caller has to release it with
+ * `peg_explanation_free`. The other statuses are those of `peg_parse`, and leave `out` unchanged. */
+uint32_t peg_explain(peg_grammar *grammar, const uint8_t *name, size_t name_length, const uint8_t *text,
+                     size_t text_length, const uint8_t *start, size_t start_length, uint32_t memo, uint64_t steps,
+                     peg_explanation *out);
+
+/* Releases what a handle holds and leaves the handle null. */
+void peg_explanation_free(peg_explanation *explanation);
+
+/* Copies the message to `out`: `NAME:LINE:COLUMN: expected ITEMS, found CHARACTER`, the line of the text, and a caret.
+ * Each line ends with LF; there is no final null byte. If the message is longer than `out_length`, only its start is
+ * copied. Returns the length of the whole message, or 0 if the handle holds no explanation. */
+size_t peg_explanation_message(peg_explanation *explanation, uint8_t *out, size_t out_length);
+
+/* Writes the position where the text doesn't match, and how much is expected there.
+ * Returns PEG_OK, or PEG_WRONG_HANDLE if the handle holds no explanation; `out` is then unchanged. */
+uint32_t peg_explanation_mismatch(peg_explanation *explanation, peg_mismatch *out);
+
+/* Copies the spans in the grammar file of the items that are expected at the position, in ascending order of the items,
+ * from number `from` on, to `out`: as many as there are and fit.
+ * Returns their number, which is 0 if the handle holds no explanation. The rest of `out` is unchanged. */
+size_t peg_explanation_expected(peg_explanation *explanation, size_t from, peg_span *out, size_t out_length);
 
 /* ---- positions, and the library itself */
 

@@ -71,8 +71,21 @@ printf 'A <- B\n' > "$work/refused.peg"
 "$work/rows" "$work/refused.peg" /dev/null > "$work/got"
 cmp "$work/want" "$work/got" || fault "other refusal"
 printf '{"a": }' > "$work/text"
-want="$work/text:1:7: expected 'true' or 'false' or 'null' or '{' or '[' or '\"' or '-' or '0' or [1-9] or [ \\t\\r\\n]"
-[ "$("$work/lint" examples/json.peg "$work/text")" = "$want" ] || fault "lint reports something else"
+# The messages of lint, beside those of `pegtool explain`, for each line of tests/explain, whose marks are left in.
+messages=0
+for grammar in tests/explain/*.peg; do
+  while IFS= read -r line; do
+    printf '%s' "$line" > "$work/faulty"
+    "$program" explain "$grammar" "$work/faulty" > "$work/want"
+    "$work/lint" "$grammar" "$work/faulty" > "$work/got"
+    cmp "$work/want" "$work/got" || fault "lint: another message: $grammar $line"
+    messages=$((messages + 1))
+  done < "${grammar%.peg}.txt"
+done
+echo "lint: $messages messages"
+"$program" explain examples/json.peg "$work/text" > "$work/want"
+"$work/lint" examples/json.peg "$work/text" > "$work/got"
+cmp "$work/want" "$work/got" || fault "lint: another message for JSON"
 "$work/lint" examples/json.peg > "$work/got" || fault "lint rejects a grammar"
 [ ! -s "$work/got" ] || fault "lint reports a correct grammar"
 [ "$("$work/lint" "$work/refused.peg" | cut -d: -f 2,3)" = 1:6 ] || fault "lint reports another place of a refusal"

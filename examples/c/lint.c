@@ -1,16 +1,10 @@
 /* lint GRAMMAR [TEXT]: says what is wrong with a grammar file, or where a text stops matching it.
- * Ends with 0 if nothing is wrong, and 1 otherwise. */
+ * Ends with 0 if nothing is wrong, and 1 otherwise. The message for a text is that of `pegtool explain`. */
 #include "files.h"
 #include "peg.h"
 
 #include <inttypes.h>
-
-/* Prints PATH:LINE:COLUMN for an offset. */
-static void print_place(const char *path, const uint8_t *bytes, size_t length, size_t offset) {
-    peg_location place = {0, 0};
-    peg_locate(bytes, length, offset, &place);
-    printf("%s:%" PRIu32 ":%" PRIu32 ": ", path, place.line, place.column);
-}
+#include <string.h>
 
 static int report_refusal(peg_grammar *grammar, const char *path) {
     static uint8_t line[4096];
@@ -28,35 +22,34 @@ static int report_refusal(peg_grammar *grammar, const char *path) {
     return 1;
 }
 
-/* Prints the terminals that failed furthest as they are written in the grammar file. */
-static void print_expected(peg_match *match, const uint8_t *file) {
-    peg_span span = {0, 0};
-    for (size_t i = 0; peg_match_expected(match, i, &span, 1) == 1; i++) {
-        printf("%s%.*s", i == 0 ? "expected " : " or ", (int)(span.end - span.start), (const char *)file + span.start);
+/* Prints the message of an explanation. */
+static void print_message(peg_explanation *explanation) {
+    uint8_t none = 0;
+    size_t length = peg_explanation_message(explanation, &none, 0);
+    uint8_t *message = calloc(length, 1);
+    if (message == NULL) {
+        fputs("out of memory\n", stderr);
+        exit(5);
     }
-    fputs("\n", stdout);
+    peg_explanation_message(explanation, message, length);
+    fwrite(message, 1, length, stdout);
+    free(message);
 }
 
-static int lint_text(peg_grammar *grammar, const uint8_t *file, const char *path) {
+static int lint_text(peg_grammar *grammar, const char *path) {
     size_t length;
     uint8_t *text = read_file(path, &length);
-    peg_match match = PEG_NULL;
-    peg_summary summary = {0};
-    uint32_t status = peg_parse(grammar, text, length, (const uint8_t *)"", 0, PEG_DEFAULT_MEMO, 0, &match);
-    int wrong = 1;
-    if (status != PEG_OK && status != PEG_FAILED) {
+    peg_explanation explanation = PEG_NULL;
+    uint32_t status = peg_explain(grammar, (const uint8_t *)path, strlen(path), text, length, (const uint8_t *)"", 0,
+                                  PEG_DEFAULT_MEMO, 0, &explanation);
+    if (status == PEG_FAILED) {
+        print_message(&explanation);
+    } else if (status != PEG_OK) {
         printf("%s: the parse ended with status %" PRIu32 "\n", path, status);
-    } else {
-        peg_match_summary(&match, &summary);
-        wrong = !(summary.matched && summary.consumed == length);
-        if (wrong) {
-            print_place(path, text, length, summary.furthest);
-            print_expected(&match, file);
-        }
     }
-    peg_match_free(&match);
+    peg_explanation_free(&explanation);
     free(text);
-    return wrong;
+    return status != PEG_OK;
 }
 
 int main(int argc, char **argv) {
@@ -75,7 +68,7 @@ int main(int argc, char **argv) {
         printf("%s: reading ended with status %" PRIu32 "\n", argv[1], status);
         wrong = 1;
     } else if (argc == 3) {
-        wrong = lint_text(&grammar, file, argv[2]);
+        wrong = lint_text(&grammar, argv[2]);
     }
     peg_grammar_free(&grammar);
     free(file);

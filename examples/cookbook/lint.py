@@ -1,6 +1,6 @@
 #!/usr/bin/env python3
 """A linter for settings (ini.peg): `lint.py FILE..` reports each key that is set twice in a section. What doesn't match
-goes to explain.py. The program is pegtool, or what PEGTOOL names. The exit status is 1 if something is reported."""
+goes to `pegtool explain`. The program is pegtool, or what PEGTOOL names. The exit status is 1 if something is reported."""
 import json
 import os
 import subprocess
@@ -28,7 +28,7 @@ def lint(name):
     """Reports what is wrong in a file. Returns whether something is."""
     done = subprocess.run([PROGRAM, "parse", GRAMMAR, name, "--rows"], stdout=subprocess.PIPE)
     if done.returncode:
-        return subprocess.run([os.path.join(EXAMPLES, "explain.py"), GRAMMAR, name]).returncode != 0
+        return subprocess.run([PROGRAM, "explain", GRAMMAR, name]).returncode != 0
     with open(name, "rb") as file:
         found = list(keys_set_twice(json.loads(done.stdout)["rows"], file.read()))
     for line, key, before in found:

@@ -6,9 +6,6 @@ from typing import Any, Dict, List, Optional, Tuple
 # The greatest number of columns of a source line that a message shows.
 SHOWN_COLUMNS = 120
 
-# The greatest number of expected items that a message lists.
-SHOWN_ITEMS = 8
-
 LINE_END = re.compile(rb"\r\n|\r|\n")
 
 MESSAGES = {
@@ -60,23 +57,31 @@ class ParseError(PegError):
     """A text isn't matched, or not all of it.
 
     `position` is the offset of the fault in bytes from 0; `line` and `column` are the same, both from 1. `expected`
-    lists what would have been accepted there, as it is written in the grammar. `found` is the character there, or
-    "the end". `consumed` is the length of the longest prefix that matched, or `None` if there is none. `str(error)`
-    shows the line with a caret.
+    lists what would have been accepted there, as it is written in the grammar. `found` is the character there in quotes,
+    or "the end". `consumed` is the length of the longest prefix that matched, or `None` if there is none. `str(error)`
+    is the message of `pegtool explain`, which shows the line with a caret.
     """
 
     def __init__(
-        self, name: str, data: bytes, position: int, expected: List[str], consumed: Optional[int], far: int
+        self,
+        text: bytes,
+        name: bytes,
+        data: bytes,
+        position: int,
+        expected: List[str],
+        consumed: Optional[int],
+        far: int,
     ) -> None:
         self.position = position
         self.expected = expected
         self.consumed = consumed
         self.far = far
-        self.found = shown_character(data, position)
         self.line, self.column = line_and_column(data, position)
-        wanted = listed(expected) if expected else "something else"
-        self.message = f"expected {wanted}, found {self.found}"
-        super().__init__(f"{name}:{self.line}:{self.column}: {self.message}\n{caret_lines(data, position)}")
+        # The first line of the text, after the name and the place.
+        sentence = text[len(name) + len(f":{self.line}:{self.column}: ") :].partition(b"\n")[0]
+        self.message = sentence.decode("utf-8", "backslashreplace")
+        self.found: str = self.message.rpartition(", found ")[2]
+        super().__init__(text.decode("utf-8", "backslashreplace").rstrip("\n"))
 
 
 class NoSuchRuleError(PegError, ValueError):
@@ -119,18 +124,6 @@ def shown(data: bytes) -> str:
     return "".join(c if c.isprintable() else c.encode("unicode_escape").decode("ascii") for c in text)
 
 
-def shown_character(data: bytes, position: int) -> str:
-    """The character at a position, in quotes, or "the end"."""
-    if position >= len(data):
-        return "the end"
-    for length in (1, 2, 3, 4):
-        try:
-            return f"'{shown(data[position:position + length].decode('utf-8').encode('utf-8'))}'"
-        except UnicodeDecodeError:
-            pass
-    return f"'{shown(data[position:position + 1])}'"
-
-
 def caret_lines(data: bytes, position: int) -> str:
     """The source line of a position and a caret below it. A long line is cut around the position."""
     _, start = line_start(data, position)
@@ -144,12 +137,3 @@ def caret_lines(data: bytes, position: int) -> str:
     line = data[start:end].decode("utf-8", "replace")
     below = "".join(c if c == "\t" else " " for c in before)
     return f"{line}\n{below}^"
-
-
-def listed(items: List[str]) -> str:
-    """Items as in a sentence: `a, b or c`."""
-    if len(items) > SHOWN_ITEMS:
-        items = items[:SHOWN_ITEMS] + [f"{len(items) - SHOWN_ITEMS} more"]
-    if len(items) == 1:
-        return items[0]
-    return f"{', '.join(items[:-1])} or {items[-1]}"

@@ -6,7 +6,7 @@ import threading
 from typing import Optional, Tuple, Union
 
 from ._errors import GrammarError, NoSuchRuleError, ParseError, StepLimitError, TextTooLongError
-from ._library import FAILED, NO_SUCH_START, OK, REFUSED, STEP_LIMIT, TEXT_TOO_LONG, GrammarHandle, RawAnswer
+from ._library import FAILED, NO_SUCH_START, OK, REFUSED, STEP_LIMIT, TEXT_TOO_LONG, GrammarHandle, RawExplanation
 from ._match import Failure, Match
 
 # The capacity of the memo that pegtool uses if none is given.
@@ -104,7 +104,14 @@ class Grammar:
         status, raw = self._handle().parse(text, (start or "").encode("utf-8"), memo, steps or 0)
         if status in (OK, FAILED):
             given = data if isinstance(data, str) else text
-            return (Match if status == OK else Failure)(self, given, text, raw)
+            return (Match if status == OK else Failure)(self, given, text, raw, start or "", memo)
+        raise fault(status, start)
+
+    def _explain(self, name: bytes, data: bytes, start: str, memo: int) -> RawExplanation:
+        """Where a text doesn't match as a whole. The name begins the message."""
+        status, raw = self._handle().explain(name, data, start.encode("utf-8"), memo)
+        if status == FAILED:
+            return raw
         raise fault(status, start)
 
     def _handle(self) -> GrammarHandle:

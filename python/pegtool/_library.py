@@ -50,6 +50,12 @@ class PegSummary(ctypes.Structure):
     ]
 
 
+class PegMismatch(ctypes.Structure):
+    """Where a text doesn't match as a whole."""
+
+    _fields_ = [("position", c_uint32), ("end_expected", c_uint32), ("expected", c_uint64)]
+
+
 DECLARATIONS = {
     "peg_grammar_read": (c_uint32, c_char_p, c_size_t, POINTER(Handle)),
     "peg_grammar_free": (None, POINTER(Handle)),
@@ -71,6 +77,23 @@ DECLARATIONS = {
     "peg_match_summary": (c_uint32, POINTER(Handle), POINTER(PegSummary)),
     "peg_match_nodes": (c_size_t, POINTER(Handle), c_size_t, POINTER(PegNode), c_size_t),
     "peg_match_expected": (c_size_t, POINTER(Handle), c_size_t, POINTER(PegSpan), c_size_t),
+    "peg_explain": (
+        c_uint32,
+        POINTER(Handle),
+        c_char_p,
+        c_size_t,
+        c_char_p,
+        c_size_t,
+        c_char_p,
+        c_size_t,
+        c_uint32,
+        c_uint64,
+        POINTER(Handle),
+    ),
+    "peg_explanation_free": (None, POINTER(Handle)),
+    "peg_explanation_message": (c_size_t, POINTER(Handle), POINTER(c_uint8), c_size_t),
+    "peg_explanation_mismatch": (c_uint32, POINTER(Handle), POINTER(PegMismatch)),
+    "peg_explanation_expected": (c_size_t, POINTER(Handle), c_size_t, POINTER(PegSpan), c_size_t),
     "peg_abi": (c_uint32,),
     "peg_version": (c_size_t, POINTER(c_uint8), c_size_t),
 }
@@ -89,14 +112,16 @@ def candidates() -> List[str]:
 
 
 def load() -> ctypes.CDLL:
-    """Loads the library. Raises `ImportError` if there is none, or if it has another binary interface."""
+    """Loads the library. Raises `ImportError` if there is none, or if it is too old or has another binary interface."""
     for path in candidates():
         library = ctypes.CDLL(path)
-        for name, (result, *arguments) in DECLARATIONS.items():
-            function = getattr(library, name)
-            function.restype, function.argtypes = result, arguments
         if library.peg_abi() != ABI:
             raise ImportError(f"{path} has the binary interface {library.peg_abi()}, and not {ABI}")
+        for name, (result, *arguments) in DECLARATIONS.items():
+            function = getattr(library, name, None)
+            if function is None:
+                raise ImportError(f"{path} is too old: it has no {name}")
+            function.restype, function.argtypes = result, arguments
         return library
     raise ImportError("libpeg.so isn't found; `make lib` builds it, and PEGTOOL_LIBRARY names another place")
 
@@ -186,6 +211,30 @@ class GrammarHandle:
             return status, RawAnswer(found)
         finally:
             LIBRARY.peg_match_free(byref(found))
+
+    def explain(self, name: bytes, text: bytes, start: bytes, memo: int) -> Tuple[int, "RawExplanation"]:
+        """Explains where a text doesn't match. Returns the status, and the explanation if there is one."""
+        self.owner.release()
+        found = Handle()
+        try:
+            status = LIBRARY.peg_explain(
+                byref(self.raw), name, len(name), text, len(text), start, len(start), memo, 0, byref(found)
+            )
+            return status, RawExplanation(found)
+        finally:
+            LIBRARY.peg_explanation_free(byref(found))
+
+
+class RawExplanation:
+    """What an explanation handle holds, copied: the message, the place, and the spans of the expected items."""
+
+    def __init__(self, found: Handle) -> None:
+        self.message = copied(lambda out, length: LIBRARY.peg_explanation_message(byref(found), out, length))
+        self.mismatch = PegMismatch()
+        LIBRARY.peg_explanation_mismatch(byref(found), byref(self.mismatch))
+        self.expected = (PegSpan * self.mismatch.expected)()
+        if self.mismatch.expected:
+            LIBRARY.peg_explanation_expected(byref(found), 0, self.expected, self.mismatch.expected)
 
 
 class RawAnswer:

@@ -1,7 +1,9 @@
 """The answers to parses: matches with their nodes, and failures."""
 
 import array
-from typing import TYPE_CHECKING, Iterator, List, NamedTuple, Optional, Sequence, Tuple, Union, overload
+import os
+import re
+from typing import TYPE_CHECKING, Iterable, Iterator, List, NamedTuple, Optional, Sequence, Tuple, Union, overload
 
 from ._errors import ParseError
 from ._library import RawAnswer
@@ -13,6 +15,9 @@ if TYPE_CHECKING:
 # whose nodes don't fit into the memory of the process isn't made.
 WORDS = 6
 RULE, START, END, LEVEL, SIZE = range(5)
+
+# Blanks and comments of a grammar file.
+BLANKS = re.compile(r"^(?:[ \t\r\n]|#[^\r\n]*)*")
 
 # The greatest number of levels of a tree that pegtool prints as nested objects.
 MAX_LEVELS = 60
@@ -195,8 +200,12 @@ class Node:
 class _Answer:
     """What matches and failures have in common."""
 
-    def __init__(self, grammar: "Grammar", given: Union[str, bytes], data: bytes, raw: RawAnswer) -> None:
+    def __init__(
+        self, grammar: "Grammar", given: Union[str, bytes], data: bytes, raw: RawAnswer, start: str, memo: int
+    ) -> None:
         self.grammar = grammar
+        # The name of the start rule, or empty for the first rule, and the capacity of the memo.
+        self._start, self._memo = start, memo
         # The text as bytes. All offsets count these.
         self.data = data
         # The greatest offset at which a terminal failed, or 0 if none failed.
@@ -210,9 +219,28 @@ class _Answer:
     @property
     def expected(self) -> List[str]:
         """The terminals that failed at `far`, as they are written in the grammar file, each once."""
-        source = self.grammar.source
-        written = (source[start:end].decode("utf-8", "replace") for start, end in self.expected_spans)
-        return list(dict.fromkeys("the end" if item == "[]" else item for item in written))
+        items = (self._written(start, end) for start, end in self.expected_spans)
+        return _each_once("the end" if item == "[]" else item for item in items)
+
+    def error(self, name: str = "<text>") -> ParseError:
+        """The error that `Grammar.parse` raises if the text isn't matched as a whole.
+
+        It is at the furthest failure outside predicates, or at the end of the match if that is further. The parse that
+        finds it counts predicates as items, and takes more steps than `Grammar.match`. There is no limit to them.
+        Raises `ValueError` if the text is matched as a whole.
+        """
+        consumed = self.consumed if isinstance(self, Match) else None
+        if consumed == len(self.data):
+            raise ValueError("the text is matched as a whole")
+        encoded = os.fsencode(name)
+        raw = self.grammar._explain(encoded, self.data, self._start, self._memo)
+        items = [_item(self._written(span.start, span.end)) for span in raw.expected]
+        expected = _each_once(items + ["the end"] * raw.mismatch.end_expected)
+        return ParseError(raw.message, encoded, self.data, raw.mismatch.position, expected, consumed, self.far)
+
+    def _written(self, start: int, end: int) -> str:
+        """A part of the grammar file."""
+        return self.grammar.source[start:end].decode("utf-8", "replace")
 
     def _as_given(self, part: bytes) -> Union[str, bytes]:
         return part.decode("utf-8", "replace") if self._is_text else part
@@ -226,10 +254,6 @@ class Failure(_Answer):
 
     def __bool__(self) -> bool:
         return False
-
-    def error(self, name: str = "<text>") -> ParseError:
-        """The error that `Grammar.parse` raises for this failure."""
-        return ParseError(name, self.data, self.far, self.expected, None, self.far)
 
     def to_json(self) -> str:
         """The line that `pegtool parse` prints."""
@@ -245,8 +269,10 @@ class Match(_Answer):
     `rows` has all nodes, and `root` is the node of the start rule.
     """
 
-    def __init__(self, grammar: "Grammar", given: Union[str, bytes], data: bytes, raw: RawAnswer) -> None:
-        super().__init__(grammar, given, data, raw)
+    def __init__(
+        self, grammar: "Grammar", given: Union[str, bytes], data: bytes, raw: RawAnswer, start: str, memo: int
+    ) -> None:
+        super().__init__(grammar, given, data, raw, start, memo)
         # The length of the prefix, in bytes.
         self.consumed: int = raw.summary.consumed
         self._words = memoryview(raw.nodes).cast("B").cast("I")
@@ -271,18 +297,6 @@ class Match(_Answer):
     def is_whole(self) -> bool:
         """Whether all of the text is matched."""
         return self.consumed == len(self.data)
-
-    def error(self, name: str = "<text>") -> ParseError:
-        """The error that `Grammar.parse` raises if this match isn't of the whole text.
-
-        It is at the greater one of `far` and `consumed`. The end of the text was expected where the match ends.
-        """
-        if self.consumed < self.far:
-            return ParseError(name, self.data, self.far, self.expected, self.consumed, self.far)
-        expected = self.expected if self.consumed == self.far else []
-        if "the end" not in expected:
-            expected.append("the end")
-        return ParseError(name, self.data, self.consumed, expected, self.consumed, self.far)
 
     def to_json(self, rows: bool = False) -> str:
         """The line that `pegtool parse` prints, with `rows` that of `pegtool parse --rows`.
@@ -324,6 +338,19 @@ class Match(_Answer):
 
     def __repr__(self) -> str:
         return f"<Match of {self.consumed} bytes, {len(self.rows)} nodes>"
+
+
+def _each_once(items: Iterable[str]) -> List[str]:
+    """The items without repetitions."""
+    return list(dict.fromkeys(items))
+
+
+def _item(written: str) -> str:
+    """What an item expects, as in a message: `!e` expects no e, and `!.` the end."""
+    if not written.startswith("!"):
+        return written
+    operand = BLANKS.sub("", written[1:], count=1)
+    return "the end" if operand == "." else f"no {operand}"
 
 
 def _closed(row: Row) -> str:

@@ -110,14 +110,44 @@ class Parses(unittest.TestCase):
 
     def test_the_furthest_failure_may_be_after_the_match(self):
         with self.assertRaises(ParseError) as caught:
-            Grammar("S <- 'ab'* 'a'?\n").parse("abac")
+            Grammar("S <- ('a' 'b')* 'a'?\n").parse("abac")
         error = caught.exception
         self.assertEqual((error.position, error.consumed, error.far), (3, 3, 3))
-        self.assertEqual(error.expected, ["'ab'", "the end"])
+        self.assertEqual(error.expected, ["'b'", "the end"])
+
+    def test_a_literal_fails_at_its_start(self):
+        with self.assertRaises(ParseError) as caught:
+            Grammar("S <- 'ab'* 'a'?\n").parse("abac")
+        error = caught.exception
+        self.assertEqual((error.position, error.far, error.expected), (3, 3, ["the end"]))
+        with self.assertRaises(ParseError) as caught:
+            Grammar("S <- 'ab'\n").parse("a")
+        self.assertEqual((caught.exception.position, caught.exception.far), (0, 1))
+
+    def test_a_predicate_fails_at_its_start(self):
+        grammar = Grammar("S <- ! B [a-z] !\t# the end\n.\nB <- 'if' ![a-z]\n")
+        with self.assertRaises(ParseError) as caught:
+            grammar.parse("if", name="a:1:1: b.txt")
+        error = caught.exception
+        self.assertEqual((error.position, error.expected, error.found), (0, ["no B"], "'i'"))
+        self.assertEqual(error.message, "expected no B, found 'i'")
+        self.assertEqual(str(error), "a:1:1: b.txt:1:1: expected no B, found 'i'\nif\n^")
+        with self.assertRaises(ParseError) as caught:
+            grammar.parse("ab")
+        self.assertEqual((caught.exception.position, caught.exception.expected), (1, ["the end"]))
+
+    def test_a_whole_match_has_no_error(self):
+        self.assertRaises(ValueError, Grammar(CHAIN).parse("ab").error)
+
+    def test_errors_of_bytes(self):
+        with self.assertRaises(ParseError) as caught:
+            Grammar("S <- 'a'\n").parse(b"\xff", name="b\udcff.txt")
+        self.assertEqual(caught.exception.found, "'\\xFF'")
+        self.assertTrue(str(caught.exception).startswith("b\\xff.txt:1:1: expected 'a', found "))
 
     def test_the_end_can_be_found(self):
         with self.assertRaises(ParseError) as caught:
-            Grammar("S <- 'ab'\n").parse("a")
+            Grammar("S <- 'a' 'b'\n").parse("a")
         self.assertEqual((caught.exception.position, caught.exception.found), (1, "the end"))
 
     def test_a_prefix_is_a_match(self):

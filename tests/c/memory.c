@@ -1,6 +1,6 @@
-/* memory GRAMMAR TEXT: refuses each request for memory of a reading and of a parse in turn. Each call has to return
- * PEG_OUT_OF_MEMORY, leave the handles as they were and release what it requested. Link it with the linker's options
- * --wrap=malloc, --wrap=realloc and --wrap=free. */
+/* memory GRAMMAR TEXT: refuses each request for memory of a reading, a parse and an explanation in turn. Each call has
+ * to return PEG_OUT_OF_MEMORY, leave the handles as they were and release what it requested. The text to be explained is
+ * all but the last byte of TEXT. Link it with the linker's options --wrap=malloc, --wrap=realloc and --wrap=free. */
 #include "../../examples/c/files.h"
 #include "peg.h"
 
@@ -97,6 +97,24 @@ static long refuse_in_parsing(peg_grammar *grammar, const uint8_t *text, size_t 
     }
 }
 
+static long refuse_in_explaining(peg_grammar *grammar, const uint8_t *text, size_t length, uint32_t memo) {
+    for (long n = 0;; n++) {
+        peg_explanation explanation = PEG_NULL;
+        long before = blocks;
+        void *held = grammar->opaque;
+        refuse_request(n);
+        uint32_t status = peg_explain(grammar, (const uint8_t *)"text", 4, text, length, (const uint8_t *)"", 0, memo, 0,
+                                      &explanation);
+        int has_answer = status == PEG_OK || status == PEG_FAILED;
+        int is_unchanged = explanation.opaque == NULL && grammar->opaque == held;
+        int more = was_refused(has_answer, status, is_unchanged, before, n);
+        peg_explanation_free(&explanation);
+        if (!more) {
+            return n;
+        }
+    }
+}
+
 int main(int argc, char **argv) {
     if (argc != 3) {
         fputs("usage: memory GRAMMAR TEXT\n", stderr);
@@ -113,11 +131,13 @@ int main(int argc, char **argv) {
         fail("the grammar is refused", 0);
     }
     long parse = refuse_in_parsing(&grammar, text, text_length, PEG_DEFAULT_MEMO);
+    long explanation = refuse_in_explaining(&grammar, text, text_length - 1, PEG_DEFAULT_MEMO);
     peg_grammar_free(&grammar);
     if (blocks != live) {
         fail("memory is left", blocks - live);
     }
-    printf("memory: refused %ld requests of a reading, %ld of a refusal, %ld of a parse\n", reading, refusal, parse);
+    printf("memory: refused %ld requests of a reading, %ld of a refusal, %ld of a parse, %ld of an explanation\n", reading,
+           refusal, parse, explanation);
     free(text);
     free(file);
     return 0;

@@ -28,6 +28,12 @@ static uint32_t parse(peg_grammar *grammar, const char *text, const char *start,
     return peg_parse(grammar, bytes(text), strlen(text), bytes(start), strlen(start), PEG_DEFAULT_MEMO, steps, out);
 }
 
+static uint32_t explain(peg_grammar *grammar, const char *text, const char *start, uint64_t steps,
+                        peg_explanation *out) {
+    return peg_explain(grammar, bytes("t"), 1, bytes(text), strlen(text), bytes(start), strlen(start), PEG_DEFAULT_MEMO,
+                       steps, out);
+}
+
 static void null_handles_give_nothing(void) {
     peg_grammar grammar = PEG_NULL;
     peg_match match = PEG_NULL;
@@ -51,7 +57,21 @@ static void null_handles_give_nothing(void) {
     CHECK(grammar.opaque == NULL && match.opaque == NULL);
 }
 
-/* The two types of handles have one form, so a cast can exchange them. */
+static void null_explanations_give_nothing(void) {
+    peg_grammar grammar = PEG_NULL;
+    peg_explanation explanation = PEG_NULL;
+    peg_mismatch mismatch = {9, 9, 9};
+    peg_span span = {9, 9};
+    uint8_t byte = 9;
+    CHECK(explain(&grammar, "a", "", 0, &explanation) == PEG_WRONG_HANDLE && explanation.opaque == NULL);
+    CHECK(peg_explanation_message(&explanation, &byte, 1) == 0 && byte == 9);
+    CHECK(peg_explanation_mismatch(&explanation, &mismatch) == PEG_WRONG_HANDLE && mismatch.position == 9);
+    CHECK(peg_explanation_expected(&explanation, 0, &span, 1) == 0 && span.end == 9);
+    peg_explanation_free(&explanation);
+    CHECK(explanation.opaque == NULL);
+}
+
+/* The types of handles have one form, so a cast can exchange them. */
 static void other_handles_are_reported(void) {
     peg_grammar grammar = PEG_NULL;
     peg_match match = PEG_NULL, other = PEG_NULL;
@@ -124,6 +144,42 @@ static void parses_have_their_statuses(void) {
     peg_match_free(&match);
 }
 
+static void explanations_have_their_statuses(void) {
+    peg_grammar grammar = PEG_NULL;
+    peg_explanation explanation = PEG_NULL;
+    peg_mismatch mismatch = {9, 9, 9};
+    peg_span spans[3] = {{9, 9}, {9, 9}, {9, 9}};
+    uint8_t message[60] = {0};
+    peg_match match = PEG_NULL;
+    CHECK(read_grammar("S <- !B [a-z] 'x'\nB <- 'b'", &grammar) == PEG_OK);
+    CHECK(explain(&grammar, "ax", "", 0, &explanation) == PEG_OK && explanation.opaque == NULL);
+    CHECK(explain(&grammar, "bx", "", 0, &explanation) == PEG_FAILED);
+    CHECK(peg_explanation_mismatch(&explanation, &mismatch) == PEG_OK);
+    CHECK(mismatch.position == 0 && mismatch.end_expected == 0 && mismatch.expected == 1);
+    CHECK(peg_explanation_expected(&explanation, 0, spans, 3) == 1);
+    CHECK(spans[0].start == 5 && spans[0].end == 7 && spans[1].end == 9);
+    CHECK(peg_explanation_expected(&explanation, 1, spans, 3) == 0);
+    const char *expected = "t:1:1: expected no B, found 'b'\nbx\n^\n";
+    CHECK(peg_explanation_message(&explanation, message, sizeof message) == strlen(expected));
+    CHECK(strcmp((char *)message, expected) == 0);
+    CHECK(peg_explanation_message(&explanation, message, 1) == strlen(expected));
+    CHECK(explain(&grammar, "axy", "", 0, &explanation) == PEG_FAILED);
+    CHECK(peg_explanation_mismatch(&explanation, &mismatch) == PEG_OK);
+    CHECK(mismatch.position == 2 && mismatch.end_expected == 1 && mismatch.expected == 0);
+    void *before = explanation.opaque;
+    CHECK(explain(&grammar, "b", "C", 0, &explanation) == PEG_NO_SUCH_START && explanation.opaque == before);
+    CHECK(explain(&grammar, "b", "", 1, &explanation) == PEG_STEP_LIMIT && explanation.opaque == before);
+    CHECK(explain(&grammar, "b", "B", 0, &explanation) == PEG_OK && explanation.opaque == before);
+    CHECK(parse((peg_grammar *)&explanation, "a", "", 0, &match) == PEG_WRONG_HANDLE && match.opaque == NULL);
+    CHECK(explain((peg_grammar *)&explanation, "a", "", 0, (peg_explanation *)&match) == PEG_WRONG_HANDLE);
+    CHECK(peg_match_expected((peg_match *)&explanation, 0, spans, 3) == 0 && spans[0].end == 7);
+    CHECK(peg_explanation_expected((peg_explanation *)&grammar, 0, spans, 3) == 0 && spans[0].end == 7);
+    peg_grammar_free(&grammar);
+    CHECK(peg_explanation_message(&explanation, message, sizeof message) > 0);
+    peg_explanation_free(&explanation);
+    peg_explanation_free(&explanation);
+}
+
 static void names_and_positions_fit_their_buffers(void) {
     peg_grammar grammar = PEG_NULL;
     peg_location place = {9, 9};
@@ -146,9 +202,11 @@ static void names_and_positions_fit_their_buffers(void) {
 
 int main(void) {
     null_handles_give_nothing();
+    null_explanations_give_nothing();
     other_handles_are_reported();
     refusals_have_their_place();
     parses_have_their_statuses();
+    explanations_have_their_statuses();
     names_and_positions_fit_their_buffers();
     printf("misuse: %d tests, %d failed\n", tests, failures);
     return failures != 0;

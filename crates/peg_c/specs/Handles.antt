@@ -1,17 +1,21 @@
 -- What the content of a handle gives; a null handle has no content and gives nothing.
-use Rattle.std.specs.Prelude.{ℕ, ◌≤◌, List, [], Option, None, Some}
+use Rattle.std.specs.Prelude.{◌≡◌, ℕ, ◌≤◌, List, [], Option, None, Some}
 use Rattle.peg_parser.specs.Accepts.{Accepts}
 use Rattle.peg_parser.specs.Parser.{parser_rules}
 use Rattle.peg_semantics.specs.Rules.{Rule}
 use Rattle.peg_tree.specs.declared.outcome.Parsed.{Parsed}
 use Rattle.peg_tree.specs.declared.outcome.Parsed.TheVariants as parsed
 use Rattle.peg_handle.specs.Answers.{IsAnswerTo}
-use Rattle.peg_handle.specs.Contents.{content_info, content_json, content_name, content_nodes, content_rules}
-use Rattle.peg_handle.specs.Contents.{content_spans, content_summary}
+use Rattle.peg_handle.specs.Contents.{content_expected, content_mismatch, content_grammar, content_info, content_json}
+use Rattle.peg_handle.specs.Contents.{content_message, content_name, content_nodes, content_rules, content_spans}
+use Rattle.peg_handle.specs.Contents.{content_summary}
+use Rattle.peg_handle.specs.Explanations.{IsExplanationOf}
 use Rattle.peg_handle.specs.Rejections.{IsRejectionOf}
 use Rattle.peg_handle.specs.declared.content.Content.{Content}
-use Rattle.peg_handle.specs.declared.content.Content.TheVariants.{Accepted, Rejected, Answered}
+use Rattle.peg_handle.specs.declared.content.Content.TheVariants.{Accepted, Rejected, Answered, Explained}
 use Rattle.peg_handle.specs.declared.content.FileSpan.{FileSpan}
+use Rattle.peg_handle.specs.declared.content.GrammarFile.{GrammarFile}
+use Rattle.peg_handle.specs.declared.explanation_calls.MismatchInfo.{MismatchInfo}
 use Rattle.peg_handle.specs.declared.nodes.Node.{Node}
 use Rattle.peg_handle.specs.declared.refusal_info.RefusalInfo.{RefusalInfo}
 use Rattle.peg_handle.specs.declared.summary.Summary.{Summary}
@@ -19,23 +23,35 @@ use Rattle.peg_handle.specs.declared.summary.Summary.{Summary}
 -- the handle holds the parser of this grammar file, which is accepted
 abbrev pub HoldsParserOf : (file : List ℕ) → Option Content → Type 0
 HoldsParserOf file None = ⊥
-HoldsParserOf file (Some (Accepted parser)) = Accepts file (parser_rules parser)
+HoldsParserOf file (Some (Accepted grammar)) = (grammar.bytes.items ≡ file) × Accepts file (parser_rules grammar.parser)
 HoldsParserOf file (Some (Rejected rejection)) = ⊥
 HoldsParserOf file (Some (Answered found)) = ⊥
+HoldsParserOf file (Some (Explained explanation)) = ⊥
 
 -- the handle holds the reason why this grammar file is rejected
 abbrev pub HoldsRejectionOf : (file : List ℕ) → Option Content → Type 0
 HoldsRejectionOf file None = ⊥
-HoldsRejectionOf file (Some (Accepted parser)) = ⊥
+HoldsRejectionOf file (Some (Accepted grammar)) = ⊥
 HoldsRejectionOf file (Some (Rejected rejection)) = IsRejectionOf file rejection
 HoldsRejectionOf file (Some (Answered found)) = ⊥
+HoldsRejectionOf file (Some (Explained explanation)) = ⊥
 
 -- the handle holds an answer of this grammar to a text from a start
 abbrev pub HoldsAnswerTo : List Rule → (text start : List ℕ) → (memo : ℕ) → Option Content → Type 0
 HoldsAnswerTo rules text start memo None = ⊥
-HoldsAnswerTo rules text start memo (Some (Accepted parser)) = ⊥
+HoldsAnswerTo rules text start memo (Some (Accepted grammar)) = ⊥
 HoldsAnswerTo rules text start memo (Some (Rejected rejection)) = ⊥
 HoldsAnswerTo rules text start memo (Some (Answered found)) = IsAnswerTo rules text start memo found
+HoldsAnswerTo rules text start memo (Some (Explained explanation)) = ⊥
+
+-- the handle holds the explanation of a text from a start, by this grammar file
+abbrev pub HoldsExplanationOf : GrammarFile → (name text : List ℕ) → (start : Option (List ℕ)) → Option Content → Type 0
+HoldsExplanationOf file name text start None = ⊥
+HoldsExplanationOf file name text start (Some (Accepted grammar)) = ⊥
+HoldsExplanationOf file name text start (Some (Rejected rejection)) = ⊥
+HoldsExplanationOf file name text start (Some (Answered found)) = ⊥
+HoldsExplanationOf file name text start (Some (Explained explanation)) =
+    IsExplanationOf file name text start (Some explanation)
 
 abbrev pub IsMatched : Parsed → Type 0
 IsMatched parsed.Failed = ⊥
@@ -44,23 +60,26 @@ IsMatched (parsed.Matched end tree) = Unit {0}
 -- the handle holds an answer by which a prefix of the text matched
 abbrev pub HoldsMatched : Option Content → Type 0
 HoldsMatched None = ⊥
-HoldsMatched (Some (Accepted parser)) = ⊥
+HoldsMatched (Some (Accepted grammar)) = ⊥
 HoldsMatched (Some (Rejected rejection)) = ⊥
 HoldsMatched (Some (Answered found)) = IsMatched found.answer.outcome.result
+HoldsMatched (Some (Explained explanation)) = ⊥
 
 -- the handle holds an answer by which no prefix of the text matched
 abbrev pub HoldsFailed : Option Content → Type 0
 HoldsFailed None = ⊥
-HoldsFailed (Some (Accepted parser)) = ⊥
+HoldsFailed (Some (Accepted grammar)) = ⊥
 HoldsFailed (Some (Rejected rejection)) = ⊥
 HoldsFailed (Some (Answered found)) = ¬ IsMatched found.answer.outcome.result
+HoldsFailed (Some (Explained explanation)) = ⊥
 
 -- the handle holds an answer that took at most this many steps
 abbrev pub HoldsWithin : (limit : ℕ) → Option Content → Type 0
 HoldsWithin limit None = ⊥
-HoldsWithin limit (Some (Accepted parser)) = ⊥
+HoldsWithin limit (Some (Accepted grammar)) = ⊥
 HoldsWithin limit (Some (Rejected rejection)) = ⊥
 HoldsWithin limit (Some (Answered found)) = found.answer.steps ≤ limit
+HoldsWithin limit (Some (Explained explanation)) = ⊥
 
 abbrev pub held_rules : Option Content → Option (List Rule)
 held_rules None = None
@@ -89,3 +108,19 @@ held_nodes (Some content) = content_nodes content
 abbrev pub held_spans : Option Content → List FileSpan
 held_spans None = []
 held_spans (Some content) = content_spans content
+
+abbrev pub held_grammar : Option Content → Option GrammarFile
+held_grammar None = None
+held_grammar (Some content) = content_grammar content
+
+abbrev pub held_message : Option Content → List ℕ
+held_message None = []
+held_message (Some content) = content_message content
+
+abbrev pub held_expected : Option Content → List FileSpan
+held_expected None = []
+held_expected (Some content) = content_expected content
+
+abbrev pub held_mismatch : Option Content → Option MismatchInfo
+held_mismatch None = None
+held_mismatch (Some content) = content_mismatch content

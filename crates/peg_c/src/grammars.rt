@@ -19,8 +19,8 @@ pub extern "C" fn peg_grammar_read(alloc: Global, file: &[u8], out: &mut Handle)
     ensures unchanged { result ≡ OUT_OF_MEMORY → out.new.content ≡ out.old.content }
 {
     match read(alloc, file) {
-        Ok(parser) => {
-            if store(alloc, Content::Accepted(parser), out) {
+        Ok(grammar) => {
+            if store(alloc, Content::Accepted(grammar), out) {
                 DONE
             } else {
                 OUT_OF_MEMORY

@@ -1,4 +1,5 @@
 mod AnswerLemmas
+mod ExplanationLemmas
 mod LevelLemmas
 mod NodeLemmas
 mod RejectionLemmas

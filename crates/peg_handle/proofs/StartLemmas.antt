@@ -1,11 +1,15 @@
 -- Starts whose bytes are no rule's name.
 use Rattle.std.proofs.Common.{◌≡◌, ◌≢◌, ℕ, suc, ◌<◌, Bool, true, false, ◌==◌, ◌||◌, List, [], ◌∷◌, None, Some, length}
-use Rattle.std.proofs.Common.{bytes_eq, if◌then◌else◌, refl, sym, ap, ◌∙◌, arith}
+use Rattle.std.proofs.Common.{bytes_eq, get_or, if◌then◌else◌, refl, subst, sym, ap, ◌∙◌, arith}
+use Rattle.std.proofs.lemmas.Bool.{eqb-true, eq-eqb}
+use Rattle.std.proofs.lemmas.List.{length-map}
+use Rattle.std.proofs.lemmas.List.Folds.{list_any_at}
 use Rattle.std.proofs.lemmas.Slice.Eq.{bytes_eq-Decides}
 use Rattle.std.specs.List.{list_any}
 use Rattle.peg_semantics.specs.Rules.{Rule, is_defined, name_of, names}
 use Rattle.peg_semantics.specs.Starts.{start_name}
 use Rattle.peg_handle.specs.Starts.{start_of_bytes}
+use Rattle.peg_parser.proofs.RuleNames.{name-numbered}
 
 bytes_eq-differ : (first second : List ℕ) → second ≢ first → bytes_eq first second ≡ false
 bytes_eq-differ first second differ = by (bytes_eq first second) refl
@@ -29,3 +33,25 @@ pub start_name_no_rule : (rules : List Rule) (start : List ℕ) → (length star
 start_name_no_rule rules [] some differ = cc
 start_name_no_rule rules (byte ∷ bytes) some differ =
     ap (λ (b : Bool). if b then Some (byte ∷ bytes) else None) (is_defined-no_rule rules (byte ∷ bytes) differ)
+
+-- the name of a rule is defined
+pub is_defined-rule : (rules : List Rule) (name : List ℕ) (rule : ℕ) → rule < length rules
+    → name_of rules rule ≡ name → is_defined rules name ≡ true
+is_defined-rule rules name rule within named =
+    list_any_at (bytes_eq name) (names rules) rule []
+    (subst (λ (n : ℕ). rule < n) (sym (length-map rules (λ (r : Rule). r.name))) within)
+    ((bytes_eq-Decides name (get_or (names rules) rule [])).1 (sym named ∙ sym (name-numbered rules rule within)))
+
+-- no bytes name the first rule
+pub start-first : (rules : List Rule) (start : List ℕ) → (length start == 0) ≡ true
+    → (from : List ℕ) × (start_name rules (start_of_bytes start) ≡ Some from)
+start-first rules [] empty = (name_of rules 0, refl)
+start-first rules (byte ∷ bytes) empty = absurd (omega (arith, eqb-true (length (byte ∷ bytes)) 0 empty))
+
+-- the name of a rule is a start
+pub start-defined : (rules : List Rule) (start : List ℕ) → (length start == 0) ≡ false → is_defined rules start ≡ true
+    → (from : List ℕ) × (start_name rules (start_of_bytes start) ≡ Some from)
+start-defined rules [] some defined =
+    let bad : true ≡ false = sym (eq-eqb (length {A = ℕ} []) 0 refl) ∙ some in absurd cc
+start-defined rules (byte ∷ bytes) some defined =
+    (byte ∷ bytes, ap (λ (b : Bool). if b then Some (byte ∷ bytes) else None) defined)

@@ -2,53 +2,91 @@
 use Rattle.std.specs.Prelude.{ℕ, List, [], Option, None, Some, string_bytes}
 use Rattle.peg_parser.specs.Parser.{parser_rules}
 use Rattle.peg_semantics.specs.Rules.{Rule, name_of}
+use Rattle.peg_handle.specs.Explanations.{mismatch_info}
 use Rattle.peg_handle.specs.Nodes.{match_nodes}
 use Rattle.peg_handle.specs.Summaries.{match_summary}
 use Rattle.peg_handle.specs.declared.content.Content.{Content}
-use Rattle.peg_handle.specs.declared.content.Content.TheVariants.{Accepted, Rejected, Answered}
+use Rattle.peg_handle.specs.declared.content.Content.TheVariants.{Accepted, Rejected, Answered, Explained}
 use Rattle.peg_handle.specs.declared.content.FileSpan.{FileSpan}
+use Rattle.peg_handle.specs.declared.content.GrammarFile.{GrammarFile}
+use Rattle.peg_handle.specs.declared.explanation_calls.MismatchInfo.{MismatchInfo}
 use Rattle.peg_handle.specs.declared.nodes.Node.{Node}
 use Rattle.peg_handle.specs.declared.refusal_info.RefusalInfo.{RefusalInfo}
 use Rattle.peg_handle.specs.declared.summary.Summary.{Summary}
 
 -- the rules of a grammar, if the content is one
 abbrev pub content_rules : Content → Option (List Rule)
-content_rules (Accepted parser) = Some (parser_rules parser)
+content_rules (Accepted grammar) = Some (parser_rules grammar.parser)
 content_rules (Rejected rejection) = None
 content_rules (Answered found) = None
+content_rules (Explained explanation) = None
+
+-- an accepted grammar file and its parser, if the content is one
+abbrev pub content_grammar : Content → Option GrammarFile
+content_grammar (Accepted grammar) = Some grammar
+content_grammar (Rejected rejection) = None
+content_grammar (Answered found) = None
+content_grammar (Explained explanation) = None
 
 -- the name of a rule; no bytes if there is no such rule, or no grammar
 abbrev pub content_name : Content → (rule : ℕ) → List ℕ
-content_name (Accepted parser) rule = name_of (parser_rules parser) rule
+content_name (Accepted grammar) rule = name_of (parser_rules grammar.parser) rule
 content_name (Rejected rejection) rule = []
 content_name (Answered found) rule = []
+content_name (Explained explanation) rule = []
 
 -- the line of JSON of a refusal; no bytes if there is no refusal
 abbrev pub content_json : Content → List ℕ
-content_json (Accepted parser) = []
+content_json (Accepted grammar) = []
 content_json (Rejected rejection) = string_bytes rejection.json
 content_json (Answered found) = []
+content_json (Explained explanation) = []
 
 -- the kind and the place of a refusal
 abbrev pub content_info : Content → Option RefusalInfo
-content_info (Accepted parser) = None
+content_info (Accepted grammar) = None
 content_info (Rejected rejection) = Some rejection.info
 content_info (Answered found) = None
+content_info (Explained explanation) = None
 
 -- the summary of an answer
 abbrev pub content_summary : Content → Option Summary
-content_summary (Accepted parser) = None
+content_summary (Accepted grammar) = None
 content_summary (Rejected rejection) = None
 content_summary (Answered found) = Some (match_summary found)
+content_summary (Explained explanation) = None
 
 -- the nodes of the tree of an answer; none if there is no tree
 abbrev pub content_nodes : Content → List Node
-content_nodes (Accepted parser) = []
+content_nodes (Accepted grammar) = []
 content_nodes (Rejected rejection) = []
 content_nodes (Answered found) = match_nodes found
+content_nodes (Explained explanation) = []
 
 -- the spans of the terminals that failed furthest; none if there is no answer
 abbrev pub content_spans : Content → List FileSpan
-content_spans (Accepted parser) = []
+content_spans (Accepted grammar) = []
 content_spans (Rejected rejection) = []
 content_spans (Answered found) = found.expected.items
+content_spans (Explained explanation) = []
+
+-- the message of an explanation; no bytes if there is no explanation
+abbrev pub content_message : Content → List ℕ
+content_message (Accepted grammar) = []
+content_message (Rejected rejection) = []
+content_message (Answered found) = []
+content_message (Explained explanation) = explanation.message.items
+
+-- the spans of the items that an explanation expects; none if there is no explanation
+abbrev pub content_expected : Content → List FileSpan
+content_expected (Accepted grammar) = []
+content_expected (Rejected rejection) = []
+content_expected (Answered found) = []
+content_expected (Explained explanation) = explanation.expected.items
+
+-- an explanation without its message
+abbrev pub content_mismatch : Content → Option MismatchInfo
+content_mismatch (Accepted grammar) = None
+content_mismatch (Rejected rejection) = None
+content_mismatch (Answered found) = None
+content_mismatch (Explained explanation) = Some (mismatch_info explanation)

@@ -1,5 +1,6 @@
 pub mod Answers
 pub mod Contents
+pub mod Explanations
 pub mod Levels
 pub mod Nodes
 pub mod ReadFaults

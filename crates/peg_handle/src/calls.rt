@@ -47,7 +47,14 @@ pub fn parse_by(
     ensures greatest { IfErr result (λ status. status ≤ TEXT_TOO_LONG) }
 {
     match content {
-        Content::Accepted(parser) => match parse(alloc, parser, text, start, memo, steps) {
+        Content::Accepted(grammar) => match parse(
+            alloc,
+            &grammar.parser,
+            text,
+            start,
+            memo,
+            steps,
+        ) {
             Ok(found) => Ok(found),
             Err(fault) => Err(fault_status(fault)),
         },
@@ -105,8 +112,8 @@ pub fn write_rule_count(content: &Content, out: &mut u32) -> u32
     ensures unchanged { result ≡ WRONG_HANDLE → out.new ≡ out.old }
 {
     match content {
-        Content::Accepted(parser) => {
-            *out = parser.grammar().rules();
+        Content::Accepted(grammar) => {
+            *out = grammar.parser.grammar().rules();
             DONE
         }
         _ => WRONG_HANDLE,
@@ -123,7 +130,7 @@ pub fn copy_name_of(content: &Content, rule: u32, out: &mut [u8]) -> usize
         → slice_get out.new place ≡ slice_get out.old place }
 {
     match content {
-        Content::Accepted(parser) => copy_rule_name(parser, rule, out),
+        Content::Accepted(grammar) => copy_rule_name(&grammar.parser, rule, out),
         _ => 0,
     }
 }

@@ -8,12 +8,21 @@ use peg_parser::{Answer, Parser};
 /// The content of a handle.
 #[derive(Drop)]
 pub enum Content {
-    /// The parser of an accepted grammar file.
-    Accepted(Parser),
+    /// An accepted grammar file.
+    Accepted(GrammarFile),
     /// Why a grammar file was rejected.
     Rejected(Rejection),
     /// The answer to a parse.
     Answered(Match),
+    /// Where a text doesn't match as a whole.
+    Explained(Explanation),
+}
+
+/// An accepted grammar file, and its parser.
+#[derive(Drop)]
+pub struct GrammarFile {
+    pub bytes: Vec<u8>,
+    pub parser: Parser,
 }
 
 /// Why a grammar file was rejected.
@@ -33,6 +42,19 @@ pub struct Match {
     /// The level of each node of the tree, in preorder; the root has level 1.
     pub levels: Vec<usize>,
     pub ghost levels_match: { levels.items ≡ parsed_levels answer.outcome.result },
+}
+
+/// Where a text doesn't match as a whole.
+#[derive(Drop)]
+pub struct Explanation {
+    /// The message of `pegtool explain`.
+    pub message: Vec<u8>,
+    /// The offset in the text.
+    pub at: u32,
+    /// The spans in the grammar file of the items that are expected there.
+    pub expected: Vec<FileSpan>,
+    /// Whether the end of the text is expected there, too.
+    pub is_end_expected: bool,
 }
 
 /// The bytes of a grammar file from offset `start` up to, but not including, offset `end`.

@@ -4,6 +4,8 @@
 mod buffers;
 mod calls;
 mod content;
+mod explaining;
+mod explanation_calls;
 mod levels;
 mod nodes;
 mod parsing;
@@ -20,7 +22,11 @@ pub use calls::{
     copy_json_of, copy_name_of, copy_nodes_of, copy_spans_of, parse_by, write_info,
     write_rule_count, write_summary,
 };
-pub use content::{Content, FileSpan, Match, Rejection};
+pub use content::{Content, Explanation, FileSpan, GrammarFile, Match, Rejection};
+pub use explaining::explain;
+pub use explanation_calls::{
+    MismatchInfo, copy_expected_of, copy_message_of, explain_by, write_mismatch,
+};
 pub use nodes::{Node, copy_nodes};
 pub use parsing::parse;
 pub use reading::{ReadFault, read};

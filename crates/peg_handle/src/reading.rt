@@ -8,7 +8,7 @@ ghost use Rattle.peg_parser.specs.Faults.{HasCause, RefusalMeaning};
 ghost use Rattle.peg_parser.specs.Parser.{parser_rules};
 ghost use Rattle.peg_parser.specs.Refusals.{IsRefusalOf};
 
-use crate::content::Rejection;
+use crate::content::{GrammarFile, Rejection};
 use crate::rejection::rejection_for;
 use peg_notation::{MAX_FILE_BYTES, NotationFault};
 use peg_parser::{Parser, Refusal};
@@ -34,19 +34,30 @@ impl From<AllocError> for ReadFault {
     }
 }
 
-/// Returns the parser of a grammar file, or why the file is rejected. See `Parser::from_file`.
-pub fn read(alloc: Global, file: &[u8]) -> Result<Parser, ReadFault>
-    ensures accepted { IfOk result (λ parser. Accepts file.now (parser_rules parser)) }
+/// Returns a grammar file and its parser, or why the file is rejected. See `Parser::from_file`.
+pub fn read(alloc: Global, file: &[u8]) -> Result<GrammarFile, ReadFault>
+    ensures accepted { IfOk result (λ grammar. Accepts file.now (parser_rules grammar.parser)) }
+    ensures bytes { IfOk result (λ grammar. grammar.bytes.items ≡ file.now) }
     ensures rejected { IfErr result (IsRejectedBy file.now) }
 {
     if file.len() > MAX_FILE_BYTES {
         return Err(ReadFault::Rejected(too_long(alloc, file)?));
     }
     match Parser::from_file(alloc, file) {
-        Ok(parser) => Ok(parser),
+        Ok(parser) => Ok(with_bytes(alloc, file, parser)?),
         Err(Refusal::Memory) => Err(ReadFault::Memory),
         Err(refusal) => Err(ReadFault::Rejected(rejection(alloc, file, &refusal)?)),
     }
+}
+
+// Returns a parser with a copy of its grammar file.
+fn with_bytes(alloc: Global, file: &[u8], parser: Parser) -> Result<GrammarFile, AllocError>
+    ensures parser { IfOk result (λ grammar. grammar.parser ≡ parser) }
+    ensures bytes { IfOk result (λ grammar. grammar.bytes.items ≡ file.now) }
+{
+    let mut bytes = Vec::new(alloc);
+    bytes.extend_from_slice(file)?;
+    Ok(GrammarFile { bytes, parser })
 }
 
 // Reports that a file is too long. The file itself isn't read: it may be longer than offsets reach.

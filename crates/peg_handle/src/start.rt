@@ -1,8 +1,8 @@
 //! The start of a parse, and its step limit.
-ghost use Rattle.std.specs.Prelude.{◌≡◌, ◌≢◌, ℕ, ◌<◌, IfErr, IfOk, IfSome, None, Some, length, option_map};
+ghost use Rattle.std.specs.Prelude.{◌≡◌, ◌≢◌, ℕ, ◌<◌, List, IfErr, IfOk, IfSome, None, Some, length, option_map, true};
 ghost use Rattle.peg_grammar.specs.GrammarRules.{rules_in};
 ghost use Rattle.peg_handle.specs.Starts.{start_of_bytes, step_limit};
-ghost use Rattle.peg_semantics.specs.Rules.{name_of};
+ghost use Rattle.peg_semantics.specs.Rules.{is_defined, name_of};
 ghost use Rattle.peg_semantics.specs.Starts.{start_name};
 
 use peg_grammar::Grammar;
@@ -17,6 +17,8 @@ pub(crate) fn start_from<'a>(
     ensures named { IfOk result (λ named. option_map (λ name. name.now) named ≡ start_of_bytes start.now) }
     ensures fault { IfErr result (λ fault. fault ≡ ParseFault.NoSuchStart) }
     ensures none { IfErr result (λ _. start_name (rules_in grammar.now) (start_of_bytes start.now) ≡ None) }
+    ensures some { IfOk result (λ _. (from : List ℕ)
+        × (start_name (rules_in grammar.now) (start_of_bytes start.now) ≡ Some from)) }
 {
     if start.is_empty() {
         return Ok(None);
@@ -30,6 +32,7 @@ pub(crate) fn start_from<'a>(
 // Returns the name of the rule whose name has these bytes. Linear in the number of rules.
 fn rule_named<'a>(grammar: &'a Grammar, name: &[u8]) -> Option<&'a str>
     ensures found { IfSome result (λ found. found.now ≡ name.now) }
+    ensures defined { IfSome result (λ _. is_defined (rules_in grammar.now) name.now ≡ true) }
     ensures none { result ≡ None → (rule : ℕ) → rule < length (rules_in grammar.now)
         → name_of (rules_in grammar.now) rule ≢ name.now }
 {

@@ -1,0 +1,14 @@
+use Rattle.std.proofs.Common.{ℕ, List, Option, subst}
+use Rattle.peg_explain.specs.Explanations.{ExplainingTakesMoreSteps}
+use Rattle.peg_handle.specs.Starts.{start_of_bytes}
+use Rattle.peg_parser.specs.Parser.{parser_rules}
+use Rattle.peg_handle.proofs.explaining.explain.Goals as goal
+
+pub returns-clause-limited : goal.returns-clause-limited
+returns-clause-limited c is =
+    let rules = parser_rules c.args.grammar.now.parser in
+    let text = c.args.text.now in
+    subst (λ (limit : Option ℕ). ExplainingTakesMoreSteps rules text (start_of_bytes c.args.start.now) limit)
+    c.limit_from.ensures
+    (subst (λ (start : Option (List ℕ)). ExplainingTakesMoreSteps rules text start c.limit_from.result)
+    c.in_ok-start.ensures.named (c.explain_from.ensures.limited is))
