@@ -14,11 +14,11 @@ def written(path, make):
     os.waitpid(child, 0)
 
 
-def used(words, path):
-    """The CPU seconds and the peak memory in bytes of one run, whose output goes to a file."""
+def used(words, path, ends=0):
+    """The CPU seconds and the peak memory in bytes of one run, whose output goes to a file. It must end with a status."""
     with open(path, "wb") as file:
         process = subprocess.Popen(words, stdout=file)
         _, status, took = os.wait4(process.pid, 0)
-    if status:
+    if os.waitstatus_to_exitcode(status) != ends:
         sys.exit(f"status {status}: {words}")
     return took.ru_utime + took.ru_stime, took.ru_maxrss * 1024
