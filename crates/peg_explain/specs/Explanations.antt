@@ -100,3 +100,11 @@ abbrev pub ExplainingTakesMoreSteps : List Rule → (text : List ℕ) → (start
 ExplainingTakesMoreSteps rules text start max_steps =
     TakesMoreSteps (diagnostic_rules rules) text start max_steps
     ⊎ (HasNoBlameParser rules × TakesMoreSteps rules text start max_steps)
+
+-- The parse that an explanation needs takes no more steps than the limit. It is the parse by the diagnostic rules, or the
+-- parse by the rules themselves if they have no parser of blame.
+abbrev pub ExplainingStaysWithin : List Rule → (text : List ℕ) → (start : Option (List ℕ)) → (max_steps : Option ℕ)
+    → Type 0
+ExplainingStaysWithin rules text start max_steps =
+    (¬ TakesMoreSteps (diagnostic_rules rules) text start max_steps)
+    ⊎ (HasNoBlameParser rules × ¬ TakesMoreSteps rules text start max_steps)

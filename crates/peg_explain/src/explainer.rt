@@ -6,8 +6,8 @@ ghost use Rattle.peg_grammar.specs.Limits.{max_text_bytes};
 ghost use Rattle.peg_parser.specs.Parser.{parser_rules, start_named};
 ghost use Rattle.peg_semantics.specs.Rules.{Rule};
 ghost use Rattle.peg_semantics.specs.Starts.{start_name};
-ghost use Rattle.peg_explain.specs.Explanations.{ExplainingTakesMoreSteps, HasMismatch, IsExplanation, IsMismatchIn};
-ghost use Rattle.peg_explain.specs.Explanations.{IsMismatchMessage, expected_spans};
+ghost use Rattle.peg_explain.specs.Explanations.{ExplainingStaysWithin, ExplainingTakesMoreSteps, HasMismatch};
+ghost use Rattle.peg_explain.specs.Explanations.{IsExplanation, IsMismatchIn, IsMismatchMessage, expected_spans};
 
 use crate::expected::{items_at, spans_of_items, spans_of_terminals};
 use crate::mismatch::Mismatch;
@@ -91,6 +91,9 @@ impl<'a> Explainer<'a> {
         ensures limited { (file : List ℕ) (rules : List Rule) → IsExplainerOf file rules self.now
             → IsErrOf result ParseFault.StepLimit
             → ExplainingTakesMoreSteps rules text.now (start_named options.now) options.now.steps }
+        ensures enough { (file : List ℕ) (rules : List Rule) → IsExplainerOf file rules self.now
+            → options.now.memo ≡ 0 → OnOk result
+            (ExplainingStaysWithin rules text.now (start_named options.now) options.now.steps) }
     {
         match self.mismatch(alloc, text, options)? {
             Some(mismatch) => Ok(Some(self.message(alloc, name, text, &mismatch)?)),
@@ -120,6 +123,9 @@ impl<'a> Explainer<'a> {
         ensures limited { (file : List ℕ) (rules : List Rule) → IsExplainerOf file rules self.now
             → IsErrOf result ParseFault.StepLimit
             → ExplainingTakesMoreSteps rules text.now (start_named options.now) options.now.steps }
+        ensures enough { (file : List ℕ) (rules : List Rule) → IsExplainerOf file rules self.now
+            → options.now.memo ≡ 0 → OnOk result
+            (ExplainingStaysWithin rules text.now (start_named options.now) options.now.steps) }
     {
         match &self.blames {
             Some(blames) => {

@@ -16,9 +16,9 @@ entry_name entry = entry.name.now
 
 -- what is reported of a text is that of its file
 abbrev pub IsEntryOf : (file_at : List ℕ → NamedFile) → (file : List ℕ) → List Rule → (start : Option (List ℕ))
-    → (steps : Option ℕ) → Entry → Type 0
-IsEntryOf file_at file rules start steps entry =
-    IsReportOf (IsReport file rules start steps entry.name.now) (file_at entry.name.now) entry.report
+    → (memo : ℕ) → (steps : Option ℕ) → Entry → Type 0
+IsEntryOf file_at file rules start memo steps entry =
+    IsReportOf (IsReport file rules start memo steps entry.name.now) (file_at entry.name.now) entry.report
 
 -- the entry of a list that has no names
 abbrev pub AreFaultEntries : (list : List ℕ) → Option TextReport → List Entry → Type 0

@@ -5,13 +5,14 @@ use Rattle.peg_explain_files.specs.declared.query.NameEnd.{NameEnd}
 use Rattle.peg_explain_files.specs.declared.query.Query.{Query}
 
 -- A question: the names of a grammar file and of texts; a list of further names, and which byte ends a name in it; the
--- start rule, and the limit of steps.
+-- start rule, the capacity of the memo (0 for none), and the limit of steps.
 pub record Question : Type 0 where
   pub grammar : List ℕ
   pub texts : List (List ℕ)
   pub list : Option (List ℕ)
   pub end : NameEnd
   pub start : Option (List ℕ)
+  pub memo : ℕ
   pub steps : Option ℕ
 
 -- the question of a query
@@ -22,5 +23,6 @@ question_of query = record {
   list = option_map (λ name. name.now) query.list;
   end = query.end;
   start = start_named query.options;
+  memo = query.options.memo;
   steps = query.options.steps;
 }

@@ -2,7 +2,7 @@
 use Rattle.std.specs.Prelude.{◌≡◌, ℕ, ◌+◌, ◌<◌, List, Option, None, Some, length}
 use Rattle.std.specs.declared.alloc.Global.{Global}
 use Rattle.std.specs.declared.vec.Vec.{Vec}
-use Rattle.peg_explain.specs.Explanations.{ExplainingTakesMoreSteps, IsExplanation}
+use Rattle.peg_explain.specs.Explanations.{ExplainingStaysWithin, ExplainingTakesMoreSteps, IsExplanation}
 use Rattle.peg_grammar.specs.Limits.{max_text_bytes}
 use Rattle.peg_io.specs.NamedFile.{NamedFile}
 use Rattle.peg_semantics.specs.Rules.{Rule}
@@ -14,17 +14,19 @@ use Rattle.peg_explain_files.specs.declared.reports.TextReport.{TextReport}
 use Rattle.peg_explain_files.specs.declared.reports.TextReport.TheVariants as report
 
 -- What is reported of a text from a start rule: nothing, if it matches as a whole; a message, if it doesn't; or that it
--- or its parse is over a limit.
-pub data IsReport (file : List ℕ) (rules : List Rule) (start : Option (List ℕ)) (steps : Option ℕ) (name text : List ℕ)
-    : TextReport → Type 0 where
+-- or its parse is over a limit. Without a memo, a parse over the limit of steps is always reported as such.
+pub data IsReport (file : List ℕ) (rules : List Rule) (start : Option (List ℕ)) (memo : ℕ) (steps : Option ℕ)
+    (name text : List ℕ) : TextReport → Type 0 where
   matches : {from : List ℕ} → start_name rules start ≡ Some from → IsExplanation file rules name text from None
-      → IsReport file rules start steps name text report.Matches
+      → (memo ≡ 0 → ExplainingStaysWithin rules text start steps)
+      → IsReport file rules start memo steps name text report.Matches
   differs : {from : List ℕ} {message : Vec ℕ Global} → start_name rules start ≡ Some from
       → IsExplanation file rules name text from (Some message.items)
-      → IsReport file rules start steps name text (report.Differs message)
-  too_long : max_text_bytes < length text → IsReport file rules start steps name text report.TooLong
+      → (memo ≡ 0 → ExplainingStaysWithin rules text start steps)
+      → IsReport file rules start memo steps name text (report.Differs message)
+  too_long : max_text_bytes < length text → IsReport file rules start memo steps name text report.TooLong
   too_many_steps : ExplainingTakesMoreSteps rules text start steps
-      → IsReport file rules start steps name text report.TooManySteps
+      → IsReport file rules start memo steps name text report.TooManySteps
 
 -- what is reported of what is read of a text
 abbrev pub IsReportBy : (IsRight : List ℕ → TextReport → Type 0) → Content → TextReport → Type 0

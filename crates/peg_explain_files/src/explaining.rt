@@ -197,7 +197,8 @@ fn entries_of<'a, O: Opener>(
     ensures names { IfOk result (λ entries. map entry_name entries.items ≡ map (λ name. name.now) names.now) }
     ensures reports { (file : List ℕ) (rules : List Rule) (from : List ℕ) → IsExplainerOf file rules explainer.now
         → start_name rules (start_named options.now) ≡ Some from → IfOk result (λ entries.
-        All (IsEntryOf (O.file_at files.now) file rules (start_named options.now) options.now.steps) entries.items) }
+        All (IsEntryOf (O.file_at files.now) file rules (start_named options.now) options.now.memo options.now.steps)
+        entries.items) }
 {
     let mut entries = Vec::new(alloc);
     'names: for name in names {

@@ -1,9 +1,9 @@
 //! Explanations of texts.
 ghost use Rattle.std.specs.Prelude.{◌≡◌, ◌≤◌, ◌<◌, ◌^◌, ◌↔◌, ◌⊎◌, ℕ, List, IfErr, IfOk, IsErrOf, None, Some, length};
-ghost use Rattle.std.specs.Prelude.{map};
+ghost use Rattle.std.specs.Prelude.{map, OnOk};
 ghost use Rattle.peg_bytes.specs.Extent.{extent};
 ghost use Rattle.peg_explain.specs.Explainers.{IsExplainerOf};
-ghost use Rattle.peg_explain.specs.Explanations.{ExplainingTakesMoreSteps};
+ghost use Rattle.peg_explain.specs.Explanations.{ExplainingStaysWithin, ExplainingTakesMoreSteps};
 ghost use Rattle.peg_grammar.specs.Limits.{max_text_bytes};
 ghost use Rattle.peg_handle.specs.Answers.{file_span};
 ghost use Rattle.peg_handle.specs.Explanations.{IsExplanationOf, ShowsMismatch};
@@ -39,6 +39,8 @@ pub fn explain(
         → (IsErrOf result ParseFault.TextTooLong ↔ (max_text_bytes < length text.now)) }
     ensures limited { IsErrOf result ParseFault.StepLimit → ExplainingTakesMoreSteps (parser_rules grammar.now.parser)
         text.now (start_of_bytes start.now) (step_limit steps) }
+    ensures enough { memo ≡ 0 → OnOk result (ExplainingStaysWithin (parser_rules grammar.now.parser) text.now
+        (start_of_bytes start.now) (step_limit steps)) }
 {
     let start = start_from(grammar.parser.grammar(), start)?;
     if text.len() > MAX_TEXT_BYTES {
@@ -67,6 +69,8 @@ fn explain_from(
     ensures faults { IfErr result (λ why. (why ≡ ParseFault.StepLimit) ⊎ (why ≡ ParseFault.Memory)) }
     ensures limited { IsErrOf result ParseFault.StepLimit → ExplainingTakesMoreSteps (parser_rules grammar.now.parser)
         text.now (start_named options.now) options.now.steps }
+    ensures enough { options.now.memo ≡ 0 → OnOk result (ExplainingStaysWithin (parser_rules grammar.now.parser) text.now
+        (start_named options.now) options.now.steps) }
 {
     let explainer = Explainer::new(alloc, &grammar.bytes, &grammar.parser)?;
     match explainer.mismatch(alloc, text, options)? {

@@ -39,6 +39,7 @@ requested (Explain g texts files_from null start memo steps quiet) =
       list = option_map string_bytes files_from;
       end = name_end null;
       start = option_map string_bytes start;
+      memo = memo;
       steps = steps;
     } (printing_of quiet)
 requested (Parse g t start memo steps all rows no_tree show hide text) =

@@ -12,7 +12,7 @@ names-preserved g c = record {
       c.names.invariant.names;
   reports = λ file rules from of is.
       let IsRight = IsEntryOf (g.O.Opener.file_at c.args.files.now) file rules (start_named c.args.options.now)
-      c.args.options.now.steps in
+      c.args.options.now.memo c.args.options.now.steps in
       subst (All IsRight) (sym c.in_ok-push.ensures.items)
       (All-push IsRight c.names.entries.items _ (c.names.invariant.reports file rules from of is)
       (c.in_ok-report.ensures file rules of from is));

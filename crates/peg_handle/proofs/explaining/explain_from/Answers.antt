@@ -60,3 +60,15 @@ returns-clause-explained c =
     let is = subst (λ (m : Option Mismatch). IfSome found (λ start. IsMismatchIn rules text start m)) c.in-None.is
     (c.in_ok-mismatch.ensures.mismatch grammar.bytes.items rules explainer) in
     explains grammar c.args.name.now text found None None is tt
+
+pub returns-in-Some-clause-enough : goal.returns-in-Some-clause-enough
+returns-in-Some-clause-enough c no_memo =
+    let grammar = c.args.grammar.now in
+    c.in_ok-mismatch.ensures.enough grammar.bytes.items (parser_rules grammar.parser)
+    (made (goal.at.returns-in-Some-clause-enough c).In_ok-explainer) no_memo
+
+pub returns-clause-enough : goal.returns-clause-enough
+returns-clause-enough c no_memo =
+    let grammar = c.args.grammar.now in
+    c.in_ok-mismatch.ensures.enough grammar.bytes.items (parser_rules grammar.parser)
+    (made (goal.at.returns-clause-enough c).In_ok-explainer) no_memo

@@ -1,4 +1,4 @@
-use Rattle.std.proofs.Common.{rules as by_rules, ◌≡◌, ◌∙◌, IfSome, List, ap, inr, map, subst}
+use Rattle.std.proofs.Common.{rules as by_rules, ◌≡◌, ◌∙◌, IfSome, List, ap, inl, inr, map, subst, sym}
 use Rattle.peg_blame.specs.BlameParser.{IsBlameParserOf}
 use Rattle.peg_bytes.specs.Extent.{Extent, extent}
 use Rattle.peg_diagnostics.specs.Items.{extents_of_items}
@@ -49,4 +49,19 @@ returns-in_err-answer-in-None-clause-limited c file rules of_explainer is_limit 
       lacks,
       subst (λ (l : List Rule). TakesMoreSteps l c.args.text.now (start_named c.args.options.now)
           c.args.options.now.steps) of_explainer.has_parser (more (search by_rules)),
+    )
+
+pub returns-in_ok-spans-in-Some-clause-enough : goal.returns-in_ok-spans-in-Some-clause-enough
+returns-in_ok-spans-in-Some-clause-enough c file rules of_explainer no_memo =
+    let blames : IsBlameParserOf rules c.in-Some.blames = subst (IsBlameOf rules) c.in-Some.is of_explainer.blames in
+    inl (c.in_ok-answer-in-Some.ensures.enough rules blames no_memo)
+
+pub returns-in_ok-spans-in-None-clause-enough : goal.returns-in_ok-spans-in-None-clause-enough
+returns-in_ok-spans-in-None-clause-enough c file rules of_explainer no_memo =
+    let lacks : HasNoBlameParser rules = subst (IsBlameOf rules) c.in-None.is of_explainer.blames in
+    inr (
+      lacks,
+      λ more. c.in_ok-answer-in-None.ensures.enough no_memo
+          (subst (λ (l : List Rule). TakesMoreSteps l c.args.text.now (start_named c.args.options.now)
+          c.args.options.now.steps) (sym of_explainer.has_parser) more),
     )
