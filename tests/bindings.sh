@@ -2,7 +2,7 @@
 # Tests the C library: builds it, compiles the C programs against its archive and its shared object, and runs them.
 # Compares rows.c, and rows.rs where there is rustc, with `pegtool parse --rows` for each text of examples/. Runs the
 # programs under valgrind where there is one. Takes the path of pegtool, by default the one that `make run` builds, and
-# flags for `rt lib`. The last line counts the faults.
+# the words for tools/c_library.sh. The last line counts the faults.
 set -u
 cd "$(dirname "$0")/.." || exit 1
 program=$(realpath -- "${1:-crates/pegtool/out/pegtool}")

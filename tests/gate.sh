@@ -26,8 +26,9 @@ program=crates/pegtool/out/pegtool
 lanes=(growths calls bindings examples)
 growths=("tests/oom/each_growth.sh $program")
 calls=("tests/oom/each_call.sh")
-# The Python package and the comparison of warnings use the C library that the first of these builds.
-bindings=("tests/bindings.sh $program" "tests/python.sh $program" "tests/lint.py $program 2004 2000")
+# The Python package and the comparison of warnings use the C library that the first of these builds, over what `rt ci`
+# has proved.
+bindings=("tests/bindings.sh $program --proved" "tests/python.sh $program" "tests/lint.py $program 2004 2000")
 examples=("tests/check.sh $program" "tests/furthest.py $program" "tests/explain.py $program" "tests/by_evaluator.sh"
   "tests/deep.py $program" "tools/commands.py $program" "tools/crates.py --check" "tools/contracts.py --check"
   "tools/definitions.py --check" "tools/documents.py" "crates/peg_fuzz/out/peg_fuzz 2004 3000")

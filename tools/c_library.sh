@@ -1,7 +1,8 @@
 #!/usr/bin/env bash
 # Builds the C library into out/lib: libpeg.a, libpeg.so.1 and the link libpeg.so to it. `rt lib` proves the crate and
-# compiles it; its archive needs one object of the kit for memory, whose functions call malloc, realloc and free. Only
-# the names of include/peg.h stay visible. Needs gcc and GNU binutils.
+# those below it, and compiles it. With --proved, peg_c alone is proved, over the libraries that `rt ci` has proved here.
+# The archive needs one object of the kit for memory, whose functions call malloc, realloc and free. Only the names of
+# include/peg.h stay visible. Needs gcc and GNU binutils.
 set -eu
 cd "$(dirname "$0")/.."
 kit=$(dirname "$(rt doc)")
@@ -9,7 +10,10 @@ top=$PWD
 work=$(mktemp -d)
 trap 'rm -rf "$work"' EXIT
 
-(cd crates/peg_c && rt lib "$@" > "$work/log" 2>&1) || { tail -n 20 "$work/log" >&2; exit 1; }
+build() { # the archive of peg_c
+  if [ "${1:-}" = --proved ]; then tools/static_library.py; else (cd crates/peg_c && rt lib "$@"); fi
+}
+build "$@" > "$work/log" 2>&1 || { tail -n 20 "$work/log" >&2; exit 1; }
 grep '^logic=' "$work/log" || true
 
 mkdir "$work/objects"
