@@ -1,6 +1,5 @@
 -- The names of the texts.
-use Rattle.std.specs.Prelude.{◌≡◌, ℕ, Bool, true, false, ◌==◌, if◌then◌else◌, List, [], ◌∷◌, ◌++◌, Option, None, Some, codes, map, string_bytes, bytes_eq}
-use Rattle.std.specs.declared.string.String.{String}
+use Rattle.std.specs.Prelude.{◌≡◌, ℕ, Bool, true, false, ◌==◌, if◌then◌else◌, List, [], ◌∷◌, Option, None, Some, codes, bytes_eq}
 use Rattle.std.specs.List.{filter, slice_split}
 use Rattle.std.specs.Str.{is_utf8}
 use Rattle.peg_io.specs.NamedFile.{NamedFile, Unspecified, Holds, Readable}

@@ -1,4 +1,4 @@
-use Rattle.std.proofs.Common.{◌∙◌, All, List, ap, map, refl, subst, sym}
+use Rattle.std.proofs.Common.{◌∙◌, All, ap, map, refl, subst, sym}
 use Rattle.std.proofs.lemmas.List.Elements.{All-push}
 use Rattle.peg_parser.specs.Parser.{start_named}
 use Rattle.peg_explain_files.specs.Entries.{IsEntryOf, entry_name}

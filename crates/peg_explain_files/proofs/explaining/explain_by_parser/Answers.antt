@@ -1,6 +1,6 @@
 use Rattle.std.proofs.Common.{◌≡◌, ◌∙◌, ℕ, List, None, Some, [], ap, refl, sym, unwrap_or}
 use Rattle.std.proofs.lemmas.Result.{IfOk-weaker}
-use Rattle.peg_parser.specs.Parser.{parser_rules, start_named}
+use Rattle.peg_parser.specs.Parser.{parser_rules}
 use Rattle.peg_semantics.specs.Starts.{start_name}
 use Rattle.peg_explain_files.specs.Explained.{IsAnswer, explained, no_such_start, no_start_message}
 use Rattle.peg_explain_files.specs.Questions.{question_of}

@@ -1,4 +1,4 @@
-use Rattle.std.proofs.Common.{◌≡◌, ◌∙◌, List, ap, bytes_eq, option_map, position}
+use Rattle.std.proofs.Common.{◌∙◌, List, ap, bytes_eq, option_map, position}
 use Rattle.peg_parser.specs.Parser.{parser_rules, start_named}
 use Rattle.peg_semantics.specs.Rules.{Rule, names}
 use Rattle.peg_explain_files.proofs.StartLemmas.{start-known}

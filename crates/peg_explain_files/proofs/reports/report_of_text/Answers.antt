@@ -1,4 +1,4 @@
-use Rattle.std.proofs.Common.{◌≡◌, ◌∙◌, ℕ, List, Option, None, Some, Err, ap, sym}
+use Rattle.std.proofs.Common.{◌≡◌, ◌∙◌, None, Some, Err, ap, sym}
 use Rattle.peg_parser.specs.Parser.{start_named}
 use Rattle.peg_semantics.specs.Starts.{start_name}
 use Rattle.peg_explain_files.specs.TextReports.{differs, matches, too_long, too_many_steps}
