@@ -232,7 +232,7 @@ explains 1 "toml/no_match_open_string.txt:1:12: expected $basic, '\"' or '\\\\',
   toml.peg toml/match_tables.txt toml/no_match_open_string.txt
 explains 1 "log/no_match_second_line.txt:2:5: expected ' ' or [!-~], found '\n'"$'\noops\n    ^' \
   log.peg log/no_match_second_line.txt
-explains 1 "http/no_match_body.txt:3:1: expected the end or [], found 'x'"$'\nx\n^' http.peg http/no_match_body.txt
+explains 1 "http/no_match_body.txt:3:1: expected the end, found 'x'"$'\nx\n^' http.peg http/no_match_body.txt
 explains 0 "" json.peg json/match_object.txt
 explains 0 "" json.peg
 printf 'A <- B\n  B <- [+-] "x"\n' > "$folder/refused.peg"
