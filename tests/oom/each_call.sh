@@ -1,17 +1,25 @@
 #!/usr/bin/env bash
-# Fails each allocation of public calls in turn: `crates/peg_oom` makes the call that an argument names, and prints one
-# line. The Nth allocation fails, for N from 1 until a run makes fewer. Each run must print `not yet` if the failure came
-# before the call; `memory` if the call returned out of memory and left its borrowed arguments unchanged; or the same
-# line as with enough memory. Takes the program's path, by default the built one (`cd crates/peg_oom && rt run` builds
-# it), and the names of calls, by default all. Needs a C compiler for the library that fails allocations.
+# Fails each allocation of public calls in turn: a program of `crates/peg_oom_*` makes the call that an argument names, and
+# prints one line. The Nth allocation fails, for N from 1 until a run makes fewer. Each run must print `not yet` if the
+# failure came before the call; `memory` if the call returned out of memory and left its borrowed arguments unchanged; or
+# the same line as with enough memory. Takes the path of a program (`cd crates/peg_oom_tool && rt run` builds one) and the
+# names of its calls, by default all. Without arguments it takes the three built programs. Needs a C compiler for the
+# library that fails allocations.
 set -u
 cd "$(dirname "$0")/../.." || exit 1
-program=$(realpath "${1:-crates/peg_oom/out/peg_oom}")
-[ "$#" = 0 ] || shift
+programs=()
+for layer in machine parser tool; do
+  programs+=("crates/peg_oom_$layer/out/peg_oom_$layer")
+done
+if [ "$#" != 0 ]; then
+  programs=("$1")
+  shift
+fi
 work=$(mktemp -d)
 trap 'rm -rf "$work"' EXIT
 cc -shared -fPIC -O1 -o "$work/refuse.so" tests/oom/refuse.c -ldl || exit 1
 faults=0
+calls=0
 growths=0
 wrong() { # what was wrong
   echo "$1"
@@ -40,11 +48,16 @@ refuse() { # the word of a call
   echo "$1: $((memory + same)) allocations, $memory reported, $same with the same answer"
   growths=$((growths + memory + same))
 }
-words=("$@")
-[ "$#" != 0 ] || mapfile -t words < <("$program")
-for word in "${words[@]}"; do
-  refuse "$word"
+for program in "${programs[@]}"; do
+  program=$(realpath -- "$program")
+  [ -x "$program" ] || { wrong "no program $program"; continue; }
+  words=("$@")
+  [ "$#" != 0 ] || mapfile -t words < <("$program")
+  for word in "${words[@]}"; do
+    refuse "$word"
+  done
+  calls=$((calls + ${#words[@]}))
 done
-echo "${#words[@]} calls, $growths allocations"
+echo "$calls calls, $growths allocations"
 echo "$faults faults"
 [ "$faults" = 0 ]

@@ -5,7 +5,7 @@ use std::io;
 
 /// A value that a call borrows, and its text before the call.
 #[derive(Drop)]
-pub(crate) struct Borrowed<'a, B> {
+pub struct Borrowed<'a, B> {
     value: &'a B,
     text: String,
     // Whether something else that was borrowed has changed.
@@ -13,7 +13,8 @@ pub(crate) struct Borrowed<'a, B> {
 }
 
 impl<'a, B: Debug> Borrowed<'a, B> {
-    pub(crate) fn of(alloc: Global, value: &'a B) -> Result<Borrowed<'a, B>, AllocError> {
+    /// Notes the text of a value before a call. The only error is a failed allocation.
+    pub fn of(alloc: Global, value: &'a B) -> Result<Borrowed<'a, B>, AllocError> {
         let text = format!(in alloc; "{value:?}")?;
         Ok(Borrowed {
             value,
@@ -23,7 +24,7 @@ impl<'a, B: Debug> Borrowed<'a, B> {
     }
 
     /// Records that something else that was borrowed has changed.
-    pub(crate) fn spoil(&mut self) {
+    pub fn spoil(&mut self) {
         self.spoilt = true;
     }
 
@@ -59,7 +60,7 @@ impl Write for Left<'_> {
 
 /// Prints `changed` if the borrowed value has changed, otherwise `memory` if an allocation failed, otherwise `done`
 /// and the answer. Doesn't allocate.
-pub(crate) fn report<B: Debug, T: Debug>(
+pub fn report<B: Debug, T: Debug>(
     rt: &impl Print,
     borrowed: &Borrowed<'_, B>,
     memory: bool,

@@ -1,88 +1,66 @@
-//! Calls on the bytes of a grammar file: tokens, values, definitions.
-use crate::ending::{Borrowed, report};
-use crate::inputs::{CHAIN, COUNTS, OPEN, REPEATS};
-use peg_lexer::{LexFault, class_of_token, lex, literal_bytes, name_text};
-use peg_metagrammar::figure;
-use peg_notation::{NotationFault, read};
-use std::alloc::Global;
-use std::io;
+//! Small grammar files.
+use std::alloc::{AllocError, Global};
 
-pub(crate) const WORDS: [&str; 9] = [
-    "figure",
-    "lex",
-    "lex_fault",
-    "name_text",
-    "literal_bytes",
-    "class_bytes",
-    "read",
-    "read_fault",
-    "read_repeats",
-];
+/// Matches `aab`.
+pub const CHAIN: &[u8] = b"S <- 'a' S / 'b'\n";
 
-/// Makes the call that the argument names. Returns nothing if the name is not known here.
-pub(crate) fn call(rt: &impl Print, alloc: Global, word: &str) -> Option<io::Result<()>> {
-    let made = match word {
-        "figure" => the_figure(rt, alloc),
-        "lex" => tokens(rt, alloc, COUNTS),
-        "lex_fault" => tokens(rt, alloc, OPEN),
-        "name_text" => name(rt, alloc),
-        "literal_bytes" => literal(rt, alloc),
-        "class_bytes" => class(rt, alloc),
-        "read" => definitions(rt, alloc, COUNTS),
-        "read_fault" => definitions(rt, alloc, OPEN),
-        "read_repeats" => definitions(rt, alloc, REPEATS),
-        _ => return None,
-    };
-    Some(made)
-}
+/// Matches `aabbcc`.
+pub const COUNTS: &[u8] = b"\
+    D <- &(A !'b') 'a'* B !.\n\
+    A <- 'a' A 'b' / ''\n\
+    B <- 'b' B 'c' / ''\n";
 
-fn the_figure(rt: &impl Print, alloc: Global) -> io::Result<()> {
-    let borrowed = Borrowed::of(alloc, &CHAIN)?;
-    let answer = figure(alloc);
-    report(rt, &borrowed, answer.is_err(), &answer)
-}
+/// Matches any byte.
+pub const BYTE: &[u8] = b"B <- .\n";
 
-fn tokens(rt: &impl Print, alloc: Global, file: &[u8]) -> io::Result<()> {
-    let file = file.to_vec(alloc)?;
-    let borrowed = Borrowed::of(alloc, &file)?;
-    let answer = lex(alloc, &file);
-    report(
-        rt,
-        &borrowed,
-        matches!(answer, Err(LexFault::Memory)),
-        &answer,
-    )
-}
+/// Matches `(a)y`; without a memo the parentheses are parsed twice.
+pub const PREFIX: &[u8] = b"A <- '(' A ')' 'x' / '(' A ')' 'y' / 'a'\n";
 
-fn name(rt: &impl Print, alloc: Global) -> io::Result<()> {
-    let text = b"Calculation_0";
-    let borrowed = Borrowed::of(alloc, &text)?;
-    let answer = name_text(alloc, text);
-    report(rt, &borrowed, answer.is_err(), &answer)
-}
+/// Sums, products, powers and their operands: several rules are called on the first byte of an operand.
+pub const SUMS: &[u8] = b"\
+    S <- P ('+' P)*\n\
+    P <- F ('*' F)*\n\
+    F <- A '^' F / A\n\
+    A <- '(' S ')' / '-' A / N / W\n\
+    N <- [0-9]+\n\
+    W <- [a-z]+\n";
 
-fn literal(rt: &impl Print, alloc: Global) -> io::Result<()> {
-    let text = b"'a\\n\\101'";
-    let borrowed = Borrowed::of(alloc, &text)?;
-    let answer = literal_bytes(alloc, text);
-    report(rt, &borrowed, answer.is_err(), &answer)
-}
+/// Matches dates such as `24/12` and `1/1/999`: counted repetitions, with and without optional iterations.
+pub const REPEATS: &[u8] = b"\
+    D <- N ('/' N){1,2} !.\n\
+    N <- [0-9]{1,3} ''{2}\n";
 
-fn class(rt: &impl Print, alloc: Global) -> io::Result<()> {
-    let text = b"[a-z_\\n]";
-    let borrowed = Borrowed::of(alloc, &text)?;
-    let answer = class_of_token(alloc, text);
-    report(rt, &borrowed, answer.is_err(), &answer)
-}
+/// Two mutually left-recursive rules.
+pub const CYCLE: &[u8] = b"A <- B 'x'\nB <- 'y'? A\n";
 
-fn definitions(rt: &impl Print, alloc: Global, file: &[u8]) -> io::Result<()> {
-    let file = file.to_vec(alloc)?;
-    let borrowed = Borrowed::of(alloc, &file)?;
-    let answer = read(alloc, &file);
-    report(
-        rt,
-        &borrowed,
-        matches!(answer, Err(NotationFault::Memory)),
-        &answer,
-    )
+/// A star that is an empty loop.
+pub const LOOP: &[u8] = b"A <- ('a'*)*\n";
+
+/// Two rules with the same name.
+pub const TWICE: &[u8] = b"A <- B\nA <- 'x'\n";
+
+/// An undefined name.
+pub const MISSING: &[u8] = b"A <- B\n";
+
+/// A grammar with warnings of several kinds.
+pub const WARNED: &[u8] = b"\
+    S <- 'a' / 'ab' / T* / 'c'\n\
+    T <- 'x'+ 'x' / 'y' / 'y'\n\
+    U <- (T / 'z' / [z-y])?\n";
+
+/// A class without its closing bracket.
+pub const OPEN: &[u8] = b"A <- [a-]\n";
+
+/// Returns a rule whose body is `'a'` below 25 nested pluses, each of which doubles the code.
+pub fn pluses(alloc: Global) -> Result<Vec<u8>, AllocError> {
+    let mut file = Vec::from_slice(alloc, b"A <- ")?;
+    for _ in 0..24 {
+        file.push(b'(')?;
+    }
+    file.extend_from_slice(b"'a'+")?;
+    for _ in 0..24 {
+        file.extend_from_slice(b")+")?;
+    }
+    file.push(b'\n')?;
+    Ok(file)
 }
