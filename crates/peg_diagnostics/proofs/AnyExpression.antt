@@ -13,8 +13,10 @@ use Rattle.peg_diagnostics.proofs.BlameResults.{same_results, Simulates-blame, o
 use Rattle.peg_diagnostics.proofs.DiagnosisLemmas.{equal_results, equal_items}
 use Rattle.peg_diagnostics.proofs.Lookups.{Distinct, AreRulesPlaced, rules_placed, rules-below}
 use Rattle.peg_diagnostics.proofs.Lookups.{finds_loud, quiet_copy, loud_terminals, quiet_terminals}
+use Rattle.peg_diagnostics.proofs.Lookups.{item_meaning_of-below}
 use Rattle.peg_diagnostics.specs.Placed.{IsPlaced}
 use Rattle.peg_diagnostics.proofs.LoudRecords.{IsOwn, HasLoud, no_items, same_items, twice, Simulates-loud}
+use Rattle.peg_diagnostics.proofs.LoudRecords.{SameCall-quiet}
 use Rattle.peg_diagnostics.proofs.Placement.{Below-more, From-less, added-from, item_in, placed}
 use Rattle.peg_diagnostics.proofs.Placement.{place_from-none}
 use Rattle.peg_diagnostics.proofs.Renaming.{HasCopy}
@@ -61,19 +63,20 @@ module _ (rules : List Rule) (distinct : Distinct (names (diagnostic_rules rules
       })
 
   loud_there : (name : List ℕ) (m : Meaning) → item_meaning_of rules name ≡ Some m
-      → HasLoud item (diagnostic_rules rules) name m
+      → HasLoud item (length rules) (diagnostic_rules rules) name m
   loud_there name m is =
       let found = finds_loud item rules (map quiet_rule rules) 0 0 0 name m rules_there is in
       record {
         copy = found.0;
         found = found.1;
         numbered = (found.2).numbered;
+        below = item_meaning_of-below rules name m is;
         loudened = (found.2).loudened;
         placed = (found.2).placed;
       }
 
   quiet_there : (name : List ℕ) (m : Meaning) → meaning_of rules name ≡ Some m
-      → HasCopy (no_items item) (IsOwn item) quiet_name (diagnostic_rules rules) name m
+      → HasCopy (no_items item (length rules)) (IsOwn item) quiet_name (diagnostic_rules rules) name m
   quiet_there name m is =
       let found = quiet_copy rules distinct name m is in
       record {
@@ -87,6 +90,7 @@ module _ (rules : List Rule) (distinct : Distinct (names (diagnostic_rules rules
             (All-weaker (λ x. past ≤ x) (λ x. x ≢ (found.0).terminal + k)
             (λ x great same. omega (arith, great, same, below, found.4)) (added_terminals e past) (added-from e past)));
         node = λ start end a b same. tt;
+        call = SameCall-quiet item (length rules) m.rule (found.0).rule found.5;
       }
 
   -- the loud expression of an expression with a record has a record with the same result
@@ -96,17 +100,18 @@ module _ (rules : List Rule) (distinct : Distinct (names (diagnostic_rules rules
   shown_of_record text n terminal other position r is =
       let shown_rules = diagnostic_rules rules in
       let number = length (item_terminals rules) in
+      let count = length rules in
       let blamed = Simulates-gives same_results (record_in rules text n e terminal position)
       (blame_in rules text n e number position) r is (Simulates-blame rules text n e terminal number position) in
-      let there = Simulates-gives (same_items item) (blame_in rules text n e number position)
+      let there = Simulates-gives (same_items item count) (blame_in rules text n e number position)
       (record_in shown_rules text (twice n) (loud e) past position) blamed.0 blamed.1
-      (Simulates-loud item rules shown_rules text loud_there quiet_there n e past number position itself_there) in
+      (Simulates-loud item count rules shown_rules text loud_there quiet_there n e past number position itself_there) in
       let moved = Simulates-gives same_results (record_in shown_rules text (twice n) (loud e) past position)
       (record_in shown_rules text (twice n) (loud e) other position) there.0 there.1
       (other_terminal shown_rules text (twice n) (loud e) past other position) in (
         moved.0,
         (twice n, moved.1),
         equal_results (there.0).result (moved.0).result (moved.2).results
-            ∙ equal_items item (blamed.0).result (there.0).result (there.2).results
+            ∙ equal_items item count (blamed.0).result (there.0).result (there.2).results
             ∙ equal_results r.result (blamed.0).result (blamed.2).results,
       )

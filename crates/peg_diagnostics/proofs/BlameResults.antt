@@ -17,15 +17,18 @@ use Rattle.peg_diagnostics.proofs.Simulation.{Simulates-matched_at}
 use Rattle.peg_diagnostics.proofs.Simulation.{Simulates-then_at, Simulates-or_else, Simulates-rounds}
 use Rattle.peg_diagnostics.proofs.Simulation.{Simulates-recognize_repeat, IsLike-as_call}
 
--- two records with the same result; their failed tests may differ
+-- two records with the same result; their failed tests and their calls may differ
 abbrev pub same_results : Likeness
 same_results = record {
   Same = λ a b. a ≡ b;
   Fit = λ a b. Unit {0};
+  Calls = λ a b. Unit {0};
   no_trees = refl;
   more_trees = λ a b c d same more. ap₂ followed_by same more;
   no_tests = tt;
   more_tests = λ a b c d same more. tt;
+  no_calls = tt;
+  more_calls = λ a b c d same more. tt;
 }
 
 -- ---- a record's result does not depend on the number of its first terminal
@@ -66,6 +69,7 @@ module _ (rules : List Rule) (text : List ℕ) where
     renamed = sym (rename-itself m.body);
     free = λ k below. tt;
     node = λ start end a b same. ap (λ trees. Tree m.rule start end trees NoTrees) same;
+    call = λ position. tt;
   }
 
   pub other_terminal : (n : ℕ) (e : Form) (t T position : ℕ)
@@ -113,7 +117,7 @@ item_meaning_from-means rule terminal item (r ∷ rs) name =
 -- items keep the result
 IsLike-item_blame : (item position : ℕ) (x y : Record) → IsLike same_results x y
     → IsLike same_results x (item_blame item position y.result)
-IsLike-item_blame item position x y is = record { results = by x.result y.result is.results; tests = tt }
+IsLike-item_blame item position x y is = record { results = by x.result y.result is.results; tests = tt; calls = tt }
   where
     by : (result other : Recognition) → SameResult same_results result other
         → SameResult same_results result (item_blame item position other).result
@@ -176,7 +180,7 @@ module _ (rules : List Rule) (text : List ℕ) where
           (sym means.1)
           (Simulates-map same_results (as_call m.rule position) (as_call other.rule position)
           (IsLike-as_call same_results m.rule other.rule position
-          (λ start end a b same. ap₂ (λ rule trees. Tree rule start end trees NoTrees) (means.2).0 same))
+          (λ start end a b same. ap₂ (λ rule trees. Tree rule start end trees NoTrees) (means.2).0 same) (λ at. tt))
           (take m.body m.terminal position) (more other.body other.terminal position)
           (subst (λ body. Simulates same_results (take m.body m.terminal position) (more body other.terminal position))
           (means.2).1 (h m.body m.terminal other.terminal position)))

@@ -1,5 +1,5 @@
 -- The diagnostic grammar computes the blame of each name.
-use Rattle.std.proofs.Common.{◌≡◌, ℕ, List, Option, Some, refl, sym, ◌∙◌}
+use Rattle.std.proofs.Common.{◌≡◌, ℕ, List, length, Option, Some, refl, sym, ◌∙◌}
 use Rattle.peg_bytes.specs.Extent.{Extent}
 use Rattle.peg_semantics.specs.Form.{Form, Name}
 use Rattle.peg_semantics.specs.Record.{Recognition, Failed, Matched, Record, record_in}
@@ -21,12 +21,12 @@ equal_results Failed (Matched end trees) same = absurd same
 equal_results (Matched end trees) Failed same = absurd same
 equal_results (Matched end trees) (Matched other more) same = λ i. Matched (sym same.0 i) (sym same.1 i)
 
-pub equal_items : (item : ℕ → Option ℕ) (result other : Recognition) → SameResult (same_items item) result other
-    → other ≡ result
-equal_items item Failed Failed same = refl
-equal_items item Failed (Matched end trees) same = absurd same
-equal_items item (Matched end trees) Failed same = absurd same
-equal_items item (Matched end trees) (Matched other more) same = λ i. Matched (sym same.0 i) (sym same.1 i)
+pub equal_items : (item : ℕ → Option ℕ) (count : ℕ) (result other : Recognition)
+    → SameResult (same_items item count) result other → other ≡ result
+equal_items item count Failed Failed same = refl
+equal_items item count Failed (Matched end trees) same = absurd same
+equal_items item count (Matched end trees) Failed same = absurd same
+equal_items item count (Matched end trees) (Matched other more) same = λ i. Matched (sym same.0 i) (sym same.1 i)
 
 module _ (rules : List Rule) (text : List ℕ) (distinct : Distinct (names (diagnostic_rules rules))) where
   -- an expression whose added empty classes are those of its items
@@ -35,12 +35,13 @@ module _ (rules : List Rule) (text : List ℕ) (distinct : Distinct (names (diag
       → Diagnosis rules text e terminal number position r
   diagnosis n e t terminal number position r placed is =
       let item = item_of_terminal rules in
+      let count = length rules in
       let blamed = Simulates-gives same_results (record_in rules text n e t position)
       (blame_in rules text n e number position) r is (Simulates-blame rules text n e t number position) in
-      let shown = Simulates-gives (same_items item) (blame_in rules text n e number position)
+      let shown = Simulates-gives (same_items item count) (blame_in rules text n e number position)
       (record_in (diagnostic_rules rules) text (twice n) (loud e) terminal position) blamed.0 blamed.1
-      (Simulates-loud item rules (diagnostic_rules rules) text (loud_copies rules) (quiet_copies rules distinct) n e
-      terminal number position placed) in
+      (Simulates-loud item count rules (diagnostic_rules rules) text (loud_copies rules) (quiet_copies rules distinct)
+      n e terminal number position placed) in
       let same = equal_results r.result (blamed.0).result (blamed.2).results in
       record {
         blame = blamed.0;
@@ -48,8 +49,9 @@ module _ (rules : List Rule) (text : List ℕ) (distinct : Distinct (names (diag
         is_blame = (n, blamed.1);
         is_record = (twice n, shown.1);
         blame_result = same;
-        shown_result = equal_items item (blamed.0).result (shown.0).result (shown.2).results ∙ same;
+        shown_result = equal_items item count (blamed.0).result (shown.0).result (shown.2).results ∙ same;
         tests = (shown.2).tests;
+        calls = (shown.2).calls;
       }
 
   pub name_diagnosis : (n : ℕ) (name : List ℕ) (span : Extent) (t terminal number position : ℕ) (r : Record)

@@ -1,7 +1,7 @@
 -- What names refer to in the diagnostic grammar: the loud rule of the same number, and the quiet copy.
 use Rattle.std.proofs.Common.{◌≡◌, ◌≢◌, ℕ, suc, ◌+◌, ◌<◌, ◌≤◌, Bool, true, false, if◌then◌else◌, List, [], ◌∷◌, ◌++◌}
 use Rattle.std.proofs.Common.{Option, Some, refl, sym, ap, ◌∙◌, subst, arith, bytes_eq, map, All}
-use Rattle.std.proofs.Common.{AllPairs, Contains, append-nil, le_refl}
+use Rattle.std.proofs.Common.{AllPairs, Contains, append-nil, le_refl, length}
 use Rattle.std.proofs.lemmas.List.{append_cancel_right, map-append}
 use Rattle.std.proofs.lemmas.List.Elements.{All-nil, All-cons, All-head, All-tail, All-contains, Contains-append_left}
 use Rattle.std.proofs.lemmas.List.Elements.{Contains-append_right, Contains-push, All-weaker}
@@ -13,7 +13,7 @@ use Rattle.peg_diagnostics.specs.Diagnostic.{quiet, quiet_name, loud, loud_rule,
 use Rattle.peg_diagnostics.specs.Items.{items, item_meaning_from, item_meaning_of}
 use Rattle.peg_diagnostics.specs.ItemTests.{added_terminals, added_terminals_from, item_terminals, item_of_terminal}
 use Rattle.peg_diagnostics.specs.Placed.{IsPlaced}
-use Rattle.peg_diagnostics.proofs.LoudRecords.{IsOwn, HasLoud, no_items}
+use Rattle.peg_diagnostics.proofs.LoudRecords.{IsOwn, HasLoud, no_items, SameCall-quiet}
 use Rattle.peg_diagnostics.proofs.Placement.{Below, From, IsPart, item_in, part-front, part-back, placed}
 use Rattle.peg_diagnostics.proofs.Placement.{length-added, added-below, added-from, place_from-none, two_parts-from}
 use Rattle.peg_diagnostics.proofs.Placement.{two_parts-below}
@@ -199,8 +199,33 @@ finds_loud item (r ∷ rs) more rule terminal number name m there is =
         (copy, refl, record { numbered = refl; loudened = refl; placed = there.0 })
     by false later found = later found
 
+-- The rule that a name refers to is one of the rules, which bounds its number.
+item_meaning_from-below : (rule item : ℕ) (rules : List Rule) (name : List ℕ) (m : Meaning)
+    → item_meaning_from rule item rules name ≡ Some m → m.rule < rule + length rules
+item_meaning_from-below rule item [] name m is = cc
+item_meaning_from-below rule item (r ∷ rs) name m is =
+    by (bytes_eq name r.name) (item_meaning_from-below (rule + 1) (item + items r.body) rs name m) is
+  where
+    first : Meaning
+    first = record { rule = rule; terminal = item; body = r.body }
+
+    others : Option Meaning
+    others = item_meaning_from (rule + 1) (item + items r.body) rs name
+
+    by : (b : Bool) → (others ≡ Some m → m.rule < rule + 1 + length rs) → (if b then Some first else others) ≡ Some m
+        → m.rule < rule + length (r ∷ rs)
+    by true later found =
+        let same : first ≡ m = cc in
+        let here : rule < rule + length (r ∷ rs) = omega arith in
+        subst (λ (m : Meaning). m.rule < rule + length (r ∷ rs)) same here
+    by false later found = omega (arith, later found)
+
+pub item_meaning_of-below : (rules : List Rule) (name : List ℕ) (m : Meaning) → item_meaning_of rules name ≡ Some m
+    → m.rule < length rules
+item_meaning_of-below rules name m is = omega (arith, item_meaning_from-below 0 0 rules name m is)
+
 pub loud_copies : (rules : List Rule) (name : List ℕ) (m : Meaning) → item_meaning_of rules name ≡ Some m
-    → HasLoud (item_of_terminal rules) (diagnostic_rules rules) name m
+    → HasLoud (item_of_terminal rules) (length rules) (diagnostic_rules rules) name m
 loud_copies rules name m is =
     let found = finds_loud (item_of_terminal rules) rules (map quiet_rule rules) 0 0 0 name m (all_rules_placed rules)
     is in
@@ -208,6 +233,7 @@ loud_copies rules name m is =
       copy = found.0;
       found = found.1;
       numbered = (found.2).numbered;
+      below = item_meaning_of-below rules name m is;
       loudened = (found.2).loudened;
       placed = (found.2).placed;
     }
@@ -216,9 +242,9 @@ loud_copies rules name m is =
 
 -- a lookup passes over loud rules of other names
 passes_loud : (rules more : List Rule) (name : List ℕ) (rule terminal : ℕ) → All (λ n. n ≢ name) (names rules)
-    → (number : ℕ) × (start : ℕ) × (terminal + loud_terminals rules ≡ start)
+    → (number : ℕ) × (start : ℕ) × (terminal + loud_terminals rules ≡ start) × (rule + length rules ≡ number)
     × (meaning_from rule terminal (map loud_rule rules ++ more) name ≡ meaning_from number start more name)
-passes_loud [] more name rule terminal apart = (rule, terminal, omega arith, refl)
+passes_loud [] more name rule terminal apart = (rule, terminal, omega arith, omega arith, refl)
 passes_loud (r ∷ rs) more name rule terminal apart =
     let later = passes_loud rs more name (rule + 1) (terminal + terminals (loud r.body))
     (All-tail (λ n. n ≢ name) r.name (names rs) apart) in
@@ -227,10 +253,11 @@ passes_loud (r ∷ rs) more name rule terminal apart =
       later.0,
       later.1,
       omega (arith, later.2),
+      omega (arith, later.3),
       ap (λ b. if b
           then Some (record { rule = rule; terminal = terminal; body = loud r.body })
           else meaning_from (rule + 1) (terminal + terminals (loud r.body)) (map loud_rule rs ++ more) name) other
-          ∙ later.3,
+          ∙ later.4,
     )
 
 -- the number of terminals of the quiet copies of rules
@@ -238,15 +265,16 @@ abbrev pub quiet_terminals : List Rule → ℕ
 quiet_terminals [] = 0
 quiet_terminals (rule ∷ rules) = terminals (quiet rule.body) + quiet_terminals rules
 
--- the quiet copy of what a name refers to, with terminals from a number up to another
-abbrev pub FindsQuiet : (least most : ℕ) → Option Meaning → Meaning → Type 0
-FindsQuiet least most found m =
+-- The quiet copy of what a name refers to. Its terminals are from `least` up to `most`, and its rule number is at least
+-- `first`.
+abbrev pub FindsQuiet : (first least most : ℕ) → Option Meaning → Meaning → Type 0
+FindsQuiet first least most found m =
     (copy : Meaning) × (found ≡ Some copy) × (copy.body ≡ quiet m.body) × (least ≤ copy.terminal)
-    × (copy.terminal + terminals m.body ≤ most)
+    × (copy.terminal + terminals m.body ≤ most) × (first ≤ copy.rule)
 
 finds_quiet : (rules : List Rule) (rule terminal number start : ℕ) (name : List ℕ) (m : Meaning)
     → meaning_from rule terminal rules name ≡ Some m
-    → FindsQuiet start (start + quiet_terminals rules)
+    → FindsQuiet number start (start + quiet_terminals rules)
     (meaning_from number start (map quiet_rule rules) (quiet_name name)) m
 finds_quiet [] rule terminal number start name m is = cc
 finds_quiet (r ∷ rs) rule terminal number start name m is =
@@ -264,36 +292,42 @@ finds_quiet (r ∷ rs) rule terminal number start name m is =
 
     by : (b : Bool) → bytes_eq name r.name ≡ b
         → (meaning_from (rule + 1) (terminal + terminals r.body) rs name ≡ Some m
-        → FindsQuiet (start + terminals (quiet r.body)) (start + terminals (quiet r.body) + quiet_terminals rs) others
-        m)
+        → FindsQuiet (number + 1) (start + terminals (quiet r.body))
+        (start + terminals (quiet r.body) + quiet_terminals rs) others m)
         → (if b then Some first else meaning_from (rule + 1) (terminal + terminals r.body) rs name) ≡ Some m
-        → FindsQuiet start (start + quiet_terminals (r ∷ rs))
+        → FindsQuiet number start (start + quiet_terminals (r ∷ rs))
         (if bytes_eq (quiet_name name) (quiet_name r.name) then Some copy else others) m
     by true equal later found =
         let same : first ≡ m = cc in
-        subst (λ b. FindsQuiet start (start + quiet_terminals (r ∷ rs)) (if b then Some copy else others) m)
+        subst (λ b. FindsQuiet number start (start + quiet_terminals (r ∷ rs)) (if b then Some copy else others) m)
         (sym (bytes_eq-quiet name r.name true equal))
-        (subst (FindsQuiet start (start + quiet_terminals (r ∷ rs)) (Some copy)) same
-        (copy, refl, refl, le_refl start, omega (arith, terminals-rename quiet_name r.body)))
+        (subst (FindsQuiet number start (start + quiet_terminals (r ∷ rs)) (Some copy)) same
+        (copy, refl, refl, le_refl start, omega (arith, terminals-rename quiet_name r.body), le_refl number))
     by false equal later found =
         let more = later found in
-        subst (λ b. FindsQuiet start (start + quiet_terminals (r ∷ rs)) (if b then Some copy else others) m)
+        subst (λ b. FindsQuiet number start (start + quiet_terminals (r ∷ rs)) (if b then Some copy else others) m)
         (sym (bytes_eq-quiet name r.name false equal))
-        (more.0, more.1, more.2, omega (arith, more.3), omega (arith, more.4))
+        (more.0, more.1, more.2, omega (arith, more.3), omega (arith, more.4), omega (arith, more.5))
 
 module _ (rules : List Rule) (distinct : Distinct (names (diagnostic_rules rules))) where
   pub quiet_copy : (name : List ℕ) (m : Meaning) → meaning_of rules name ≡ Some m
-      → FindsQuiet (loud_terminals rules) (loud_terminals rules + quiet_terminals rules)
+      → FindsQuiet (length rules) (loud_terminals rules) (loud_terminals rules + quiet_terminals rules)
       (meaning_of (diagnostic_rules rules) (quiet_name name)) m
   quiet_copy name m is =
       let passed = passes_loud rules (map quiet_rule rules) (quiet_name name) 0 0
       (apart_from_quiet rules distinct name m is) in
-      let found = finds_quiet rules 0 0 passed.0 passed.1 name m is in
-      (found.0, passed.3 ∙ found.1, found.2, omega (arith, passed.2, found.3), omega (arith, passed.2, found.4))
+      let found = finds_quiet rules 0 0 passed.0 passed.1 name m is in (
+        found.0,
+        passed.4 ∙ found.1,
+        found.2,
+        omega (arith, passed.2, found.3),
+        omega (arith, passed.2, found.4),
+        omega (arith, passed.3, found.5),
+      )
 
   pub quiet_copies : (name : List ℕ) (m : Meaning) → meaning_of rules name ≡ Some m
-      → HasCopy (no_items (item_of_terminal rules)) (IsOwn (item_of_terminal rules)) quiet_name (diagnostic_rules rules)
-      name m
+      → HasCopy (no_items (item_of_terminal rules) (length rules)) (IsOwn (item_of_terminal rules)) quiet_name
+      (diagnostic_rules rules) name m
   quiet_copies name m is =
       let found = quiet_copy name m is in
       record {
@@ -304,4 +338,5 @@ module _ (rules : List Rule) (distinct : Distinct (names (diagnostic_rules rules
             (All-weaker (λ x. x < 0 + loud_terminals rules) (λ x. x ≢ (found.0).terminal + k)
             (λ x small same. omega (arith, small, same, found.3)) (item_terminals rules) (rules-below rules 0));
         node = λ start end a b same. tt;
+        call = SameCall-quiet (item_of_terminal rules) (length rules) m.rule (found.0).rule found.5;
       }

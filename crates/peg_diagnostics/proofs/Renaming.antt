@@ -12,7 +12,7 @@ use Rattle.peg_diagnostics.specs.Diagnostic.{rename, rename_all}
 use Rattle.peg_diagnostics.proofs.Simulation.{Likeness, IsLike, Simulates, Simulates-some, Simulates-map}
 use Rattle.peg_diagnostics.proofs.Simulation.{IsLike-matched_at, Simulates-matched_at, Simulates-then_at}
 use Rattle.peg_diagnostics.proofs.Simulation.{Simulates-or_else, Simulates-rounds, Simulates-recognize_repeat}
-use Rattle.peg_diagnostics.proofs.Simulation.{IsLike-if_matched, IsLike-if_failed, IsLike-as_call, SameNode}
+use Rattle.peg_diagnostics.proofs.Simulation.{IsLike-if_matched, IsLike-if_failed, IsLike-as_call, SameNode, SameCall}
 
 -- renaming keeps the number of terminals
 mutual
@@ -54,7 +54,8 @@ module _ (Is : ℕ → Type 0) where
       let at : terminal + (count + k) ≡ terminal + same + k = omega (arith, is) in
       subst Is at (each (count + k) (omega (arith, below)))
 
--- what a name refers to has a renamed copy under the new name: its terminals are free, and its nodes are related
+-- What a name refers to has a renamed copy under the new name. The terminals of the copy are free. Its nodes and its
+-- calls are related to those of the rule.
 pub record HasCopy (like : Likeness) (Free : ℕ → Type 0) (new : List ℕ → List ℕ) (other : List Rule) (name : List ℕ)
     (m : Meaning) : Type 0 where
   pub copy : Meaning
@@ -62,13 +63,14 @@ pub record HasCopy (like : Likeness) (Free : ℕ → Type 0) (new : List ℕ →
   pub renamed : copy.body ≡ rename new m.body
   pub free : EachFrom Free (terminals m.body) copy.terminal
   pub node : SameNode like m.rule copy.rule
+  pub call : SameCall like m.rule copy.rule
 
 module _ (like : Likeness) (Free : ℕ → Type 0)
     (fits : (t T position : ℕ) → Free T → like.Fit (test_of t position ∷ []) (test_of T position ∷ []))
     (new : List ℕ → List ℕ) (rules other : List Rule) (text : List ℕ)
     (copied : (name : List ℕ) (m : Meaning) → meaning_of rules name ≡ Some m → HasCopy like Free new other name m) where
   IsLike-failed_at : (t T position : ℕ) → Free T → IsLike like (failed_at t position) (failed_at T position)
-  IsLike-failed_at t T position free = record { results = tt; tests = fits t T position free }
+  IsLike-failed_at t T position free = record { results = tt; tests = fits t T position free; calls = like.no_calls }
 
   IsLike-literal_at : (t T position : ℕ) (bytes rest : List ℕ) → Free T
       → IsLike like (literal_at t position bytes rest) (literal_at T position bytes rest)
@@ -138,7 +140,7 @@ module _ (like : Likeness) (Free : ℕ → Type 0)
         let c = copied name m is in
         subst (λ o. Simulates like (Call take position m) (option_and_then (Call more position) o)) (sym c.found)
         (Simulates-map like (as_call m.rule position) (as_call c.copy.rule position)
-        (IsLike-as_call like m.rule c.copy.rule position c.node) (take m.body m.terminal position)
+        (IsLike-as_call like m.rule c.copy.rule position c.node c.call) (take m.body m.terminal position)
         (more c.copy.body c.copy.terminal position)
         (subst (λ body. Simulates like (take m.body m.terminal position) (more body c.copy.terminal position))
         (sym c.renamed) (h m.body m.terminal c.copy.terminal position c.free)))

@@ -1,21 +1,28 @@
 -- A relation between the records of two expressions that every combinator of the recognition rules preserves.
-use Rattle.std.proofs.Common.{◌≡◌, ℕ, zero, suc, List, [], ◌++◌, Option, None, Some, IfSome, refl, sym, ap, subst}
-use Rattle.std.proofs.Common.{option_map, option_and_then}
+use Rattle.std.proofs.Common.{◌≡◌, ℕ, zero, suc, List, [], ◌∷◌, ◌++◌, Option, None, Some, IfSome, refl, sym, ap}
+use Rattle.std.proofs.Common.{subst, option_map, option_and_then}
 use Rattle.peg_tree.specs.Trees.{Trees, NoTrees, Tree, followed_by}
-use Rattle.peg_semantics.specs.Record.{Recognition, Failed, Matched, Test, Record, matched_at, after_both}
+use Rattle.peg_semantics.specs.Record.{Recognition, Failed, Matched, Test, RuleCall, Record, matched_at, after_both}
 use Rattle.peg_semantics.specs.Record.{prepend_trees}
 use Rattle.peg_semantics.specs.Record.{then_result, then_at, choice_result, or_else, star_result, recognize_repeat}
 use Rattle.peg_semantics.specs.Record.{as_tree, as_call, if_matched, if_failed, with_result}
 use Rattle.peg_semantics.proofs.RecordLemmas.{Extends}
 
--- how the trees and the failed tests of two records are related
+-- the call of a rule at a position
+abbrev pub call_of : (rule position : ℕ) → RuleCall
+call_of rule position = record { rule = rule; position = position }
+
+-- how the trees, the failed tests and the calls of two records are related
 pub record Likeness : Type 1 where
   pub Same : Trees → Trees → Type 0
   pub Fit : List Test → List Test → Type 0
+  pub Calls : List RuleCall → List RuleCall → Type 0
   pub no_trees : Same NoTrees NoTrees
   pub more_trees : (a b c d : Trees) → Same a b → Same c d → Same (followed_by a c) (followed_by b d)
   pub no_tests : Fit [] []
   pub more_tests : (a b c d : List Test) → Fit a b → Fit c d → Fit (a ++ c) (b ++ d)
+  pub no_calls : Calls [] []
+  pub more_calls : (a b c d : List RuleCall) → Calls a b → Calls c d → Calls (a ++ c) (b ++ d)
 
 -- both fail, or both match with the same end and related trees
 abbrev pub SameResult : Likeness → Recognition → Recognition → Type 0
@@ -27,6 +34,7 @@ SameResult like (Matched end trees) (Matched other more) = (end ≡ other) × li
 pub record IsLike (like : Likeness) (x y : Record) : Type 0 where
   pub results : SameResult like x.result y.result
   pub tests : like.Fit x.tests y.tests
+  pub calls : like.Calls x.calls y.calls
 
 -- there is a second record, and it is like the first
 abbrev pub Follows : Likeness → Option Record → Record → Type 0
@@ -52,7 +60,7 @@ module _ (like : Likeness) where
   Simulates-some x y is = (y, refl, is)
 
   pub IsLike-matched_at : (end : ℕ) → IsLike like (matched_at end) (matched_at end)
-  IsLike-matched_at end = record { results = (refl, like.no_trees); tests = like.no_tests }
+  IsLike-matched_at end = record { results = (refl, like.no_trees); tests = like.no_tests; calls = like.no_calls }
 
   pub Simulates-matched_at : (end : ℕ) → Simulates like (Some (matched_at end)) (Some (matched_at end))
   Simulates-matched_at end = Simulates-some (matched_at end) (matched_at end) (IsLike-matched_at end)
@@ -77,6 +85,7 @@ module _ (like : Likeness) where
   IsLike-after_both part part' next next' result result' h k results = record {
     results = results;
     tests = like.more_tests part.tests part'.tests next.tests next'.tests h.tests k.tests;
+    calls = like.more_calls part.calls part'.calls next.calls next'.calls h.calls k.calls;
   }
 
   abbrev SimulatesNext : (next later : ℕ → Option Record) → Type 0
@@ -173,23 +182,37 @@ module _ (like : Likeness) where
 
   pub IsLike-if_matched : (position : ℕ) (x y : Record) → IsLike like x y
       → IsLike like (with_result x (if_matched x.result position)) (with_result y (if_matched y.result position))
-  IsLike-if_matched position x y is =
-      record { results = SameResult-if_matched position x.result y.result is.results; tests = is.tests }
+  IsLike-if_matched position x y is = record {
+    results = SameResult-if_matched position x.result y.result is.results;
+    tests = is.tests;
+    calls = is.calls;
+  }
 
   pub IsLike-if_failed : (position : ℕ) (x y : Record) → IsLike like x y
       → IsLike like (with_result x (if_failed x.result position)) (with_result y (if_failed y.result position))
-  IsLike-if_failed position x y is =
-      record { results = SameResult-if_failed position x.result y.result is.results; tests = is.tests }
+  IsLike-if_failed position x y is = record {
+    results = SameResult-if_failed position x.result y.result is.results;
+    tests = is.tests;
+    calls = is.calls;
+  }
 
   -- related trees stay related under nodes of two rules
   abbrev pub SameNode : (rule other : ℕ) → Type 0
   SameNode rule other = (start end : ℕ) (a b : Trees) → like.Same a b
       → like.Same (Tree rule start end a NoTrees) (Tree other start end b NoTrees)
 
-  pub IsLike-as_call : (rule other position : ℕ) → SameNode rule other → (x y : Record) → IsLike like x y
-      → IsLike like (as_call rule position x) (as_call other position y)
-  IsLike-as_call rule other position node x y is =
-      record { results = by x.result y.result is.results; tests = is.tests }
+  -- calls of two rules at the same position are related
+  abbrev pub SameCall : (rule other : ℕ) → Type 0
+  SameCall rule other = (position : ℕ) → like.Calls (call_of rule position ∷ []) (call_of other position ∷ [])
+
+  pub IsLike-as_call : (rule other position : ℕ) → SameNode rule other → SameCall rule other → (x y : Record)
+      → IsLike like x y → IsLike like (as_call rule position x) (as_call other position y)
+  IsLike-as_call rule other position node call x y is = record {
+    results = by x.result y.result is.results;
+    tests = is.tests;
+    calls = like.more_calls (call_of rule position ∷ []) (call_of other position ∷ []) x.calls y.calls (call position)
+        is.calls;
+  }
     where
       by : (result result' : Recognition) → SameResult like result result'
           → SameResult like (as_tree rule position result) (as_tree other position result')

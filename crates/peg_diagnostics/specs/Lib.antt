@@ -8,5 +8,6 @@ pub mod Diagnosis
 pub mod Diagnostic
 pub mod Items
 pub mod ItemTests
+pub mod LoudCalls
 pub mod Placed
 pub mod Refusal

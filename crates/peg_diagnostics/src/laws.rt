@@ -45,8 +45,8 @@ pub fn the_definitions_agree_with_hand_worked_grammars()
 
 /// The diagnostic grammar computes the blame, if all its names are distinct. An expression with a record has a blame,
 /// and its loud expression has a record in the diagnostic grammar, both with the same result. The failed tests of added
-/// empty classes are those of the blame. Each rule has a loud copy of the same number, placed by its first terminal and
-/// its first item.
+/// empty classes are those of the blame. The calls of loud rules are those of the blame. Each rule has a loud copy of
+/// the same number, placed by its first terminal and its first item.
 pub fn the_diagnostic_grammar_computes_the_blame()
     ensures expressions { (rules : List Rule) (text : List ℕ) (n : ℕ) (e : Form)
         (terminal other item position : ℕ) (r : Record)
