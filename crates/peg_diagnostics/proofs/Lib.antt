@@ -1,5 +1,5 @@
 mod AnyExpression
-mod BlameLemmas
+pub mod BlameLemmas
 mod BlameResults
 pub mod DiagnosisLemmas
 mod DiagnosticGrammar
@@ -15,6 +15,7 @@ mod NumberLoops
 mod Placement
 mod RefusalLemmas
 mod Renaming
+mod RuleCopies
 mod RuleLoops
 mod Simulation
 mod WrittenCopies

@@ -1,6 +1,6 @@
 -- Items: the terminals and predicates of an expression, except those inside predicates. An item is what a message for a
 -- person can report as expected. This is the project's own definition; Ford's papers have no failure positions.
-use Rattle.std.specs.Prelude.{ℕ, ◌+◌, List, [], ◌∷◌, ◌++◌, flat_map, Option, None, Some, bytes_eq, if◌then◌else◌}
+use Rattle.std.specs.Prelude.{ℕ, ◌+◌, List, [], ◌∷◌, ◌++◌, flat_map, Option, None, Some, bytes_eq, if◌then◌else◌, replicate}
 use Rattle.peg_bytes.specs.Extent.{Extent}
 use Rattle.peg_semantics.specs.Form.{Form, Forms, Literal, Class, Any, Name, Seq, Choice, Optional, Star, Plus, Counted}
 use Rattle.peg_semantics.specs.Form.{And, Not, End, Then}
@@ -63,3 +63,12 @@ abbrev mutual
 -- the extents of the rules' items by item number: rule by rule, left to right
 abbrev pub extents_of_items : List Rule → List Extent
 extents_of_items rules = flat_map (λ rule. item_extents rule.body) rules
+
+-- the number of the rule that each item is in, by item number, if the first rule of the list has number `rule`
+abbrev pub rules_of_items_from : (rule : ℕ) → List Rule → List ℕ
+rules_of_items_from rule [] = []
+rules_of_items_from rule (r ∷ rs) = replicate (items r.body) rule ++ rules_of_items_from (rule + 1) rs
+
+-- the same for a grammar, whose first rule has number 0
+abbrev pub rules_of_items : List Rule → List ℕ
+rules_of_items rules = rules_of_items_from 0 rules

@@ -6,9 +6,11 @@ mod diagnostic;
 pub mod laws;
 mod loud_copies;
 mod quiet_copies;
+mod rule_numbers;
 mod spans;
 mod terminals;
 
 pub use diagnostic::diagnostic_grammar;
+pub use rule_numbers::item_rules;
 pub use spans::item_spans;
 pub use terminals::item_terminals;

@@ -3,14 +3,14 @@ use crate::inputs::{Pair, checked, compiled, core, definitions, grammar};
 use peg_check::{CheckFault, check, table_of};
 use peg_code::{CodeFault, compile};
 use peg_core::desugar;
-use peg_diagnostics::{diagnostic_grammar, item_spans, item_terminals};
+use peg_diagnostics::{diagnostic_grammar, item_rules, item_spans, item_terminals};
 use peg_grammar::{Grammar, GrammarFault, PlainFault, TotalFault, plain_match, plain_total};
 use peg_oom::files::{CHAIN, COUNTS, CYCLE, LOOP, MISSING, PREFIX, REPEATS, TWICE, pluses};
 use peg_oom::{Borrowed, report};
 use std::alloc::Global;
 use std::io;
 
-pub(crate) const WORDS: [&str; 20] = [
+pub(crate) const WORDS: [&str; 21] = [
     "grammar_new",
     "grammar_new_twice",
     "grammar_new_missing",
@@ -19,6 +19,7 @@ pub(crate) const WORDS: [&str; 20] = [
     "plain_match_deep",
     "plain_total",
     "diagnostic_grammar",
+    "item_rules",
     "item_spans",
     "item_terminals",
     "desugar",
@@ -44,6 +45,7 @@ pub(crate) fn call(rt: &impl Print, alloc: Global, word: &str) -> Option<io::Res
         "plain_match_deep" => matched(rt, alloc, 3),
         "plain_total" => total(rt, alloc),
         "diagnostic_grammar" => diagnostic(rt, alloc),
+        "item_rules" => rules(rt, alloc),
         "item_spans" => spans(rt, alloc),
         "item_terminals" => terminals(rt, alloc),
         "desugar" => desugared(rt, alloc, COUNTS),
@@ -116,6 +118,13 @@ fn terminals(rt: &impl Print, alloc: Global) -> io::Result<()> {
     let grammar = grammar(alloc, COUNTS)?;
     let borrowed = Borrowed::of(alloc, &grammar)?;
     let answer = item_terminals(alloc, &grammar);
+    report(rt, &borrowed, answer.is_err(), &answer)
+}
+
+fn rules(rt: &impl Print, alloc: Global) -> io::Result<()> {
+    let grammar = grammar(alloc, COUNTS)?;
+    let borrowed = Borrowed::of(alloc, &grammar)?;
+    let answer = item_rules(alloc, &grammar);
     report(rt, &borrowed, answer.is_err(), &answer)
 }
 
