@@ -1,6 +1,6 @@
 -- Why a grammar has no parser of blame.
-use Rattle.std.proofs.Common.{◌≡◌, List, Result, Ok, Err, sym, subst}
-use Rattle.std.specs.Prelude.{IfErr, IsErrAnd}
+use Rattle.std.proofs.Common.{◌≡◌, ◌∙◌, List, Result, Ok, Err, ap, sym, subst}
+use Rattle.std.specs.Prelude.{IfErr, IsErrAnd, IsErrOf}
 use Rattle.std.proofs.Math.Logic.{∥∥₁_elim}
 use Rattle.peg_diagnostics.specs.Diagnostic.{diagnostic_rules, HaveNoMark}
 use Rattle.peg_diagnostics.specs.Refusal.{IsMemoryOrTooMany}
@@ -51,3 +51,15 @@ pub refused-error : {X : Type 0} (rules : List Rule) (result : Result X BlameFau
     → IsErrAnd result (λ fault. fault ≡ why) → IsBlameRefusal rules why → IfErr result (IsBlameRefusal rules)
 refused-error rules (Ok x) why is refused = tt
 refused-error rules (Err fault) why is refused = subst (IsBlameRefusal rules) (sym is) refused
+
+-- an error that is passed on is the error of the call
+pub passed-error : {V W E : Type 0} (passed : Result V E) (why fault : E) → IsErrAnd passed (λ stated. stated ≡ why)
+    → IsErrOf passed fault → IsErrOf {T = W} (Err why) fault
+passed-error {V} {W} {E} passed why fault stated is =
+    ap Err (sym (subst (λ (r : Result V E). IsErrAnd r (λ stated. stated ≡ why)) is stated))
+
+-- the error of a call is the error that is passed on
+pub error-passed : {V W E : Type 0} (passed : Result V E) (why fault : E) → IsErrAnd passed (λ stated. stated ≡ why)
+    → IsErrOf {T = W} (Err why) fault → IsErrOf passed fault
+error-passed (Ok x) why fault stated is = absurd stated
+error-passed (Err other) why fault stated is = let same : why ≡ fault = cc in ap Err (stated ∙ same)

@@ -20,7 +20,7 @@ use Rattle.peg_tree.specs.declared.outcome.Outcome.{Outcome}
 use Rattle.peg_blame.specs.BlameOutcome.{IsBlameOutcome}
 
 -- a rule of a well-formed grammar has a record on every text
-has_record : (rules : List Rule) (text : List ℕ) (start : ℕ) → start < length rules → ∥ IsWellFormedGrammar rules ∥₁
+pub has_record : (rules : List Rule) (text : List ℕ) (start : ℕ) → start < length rules → ∥ IsWellFormedGrammar rules ∥₁
     → start_record rules text (max_cases rules text) (name_of rules start) ≢ None
 has_record rules text start less formed =
     ∥∥₁_elim formed (hlevel)

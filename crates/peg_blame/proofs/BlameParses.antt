@@ -1,19 +1,25 @@
 -- What the parser of the diagnostic grammar answers, in terms of the grammar as written.
-use Rattle.std.proofs.Common.{◌≡◌, ◌<◌, ℕ, true, false, List, [], ◌∷◌, All, length, Option, None, Some, IfSome, is_some}
+use Rattle.std.proofs.Common.{◌≡◌, ◌<◌, ◌++◌, ℕ, Bool, true, false, List, [], ◌∷◌, All, length, Option, None, Some, IfSome, is_some}
 use Rattle.std.proofs.Common.{refl, sym, subst, ap, ◌∙◌, arith}
 use Rattle.std.proofs.Math.Logic.{∥∥₁_elim}
 use Rattle.peg_diagnostics.specs.Diagnostic.{diagnostic_rules}
 use Rattle.peg_diagnostics.specs.Items.{extents_of_items}
 use Rattle.peg_diagnostics.specs.ItemTests.{item_terminals}
+use Rattle.peg_diagnostics.specs.LoudCalls.{calls_of_first}
 use Rattle.peg_diagnostics.proofs.ItemNumbers.{extents-terminals}
 use Rattle.peg_diagnostics.proofs.Lookups.{Distinct}
 use Rattle.peg_grammar.specs.Outcomes.{IsParseOutcomeAmong}
+use Rattle.peg_parser.specs.Calls.{AreCallsOf, TracesCallsOf}
 use Rattle.peg_semantics.specs.Grammar.{IsGrammar}
+use Rattle.peg_semantics.specs.Record.{RuleCall}
 use Rattle.peg_semantics.specs.Rules.{Rule, names}
 use Rattle.peg_semantics.specs.Starts.{start_name}
 use Rattle.peg_semantics.specs.WellFormed.{IsWellFormedGrammar}
 use Rattle.peg_tree.specs.declared.outcome.Outcome.{Outcome}
+use Rattle.peg_tree.specs.Selected.{has_rule}
+use Rattle.peg_blame.specs.BlameCalls.{HasCalledRules, is_called}
 use Rattle.peg_blame.specs.BlameOutcome.{IsBlameOutcome}
+use Rattle.peg_blame.proofs.BlameCalls.{called-rules}
 use Rattle.peg_blame.proofs.BlameOutcomes.{blame-outcome}
 use Rattle.peg_blame.proofs.BlameStarts.{same-start, start-numbered}
 
@@ -57,6 +63,28 @@ module _ (rules shown : List Rule) (named : Option (List ℕ)) (same : shown ≡
           blame-outcome rules distinct text start outcome at.0 at.1 at.2 formed
           (subst (λ (l : List ℕ). IsParseOutcomeAmong (diagnostic_rules rules) text start l outcome) listed
           (subst (λ (all : List Rule). IsParseOutcomeAmong all text start terminals outcome) same here))
+
+  -- the rules that are called from a start
+  pub start-called : (text : List ℕ) (at : ℕ) (set : List Bool) (before after : List RuleCall) → before ≡ []
+      → Distinct (names (diagnostic_rules rules)) → ∥ IsWellFormedGrammar rules ∥₁
+      → IfSome (start_name shown named) (λ start. TracesCallsOf shown text start true before after)
+      → ((rule : ℕ) → has_rule set rule ≡ is_called (calls_of_first (length rules) after) rule at)
+      → IfSome (start_name rules named) (λ start. HasCalledRules rules text start at set)
+  start-called text at set before after none distinct formed traced is = by (start_name rules named) refl
+    where
+      by : (start : Option (List ℕ)) → start_name rules named ≡ start
+          → IfSome start (λ start. HasCalledRules rules text start at set)
+      by None found = tt
+      by (Some start) found =
+          let numbered = start-numbered rules named start some found in
+          let here : TracesCallsOf shown text start true before after =
+          subst (λ (o : Option (List ℕ)). IfSome o (λ start. TracesCallsOf shown text start true before after))
+          (shown-start start found) traced in
+          let calls = here.0 in
+          let all : after ≡ calls = here.1 refl ∙ ap (λ (l : List RuleCall). l ++ calls) none in
+          called-rules rules distinct text start at set calls numbered.0 numbered.1 numbered.2 formed
+          (subst (λ (l : List Rule). AreCallsOf l text start calls) same here.2)
+          (λ rule. is rule ∙ ap (λ (l : List RuleCall). is_called (calls_of_first (length rules) l) rule at) all)
 
 -- indices of terminals are numbers of items
 pub items-fit : (rules : List Rule) (terminals expected : List ℕ) → terminals ≡ item_terminals rules

@@ -25,7 +25,7 @@ module _ {X : Type 0} (p : X → Bool) where
       by false later = grind (arith, nat_tests) ∙ later
 
   -- an item that passes has an index
-  any-at : (d : X) (xs : List X) → list_any p xs ≡ true → (k : ℕ) × (k < length xs) × (p (get_or xs k d) ≡ true)
+  pub any-at : (d : X) (xs : List X) → list_any p xs ≡ true → (k : ℕ) × (k < length xs) × (p (get_or xs k d) ≡ true)
   any-at d [] some = cc
   any-at d (x ∷ xs) some = by (p x) refl (any-at d xs) some
     where

@@ -1,3 +1,4 @@
+mod BlameCalls
 mod BlameFaults
 mod BlameOutcomes
 mod BlameParses

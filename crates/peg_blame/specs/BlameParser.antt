@@ -2,7 +2,7 @@
 use Rattle.std.specs.Prelude.{◌≡◌, ◌≢◌, ℕ, AllPairs, List, length, map}
 use Rattle.peg_bytes.specs.Extent.{extent}
 use Rattle.peg_diagnostics.specs.Diagnostic.{diagnostic_rules}
-use Rattle.peg_diagnostics.specs.Items.{extents_of_items}
+use Rattle.peg_diagnostics.specs.Items.{extents_of_items, rules_of_items}
 use Rattle.peg_diagnostics.specs.ItemTests.{item_terminals}
 use Rattle.peg_parser.specs.Parser.{parser_rules}
 use Rattle.peg_semantics.specs.Grammar.{IsGrammar}
@@ -11,7 +11,7 @@ use Rattle.peg_semantics.specs.WellFormed.{IsWellFormedGrammar}
 use Rattle.peg_blame.specs.declared.blame_parser.BlameParser.{BlameParser}
 
 -- The parser was made for these rules, a well-formed grammar. It has the parser of their diagnostic grammar, whose
--- names are distinct. It also has the terminal number and the span of each item.
+-- names are distinct. It also has the terminal number, the span and the rule of each item.
 pub record IsBlameParserOf (rules : List Rule) (parser : BlameParser) : Type 0 where
   pub grammar : ∥ IsGrammar rules ∥₁
   pub well_formed : ∥ IsWellFormedGrammar rules ∥₁
@@ -20,3 +20,4 @@ pub record IsBlameParserOf (rules : List Rule) (parser : BlameParser) : Type 0 w
   pub count : parser.rules ≡ length rules
   pub terminals : parser.terminals.items ≡ item_terminals rules
   pub items : map extent parser.items.items ≡ extents_of_items rules
+  pub item_rules : parser.item_rules.items ≡ rules_of_items rules

@@ -1,10 +1,12 @@
 pub use Rattle.peg_diagnostics.specs.Blame
 pub use Rattle.peg_diagnostics.specs.Diagnostic
 pub use Rattle.peg_diagnostics.specs.Items
+pub use Rattle.peg_diagnostics.specs.LoudCalls
 pub use Rattle.peg_semantics.specs.Furthest
 pub use Rattle.peg_semantics.specs.Record
 pub use Rattle.peg_semantics.specs.Rules
 pub use Rattle.peg_semantics.specs.Starts
+pub mod BlameCalls
 pub mod BlameOutcome
 pub mod BlameParser
 pub mod Faults

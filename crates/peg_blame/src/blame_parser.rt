@@ -6,7 +6,8 @@ ghost use Rattle.peg_blame.specs.BlameOutcome.{IsBlameOutcome};
 ghost use Rattle.peg_blame.specs.Faults.{IsBlameRefusal, IsParserRefusal};
 ghost use Rattle.peg_bytes.specs.Extent.{extent};
 ghost use Rattle.peg_diagnostics.specs.Diagnostic.{diagnostic_rules};
-ghost use Rattle.peg_diagnostics.specs.Items.{extents_of_items};
+ghost use Rattle.peg_blame.specs.BlameCalls.{HasCalledRules};
+ghost use Rattle.peg_diagnostics.specs.Items.{extents_of_items, rules_of_items};
 ghost use Rattle.peg_grammar.specs.GrammarRules.{rules_in};
 ghost use Rattle.peg_grammar.specs.Limits.{max_text_bytes};
 ghost use Rattle.peg_machine.specs.CoreOutcome.{saturated};
@@ -16,11 +17,14 @@ ghost use Rattle.peg_semantics.specs.Rules.{Rule};
 ghost use Rattle.peg_semantics.specs.Starts.{start_name};
 ghost use Rattle.peg_semantics.specs.WellFormed.{IsWellFormedGrammar};
 
+use crate::called_rules::rules_called_at;
 use crate::fault::BlameFault;
 use peg_bytes::Span;
-use peg_diagnostics::{diagnostic_grammar, item_spans, item_terminals};
+use peg_diagnostics::{diagnostic_grammar, item_rules, item_spans, item_terminals};
 use peg_grammar::Grammar;
+use peg_machine::ListWatch;
 use peg_parser::{Answer, ParseFault, ParseOptions, Parser, Refusal};
+use peg_tree::RuleSet;
 use std::alloc::Global;
 
 /// The parser of a grammar's diagnostic grammar. It parses as the grammar does, and finds the furthest failure of an
@@ -31,6 +35,7 @@ pub struct BlameParser {
     rules: u32,
     terminals: Vec<u32>,
     items: Vec<Span>,
+    item_rules: Vec<u32>,
     ghost ascending: { IsStrictlyIncreasing terminals.items },
 }
 
@@ -55,11 +60,13 @@ impl BlameParser {
         let parser = diagnostic_parser(alloc, diagnostic)?;
         let terminals = item_terminals(alloc, grammar)?;
         let items = item_spans(alloc, grammar)?;
+        let item_rules = item_rules(alloc, grammar)?;
         Ok(BlameParser {
             parser,
             rules: grammar.rules(),
             terminals,
             items,
+            item_rules,
         })
     }
 
@@ -69,6 +76,13 @@ impl BlameParser {
             → map extent result.now ≡ extents_of_items rules }
     {
         self.items.as_slice()
+    }
+
+    /// Returns the number of the rule that each item is in, by item number. Constant time.
+    pub fn item_rules(&self) -> &[u32]
+        ensures { (rules : List Rule) → IsBlameParserOf rules self.now → result.now ≡ rules_of_items rules }
+    {
+        self.item_rules.as_slice()
     }
 
     /// Parses a prefix of a text by the grammar as written. Success, consumed length and tree are those of Ford's
@@ -122,6 +136,47 @@ impl BlameParser {
         }
         self.parser
             .parse_among(alloc, text, options, &self.terminals)
+    }
+
+    /// Returns the rules of the grammar as written that are called at a position of a text, outside predicates. The
+    /// calls are those of Ford's record of the text (Ford 2004, section 3.3), without those in predicates.
+    ///
+    /// The text is parsed again, in one run. The errors are those of `blame`. Takes up to 16 bytes of memory for each
+    /// call, besides what the parse takes.
+    ///
+    /// # Example
+    ///
+    /// ```
+    /// // The grammar `S <- A 'x'` and `A <- [a-z]`, which is called at the start of the text.
+    /// let called = blames.called_rules(alloc, b"1", &options, 0)?;
+    /// assert!(called.contains(1));
+    /// ```
+    pub fn called_rules(
+        &self,
+        alloc: Global,
+        text: &[u8],
+        options: &ParseOptions<'_>,
+        at: u32,
+    ) -> Result<RuleSet, ParseFault>
+        ensures no_start { (rules : List Rule) → IsBlameParserOf rules self.now
+            → (IsErrOf result ParseFault.NoSuchStart ↔ (start_name rules (start_named options.now) ≡ None)) }
+        ensures long { (rules : List Rule) (start : List ℕ) → IsBlameParserOf rules self.now
+            → start_name rules (start_named options.now) ≡ Some start
+            → (IsErrOf result ParseFault.TextTooLong ↔ (max_text_bytes < length text.now)) }
+        ensures called { (rules : List Rule) → IsBlameParserOf rules self.now → IfOk result (λ set.
+            IfSome (start_name rules (start_named options.now))
+            (λ start. HasCalledRules rules text.now start at set)) }
+        ensures limited { (rules : List Rule) → IsBlameParserOf rules self.now → IsErrOf result ParseFault.StepLimit
+            → TakesMoreSteps (diagnostic_rules rules) text.now (start_named options.now) options.now.steps }
+        ensures enough { (rules : List Rule) → IsBlameParserOf rules self.now → options.now.memo ≡ 0 → OnOk result
+            (¬ TakesMoreSteps (diagnostic_rules rules) text.now (start_named options.now) options.now.steps) }
+    {
+        if !self.has_start(options) {
+            return Err(ParseFault::NoSuchStart);
+        }
+        let mut calls = ListWatch::new(alloc);
+        let _answer = self.parser.trace(alloc, text, options, &mut calls)?;
+        Ok(rules_called_at(alloc, self.rules, calls.pairs(), at)?)
     }
 
     // Whether the start is a rule of the grammar as written. The diagnostic grammar has a quiet copy of each rule, too.

@@ -2,6 +2,7 @@
 #![tactic(auto)]
 
 mod blame_parser;
+mod called_rules;
 mod fault;
 
 pub use blame_parser::BlameParser;

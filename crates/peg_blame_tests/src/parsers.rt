@@ -8,7 +8,8 @@ use peg_notation::read;
 use std::alloc::Global;
 use std::test::Fail;
 
-// The items on the first two lines: `!.` at 21, `!K` at 29 and the class at 32, without its plus.
+// The items on the first two lines: `!.` at 21, `!K` at 29 and the class at 32, without its plus. The rule K
+// has no item.
 #[test]
 fn items_have_their_spans(rt: HostRuntime) -> Result<(), Fail> {
     let parser = blame_parser_of(rt.alloc(), QUERIES)?;
@@ -17,6 +18,7 @@ fn items_have_their_spans(rt: HostRuntime) -> Result<(), Fail> {
     assert_eq!(rt; items[0], Span::new(21, 23));
     assert_eq!(rt; items[1], Span::new(29, 31));
     assert_eq!(rt; items[2], Span::new(32, 40));
+    assert_eq!(rt; parser.item_rules(), [0, 1, 1, 3, 4, 5].as_slice());
     Ok(())
 }
 
@@ -42,6 +44,56 @@ fn a_start_is_a_rule_as_written(rt: HostRuntime) -> Result<(), Fail> {
         (outcome.far, outcome.expected.as_slice()),
         (0, [1].as_slice())
     );
+    Ok(())
+}
+
+// Q and SELECT are called at 0, S at 6 and N at 7. K, SELECT and FROM are called at 7 in a predicate alone. The last
+// six rules are quiet copies.
+#[test]
+fn rules_are_called_outside_predicates(rt: HostRuntime) -> Result<(), Fail> {
+    let alloc = rt.alloc();
+    let parser = blame_parser_of(alloc, QUERIES)?;
+    let places = [
+        (0, [0, 3].as_slice()),
+        (1, [].as_slice()),
+        (6, [5].as_slice()),
+        (7, [1].as_slice()),
+    ];
+    for memo in [0, 1, 4096] {
+        let options = ParseOptions {
+            start: None,
+            memo,
+            steps: None,
+        };
+        for (at, rules) in places {
+            let called = parser.called_rules(alloc, b"SELECT 1 FROM t", &options, at)?;
+            for rule in 0..12 {
+                assert_eq!(rt;
+                    called.contains(rule),
+                    rules.contains(&rule),
+                    "{rule} at {at}"
+                );
+            }
+        }
+    }
+    Ok(())
+}
+
+#[test]
+fn rules_are_called_from_a_start_within_the_limits(rt: HostRuntime) -> Result<(), Fail> {
+    let alloc = rt.alloc();
+    let parser = blame_parser_of(alloc, QUERIES)?;
+    let fault = parser.called_rules(alloc, b"a", &starting("N!"), 0).err();
+    assert_eq!(rt; fault, Some(ParseFault::NoSuchStart));
+    let called = parser.called_rules(alloc, b"a", &starting("N"), 0)?;
+    assert!(rt; called.contains(1) && !called.contains(0));
+    let options = ParseOptions {
+        start: None,
+        memo: 0,
+        steps: Some(5),
+    };
+    let fault = parser.called_rules(alloc, b"SELECT a", &options, 0).err();
+    assert_eq!(rt; fault, Some(ParseFault::StepLimit));
     Ok(())
 }
 

@@ -42,6 +42,7 @@ returns-clause-made c =
       count = c.rules.ensures.count;
       terminals = c.in_ok-terminals.ensures;
       items = c.in_ok-items.ensures;
+      item_rules = c.in_ok-item_rules.ensures;
     }
 
 -- the numbers of items ascend
