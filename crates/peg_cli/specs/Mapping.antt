@@ -37,7 +37,7 @@ IsCommandOf name found (Profile g t start memo steps) = (name ≡ codes "profile
     × (first_value found (codes "start") ≡ option_map string_bytes start)
     × (number_at found (codes "memo") ≡ Some memo)
     × (number_at found (codes "steps") ≡ steps)
-IsCommandOf name found (Explain g texts files_from null start memo steps quiet) = (name ≡ codes "explain")
+IsCommandOf name found (Explain g texts files_from null start memo steps rules terminals quiet) = (name ≡ codes "explain")
     × (first_value found (codes "G") ≡ Some (string_bytes g))
     × (all_values found (codes "T") ≡ map string_bytes texts.items)
     × (first_value found (codes "files-from") ≡ option_map string_bytes files_from)
@@ -45,6 +45,8 @@ IsCommandOf name found (Explain g texts files_from null start memo steps quiet) 
     × (first_value found (codes "start") ≡ option_map string_bytes start)
     × (number_at found (codes "memo") ≡ Some memo)
     × (number_at found (codes "steps") ≡ steps)
+    × IsFlagAt found (codes "rules") rules
+    × IsFlagAt found (codes "terminals") terminals
     × IsFlagAt found (codes "quiet") quiet
 IsCommandOf name found (Parse g t start memo steps all rows no_tree show hide text) = (name ≡ codes "parse")
     × (first_value found (codes "G") ≡ Some (string_bytes g))

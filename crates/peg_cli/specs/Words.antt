@@ -17,5 +17,5 @@ IsAsking (Check g) = Unit {0}
 IsAsking (Code g) = Unit {0}
 IsAsking (Lint g start proved) = Unit {0}
 IsAsking (Profile g t start memo steps) = AreInRange memo steps
-IsAsking (Explain g texts files_from null start memo steps quiet) = AreInRange memo steps
+IsAsking (Explain g texts files_from null start memo steps rules terminals quiet) = AreInRange memo steps
 IsAsking (Parse g t start memo steps all rows no_tree show hide text) = AreInRange memo steps

@@ -13,27 +13,34 @@ pub(crate) const MAX_STEPS: u64 = 1_000_000_000_000;
 
 /// Builds the definition of the command line.
 pub(crate) fn program<'a>(alloc: Global) -> Result<Command<'a>, AllocError> {
-    let check = check(alloc)?;
-    let table = table(alloc)?;
-    let code = code(alloc)?;
-    let lint = lint(alloc)?;
-    let profile = profile(alloc)?;
-    let explain = explain(alloc)?;
-    let parse = parse(alloc)?;
-    Command::new(alloc, "pegtool")
+    let program = Command::new(alloc, "pegtool")
         .about("Parses texts by parsing expression grammars (Ford, POPL 2004)")
         .after_help(PROGRAM_NOTES)
         .no_binary_name(true)
         .subcommand_required(true)
-        .disable_help_subcommand(true)
-        .subcommand(check)?
-        .subcommand(table)?
-        .subcommand(code)?
-        .subcommand(lint)?
-        .subcommand(profile)?
-        .subcommand(explain)?
-        .subcommand(parse)?
-        .bin_name("pegtool")
+        .disable_help_subcommand(true);
+    let program = with_grammar_commands(alloc, program)?;
+    with_text_commands(alloc, program)?.bin_name("pegtool")
+}
+
+// Adds the commands that read no text.
+fn with_grammar_commands<'a>(
+    alloc: Global,
+    program: Command<'a>,
+) -> Result<Command<'a>, AllocError> {
+    program
+        .subcommand(check(alloc)?)?
+        .subcommand(table(alloc)?)?
+        .subcommand(code(alloc)?)?
+        .subcommand(lint(alloc)?)
+}
+
+// Adds the commands that read texts.
+fn with_text_commands<'a>(alloc: Global, program: Command<'a>) -> Result<Command<'a>, AllocError> {
+    program
+        .subcommand(profile(alloc)?)?
+        .subcommand(explain(alloc)?)?
+        .subcommand(parse(alloc)?)
 }
 
 fn check<'a>(alloc: Global) -> Result<Command<'a>, AllocError> {
@@ -92,6 +99,8 @@ fn explain<'a>(alloc: Global) -> Result<Command<'a>, AllocError> {
         .arg(start_option(alloc))?
         .arg(memo_option(alloc, DEFAULT_MEMO))?
         .arg(optional_steps_option(alloc))?
+        .arg(rules_flag(alloc))?
+        .arg(terminals_flag(alloc))?
         .arg(quiet_flag(alloc))
 }
 
@@ -144,6 +153,20 @@ fn null_flag<'a>(alloc: Global) -> Result<Arg<'a>, AllocError> {
         .action(ArgAction::SetTrue)
         .help("Names in the list end at a zero byte instead of a line end")
         .requires_arg("files-from")
+}
+
+fn rules_flag<'a>(alloc: Global) -> Arg<'a> {
+    Arg::new(alloc, "rules")
+        .long("rules")
+        .action(ArgAction::SetTrue)
+        .help("Writes the rule of each expected item")
+}
+
+fn terminals_flag<'a>(alloc: Global) -> Arg<'a> {
+    Arg::new(alloc, "terminals")
+        .long("terminals")
+        .action(ArgAction::SetTrue)
+        .help("Writes each class and dot as in the grammar, not the name of its rule")
 }
 
 fn quiet_flag<'a>(alloc: Global) -> Arg<'a> {
@@ -336,8 +359,9 @@ has this form:
   FILE:LINE:COLUMN: expected A, B or C, found 'x'
 
 The position is the furthest failure outside predicates, where a predicate fails at
-its own start. Columns count bytes from 1. Without texts, only the grammar is checked.
-A refused grammar has a message with its place and cause.
+its own start. Columns count bytes from 1. A class or dot is written as the name of
+its rule if the rule was called at the position. Without texts, only the grammar is
+checked. A refused grammar has a message with its place and cause.
 
 Status: 0 all texts match; 1 some text doesn't; 2 the grammar is refused; 3 wrong
 arguments, or an unknown rule; 4 a file can't be opened or read (standard error

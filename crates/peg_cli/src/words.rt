@@ -52,7 +52,8 @@ pub enum Words {
     },
     /// Print where texts don't match grammar file `g`, as messages for people: first the text files `texts`, then those
     /// that file `files_from` lists; `-` is standard input. With `null`, names in that list end at a zero byte,
-    /// otherwise at a line end. With `quiet` nothing is printed. The other fields are those of `ParseOptions`.
+    /// otherwise at a line end. With `rules` each expected item has its rule, and with `terminals` none is named after
+    /// it. With `quiet` nothing is printed. The other fields are those of `ParseOptions`.
     Explain {
         g: String,
         texts: Vec<String>,
@@ -61,6 +62,8 @@ pub enum Words {
         start: Option<String>,
         memo: u32,
         steps: Option<u64>,
+        rules: bool,
+        terminals: bool,
         quiet: bool,
     },
     /// Parse text file `t` by grammar file `g`. At most one of `show` and `hide` is given; each is a list of rules. The
@@ -194,6 +197,8 @@ fn explain_of(alloc: Global, matches: &ArgMatches<'_>) -> Result<Words, WordsFau
         start: optional_text(alloc, matches, "start")?,
         memo: memo_size(alloc, matches)?,
         steps: step_limit(alloc, matches)?,
+        rules: matches.get_flag("rules"),
+        terminals: matches.get_flag("terminals"),
         quiet: matches.get_flag("quiet"),
     })
 }

@@ -246,6 +246,8 @@ fn explain(
         start: None,
         memo: 4096,
         steps: None,
+        rules: false,
+        terminals: false,
         quiet,
     })
 }
@@ -302,6 +304,34 @@ fn explain_has_the_options_of_a_parse(rt: HostRuntime) -> Result<(), Fail> {
             start: optional_string(alloc, start)?,
             memo,
             steps,
+            rules: false,
+            terminals: false,
+            quiet: false,
+        };
+        asks(&rt, alloc, line, &expected)?;
+    }
+    Ok(())
+}
+
+#[test]
+fn explain_has_options_for_items(rt: HostRuntime) -> Result<(), Fail> {
+    let alloc = rt.alloc();
+    let cases = [
+        ("explain g t --rules", true, false),
+        ("explain --terminals g t", false, true),
+        ("explain g --terminals t --rules", true, true),
+    ];
+    for (line, rules, terminals) in cases {
+        let expected = Words::Explain {
+            g: String::from_str(alloc, "g")?,
+            texts: strings(alloc, &["t"])?,
+            files_from: None,
+            null: false,
+            start: None,
+            memo: 4096,
+            steps: None,
+            rules,
+            terminals,
             quiet: false,
         };
         asks(&rt, alloc, line, &expected)?;
@@ -447,6 +477,8 @@ fn help_of_explain_is_printed(rt: HostRuntime) -> Result<(), Fail> {
         ("explain --help", "--start <NAME>"),
         ("explain --help", "[default: 4096]"),
         ("explain --help", "[default: no limit]"),
+        ("explain --help", "--rules"),
+        ("explain --help", "--terminals"),
         ("explain --help", "--quiet"),
         (
             "explain --help",
