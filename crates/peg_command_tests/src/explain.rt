@@ -31,6 +31,12 @@ fn texts_have_messages(rt: HostRuntime) -> Result<(), Fail> {
             1,
             "",
         ),
+        (
+            "pegtool explain short aab --rules",
+            "aab:1:2: expected 'c' in S, found 'a'\naab\n ^\n",
+            1,
+            "",
+        ),
         ("pegtool explain short --start T bcd", end, 1, ""),
         ("pegtool explain line bcd --memo 0", end, 1, ""),
         ("pegtool explain line bcd --quiet", "", 1, ""),

@@ -1,47 +1,49 @@
 -- Explanations by the blame of items, and by the failed tests of terminals.
-use Rattle.std.proofs.Common.{ℕ, IfSome, List, Option, None, Some}
+use Rattle.std.proofs.Common.{◌≡◌, ℕ, IfSome, List, Option, None, Some, refl}
 use Rattle.peg_blame.specs.BlameOutcome.{IsBlameOutcome}
-use Rattle.peg_bytes.specs.Extent.{Extent}
-use Rattle.peg_diagnostics.specs.Items.{extents_of_items}
 use Rattle.peg_grammar.specs.Outcomes.{IsParseOutcome}
 use Rattle.peg_semantics.specs.Rules.{Rule}
-use Rattle.peg_semantics.specs.Terminals.{extents_of_terminals}
 use Rattle.peg_tree.specs.declared.outcome.Outcome.{Outcome}
 use Rattle.peg_explain.specs.Explanations.{HasNoBlameParser, IsExplained, IsExplanation, IsMismatchIn, IsMismatchMessage}
-use Rattle.peg_explain.specs.Explanations.{by_blame, by_tests}
+use Rattle.peg_explain.specs.Explanations.{ItemFacts, by_blame, by_tests, facts_by_blame, facts_by_tests}
 use Rattle.peg_explain.specs.declared.mismatch.Mismatch.{Mismatch}
+use Rattle.peg_explain.specs.declared.style.ItemStyle.{ItemStyle}
 
 -- what is said by a blame
 pub blame-explains : (rules : List Rule) (text : List ℕ) (found : Option (List ℕ)) (outcome : Outcome)
-    (Says : List Extent → Outcome → Type 0) → IfSome found (λ start. IsBlameOutcome rules text start outcome)
-    → Says (extents_of_items rules) outcome → IfSome found (λ start. IsExplained rules text start Says)
+    (Says : ItemFacts → Outcome → Type 0) → IfSome found (λ start. IsBlameOutcome rules text start outcome)
+    → ((start : List ℕ) → found ≡ Some start → (is : IsBlameOutcome rules text start outcome)
+    → Says (facts_by_blame rules is.blame) outcome)
+    → IfSome found (λ start. IsExplained rules text start Says)
 blame-explains rules text None outcome Says blamed says = tt
-blame-explains rules text (Some start) outcome Says blamed says = by_blame outcome blamed says
+blame-explains rules text (Some start) outcome Says blamed says = by_blame outcome blamed (says start refl blamed)
 
 -- the same for the outcome of a parse
 pub tests-explain : (rules : List Rule) (text : List ℕ) (found : Option (List ℕ)) (outcome : Outcome)
-    (Says : List Extent → Outcome → Type 0) → HasNoBlameParser rules
+    (Says : ItemFacts → Outcome → Type 0) → HasNoBlameParser rules
     → IfSome found (λ start. IsParseOutcome rules text start outcome)
-    → Says (extents_of_terminals rules) outcome → IfSome found (λ start. IsExplained rules text start Says)
+    → Says (facts_by_tests rules) outcome → IfSome found (λ start. IsExplained rules text start Says)
 tests-explain rules text None outcome Says lacks parsed says = tt
 tests-explain rules text (Some start) outcome Says lacks parsed says = by_tests outcome lacks parsed says
 
 -- the message for the mismatch in a text is its explanation
-pub message-explains : (file : List ℕ) (rules : List Rule) (name text : List ℕ) (found : Option (List ℕ))
-    (mismatch : Mismatch) (message : List ℕ) → IfSome found (λ start. IsMismatchIn rules text start (Some mismatch))
-    → IsMismatchMessage file name text mismatch message
-    → IfSome found (λ start. IsExplanation file rules name text start (Some message))
-message-explains file rules name text None mismatch message is written = tt
-message-explains file rules name text (Some start) mismatch message (by_blame outcome blamed says) written =
+pub message-explains : (file : List ℕ) (rules : List Rule) (style : ItemStyle) (name text : List ℕ)
+    (found : Option (List ℕ)) (mismatch : Mismatch) (message : List ℕ)
+    → IfSome found (λ start. IsMismatchIn file rules style text start (Some mismatch))
+    → IsMismatchMessage file rules style name text mismatch message
+    → IfSome found (λ start. IsExplanation file rules style name text start (Some message))
+message-explains file rules style name text None mismatch message is written = tt
+message-explains file rules style name text (Some start) mismatch message (by_blame outcome blamed says) written =
     by_blame outcome blamed (mismatch, says, written)
-message-explains file rules name text (Some start) mismatch message (by_tests outcome lacks parsed says) written =
+message-explains file rules style name text (Some start) mismatch message (by_tests outcome lacks parsed says) written =
     by_tests outcome lacks parsed (mismatch, says, written)
 
 -- a text without a mismatch has no message
-pub no_message-explains : (file : List ℕ) (rules : List Rule) (name text : List ℕ) (found : Option (List ℕ))
-    → IfSome found (λ start. IsMismatchIn rules text start None)
-    → IfSome found (λ start. IsExplanation file rules name text start None)
-no_message-explains file rules name text None is = tt
-no_message-explains file rules name text (Some start) (by_blame outcome blamed says) = by_blame outcome blamed says
-no_message-explains file rules name text (Some start) (by_tests outcome lacks parsed says) =
+pub no_message-explains : (file : List ℕ) (rules : List Rule) (style : ItemStyle) (name text : List ℕ)
+    (found : Option (List ℕ)) → IfSome found (λ start. IsMismatchIn file rules style text start None)
+    → IfSome found (λ start. IsExplanation file rules style name text start None)
+no_message-explains file rules style name text None is = tt
+no_message-explains file rules style name text (Some start) (by_blame outcome blamed says) =
+    by_blame outcome blamed says
+no_message-explains file rules style name text (Some start) (by_tests outcome lacks parsed says) =
     by_tests outcome lacks parsed says

@@ -1,3 +1,4 @@
+pub use Rattle.peg_blame.specs.BlameCalls
 pub use Rattle.peg_blame.specs.BlameOutcome
 pub use Rattle.peg_blame.specs.BlameParser
 pub use Rattle.peg_blame.specs.Faults
@@ -14,10 +15,13 @@ pub use Rattle.peg_parser.specs.Cause
 pub use Rattle.peg_parser.specs.Fits
 pub use Rattle.peg_parser.specs.Parser
 pub use Rattle.peg_parser.specs.StepLimits
+pub use Rattle.peg_semantics.specs.Record
 pub use Rattle.peg_semantics.specs.Rules
 pub use Rattle.peg_semantics.specs.Starts
 pub use Rattle.peg_semantics.specs.Terminals
+pub mod Expected
 pub mod Explainers
 pub mod Explanations
 pub mod RefusalMessages
 pub mod Reports
+pub mod Styles

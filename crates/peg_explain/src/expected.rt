@@ -1,46 +1,101 @@
-//! What is expected at the position of a message.
+//! What is expected at the offset of a mismatch.
 ghost use Rattle.std.specs.Prelude.{◌≡◌, ◌^◌, ◌≤◌, ◌<◌, All, IfOk, length, map, slice_index_or, take};
 ghost use Rattle.peg_bytes.specs.Extent.{between, extent};
 ghost use Rattle.peg_parser.specs.Fits.{Fits};
 ghost use Rattle.peg_parser.specs.Parser.{parser_rules};
 ghost use Rattle.peg_semantics.specs.Terminals.{extents_of_terminals};
-ghost use Rattle.peg_explain.specs.Explanations.{expected_spans, has_no_names, numbered_spans};
+ghost use Rattle.peg_tree.specs.Selected.{has_rule};
+ghost use Rattle.peg_explain.specs.Expected.{expected_spans, numbered_spans, unnamed_fact};
+ghost use Rattle.peg_explain.specs.Explanations.{fact_of, is_class_or_dot, item_numbered, rule_passes};
 
+use crate::mismatch::ExpectedItem;
 use crate::outcomes::are_items_expected;
 use peg_bytes::Span;
-use peg_messages::Item;
 use peg_parser::Parser;
-use peg_tree::Outcome;
+use peg_tree::{Outcome, RuleSet};
 use std::alloc::{AllocError, Global};
 
 // The most items that a message looks at.
 const MAX_ITEMS: usize = 65_536;
 
-/// Returns the spans of the expected items, given the spans of all items.
-pub(crate) fn spans_of_items(
-    alloc: Global,
-    items: &[Span],
-    outcome: &Outcome,
-) -> Result<Vec<Span>, AllocError>
-    ensures spans { IfOk result (λ spans. map extent spans.items ≡ expected_spans (map extent items.now) outcome.now) }
-    ensures few { IfOk result (λ spans. length spans.items < 2 ^ 32) }
-{
-    if !are_items_expected(outcome) {
-        return Ok(Vec::new(alloc));
-    }
-    listed_items(alloc, items, first_numbers(&outcome.expected, MAX_ITEMS))
+/// The items of a grammar file: the span and the rule of each.
+#[derive(Clone, Copy)]
+pub(crate) struct Items<'a> {
+    pub(crate) file: &'a [u8],
+    pub(crate) spans: &'a [Span],
+    pub(crate) rules: &'a [u32],
 }
 
-// Returns the spans of the items with these numbers.
-fn listed_items(alloc: Global, items: &[Span], numbers: &[u32]) -> Result<Vec<Span>, AllocError>
-    ensures spans { IfOk result (λ spans. map extent spans.items ≡ numbered_spans (map extent items.now) numbers.now) }
-    ensures count { IfOk result (λ spans. length spans.items ≡ length numbers.now) }
+/// Returns the items of the furthest failure. A class or dot is named after its rule if the set has the rule.
+pub(crate) fn items_of_failure(
+    alloc: Global,
+    items: &Items<'_>,
+    named: &RuleSet,
+    outcome: &Outcome,
+) -> Result<Vec<ExpectedItem>, AllocError>
+    ensures items { IfOk result (λ list. map fact_of list.items ≡ map (item_numbered items.now.file.now
+        (map extent items.now.spans.now) items.now.rules.now (has_rule named.now))
+        (take 65536 outcome.now.expected.items)) }
+    ensures few { IfOk result (λ list. length list.items < 2 ^ 32) }
 {
-    let mut spans = Vec::new(alloc);
+    listed_items(
+        alloc,
+        items,
+        named,
+        first_numbers(&outcome.expected, MAX_ITEMS),
+    )
+}
+
+// Returns the items with these numbers.
+fn listed_items(
+    alloc: Global,
+    items: &Items<'_>,
+    named: &RuleSet,
+    numbers: &[u32],
+) -> Result<Vec<ExpectedItem>, AllocError>
+    ensures items { IfOk result (λ list. map fact_of list.items ≡ map (item_numbered items.now.file.now
+        (map extent items.now.spans.now) items.now.rules.now (has_rule named.now)) numbers.now) }
+    ensures count { IfOk result (λ list. length list.items ≡ length numbers.now) }
+{
+    let mut list = Vec::new(alloc);
     'numbers: for number in numbers {
-        spans.push(span_at(items, *number))?;
+        list.push(item_at(items, named, *number))?;
     }
-    Ok(spans)
+    Ok(list)
+}
+
+// Returns the item with a number.
+fn item_at(items: &Items<'_>, named: &RuleSet, number: u32) -> ExpectedItem
+    ensures { fact_of result ≡ item_numbered items.now.file.now (map extent items.now.spans.now) items.now.rules.now
+        (has_rule named.now) number }
+{
+    let span = span_at(items.spans, number);
+    let rule = items.rules.get(number as usize).copied();
+    ExpectedItem {
+        span,
+        rule,
+        is_named: has_known_rule(named, rule) && is_class_or_dot(items.file, span),
+    }
+}
+
+// Returns whether a set has the rule of an item, if the rule is known.
+fn has_known_rule(set: &RuleSet, rule: Option<u32>) -> bool
+    ensures { result ≡ rule_passes (has_rule set.now) rule }
+{
+    match rule {
+        Some(rule) => set.contains(rule),
+        None => false,
+    }
+}
+
+// Returns whether the item with this span is a class or a dot.
+fn is_class_or_dot(file: &[u8], span: Span) -> bool
+    ensures { result ≡ is_class_or_dot file.now (extent span) }
+{
+    match file.get(span.start as usize) {
+        Some(byte) => *byte == b'[' || *byte == b'.',
+        None => false,
+    }
 }
 
 // Returns the span of an item; an empty one if there is no item with this number.
@@ -99,18 +154,18 @@ fn first_numbers(numbers: &[u32], most: usize) -> &[u32]
     &numbers[..most]
 }
 
-/// Returns items with these spans, without names.
-pub(crate) fn items_at(alloc: Global, spans: &[Span]) -> Result<Vec<Item<'static>>, AllocError>
-    ensures spans { IfOk result (λ items. map (λ item. extent item.span) items.items ≡ map extent spans.now) }
-    ensures plain { IfOk result (λ items. All has_no_names items.items) }
+/// Returns items with these spans, whose rules aren't known.
+pub(crate) fn unnamed_items(alloc: Global, spans: &[Span]) -> Result<Vec<ExpectedItem>, AllocError>
+    ensures items { IfOk result (λ list. map fact_of list.items ≡ map (λ span. unnamed_fact (extent span)) spans.now) }
+    ensures count { IfOk result (λ list. length list.items ≡ length spans.now) }
 {
-    let mut items = Vec::new(alloc);
+    let mut list = Vec::new(alloc);
     'spans: for span in spans {
-        items.push(Item {
+        list.push(ExpectedItem {
             span: *span,
             rule: None,
-            name: None,
+            is_named: false,
         })?;
     }
-    Ok(items)
+    Ok(list)
 }

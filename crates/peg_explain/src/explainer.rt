@@ -1,22 +1,31 @@
 //! Where texts don't match a grammar file.
-ghost use Rattle.std.specs.Prelude.{◌≡◌, ◌^◌, ◌≤◌, ◌<◌, ◌↔◌, ℕ, List, IfOk, IfSome, IsErrOf, None, OnOk, Some};
-ghost use Rattle.std.specs.Prelude.{length, map, option_map};
-ghost use Rattle.peg_bytes.specs.Extent.{Extent, extent};
+ghost use Rattle.std.specs.Prelude.{◌≡◌, ◌^◌, ◌≤◌, ◌<◌, ◌↔◌, ℕ, false, List, IfOk, IfSome, IsErrOf, None, OnOk, Some};
+ghost use Rattle.std.specs.Prelude.{length, map, min, option_map};
+ghost use Rattle.peg_blame.specs.BlameOutcome.{IsBlameOutcome};
+ghost use Rattle.peg_blame.specs.BlameParser.{IsBlameParserOf};
+ghost use Rattle.peg_diagnostics.specs.Blame.{StartHasBlame};
+ghost use Rattle.peg_diagnostics.specs.Diagnostic.{diagnostic_rules};
 ghost use Rattle.peg_grammar.specs.Limits.{max_text_bytes};
 ghost use Rattle.peg_parser.specs.Parser.{parser_rules, start_named};
+ghost use Rattle.peg_parser.specs.StepLimits.{TakesMoreSteps};
+ghost use Rattle.peg_semantics.specs.Record.{Record};
 ghost use Rattle.peg_semantics.specs.Rules.{Rule};
 ghost use Rattle.peg_semantics.specs.Starts.{start_name};
+ghost use Rattle.peg_tree.specs.Selected.{has_rule};
 ghost use Rattle.peg_explain.specs.Explanations.{ExplainingStaysWithin, ExplainingTakesMoreSteps, HasMismatch};
-ghost use Rattle.peg_explain.specs.Explanations.{IsExplanation, IsMismatchIn, IsMismatchMessage, expected_spans};
+ghost use Rattle.peg_explain.specs.Explanations.{IsExplanation, IsMismatchIn, IsMismatchMessage, ItemFacts};
+ghost use Rattle.peg_explain.specs.Explanations.{expected_items, fact_of, facts_by_blame, gives_name, message_item_of};
+ghost use Rattle.peg_explain.specs.Explanations.{rule_name, shown_item};
+ghost use Rattle.peg_explain.specs.Reports.{is_whole_match, named_position};
 
-use crate::expected::{items_at, spans_of_items, spans_of_terminals};
-use crate::mismatch::Mismatch;
-use crate::outcomes::{is_end_expected, is_whole_match, named_position};
+use crate::expected::{Items, items_of_failure, spans_of_terminals, unnamed_items};
+use crate::mismatch::{ExpectedItem, Mismatch};
+use crate::outcomes::{are_items_expected, is_end_expected, is_whole_match, named_position};
+use crate::style::ItemStyle;
 use peg_blame::{BlameFault, BlameParser};
-use peg_bytes::Span;
-use peg_messages::Failure;
+use peg_messages::{Failure, Item};
 use peg_parser::{ParseFault, ParseOptions, Parser};
-use peg_tree::Outcome;
+use peg_tree::{Outcome, RuleSet};
 use std::alloc::{AllocError, Global};
 
 /// Explains where texts don't match a grammar file.
@@ -25,12 +34,14 @@ pub struct Explainer<'a> {
     file: &'a [u8],
     parser: &'a Parser,
     blames: Option<BlameParser>,
+    style: ItemStyle,
 }
 
 impl<'a> Explainer<'a> {
     ghost use Rattle.peg_explain.specs.Explainers.{IsExplainerOf};
 
-    /// Returns the explainer of a grammar file and its parser. The only error is a failed allocation.
+    /// Returns the explainer of a grammar file and its parser, whose messages have a style. The only error is a failed
+    /// allocation.
     ///
     /// If the diagnostic grammar is over a limit that the grammar meets, messages name the furthest failure of
     /// `Parser::parse`, which counts terminals in predicates, too.
@@ -38,20 +49,24 @@ impl<'a> Explainer<'a> {
         alloc: Global,
         file: &'a [u8],
         parser: &'a Parser,
+        style: ItemStyle,
     ) -> Result<Explainer<'a>, AllocError>
-        ensures { IfOk result (IsExplainerOf file.now (parser_rules parser.now)) }
+        ensures made { IfOk result (IsExplainerOf file.now (parser_rules parser.now)) }
+        ensures styled { IfOk result (λ explainer. explainer.style ≡ style) }
     {
         match BlameParser::new(alloc, parser.grammar()) {
             Ok(blames) => Ok(Explainer {
                 file,
                 parser,
                 blames: Some(blames),
+                style,
             }),
             Err(BlameFault::Memory) => Err(AllocError),
             Err(_) => Ok(Explainer {
                 file,
                 parser,
                 blames: None,
+                style,
             }),
         }
     }
@@ -63,13 +78,13 @@ impl<'a> Explainer<'a> {
     /// the text is expected, too, if the match ended at that offset, and alone if it ended after it.
     ///
     /// The errors are those of `Parser::parse`. The steps are those of the diagnostic grammar, if it is within the limits.
-    /// Of many items the first 65,536 are looked at.
+    /// Of many items the first 65,536 are looked at. A text that doesn't match is parsed again if the style uses names.
     ///
     /// # Example
     ///
     /// ```
     /// let parser = Parser::from_file(alloc, file)?;
-    /// let explainer = Explainer::new(alloc, file, &parser)?;
+    /// let explainer = Explainer::new(alloc, file, &parser, ItemStyle::from_flags(false, false))?;
     /// let message = explainer.explain(alloc, b"a.txt", text, &options)?;
     /// ```
     pub fn explain(
@@ -87,7 +102,7 @@ impl<'a> Explainer<'a> {
         ensures short { OnOk result (length text.now ≤ max_text_bytes) }
         ensures explanation { (file : List ℕ) (rules : List Rule) → IsExplainerOf file rules self.now
             → IfOk result (λ message. IfSome (start_name rules (start_named options.now))
-            (λ start. IsExplanation file rules name.now text.now start (option_map (λ bytes. bytes.items) message))) }
+            (λ start. IsExplanation file rules self.now.style name.now text.now start (option_map (λ bytes. bytes.items) message))) }
         ensures limited { (file : List ℕ) (rules : List Rule) → IsExplainerOf file rules self.now
             → IsErrOf result ParseFault.StepLimit
             → ExplainingTakesMoreSteps rules text.now (start_named options.now) options.now.steps }
@@ -117,7 +132,7 @@ impl<'a> Explainer<'a> {
         ensures short { OnOk result (length text.now ≤ max_text_bytes) }
         ensures mismatch { (file : List ℕ) (rules : List Rule) → IsExplainerOf file rules self.now
             → IfOk result (λ mismatch. IfSome (start_name rules (start_named options.now))
-            (λ start. IsMismatchIn rules text.now start mismatch)) }
+            (λ start. IsMismatchIn file rules self.now.style text.now start mismatch)) }
         ensures in_text { IfOk result (λ found. IfSome found (λ mismatch. mismatch.at ≤ length text.now)) }
         ensures few { IfOk result (λ found. IfSome found (λ mismatch. length mismatch.expected.items < 2 ^ 32)) }
         ensures limited { (file : List ℕ) (rules : List Rule) → IsExplainerOf file rules self.now
@@ -130,15 +145,80 @@ impl<'a> Explainer<'a> {
         match &self.blames {
             Some(blames) => {
                 let answer = blames.blame(alloc, text, options)?;
-                let spans = spans_of_items(alloc, blames.items(), &answer.outcome)?;
-                Ok(mismatch_in(text, &answer.outcome, spans))
+                let expected = self.items_by_blame(alloc, blames, text, options, &answer.outcome)?;
+                Ok(mismatch_in(text, &answer.outcome, expected))
             }
             None => {
                 let answer = self.parser.parse(alloc, text, options)?;
                 let spans = spans_of_terminals(alloc, self.parser, &answer.outcome)?;
-                Ok(mismatch_in(text, &answer.outcome, spans))
+                let expected = unnamed_items(alloc, &spans)?;
+                Ok(mismatch_in(text, &answer.outcome, expected))
             }
         }
+    }
+
+    // Returns the items that are expected by a blame; none if the text matches as a whole.
+    fn items_by_blame(
+        &self,
+        alloc: Global,
+        blames: &BlameParser,
+        text: &[u8],
+        options: &ParseOptions<'_>,
+        outcome: &Outcome,
+    ) -> Result<Vec<ExpectedItem>, ParseFault>
+        requires short { length text.now ≤ max_text_bytes }
+        ensures items { (rules : List Rule) (start : List ℕ) → IsBlameParserOf rules blames.now
+            → start_name rules (start_named options.now) ≡ Some start
+            → (is : IsBlameOutcome rules text.now start outcome.now)
+            → is_whole_match outcome.now.result (length text.now) ≡ false
+            → IfOk result (λ items. map fact_of items.items ≡ expected_items self.now.file.now self.now.style
+            (facts_by_blame rules is.blame) (min (named_position outcome.now.result outcome.now.far) (length text.now))
+            outcome.now) }
+        ensures few { IfOk result (λ items. length items.items < 2 ^ 32) }
+        ensures no_start { (rules : List Rule) → IsBlameParserOf rules blames.now
+            → IsErrOf result ParseFault.NoSuchStart → start_name rules (start_named options.now) ≡ None }
+        ensures long { (rules : List Rule) (start : List ℕ) → IsBlameParserOf rules blames.now
+            → start_name rules (start_named options.now) ≡ Some start
+            → IsErrOf result ParseFault.TextTooLong → max_text_bytes < length text.now }
+        ensures limited { (rules : List Rule) → IsBlameParserOf rules blames.now → IsErrOf result ParseFault.StepLimit
+            → TakesMoreSteps (diagnostic_rules rules) text.now (start_named options.now) options.now.steps }
+    {
+        if is_whole_match(outcome, text.len()) || !are_items_expected(outcome) {
+            return Ok(Vec::new(alloc));
+        }
+        let named = self.named_rules(alloc, blames, text, options, position_in(text, outcome))?;
+        let items = Items {
+            file: self.file,
+            spans: blames.items(),
+            rules: blames.item_rules(),
+        };
+        Ok(items_of_failure(alloc, &items, &named, outcome)?)
+    }
+
+    // Returns the rules that items may be named after at a position.
+    fn named_rules(
+        &self,
+        alloc: Global,
+        blames: &BlameParser,
+        text: &[u8],
+        options: &ParseOptions<'_>,
+        at: u32,
+    ) -> Result<RuleSet, ParseFault>
+        ensures named { (rules : List Rule) (start : List ℕ) (blame : Record) → IsBlameParserOf rules blames.now
+            → start_name rules (start_named options.now) ≡ Some start → StartHasBlame rules text.now start blame
+            → IfOk result (λ set. (rule : ℕ) → has_rule set rule ≡ gives_name self.now.style blame.calls at rule) }
+        ensures no_start { (rules : List Rule) → IsBlameParserOf rules blames.now
+            → IsErrOf result ParseFault.NoSuchStart → start_name rules (start_named options.now) ≡ None }
+        ensures long { (rules : List Rule) (start : List ℕ) → IsBlameParserOf rules blames.now
+            → start_name rules (start_named options.now) ≡ Some start
+            → IsErrOf result ParseFault.TextTooLong → max_text_bytes < length text.now }
+        ensures limited { (rules : List Rule) → IsBlameParserOf rules blames.now → IsErrOf result ParseFault.StepLimit
+            → TakesMoreSteps (diagnostic_rules rules) text.now (start_named options.now) options.now.steps }
+    {
+        if !self.style.uses_names {
+            return Ok(RuleSet::none(alloc, 0)?);
+        }
+        blames.called_rules(alloc, text, options, at)
     }
 
     /// Returns the message for a mismatch in a text. The name begins the message. The only error is a failed allocation.
@@ -153,9 +233,9 @@ impl<'a> Explainer<'a> {
         requires in_text { mismatch.now.at ≤ length text.now }
         requires few { length mismatch.now.expected.items < 2 ^ 32 }
         ensures { (file : List ℕ) (rules : List Rule) → IsExplainerOf file rules self.now
-            → IfOk result (λ message. IsMismatchMessage file name.now text.now mismatch.now message.items) }
+            → IfOk result (λ message. IsMismatchMessage file rules self.now.style name.now text.now mismatch.now message.items) }
     {
-        let items = items_at(alloc, &mismatch.expected)?;
+        let items = self.message_items(alloc, &mismatch.expected)?;
         let failure = Failure {
             name,
             text,
@@ -168,14 +248,66 @@ impl<'a> Explainer<'a> {
         failure.write(alloc, &mut message)?;
         Ok(message)
     }
+
+    // Returns items as a message has them.
+    fn message_items(
+        &self,
+        alloc: Global,
+        expected: &[ExpectedItem],
+    ) -> Result<Vec<Item<'_>>, AllocError>
+        ensures items { IfOk result (λ items. map message_item_of items.items
+            ≡ map (shown_item (parser_rules self.now.parser.now) self.now.style) expected.now) }
+        ensures count { IfOk result (λ items. length items.items ≡ length expected.now) }
+    {
+        let mut items = Vec::new(alloc);
+        'expected: for item in expected {
+            items.push(self.message_item(item))?;
+        }
+        Ok(items)
+    }
+
+    // Returns an item as a message has it.
+    fn message_item(&self, item: &ExpectedItem) -> Item<'_>
+        ensures { message_item_of result ≡ shown_item (parser_rules self.now.parser.now) self.now.style item.now }
+    {
+        let rule = self.rule_name(item.rule);
+        let shows_rule = self.style.shows_rules && !item.is_named;
+        Item {
+            span: item.span,
+            rule: if shows_rule { rule } else { None },
+            name: if item.is_named { rule } else { None },
+        }
+    }
+
+    // Returns the name of the rule with a number, if there is one.
+    fn rule_name(&self, rule: Option<u32>) -> Option<&str>
+        ensures { option_map (λ name. name.now) result ≡ rule_name (parser_rules self.now.parser.now) rule }
+    {
+        let grammar = self.parser.grammar();
+        match rule {
+            Some(number) if number < grammar.rules() => Some(grammar.rule_name(number)),
+            _ => None,
+        }
+    }
 }
 
-// Returns the mismatch of an outcome, where the expected items have these spans.
-fn mismatch_in(text: &[u8], outcome: &Outcome, expected: Vec<Span>) -> Option<Mismatch>
+// Returns the position that a message names, which is within the text.
+fn position_in(text: &[u8], outcome: &Outcome) -> u32
+    requires { length text.now ≤ max_text_bytes }
+    ensures { result ≡ min (named_position outcome.now.result outcome.now.far) (length text.now) }
+{
+    named_position(outcome).min(text.len() as u32)
+}
+
+// Returns the mismatch of an outcome, where these items are expected.
+fn mismatch_in(text: &[u8], outcome: &Outcome, expected: Vec<ExpectedItem>) -> Option<Mismatch>
     requires short { length text.now ≤ max_text_bytes }
     requires few { length expected.items < 2 ^ 32 }
-    ensures mismatch { (all : List Extent) → map extent expected.items ≡ expected_spans all outcome.now
-        → HasMismatch all text.now outcome.now result }
+    ensures mismatch { (file : List ℕ) (facts : ItemFacts) (style : ItemStyle)
+        → (is_whole_match outcome.now.result (length text.now) ≡ false → map fact_of expected.items
+        ≡ expected_items file style facts (min (named_position outcome.now.result outcome.now.far) (length text.now))
+        outcome.now)
+        → HasMismatch file style facts text.now outcome.now result }
     ensures in_text { IfSome result (λ mismatch. mismatch.at ≤ length text.now) }
     ensures few { IfSome result (λ mismatch. length mismatch.expected.items < 2 ^ 32) }
 {
@@ -183,7 +315,7 @@ fn mismatch_in(text: &[u8], outcome: &Outcome, expected: Vec<Span>) -> Option<Mi
         return None;
     }
     Some(Mismatch {
-        at: named_position(outcome).min(text.len() as u32),
+        at: position_in(text, outcome),
         expected,
         is_end_expected: is_end_expected(outcome),
     })

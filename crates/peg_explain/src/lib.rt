@@ -6,7 +6,9 @@ mod explainer;
 mod mismatch;
 mod outcomes;
 mod refusals;
+mod style;
 
 pub use explainer::Explainer;
-pub use mismatch::Mismatch;
+pub use mismatch::{ExpectedItem, Mismatch};
 pub use refusals::refusal_message;
+pub use style::ItemStyle;

@@ -6,9 +6,19 @@ use peg_bytes::Span;
 pub struct Mismatch {
     /// The offset in the text, at most its length.
     pub at: u32,
-    /// The spans in the grammar file of the items that are expected there, in ascending order of the items. Of many items
-    /// these are the first 65,536.
-    pub expected: Vec<Span>,
+    /// The items that are expected there, in ascending order. Of many items these are the first 65,536.
+    pub expected: Vec<ExpectedItem>,
     /// Whether the end of the text is expected there, too.
     pub is_end_expected: bool,
+}
+
+/// An item that is expected at the offset of a mismatch.
+#[derive(Clone, Copy, Debug, PartialEq, Eq)]
+pub struct ExpectedItem {
+    /// The bytes of the item in the grammar file.
+    pub span: Span,
+    /// The number of the rule that the item is in. It isn't known if the diagnostic grammar is over a limit.
+    pub rule: Option<u32>,
+    /// Whether a message writes the item as the name of its rule.
+    pub is_named: bool,
 }

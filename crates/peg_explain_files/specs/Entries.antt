@@ -1,6 +1,7 @@
 -- What is printed of texts, and the verdict.
 use Rattle.std.specs.Prelude.{◌≡◌, ℕ, Bool, ◌==◌, if◌then◌else◌, List, [], ◌∷◌, ◌++◌, Option, None, Some, codes}
 use Rattle.std.specs.List.{list_any}
+use Rattle.peg_explain.specs.declared.style.ItemStyle.{ItemStyle}
 use Rattle.peg_io.specs.NamedFile.{NamedFile}
 use Rattle.peg_semantics.specs.Rules.{Rule}
 use Rattle.peg_explain_files.specs.TextReports.{IsReport, IsReportOf}
@@ -15,10 +16,10 @@ abbrev pub entry_name : Entry → List ℕ
 entry_name entry = entry.name.now
 
 -- what is reported of a text is that of its file
-abbrev pub IsEntryOf : (file_at : List ℕ → NamedFile) → (file : List ℕ) → List Rule → (start : Option (List ℕ))
+abbrev pub IsEntryOf : (file_at : List ℕ → NamedFile) → (file : List ℕ) → List Rule → ItemStyle → (start : Option (List ℕ))
     → (memo : ℕ) → (steps : Option ℕ) → Entry → Type 0
-IsEntryOf file_at file rules start memo steps entry =
-    IsReportOf (IsReport file rules start memo steps entry.name.now) (file_at entry.name.now) entry.report
+IsEntryOf file_at file rules style start memo steps entry =
+    IsReportOf (IsReport file rules style start memo steps entry.name.now) (file_at entry.name.now) entry.report
 
 -- the entry of a list that has no names
 abbrev pub AreFaultEntries : (list : List ℕ) → Option TextReport → List Entry → Type 0

@@ -43,7 +43,7 @@ pub record IsReportOfTexts (question : Question) (file_at : List ℕ → NamedFi
   pub entries : List Entry
   pub added : List Entry
   pub names : map entry_name entries ≡ question.texts ++ listed_names question.end list
-  pub reports : All (IsEntryOf file_at file rules question.start question.memo question.steps) entries
+  pub reports : All (IsEntryOf file_at file rules question.style question.start question.memo question.steps) entries
   pub of_list : AreFaultEntries (unwrap_or question.list []) (list_fault list) added
   pub printed : IsReportOfEntries (entries ++ added) report
 

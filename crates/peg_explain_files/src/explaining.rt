@@ -34,7 +34,7 @@ use std::alloc::{AllocError, Global};
 /// # Example
 ///
 /// ```
-/// let query = Query { grammar: "ab.peg", texts: &texts, list: None, end: NameEnd::LineEnd, options };
+/// let query = Query { grammar: "ab.peg", texts: &texts, list: None, end: NameEnd::LineEnd, options, style };
 /// let report = explain_files(alloc, &files, &mut input, &query)?;
 /// ```
 pub fn explain_files<O: Opener, I: Source>(
@@ -159,7 +159,7 @@ fn explain_texts<O: Opener>(
         → IfOk result (IsReportOfTexts (question_of query.now) (O.file_at files.now) file.now (parser_rules parser.now)
         list.now) }
 {
-    let explainer = Explainer::new(alloc, file, parser)?;
+    let explainer = Explainer::new(alloc, file, parser, query.style)?;
     let mut names = Vec::new(alloc);
     push_texts(query.texts, &mut names)?;
     let fault = push_listed(list, query.end, &mut names)?;
@@ -197,7 +197,8 @@ fn entries_of<'a, O: Opener>(
     ensures names { IfOk result (λ entries. map entry_name entries.items ≡ map (λ name. name.now) names.now) }
     ensures reports { (file : List ℕ) (rules : List Rule) (from : List ℕ) → IsExplainerOf file rules explainer.now
         → start_name rules (start_named options.now) ≡ Some from → IfOk result (λ entries.
-        All (IsEntryOf (O.file_at files.now) file rules (start_named options.now) options.now.memo options.now.steps)
+        All (IsEntryOf (O.file_at files.now) file rules explainer.now.style (start_named options.now) options.now.memo
+        options.now.steps)
         entries.items) }
 {
     let mut entries = Vec::new(alloc);

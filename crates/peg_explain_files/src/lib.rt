@@ -10,5 +10,6 @@ mod report;
 mod reports;
 
 pub use explaining::explain_files;
+pub use peg_explain::ItemStyle;
 pub use query::{NameEnd, Query};
 pub use report::{Report, Verdict};

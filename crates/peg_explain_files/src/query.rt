@@ -1,4 +1,5 @@
-//! What is asked: a grammar file, texts, and how they are parsed.
+//! What is asked: a grammar file, texts, how they are parsed, and how messages are written.
+use peg_explain::ItemStyle;
 use peg_parser::ParseOptions;
 
 /// Which byte ends a name in a list of names.
@@ -49,4 +50,6 @@ pub struct Query<'a> {
     pub end: NameEnd,
     /// How the texts are parsed.
     pub options: ParseOptions<'a>,
+    /// How messages write the items that are expected.
+    pub style: ItemStyle,
 }

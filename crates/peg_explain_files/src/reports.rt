@@ -42,7 +42,7 @@ pub(crate) fn report_of<O: Opener>(
 ) -> Result<TextReport, AllocError>
     ensures { (file : List ℕ) (rules : List Rule) → IsExplainerOf file rules explainer.now
         → (from : List ℕ) → start_name rules (start_named options.now) ≡ Some from → IfOk result
-        (IsReportOf (IsReport file rules (start_named options.now) options.now.memo options.now.steps name.now)
+        (IsReportOf (IsReport file rules explainer.now.style (start_named options.now) options.now.memo options.now.steps name.now)
         (O.file_at files.now name.now)) }
 {
     match content_of(alloc, files, name, MAX_TEXT_BYTES + 1)? {
@@ -62,7 +62,7 @@ fn report_of_text(
 ) -> Result<TextReport, AllocError>
     ensures { (file : List ℕ) (rules : List Rule) → IsExplainerOf file rules explainer.now
         → (from : List ℕ) → start_name rules (start_named options.now) ≡ Some from → IfOk result
-        (IsReport file rules (start_named options.now) options.now.memo options.now.steps name.now text.now) }
+        (IsReport file rules explainer.now.style (start_named options.now) options.now.memo options.now.steps name.now text.now) }
 {
     match explainer.explain(alloc, name.as_bytes(), text, options) {
         Ok(None) => Ok(TextReport::Matches),

@@ -1,5 +1,5 @@
 //! Messages for texts that don't match a grammar file.
-use peg_explain::Explainer;
+use peg_explain::{Explainer, ItemStyle};
 use peg_parser::{ParseFault, ParseOptions, Parser};
 use std::alloc::Global;
 use std::process::Abort;
@@ -27,7 +27,7 @@ fn assert_message(
     message: Option<&str>,
 ) -> Result<(), Fail> {
     let parser = Parser::from_file(alloc, file)?;
-    let explainer = Explainer::new(alloc, file, &parser)?;
+    let explainer = Explainer::new(alloc, file, &parser, ItemStyle::from_flags(false, false))?;
     match explainer.explain(alloc, b"t", text, &options(None))? {
         Some(written) => {
             let wanted = message.ok_or("a message for a text that matches")?;
@@ -86,7 +86,7 @@ fn a_failure_after_the_match_is_named(rt: HostRuntime) -> Result<(), Fail> {
 fn quiet_copies_are_no_starts(rt: HostRuntime) -> Result<(), Fail> {
     let alloc = rt.alloc();
     let parser = Parser::from_file(alloc, NAMES)?;
-    let explainer = Explainer::new(alloc, NAMES, &parser)?;
+    let explainer = Explainer::new(alloc, NAMES, &parser, ItemStyle::from_flags(false, false))?;
     let missing = explainer.explain(alloc, b"t", b"ab", &options(Some("I!")));
     assert!(rt; matches!(missing, Err(ParseFault::NoSuchStart)));
     let part = explainer.explain(alloc, b"t", b"ab", &options(Some("I")))?;

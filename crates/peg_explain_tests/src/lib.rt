@@ -4,4 +4,6 @@
 #[cfg(test)]
 mod explanations;
 #[cfg(test)]
+mod items;
+#[cfg(test)]
 mod refusals;

@@ -7,7 +7,7 @@ use Rattle.peg_grammar.specs.Limits.{max_text_bytes}
 use Rattle.peg_parser.specs.Parser.{parser_rules}
 use Rattle.peg_parser.specs.declared.parser.ParseFault.{ParseFault}
 use Rattle.peg_parser.specs.declared.parser.ParseFault.TheVariants as fault
-use Rattle.peg_handle.specs.Explanations.{Explains}
+use Rattle.peg_handle.specs.Explanations.{Explains, named_style}
 use Rattle.peg_handle.specs.declared.content.Explanation.{Explanation}
 use Rattle.peg_handle.specs.declared.content.GrammarFile.{GrammarFile}
 
@@ -29,12 +29,17 @@ pub passed-on : {V : Type 0} (P : ParseFault → Type 0) (result : Result V Pars
 passed-on P (Ok x) why is holds = tt
 passed-on P (Err other) why is holds = subst P (sym is) holds
 
+-- the mismatch in a text from a start, in the style of a handle
+abbrev pub IsMismatchOf : GrammarFile → (text : List ℕ) → Option Mismatch → (from : List ℕ) → Type 0
+IsMismatchOf grammar text mismatch from =
+    IsMismatchIn grammar.bytes.items (parser_rules grammar.parser) named_style text from mismatch
+
 -- a mismatch and what shows it are an explanation
 pub explains : (grammar : GrammarFile) (name text : List ℕ) (found : Option (List ℕ)) (mismatch : Option Mismatch)
     (explanation : Option Explanation)
-    → IfSome found (λ from. IsMismatchIn (parser_rules grammar.parser) text from mismatch)
-    → Explains grammar.bytes.items name text mismatch explanation
-    → IfSome found (λ from. (m : Option Mismatch) × IsMismatchIn (parser_rules grammar.parser) text from m
-    × Explains grammar.bytes.items name text m explanation)
+    → IfSome found (IsMismatchOf grammar text mismatch)
+    → Explains grammar.bytes.items (parser_rules grammar.parser) name text mismatch explanation
+    → IfSome found (λ from. (m : Option Mismatch) × IsMismatchOf grammar text m from
+    × Explains grammar.bytes.items (parser_rules grammar.parser) name text m explanation)
 explains grammar name text None mismatch explanation is shows = tt
 explains grammar name text (Some from) mismatch explanation is shows = (mismatch, is, shows)

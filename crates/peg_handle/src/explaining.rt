@@ -6,7 +6,7 @@ ghost use Rattle.peg_explain.specs.Explainers.{IsExplainerOf};
 ghost use Rattle.peg_explain.specs.Explanations.{ExplainingStaysWithin, ExplainingTakesMoreSteps};
 ghost use Rattle.peg_grammar.specs.Limits.{max_text_bytes};
 ghost use Rattle.peg_handle.specs.Answers.{file_span};
-ghost use Rattle.peg_handle.specs.Explanations.{IsExplanationOf, ShowsMismatch};
+ghost use Rattle.peg_handle.specs.Explanations.{IsExplanationOf, ShowsMismatch, named_style};
 ghost use Rattle.peg_handle.specs.Starts.{start_of_bytes, step_limit};
 ghost use Rattle.peg_parser.specs.Parser.{parser_rules, start_named};
 ghost use Rattle.peg_semantics.specs.Rules.{Rule};
@@ -14,8 +14,7 @@ ghost use Rattle.peg_semantics.specs.Starts.{start_name};
 
 use crate::content::{Explanation, FileSpan, GrammarFile};
 use crate::start::{limit_from, start_from};
-use peg_bytes::Span;
-use peg_explain::{Explainer, Mismatch};
+use peg_explain::{ExpectedItem, Explainer, ItemStyle, Mismatch};
 use peg_grammar::MAX_TEXT_BYTES;
 use peg_parser::{ParseFault, ParseOptions};
 use std::alloc::{AllocError, Global};
@@ -72,7 +71,8 @@ fn explain_from(
     ensures enough { options.now.memo ≡ 0 → OnOk result (ExplainingStaysWithin (parser_rules grammar.now.parser) text.now
         (start_named options.now) options.now.steps) }
 {
-    let explainer = Explainer::new(alloc, &grammar.bytes, &grammar.parser)?;
+    let style = ItemStyle::from_flags(false, false);
+    let explainer = Explainer::new(alloc, &grammar.bytes, &grammar.parser, style)?;
     match explainer.mismatch(alloc, text, options)? {
         Some(mismatch) => {
             let explanation = explanation_of(alloc, &explainer, name, text, &mismatch)?;
@@ -93,8 +93,9 @@ fn explanation_of(
     requires short { length text.now ≤ max_text_bytes }
     requires in_text { mismatch.now.at ≤ length text.now }
     requires few { length mismatch.now.expected.items < 2 ^ 32 }
+    requires styled { explainer.now.style ≡ named_style }
     ensures { (file : List ℕ) (rules : List Rule) → IsExplainerOf file rules explainer.now
-        → IfOk result (ShowsMismatch file name.now text.now mismatch.now) }
+        → IfOk result (ShowsMismatch file rules name.now text.now mismatch.now) }
 {
     let message = explainer.message(alloc, name, text, mismatch)?;
     let expected = file_spans(alloc, &mismatch.expected)?;
@@ -106,15 +107,15 @@ fn explanation_of(
     })
 }
 
-// Returns spans of a grammar file, for C.
-fn file_spans(alloc: Global, spans: &[Span]) -> Result<Vec<FileSpan>, AllocError>
-    ensures { IfOk result (λ copied. copied.items ≡ map (λ span. file_span (extent span)) spans.now) }
+// Returns the spans of items in a grammar file, for C.
+fn file_spans(alloc: Global, items: &[ExpectedItem]) -> Result<Vec<FileSpan>, AllocError>
+    ensures { IfOk result (λ copied. copied.items ≡ map (λ item. file_span (extent item.span)) items.now) }
 {
     let mut copied = Vec::new(alloc);
-    'spans: for span in spans {
+    'items: for item in items {
         copied.push(FileSpan {
-            start: span.start,
-            end: span.end,
+            start: item.span.start,
+            end: item.span.end,
         })?;
     }
     Ok(copied)

@@ -138,7 +138,7 @@ reads_none (Check g) = λ parse. parse
 reads_none (Code g) = λ parse. parse
 reads_none (Lint g start proved) = λ parse. parse
 reads_none (Profile g t start memo steps) = tt
-reads_none (Explain g texts files_from null start memo steps quiet) = tt
+reads_none (Explain g texts files_from null start memo steps rules terminals quiet) = tt
 reads_none (Parse g t start memo steps all rows no_tree show hide text) = tt
 
 pub one_file-reads_none : (words : Words) (request : ToolRequest) (task : ToolTask) (g : List ℕ)

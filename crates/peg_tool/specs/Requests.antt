@@ -1,5 +1,6 @@
 -- What the arguments of the program request.
 use Rattle.std.specs.Prelude.{◌≡◌, true, ℕ, List, map, option_map, string_bytes}
+use Rattle.peg_explain.specs.Styles.{style_of}
 use Rattle.peg_explain_files.specs.Names.{IsInput, name_end}
 use Rattle.peg_explain_files.specs.Questions.{Question}
 use Rattle.peg_io.specs.NamedFile.{NamedFile, Missing, is_readable}
@@ -32,7 +33,7 @@ requested (Lint g start proved) =
     FileRequest (LintTask (option_map string_bytes start) (selection_of proved)) (string_bytes g)
 requested (Profile g t start memo steps) =
     FilesRequest (ProfileTask (option_map string_bytes start) memo steps) (string_bytes g) (string_bytes t)
-requested (Explain g texts files_from null start memo steps quiet) =
+requested (Explain g texts files_from null start memo steps rules terminals quiet) =
     ExplainRequest record {
       grammar = string_bytes g;
       texts = map string_bytes texts.items;
@@ -41,6 +42,7 @@ requested (Explain g texts files_from null start memo steps quiet) =
       start = option_map string_bytes start;
       memo = memo;
       steps = steps;
+      style = style_of rules terminals;
     } (printing_of quiet)
 requested (Parse g t start memo steps all rows no_tree show hide text) =
     FilesRequest (ParseTask (option_map string_bytes start) memo steps all (form_from_options rows no_tree)

@@ -22,7 +22,7 @@ pub use explaining::Printing;
 pub use joined::run_joined;
 pub use nodes::Nodes;
 pub use peg_cli::{Words, WordsFault, read_words};
-pub use peg_explain_files::{NameEnd, Query};
+pub use peg_explain_files::{ItemStyle, NameEnd, Query};
 pub use peg_io::{Device, DeviceFault, FileSystem, OpenFault, Opener, Sink, Source, split};
 pub use peg_json::{
     Fault, Status, answer_json, code_json, lint_json, profile_json, refusal_json, table_json,

@@ -9,7 +9,7 @@ use crate::command::Command;
 use crate::explaining::Printing;
 use crate::nodes::Nodes;
 use peg_cli::Words;
-use peg_explain_files::{NameEnd, Query};
+use peg_explain_files::{ItemStyle, NameEnd, Query};
 use peg_lint::Selection;
 use peg_parser::ParseOptions;
 
@@ -89,6 +89,8 @@ impl<'a> Request<'a> {
                 start,
                 memo,
                 steps,
+                rules,
+                terminals,
                 quiet,
             } => {
                 let query = Query {
@@ -101,6 +103,7 @@ impl<'a> Request<'a> {
                         memo: *memo,
                         steps: *steps,
                     },
+                    style: ItemStyle::from_flags(*rules, *terminals),
                 };
                 let printing = Printing::from_quiet(*quiet);
                 Request::Explain { query, printing }

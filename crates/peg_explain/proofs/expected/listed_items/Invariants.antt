@@ -1,9 +1,12 @@
 use Rattle.std.proofs.Common.{◌≡◌, map, take}
 use Rattle.peg_bytes.specs.Extent.{extent}
-use Rattle.peg_explain.specs.Explanations.{numbered_spans}
+use Rattle.peg_tree.specs.Selected.{has_rule}
+use Rattle.peg_explain.specs.Explanations.{fact_of, item_numbered}
 use Rattle.peg_explain.proofs.expected.listed_items.Given as goal
 
--- the spans of the first numbers
+-- the items with the first numbers
 abbrev pub invariant-numbers : goal.invariant-numbers
 invariant-numbers l =
-    map extent l.spans.items ≡ numbered_spans (map extent l.items) (take l.number-index l.numbers)
+    map fact_of l.list.items
+    ≡ map (item_numbered l.items.file.now (map extent l.items.spans.now) l.items.rules.now (has_rule l.named))
+    (take l.number-index l.numbers)

@@ -2,7 +2,7 @@ use Rattle.std.proofs.Common.{◌≡◌, map, take}
 use Rattle.peg_bytes.specs.Extent.{extent}
 use Rattle.peg_parser.specs.Parser.{parser_rules}
 use Rattle.peg_semantics.specs.Terminals.{extents_of_terminals}
-use Rattle.peg_explain.specs.Explanations.{numbered_spans}
+use Rattle.peg_explain.specs.Expected.{numbered_spans}
 use Rattle.peg_explain.proofs.expected.listed_terminals.Given as goal
 
 -- the spans of the first numbers

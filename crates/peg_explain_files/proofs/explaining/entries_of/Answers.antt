@@ -11,8 +11,8 @@ names-preserved g c = record {
       ∙ names-more c.args.names.now c.names.name-index _ c.names.entries.items _ c.names-test.true refl
       c.names.invariant.names;
   reports = λ file rules from of is.
-      let IsRight = IsEntryOf (g.O.Opener.file_at c.args.files.now) file rules (start_named c.args.options.now)
-      c.args.options.now.memo c.args.options.now.steps in
+      let IsRight = IsEntryOf (g.O.Opener.file_at c.args.files.now) file rules c.args.explainer.now.style
+      (start_named c.args.options.now) c.args.options.now.memo c.args.options.now.steps in
       subst (All IsRight) (sym c.in_ok-push.ensures.items)
       (All-push IsRight c.names.entries.items _ (c.names.invariant.reports file rules from of is)
       (c.in_ok-report.ensures file rules of from is));

@@ -12,6 +12,6 @@ invariant-names g l = record {
   names : map entry_name l.entries.items ≡ map (λ name. name.now) (take l.name-index l.names);
   reports : (file : List ℕ) (rules : List Rule) (from : List ℕ) → IsExplainerOf file rules l.explainer
       → start_name rules (start_named l.options) ≡ Some from
-      → All (IsEntryOf (g.O.Opener.file_at l.files) file rules (start_named l.options) l.options.memo l.options.steps)
-      l.entries.items;
+      → All (IsEntryOf (g.O.Opener.file_at l.files) file rules l.explainer.style (start_named l.options) l.options.memo
+      l.options.steps) l.entries.items;
 }

@@ -14,6 +14,6 @@ returns-in-Bytes g c file rules of from is =
       Bytes c.in-Bytes.text,
       subst (λ (content : Content). IsContentOf (max_text_bytes + 1)
           (g.O.Opener.file_at c.args.files.now c.args.name.now) content) c.in-Bytes.is c.in_ok-text.ensures.content,
-      subst (λ (text : List ℕ). IsReport file rules (start_named c.args.options.now) c.args.options.now.memo
+      subst (λ (text : List ℕ). IsReport file rules c.args.explainer.now.style (start_named c.args.options.now) c.args.options.now.memo
           c.args.options.now.steps c.args.name.now text report) c.deref.ensures.value right,
     )) (c.report_of_text.ensures file rules of from is)

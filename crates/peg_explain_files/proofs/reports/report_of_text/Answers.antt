@@ -7,14 +7,14 @@ use Rattle.peg_explain_files.proofs.reports.report_of_text.Goals as goal
 
 pub returns-in-Ok-None : goal.returns-in-Ok-None
 returns-in-Ok-None c file rules of from is =
-    matches is (explained-from file rules c.as_bytes.result.now c.args.name.now c.args.text.now from
+    matches is (explained-from file rules c.args.explainer.now.style c.as_bytes.result.now c.args.name.now c.args.text.now from
     (start_name rules (start_named c.args.options.now)) c.in-Ok-None.field-0 None is c.as_bytes.ensures.value
     c.in-Ok-None.field-0-is (c.in-Ok-None.ensures.explanation file rules of))
     (c.in-Ok-None.ensures.enough file rules of)
 
 pub returns-in-Ok-Some : goal.returns-in-Ok-Some
 returns-in-Ok-Some c file rules of from is =
-    differs is (explained-from file rules c.as_bytes.result.now c.args.name.now c.args.text.now from
+    differs is (explained-from file rules c.args.explainer.now.style c.as_bytes.result.now c.args.name.now c.args.text.now from
     (start_name rules (start_named c.args.options.now)) c.in-Ok-Some.field-0 (Some c.in-Ok-Some.message) is
     c.as_bytes.ensures.value c.in-Ok-Some.field-0-is (c.in-Ok-Some.ensures.explanation file rules of))
     (c.in-Ok-Some.ensures.enough file rules of)

@@ -1,13 +1,15 @@
-use Rattle.std.proofs.Common.{◌≡◌, ◌⊎◌, ℕ, IfSome, List, Option, None, Some, subst}
+use Rattle.std.proofs.Common.{◌≡◌, ◌∙◌, ◌⊎◌, ℕ, IfSome, List, Option, None, Some, subst}
 use Rattle.peg_explain.specs.Explainers.{IsExplainerOf}
 use Rattle.peg_explain.specs.Explanations.{IsMismatchIn}
 use Rattle.peg_explain.specs.declared.mismatch.Mismatch.{Mismatch}
+use Rattle.peg_explain.specs.declared.style.ItemStyle.{ItemStyle}
 use Rattle.peg_parser.specs.Parser.{parser_rules, start_named}
 use Rattle.peg_parser.specs.declared.parser.ParseFault.{ParseFault}
 use Rattle.peg_parser.specs.declared.parser.ParseFault.TheVariants as fault
 use Rattle.peg_semantics.specs.Starts.{start_name}
+use Rattle.peg_handle.specs.Explanations.{named_style}
 use Rattle.peg_handle.proofs.AnswerLemmas.{err_of}
-use Rattle.peg_handle.proofs.ExplanationLemmas.{explains, other-faults, passed-on}
+use Rattle.peg_handle.proofs.ExplanationLemmas.{IsMismatchOf, explains, other-faults, passed-on}
 use Rattle.peg_handle.proofs.explaining.explain_from.Goals as goal
 use Rattle.peg_handle.proofs.explaining.explain_from.Goals.{In_ok-explainer}
 
@@ -16,7 +18,11 @@ made : (c : In_ok-explainer)
     → IsExplainerOf c.args.grammar.now.bytes.items (parser_rules c.args.grammar.now.parser) c.in_ok-explainer.explainer
 made c =
     subst (λ (file : List ℕ). IsExplainerOf file (parser_rules c.args.grammar.now.parser) c.in_ok-explainer.explainer)
-    c.deref.ensures.value c.in_ok-explainer.ensures
+    c.deref.ensures.value c.in_ok-explainer.ensures.made
+
+-- its style is that of handles
+styled : (c : In_ok-explainer) → c.in_ok-explainer.explainer.style ≡ named_style
+styled c = c.in_ok-explainer.ensures.styled ∙ c.from_flags-style.ensures
 
 pub returns-in_err-mismatch-clause-faults : goal.returns-in_err-mismatch-clause-faults
 returns-in_err-mismatch-clause-faults c =
@@ -45,8 +51,10 @@ returns-in-Some-clause-explained c =
     let rules = parser_rules grammar.parser in
     let found = start_name rules (start_named c.args.options.now) in
     let explainer = made (goal.at.returns-in-Some-clause-explained c).In_ok-explainer in
-    let is = subst (λ (m : Option Mismatch). IfSome found (λ start. IsMismatchIn rules text start m)) c.in-Some.is
-    (c.in_ok-mismatch.ensures.mismatch grammar.bytes.items rules explainer) in
+    let is = subst (λ (m : Option Mismatch). IfSome found (IsMismatchOf grammar text m)) c.in-Some.is
+    (subst (λ (style : ItemStyle). IfSome found (λ start. IsMismatchIn grammar.bytes.items rules style text start
+    c.in_ok-mismatch.field-0)) (styled (goal.at.returns-in-Some-clause-explained c).In_ok-explainer)
+    (c.in_ok-mismatch.ensures.mismatch grammar.bytes.items rules explainer)) in
     explains grammar c.args.name.now text found (Some c.in-Some.mismatch) (Some c.in_ok-explanation-in-Some.explanation) is
     (c.in_ok-explanation-in-Some.ensures grammar.bytes.items rules explainer)
 
@@ -57,8 +65,10 @@ returns-clause-explained c =
     let rules = parser_rules grammar.parser in
     let found = start_name rules (start_named c.args.options.now) in
     let explainer = made (goal.at.returns-clause-explained c).In_ok-explainer in
-    let is = subst (λ (m : Option Mismatch). IfSome found (λ start. IsMismatchIn rules text start m)) c.in-None.is
-    (c.in_ok-mismatch.ensures.mismatch grammar.bytes.items rules explainer) in
+    let is = subst (λ (m : Option Mismatch). IfSome found (IsMismatchOf grammar text m)) c.in-None.is
+    (subst (λ (style : ItemStyle). IfSome found (λ start. IsMismatchIn grammar.bytes.items rules style text start
+    c.in_ok-mismatch.field-0)) (styled (goal.at.returns-clause-explained c).In_ok-explainer)
+    (c.in_ok-mismatch.ensures.mismatch grammar.bytes.items rules explainer)) in
     explains grammar c.args.name.now text found None None is tt
 
 pub returns-in-Some-clause-enough : goal.returns-in-Some-clause-enough

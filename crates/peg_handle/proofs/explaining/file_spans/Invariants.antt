@@ -3,6 +3,6 @@ use Rattle.peg_bytes.specs.Extent.{extent}
 use Rattle.peg_handle.specs.Answers.{file_span}
 use Rattle.peg_handle.proofs.explaining.file_spans.Given as goal
 
--- the first spans are copied
-abbrev pub invariant-spans : goal.invariant-spans
-invariant-spans l = l.copied.items ≡ map (λ span. file_span (extent span)) (take l.span-index l.spans)
+-- the spans of the first items are copied
+abbrev pub invariant-items : goal.invariant-items
+invariant-items l = l.copied.items ≡ map (λ item. file_span (extent item.span)) (take l.item-index l.items)

@@ -1,13 +1,13 @@
-use Rattle.std.proofs.Common.{◌∙◌, ℕ, ◌++◌, All, List, ap, map, refl, subst, sym}
-use Rattle.peg_bytes.specs.Extent.{extent}
+use Rattle.std.proofs.Common.{◌∙◌, ℕ, ◌++◌, List, ap, map, refl}
 use Rattle.peg_messages.specs.Failures.{failure_message}
 use Rattle.peg_messages.specs.declared.failure.Failure.{Failure}
-use Rattle.peg_messages.specs.declared.items.Item.{Item}
-use Rattle.peg_explain.specs.Explanations.{has_no_names}
+use Rattle.peg_semantics.specs.Rules.{Rule}
+use Rattle.peg_explain.specs.Explanations.{message_item_of, shown_item}
 use Rattle.peg_explain.proofs.explainer.Explainer.message.Goals as goal
 
 pub returns : goal.returns
 returns c file rules of_explainer =
+    let style = c.args.self.now.style in
     let failure : Failure = record {
       name = c.args.name;
       text = c.args.text;
@@ -22,9 +22,9 @@ returns c file rules of_explainer =
         has_text = refl;
         has_grammar = of_explainer.has_file;
         at = refl;
-        items = ap (map (λ (item : Item). extent item.span)) c.deref-2.ensures.value ∙ c.in_ok-items.ensures.spans
-            ∙ ap (map extent) c.deref.ensures.value;
-        plain = subst (All has_no_names) (sym c.deref-2.ensures.value) c.in_ok-items.ensures.plain;
+        items = ap (map message_item_of) c.deref-2.ensures.value ∙ c.in_ok-items.ensures.items
+            ∙ ap (λ (all : List Rule). map (shown_item all style) c.deref.result.now) of_explainer.has_parser
+            ∙ ap (map (shown_item rules style)) c.deref.ensures.value;
         end = refl;
       },
       c.in_ok-write.ensures.message ∙ ap (λ (l : List ℕ). l ++ failure_message failure) c.new-message.ensures.items,

@@ -1,0 +1,20 @@
+-- Describes code: the spans of the terminals that are expected, and items without names.
+use Rattle.std.specs.Prelude.{ℕ, false, if◌then◌else◌, List, [], None, map, take}
+use Rattle.peg_bytes.specs.Extent.{Extent}
+use Rattle.peg_tree.specs.declared.outcome.Outcome.{Outcome}
+use Rattle.peg_explain.specs.Explanations.{ItemFact, max_items, numbered_extent}
+use Rattle.peg_explain.specs.Reports.{are_items_expected}
+
+-- the spans with these numbers
+abbrev pub numbered_spans : List Extent → (numbers : List ℕ) → List Extent
+numbered_spans spans numbers = map (numbered_extent spans) numbers
+
+-- the spans of the items that are expected, given the spans of all items
+abbrev pub expected_spans : List Extent → Outcome → List Extent
+expected_spans spans outcome =
+    if are_items_expected outcome.result outcome.far
+    then numbered_spans spans (take max_items outcome.expected.items) else []
+
+-- an item of which its extent alone is known
+abbrev pub unnamed_fact : Extent → ItemFact
+unnamed_fact span = record { extent = span; rule = None; is_named = false }
