@@ -233,6 +233,12 @@ explains 1 "toml/no_match_open_string.txt:1:12: expected $basic, '\"' or '\\\\',
 explains 1 "log/no_match_second_line.txt:2:5: expected ' ' or [!-~], found '\n'"$'\noops\n    ^' \
   log.peg log/no_match_second_line.txt
 explains 1 "http/no_match_body.txt:3:1: expected the end, found 'x'"$'\nx\n^' http.peg http/no_match_body.txt
+printf "List <- '(' (Item (',' Item)*)? ')' End\nItem <- [a-z]+\nEnd <- !.\n" > "$folder/list.peg"
+printf '(a,1)' > "$folder/text"
+found=", found '1'"$'\n(a,1)\n   ^'
+explains 1 "$folder/text:1:4: expected Item$found" "$folder/list.peg" "$folder/text"
+explains 1 "$folder/text:1:4: expected [a-z]$found" "$folder/list.peg" "$folder/text" --terminals
+explains 1 "$folder/text:1:4: expected [a-z] in Item$found" "$folder/list.peg" "$folder/text" --terminals --rules
 explains 0 "" json.peg json/match_object.txt
 explains 0 "" json.peg
 printf 'A <- B\n  B <- [+-] "x"\n' > "$folder/refused.peg"

@@ -83,7 +83,7 @@ class Pages(unittest.TestCase):
         status, page = self.page_of("Sum <- Number ('+' Number)*\nNumber <- [0-9]+\n", "1+x")
         self.assertEqual(status, 1)
         self.assertIn('<span class="fault">x</span>', page)
-        self.assertIn("expected [0-9], found &#x27;x&#x27;", page)
+        self.assertIn("expected Number, found &#x27;x&#x27;", page)
 
     def test_the_page_needs_no_other_file(self):
         _, page = self.page_of(SUM, "1")
