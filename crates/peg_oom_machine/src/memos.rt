@@ -152,21 +152,31 @@ fn wanted(
     }
 }
 
-// If an allocation fails the memo stores fewer results, and its entries are correct.
 fn selected(rt: &impl Print, alloc: Global) -> io::Result<()> {
     let Pair { program, .. } = &compiled(alloc, PREFIX)?;
     let costs = RerunCosts::new(alloc, program)?;
     let text = b"((((((((((a)y)y)y)y)y)y)y)y)y)y";
     let wanted = wanted(alloc, &costs, text)?;
-    let mut memo = SelectiveMemo::new(alloc, RESULTS, &costs, text)?;
-    let mut borrowed = Borrowed::of(alloc, &costs)?;
+    select(rt, alloc, &costs, text, &wanted)
+}
+
+// If an allocation fails the memo stores fewer results, and its entries are correct.
+fn select(
+    rt: &impl Print,
+    alloc: Global,
+    costs: &RerunCosts,
+    text: &[u8],
+    wanted: &[bool; RESULTS as usize],
+) -> io::Result<()> {
+    let mut memo = SelectiveMemo::new(alloc, RESULTS, costs, text)?;
+    let mut borrowed = Borrowed::of(alloc, costs)?;
     let answers = keep_all(&mut memo);
     let more = answers
         .iter()
-        .zip(&wanted)
+        .zip(wanted)
         .any(|(one, other)| *one && !*other);
     if more || !holds(&mut memo, &answers) {
         borrowed.spoil();
     }
-    report(rt, &borrowed, answers != wanted, &answers)
+    report(rt, &borrowed, answers != *wanted, &answers)
 }

@@ -1,5 +1,5 @@
 //! Runs of programs by the machine, with memos and with tracers.
-ghost use Rattle.std.specs.Prelude.{◌≤◌};
+ghost use Rattle.std.specs.Prelude.{◌<◌, ◌≤◌, length};
 
 use crate::inputs::{Pair, compiled};
 use crate::memos::are_alike;
@@ -115,12 +115,26 @@ fn remembering(
 {
     let pair = compiled(alloc, file)?;
     let whole = whole(alloc, &pair, text)?;
+    remember(rt, alloc, &pair.program, text, &whole, capacity)
+}
+
+// Runs with a memo of this capacity, which then has no entries but those of a memo with all results.
+fn remember(
+    rt: &impl Print,
+    alloc: Global,
+    program: &Program,
+    text: &[u8],
+    whole: &LruMemo,
+    capacity: u32,
+) -> io::Result<()>
+    requires capacity { 1 ≤ capacity }
+    requires rule { 0 < length program.now.core.bodies }
+{
     let mut memo = LruMemo::new(alloc, capacity)?;
-    let program = &pair.program;
     let borrowed = (program, text);
     let mut borrowed = Borrowed::of(alloc, &borrowed)?;
     let answer = run(alloc, program, text, 0, &mut memo, &mut NoWatch, None);
-    if !is_part(&mut memo, &whole) {
+    if !is_part(&mut memo, whole) {
         borrowed.spoil();
     }
     let memory = matches!(answer, Err(RunFault::Memory));
@@ -131,12 +145,25 @@ fn remembering(
 fn selecting(rt: &impl Print, alloc: Global, file: &[u8], text: &[u8]) -> io::Result<()> {
     let pair = compiled(alloc, file)?;
     let whole = whole(alloc, &pair, text)?;
-    let program = &pair.program;
-    let costs = RerunCosts::new(alloc, program)?;
-    let mut memo = SelectiveMemo::new(alloc, 64, &costs, text)?;
+    let costs = RerunCosts::new(alloc, &pair.program)?;
+    select(rt, alloc, &pair.program, text, &whole, &costs)
+}
+
+// Runs with a selective memo, which then has no entries but those of a memo with all results.
+fn select(
+    rt: &impl Print,
+    alloc: Global,
+    program: &Program,
+    text: &[u8],
+    whole: &LruMemo,
+    costs: &RerunCosts,
+) -> io::Result<()>
+    requires { 0 < length program.now.core.bodies }
+{
+    let mut memo = SelectiveMemo::new(alloc, 64, costs, text)?;
     let mut borrowed = Borrowed::of(alloc, program)?;
     let answer = run(alloc, program, text, 0, &mut memo, &mut NoWatch, None);
-    if !is_part(&mut memo, &whole) {
+    if !is_part(&mut memo, whole) {
         borrowed.spoil();
     }
     let memory = matches!(answer, Err(RunFault::Memory));
@@ -169,19 +196,31 @@ fn watched(
     )
 }
 
-// The tracer has no other calls, and each of them once, unless an allocation failed.
 fn packrat(rt: &impl Print, alloc: Global, text: &[u8], pairs: &[(u32, u32)]) -> io::Result<()> {
     let pair = compiled(alloc, PREFIX)?;
     let whole = whole(alloc, &pair, text)?;
+    run_once(rt, alloc, &pair.program, text, &whole, pairs)
+}
+
+// The tracer has no other calls, and each of them once, unless an allocation failed.
+fn run_once(
+    rt: &impl Print,
+    alloc: Global,
+    program: &Program,
+    text: &[u8],
+    whole: &LruMemo,
+    pairs: &[(u32, u32)],
+) -> io::Result<()>
+    requires { 0 < length program.now.core.bodies }
+{
     let mut memo = LruMemo::new(alloc, RULES * PLACES)?;
-    let program = &pair.program;
     let borrowed = (program, text);
     let mut borrowed = Borrowed::of(alloc, &borrowed)?;
     let mut watch = ListWatch::new(alloc);
     let answer = run_packrat(alloc, program, text, 0, &mut memo, &mut watch, None);
     let traced = watch.pairs();
     let once = answer.is_err() || memo.was_refused() || traced == pairs;
-    if !once || !traced.iter().all(|pair| pairs.contains(pair)) || !is_part(&mut memo, &whole) {
+    if !once || !traced.iter().all(|pair| pairs.contains(pair)) || !is_part(&mut memo, whole) {
         borrowed.spoil();
     }
     let memory = matches!(answer, Err(RunFault::Memory));

@@ -197,11 +197,23 @@ fn entering(rt: &impl Print, alloc: Global) -> io::Result<()> {
 fn kept(rt: &impl Print, alloc: Global) -> io::Result<()> {
     let Pair { program, .. } = &compiled(alloc, SUMS)?;
     let whole = all_of(alloc, program, CallMode::Enter, EARLIER)?;
+    run_after(rt, alloc, program, &whole)
+}
+
+// Runs with a table that has the earlier shortcuts.
+fn run_after(
+    rt: &impl Print,
+    alloc: Global,
+    program: &Program,
+    whole: &Shortcuts<'_>,
+) -> io::Result<()>
+    requires { 0 < length program.now.core.bodies }
+{
     let first = table(alloc, program, CallMode::Enter, EARLIER);
     let second = table(alloc, program, CallMode::Enter, EARLIER);
     let mut shortcuts = one_of(first, second, program)?;
     let mut borrowed = Borrowed::of(alloc, program)?;
-    run_and_report(rt, alloc, &mut borrowed, &mut shortcuts, &whole, program)
+    run_and_report(rt, alloc, &mut borrowed, &mut shortcuts, whole, program)
 }
 
 // The pairs that a run reports to a tracer, whatever is stored.
@@ -219,14 +231,27 @@ fn has_part(whole: &ListWatch, watch: &ListWatch) -> bool {
     watch.pairs().iter().all(|pair| pairs.contains(pair))
 }
 
-// A rule body may run again at a position whose result couldn't be stored. The tracer gets the same pairs, some more
-// than once.
 fn stopping(rt: &impl Print, alloc: Global) -> io::Result<()> {
     let pair = compiled(alloc, SUMS)?;
     let program = &pair.program;
     let all = all_of(alloc, program, CallMode::Stop, b"")?;
     let whole = whole(alloc, &pair, TEXT)?;
     let traced = traced(alloc, &pair)?;
+    run_stopping(rt, alloc, program, &all, &whole, &traced)
+}
+
+// A rule body may run again at a position whose result couldn't be stored. The tracer gets the same pairs, some more
+// than once.
+fn run_stopping(
+    rt: &impl Print,
+    alloc: Global,
+    program: &Program,
+    all: &Shortcuts<'_>,
+    whole: &LruMemo,
+    traced: &ListWatch,
+) -> io::Result<()>
+    requires { 0 < length program.now.core.bodies }
+{
     let mut memo = LruMemo::new(alloc, 1024)?;
     let mut borrowed = Borrowed::of(alloc, program)?;
     let mut watch = ListWatch::new(alloc);
@@ -241,11 +266,11 @@ fn stopping(rt: &impl Print, alloc: Global) -> io::Result<()> {
         &mut watch,
         None,
     );
-    let missing = answer.is_ok() && !has_part(&watch, &traced);
-    if missing || !has_part(&traced, &watch) {
+    let missing = answer.is_ok() && !has_part(&watch, traced);
+    if missing || !has_part(traced, &watch) {
         borrowed.spoil();
     }
-    if !is_part(&mut memo, &whole) || !are_in(&shortcuts, &all, program) {
+    if !is_part(&mut memo, whole) || !are_in(&shortcuts, all, program) {
         borrowed.spoil();
     }
     let memory = matches!(answer, Err(RunFault::Memory));

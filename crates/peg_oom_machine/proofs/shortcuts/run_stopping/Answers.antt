@@ -4,7 +4,7 @@ use Rattle.peg_memo.specs.MemoMap.{entries_in}
 use Rattle.peg_memo.specs.StoredResult.{StoredResult}
 use Rattle.peg_memo.specs.Memo.{Memo}
 use Rattle.peg_memo.specs.MemoKey.{key_cmp}
-use Rattle.peg_oom_machine.proofs.shortcuts.stopping.Goals as goal
+use Rattle.peg_oom_machine.proofs.shortcuts.run_stopping.Goals as goal
 
 pub run_with_shortcuts-answer-requires-clause-empty : goal.run_with_shortcuts-answer-requires-clause-empty
 run_with_shortcuts-answer-requires-clause-empty g c =
