@@ -115,6 +115,12 @@ class Parses(unittest.TestCase):
         self.assertEqual((error.position, error.consumed, error.far), (3, 3, 3))
         self.assertEqual(error.expected, ["'b'", "the end"])
 
+    def test_a_message_may_name_a_rule_in_place_of_its_class(self):
+        with self.assertRaises(ParseError) as caught:
+            Grammar("Sum <- Number ('+' Number)*\nNumber <- [0-9]+\n").parse("1+x")
+        self.assertEqual(caught.exception.expected, ["[0-9]"])
+        self.assertEqual(caught.exception.message, "expected Number, found 'x'")
+
     def test_a_literal_fails_at_its_start(self):
         with self.assertRaises(ParseError) as caught:
             Grammar("S <- 'ab'* 'a'?\n").parse("abac")
