@@ -60,6 +60,7 @@ rows = {
     f"{MILLIONS} MB that match": best(["explain", GRAMMAR, f"{FOLDER}/whole"], 0),
     f"the same by `parse --no-tree`": best(["parse", GRAMMAR, f"{FOLDER}/whole", "--no-tree"], 0),
     f"{MILLIONS} MB with a mistake near the end": best(["explain", GRAMMAR, f"{FOLDER}/broken"], 1),
+    "the same with `--terminals`": best(["explain", GRAMMAR, f"{FOLDER}/broken", "--terminals"], 1),
 }
 print("| Texts | Seconds | MiB |")
 print("|---|---|---|")
