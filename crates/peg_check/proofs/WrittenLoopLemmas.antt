@@ -14,8 +14,9 @@ use Rattle.peg_core.proofs.SugarOutcomes.{GivesNothing-to_core, GivesNothing-fro
 use Rattle.peg_semantics.specs.Form.{Form, Forms, End, Then, terminals}
 use Rattle.peg_semantics.specs.Form as written
 use Rattle.peg_semantics.specs.Rules as grammar
-use Rattle.peg_check.specs.FirstLoops.{WrittenLoop, loops_written, loops_written_by_all, IsFirstIdle, IsFirstEmptyLoop}
-use Rattle.peg_check.specs.FirstLoops.{HasSpan, HaveOwnSpans, SpansNameLoops, NamesFirstLoop, NamesFirstCoreLoop}
+use Rattle.peg_semantics.specs.WrittenLoops.{WrittenLoop, loops_written, loops_written_by_all, IsFirstIdle, IsFirstEmptyLoop}
+use Rattle.peg_semantics.specs.WrittenLoops.{HasSpan, HaveOwnSpans, SpansNameLoops}
+use Rattle.peg_check.specs.FirstLoops.{NamesFirstLoop, NamesFirstCoreLoop}
 use Rattle.peg_check.specs.FirstLoops.{FormLoops, IsFirstInSequence, IsFirstCoreLoop, HasFirstLoop, IsFirstCoreEmptyLoop}
 use Rattle.peg_check.specs.declared.fault.CheckFault.{CheckFault}
 use Rattle.peg_check.specs.declared.fault.CheckFault.TheVariants.{EmptyLoop, LeftRecursion, Memory}

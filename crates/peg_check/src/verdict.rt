@@ -7,12 +7,13 @@ ghost use Rattle.peg_check.specs.Exact.{IsExactTable};
 ghost use Rattle.peg_check.specs.EmptyLoops.{HasNoLoop};
 ghost use Rattle.peg_core.specs.CoreLoops.{IsCoreLeftCycle};
 ghost use Rattle.peg_check.specs.LeastCycles.{IsLeastCycle, NamesLeastCoreCycle, NamesLeastCycle};
-ghost use Rattle.peg_check.specs.FirstLoops.{NamesFirstCoreLoop, NamesFirstLoop, SpansNameLoops};
+ghost use Rattle.peg_check.specs.FirstLoops.{NamesFirstCoreLoop, NamesFirstLoop};
 ghost use Rattle.peg_check.specs.Verdicts.{AreWellFormed, AreWellFormedIn, HasEmptyLoop, HasNoEmptyLoop};
 ghost use Rattle.peg_check.specs.Verdicts.{HasNoLeftCycle, IsFaultOf, IsIllFormedBy, IsSimpleLeftCycle, NamesRules};
 ghost use Rattle.peg_check.specs.Verdicts.{NamesEmptyLoop, NamesLeftCycle};
 ghost use Rattle.peg_semantics.specs.Rules.{Rule};
 ghost use Rattle.peg_semantics.specs.WellFormed.{IsWellFormedGrammar};
+ghost use Rattle.peg_semantics.specs.WrittenLoops.{SpansNameLoops};
 
 use crate::cycles::cycle_from;
 use crate::least_cycle::least_cycle;

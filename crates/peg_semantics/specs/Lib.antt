@@ -21,3 +21,4 @@ pub mod Starts
 pub mod Terminals
 pub mod TestsAmong
 pub mod WellFormed
+pub mod WrittenLoops
