@@ -11,4 +11,5 @@ pub mod Takes
 pub mod TextRules
 pub mod Texts
 pub mod TokenRules
+pub mod TokenSizes
 pub mod TokenValues

@@ -8,6 +8,7 @@ mod FirstFaults
 pub mod FirstRule
 mod Fronts
 mod GrammarRules
+mod LoopSpans
 mod ManyLoops
 mod MatchedTokens
 mod Meanings

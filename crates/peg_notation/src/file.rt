@@ -1,9 +1,11 @@
 //! Reads a grammar file.
-ghost use Rattle.std.specs.Prelude.{length};
+ghost use Rattle.std.specs.Prelude.{IfOk, length};
+ghost use Rattle.peg_grammar.specs.Written.{rules_of};
 ghost use Rattle.peg_metagrammar.specs.Nesting.{max_open};
 ghost use Rattle.peg_notation.specs.Reads.{Reads};
 ghost use Rattle.peg_notation.specs.Spans.{AnswerLiesIn};
 ghost use Rattle.peg_notation.specs.ViablePrefix.{NamesFirstFault};
+ghost use Rattle.peg_semantics.specs.WrittenLoops.{SpansNameLoops};
 
 use crate::fault::NotationFault;
 use crate::reader::Reader;
@@ -29,6 +31,7 @@ pub fn read(alloc: Global, file: &[u8]) -> Result<Vec<Definition>, NotationFault
     ensures reads { Reads file.now result }
     ensures inside { AnswerLiesIn (length file.now) result }
     ensures first { NamesFirstFault max_open file.now result }
+    ensures loops { IfOk result (λ definitions. SpansNameLoops (rules_of definitions.items)) }
 {
     let tokens = lex(alloc, file)?;
     let reader = Reader { alloc, file };

@@ -4,6 +4,7 @@ use Rattle.peg_notation.specs.ReaderCode.{lexemes, AreTexts, rules_seen, AgreesO
 use Rattle.peg_metagrammar.specs.Nesting.{max_open}
 use Rattle.peg_notation.proofs.FileAnswers.{tokens-texts, answers, lexing_reads, lexing_lies, fault_reads, fault_lies}
 use Rattle.peg_notation.proofs.FirstFaults.{fault_first, lexing_first}
+use Rattle.peg_notation.proofs.LoopSpans.{read-names_loops}
 use Rattle.peg_notation.proofs.file.read.Goals as goal
 
 pub returns-in_err-tokens-clause-reads : goal.returns-in_err-tokens-clause-reads
@@ -46,6 +47,13 @@ returns-clause-inside c =
     let ls = lexemes c.in_ok-tokens.tokens.items in
     let is = ap (λ tokens. grammar file max_open (lexemes tokens)) (sym c.deref.ensures.value) ∙ c.in_ok-read.ensures in
     (answers file max_open ls c.in_ok-tokens.ensures.1).lies (rules_seen c.in_ok-read.read) is
+
+pub returns-clause-loops : goal.returns-clause-loops
+returns-clause-loops c =
+    let file = c.args.file.now in
+    let ls = lexemes c.in_ok-tokens.tokens.items in
+    let is = ap (λ tokens. grammar file max_open (lexemes tokens)) (sym c.deref.ensures.value) ∙ c.in_ok-read.ensures in
+    read-names_loops file max_open ls (rules_seen c.in_ok-read.read) (tokens-texts file ls c.in_ok-tokens.ensures.1) is
 
 pub returns-in_err-tokens-clause-first : goal.returns-in_err-tokens-clause-first
 returns-in_err-tokens-clause-first c =
