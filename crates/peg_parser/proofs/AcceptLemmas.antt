@@ -3,6 +3,8 @@ use Rattle.std.proofs.Common.{◌≡◌, inl, inr, ℕ, true, not, if◌then◌e
 use Rattle.std.proofs.lemmas.List.{length-map}
 use Rattle.std.proofs.lemmas.List.Elements.{All-head, All-tail}
 use Rattle.peg_bytes.specs.Extent.{extent}
+use Rattle.peg_check.specs.FirstLoops.{NamesFirstLoop}
+use Rattle.peg_check.specs.LeastCycles.{NamesLeastCycle}
 use Rattle.peg_check.specs.Verdicts.{IsIllFormedBy, NamesRules}
 use Rattle.peg_check.specs.declared.fault.CheckFault.{CheckFault}
 use Rattle.peg_check.specs.declared.fault.CheckFault.TheVariants as check
@@ -99,22 +101,23 @@ named-too rules why named =
 
 -- the cause of the check's fault for its grammar
 pub stated-check : (file : List ℕ) (grammar : Grammar) (why : CheckFault) → IsIllFormedBy (rules_in grammar) why
+    → NamesFirstLoop (rules_in grammar) why → NamesLeastCycle (rules_in grammar) why
     → NamesRules (length (rules_in grammar)) why → IsRead file (rules_in grammar) → IsAcceptedGrammar (rules_in grammar) → All (RuleLiesIn (length file)) (rules_in grammar)
     → HasCause (IsRefusalOf file) (length file) (from_check why grammar)
-stated-check file grammar (check.EmptyLoop number span) ill named read taken inside =
+stated-check file grammar (check.EmptyLoop number span) ill first least named read taken inside =
     let rules = rules_in grammar in
     let lies = loop-inside (length file) rules number (extent span) inside ill.1 in
     of_cause (EmptyLoop (reference (name_at (names rules) number) (extent span))) refl
     (inr (inl (subst (λ (name : List ℕ). IsIllFormed file (EmptyLoop (reference name (extent span))))
-    (sym (name-numbered rules number named)) (empty_loop number (extent span) read taken ill.0 ill.1))))
+    (sym (name-numbered rules number named)) (empty_loop number (extent span) read taken ill.0 ill.1 first))))
     (omega (arith, lies.0, lies.1)) (named-too rules (check.EmptyLoop number span) named)
-stated-check file grammar (check.LeftRecursion path) ill named read taken inside =
+stated-check file grammar (check.LeftRecursion path) ill first least named read taken inside =
     let rules = rules_in grammar in
     of_cause (LeftRecursion (map (name_at (names rules)) path.items)) refl
     (inr (inl (subst (λ (l : List (List ℕ)). IsIllFormed file (LeftRecursion l))
-    (sym (names-of-path rules path.items named)) (left_recursion path.items read taken ill.0 ill.1 ill.2 ill.3)))) tt
+    (sym (names-of-path rules path.items named)) (left_recursion path.items read taken ill.0 ill.1 ill.2 ill.3 least)))) tt
     (named-too rules (check.LeftRecursion path) named)
-stated-check file grammar check.Memory ill named read taken inside = out_of_memory refl
+stated-check file grammar check.Memory ill first least named read taken inside = out_of_memory refl
 
 -- ---- the code
 
@@ -146,8 +149,8 @@ shows file cause (inl (a_name_missing {rules} read once missing)) =
     not_a_grammar rules read.reading.0 (λ whole. let both : None ≡ Some _ = sym (searches_from_IsGrammar rules whole).2
     ∙ missing in cc)
 shows file cause (inl (too_many_parts read whole over)) = tt
-shows file cause (inr (inl (empty_loop {rules} number span read taken ill loop))) = not_well_formed rules read.reading.0 ill
-shows file cause (inr (inl (left_recursion {rules} path read taken ill none cycle once))) = not_well_formed rules read.reading.0 ill
+shows file cause (inr (inl (empty_loop {rules} number span read taken ill loop first))) = not_well_formed rules read.reading.0 ill
+shows file cause (inr (inl (left_recursion {rules} path read taken ill none cycle once least))) = not_well_formed rules read.reading.0 ill
 shows file cause (inr (inr (code_too_large read taken formed over))) = tt
 
 pub stated-means : (file : List ℕ) (size : ℕ) (why : Refusal) → HasCause (IsRefusalOf file) size why → RefusalMeaning file why

@@ -6,6 +6,8 @@ use Rattle.peg_semantics.specs.Grammar.{IsGrammar, max_parts, first_duplicate, f
 use Rattle.peg_semantics.specs.Loops.{IsEmptyLoop, IsLeftCycle}
 use Rattle.peg_semantics.specs.Rules.{Rule, name_of, weight_of}
 use Rattle.peg_semantics.specs.WellFormed.{IsWellFormedGrammar}
+use Rattle.peg_semantics.specs.WrittenLoops.{IsFirstEmptyLoop}
+use Rattle.peg_check.specs.LeastCycles.{IsLeastCycle}
 use Rattle.peg_check.specs.Verdicts.{AllDiffer}
 use Rattle.peg_metagrammar.specs.Notation.{FigureMatches, IsInNotation, IsReading, max_file_bytes}
 use Rattle.peg_lexer.specs.Tokens.{IsLexingFault}
@@ -39,14 +41,16 @@ pub data IsNoGrammar (file : List ℕ) : Cause → Type 0 where
   too_many_parts : {rules : List Rule} → IsRead file rules → IsGrammar rules → max_parts < weight_of rules
       → IsNoGrammar file TooManyParts
 
--- the grammar of the file isn't well-formed; the rules of a left cycle are distinct
+-- The grammar of the file isn't well-formed. An empty loop is the first one in written order. A left cycle is the least
+-- of the shortest ones from the least rule on one, and its rules are distinct.
 pub data IsIllFormed (file : List ℕ) : Cause → Type 0 where
   empty_loop : {rules : List Rule} (number : ℕ) (span : Extent) → IsRead file rules → IsAcceptedGrammar rules
-      → ¬ IsWellFormedGrammar rules → IsEmptyLoop rules number span
+      → ¬ IsWellFormedGrammar rules → IsEmptyLoop rules number span → IsFirstEmptyLoop rules number span
       → IsIllFormed file (EmptyLoop (reference (name_of rules number) span))
   left_recursion : {rules : List Rule} (path : List ℕ) → IsRead file rules → IsAcceptedGrammar rules
       → ¬ IsWellFormedGrammar rules → ((number : ℕ) (span : Extent) → ¬ IsEmptyLoop rules number span)
-      → IsLeftCycle rules path → AllDiffer path → IsIllFormed file (LeftRecursion (map (name_of rules) path))
+      → IsLeftCycle rules path → AllDiffer path → IsLeastCycle (IsLeftCycle rules) path
+      → IsIllFormed file (LeftRecursion (map (name_of rules) path))
 
 -- the grammar of the file is well-formed, but its code is too large
 pub data HasTooMuchCode (file : List ℕ) : Cause → Type 0 where

@@ -6,6 +6,7 @@ ghost use Rattle.peg_notation.specs.Spans.{RuleLiesIn};
 ghost use Rattle.peg_parser.specs.Accepts.{IsRead, IsAcceptedGrammar, code_size};
 ghost use Rattle.peg_parser.specs.Faults.{HasCause, HasDefinitionsOf};
 ghost use Rattle.peg_parser.specs.Refusals.{IsRefusalOf};
+ghost use Rattle.peg_semantics.specs.WrittenLoops.{SpansNameLoops};
 
 use crate::refusal::Refusal;
 use peg_check::check;
@@ -18,7 +19,7 @@ use std::alloc::Global;
 pub(crate) fn refusal_of_large_code(alloc: Global, grammar: Grammar) -> Refusal
     requires { max_instructions < code_size (rules_in grammar) }
     ensures refused { (file : List ℕ) → IsRead file (rules_in grammar) → IsAcceptedGrammar (rules_in grammar)
-        → All (RuleLiesIn (length file)) (rules_in grammar)
+        → All (RuleLiesIn (length file)) (rules_in grammar) → SpansNameLoops (rules_in grammar)
         → HasCause (IsRefusalOf file) (length file) result }
     ensures definitions { (file : List ℕ) → IsRead file (rules_in grammar) → HasDefinitionsOf file result }
 {

@@ -198,11 +198,11 @@ loop-uncut e part span (inr plus) =
 
 module _ (rules : List Rule) (number : ℕ) where
   -- the rule with a number is cut
-  numbered-cut : slice_get (cut_rules rules) number ≡ option_map cut_rule (slice_get rules number)
+  pub numbered-cut : slice_get (cut_rules rules) number ≡ option_map cut_rule (slice_get rules number)
   numbered-cut = slice_get-map cut_rule rules number
 
   -- a cut rule with this number is the cut of the rule with this number
-  numbered-uncut : (found : Option Rule) (cut : Rule) → slice_get rules number ≡ found
+  pub numbered-uncut : (found : Option Rule) (cut : Rule) → slice_get rules number ≡ found
       → option_map cut_rule found ≡ Some cut
       → (rule : Rule) × (slice_get rules number ≡ Some rule) × (cut_rule rule ≡ cut)
   numbered-uncut None cut at is = cc

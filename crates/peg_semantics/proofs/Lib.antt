@@ -1,5 +1,6 @@
 pub mod Ascending
 pub mod CutGrammar
+pub mod CutLoops
 pub mod CutOutcomes
 pub mod CutWellFormed
 pub mod Derivations

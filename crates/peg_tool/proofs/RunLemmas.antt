@@ -124,8 +124,8 @@ over-reply file text task reply long (tabled read taken are) = absurd (omega (ar
 over-reply file text task reply long (refused_form checks is) = by is
   where
     by : {cause : Cause} → IsIllFormed file cause → Refused cause ≡ Refused FileTooLong
-    by (empty_loop number span read taken ill loop) = absurd (omega (arith, long, read.within))
-    by (left_recursion path read taken ill none cycle once) = absurd (omega (arith, long, read.within))
+    by (empty_loop number span read taken ill loop first) = absurd (omega (arith, long, read.within))
+    by (left_recursion path read taken ill none cycle once least) = absurd (omega (arith, long, read.within))
 over-reply file text task reply long (too_large checks (code_too_large read taken formed over)) =
     absurd (omega (arith, long, read.within))
 over-reply file text task reply long (accepted accepts) = absurd (omega (arith, long, accepts.read.within))

@@ -8,6 +8,7 @@ use Rattle.peg_grammar.specs.GrammarRules.{rules_in}
 use Rattle.peg_grammar.specs.Written.{rules_of}
 use Rattle.peg_notation.specs.Spans.{RuleLiesIn}
 use Rattle.peg_semantics.specs.Rules.{Rule}
+use Rattle.peg_semantics.specs.WrittenLoops.{SpansNameLoops}
 use Rattle.peg_parser.specs.Accepts.{IsRead, IsAcceptedGrammar}
 use Rattle.peg_parser.specs.Faults.{HasCause, HasDefinitionsOf, of_code, of_grammar, of_notation}
 use Rattle.peg_parser.specs.Refusals.{IsRefusalOf}
@@ -21,12 +22,14 @@ record Known (file : List ℕ) (rules : List Rule) : Type 0 where
   read : IsRead file rules
   taken : IsAcceptedGrammar rules
   inside : All (RuleLiesIn (length file)) rules
+  own : SpansNameLoops rules
 
 known : (c : In_ok-grammar) → Known c.args.file.now (rules_in c.in_ok-grammar.grammar)
 known c = subst (Known c.args.file.now) (sym c.in_ok-grammar.ensures.rules) (record {
   read = record { within = c.in_ok-definitions.ensures.reads.0; reading = c.in_ok-definitions.ensures.reads.1 };
   taken = record { grammar = c.in_ok-grammar.ensures.grammar; light = c.in_ok-grammar.ensures.light };
   inside = c.in_ok-definitions.ensures.inside;
+  own = c.in_ok-definitions.ensures.loops;
 })
 
 -- the core forms are the grammar's
@@ -81,7 +84,8 @@ returns-in_err-grammar-clause-wrong c =
 -- a grammar with too much code
 large : (c : After-refusal_of_large_code) → Known c.args.file.now (rules_in c.in_ok-grammar.grammar)
     → HasCause (IsRefusalOf c.args.file.now) (length c.args.file.now) c.refusal_of_large_code.result
-large c of_file = c.refusal_of_large_code.ensures.refused c.args.file.now of_file.read of_file.taken of_file.inside
+large c of_file =
+    c.refusal_of_large_code.ensures.refused c.args.file.now of_file.read of_file.taken of_file.inside of_file.own
 
 pub returns-then-code_size-gt-MAX_INSTRUCTIONS-clause-refused :
     goal.returns-then-code_size-gt-MAX_INSTRUCTIONS-clause-refused
@@ -104,8 +108,9 @@ no_check c of_file forms =
     let fault = c.in-Err.fault in
     let named = subst (λ (n : ℕ). NamesRules n fault) c.in_ok-core.ensures.count c.in-Err.ensures.named in
     subst (HasCause (IsRefusalOf file) (length file)) (sym c.from_check.ensures)
-    (stated-check file grammar fault (c.in-Err.ensures.grammar_refused (rules_in grammar) forms) named of_file.read
-    of_file.taken of_file.inside)
+    (stated-check file grammar fault (c.in-Err.ensures.grammar_refused (rules_in grammar) forms)
+    (c.in-Err.ensures.first_loop (rules_in grammar) forms of_file.own)
+    (c.in-Err.ensures.least_cycle (rules_in grammar) forms) named of_file.read of_file.taken of_file.inside)
 
 pub returns-in-Err-clause-refused : goal.returns-in-Err-clause-refused
 returns-in-Err-clause-refused c =

@@ -32,9 +32,10 @@ returns-in-Err-clause-refused c =
     let rules = rules_in c.args.grammar in
     let fault = c.in-Err.fault in
     let named = subst (λ (n : ℕ). NamesRules n fault) c.in_ok-desugar.ensures.count c.in-Err.ensures.named in
+    let forms = are (goal.at.returns-in-Err-clause-refused c).In_ok-desugar in
     subst (IsRefusalOfGrammar rules) (sym c.from_check.ensures)
-    (refused-check c.args.grammar fault
-    (c.in-Err.ensures.grammar_refused rules (are (goal.at.returns-in-Err-clause-refused c).In_ok-desugar)) named)
+    (refused-check c.args.grammar fault (c.in-Err.ensures.grammar_refused rules forms) named
+    (c.in-Err.ensures.least_cycle rules forms) (c.in-Err.ensures.first_loop rules forms))
 
 -- the compiler's fault
 pub returns-in_err-compile-in-Ok-clause-refused : goal.returns-in_err-compile-in-Ok-clause-refused
