@@ -1,5 +1,5 @@
 mod BlameCalls
-mod BlameFaults
+pub mod BlameFaults
 mod BlameOutcomes
 mod BlameParses
 mod BlameStarts

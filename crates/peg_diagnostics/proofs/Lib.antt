@@ -17,5 +17,5 @@ mod RefusalLemmas
 mod Renaming
 mod RuleCopies
 mod RuleLoops
-mod Simulation
+pub mod Simulation
 mod WrittenCopies

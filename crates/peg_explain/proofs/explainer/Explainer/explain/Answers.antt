@@ -1,10 +1,25 @@
 use Rattle.std.proofs.Common.{rules as by_rules, IfSome, Option, subst}
+use Rattle.peg_blame.proofs.BlameFaults.{error-passed, passed-error}
 use Rattle.peg_parser.specs.Parser.{start_named}
 use Rattle.peg_semantics.specs.Starts.{start_name}
 use Rattle.peg_explain.specs.Explanations.{IsMismatchIn}
 use Rattle.peg_explain.specs.declared.mismatch.Mismatch.{Mismatch}
 use Rattle.peg_explain.proofs.ExplanationLemmas.{message-explains, no_message-explains}
 use Rattle.peg_explain.proofs.explainer.Explainer.explain.Goals as goal
+
+pub returns-in_err-mismatch-clause-no_start : goal.returns-in_err-mismatch-clause-no_start
+returns-in_err-mismatch-clause-no_start c file rules of_explainer =
+    let stated = c.in_err-mismatch.ensures.no_start file rules of_explainer in (
+      λ fault. stated.0 (passed-error _ _ _ c.from_residual.ensures.1 fault),
+      λ none. error-passed _ _ _ c.from_residual.ensures.1 (stated.1 none),
+    )
+
+pub returns-in_err-mismatch-clause-long : goal.returns-in_err-mismatch-clause-long
+returns-in_err-mismatch-clause-long c file rules start of_explainer at =
+    let stated = c.in_err-mismatch.ensures.long file rules start of_explainer at in (
+      λ fault. stated.0 (passed-error _ _ _ c.from_residual.ensures.1 fault),
+      λ over. error-passed _ _ _ c.from_residual.ensures.1 (stated.1 over),
+    )
 
 pub returns-in_err-mismatch-clause-limited : goal.returns-in_err-mismatch-clause-limited
 returns-in_err-mismatch-clause-limited c file rules of_explainer is_limit =
