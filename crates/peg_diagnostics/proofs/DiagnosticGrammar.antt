@@ -18,17 +18,17 @@ use Rattle.peg_diagnostics.proofs.Lookups.{Distinct, names-diagnostic, AllPairs-
 -- ---- distinct names
 
 module _ {X : Type 0} (R : X → X → Type 0) where
-  AllPairs-nil : AllPairs R []
+  pub AllPairs-nil : AllPairs R []
   AllPairs-nil i j d before within = absurd (omega (arith, within))
 
-  AllPairs-cons : (x : X) (xs : List X) → All (R x) xs → AllPairs R xs → AllPairs R (x ∷ xs)
+  pub AllPairs-cons : (x : X) (xs : List X) → All (R x) xs → AllPairs R xs → AllPairs R (x ∷ xs)
   AllPairs-cons x xs here later zero zero d before within = absurd (omega (arith, before))
   AllPairs-cons x xs here later zero (suc j) d before within = here j d (omega (arith, within))
   AllPairs-cons x xs here later (suc i) zero d before within = absurd (omega (arith, before))
   AllPairs-cons x xs here later (suc i) (suc j) d before within =
       later i j d (omega (arith, before)) (omega (arith, within))
 
-  AllPairs-append : (xs ys : List X) → AllPairs R xs → AllPairs R ys → All (λ x. All (R x) ys) xs
+  pub AllPairs-append : (xs ys : List X) → AllPairs R xs → AllPairs R ys → All (λ x. All (R x) ys) xs
       → AllPairs R (xs ++ ys)
   AllPairs-append [] ys first second cross = second
   AllPairs-append (x ∷ xs) ys first second cross =
@@ -36,7 +36,7 @@ module _ {X : Type 0} (R : X → X → Type 0) where
       (All-append (R x) xs ys (AllPairs-head R x xs first) (All-head (λ x. All (R x) ys) x xs cross))
       (AllPairs-append xs ys (AllPairs-tail R x xs first) second (All-tail (λ x. All (R x) ys) x xs cross))
 
-abbrev Apart : List ℕ → List ℕ → Type 0
+abbrev pub Apart : List ℕ → List ℕ → Type 0
 Apart a b = a ≢ b
 
 quiet-injective : (a b : List ℕ) → quiet_name a ≡ quiet_name b → a ≡ b
@@ -239,7 +239,7 @@ quiet_rules-count : (rules : List Rule) → counts (map quiet_rule rules) ≡ co
 quiet_rules-count [] = refl
 quiet_rules-count (r ∷ rs) = ap₂ ◌++◌ (counts-quiet r.body) (quiet_rules-count rs)
 
-abbrev InRange : Count → Type 0
+abbrev pub InRange : Count → Type 0
 InRange count = is_in_range count ≡ true
 
 counts_in_range : (rules : List Rule) → CountsAreInRange rules → CountsAreInRange (diagnostic_rules rules)

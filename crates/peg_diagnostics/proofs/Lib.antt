@@ -11,11 +11,19 @@ pub mod ItemNumbers
 mod KnownNames
 pub mod Lookups
 mod LoudRecords
+mod MarkBounds
+mod MarkedWellFormed
+mod MarkLoops
+mod MarkedGrammar
+mod MarkedKept
+mod MarkedLookups
+mod MarkedOutcomes
+mod MarkedRecords
 mod NumberLoops
 mod Placement
 mod RefusalLemmas
 mod Renaming
 mod RuleCopies
 mod RuleLoops
-pub mod Simulation
+mod Simulation
 mod WrittenCopies

@@ -27,7 +27,7 @@ bytes_eq-same a b is = (bytes_eq-Decides a b).0 is
 pub bytes_eq-itself : (a : List ℕ) → bytes_eq a a ≡ true
 bytes_eq-itself a = (bytes_eq-Decides a a).1 refl
 
-bytes_eq-apart : (a b : List ℕ) → a ≢ b → bytes_eq a b ≡ false
+pub bytes_eq-apart : (a b : List ℕ) → a ≢ b → bytes_eq a b ≡ false
 bytes_eq-apart a b apart = by (bytes_eq a b) refl
   where
     by : (equal : Bool) → bytes_eq a b ≡ equal → bytes_eq a b ≡ false
@@ -52,7 +52,7 @@ module _ {X : Type 0} (R : X → X → Type 0) where
   pub AllPairs-tail : (x : X) (xs : List X) → AllPairs R (x ∷ xs) → AllPairs R xs
   AllPairs-tail x xs all i j d before within = all (suc i) (suc j) d (omega (arith, before)) (omega (arith, within))
 
-  AllPairs-cross : (xs ys : List X) (y : X) → AllPairs R (xs ++ ys) → Contains ys y → All (λ x. R x y) xs
+  pub AllPairs-cross : (xs ys : List X) (y : X) → AllPairs R (xs ++ ys) → Contains ys y → All (λ x. R x y) xs
   AllPairs-cross [] ys y all there = All-nil (λ x. R x y)
   AllPairs-cross (x ∷ xs) ys y all there =
       All-cons (λ x. R x y) x xs

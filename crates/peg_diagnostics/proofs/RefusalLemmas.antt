@@ -40,9 +40,14 @@ IfErr-prop : {T : Type 0} (r : Result T GrammarFault) → IsProp (IfErr r IsMemo
 IfErr-prop (Ok x) = hlevel
 IfErr-prop (Err fault) = memory_is_prop fault
 
+-- the errors of rules that are a grammar if others are
+pub other_refusal : {T : Type 0} (r : Result T GrammarFault) (rules others : List Rule) → ∥ IsGrammar rules ∥₁
+    → (IsGrammar rules → IsGrammar others) → IfErr r (IsRefusedBy others) → IfErr r IsMemoryOrTooMany
+other_refusal r rules others grammar to refused =
+    ∥∥₁_elim grammar (IfErr-prop r) (λ is. IfErr-memory r others (to is) refused)
+
 -- the errors of a diagnostic grammar whose rules have no mark in their names
 pub plain_refusal : {T : Type 0} (r : Result T GrammarFault) (rules : List Rule) → ∥ IsGrammar rules ∥₁
     → HaveNoMark rules → IfErr r (IsRefusedBy (diagnostic_rules rules)) → IfErr r IsMemoryOrTooMany
 plain_refusal r rules grammar unmarked refused =
-    ∥∥₁_elim grammar (IfErr-prop r)
-    (λ is. IfErr-memory r (diagnostic_rules rules) (IsGrammar-diagnostic rules is unmarked) refused)
+    other_refusal r rules (diagnostic_rules rules) grammar (λ is. IsGrammar-diagnostic rules is unmarked) refused

@@ -9,5 +9,8 @@ pub mod Diagnostic
 pub mod Items
 pub mod ItemTests
 pub mod LoudCalls
+pub mod Marked
+pub mod MarkedExamples
+pub mod MarkedResults
 pub mod Placed
 pub mod Refusal

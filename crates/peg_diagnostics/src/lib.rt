@@ -1,16 +1,23 @@
-//! The diagnostic grammar: a grammar whose failed tests show the furthest failure outside predicates.
+//! Grammars made from a grammar. The failed tests of its diagnostic grammar show the furthest failure outside
+//! predicates. The trees of its marked grammar show which alternatives have matched.
 #![tactic(auto)]
 
+mod alternatives;
 mod builders;
 mod diagnostic;
 pub mod laws;
 mod loud_copies;
+pub mod mark_laws;
+mod marked;
+mod marking;
 mod quiet_copies;
 mod rule_numbers;
 mod spans;
 mod terminals;
 
+pub use alternatives::alternative_spans;
 pub use diagnostic::diagnostic_grammar;
+pub use marked::marked_grammar;
 pub use rule_numbers::item_rules;
 pub use spans::item_spans;
 pub use terminals::item_terminals;

@@ -3,14 +3,16 @@ use crate::inputs::{Pair, checked, compiled, core, definitions, grammar};
 use peg_check::{CheckFault, check, table_of};
 use peg_code::{CodeFault, compile};
 use peg_core::desugar;
-use peg_diagnostics::{diagnostic_grammar, item_rules, item_spans, item_terminals};
+use peg_diagnostics::{
+    alternative_spans, diagnostic_grammar, item_rules, item_spans, item_terminals, marked_grammar,
+};
 use peg_grammar::{Grammar, GrammarFault, PlainFault, TotalFault, plain_match, plain_total};
 use peg_oom::files::{CHAIN, COUNTS, CYCLE, LOOP, MISSING, PREFIX, REPEATS, TWICE, pluses};
 use peg_oom::{Borrowed, report};
 use std::alloc::Global;
 use std::io;
 
-pub(crate) const WORDS: [&str; 21] = [
+pub(crate) const WORDS: [&str; 23] = [
     "grammar_new",
     "grammar_new_twice",
     "grammar_new_missing",
@@ -18,10 +20,12 @@ pub(crate) const WORDS: [&str; 21] = [
     "plain_match",
     "plain_match_deep",
     "plain_total",
+    "alternative_spans",
     "diagnostic_grammar",
     "item_rules",
     "item_spans",
     "item_terminals",
+    "marked_grammar",
     "desugar",
     "desugar_repeats",
     "table_of",
@@ -44,10 +48,12 @@ pub(crate) fn call(rt: &impl Print, alloc: Global, word: &str) -> Option<io::Res
         "plain_match" => matched(rt, alloc, 1000),
         "plain_match_deep" => matched(rt, alloc, 3),
         "plain_total" => total(rt, alloc),
+        "alternative_spans" => alternatives(rt, alloc),
         "diagnostic_grammar" => diagnostic(rt, alloc),
         "item_rules" => rules(rt, alloc),
         "item_spans" => spans(rt, alloc),
         "item_terminals" => terminals(rt, alloc),
+        "marked_grammar" => marked(rt, alloc),
         "desugar" => desugared(rt, alloc, COUNTS),
         "desugar_repeats" => desugared(rt, alloc, REPEATS),
         "table_of" => tabled(rt, alloc),
@@ -105,6 +111,21 @@ fn diagnostic(rt: &impl Print, alloc: Global) -> io::Result<()> {
     let answer = diagnostic_grammar(alloc, &grammar);
     let memory = matches!(answer, Err(GrammarFault::Memory));
     report(rt, &borrowed, memory, &answer)
+}
+
+fn marked(rt: &impl Print, alloc: Global) -> io::Result<()> {
+    let grammar = grammar(alloc, COUNTS)?;
+    let borrowed = Borrowed::of(alloc, &grammar)?;
+    let answer = marked_grammar(alloc, &grammar);
+    let memory = matches!(answer, Err(GrammarFault::Memory));
+    report(rt, &borrowed, memory, &answer)
+}
+
+fn alternatives(rt: &impl Print, alloc: Global) -> io::Result<()> {
+    let grammar = grammar(alloc, COUNTS)?;
+    let borrowed = Borrowed::of(alloc, &grammar)?;
+    let answer = alternative_spans(alloc, &grammar);
+    report(rt, &borrowed, answer.is_err(), &answer)
 }
 
 fn spans(rt: &impl Print, alloc: Global) -> io::Result<()> {

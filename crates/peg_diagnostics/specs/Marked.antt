@@ -1,0 +1,137 @@
+-- The marked grammar of rules. Each alternative of a choice begins with a call of a rule of its own, its marker, which
+-- matches nothing. So an alternative that matches leaves a node of its marker, and nothing else changes.
+use Rattle.std.specs.Prelude.{ℕ, ◌+◌, List, [], ◌∷◌, ◌++◌, if◌then◌else◌, nat_lt}
+use Rattle.std.specs.Fmt.{decimal}
+use Rattle.peg_bytes.specs.Extent.{Extent}
+use Rattle.peg_tree.specs.Trees.{Trees, NoTrees, Tree}
+use Rattle.peg_diagnostics.specs.Diagnostic.{form_extent}
+use Rattle.peg_semantics.specs.Form.{Form, Forms, Literal, Class, Any, Name, Seq, Choice, Optional, Star, Plus, Counted}
+use Rattle.peg_semantics.specs.Form.{And, Not, End, Then}
+use Rattle.peg_semantics.specs.Rules.{Rule}
+
+-- The number of alternatives in an expression: those of its choices, and those inside these.
+abbrev mutual
+  pub alternatives : Form → ℕ
+  alternatives (Literal bytes span) = 0
+  alternatives (Class set span) = 0
+  alternatives (Any span) = 0
+  alternatives (Name name span) = 0
+  alternatives (Seq items span) = alternatives_of_all items
+  alternatives (Choice first rest span) = 1 + alternatives first + alternatives_of_each rest
+  alternatives (Optional part span) = alternatives part
+  alternatives (Star part span) = alternatives part
+  alternatives (Plus part span) = alternatives part
+  alternatives (Counted part min max span) = alternatives part
+  alternatives (And part span) = alternatives part
+  alternatives (Not part span) = alternatives part
+
+  -- in the items of a sequence
+  pub alternatives_of_all : Forms → ℕ
+  alternatives_of_all End = 0
+  alternatives_of_all (Then e rest) = alternatives e + alternatives_of_all rest
+
+  -- of a choice: each counts itself, too
+  pub alternatives_of_each : Forms → ℕ
+  alternatives_of_each End = 0
+  alternatives_of_each (Then e rest) = 1 + alternatives e + alternatives_of_each rest
+
+-- The extents of the alternatives in an expression, in written order: an alternative before those inside it.
+abbrev mutual
+  pub alternative_extents : Form → List Extent
+  alternative_extents (Literal bytes span) = []
+  alternative_extents (Class set span) = []
+  alternative_extents (Any span) = []
+  alternative_extents (Name name span) = []
+  alternative_extents (Seq items span) = alternative_extents_of_all items
+  alternative_extents (Choice first rest span) =
+      form_extent first ∷ (alternative_extents first ++ alternative_extents_of_each rest)
+  alternative_extents (Optional part span) = alternative_extents part
+  alternative_extents (Star part span) = alternative_extents part
+  alternative_extents (Plus part span) = alternative_extents part
+  alternative_extents (Counted part min max span) = alternative_extents part
+  alternative_extents (And part span) = alternative_extents part
+  alternative_extents (Not part span) = alternative_extents part
+
+  pub alternative_extents_of_all : Forms → List Extent
+  alternative_extents_of_all End = []
+  alternative_extents_of_all (Then e rest) = alternative_extents e ++ alternative_extents_of_all rest
+
+  pub alternative_extents_of_each : Forms → List Extent
+  alternative_extents_of_each End = []
+  alternative_extents_of_each (Then e rest) =
+      form_extent e ∷ (alternative_extents e ++ alternative_extents_of_each rest)
+
+-- the name of the marker of an alternative: `!`, which no identifier contains, and its number
+abbrev pub marker_name : (number : ℕ) → List ℕ
+marker_name number = 33 ∷ decimal number
+
+-- an alternative after the call of its marker
+abbrev pub with_marker : (number : ℕ) → (span : Extent) → Form → Form
+with_marker number span e = Seq (Then (Name (marker_name number) span) (Then e End)) span
+
+-- An expression whose alternatives are marked, in written order, with the numbers from one on.
+abbrev mutual
+  pub mark : (number : ℕ) → Form → Form
+  mark number (Literal bytes span) = Literal bytes span
+  mark number (Class set span) = Class set span
+  mark number (Any span) = Any span
+  mark number (Name name span) = Name name span
+  mark number (Seq items span) = Seq (mark_all number items) span
+  mark number (Choice first rest span) =
+      Choice (with_marker number (form_extent first) (mark (number + 1) first))
+      (mark_each (number + 1 + alternatives first) rest) span
+  mark number (Optional part span) = Optional (mark number part) span
+  mark number (Star part span) = Star (mark number part) span
+  mark number (Plus part span) = Plus (mark number part) span
+  mark number (Counted part min max span) = Counted (mark number part) min max span
+  mark number (And part span) = And (mark number part) span
+  mark number (Not part span) = Not (mark number part) span
+
+  pub mark_all : (number : ℕ) → Forms → Forms
+  mark_all number End = End
+  mark_all number (Then e rest) = Then (mark number e) (mark_all (number + alternatives e) rest)
+
+  pub mark_each : (number : ℕ) → Forms → Forms
+  mark_each number End = End
+  mark_each number (Then e rest) =
+      Then (with_marker number (form_extent e) (mark (number + 1) e)) (mark_each (number + 1 + alternatives e) rest)
+
+-- a rule with another expression
+abbrev pub with_body : Rule → Form → Rule
+with_body rule body = record { name = rule.name; span = rule.span; body = body }
+
+-- rules whose alternatives are marked with the numbers from one on
+abbrev pub mark_rules : (number : ℕ) → List Rule → List Rule
+mark_rules number [] = []
+mark_rules number (rule ∷ more) =
+    with_body rule (mark number rule.body) ∷ mark_rules (number + alternatives rule.body) more
+
+-- the number of all alternatives of rules
+abbrev pub alternatives_of_rules : List Rule → ℕ
+alternatives_of_rules [] = 0
+alternatives_of_rules (rule ∷ more) = alternatives rule.body + alternatives_of_rules more
+
+-- the extents of all alternatives of rules, in written order
+abbrev pub extents_of_alternatives : List Rule → List Extent
+extents_of_alternatives [] = []
+extents_of_alternatives (rule ∷ more) = alternative_extents rule.body ++ extents_of_alternatives more
+
+-- the marker of an alternative with this extent; it matches nothing
+abbrev pub marker_rule : (number : ℕ) → Extent → Rule
+marker_rule number span = record { name = marker_name number; span = span; body = Seq End span }
+
+-- the markers with the numbers from one on, of alternatives with these extents
+abbrev pub marker_rules : (number : ℕ) → List Extent → List Rule
+marker_rules number [] = []
+marker_rules number (span ∷ more) = marker_rule number span ∷ marker_rules (number + 1) more
+
+-- The marked rules in their order, and then the markers. So alternative k has the rule number `length rules + k`.
+abbrev pub marked_rules : List Rule → List Rule
+marked_rules rules = mark_rules 0 rules ++ marker_rules 0 (extents_of_alternatives rules)
+
+-- the trees without the nodes of rules with this number or a greater one
+abbrev pub unmarked : (count : ℕ) → Trees → Trees
+unmarked count NoTrees = NoTrees
+unmarked count (Tree rule start end children rest) =
+    if nat_lt rule count then Tree rule start end (unmarked count children) (unmarked count rest) else unmarked count
+    rest

@@ -1,0 +1,135 @@
+//! Marked expressions.
+ghost use Rattle.std.specs.Prelude.{◌≡◌, ◌+◌, ◌<◌, ◌^◌, map, IfOk, OnOk, string_bytes};
+ghost use Rattle.peg_bytes.specs.Extent.{extent};
+ghost use Rattle.peg_diagnostics.specs.Diagnostic.{form_extent};
+ghost use Rattle.peg_diagnostics.specs.Marked.{alternatives, alternatives_of_all, alternatives_of_each, mark, mark_all};
+ghost use Rattle.peg_diagnostics.specs.Marked.{mark_each, marker_name, with_marker};
+ghost use Rattle.peg_grammar.specs.Written.{form_of};
+ghost use Rattle.peg_semantics.specs.Form.{forms};
+
+use crate::builders::{
+    and, any, choice, class, counted, literal, name, not, optional, plus, seq, star,
+};
+use crate::loud_copies::span_of;
+use itoa::Buffer;
+use peg_bytes::Span;
+use peg_grammar::Expr;
+use std::alloc::{AllocError, Global};
+
+/// Returns the name of a marker. The only error is a failed allocation.
+pub(crate) fn name_of_marker(alloc: Global, number: u32) -> Result<String, AllocError>
+    ensures { IfOk result (λ name. string_bytes name ≡ marker_name number) }
+{
+    let mut buffer = Buffer::new();
+    let mut name = String::from_str(alloc, "!")?;
+    name.push_str(buffer.format(number))?;
+    Ok(name)
+}
+
+/// Returns the expression with its alternatives marked, and counts them on. The only error is a failed allocation.
+/// Recurses as deep as expressions nest.
+#[cycle(mark)]
+pub(crate) fn marked_expression(
+    alloc: Global,
+    expression: &Expr,
+    next: &mut u32,
+) -> Result<Expr, AllocError>
+    requires { next.old + alternatives (form_of expression.now) < 2 ^ 32 }
+    ensures marked { IfOk result (λ e. form_of e ≡ mark next.old (form_of expression.now)) }
+    ensures next { OnOk result (next.new ≡ next.old + alternatives (form_of expression.now)) }
+{
+    match expression {
+        Expr::Literal { bytes, span } => literal(alloc, bytes, *span),
+        Expr::Class { set, span } => Ok(class(*set, *span)),
+        Expr::Any { span } => Ok(any(*span)),
+        Expr::Name { name: called, span } => name(alloc, called, *span),
+        Expr::Seq { items, span } => Ok(seq(marked_items(alloc, items, next)?, *span)),
+        Expr::Choice { first, rest, span } => {
+            let first = marked_alternative(alloc, first, next)?;
+            choice(alloc, first, marked_alternatives(alloc, rest, next)?, *span)
+        }
+        Expr::Optional { part, span } => {
+            optional(alloc, marked_expression(alloc, part, next)?, *span)
+        }
+        Expr::Star { part, span } => star(alloc, marked_expression(alloc, part, next)?, *span),
+        Expr::Plus { part, span } => plus(alloc, marked_expression(alloc, part, next)?, *span),
+        Expr::Counted {
+            part,
+            min,
+            max,
+            span,
+        } => {
+            counted(
+                alloc,
+                marked_expression(alloc, part, next)?,
+                *min,
+                *max,
+                *span,
+            )
+        }
+        Expr::And { part, span } => and(alloc, marked_expression(alloc, part, next)?, *span),
+        Expr::Not { part, span } => not(alloc, marked_expression(alloc, part, next)?, *span),
+    }
+}
+
+#[cycle(mark)]
+fn marked_items(alloc: Global, items: &[Expr], next: &mut u32) -> Result<Vec<Expr>, AllocError>
+    requires { next.old + alternatives_of_all (forms (map form_of items.now)) < 2 ^ 32 }
+    ensures marked { IfOk result (λ copies. forms (map form_of copies.items)
+        ≡ mark_all next.old (forms (map form_of items.now))) }
+    ensures next { OnOk result (next.new ≡ next.old + alternatives_of_all (forms (map form_of items.now))) }
+{
+    let mut copies = Vec::new(alloc);
+    for item in items {
+        copies.push(marked_expression(alloc, item, next)?)?;
+    }
+    Ok(copies)
+}
+
+#[cycle(mark)]
+fn marked_alternatives(
+    alloc: Global,
+    items: &[Expr],
+    next: &mut u32,
+) -> Result<Vec<Expr>, AllocError>
+    requires { next.old + alternatives_of_each (forms (map form_of items.now)) < 2 ^ 32 }
+    ensures marked { IfOk result (λ copies. forms (map form_of copies.items)
+        ≡ mark_each next.old (forms (map form_of items.now))) }
+    ensures next { OnOk result (next.new ≡ next.old + alternatives_of_each (forms (map form_of items.now))) }
+{
+    let mut copies = Vec::new(alloc);
+    for item in items {
+        copies.push(marked_alternative(alloc, item, next)?)?;
+    }
+    Ok(copies)
+}
+
+// Returns an alternative after the call of its marker, and counts it.
+#[cycle(mark)]
+fn marked_alternative(alloc: Global, item: &Expr, next: &mut u32) -> Result<Expr, AllocError>
+    requires { next.old + 1 + alternatives (form_of item.now) < 2 ^ 32 }
+    ensures marked { IfOk result (λ e. form_of e ≡ with_marker next.old (form_extent (form_of item.now))
+        (mark (next.old + 1) (form_of item.now))) }
+    ensures next { OnOk result (next.new ≡ next.old + 1 + alternatives (form_of item.now)) }
+{
+    let number = *next;
+    *next += 1;
+    let marked = marked_expression(alloc, item, next)?;
+    after_marker(alloc, number, span_of(item), marked)
+}
+
+// Builds the sequence of the call of a marker and an alternative.
+fn after_marker(
+    alloc: Global,
+    number: u32,
+    span: Span,
+    alternative: Expr,
+) -> Result<Expr, AllocError>
+    ensures { IfOk result (λ e. form_of e ≡ with_marker number (extent span) (form_of alternative)) }
+{
+    let marker = name_of_marker(alloc, number)?;
+    let mut items = Vec::new(alloc);
+    items.push(name(alloc, &marker, span)?)?;
+    items.push(alternative)?;
+    Ok(seq(items, span))
+}
