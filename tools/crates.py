@@ -31,7 +31,7 @@ PURPOSE = {
     "peg_machine": "a program, a text -> outcome, tree, furthest failure",
     "peg_lint": "a grammar, its file -> warnings",
     "peg_parser": "a grammar file -> a parser or a refusal; a text -> an answer",
-    "peg_diagnostics": "a grammar -> a grammar that shows its blame",
+    "peg_diagnostics": "a grammar -> grammars that show blame and alternatives",
     "peg_blame": "a parser, a text -> the furthest failure outside predicates",
     "peg_messages": "a failure or a refusal -> a message",
     "peg_explain": "a parser, a text -> a message, or none",
