@@ -11,8 +11,8 @@ pub mod ItemNumbers
 mod KnownNames
 pub mod Lookups
 mod LoudRecords
-mod MarkBounds
-mod MarkedWellFormed
+pub mod MarkBounds
+pub mod MarkedWellFormed
 mod MarkLoops
 mod MarkedGrammar
 mod MarkedKept
