@@ -1,0 +1,33 @@
+-- Why a grammar has no parser of coverage.
+use Rattle.std.proofs.Common.{◌≡◌, ◌^◌, ◌≤◌, List, Result, Ok, Err, sym, subst}
+use Rattle.std.specs.Prelude.{IfErr, IsErrAnd}
+use Rattle.std.proofs.Math.Logic.{∥∥₁_elim}
+use Rattle.peg_diagnostics.specs.Marked.{alternatives_of_rules, marked_rules}
+use Rattle.peg_diagnostics.proofs.Lookups.{Distinct}
+use Rattle.peg_diagnostics.proofs.MarkedWellFormed.{well_formed-marked}
+use Rattle.peg_semantics.specs.Grammar.{IsGrammar}
+use Rattle.peg_semantics.specs.Rules.{Rule, names}
+use Rattle.peg_coverage.specs.CoverageFaults.{IsCoverageRefusal, IsParserRefusal}
+use Rattle.peg_coverage.specs.declared.fault.CoverageFault.{CoverageFault}
+use Rattle.peg_coverage.specs.declared.fault.CoverageFault.TheVariants as coverage
+
+-- names of a grammar are distinct
+pub names-distinct : (rules : List Rule) → ∥ IsGrammar rules ∥₁ → Distinct (names rules)
+names-distinct rules is = ∥∥₁_elim is (hlevel) (λ grammar. grammar.distinct)
+
+-- a fault of the parser of the marked grammar
+pub refused-parser : (rules : List Rule) → ∥ IsGrammar rules ∥₁ → Distinct (names (marked_rules rules))
+    → alternatives_of_rules rules ≤ 2 ^ 64 → (why : CoverageFault) → IsParserRefusal (marked_rules rules) why
+    → IsCoverageRefusal rules why
+refused-parser rules is distinct few coverage.NotWellFormed refused =
+    ∥∥₁_elim is (hlevel) (λ grammar formed. refused (well_formed-marked rules grammar.defined distinct few formed))
+refused-parser rules is distinct few coverage.MarkedName refused = absurd refused
+refused-parser rules is distinct few coverage.TooManyParts refused = absurd refused
+refused-parser rules is distinct few coverage.CodeTooLarge refused = refused
+refused-parser rules is distinct few coverage.Memory refused = tt
+
+-- an error that is a fault
+pub refused-error : {X : Type 0} (rules : List Rule) (result : Result X CoverageFault) (why : CoverageFault)
+    → IsErrAnd result (λ fault. fault ≡ why) → IsCoverageRefusal rules why → IfErr result (IsCoverageRefusal rules)
+refused-error rules (Ok x) why is refused = tt
+refused-error rules (Err fault) why is refused = subst (IsCoverageRefusal rules) (sym is) refused

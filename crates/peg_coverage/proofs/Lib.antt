@@ -1,0 +1,2 @@
+mod CoverageLemmas
+mod CoveredLemmas
