@@ -38,7 +38,10 @@ dist: ## make a tarball of what make install installs, in out/
 test: ## the gate: proofs, wrong edits, tests, scripts, documents
 	tests/gate.sh
 
-test-bindings: ## test the C library and the Python package against the built program
+$(PROGRAM):
+	$(MAKE) --no-print-directory run
+
+test-bindings: $(PROGRAM) ## test the C library and the Python package against the program
 	tests/bindings.sh $(PROGRAM)
 	tests/python.sh $(PROGRAM)
 
