@@ -1,97 +1,48 @@
 -- The start of a parse by the diagnostic grammar and by the grammar as written.
-use Rattle.std.proofs.Common.{◌≡◌, ℕ, suc, ◌+◌, ◌<◌, Bool, true, false, not, cond, ◌||◌, List, [], ◌∷◌, ◌++◌}
-use Rattle.std.proofs.Common.{length, map, get_or, nat_lt, position, Option, None, Some, is_some, bytes_eq, if◌then◌else◌}
-use Rattle.std.proofs.Common.{refl, sym, ap, ◌∙◌, arith}
-use Rattle.std.proofs.lemmas.Bool.Decides.{nat_tests}
-use Rattle.std.proofs.lemmas.List.{length-append, length-map}
-use Rattle.std.proofs.lemmas.List.Folds.{list_any-append}
+use Rattle.std.proofs.Common.{◌≡◌, ℕ, suc, ◌<◌, Bool, true, false, ◌||◌, List, [], ◌∷◌}
+use Rattle.std.proofs.Common.{length, map, get_or, position, Option, None, Some, is_some, bytes_eq, if◌then◌else◌}
+use Rattle.std.proofs.Common.{refl, sym, ◌∙◌, arith}
+use Rattle.std.proofs.lemmas.List.{length-map}
 use Rattle.std.proofs.lemmas.Slice.Eq.{bytes_eq-Decides}
-use Rattle.std.specs.List.{list_any, position_or_len}
+use Rattle.std.specs.List.{list_any}
 use Rattle.peg_semantics.specs.Rules.{Rule, names, name_of, is_defined}
 use Rattle.peg_semantics.specs.Starts.{start_name}
 use Rattle.peg_diagnostics.specs.Diagnostic.{diagnostic_rules, quiet_rule}
 use Rattle.peg_diagnostics.proofs.Lookups.{names-diagnostic}
+use Rattle.peg_diagnostics.proofs.OwnStarts as own
 use Rattle.peg_parser.proofs.RuleNames.{name-numbered}
 
-module _ {X : Type 0} (p : X → Bool) where
-  -- an item of the first list passes exactly if the search in both lists ends before the second
-  early : (xs ys : List X) → nat_lt (position_or_len p (xs ++ ys)) (length xs) ≡ list_any p xs
-  early [] ys = grind (arith, nat_tests)
-  early (x ∷ xs) ys = by (p x) (early xs ys)
-    where
-      by : (b : Bool) → nat_lt (position_or_len p (xs ++ ys)) (length xs) ≡ list_any p xs
-          → nat_lt (cond (not b) (1 + position_or_len p (xs ++ ys)) 0) (suc (length xs)) ≡ (b || list_any p xs)
-      by true later = grind (arith, nat_tests)
-      by false later = grind (arith, nat_tests) ∙ later
-
-  -- an item that passes has an index
-  pub any-at : (d : X) (xs : List X) → list_any p xs ≡ true → (k : ℕ) × (k < length xs) × (p (get_or xs k d) ≡ true)
-  any-at d [] some = cc
-  any-at d (x ∷ xs) some = by (p x) refl (any-at d xs) some
-    where
-      by : (b : Bool) → p x ≡ b → (list_any p xs ≡ true → (k : ℕ) × (k < length xs) × (p (get_or xs k d) ≡ true))
-          → (b || list_any p xs) ≡ true → (k : ℕ) × (k < length (x ∷ xs)) × (p (get_or (x ∷ xs) k d) ≡ true)
-      by true is later some = (0, omega arith, is)
-      by false is later some = let at = later some in (suc at.0, omega (arith, at.1), at.2)
-
--- whether the number of a name is one of the rules as written
-abbrev pub is_below : (most : ℕ) → Option ℕ → Bool
-is_below most None = false
-is_below most (Some number) = nat_lt number most
-
--- the search in both lists finds an index below the length of the first exactly if an item of the first passes
-below-first : {X : Type 0} (p : X → Bool) (xs ys : List X)
-    → is_below (length xs) (position p (xs ++ ys)) ≡ list_any p xs
-below-first p xs ys = by (nat_lt (position_or_len p (xs ++ ys)) (length (xs ++ ys))) refl
+-- an item that passes has an index
+pub any-at : {X : Type 0} (p : X → Bool) (d : X) (xs : List X) → list_any p xs ≡ true
+    → (k : ℕ) × (k < length xs) × (p (get_or xs k d) ≡ true)
+any-at p d [] some = cc
+any-at p d (x ∷ xs) some = by (p x) refl (any-at p d xs) some
   where
-    by : (b : Bool) → nat_lt (position_or_len p (xs ++ ys)) (length (xs ++ ys)) ≡ b
-        → is_below (length xs) (cond b (Some (position_or_len p (xs ++ ys))) None) ≡ list_any p xs
-    by true inside = early p xs ys
-    by false outside =
-        let size = length-append xs ys in
-        let none : false ≡ nat_lt (position_or_len p (xs ++ ys)) (length xs) = grind (arith, nat_tests) in
-        none ∙ early p xs ys
-
--- the search among the rules as written and the quiet copies
-below-defined : (rules : List Rule) (name : List ℕ)
-    → is_below (length rules) (position (bytes_eq name) (names (diagnostic_rules rules))) ≡ is_defined rules name
-below-defined rules name =
-    ap (λ (all : List (List ℕ)). is_below (length rules) (position (bytes_eq name) all)) (names-diagnostic rules)
-    ∙ ap
-    (λ (n : ℕ). is_below n (position (bytes_eq name) (names rules ++ names (map quiet_rule rules))))
-    (sym (length-map rules (λ rule. rule.name)))
-    ∙ below-first (bytes_eq name) (names rules) (names (map quiet_rule rules))
+    by : (b : Bool) → p x ≡ b → (list_any p xs ≡ true → (k : ℕ) × (k < length xs) × (p (get_or xs k d) ≡ true))
+        → (b || list_any p xs) ≡ true → (k : ℕ) × (k < length (x ∷ xs)) × (p (get_or (x ∷ xs) k d) ≡ true)
+    by true is later some = (0, omega arith, is)
+    by false is later some = let at = later some in (suc at.0, omega (arith, at.1), at.2)
 
 -- whether a start by name is a rule of the grammar as written
 pub start-below : (rules : List Rule) (named : Option (List ℕ)) (name : List ℕ) (found : Option ℕ)
     → named ≡ Some name → found ≡ position (bytes_eq name) (names (diagnostic_rules rules))
-    → is_below (length rules) found ≡ is_some (start_name rules named)
-start-below rules named name found is at =
-    ap (is_below (length rules)) at ∙ below-defined rules name ∙ as_some (is_defined rules name)
-    ∙ sym (ap (λ (n : Option (List ℕ)). is_some (start_name rules n)) is)
-  where
-    as_some : (b : Bool) → b ≡ is_some (if b then Some name else None)
-    as_some true = refl
-    as_some false = refl
+    → own.is_below (length rules) found ≡ is_some (start_name rules named)
+start-below rules =
+    own.start-below rules (diagnostic_rules rules) (names (map quiet_rule rules)) (names-diagnostic rules)
 
 -- ---- the name of a start
+
+-- the first rule keeps its name
+first-name : (rules : List Rule) → 0 < length rules → name_of (diagnostic_rules rules) 0 ≡ name_of rules 0
+first-name [] some = absurd (omega arith)
+first-name (rule ∷ rules) some = refl
 
 -- a start of the grammar as written is a start of the diagnostic grammar
 pub same-start : (rules : List Rule) (named : Option (List ℕ)) (start : List ℕ) → 0 < length rules
     → start_name rules named ≡ Some start → start_name (diagnostic_rules rules) named ≡ Some start
-same-start [] None start some is = absurd (omega arith)
-same-start (rule ∷ rules) None start some is = is
-same-start rules (Some name) start some is = by (is_defined rules name) refl is
-  where
-    by : (b : Bool) → is_defined rules name ≡ b → (if b then Some name else None) ≡ Some start
-        → start_name (diagnostic_rules rules) (Some name) ≡ Some start
-    by false missing is = let bad : None ≡ Some start = is in cc
-    by true defined is =
-        let found =
-        ap (list_any (bytes_eq name)) (names-diagnostic rules)
-        ∙ list_any-append (bytes_eq name) (names rules) (names (map quiet_rule rules))
-        ∙ ap (λ b. b || list_any (bytes_eq name) (names (map quiet_rule rules))) defined in
-        ap (λ (b : Bool). if b then Some name else None) found ∙ is
+same-start rules named start some is =
+    own.same-start rules (diagnostic_rules rules) (names (map quiet_rule rules)) (names-diagnostic rules)
+    (first-name rules some) named start is
 
 -- a start of the grammar is a rule
 pub start-numbered : (rules : List Rule) (named : Option (List ℕ)) (start : List ℕ) → 0 < length rules

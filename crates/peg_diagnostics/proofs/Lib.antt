@@ -14,12 +14,13 @@ mod LoudRecords
 pub mod MarkBounds
 pub mod MarkedWellFormed
 mod MarkLoops
-mod MarkedGrammar
+pub mod MarkedGrammar
 mod MarkedKept
 mod MarkedLookups
 mod MarkedOutcomes
 mod MarkedRecords
 mod NumberLoops
+pub mod OwnStarts
 mod Placement
 mod RefusalLemmas
 mod Renaming

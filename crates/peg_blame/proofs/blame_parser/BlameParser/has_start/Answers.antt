@@ -1,7 +1,8 @@
 use Rattle.std.proofs.Common.{◌∙◌, List, ap, bytes_eq, length, nat_lt, option_map, position, sym}
+use Rattle.peg_diagnostics.proofs.OwnStarts.{is_below}
 use Rattle.peg_parser.specs.Parser.{start_named}
 use Rattle.peg_semantics.specs.Rules.{Rule, names}
-use Rattle.peg_blame.proofs.BlameStarts.{is_below, start-below}
+use Rattle.peg_blame.proofs.BlameStarts.{start-below}
 use Rattle.peg_blame.proofs.blame_parser.BlameParser.has_start.Goals as goal
 
 pub returns-in-Some-rule_number : goal.returns-in-Some-rule_number
