@@ -1,12 +1,9 @@
 -- The rules of a tree's nodes, and what a parse by the marked grammar covers.
-use Rattle.std.proofs.Common.{◌≡◌, ℕ, ◌+◌, ◌<◌, ◌++◌, Bool, ◌||◌, List, [], ◌∷◌, All, map, Option, None, Some, IfSome, sym, ap, ◌∙◌, subst}
+use Rattle.std.proofs.Common.{◌≡◌, ℕ, ◌+◌, ◌<◌, ◌++◌, Bool, ◌||◌, List, [], ◌∷◌, All, map, Option, Some, IfSome, sym, subst}
 use Rattle.std.proofs.lemmas.List.Elements.{All-nil, All-cons, All-head, All-tail, All-append}
-use Rattle.peg_bytes.specs.Extent.{between}
 use Rattle.peg_grammar.specs.Outcomes.{IsParseOutcome, parsed_of}
-use Rattle.peg_semantics.specs.Form.{Name}
-use Rattle.peg_semantics.specs.Record.{Recognition, Record}
+use Rattle.peg_semantics.specs.Record.{Recognition}
 use Rattle.peg_semantics.specs.Rules.{Rule}
-use Rattle.peg_semantics.proofs.RecordLemmas.{one_record}
 use Rattle.peg_tree.specs.Nodes.{RulesBelow}
 use Rattle.peg_tree.specs.Rows.{Row, row_of, rows_of}
 use Rattle.peg_tree.specs.Selected.{has_rule}
@@ -47,18 +44,18 @@ covered : (rules : List Rule) (text start : List ℕ) (outcome : Outcome) (befor
     → ((r : Recognition) → outcome.result ≡ parsed_of r → (found ≡ match_of r)
     × ((rule : ℕ) → has_rule after rule ≡ (has_node rule r || has_rule before rule)))
     → HasCovered rules text start before after found
-covered rules text start outcome before after found is noted r recognized =
+covered rules text start outcome before after found is noted =
     let held = is.1 in
-    let same : held.0 ≡ r =
-    one_record rules text (Name start (between 0 0)) 0 0 held.0 r (is.0, held.1) recognized in
-    noted r.result (held.2 ∙ ap (λ (s : Record). parsed_of s.result) same)
+    let all = noted held.0.result held.2 in
+    (held.0, (is.0, held.1), all.0, all.1)
 
-pub some_covered : (rules : List Rule) (text : List ℕ) (start : Option (List ℕ)) (outcome : Outcome)
-    (before after : List Bool) (found : TextMatch)
-    → IfSome start (λ name. IsParseOutcome rules text name outcome)
+pub some_covered : (rules : List Rule) (text : List ℕ) (start known : Option (List ℕ)) (from : List ℕ) (outcome : Outcome)
+    (before after : List Bool) (found : TextMatch) → start ≡ Some from → known ≡ Some from
+    → IfSome known (λ name. IsParseOutcome rules text name outcome)
     → ((r : Recognition) → outcome.result ≡ parsed_of r → (found ≡ match_of r)
     × ((rule : ℕ) → has_rule after rule ≡ (has_node rule r || has_rule before rule)))
     → IfSome start (λ name. HasCovered rules text name before after found)
-some_covered rules text None outcome before after found is noted = tt
-some_covered rules text (Some start) outcome before after found is noted =
-    covered rules text start outcome before after found is noted
+some_covered rules text start known from outcome before after found is there given noted =
+    subst (λ (s : Option (List ℕ)). IfSome s (λ name. HasCovered rules text name before after found)) (sym is)
+    (covered rules text from outcome before after found
+    (subst (λ (s : Option (List ℕ)). IfSome s (λ name. IsParseOutcome rules text name outcome)) there given) noted)

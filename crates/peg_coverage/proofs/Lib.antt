@@ -1,2 +1,4 @@
 mod CoverageLemmas
 mod CoveredLemmas
+mod StartLemmas
+mod UnusedLemmas

@@ -6,11 +6,12 @@ use Rattle.peg_parser.specs.Parser.{parser_rules}
 use Rattle.peg_semantics.specs.Rules.{Rule, names}
 use Rattle.peg_coverage.specs.declared.coverage_parser.CoverageParser.{CoverageParser}
 
--- The parser was made for these rules. It has the parser of their marked grammar, whose names are distinct, and the span
--- of each alternative.
+-- The parser was made for these rules. It has the parser of their marked grammar, whose names are distinct, the number
+-- of the rules themselves, and the span of each alternative.
 pub record IsCoverageParserOf (rules : List Rule) (parser : CoverageParser) : Type 0 where
   pub marked : parser_rules parser.parser ≡ marked_rules rules
   pub distinct : AllPairs (λ (a b : List ℕ). a ≢ b) (names (marked_rules rules))
+  pub own : parser.own_rules ≡ length rules
   pub spans : map extent parser.alternatives.items ≡ extents_of_alternatives rules
 
 -- the number of rules of the parser's marked grammar

@@ -6,3 +6,4 @@ pub use Rattle.peg_semantics.specs.Starts
 pub mod Covered
 pub mod CoverageFaults
 pub mod CoverageParser
+pub mod Unused

@@ -1,6 +1,6 @@
 //! Parsers that note which rules and alternatives a text uses.
-ghost use Rattle.std.specs.Prelude.{◌≡◌, ◌↔◌, ◌<◌, ◌≤◌, ℕ, List, IfErr, IfOk, IfSome, IsErrOf, None, OnErr, OnOk, Some};
-ghost use Rattle.std.specs.Prelude.{length, map, ◌||◌};
+ghost use Rattle.std.specs.Prelude.{◌≡◌, ◌↔◌, ◌<◌, ◌+◌, ℕ, List, IfErr, IfOk, IfSome, IsErrOf, None, OnErr, OnOk};
+ghost use Rattle.std.specs.Prelude.{Some, is_some, length, map, ◌||◌};
 ghost use Rattle.peg_bytes.specs.Extent.{extent};
 ghost use Rattle.peg_coverage.specs.Covered.{HasCovered, has_node, match_of};
 ghost use Rattle.peg_coverage.specs.CoverageFaults.{IsCoverageRefusal, IsParserRefusal};
@@ -15,7 +15,6 @@ ghost use Rattle.peg_parser.specs.Parser.{parser_rules, start_named};
 ghost use Rattle.peg_parser.specs.StepLimits.{TakesMoreSteps};
 ghost use Rattle.peg_semantics.specs.Rules.{Rule};
 ghost use Rattle.peg_semantics.specs.Starts.{start_name};
-ghost use Rattle.peg_semantics.specs.WellFormed.{IsWellFormedGrammar};
 
 use crate::fault::CoverageFault;
 use crate::used_rules::add_rules;
@@ -24,14 +23,17 @@ use peg_diagnostics::{alternative_spans, marked_grammar};
 use peg_grammar::Grammar;
 use peg_parser::{ParseFault, ParseOptions, Parser, Refusal};
 use peg_tree::{Parsed, RuleSet};
-use std::alloc::Global;
+use std::alloc::{AllocError, Global};
 
 /// The parser of a grammar's marked grammar. It parses as the grammar does. In the trees, the rules of the grammar come
 /// with markers: rules of their own for alternatives that have matched.
 #[derive(Drop)]
 pub struct CoverageParser {
     parser: Parser,
+    // The number of the grammar's own rules. Those of markers come after them.
+    own_rules: u32,
     alternatives: Vec<Span>,
+    ghost count: { own_rules + length alternatives.items ≡ length (parser_rules parser) },
 }
 
 /// Whether a text matches.
@@ -45,6 +47,7 @@ pub enum TextMatch {
 
 impl CoverageParser {
     ghost use Rattle.peg_coverage.specs.CoverageParser.{IsCoverageParserOf, rule_count};
+    ghost use Rattle.peg_coverage.specs.Unused.{unused_alternatives, unused_rules};
 
     /// Returns the parser of coverage for a grammar, or why it has none. It has one if four things hold. The grammar is
     /// well-formed (Ford 2004, section 3.6). No name of a rule contains `!`. The marked grammar and its code are within
@@ -65,6 +68,7 @@ impl CoverageParser {
         let alternatives = alternative_spans(alloc, grammar)?;
         Ok(CoverageParser {
             parser,
+            own_rules: grammar.rules(),
             alternatives,
         })
     }
@@ -87,12 +91,26 @@ impl CoverageParser {
         self.parser.grammar().rules()
     }
 
+    /// Returns whether the grammar has the start rule of these options: a rule with its name, if one is given. Linear in
+    /// the length of the name, except for hashing.
+    pub fn has_start(&self, options: &ParseOptions<'_>) -> bool
+        ensures { (rules : List Rule) → IsCoverageParserOf rules self.now
+            → result ≡ is_some (start_name rules (start_named options.now)) }
+    {
+        match options.start {
+            None => true,
+            Some(name) => match self.parser.grammar().rule_number(name) {
+                Some(rule) => rule < self.own_rules,
+                None => false,
+            },
+        }
+    }
+
     /// Parses a prefix of a text, and adds the rules and alternatives to a set that have a node in its tree. A text that
     /// fails adds none. The set must be one for `rules` rules.
     ///
     /// The match is that of the grammar as written, which a law of `marked_grammar` says. The errors are those of
-    /// `Parser::parse` for the marked grammar, and the set is then as it was. The names of markers, such as `!0`, are
-    /// starts, too. The steps are those of the marked grammar.
+    /// `Parser::parse`, and the set is then as it was. The steps are those of the marked grammar.
     ///
     /// # Example
     ///
@@ -111,12 +129,12 @@ impl CoverageParser {
     ) -> Result<TextMatch, ParseFault>
         requires { length used.old ≡ rule_count self.now }
         ensures no_start { (rules : List Rule) → IsCoverageParserOf rules self.now
-            → (IsErrOf result ParseFault.NoSuchStart ↔ (start_name (marked_rules rules) (start_named options.now) ≡ None)) }
+            → (IsErrOf result ParseFault.NoSuchStart ↔ (start_name rules (start_named options.now) ≡ None)) }
         ensures long { (rules : List Rule) (start : List ℕ) → IsCoverageParserOf rules self.now
-            → start_name (marked_rules rules) (start_named options.now) ≡ Some start
+            → start_name rules (start_named options.now) ≡ Some start
             → (IsErrOf result ParseFault.TextTooLong ↔ (max_text_bytes < length text.now)) }
         ensures covered { (rules : List Rule) → IsCoverageParserOf rules self.now → IfOk result (λ found.
-            IfSome (start_name (marked_rules rules) (start_named options.now))
+            IfSome (start_name rules (start_named options.now))
             (λ start. HasCovered (marked_rules rules) text.now start used.old used.new found)) }
         ensures count { length used.new ≡ length used.old }
         ensures unchanged { OnErr result (used.new ≡ used.old) }
@@ -125,10 +143,47 @@ impl CoverageParser {
         ensures enough { (rules : List Rule) → IsCoverageParserOf rules self.now → options.now.memo ≡ 0 → OnOk result
             (¬ TakesMoreSteps (marked_rules rules) text.now (start_named options.now) options.now.steps) }
     {
+        if !self.has_start(options) {
+            return Err(ParseFault::NoSuchStart);
+        }
         match self.parser.parse(alloc, text, options) {
             Ok(answer) => Ok(note_match(&answer.outcome.result, used)),
             Err(fault) => Err(fault),
         }
+    }
+
+    /// Returns the numbers of the grammar's rules that aren't in a set, in ascending order. Linear in the number of
+    /// rules. The only error is a failed allocation.
+    pub fn unused_rules(&self, alloc: Global, used: &RuleSet) -> Result<Vec<u32>, AllocError>
+        ensures { (rules : List Rule) → IsCoverageParserOf rules self.now
+            → IfOk result (λ numbers. numbers.items ≡ unused_rules rules used.now) }
+    {
+        let mut numbers = Vec::new(alloc);
+        'rules: for rule in 0..self.own_rules {
+            if !used.contains(rule) {
+                numbers.push(rule)?;
+            }
+        }
+        Ok(numbers)
+    }
+
+    /// Returns the spans of the alternatives that aren't in a set, in written order. Linear in the number of
+    /// alternatives. The only error is a failed allocation.
+    pub fn unused_alternatives(
+        &self,
+        alloc: Global,
+        used: &RuleSet,
+    ) -> Result<Vec<Span>, AllocError>
+        ensures { (rules : List Rule) → IsCoverageParserOf rules self.now
+            → IfOk result (λ spans. map extent spans.items ≡ unused_alternatives rules used.now) }
+    {
+        let mut spans = Vec::new(alloc);
+        'markers: for marker in self.own_rules..self.rules() {
+            if !used.contains(marker) {
+                spans.push(self.alternatives[(marker - self.own_rules) as usize])?;
+            }
+        }
+        Ok(spans)
     }
 }
 

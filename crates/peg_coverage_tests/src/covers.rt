@@ -1,4 +1,5 @@
 //! Tests of the rules and alternatives that texts use.
+use peg_bytes::Span;
 use peg_coverage::{CoverageParser, ParseOptions, TextMatch};
 use peg_grammar::Grammar;
 use peg_notation::read;
@@ -101,4 +102,51 @@ fn each_call_of_a_rule_has_its_alternative(rt: HostRuntime) -> Result<(), Fail> 
     let texts: [(&[u8], TextMatch); 1] = [(b"bb", TextMatch::Matched)];
     let used = [true, false, true, false, true, true, true];
     assert_used(&rt, rt.alloc(), RULES, &texts, &used)
+}
+
+// Compares the rules and the spans of alternatives that texts don't use.
+fn assert_unused(
+    rt: &impl Abort,
+    alloc: Global,
+    texts: &[&[u8]],
+    rules: &[u32],
+    alternatives: &[Span],
+) -> Result<(), Fail> {
+    let parser = coverage_parser_of(alloc, RULES)?;
+    let options = ParseOptions {
+        start: None,
+        memo: 0,
+        steps: None,
+    };
+    let mut used = RuleSet::none(alloc, parser.rules())?;
+    'texts: for text in texts {
+        let _found = parser.cover(alloc, text, &options, &mut used)?;
+    }
+    let unused = parser.unused_rules(alloc, &used)?;
+    assert_eq!(rt; unused.as_slice(), rules);
+    let unused = parser.unused_alternatives(alloc, &used)?;
+    assert_eq!(rt; unused.as_slice(), alternatives);
+    Ok(())
+}
+
+#[test]
+fn rules_and_alternatives_without_a_node_are_unused(rt: HostRuntime) -> Result<(), Fail> {
+    let spans = [Span::new(9, 10), Span::new(25, 30), Span::new(33, 36)];
+    assert_unused(&rt, rt.alloc(), &[b"a"], &[2], &spans)
+}
+
+#[test]
+fn texts_may_use_everything(rt: HostRuntime) -> Result<(), Fail> {
+    assert_unused(&rt, rt.alloc(), &[b"a", b"bb"], &[], &[])
+}
+
+#[test]
+fn no_text_uses_nothing(rt: HostRuntime) -> Result<(), Fail> {
+    let spans = [
+        Span::new(5, 6),
+        Span::new(9, 10),
+        Span::new(25, 30),
+        Span::new(33, 36),
+    ];
+    assert_unused(&rt, rt.alloc(), &[], &[0, 1, 2], &spans)
 }

@@ -72,3 +72,29 @@ fn an_error_leaves_the_set(rt: HostRuntime) -> Result<(), Fail> {
     assert!(rt; used.contains(0));
     Ok(())
 }
+
+// `!0` is the marker of the first alternative, and C is no rule.
+#[test]
+fn starts_are_rules_of_the_grammar(rt: HostRuntime) -> Result<(), Fail> {
+    let alloc = rt.alloc();
+    let parser = coverage_parser_of(alloc, b"S <- A / B\nA <- 'a'\nB <- 'b'")?;
+    let cases = [
+        (None, true),
+        (Some("S"), true),
+        (Some("B"), true),
+        (Some("C"), false),
+        (Some("!0"), false),
+    ];
+    for (start, known) in cases {
+        let options = ParseOptions {
+            start,
+            memo: 0,
+            steps: None,
+        };
+        assert_eq!(rt; parser.has_start(&options), known);
+        let mut used = RuleSet::none(alloc, parser.rules())?;
+        let ended = parser.cover(alloc, b"b", &options, &mut used);
+        assert_eq!(rt; matches!(&ended, Err(ParseFault::NoSuchStart)), !known);
+    }
+    Ok(())
+}

@@ -1,12 +1,13 @@
-use Rattle.std.proofs.Common.{◌≡◌, List, Err, IfSome, ap, subst, sym}
+use Rattle.std.proofs.Common.{◌≡◌, ◌∙◌, List, Err, IfSome, None, Some, ap, rules as by_rules, subst, sym, true}
 use Rattle.peg_diagnostics.specs.Marked.{marked_rules}
 use Rattle.peg_grammar.specs.Outcomes.{IsParseOutcome}
-use Rattle.peg_parser.specs.Parser.{start_named}
+use Rattle.peg_parser.specs.Parser.{parser_rules, start_named}
 use Rattle.peg_parser.specs.StepLimits.{TakesMoreSteps}
-use Rattle.peg_parser.specs.declared.parser.ParseFault.TheVariants.{StepLimit}
+use Rattle.peg_parser.specs.declared.parser.ParseFault.TheVariants.{NoSuchStart, StepLimit, TextTooLong}
 use Rattle.peg_semantics.specs.Rules.{Rule}
 use Rattle.peg_semantics.specs.Starts.{start_name}
 use Rattle.peg_coverage.proofs.CoveredLemmas.{some_covered}
+use Rattle.peg_coverage.proofs.StartLemmas.{start-marked, start-some}
 use Rattle.peg_coverage.proofs.coverage_parser.CoverageParser.cover.Goals as goal
 
 pub returns-in-Ok-clause-covered : goal.returns-in-Ok-clause-covered
@@ -14,8 +15,10 @@ returns-in-Ok-clause-covered c rules is =
     let text = c.args.text.now in
     let named = start_named c.args.options.now in
     let outcome = c.in-Ok.answer.outcome in
-    some_covered (marked_rules rules) text (start_name (marked_rules rules) named) outcome c.args.used.now
-    c.note_match.new.used c.note_match.result
+    let held : c.has_start.result ≡ true = search by_rules in
+    let from = start-some (start_name rules named) (sym (c.has_start.ensures rules is) ∙ held) in
+    some_covered (marked_rules rules) text (start_name rules named) (start_name (marked_rules rules) named) from.0 outcome
+    c.args.used.now c.note_match.new.used c.note_match.result from.1 (start-marked rules named from.0 from.1)
     (subst (λ (all : List Rule). IfSome (start_name all named) (λ start. IsParseOutcome all text start outcome))
     is.marked c.in-Ok.ensures.outcome) c.note_match.ensures.noted
 
@@ -24,6 +27,29 @@ returns-in-Ok-clause-enough c rules is none more =
     c.in-Ok.ensures.enough none
     (subst (λ (all : List Rule). TakesMoreSteps all c.args.text.now (start_named c.args.options.now)
     c.args.options.now.steps) (sym is.marked) more)
+
+pub returns-in-Err-clause-no_start : goal.returns-in-Err-clause-no_start
+returns-in-Err-clause-no_start c rules is =
+    let named = start_named c.args.options.now in
+    let held : c.has_start.result ≡ true = search by_rules in
+    let from = start-some (start_name rules named) (sym (c.has_start.ensures rules is) ∙ held) in
+    let there : start_name (parser_rules c.args.self.now.parser) named ≡ Some from.0 =
+    ap (λ (all : List Rule). start_name all named) is.marked ∙ start-marked rules named from.0 from.1 in (
+      λ bad.
+          let same : c.in-Err.fault ≡ NoSuchStart = cc in
+          let both : None ≡ Some from.0 = sym (c.in-Err.ensures.no_start.0 (ap Err same)) ∙ there in
+          cc,
+      λ none. let both : None ≡ Some from.0 = sym none ∙ from.1 in cc,
+    )
+
+pub returns-in-Err-clause-long : goal.returns-in-Err-clause-long
+returns-in-Err-clause-long c rules start is at =
+    let named = start_named c.args.options.now in
+    let long = c.in-Err.ensures.long start
+    (ap (λ (all : List Rule). start_name all named) is.marked ∙ start-marked rules named start at) in (
+      λ bad. let same : c.in-Err.fault ≡ TextTooLong = cc in long.0 (ap Err same),
+      λ over. let same : c.in-Err.fault ≡ TextTooLong = let both = long.1 over in cc in ap Err same,
+    )
 
 pub returns-in-Err-clause-limited : goal.returns-in-Err-clause-limited
 returns-in-Err-clause-limited c rules is limit =

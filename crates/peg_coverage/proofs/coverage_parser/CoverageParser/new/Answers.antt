@@ -1,10 +1,13 @@
-use Rattle.std.proofs.Common.{List, ◌∙◌, subst, arith}
+use Rattle.std.proofs.Common.{List, ◌∙◌, ap, length, subst, arith}
+use Rattle.std.proofs.lemmas.List.{length-map}
+use Rattle.peg_bytes.specs.Extent.{extent}
 use Rattle.peg_diagnostics.proofs.Lookups.{Distinct}
 use Rattle.peg_diagnostics.proofs.MarkBounds.{alternatives-rules}
 use Rattle.peg_grammar.specs.GrammarRules.{rules_in}
 use Rattle.peg_semantics.specs.Rules.{Rule, names}
 use Rattle.peg_coverage.specs.CoverageFaults.{IsParserRefusal}
 use Rattle.peg_coverage.proofs.CoverageLemmas.{names-distinct, refused-error, refused-parser}
+use Rattle.peg_coverage.proofs.UnusedLemmas.{length-marked}
 use Rattle.peg_coverage.proofs.coverage_parser.CoverageParser.new.Goals as goal
 
 pub returns-in_err-parser-clause-refused : goal.returns-in_err-parser-clause-refused
@@ -26,5 +29,20 @@ returns-clause-made c =
       marked = c.in_ok-parser.ensures.rules ∙ same;
       distinct = subst (λ (shown : List Rule). Distinct (names shown)) same
           (names-distinct (rules_in c.in_ok-marked.marked) c.in_ok-marked.marked.grammar);
+      own = c.rules.ensures.count;
       spans = c.in_ok-alternatives.ensures;
     }
+
+pub invariant_of-result : goal.invariant_of-result
+invariant_of-result c =
+    let rules = rules_in c.args.grammar.now in
+    let spans = c.in_ok-alternatives.alternatives.items in
+    let all = c.in_ok-parser.ensures.rules ∙ c.in_ok-marked.ensures.rules in
+    omega (
+      arith,
+      c.rules.ensures.count,
+      ap length all,
+      length-marked rules,
+      length-map spans extent,
+      ap length c.in_ok-alternatives.ensures,
+    )
