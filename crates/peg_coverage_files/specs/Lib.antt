@@ -1,0 +1,11 @@
+pub use Rattle.peg_coverage.specs.CoverageParser
+pub use Rattle.peg_coverage.specs.Unused
+pub use Rattle.peg_grammar.specs.Limits
+pub use Rattle.peg_io.specs.NamedFile
+pub use Rattle.peg_parser.specs.Parser
+pub use Rattle.peg_parser.specs.StepLimits
+pub use Rattle.peg_semantics.specs.Rules
+pub use Rattle.peg_semantics.specs.Starts
+pub mod CoveredTexts
+pub mod CoveringFaults
+pub mod NamedTexts

@@ -1,0 +1,9 @@
+//! Coverage of files: reads texts by name, and says which rules and alternatives of a grammar they use.
+#![tactic(auto)]
+
+mod covering;
+mod fault;
+
+pub use covering::cover_files;
+pub use fault::CoveringFault;
+pub use peg_coverage::{Coverage, CoverageParser};
