@@ -1,10 +1,10 @@
 -- Describes code: which argument of the command line goes to which field.
-use Rattle.std.specs.Prelude.{◌≡◌, true, false, ℕ, Bool, List, [], Option, None, Some, map, unwrap_or, option_map, string_bytes, codes}
+use Rattle.std.specs.Prelude.{◌≡◌, true, false, ℕ, Bool, List, [], ◌∷◌, Option, None, Some, map, unwrap_or, option_map, string_bytes, codes}
 use Rattle.std.specs.Str.Parse.{digits_value, without_leading_plus}
 use Rattle.clap.specs.Matches.{first_value, matched_of, one_text, raw_values}
 use Rattle.clap.specs.declared.parser.matches.Found.{Found}
 use Rattle.peg_cli.specs.declared.words.Words.{Words}
-use Rattle.peg_cli.specs.declared.words.Words.TheVariants.{Joined, Help, Table, Check, Code, Lint, Profile, Explain, Parse}
+use Rattle.peg_cli.specs.declared.words.Words.TheVariants.{Joined, Help, Table, Check, Code, Lint, Profile, Coverage, Explain, Parse}
 
 -- all values of an argument, in the order of the command line; none if it is not given
 abbrev pub all_values : Found → (id : List ℕ) → List (List ℕ)
@@ -32,8 +32,16 @@ IsCommandOf name found (Lint g start proved) = (name ≡ codes "lint")
     × (first_value found (codes "start") ≡ option_map string_bytes start)
     × IsFlagAt found (codes "proved") proved
 IsCommandOf name found (Profile g t start memo steps) = (name ≡ codes "profile")
+    × IsFlagAt found (codes "coverage") false
     × (first_value found (codes "G") ≡ Some (string_bytes g))
-    × (first_value found (codes "T") ≡ Some (string_bytes t))
+    × (all_values found (codes "T") ≡ string_bytes t ∷ [])
+    × (first_value found (codes "start") ≡ option_map string_bytes start)
+    × (number_at found (codes "memo") ≡ Some memo)
+    × (number_at found (codes "steps") ≡ steps)
+IsCommandOf name found (Coverage g texts start memo steps) = (name ≡ codes "profile")
+    × IsFlagAt found (codes "coverage") true
+    × (first_value found (codes "G") ≡ Some (string_bytes g))
+    × (all_values found (codes "T") ≡ map string_bytes texts.items)
     × (first_value found (codes "start") ≡ option_map string_bytes start)
     × (number_at found (codes "memo") ≡ Some memo)
     × (number_at found (codes "steps") ≡ steps)

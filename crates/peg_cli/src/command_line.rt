@@ -77,10 +77,11 @@ fn lint<'a>(alloc: Global) -> Result<Command<'a>, AllocError> {
 
 fn profile<'a>(alloc: Global) -> Result<Command<'a>, AllocError> {
     Command::new(alloc, "profile")
-        .about("Prints how often a parse calls each rule, and at how many positions")
+        .about("Prints how often a parse calls each rule, or what texts use of a grammar")
         .after_help(PROFILE_NOTES)
         .arg(grammar_file(alloc))?
-        .arg(text_file(alloc))?
+        .arg(profiled_files(alloc))?
+        .arg(coverage_flag(alloc))?
         .arg(start_option(alloc))?
         .arg(memo_option(alloc, "0"))?
         .arg(steps_option(alloc).default_value("1000000000"))
@@ -129,6 +130,21 @@ fn text_file<'a>(alloc: Global) -> Arg<'a> {
     Arg::new(alloc, "T")
         .help("The file to parse")
         .required(true)
+}
+
+// One file, or several under `--coverage`, before, between and after options.
+fn profiled_files<'a>(alloc: Global) -> Arg<'a> {
+    Arg::new(alloc, "T")
+        .num_args(1..)
+        .help("The file to parse, or several with --coverage")
+        .required(true)
+}
+
+fn coverage_flag<'a>(alloc: Global) -> Arg<'a> {
+    Arg::new(alloc, "coverage")
+        .long("coverage")
+        .action(ArgAction::SetTrue)
+        .help("Prints the rules and alternatives that none of the texts uses")
 }
 
 // Any number of files, before, between and after options.
@@ -344,9 +360,14 @@ The calls are those of a run with this memo; without one they show what the
 grammar asks for by itself. The positions don't depend on the memo. \"consumed\"
 is there if the parse matched, and \"steps\" is the number of instructions.
 
-Status: 0 matched; 1 failed; 2 the grammar is refused; 3 wrong arguments, or an
-unknown rule; 4 a file can't be opened or read, or the output can't be written; 5
-out of memory; 6 TextTooLong or StepLimit.
+With --coverage, each text is parsed, and the line has the rules and alternatives
+that none of them uses: they have no node in any tree. Each has its place in the
+grammar file. This says what these texts show, not what can happen.
+
+Status: 0 matched, or everything is used; 1 failed, or something is unused; 2 the
+grammar is refused; 3 wrong arguments, or an unknown rule; 4 a file can't be opened
+or read, or the output can't be written; 5 out of memory; 6 TextTooLong, StepLimit
+or CoverageTooLarge.
 
 Example: pegtool profile grammar.peg text";
 

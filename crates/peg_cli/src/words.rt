@@ -1,10 +1,10 @@
 //! Parsing the command line arguments.
-ghost use Rattle.std.specs.Prelude.{◌≡◌, ◌≢◌, ◌≤◌, ℕ, List, [], IfOk, IfSome, Some, map, option_map, string_bytes, codes};
+ghost use Rattle.std.specs.Prelude.{◌≡◌, ◌≢◌, ◌≤◌, ◌∷◌, ℕ, List, [], IfOk, IfSome, Some, map, option_map, string_bytes, codes, true};
 ghost use Rattle.clap.specs.Matches.{found_of, first_value};
 ghost use Rattle.clap.specs.declared.parser.matches.Found.{Found};
 ghost use Rattle.clap.specs.Simple.{subcommand_rows_of};
 ghost use Rattle.clap.specs.Walk.{rows_of};
-ghost use Rattle.peg_cli.specs.Mapping.{IsCommandOf, all_values, number_at};
+ghost use Rattle.peg_cli.specs.Mapping.{IsCommandOf, IsFlagAt, all_values, number_at};
 ghost use Rattle.peg_cli.specs.Words.{IsAsking};
 
 use crate::command_line::{MAX_MEMO, MAX_STEPS, program};
@@ -12,6 +12,14 @@ use clap::error::ErrorKind;
 use clap::{ArgMatches, Error};
 use std::alloc::{AllocError, Global};
 use thiserror::Error;
+
+// The usage error for a profile of several texts.
+const SEVERAL_TEXTS: &str = "\
+error: without '--coverage', profile reads one text
+
+For more information, try '--help'.
+For this command: pegtool profile --help
+";
 
 /// What the arguments request.
 #[derive(Debug, PartialEq, Eq, Drop)]
@@ -46,6 +54,15 @@ pub enum Words {
     Profile {
         g: String,
         t: String,
+        start: Option<String>,
+        memo: u32,
+        steps: Option<u64>,
+    },
+    /// Print which rules and alternatives of grammar file `g` none of the text files `texts` uses. The other fields are
+    /// those of `ParseOptions`.
+    Coverage {
+        g: String,
+        texts: Vec<String>,
         start: Option<String>,
         memo: u32,
         steps: Option<u64>,
@@ -171,8 +188,11 @@ fn profile_of(alloc: Global, matches: &ArgMatches<'_>) -> Result<Words, WordsFau
     ensures asking { IfOk result IsAsking }
     ensures command { IfOk result (IsCommandOf (codes "profile") (found_of matches.now)) }
 {
+    if matches.get_flag("coverage") {
+        return coverage_of(alloc, matches);
+    }
     let g = file_name(alloc, matches, "G")?;
-    let t = file_name(alloc, matches, "T")?;
+    let t = only_file_name(alloc, matches, "T")?;
     let start = optional_text(alloc, matches, "start")?;
     let memo = memo_size(alloc, matches)?;
     let steps = step_limit(alloc, matches)?;
@@ -182,6 +202,21 @@ fn profile_of(alloc: Global, matches: &ArgMatches<'_>) -> Result<Words, WordsFau
         start,
         memo,
         steps,
+    })
+}
+
+fn coverage_of(alloc: Global, matches: &ArgMatches<'_>) -> Result<Words, WordsFault>
+    ensures asking { IfOk result IsAsking }
+    ensures command { IsFlagAt (found_of matches.now) (codes "coverage") true
+        → IfOk result (IsCommandOf (codes "profile") (found_of matches.now)) }
+{
+    let texts = file_names(alloc, matches, "T")?;
+    Ok(Words::Coverage {
+        g: file_name(alloc, matches, "G")?,
+        texts,
+        start: optional_text(alloc, matches, "start")?,
+        memo: memo_size(alloc, matches)?,
+        steps: step_limit(alloc, matches)?,
     })
 }
 
@@ -228,6 +263,16 @@ fn file_name(alloc: Global, matches: &ArgMatches<'_>, id: &str) -> Result<String
     match matches.get_str(id) {
         Some(name) => Ok(String::from_str(alloc, name)?),
         None => Err(internal_usage_error(alloc)),
+    }
+}
+
+// The value of an argument that may have several; a usage error if it has.
+fn only_file_name(alloc: Global, matches: &ArgMatches<'_>, id: &str) -> Result<String, WordsFault>
+    ensures { IfOk result (λ name. all_values (found_of matches.now) id.now ≡ string_bytes name ∷ []) }
+{
+    match matches.get_strs(id) {
+        Some([name]) => Ok(String::from_str(alloc, name)?),
+        _ => Err(usage_error(alloc, SEVERAL_TEXTS)),
     }
 }
 
@@ -292,10 +337,15 @@ fn step_limit(alloc: Global, matches: &ArgMatches<'_>) -> Result<Option<u64>, Wo
 
 // An internal usage error. The argument parser reports missing arguments itself, so no arguments should lead here.
 fn internal_usage_error(alloc: Global) -> WordsFault {
-    match String::from_str(
+    usage_error(
         alloc,
         "error: a word is missing\n\nFor more information, try '--help'.\n",
-    ) {
+    )
+}
+
+// A usage error with this text.
+fn usage_error(alloc: Global, text: &str) -> WordsFault {
+    match String::from_str(alloc, text) {
         Ok(text) => WordsFault::Usage { text },
         Err(_) => WordsFault::Memory,
     }

@@ -211,6 +211,47 @@ fn profile_has_its_options(rt: HostRuntime) -> Result<(), Fail> {
 }
 
 #[test]
+fn coverage_takes_texts(rt: HostRuntime) -> Result<(), Fail> {
+    let alloc = rt.alloc();
+    let cases = [
+        ("profile g t --coverage", "t", None, 0, 1_000_000_000),
+        (
+            "profile --coverage g t u t",
+            "t u t",
+            None,
+            0,
+            1_000_000_000,
+        ),
+        (
+            "profile g t --coverage u --memo 9",
+            "t u",
+            None,
+            9,
+            1_000_000_000,
+        ),
+        (
+            "profile --start A g --steps 8 t u --coverage",
+            "t u",
+            Some("A"),
+            0,
+            8,
+        ),
+    ];
+    for (line, texts, name, memo, steps) in cases {
+        let names: Vec<&str> = texts.split_whitespace().collect(alloc)?;
+        let expected = Words::Coverage {
+            g: String::from_str(alloc, "g")?,
+            texts: strings(alloc, &names)?,
+            start: optional_string(alloc, name)?,
+            memo,
+            steps: Some(steps),
+        };
+        asks(&rt, alloc, line, &expected)?;
+    }
+    Ok(())
+}
+
+#[test]
 fn explain_takes_any_number_of_texts(rt: HostRuntime) -> Result<(), Fail> {
     let alloc = rt.alloc();
     let cases = [
@@ -558,6 +599,43 @@ fn what_is_no_command_line_is_refused(rt: HostRuntime) -> Result<(), Fail> {
     ];
     for (line, part) in cases {
         refused(&rt, rt.alloc(), line, part)?;
+    }
+    Ok(())
+}
+
+#[test]
+fn wrong_arguments_of_profile_are_refused(rt: HostRuntime) -> Result<(), Fail> {
+    let several =
+        "error: without '--coverage', profile reads one text\n\nFor more information, try '--help'.\nFor this command: pegtool profile --help\n";
+    let cases = [
+        ("profile g", "<T>"),
+        ("profile g --coverage", "<T>"),
+        ("profile g t u", several),
+        ("profile g t --memo 9 t", several),
+        (
+            "profile g t --coverage --coverage",
+            "'--coverage' cannot be used multiple times",
+        ),
+        ("parse g t --coverage", "unexpected argument '--coverage'"),
+    ];
+    for (line, part) in cases {
+        refused(&rt, rt.alloc(), line, part)?;
+    }
+    Ok(())
+}
+
+#[test]
+fn help_of_profile_is_printed(rt: HostRuntime) -> Result<(), Fail> {
+    let cases = [
+        (
+            "profile --help",
+            "Usage: pegtool profile [OPTIONS] <G> <T>...",
+        ),
+        ("profile --help", "--coverage"),
+        ("profile --help", "[default: 1000000000]"),
+    ];
+    for (line, part) in cases {
+        helps(&rt, rt.alloc(), line, part)?;
     }
     Ok(())
 }
