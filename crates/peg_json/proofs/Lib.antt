@@ -1,5 +1,6 @@
 mod AnswerLemmas
 mod CodeLemmas
+mod CoverageLemmas
 mod LintLemmas
 pub mod ParseLemmas
 mod PositionLemmas

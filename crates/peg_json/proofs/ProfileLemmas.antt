@@ -14,7 +14,7 @@ use Rattle.serde_json.specs.View.{items_of}
 use Rattle.serde_json.specs.Written.{has_float, items_have_float, members_have_float}
 use Rattle.peg_semantics.specs.Rules.{Rule, names, name_of}
 use Rattle.peg_profile.specs.declared.counts.RuleProfile.{RuleProfile}
-use Rattle.peg_json.specs.ProfileText.{end_word, profile_data, profile_members, rule_entries_data, rule_entry_data, with_end}
+use Rattle.peg_json.specs.ProfileText.{profile_data, profile_members, rule_entries_data, rule_entry_data, with_end}
 
 -- ---- the beginning of a profile
 

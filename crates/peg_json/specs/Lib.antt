@@ -29,6 +29,7 @@ pub use Rattle.peg_tree.specs.Trees
 pub mod ByteRuns
 pub mod CauseText
 pub mod CodeText
+pub mod CoverageText
 pub mod FaultCauses
 pub mod Lines
 pub mod LintText

@@ -7,6 +7,7 @@ use Rattle.serde_json.specs.View.{items_of}
 use Rattle.serde_json.specs.Written.{compact_text}
 use Rattle.peg_bytes.specs.Extent.{Extent}
 use Rattle.peg_semantics.specs.AbstractOutcomes.{Can}
+use Rattle.peg_semantics.specs.Form.{Reference}
 use Rattle.peg_tree.specs.Trees.{Trees}
 use Rattle.peg_tree.specs.Json.{nested_data, rows_data}
 use Rattle.peg_tree.specs.TextJson.{nested_text_data, rows_text_data}
@@ -14,8 +15,9 @@ use Rattle.peg_code.specs.Instructions.{Instruction}
 use Rattle.peg_lint.specs.declared.warning.Warning.{Warning}
 use Rattle.peg_parser.specs.Cause.{Cause}
 use Rattle.peg_profile.specs.declared.counts.RuleProfile.{RuleProfile}
-use Rattle.peg_json.specs.CauseText.{cause_data, cause_status}
+use Rattle.peg_json.specs.CauseText.{bare_data, cause_data, cause_status}
 use Rattle.peg_json.specs.CodeText.{code_data}
+use Rattle.peg_json.specs.CoverageText.{coverage_data, status_of_coverage, too_large_word}
 use Rattle.peg_json.specs.LintText.{lint_data, status_of_warnings}
 use Rattle.peg_json.specs.ProfileText.{profile_data, status_of_end}
 use Rattle.peg_json.specs.TableText.{table_data}
@@ -23,10 +25,12 @@ use Rattle.peg_json.specs.declared.tree_form.TreeForm.{TreeForm}
 use Rattle.peg_json.specs.declared.tree_form.TreeForm.TheVariants.{Nested, Rows, NoTree}
 
 -- A reply of the tool: a refusal, a table of outcomes with the rules' names, or the number of rules of an accepted
--- grammar. Others are the code with the entry of each rule, the rules' names with warnings, a profile, a failure, and a
--- match.
+-- grammar. Others are the code with the entry of each rule, the rules' names with warnings, a profile, what texts use, a
+-- failure, and a match.
 --
 -- A profile has the end of the parse if it matched, the number of its steps, and the rules' names with their profiles.
+-- What texts use has the number of texts, how many of them match, and the rules and alternatives that are unused; or
+-- the marked grammar, by which that is found, is over a limit.
 -- A failure is the furthest failure: a position of the text, and the spans of terminals in the grammar file. A match
 -- adds to these its end, the rules' names and the tree with its printed form. `partial` is a match shorter than asked
 -- for. A match with text is one whose tree is printed with the bytes of each node without children.
@@ -37,6 +41,8 @@ pub data Reply : Type 0 where
   Coded : (code : List Instruction) → (entries : List ℕ) → Reply
   Linted : (names : List (List ℕ)) → List Warning → Reply
   Profiled : (end : Option ℕ) → (steps : ℕ) → (names : List (List ℕ)) → List RuleProfile → Reply
+  Covered : (texts matched : ℕ) → (rules : List Reference) → (alternatives : List Extent) → Reply
+  NoCoverage : Reply
   Failed : (far : ℕ) → (expected : List Extent) → Reply
   Matched : (partial : Bool) → TreeForm → (end far : ℕ) → (expected : List Extent) → (names : List (List ℕ))
       → (tree : Trees) → Reply
@@ -60,6 +66,8 @@ with_text text (Accepted rules) = Accepted rules
 with_text text (Coded code entries) = Coded code entries
 with_text text (Linted names warnings) = Linted names warnings
 with_text text (Profiled end steps names profiles) = Profiled end steps names profiles
+with_text text (Covered texts matched rules alternatives) = Covered texts matched rules alternatives
+with_text text NoCoverage = NoCoverage
 with_text text (Failed far expected) = Failed far expected
 with_text text (Matched partial form end far expected names tree) =
     match_with_text text partial form end far expected names tree
@@ -71,7 +79,8 @@ abbrev pub with_text_if : (asked : Bool) → (text : List ℕ) → Reply → Rep
 with_text_if false text reply = reply
 with_text_if true text reply = with_text text reply
 
--- the exit status of a reply: 0 success, 1 a failed or partial match or warnings, otherwise that of the refusal
+-- the exit status of a reply: 0 success, 1 a failed or partial match, warnings or anything unused, otherwise that of the
+-- refusal
 abbrev pub status_of : Reply → ℕ
 status_of (Refused cause) = cause_status cause
 status_of (Tabled names cans) = 0
@@ -79,6 +88,8 @@ status_of (Accepted rules) = 0
 status_of (Coded code entries) = 0
 status_of (Linted names warnings) = status_of_warnings warnings
 status_of (Profiled end steps names profiles) = status_of_end end
+status_of (Covered texts matched rules alternatives) = status_of_coverage rules alternatives
+status_of NoCoverage = 6
 status_of (Failed far expected) = 1
 status_of (Matched partial form end far expected names tree) = if partial then 1 else 0
 status_of (MatchedWithText partial form end far expected names tree text) = if partial then 1 else 0
@@ -147,6 +158,8 @@ printed file (Accepted rules) = accepted_data rules
 printed file (Coded code entries) = code_data code entries
 printed file (Linted names warnings) = lint_data file names warnings
 printed file (Profiled end steps names profiles) = profile_data end steps names profiles
+printed file (Covered texts matched rules alternatives) = coverage_data file texts matched rules alternatives
+printed file NoCoverage = bare_data too_large_word
 printed file (Failed far expected) = failed_data far expected
 printed file (Matched partial form end far expected names tree) =
     matched_data partial end far expected (tree_member form names tree)

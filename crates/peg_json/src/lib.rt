@@ -1,11 +1,13 @@
-//! Replies: the line of JSON and the exit status for an answer, a refusal, a table, code, warnings, a profile or an
-//! accepted grammar.
+//! Replies: the line of JSON and the exit status for an answer, a refusal, a table, code, warnings, a profile, what
+//! texts use of a grammar, or an accepted grammar.
 #![tactic(auto)]
 
 mod answer_object;
 mod answer_text;
 mod byte_runs;
 mod code_text;
+mod coverage_lines;
+mod coverage_text;
 mod expected_spans;
 mod fault;
 mod line;
@@ -25,6 +27,8 @@ mod tree_form;
 
 pub use answer_text::answer_json;
 pub use code_text::code_json;
+pub use coverage_lines::{coverage_line, no_coverage_line};
+pub use coverage_text::coverage_json;
 pub use fault::Fault;
 pub use line::{Line, Tail};
 pub use lines::{

@@ -1,0 +1,24 @@
+use Rattle.std.proofs.Common.{◌≡◌, ℕ, IfOk, List, map, string_bytes, subst}
+use Rattle.serde_json.specs.Written.{compact_text}
+use Rattle.peg_bytes.specs.Extent.{extent}
+use Rattle.peg_bytes.specs.declared.span.Span.{Span}
+use Rattle.peg_grammar.specs.GrammarRules.{rules_in}
+use Rattle.peg_json.specs.CoverageText.{coverage_data, reference_at}
+use Rattle.peg_json.proofs.CoverageLemmas.{coverage-without_floats}
+use Rattle.peg_json.proofs.Sent.{value-text}
+use Rattle.peg_json.proofs.coverage_text.coverage_json.Goals as goal
+
+pub returns : goal.returns
+returns c =
+    let file = c.args.file.now in
+    let coverage = c.args.coverage.now in
+    let rules = reference_at (rules_in c.args.grammar.now) in
+    let IsText = λ (numbers : List ℕ) (spans : List Span). IfOk c.text_of.result
+    (λ text. string_bytes text
+    ≡ compact_text (coverage_data file coverage.texts coverage.matched (map rules numbers) (map extent spans))) in
+    let sent = value-text c.text_of.result (coverage_data file coverage.texts coverage.matched
+    (map rules c.deref.result.now) (map extent c.deref-2.result.now))
+    (coverage-without_floats file coverage.texts coverage.matched (map rules c.deref.result.now)
+    (map extent c.deref-2.result.now)) c.text_of.ensures in
+    subst (λ (numbers : List ℕ). IsText numbers coverage.unused_alternatives.items) c.deref.ensures.value
+    (subst (λ (spans : List Span). IsText c.deref.result.now spans) c.deref-2.ensures.value sent)

@@ -1,0 +1,60 @@
+-- The printed form of what texts use of a grammar.
+use Rattle.std.specs.Prelude.{ℕ, List, [], codes, map, option_map, slice_get, unwrap_or}
+use Rattle.serde_json.specs.Data.{Data, Members, unsigned, number, string, array, object, no_members, member}
+use Rattle.serde_json.specs.View.{items_of}
+use Rattle.peg_bytes.specs.Extent.{Extent, between}
+use Rattle.peg_bytes.specs.Place.{line_at, column_at}
+use Rattle.peg_semantics.specs.Form.{Reference}
+use Rattle.peg_semantics.specs.Rules.{Rule, name_of}
+
+-- the name of rule number `rule` and the extent of its name in the file
+abbrev pub reference_at : List Rule → (rule : ℕ) → Reference
+reference_at rules rule = record {
+  name = name_of rules rule;
+  span = unwrap_or (option_map (λ r. r.span) (slice_get rules rule)) (between 0 0);
+}
+
+-- the first members of a place
+abbrev pub place_members : (line column end : ℕ) → Members → Members
+place_members line column end rest =
+    member (codes "column") (number (unsigned column)) (member (codes "end") (number (unsigned end))
+    (member (codes "line") (number (unsigned line)) rest))
+
+-- the JSON of an alternative at this place
+abbrev pub placed_alternative : (line column start end : ℕ) → Data
+placed_alternative line column start end =
+    object (place_members line column end (member (codes "start") (number (unsigned start)) no_members))
+
+-- the JSON of a rule with this name, at the place of its name
+abbrev pub placed_rule : (line column : ℕ) → (name : List ℕ) → (start end : ℕ) → Data
+placed_rule line column name start end =
+    object (place_members line column end (member (codes "rule") (string name)
+    (member (codes "start") (number (unsigned start)) no_members)))
+
+-- the JSON of an alternative in a grammar file
+abbrev pub alternative_data : (file : List ℕ) → Extent → Data
+alternative_data file alternative =
+    placed_alternative (line_at file alternative.start) (column_at file alternative.start) alternative.start
+    alternative.end
+
+-- the JSON of a rule in a grammar file
+abbrev pub unused_rule_data : (file : List ℕ) → Reference → Data
+unused_rule_data file rule =
+    placed_rule (line_at file rule.span.start) (column_at file rule.span.start) rule.name rule.span.start rule.span.end
+
+-- the JSON of what texts use of a grammar: the counts of texts, and what is unused
+abbrev pub coverage_data : (file : List ℕ) → (texts matched : ℕ) → (rules : List Reference) → (alternatives : List Extent)
+    → Data
+coverage_data file texts matched rules alternatives =
+    object (member (codes "matched") (number (unsigned matched)) (member (codes "texts") (number (unsigned texts))
+    (member (codes "unused_alternatives") (array (items_of (map (alternative_data file) alternatives)))
+    (member (codes "unused_rules") (array (items_of (map (unused_rule_data file) rules))) no_members))))
+
+-- the exit status: 0 if nothing is unused, and otherwise 1
+abbrev pub status_of_coverage : (rules : List Reference) → (alternatives : List Extent) → ℕ
+status_of_coverage [] [] = 0
+status_of_coverage rules alternatives = 1
+
+-- the refusal if the marked grammar is over a limit
+abbrev pub too_large_word : List ℕ
+too_large_word = codes "CoverageTooLarge"

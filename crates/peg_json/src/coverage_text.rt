@@ -1,0 +1,170 @@
+//! What texts use of a grammar as JSON.
+ghost use Rattle.std.specs.Prelude.{◌≡◌, ◌+◌, ◌-◌, ◌<◌, ◌≤◌, All, IfOk, OnOk, codes, length, map, string_bytes};
+ghost use Rattle.std.proofs.Props.{props};
+ghost use Rattle.serde.specs.Event.{Log};
+ghost use Rattle.serde_json.specs.Data.{Members, array, member, number, unsigned};
+ghost use Rattle.serde_json.specs.Events.{SendsMembers, SendsValue};
+ghost use Rattle.serde_json.specs.View.{items_of};
+ghost use Rattle.serde_json.specs.Written.{compact_text};
+ghost use Rattle.peg_bytes.specs.Extent.{extent};
+ghost use Rattle.peg_grammar.specs.GrammarRules.{rules_in};
+ghost use Rattle.peg_json.specs.CoverageText.{alternative_data, coverage_data, placed_alternative, placed_rule, reference_at};
+ghost use Rattle.peg_json.specs.CoverageText.{unused_rule_data};
+
+use crate::positions::{Position, column, first_position, position_from};
+use crate::text::text_of;
+use peg_bytes::Span;
+use peg_coverage::Coverage;
+use peg_grammar::Grammar;
+use peg_tree::serialize_member;
+use serde::{Described, Serialize, Serializer};
+use std::alloc::{AllocError, Global};
+
+/// Returns what texts use of a grammar as one line of JSON without its line end. `file` is the grammar file. Each unused
+/// rule must be one of the grammar.
+///
+/// Linear in the file, the unused rules and alternatives, and the lengths of the names.
+pub fn coverage_json(
+    alloc: Global,
+    file: &[u8],
+    grammar: &Grammar,
+    coverage: &Coverage,
+) -> Result<String, AllocError>
+    requires { All (λ rule. rule < length (rules_in grammar.now)) coverage.now.unused_rules.items }
+    ensures { IfOk result (λ text. string_bytes text ≡ compact_text (coverage_data file.now coverage.now.texts
+        coverage.now.matched (map (reference_at (rules_in grammar.now)) coverage.now.unused_rules.items)
+        (map extent coverage.now.unused_alternatives.items))) }
+{
+    text_of(
+        alloc,
+        &CoverageObject {
+            file,
+            grammar,
+            texts: coverage.texts,
+            matched: coverage.matched,
+            rules: &coverage.unused_rules,
+            alternatives: &coverage.unused_alternatives,
+        },
+    )
+}
+
+// What texts use, serialized as the counts of texts and the lists of what is unused.
+#[derive(Drop)]
+struct CoverageObject<'a> {
+    file: &'a [u8],
+    grammar: &'a Grammar,
+    texts: u64,
+    matched: u64,
+    rules: &'a [u32],
+    alternatives: &'a [Span],
+    ghost below: { All (λ rule. rule < length (rules_in grammar.now)) rules.now } by { Prim.hlevel props },
+}
+
+impl Described for CoverageObject<'_> {
+    ghost writes = { λ value. SendsValue
+        (coverage_data value.file.now value.texts value.matched
+        (map (reference_at (rules_in value.grammar.now)) value.rules.now) (map extent value.alternatives.now)) };
+}
+
+impl Serialize for CoverageObject<'_> {
+    fn serialize<S: Serializer>(&self, out: &mut S) -> Result<(), S::Error> {
+        out.begin_map(Some(4))?;
+        serialize_member("matched", &self.matched, out)?;
+        serialize_member("texts", &self.texts, out)?;
+        out.key("unused_alternatives")?;
+        serialize_alternatives(self.file, self.alternatives, out)?;
+        out.key("unused_rules")?;
+        serialize_rules(self.file, self.grammar, self.rules, out)?;
+        out.end_map()
+    }
+}
+
+// Serializes the places of alternatives, in order.
+fn serialize_alternatives<S: Serializer>(
+    file: &[u8],
+    alternatives: &[Span],
+    out: &mut S,
+) -> Result<(), S::Error>
+    ensures { OnOk result (SendsValue
+        (array (items_of (map (alternative_data file.now) (map extent alternatives.now))))
+        (S.written out.old) (S.written out.new)) }
+{
+    out.begin_seq(Some(alternatives.len()))?;
+    let mut position = first_position();
+    for span in alternatives {
+        position = position_from(file, position, span.start);
+        serialize_alternative(position, span.end, out)?;
+    }
+    out.end_seq()
+}
+
+// Serializes the place of an alternative, from this position to an end.
+fn serialize_alternative<S: Serializer>(
+    position: Position,
+    end: u32,
+    out: &mut S,
+) -> Result<(), S::Error>
+    requires { position.start ≤ position.at }
+    ensures { OnOk result (SendsValue
+        (placed_alternative position.line (1 + (position.at - position.start)) position.at end)
+        (S.written out.old) (S.written out.new)) }
+{
+    out.begin_map(Some(4))?;
+    serialize_place(position, end, out)?;
+    serialize_member("start", &position.at, out)?;
+    out.end_map()
+}
+
+// Serializes the names and places of rules, in order.
+fn serialize_rules<S: Serializer>(
+    file: &[u8],
+    grammar: &Grammar,
+    rules: &[u32],
+    out: &mut S,
+) -> Result<(), S::Error>
+    requires { All (λ rule. rule < length (rules_in grammar.now)) rules.now }
+    ensures { OnOk result (SendsValue
+        (array (items_of (map (unused_rule_data file.now) (map (reference_at (rules_in grammar.now)) rules.now))))
+        (S.written out.old) (S.written out.new)) }
+{
+    out.begin_seq(Some(rules.len()))?;
+    let mut position = first_position();
+    for rule in rules {
+        let span = grammar.name_span(*rule);
+        position = position_from(file, position, span.start);
+        serialize_rule(position, span.end, grammar.rule_name(*rule), out)?;
+    }
+    out.end_seq()
+}
+
+// Serializes the name of a rule and its place, from this position to an end.
+fn serialize_rule<S: Serializer>(
+    position: Position,
+    end: u32,
+    name: &str,
+    out: &mut S,
+) -> Result<(), S::Error>
+    requires { position.start ≤ position.at }
+    ensures { OnOk result (SendsValue
+        (placed_rule position.line (1 + (position.at - position.start)) name.now position.at end)
+        (S.written out.old) (S.written out.new)) }
+{
+    out.begin_map(Some(5))?;
+    serialize_place(position, end, out)?;
+    serialize_member("rule", &name, out)?;
+    serialize_member("start", &position.at, out)?;
+    out.end_map()
+}
+
+// Serializes the members from the column to the line.
+fn serialize_place<S: Serializer>(position: Position, end: u32, out: &mut S) -> Result<(), S::Error>
+    requires { position.start ≤ position.at }
+    ensures { OnOk result ((rest : Members) (last : Log) → SendsMembers rest (S.written out.new) last
+        → SendsMembers (member (codes "column") (number (unsigned (1 + (position.at - position.start))))
+        (member (codes "end") (number (unsigned end))
+        (member (codes "line") (number (unsigned position.line)) rest))) (S.written out.old) last) }
+{
+    serialize_member("column", &column(position), out)?;
+    serialize_member("end", &end, out)?;
+    serialize_member("line", &position.line, out)
+}
