@@ -167,6 +167,28 @@ run 3 /dev/null profile json.peg json/match_object.txt --start Nothing
 run 6 /dev/null profile cookbook/memo.peg cookbook/memo/match_nested.txt --steps 10000
 file_fault profile json.peg "$folder/missing"
 
+# What texts use: lines for all texts of a grammar, the statuses, and a grammar that is over a limit once it is marked.
+for grammar in *.peg; do
+  texts=("${grammar%.peg}"/*)
+  status=0
+  "$program" profile "$grammar" --coverage "${texts[@]}" > "$folder/line" 2> "$folder/stderr" < /dev/null || status=$?
+  [ "$status" -le 1 ] && [ ! -s "$folder/stderr" ] || fault "status $status: profile --coverage $grammar"
+  is_json coverage "$grammar"
+  matching=$(find "${grammar%.peg}" -name 'match*' | wc -l)
+  grep -q "^{\"matched\":$matching," "$folder/line" || fault "not $matching matches: profile --coverage $grammar"
+done
+run 2 /dev/null profile "$folder/refused.peg" --coverage "$folder/missing"
+run 3 /dev/null profile json.peg --coverage "$folder/missing" --start Nothing
+run 6 /dev/null profile cookbook/memo.peg --coverage cookbook/memo/match_nested.txt --steps 10000
+file_fault profile json.peg --coverage json/match_object.txt "$folder/missing"
+file_fault profile json.peg --coverage json/match_object.txt "$folder"
+{ printf "S <- 'a'"; yes "/'b'" | head -n 250000 | tr -d '\n'; echo; } > "$folder/marked.peg"
+run 0 /dev/null check "$folder/marked.peg"
+run 6 /dev/null profile "$folder/marked.peg" --coverage "$folder/text"
+[ "$(cat "$folder/line")" = '{"refusal":"CoverageTooLarge"}' ] || fault "the marked grammar is not over its limit"
+run 3 /dev/null profile json.peg json/match_object.txt json/match_object.txt
+grep -q '^error: without' "$folder/stderr" || fault "nothing is reported: profile of two texts"
+
 # Words that are no command line.
 for words in "parse json.peg" "parse json.peg text --memo 1000001" "parse json.peg text --memo -1" \
   "parse json.peg text --steps 0" "parse json.peg text --steps 1000000000001" "tables json.peg"; do

@@ -6,6 +6,8 @@ mod check;
 #[cfg(test)]
 mod code;
 #[cfg(test)]
+mod coverage;
+#[cfg(test)]
 mod explain;
 #[cfg(test)]
 mod joined;

@@ -1,3 +1,4 @@
+mod CoverageLemmas
 mod EndLemmas
 mod JudgeLemmas
 mod LintLemmas

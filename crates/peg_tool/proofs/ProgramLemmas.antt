@@ -3,11 +3,11 @@ use Rattle.std.proofs.Common.{◌≡◌, ◌↔◌, ℕ, Bool, true, false, inl,
 use Rattle.std.proofs.Common.{IsSome, refl, rules, subst, sym, ◌∙◌}
 use Rattle.peg_io.specs.NamedFile.{NamedFile, Unspecified, Missing, Holds, Readable, bytes_of, is_readable}
 use Rattle.peg_cli.specs.declared.words.Words.{Words}
-use Rattle.peg_cli.specs.declared.words.Words.TheVariants.{Joined, Help, Table, Check, Code, Lint, Profile, Explain, Parse}
+use Rattle.peg_cli.specs.declared.words.Words.TheVariants.{Joined, Help, Table, Check, Code, Lint, Profile, Coverage, Explain, Parse}
 use Rattle.peg_tool.specs.CommandOutcome.{WritesOrFails, program_result}
 use Rattle.peg_tool.specs.Replies.{IsPrinted}
-use Rattle.peg_tool.specs.Requests.{ToolRequest, InputRequest, HelpRequest, FileRequest, FilesRequest, ExplainRequest, requested}
-use Rattle.peg_tool.specs.Task.{ToolTask, TableTask, CheckTask, CodeTask, LintTask, ProfileTask, ParseTask, HasText, IsTextOf}
+use Rattle.peg_tool.specs.Requests.{ToolRequest, InputRequest, HelpRequest, FileRequest, FilesRequest, CoverRequest, ExplainRequest, requested}
+use Rattle.peg_tool.specs.Task.{ToolTask, TableTask, CheckTask, CodeTask, LintTask, ProfileTask, CoverTask, ParseTask, HasText, IsTextOf}
 use Rattle.peg_tool.specs.WritesReply.{WritesLine}
 use Rattle.peg_tool.specs.declared.write.CommandFault.{CommandFault}
 use Rattle.peg_tool.specs.declared.write.CommandFault.TheVariants as command
@@ -39,6 +39,7 @@ takes_any CheckTask file left bytes other = tt
 takes_any CodeTask file left bytes other = tt
 takes_any (LintTask start selection) file left bytes other = tt
 takes_any (ProfileTask start memo steps) file left bytes other = absurd (other tt)
+takes_any (CoverTask files start memo steps) file left bytes other = tt
 takes_any (ParseTask start memo steps all form nodes with_bytes) file left bytes other = absurd (other tt)
 
 pub takes_left : (task : ToolTask) (file : List ℕ) (left : Option (List ℕ)) (bytes : List ℕ) → left ≡ Some bytes
@@ -48,6 +49,7 @@ takes_left CheckTask file left bytes is = tt
 takes_left CodeTask file left bytes is = tt
 takes_left (LintTask start selection) file left bytes is = tt
 takes_left (ProfileTask start memo steps) file left bytes is = λ rules accepts. is
+takes_left (CoverTask files start memo steps) file left bytes is = tt
 takes_left (ParseTask start memo steps all form nodes with_bytes) file left bytes is = λ rules accepts. is
 
 -- a command on an opened file is a result of the program, for each text of the task
@@ -128,6 +130,7 @@ ReadsNone InputRequest = Unit {0}
 ReadsNone (HelpRequest text) = Unit {0}
 ReadsNone (FileRequest task g) = ¬ HasText task
 ReadsNone (FilesRequest task g t) = Unit {0}
+ReadsNone (CoverRequest start memo steps g texts) = Unit {0}
 ReadsNone (ExplainRequest question printing) = Unit {0}
 
 reads_none : (words : Words) → ReadsNone (requested words)
@@ -138,6 +141,7 @@ reads_none (Check g) = λ parse. parse
 reads_none (Code g) = λ parse. parse
 reads_none (Lint g start proved) = λ parse. parse
 reads_none (Profile g t start memo steps) = tt
+reads_none (Coverage g texts start memo steps) = tt
 reads_none (Explain g texts files_from null start memo steps rules terminals quiet) = tt
 reads_none (Parse g t start memo steps all rows no_tree show hide text) = tt
 

@@ -23,9 +23,9 @@ use Rattle.peg_json.proofs.PrintLemmas.{refused-with_text}
 use Rattle.peg_json.specs.declared.tree_form.TreeForm.{TreeForm}
 use Rattle.peg_json.specs.declared.line.Line.{Line}
 use Rattle.peg_tool.specs.Replies.{RepliesTo, IsPrinted, IsPrintedJoined, max_joined_bytes, refused_grammar, tabled, refused_form}
-use Rattle.peg_tool.specs.Replies.{too_large, accepted, coded, linted, profiled, no_such_rule, parsed}
+use Rattle.peg_tool.specs.Replies.{too_large, accepted, coded, linted, profiled, covered, no_such_rule, parsed}
 use Rattle.peg_tool.specs.PrintedNodes.{PrintedNodes, first_unknown, shown_by}
-use Rattle.peg_tool.specs.Task.{ToolTask, TableTask, CheckTask, CodeTask, LintTask, ProfileTask, ParseTask, IsTextOf, default_task}
+use Rattle.peg_tool.specs.Task.{ToolTask, TableTask, CheckTask, CodeTask, LintTask, ProfileTask, CoverTask, ParseTask, IsTextOf, default_task}
 
 -- ---- texts over the limit
 
@@ -95,6 +95,7 @@ RepliesTo-longer file text more task reply long longer (coded accepts) = coded a
 RepliesTo-longer file text more task reply long longer (linted accepts is) = linted accepts is
 RepliesTo-longer file text more task reply long longer (profiled {rules} {start} {memo} {steps} accepts is) =
     profiled accepts (ProfilesTo-longer rules text more start memo steps reply long longer is)
+RepliesTo-longer file text more task reply long longer (covered accepts is) = covered accepts is
 RepliesTo-longer file text more task reply long longer (no_such_rule name accepts first) = no_such_rule name accepts first
 RepliesTo-longer file text more task reply long longer
     (parsed {rules} {start} {memo} {steps} {all} {form} {nodes} {with_bytes} accepts known is) =
@@ -132,6 +133,7 @@ over-reply file text task reply long (accepted accepts) = absurd (omega (arith, 
 over-reply file text task reply long (coded accepts) = absurd (omega (arith, long, accepts.read.within))
 over-reply file text task reply long (linted accepts is) = absurd (omega (arith, long, accepts.read.within))
 over-reply file text task reply long (profiled accepts is) = absurd (omega (arith, long, accepts.read.within))
+over-reply file text task reply long (covered accepts is) = absurd (omega (arith, long, accepts.read.within))
 over-reply file text task reply long (no_such_rule name accepts first) = absurd (omega (arith, long, accepts.read.within))
 over-reply file text task reply long (parsed accepts known is) = absurd (omega (arith, long, accepts.read.within))
 
@@ -304,6 +306,7 @@ any_text CodeTask text file bytes long = tt
 any_text (LintTask start selection) text file bytes long = tt
 any_text (ProfileTask start memo steps) text file bytes long =
     λ rules accepts. absurd (omega (arith, long, accepts.read.within))
+any_text (CoverTask files start memo steps) text file bytes long = tt
 any_text (ParseTask start memo steps all form nodes with_bytes) text file bytes long =
     λ rules accepts. absurd (omega (arith, long, accepts.read.within))
 

@@ -1,5 +1,5 @@
 -- The result of the program for a request.
-use Rattle.std.specs.Prelude.{◌≡◌, ◌⊎◌, ℕ, List, Option}
+use Rattle.std.specs.Prelude.{◌≡◌, ◌⊎◌, ℕ, List, Option, map}
 use Rattle.std.specs.Prelude.{Result, Ok, Err, IfSome}
 use Rattle.std.specs.Io.KnownBytes.{Appends, Keeps}
 use Rattle.peg_io.specs.declared.opener.OpenFault.{OpenFault}
@@ -7,7 +7,8 @@ use Rattle.peg_io.specs.declared.opener.OpenFault.TheVariants as opening
 use Rattle.peg_io.specs.NamedFile.{NamedFile, bytes_of}
 use Rattle.peg_tool.specs.Explanations.{ExplanationOutcome}
 use Rattle.peg_tool.specs.Replies.{IsPrinted, IsPrintedJoined}
-use Rattle.peg_tool.specs.Requests.{ToolRequest, InputRequest, HelpRequest, FileRequest, FilesRequest, ExplainRequest}
+use Rattle.peg_tool.specs.Requests.{ToolRequest, InputRequest, HelpRequest, FileRequest, FilesRequest, CoverRequest, ExplainRequest}
+use Rattle.peg_tool.specs.Task.{CoverTask}
 use Rattle.peg_tool.specs.Written.{PrintsInPart}
 use Rattle.peg_tool.specs.declared.explaining.Explanation.{Explanation}
 use Rattle.peg_tool.specs.declared.write.CommandFault.{CommandFault}
@@ -44,6 +45,9 @@ CommandOutcome (FileRequest task g) file_at input old new result =
 CommandOutcome (FilesRequest task g t) file_at input old new result =
     IfSome (bytes_of (file_at g)) (λ file. IfSome (bytes_of (file_at t)) (λ text.
     WritesOrFails (IsPrinted task file text) old new result))
+CommandOutcome (CoverRequest start memo steps g texts) file_at input old new result =
+    IfSome (bytes_of (file_at g)) (λ file. (text : List ℕ)
+    → WritesOrFails (IsPrinted (CoverTask (map file_at texts) start memo steps) file text) old new result)
 CommandOutcome (ExplainRequest question printing) file_at input old new result =
     (ended : Result Explanation ProgramFault) × ExplanationOutcome question printing file_at input old new ended
     × (result ≡ status_result ended)

@@ -1,11 +1,11 @@
 -- Describes code: the tasks of commands, and what requests are.
-use Rattle.std.specs.Prelude.{option_map}
+use Rattle.std.specs.Prelude.{map, option_map, string_bytes}
 use Rattle.peg_explain_files.specs.Questions.{question_of}
 use Rattle.peg_parser.specs.Parser.{start_named}
 use Rattle.peg_json.specs.TreeForms.{form_from_options}
 use Rattle.peg_tool.specs.PrintedNodes.{PrintedNodes, AllNodes, NodesOf, NodesExcept, names_listed}
 use Rattle.peg_tool.specs.Task.{ToolTask, TableTask, CheckTask, CodeTask, LintTask, ProfileTask, ParseTask}
-use Rattle.peg_tool.specs.Requests.{ToolRequest, InputRequest, HelpRequest, FileRequest, FilesRequest, ExplainRequest}
+use Rattle.peg_tool.specs.Requests.{ToolRequest, InputRequest, HelpRequest, FileRequest, FilesRequest, CoverRequest, ExplainRequest}
 use Rattle.peg_tool.specs.declared.command.Command.{Command}
 use Rattle.peg_tool.specs.declared.command.Command.TheVariants.{Table, Check, Code, Lint, Profile, Parse}
 use Rattle.peg_tool.specs.declared.nodes.Nodes.{Nodes}
@@ -36,4 +36,6 @@ request_of request.Joined = InputRequest
 request_of (request.Help text) = HelpRequest text.now
 request_of (request.OnFile g command) = FileRequest (task_of command) g.now
 request_of (request.OnFiles g t command) = FilesRequest (task_of command) g.now t.now
+request_of (request.Cover g texts options) =
+    CoverRequest (start_named options) options.memo options.steps g.now (map string_bytes texts.now)
 request_of (request.Explain query printing) = ExplainRequest (question_of query) printing

@@ -5,6 +5,12 @@ pub use Rattle.peg_semantics.specs.RuleOutcomes
 pub use Rattle.peg_semantics.specs.Rules
 pub use Rattle.peg_grammar.specs.GrammarRules
 pub use Rattle.peg_grammar.specs.Limits
+pub use Rattle.peg_coverage.specs.Covered
+pub use Rattle.peg_coverage.specs.CoverageFaults
+pub use Rattle.peg_coverage.specs.Unused
+pub use Rattle.peg_coverage_files.specs.CoveringFaults
+pub use Rattle.peg_coverage_files.specs.NamedTexts
+pub use Rattle.peg_diagnostics.specs.Marked
 pub use Rattle.peg_explain_files.specs.Explained
 pub use Rattle.peg_explain_files.specs.Names
 pub use Rattle.peg_explain_files.specs.Questions
@@ -18,6 +24,7 @@ pub use Rattle.peg_parser.specs.Accepts
 pub use Rattle.peg_parser.specs.Cause
 pub use Rattle.peg_parser.specs.Parser
 pub use Rattle.peg_parser.specs.Refusals
+pub use Rattle.peg_json.specs.CoverageText
 pub use Rattle.peg_json.specs.Lines
 pub use Rattle.peg_json.specs.Lints
 pub use Rattle.peg_json.specs.Parses
@@ -31,6 +38,7 @@ pub mod WritesReply
 pub mod Loaded
 pub mod PrintedNodes
 pub mod CommandOutcome
+pub mod CoverageReplies
 pub mod Exits
 pub mod Explanations
 pub mod Replies

@@ -1,11 +1,11 @@
 -- What the arguments of the program request.
-use Rattle.std.specs.Prelude.{◌≡◌, true, ℕ, List, map, option_map, string_bytes}
+use Rattle.std.specs.Prelude.{◌≡◌, true, ℕ, All, List, Option, map, option_map, string_bytes}
 use Rattle.peg_explain.specs.Styles.{style_of}
 use Rattle.peg_explain_files.specs.Names.{IsInput, name_end}
 use Rattle.peg_explain_files.specs.Questions.{Question}
 use Rattle.peg_io.specs.NamedFile.{NamedFile, Missing, is_readable}
 use Rattle.peg_cli.specs.declared.words.Words.{Words}
-use Rattle.peg_cli.specs.declared.words.Words.TheVariants.{Joined, Help, Table, Check, Code, Lint, Profile, Explain, Parse}
+use Rattle.peg_cli.specs.declared.words.Words.TheVariants.{Joined, Help, Table, Check, Code, Lint, Profile, Coverage, Explain, Parse}
 use Rattle.peg_lint.specs.FileWarnings.{selection_of}
 use Rattle.peg_json.specs.TreeForms.{form_from_options}
 use Rattle.peg_tool.specs.Explanations.{printing_of}
@@ -14,12 +14,15 @@ use Rattle.peg_tool.specs.declared.explaining.Printing.{Printing}
 use Rattle.peg_tool.specs.Task.{ToolTask, TableTask, CheckTask, CodeTask, LintTask, ProfileTask, ParseTask}
 
 -- A request: the default task on a grammar file and a text from one input, a help text, a task on the grammar file with
--- a name, a task on a grammar file and a text with two names, or an explanation of texts.
+-- a name, a task on a grammar file and a text with two names, what the texts with some names use of a grammar file, or
+-- an explanation of texts.
 pub data ToolRequest : Type 0 where
   InputRequest : ToolRequest
   HelpRequest : (text : List ℕ) → ToolRequest
   FileRequest : (task : ToolTask) → (g : List ℕ) → ToolRequest
   FilesRequest : (task : ToolTask) → (g t : List ℕ) → ToolRequest
+  CoverRequest : (start : Option (List ℕ)) → (memo : ℕ) → (steps : Option ℕ) → (g : List ℕ) → (texts : List (List ℕ))
+      → ToolRequest
   ExplainRequest : (question : Question) → (printing : Printing) → ToolRequest
 
 -- what the arguments request
@@ -33,6 +36,8 @@ requested (Lint g start proved) =
     FileRequest (LintTask (option_map string_bytes start) (selection_of proved)) (string_bytes g)
 requested (Profile g t start memo steps) =
     FilesRequest (ProfileTask (option_map string_bytes start) memo steps) (string_bytes g) (string_bytes t)
+requested (Coverage g texts start memo steps) =
+    CoverRequest (option_map string_bytes start) memo steps (string_bytes g) (map string_bytes texts.items)
 requested (Explain g texts files_from null start memo steps rules terminals quiet) =
     ExplainRequest record {
       grammar = string_bytes g;
@@ -57,14 +62,16 @@ LacksGrammar InputRequest file_at = ⊥
 LacksGrammar (HelpRequest text) file_at = ⊥
 LacksGrammar (FileRequest task g) file_at = file_at g ≡ Missing
 LacksGrammar (FilesRequest task g t) file_at = file_at g ≡ Missing
+LacksGrammar (CoverRequest start memo steps g texts) file_at = file_at g ≡ Missing
 LacksGrammar (ExplainRequest question printing) file_at = ⊥
 
--- the text file that a request names can't be opened
+-- The text file that a request names can't be opened. For what texts use, texts are opened after the grammar is read.
 abbrev pub LacksText : ToolRequest → (file_at : List ℕ → NamedFile) → Type 0
 LacksText InputRequest file_at = ⊥
 LacksText (HelpRequest text) file_at = ⊥
 LacksText (FileRequest task g) file_at = ⊥
 LacksText (FilesRequest task g t) file_at = file_at t ≡ Missing
+LacksText (CoverRequest start memo steps g texts) file_at = ⊥
 LacksText (ExplainRequest question printing) file_at = ⊥
 
 -- the files that a request names hold specified bytes, and reads of them don't fail
@@ -73,6 +80,8 @@ HasReadableFiles InputRequest file_at = Unit {0}
 HasReadableFiles (HelpRequest text) file_at = Unit {0}
 HasReadableFiles (FileRequest task g) file_at = is_readable (file_at g) ≡ true
 HasReadableFiles (FilesRequest task g t) file_at = (is_readable (file_at g) ≡ true) × (is_readable (file_at t) ≡ true)
+HasReadableFiles (CoverRequest start memo steps g texts) file_at =
+    (is_readable (file_at g) ≡ true) × All (λ text. is_readable (file_at text) ≡ true) texts
 HasReadableFiles (ExplainRequest question printing) file_at = ⊥
 
 -- ---- explanations
@@ -83,6 +92,7 @@ IsExplainRequest InputRequest = ⊥
 IsExplainRequest (HelpRequest text) = ⊥
 IsExplainRequest (FileRequest task g) = ⊥
 IsExplainRequest (FilesRequest task g t) = ⊥
+IsExplainRequest (CoverRequest start memo steps g texts) = ⊥
 IsExplainRequest (ExplainRequest question printing) = Unit {0}
 
 -- whether a request is about the input
@@ -91,4 +101,5 @@ ReadsInput InputRequest = Unit {0}
 ReadsInput (HelpRequest text) = ⊥
 ReadsInput (FileRequest task g) = ⊥
 ReadsInput (FilesRequest task g t) = ⊥
+ReadsInput (CoverRequest start memo steps g texts) = ⊥
 ReadsInput (ExplainRequest question printing) = IsInput question.list

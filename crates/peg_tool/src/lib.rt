@@ -2,6 +2,7 @@
 #![tactic(auto)]
 
 mod command;
+mod covering;
 mod exit;
 mod explaining;
 mod joined;

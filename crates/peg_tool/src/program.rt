@@ -1,22 +1,26 @@
 //! Runs the program for its parsed arguments, and the faults that end it without an answer.
-ghost use Rattle.std.specs.Prelude.{◌≡◌, ◌≢◌, ◌⊎◌, ◌↔◌, ◌++◌, ◌∷◌, [], codes, ℕ, true, false, List, IfSome, IsErrOf, is_err};
+ghost use Rattle.std.specs.Prelude.{◌≡◌, ◌≢◌, ◌⊎◌, ◌↔◌, ◌++◌, ◌∷◌, [], codes, ℕ, true, false, All, List, IfSome, IsErrOf, is_err};
+ghost use Rattle.std.specs.Prelude.{map, string_bytes};
 ghost use Rattle.std.specs.Io.KnownBytes.{Keeps};
 ghost use Rattle.peg_io.specs.NamedFile.{Missing, bytes_of, is_readable};
+ghost use Rattle.peg_parser.specs.Parser.{start_named};
 ghost use Rattle.peg_tool.specs.Commands.{task_of};
 ghost use Rattle.peg_tool.specs.CommandOutcome.{CommandOutcome, WritesOrFails, IsHelp, program_result, status_result};
 ghost use Rattle.peg_tool.specs.Replies.{IsPrinted};
 ghost use Rattle.peg_tool.specs.Requests.{HasReadableFiles, IsExplainRequest, LacksGrammar, LacksText, ReadsInput, requested};
-ghost use Rattle.peg_tool.specs.Task.{HasText};
+ghost use Rattle.peg_tool.specs.Task.{CoverTask, HasText};
 
 use crate::command::Command;
+use crate::covering::coverage_reply;
 use crate::explaining::{Explanation, explain};
 use crate::joined::run_input;
 use crate::request::Request;
 use crate::tool::run_command;
-use crate::write::CommandFault;
+use crate::write::{CommandFault, write_reply};
 use peg_cli::Words;
 use peg_io::{Device, OpenFault, Opener, Sink, Source, write_all_bytes};
 use peg_json::Status;
+use peg_parser::ParseOptions;
 use std::alloc::{AllocError, Global};
 use std::io;
 use thiserror::Error;
@@ -83,7 +87,8 @@ impl From<AllocError> for ProgramFault {
 }
 
 /// Runs the program for its parsed arguments, over files by name, an input and an output, and returns the exit status.
-/// The grammar file is opened first, then the text; both are opened before either is read.
+/// The grammar file is opened first, then the text; both are opened before either is read. Where there are several
+/// texts, each is opened and read in turn after the grammar.
 ///
 /// Returns `File` if a file can't be opened or read, or if the output can't be written. Returns `Memory`, with nothing
 /// written, if an allocation fails. For an explanation of texts, a file that can't be opened or read is status 4, and
@@ -121,6 +126,9 @@ pub fn run_words<O: Opener, I: Source, W: Sink>(
         Request::Help { text } => help(output, text),
         Request::OnFile { g, command } => on_file(alloc, files, output, g, &command),
         Request::OnFiles { g, t, command } => on_files(alloc, files, output, g, t, &command),
+        Request::Cover { g, texts, options } => {
+            on_texts(alloc, files, output, g, texts, &options)
+        }
         Request::Explain { query, printing } => {
             to_status(explain(alloc, files, input, output, &query, printing))
         }
@@ -203,6 +211,33 @@ fn on_files<O: Opener, W: Sink>(
     let mut text = files.open(t)?;
     let ended = run_command(alloc, &mut grammar, &mut text, output, command);
     to_program_result(ended)
+}
+
+// Prints what the texts with these names use of the grammar file with a name. The texts are opened after the grammar is
+// read.
+fn on_texts<O: Opener, W: Sink>(
+    alloc: Global,
+    files: &O,
+    output: &mut W,
+    g: &str,
+    texts: &[String],
+    options: &ParseOptions<'_>,
+) -> Result<u8, ProgramFault>
+    requires { W.failed output.old ≡ false }
+    ensures leads { IfSome (bytes_of (O.file_at files.now g.now)) (λ file. (text : List ℕ) → WritesOrFails (IsPrinted
+        (CoverTask (map (O.file_at files.now) (map string_bytes texts.now)) (start_named options.now) options.now.memo
+        options.now.steps) file text) (W.written output.old) (W.written output.new) result) }
+    ensures no_grammar { O.file_at files.now g.now ≡ Missing
+        → IsErrOf result ProgramFault.File × (output.new ≡ output.old) }
+    ensures device_fault { is_readable (O.file_at files.now g.now) ≡ true
+        → All (λ text. is_readable (O.file_at files.now text) ≡ true) (map string_bytes texts.now)
+        → (IsErrOf result ProgramFault.File ↔ (W.failed output.new ≡ true)) }
+    ensures write_fault { W.failed output.new ≡ true → IsErrOf result ProgramFault.File }
+    ensures memory { IsErrOf result ProgramFault.Memory → Keeps (W.written output.old) (W.written output.new) }
+{
+    let mut grammar = files.open(g)?;
+    let reply = coverage_reply(alloc, files, &mut grammar, texts, options);
+    to_program_result(write_reply(output, reply))
 }
 
 // Converts the result of a command to that of the program.

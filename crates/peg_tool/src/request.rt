@@ -33,6 +33,12 @@ pub enum Request<'a> {
         t: &'a str,
         command: Command<'a>,
     },
+    /// Prints what the text files with the names `texts` use of the grammar file with name `g`.
+    Cover {
+        g: &'a str,
+        texts: &'a [String],
+        options: ParseOptions<'a>,
+    },
     /// Explains where texts don't match a grammar file.
     Explain {
         query: Query<'a>,
@@ -80,6 +86,18 @@ impl<'a> Request<'a> {
                     t,
                     command: Command::Profile { options },
                 }
+            }
+            Words::Coverage {
+                g,
+                texts,
+                start,
+                memo,
+                steps,
+            } => {
+                let (memo, steps) = (*memo, *steps);
+                let start = start.as_deref();
+                let options = ParseOptions { start, memo, steps };
+                Request::Cover { g, texts, options }
             }
             Words::Explain {
                 g,
