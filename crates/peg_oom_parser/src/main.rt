@@ -1,6 +1,7 @@
-//! Tests the public calls of parsers, profiles and JSON for allocation failure, as `peg_oom` says.
+//! Tests the public calls of parsers, coverage, profiles and JSON for allocation failure, as `peg_oom` says.
 #![tactic(auto)]
 
+mod coverage;
 mod parsers;
 mod profiles;
 mod replies;
@@ -26,6 +27,7 @@ fn run(rt: &(impl Print + env::Env + AllocGlobal), alloc: Global) -> io::Result<
 // Makes the call that the argument names, if there is one.
 fn call(rt: &impl Print, alloc: Global, word: &str) -> Option<io::Result<()>> {
     parsers::call(rt, alloc, word)
+        .or_else(|| coverage::call(rt, alloc, word))
         .or_else(|| profiles::call(rt, alloc, word))
         .or_else(|| replies::call(rt, alloc, word))
 }
@@ -33,6 +35,7 @@ fn call(rt: &impl Print, alloc: Global, word: &str) -> Option<io::Result<()>> {
 // Lists the calls.
 fn print_all(rt: &impl Print) -> io::Result<()> {
     print_words(rt, &parsers::WORDS)?;
+    print_words(rt, &coverage::WORDS)?;
     print_words(rt, &profiles::WORDS)?;
     print_words(rt, &replies::WORDS)
 }

@@ -11,7 +11,7 @@ use peg_tool::{
 use std::alloc::{AllocError, Global};
 use std::io;
 
-pub(crate) const WORDS: [&str; 40] = [
+pub(crate) const WORDS: [&str; 41] = [
     "read_up_to",
     "read_words",
     "read_words_help",
@@ -42,6 +42,7 @@ pub(crate) const WORDS: [&str; 40] = [
     "tool_profile_no_start",
     "joined",
     "joined_open",
+    "words_coverage",
     "words_explain",
     "words_explain_open",
     "words_joined",
@@ -86,6 +87,7 @@ pub(crate) fn call(rt: &impl Print, alloc: Global, word: &str) -> Option<io::Res
         "tool_code" => tool(rt, alloc, COUNTS, b"", &Command::Code),
         "joined" => joined(rt, alloc, b"S <- 'a' S / 'b'\n%%\naab"),
         "joined_open" => joined(rt, alloc, b"A <- [a-]\n%%\naab"),
+        "words_coverage" => led(rt, alloc, "profile chain --coverage chain aab"),
         "words_explain" => led(rt, alloc, "explain chain chain aab --files-from aab"),
         "words_explain_open" => led(rt, alloc, "explain aab chain"),
         "words_joined" => led(rt, alloc, ""),
