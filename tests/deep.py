@@ -20,15 +20,19 @@ WHOLE = b"S <- .* !.\n"
 faults = 0
 
 
-def parsed(grammar, text, *words):
-    """The status and the line of a parse."""
+def printed(command, grammar, text, *words):
+    """The status and the line of a command."""
     with tempfile.TemporaryDirectory() as folder:
         files = [os.path.join(folder, name) for name in ("grammar", "text")]
         for path, content in zip(files, (grammar, text)):
             with open(path, "wb") as file:
                 file.write(content)
-        done = subprocess.run([PROGRAM, "parse", *files, *words], capture_output=True)
+        done = subprocess.run([PROGRAM, command, *files, *words], capture_output=True)
     return done.returncode, json.loads(done.stdout)
+
+
+def parsed(grammar, text, *words):
+    return printed("parse", grammar, text, *words)
 
 
 def explained(grammar, text):
@@ -66,7 +70,7 @@ wanted(
     0,
     matched(2 * MILLION + 1, MILLION, [[5, 8]], [[n + 1, "S", n, 2 * MILLION + 1 - n] for n in range(MILLION + 1)]),
 )
-for form, printed in (
+for form, tree in (
     ("--rows", {"rows": [[1, "S", 0, 2 * MILLION + 1]]}),
     ("--all", {"tree": {"children": [], "end": 2 * MILLION + 1, "rule": "S", "start": 0}}),
 ):
@@ -74,7 +78,7 @@ for form, printed in (
         f"a million levels, hidden but the root, with {form}",
         parsed(NESTED, b"(" * MILLION + b"x" + b")" * MILLION, form, "--hide", "S"),
         0,
-        {"consumed": 2 * MILLION + 1, "expected": [[5, 8]], "far": MILLION, "result": "matched", **printed},
+        {"consumed": 2 * MILLION + 1, "expected": [[5, 8]], "far": MILLION, "result": "matched", **tree},
     )
 wanted("an explanation of a million parentheses", explained(NESTED, b"(" * MILLION + b"x" + b")" * MILLION), 0, "")
 wanted(
@@ -90,6 +94,37 @@ wanted(
     {"expected": [[5, 8], [13, 16]], "far": MILLION, "result": "failed"},
 )
 wanted(
+    "the profile of a million levels",
+    printed("profile", RIGHT, b"a" * MILLION + b"b"),
+    0,
+    {
+        "consumed": MILLION + 1,
+        "result": "matched",
+        "rules": [{"again": 0, "calls": MILLION + 1, "places": MILLION + 1, "rule": "S"}],
+        "steps": 5 * MILLION + 5,
+    },
+)
+wanted(
+    "what a million parentheses use",
+    printed("profile", NESTED, b"(" * MILLION + b"x" + b")" * MILLION, "--coverage"),
+    0,
+    {"matched": 1, "texts": 1, "unused_alternatives": [], "unused_rules": []},
+)
+wanted(
+    "the coverage of a failure through a million uses",
+    printed("profile", RIGHT, b"a" * MILLION, "--coverage"),
+    1,
+    {
+        "matched": 0,
+        "texts": 1,
+        "unused_alternatives": [
+            {"column": 6, "end": 10, "line": 1, "start": 5},
+            {"column": 14, "end": 16, "line": 1, "start": 13},
+        ],
+        "unused_rules": [{"column": 1, "end": 1, "line": 1, "rule": "S", "start": 0}],
+    },
+)
+wanted(
     "as many of each of three letters",
     parsed(COUNTS, b"a" * 10_000 + b"b" * 10_000 + b"c" * 10_000, "--memo", "0", "--rows"),
     0,
@@ -102,7 +137,11 @@ wanted(
 )
 wanted("the longest text", parsed(WHOLE, b"z" * LONGEST, "--rows"), 0,
        matched(LONGEST, LONGEST, [[5, 6], [9, 10]], [[1, "S", 0, LONGEST]]))
+wanted("what the longest text uses", printed("profile", WHOLE, b"z" * LONGEST, "--coverage"), 0,
+       {"matched": 1, "texts": 1, "unused_alternatives": [], "unused_rules": []})
 wanted("a text that is too long", parsed(WHOLE, b"z" * (LONGEST + 1)), 6, {"refusal": "TextTooLong"})
+wanted("what a text that is too long uses", printed("profile", WHOLE, b"z" * (LONGEST + 1), "--coverage"), 6,
+       {"refusal": "TextTooLong"})
 
 print(f"{faults} faults")
 sys.exit(faults != 0)
