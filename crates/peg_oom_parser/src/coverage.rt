@@ -89,7 +89,7 @@ fn unused_alternatives(rt: &impl Print, alloc: Global) -> io::Result<()> {
     report(rt, &borrowed, answer.is_err(), &answer)
 }
 
-// The parser of a grammar, and what texts use of it: not the rule, and not the last of its alternatives.
+// The parser of a grammar, and a coverage that is made up: the rule is unused, and so is an alternative at its name.
 fn coverage_of(alloc: Global) -> io::Result<(Parser, Coverage)>
     ensures { IfOk result (λ both. All (λ rule. rule < length (parser_rules both.0)) both.1.unused_rules.items) }
 {
