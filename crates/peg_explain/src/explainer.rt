@@ -24,7 +24,7 @@ use crate::outcomes::{are_items_expected, is_end_expected, is_whole_match, named
 use crate::style::ItemStyle;
 use peg_blame::{BlameFault, BlameParser};
 use peg_messages::{Failure, Item};
-use peg_parser::{ParseFault, ParseOptions, Parser};
+use peg_parser::{Answer, ParseFault, ParseOptions, Parser};
 use peg_tree::{Outcome, RuleSet};
 use std::alloc::{AllocError, Global};
 
@@ -145,7 +145,7 @@ impl<'a> Explainer<'a> {
         match &self.blames {
             Some(blames) => {
                 let answer = blames.blame(alloc, text, options)?;
-                let expected = self.items_by_blame(alloc, blames, text, options, &answer.outcome)?;
+                let expected = self.items_by_blame(alloc, blames, text, options, &answer)?;
                 Ok(mismatch_in(text, &answer.outcome, expected))
             }
             None => {
@@ -157,23 +157,24 @@ impl<'a> Explainer<'a> {
         }
     }
 
-    // Returns the items that are expected by a blame; none if the text matches as a whole.
+    // Returns the items that are expected by the answer of a blame; none if the text matches as a whole.
     fn items_by_blame(
         &self,
         alloc: Global,
         blames: &BlameParser,
         text: &[u8],
         options: &ParseOptions<'_>,
-        outcome: &Outcome,
+        answer: &Answer,
     ) -> Result<Vec<ExpectedItem>, ParseFault>
         requires short { length text.now ≤ max_text_bytes }
         ensures items { (rules : List Rule) (start : List ℕ) → IsBlameParserOf rules blames.now
             → start_name rules (start_named options.now) ≡ Some start
-            → (is : IsBlameOutcome rules text.now start outcome.now)
-            → is_whole_match outcome.now.result (length text.now) ≡ false
+            → (is : IsBlameOutcome rules text.now start answer.now.outcome)
+            → is_whole_match answer.now.outcome.result (length text.now) ≡ false
             → IfOk result (λ items. map fact_of items.items ≡ expected_items self.now.file.now self.now.style
-            (facts_by_blame rules is.blame) (min (named_position outcome.now.result outcome.now.far) (length text.now))
-            outcome.now) }
+            (facts_by_blame rules is.blame)
+            (min (named_position answer.now.outcome.result answer.now.outcome.far) (length text.now))
+            answer.now.outcome) }
         ensures few { IfOk result (λ items. length items.items < 2 ^ 32) }
         ensures no_start { (rules : List Rule) → IsBlameParserOf rules blames.now
             → IsErrOf result ParseFault.NoSuchStart → start_name rules (start_named options.now) ≡ None }
@@ -183,10 +184,12 @@ impl<'a> Explainer<'a> {
         ensures limited { (rules : List Rule) → IsBlameParserOf rules blames.now → IsErrOf result ParseFault.StepLimit
             → TakesMoreSteps (diagnostic_rules rules) text.now (start_named options.now) options.now.steps }
     {
+        let outcome = &answer.outcome;
         if is_whole_match(outcome, text.len()) || !are_items_expected(outcome) {
             return Ok(Vec::new(alloc));
         }
-        let named = self.named_rules(alloc, blames, text, options, position_in(text, outcome))?;
+        let at = position_in(text, outcome);
+        let named = self.named_rules(alloc, blames, text, options, answer.steps, at)?;
         let items = Items {
             file: self.file,
             spans: blames.items(),
@@ -195,13 +198,15 @@ impl<'a> Explainer<'a> {
         Ok(items_of_failure(alloc, &items, &named, outcome)?)
     }
 
-    // Returns the rules that items may be named after at a position.
+    // Returns the rules that items may be named after at a position. The blame took these steps. If it took them without
+    // a memo, so does the parse for the rules, which is faster then.
     fn named_rules(
         &self,
         alloc: Global,
         blames: &BlameParser,
         text: &[u8],
         options: &ParseOptions<'_>,
+        steps: u64,
         at: u32,
     ) -> Result<RuleSet, ParseFault>
         ensures named { (rules : List Rule) (start : List ℕ) (blame : Record) → IsBlameParserOf rules blames.now
@@ -218,7 +223,15 @@ impl<'a> Explainer<'a> {
         if !self.style.uses_names {
             return Ok(RuleSet::none(alloc, 0)?);
         }
-        blames.called_rules(alloc, text, options, at)
+        let plain = ParseOptions {
+            start: options.start,
+            memo: 0,
+            steps: Some(steps),
+        };
+        match blames.called_rules(alloc, text, &plain, at) {
+            Err(ParseFault::StepLimit) => blames.called_rules(alloc, text, options, at),
+            result => result,
+        }
     }
 
     /// Returns the message for a mismatch in a text. The name begins the message. The only error is a failed allocation.

@@ -69,6 +69,19 @@ fn a_call_in_a_predicate_gives_no_name(rt: HostRuntime) -> Result<(), Fail> {
     assert_message(&rt, rt.alloc(), case, NAMES, 4096, message)
 }
 
+// Each level doubles the steps of a run without a memo. D is called at 30.
+#[test]
+fn a_text_that_needs_the_memo_has_names_too(rt: HostRuntime) -> Result<(), Fail> {
+    let file = b"A <- '(' A ')' 'x' / '(' A ')' 'y' / D\nD <- [0-9]\n".as_slice();
+    let text = b"((((((((((((((((((((((((((((((?".as_slice();
+    let message = concat!(
+        "t:1:31: expected '(' or D, found '?'\n",
+        "((((((((((((((((((((((((((((((?\n",
+        "                              ^\n",
+    );
+    assert_message(&rt, rt.alloc(), (file, text), NAMES, 4096, message)
+}
+
 #[test]
 fn rules_follow_items_without_names(rt: HostRuntime) -> Result<(), Fail> {
     let style = ItemStyle {
