@@ -1,5 +1,5 @@
 -- The effect of each instruction, and of backtracking, on the accounts of a run.
-use Rattle.std.proofs.Common.{◌≡◌, ◌⊎◌, ℕ, ◌+◌, List, [], ◌∷◌, Contains, Some, length, drop, slice_get, sym, ◌∙◌, ap}
+use Rattle.std.proofs.Common.{◌≡◌, ◌⊎◌, ℕ, ◌+◌, List, [], ◌∷◌, Contains, Some, length, drop, slice_get, refl, sym, ◌∙◌, ap}
 use Rattle.std.proofs.Common.{subst}
 use Rattle.peg_bytes.specs.ByteSet.{Bytes, has}
 use Rattle.peg_tree.specs.Rows.{Row}
@@ -7,7 +7,7 @@ use Rattle.peg_semantics.specs.Record.{Record, RuleCall, matched_at, failed_at, 
 use Rattle.peg_semantics.specs.Record as ford
 use Rattle.peg_code.specs.Instructions.{Test, Ret, Choice, Commit, FailTwice}
 use Rattle.peg_machine.specs.Accounts.{counting, Account, ReturnsToCaller, FailsItsCaller}
-use Rattle.peg_machine.specs.Local.{SavedChoice, saved_choice}
+use Rattle.peg_machine.specs.Local.{Effects, SavedChoice, effects_of, only_steps, saved_choice}
 use Rattle.peg_machine.specs.Running.{RunContext}
 use Rattle.peg_machine.specs.OpenRows.{rows_after_match, close_row}
 use Rattle.peg_machine.specs.Steps.{CallCounting, Own, Plain}
@@ -24,8 +24,8 @@ module _ (context : RunContext) (start : RuleCall) (answer : Record) (tests : Li
       → byte_at (has set) terminal position (drop position context.text) ≡ matched_at (position + 1)
       → Account context start answer tests traced (steps + 1) saved (RunsAt (pc + 1) (position + 1) rows) (active ∷ below)
   passes_in_both set terminal is passes =
-      does_for_both context start answer tests traced steps saved (RunsAt pc position rows) (active ∷ below) account 1 tests
-      (RunsAt (pc + 1) (position + 1) rows) (active ∷ below)
+      does_for_both context start answer tests traced steps saved (RunsAt pc position rows) (active ∷ below) account
+      (only_steps 1) refl tests (RunsAt (pc + 1) (position + 1) rows) (active ∷ below)
       (λ counted to_come partial_run. passes_on (counting counted context) start answer tests traced to_come pc position rows active below
       partial_run set terminal is passes)
 
@@ -36,8 +36,8 @@ module _ (context : RunContext) (start : RuleCall) (answer : Record) (tests : Li
       → ((test : ford.Test) → Contains more_tests test → Contains tests test ⊎ (test_of terminal position ≡ test))
       → Account context start answer more_tests traced (steps + 1) saved Backtracks (active ∷ below)
   test_fails_in_both set terminal more_tests is fails may_store noted adds =
-      does_for_both context start answer tests traced steps saved (RunsAt pc position rows) (active ∷ below) account 1 more_tests
-      Backtracks (active ∷ below)
+      does_for_both context start answer tests traced steps saved (RunsAt pc position rows) (active ∷ below) account
+      (effects_of (failed_at terminal position) 1) refl more_tests Backtracks (active ∷ below)
       (λ counted to_come partial_run. test_fails_on (counting counted context) start answer tests traced to_come pc position rows active
       below partial_run set terminal more_tests is fails may_store noted adds)
 
@@ -45,8 +45,8 @@ module _ (context : RunContext) (start : RuleCall) (answer : Record) (tests : Li
       → Account context start answer tests traced (steps + 1) saved (RunsAt (pc + 1) position rows)
       (record active { choice_points = saved_choice target position rows ∷ active.choice_points } ∷ below)
   leaves_in_both target is =
-      does_for_both context start answer tests traced steps saved (RunsAt pc position rows) (active ∷ below) account 1 tests
-      (RunsAt (pc + 1) position rows) (record active { choice_points = saved_choice target position rows ∷ active.choice_points } ∷ below)
+      does_for_both context start answer tests traced steps saved (RunsAt pc position rows) (active ∷ below) account
+      (only_steps 1) refl tests (RunsAt (pc + 1) position rows) (record active { choice_points = saved_choice target position rows ∷ active.choice_points } ∷ below)
       (λ counted to_come partial_run. leaves_on (counting counted context) start answer tests traced to_come pc position rows active below
       partial_run target is)
 
@@ -59,8 +59,8 @@ module _ (context : RunContext) (start : RuleCall) (answer : Record) (tests : Li
         own.0,
         own.1,
         own.3,
-        does_for_both context start answer tests traced steps saved (RunsAt pc position rows) (active ∷ below) account 1 tests
-            (RunsAt target position rows) (record active { choice_points = own.1 } ∷ below)
+        does_for_both context start answer tests traced steps saved (RunsAt pc position rows) (active ∷ below) account
+            (only_steps 1) refl tests (RunsAt target position rows) (record active { choice_points = own.1 } ∷ below)
             (λ counted to_come partial_run.
             let done = commits_on (counting counted context) start answer tests traced to_come pc position rows active below partial_run target
             is in
@@ -83,8 +83,8 @@ module _ (context : RunContext) (start : RuleCall) (answer : Record) (tests : Li
         own.0,
         own.1,
         own.3,
-        does_for_both context start answer tests traced steps saved (RunsAt pc position rows) (active ∷ below) account 1 tests
-            Backtracks (record active { choice_points = own.1 } ∷ below)
+        does_for_both context start answer tests traced steps saved (RunsAt pc position rows) (active ∷ below) account
+            (only_steps 1) refl tests Backtracks (record active { choice_points = own.1 } ∷ below)
             (λ counted to_come partial_run.
             let done = fails_twice_on (counting counted context) start answer tests traced to_come pc position rows active below partial_run is in
             let same : done.1 ≡ own.1 = (let one = own.3 in let other = done.3 in cc) in (
@@ -112,12 +112,13 @@ module _ (context : RunContext) (start : RuleCall) (answer : Record) (tests : Li
         account.plain;
     n = account.n;
     plain_steps = account.plain_steps;
+    in_order = account.in_order;
   }
 
 module _ (context : RunContext) (start : RuleCall) (answer : Record) (tests : List ford.Test) (traced : List RuleCall) (steps saved : ℕ)
     (active caller : ActiveCall) (below : List ActiveCall) where
   -- nodes closed with their children are the list with the node closed in place
-  closed_rows : (rows : List Row) (position : ℕ) (counted : CallCounting) (to_come : ℕ)
+  closed_rows : (rows : List Row) (position : ℕ) (counted : CallCounting) (to_come : Effects)
       (return_pc : CallHasReturned (counting counted context) start answer tests traced to_come position rows active caller below)
       → rows_after_match active.frame.before active.frame.pair position return_pc.children
       ≡ close_row (length active.frame.before) rows active.frame.pair position
@@ -139,15 +140,15 @@ module _ (context : RunContext) (start : RuleCall) (answer : Record) (tests : Li
         r = own.r;
         matched = own.matched;
         may_be_stored = record { recorded = own.may_be_stored.recorded; noted = own.may_be_stored.noted };
-        account = does_for_both context start answer tests traced steps saved (RunsAt pc position rows) (active ∷ caller ∷ below) account 1
-            tests
+        account = does_for_both context start answer tests traced steps saved (RunsAt pc position rows) (active ∷ caller ∷ below) account
+            (only_steps 1) refl tests
             (RunsAt active.frame.return_pc position (close_row (length active.frame.before) rows active.frame.pair position))
             (caller ∷ below)
             (λ counted to_come partial_run.
             let return_pc = returns_on (counting counted context) start answer tests traced to_come pc position rows active caller below
             partial_run is in (
               return_pc.left,
-              return_pc.counts,
+              return_pc.remains,
               subst
                   (λ (all : List Row). PartialRun (counting counted context) start answer tests traced return_pc.left
                   (RunsAt active.frame.return_pc position all) (caller ∷ below))
@@ -173,5 +174,6 @@ module _ (context : RunContext) (start : RuleCall) (answer : Record) (tests : Li
           plain = plain.partial_run;
           n = account.n;
           plain_steps = account.plain_steps;
+          in_order = account.in_order;
         };
       }

@@ -6,6 +6,7 @@ mod CodeLemmas
 mod EntryLemmas
 mod Expectations
 mod FailureNotes
+mod FailureSteps
 mod FailurePositionLemmas
 mod FirstRecords
 mod FurthestBySet

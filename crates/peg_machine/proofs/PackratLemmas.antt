@@ -1,9 +1,9 @@
 -- Each event preserves that the pairs traced have a memo entry or are active, so a new call was never traced.
-use Rattle.std.proofs.Common.{◌≡◌, ◌≢◌, ◌⊎◌, inl, inr, ℕ, List, [], ◌∷◌, ◌++◌, All, Contains, subst}
+use Rattle.std.proofs.Common.{◌≡◌, ◌≢◌, ◌⊎◌, inl, inr, List, [], ◌∷◌, ◌++◌, All, Contains, subst}
 use Rattle.std.proofs.lemmas.List.Elements.{All-head, All-tail, Contains-append_cases}
 use Rattle.peg_semantics.specs.Record.{Record, Test, RuleCall}
 use Rattle.peg_memo.specs.MemoMap.{MemoMap}
-use Rattle.peg_machine.specs.Local.{SavedChoice}
+use Rattle.peg_machine.specs.Local.{Effects, SavedChoice}
 use Rattle.peg_machine.specs.Packrat.{IsOnStack, IsInMemo, AreInMemoOrActive}
 use Rattle.peg_machine.specs.Running.{RunContext}
 use Rattle.peg_machine.specs.PartialRuns.{ActiveCall, Mode, PartialRun}
@@ -21,7 +21,7 @@ not_on_stack pair (active ∷ below) others (inr on) =
 
 -- A new call without a memo entry was never traced.
 pub never_shown : (stored : MemoMap) (context : RunContext) (start : RuleCall) (answer : Record) (tests : List Test) (calls : List RuleCall)
-    (to_come : ℕ) (mode : Mode) (active : ActiveCall) (below : List ActiveCall) (traced : List RuleCall)
+    (to_come : Effects) (mode : Mode) (active : ActiveCall) (below : List ActiveCall) (traced : List RuleCall)
     → PartialRun context start answer tests calls to_come mode (active ∷ below) → AreInMemoOrActive stored traced below
     → (IsInMemo stored active.frame.pair → ⊥) → Contains traced active.frame.pair → ⊥
 never_shown stored context start answer tests calls to_come mode active below traced partial_run are unheld has =

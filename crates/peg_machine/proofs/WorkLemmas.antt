@@ -1,6 +1,6 @@
 -- Concatenation of work, and continuing after a part whose trees come before others.
 use Rattle.std.proofs.Common.{◌≡◌, ℕ, ◌+◌, List, ◌∷◌, ◌++◌, Option, None, Some, refl, sym, ◌∙◌, ap, append_assoc}
-use Rattle.std.proofs.Common.{append-nil, zero-add, add_assoc}
+use Rattle.std.proofs.Common.{append-nil, arith, zero-add, add_assoc}
 use Rattle.peg_tree.specs.Rows.{Row, rows_of}
 use Rattle.peg_tree.specs.Trees.{Trees, NoTrees, Tree, nodes, followed_by}
 use Rattle.peg_semantics.specs.Record.{Recognition, Failed, Matched, RuleCall, prepend_trees}
@@ -19,6 +19,14 @@ same_work same_tests same_uses same_steps = cc
 pub both_assoc : (a b c : Effects) → then_effects (then_effects a b) c ≡ then_effects a (then_effects b c)
 both_assoc a b c =
     same_work (append_assoc a.tests b.tests c.tests) (append_assoc a.calls b.calls c.calls) (add_assoc a.steps b.steps c.steps)
+
+pub then_effects-nothing : (work : Effects) → then_effects work (only_steps 0) ≡ work
+then_effects-nothing work =
+    let same : work.steps + 0 ≡ work.steps = omega arith in
+    same_work (append-nil work.tests) (append-nil work.calls) same
+
+pub nothing-then_effects : (work : Effects) → then_effects (only_steps 0) work ≡ work
+nothing-then_effects work = same_work {tests = work.tests} {calls = work.calls} refl refl (zero-add work.steps)
 
 -- empty work before or after some work changes nothing
 pub with_effects-nothing : (later : Option BodyResult) → with_effects (only_steps 0) later ≡ later

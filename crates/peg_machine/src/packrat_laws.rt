@@ -1,7 +1,7 @@
 //! Laws of the packrat property. Each function has an empty body; its contract is the law.
-ghost use Rattle.std.specs.Prelude.{◌++◌, ◌∷◌, [], Contains, List, ℕ};
+ghost use Rattle.std.specs.Prelude.{◌++◌, ◌∷◌, [], Contains, List};
 ghost use Rattle.peg_semantics.specs.Record.{Record, Test, RuleCall};
-ghost use Rattle.peg_machine.specs.Local.{SavedChoice};
+ghost use Rattle.peg_machine.specs.Local.{Effects, SavedChoice};
 ghost use Rattle.peg_machine.specs.Packrat.{AreInMemoOrActive, IsInMemo};
 ghost use Rattle.peg_machine.specs.Running.{RunContext};
 ghost use Rattle.peg_machine.specs.PartialRuns.{ActiveCall, Mode, PartialRun};
@@ -11,7 +11,7 @@ ghost use Rattle.peg_memo.specs.MemoMap.{MemoMap};
 pub fn a_call_that_starts_was_never_traced()
     ensures { (stored : MemoMap) (context : RunContext) (start : RuleCall) (answer : Record) (tests : List Test)
         (calls : List RuleCall)
-        (to_come : ℕ) (mode : Mode) (active : ActiveCall) (below : List ActiveCall) (traced : List RuleCall)
+        (to_come : Effects) (mode : Mode) (active : ActiveCall) (below : List ActiveCall) (traced : List RuleCall)
         → PartialRun context start answer tests calls to_come mode (active ∷ below)
         → AreInMemoOrActive stored traced below
         → ¬ IsInMemo stored active.frame.pair → ¬ Contains traced active.frame.pair }

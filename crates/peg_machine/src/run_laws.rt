@@ -11,7 +11,7 @@ ghost use Rattle.peg_machine.specs.Local.{BodyResult, Continuation, SavedChoice,
 ghost use Rattle.peg_machine.specs.Noted.{IsNoted, TaskNoted};
 ghost use Rattle.peg_machine.specs.Running.{new_task, resume_task, body_context_of, oldest_call};
 ghost use Rattle.peg_machine.specs.OpenRows.{close_row, rows_after_match, opened};
-ghost use Rattle.peg_machine.specs.Running.{steps_of_call, steps_to_come, with_done};
+ghost use Rattle.peg_machine.specs.Running.{steps_of_call, with_done, work_to_come};
 ghost use Rattle.peg_machine.specs.Running.{AreSuspended, IsBacktrackingTask, IsBacktracking, Frame, IsContinuing, RunContext, IsExpectedBy, Expectation};
 ghost use Rattle.peg_machine.specs.Starts.{CallStart};
 ghost use Rattle.peg_machine.specs.Running.{RunsAsExpected, IsRunningTask, CallTask};
@@ -97,10 +97,12 @@ pub fn a_call_is_answered_or_starts()
     ensures counts { (context : RunContext) (entries : List ℕ) (pc : ℕ) (rows : List Row) (task : CallTask)
         (older : List CallTask)
         (pair : RuleCall) (begins : CallStart context entries pc rows task older pair)
-        → steps_of_call context.counted begins.steps
-        + steps_to_come (new_task pair (pc + 1) rows begins.rounds (effects_of begins.answer begins.steps)
-        ∷ record task { to_come = begins.rest } ∷ older)
-        ≡ begins.steps + steps_to_come (task ∷ older) }
+        → (steps_of_call context.counted begins.steps
+        + (work_to_come (new_task pair (pc + 1) rows begins.rounds (effects_of begins.answer begins.steps)
+        ∷ record task { to_come = begins.rest } ∷ older)).steps
+        ≡ begins.steps + (work_to_come (task ∷ older)).steps)
+        × (pair ∷ (work_to_come (new_task pair (pc + 1) rows begins.rounds (effects_of begins.answer begins.steps)
+        ∷ record task { to_come = begins.rest } ∷ older)).calls ≡ (work_to_come (task ∷ older)).calls) }
 {}
 
 /// At the end of its rule a call returns to its caller with its node closed. The start returns to instruction 0.

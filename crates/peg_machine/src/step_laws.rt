@@ -6,7 +6,8 @@ ghost use Rattle.peg_bytes.specs.ByteSet.{Bytes, has};
 ghost use Rattle.peg_code.specs.Instructions.{Call, Choice, Commit, End, FailTwice, Ret};
 ghost use Rattle.peg_code.specs.Instructions.{Test as TestOf};
 ghost use Rattle.peg_semantics.specs.Record.{byte_at, failed_at, matched_at, test_of, Record, Test, RuleCall};
-ghost use Rattle.peg_machine.specs.Local.{run_local, step_of, saved_choice, with_effects, CallCosts, Continuation, CallAnswers, SavedChoice, Effects};
+ghost use Rattle.peg_machine.specs.Local.{effects_of, only_steps, run_local, step_of, saved_choice, then_effects, with_effects};
+ghost use Rattle.peg_machine.specs.Local.{CallAnswers, CallCosts, Continuation, Effects, SavedChoice};
 ghost use Rattle.peg_machine.specs.Noted.{IsNoted};
 ghost use Rattle.peg_machine.specs.Running.{steps_of_call, RunContext};
 ghost use Rattle.peg_machine.specs.OpenRows.{opened};
@@ -17,14 +18,15 @@ ghost use Rattle.peg_machine.specs.PartialRuns.{CallHasReturned, IsRecordOfCall,
 ghost use Rattle.peg_tree.specs.Rows.{Row};
 
 /// A run starts at the entry of its rule if the body of that rule has a record. The node of the start is open, and all
-/// steps of the body remain. Only the start is noted.
+/// work of the body remains. Only the start is noted.
 pub fn a_run_begins()
     ensures { (context : RunContext) (start : RuleCall) (answer : Record) (entries : List ℕ)
         → EntriesAreLaidOut context.code entries context.bodies
         → IsRecordOfCall context start answer
         → (entry : ℕ) × (n : ℕ) × (steps : ℕ) × (slice_get entries start.rule ≡ Some entry)
         × (body_steps_in context.counted 1 context.bodies context.text n start.rule start.position ≡ Some steps)
-        × PartialRun context start answer [] (start ∷ []) steps (RunsAt entry start.position (opened [] start))
+        × PartialRun context start answer [] (start ∷ []) (effects_of answer steps)
+        (RunsAt entry start.position (opened [] start))
         (record { frame = record { pair = start; return_pc = 0; before = [] }; choice_points = [] } ∷ []) }
 {}
 
@@ -32,34 +34,34 @@ pub fn a_run_begins()
 pub fn a_run_continues()
     ensures there { (context : RunContext) (start : RuleCall) (answer : Record) (tests : List Test)
         (calls : List RuleCall)
-        (to_come pc position : ℕ) (rows : List Row) (active : ActiveCall) (below : List ActiveCall)
+        (to_come : Effects) (pc position : ℕ) (rows : List Row) (active : ActiveCall) (below : List ActiveCall)
         → PartialRun context start answer tests calls to_come (RunsAt pc position rows) (active ∷ below)
         → slice_get context.code pc ≢ None }
     ensures no_end { (context : RunContext) (start : RuleCall) (answer : Record) (tests : List Test)
         (calls : List RuleCall)
-        (to_come pc position : ℕ) (rows : List Row) (active : ActiveCall) (below : List ActiveCall)
+        (to_come : Effects) (pc position : ℕ) (rows : List Row) (active : ActiveCall) (below : List ActiveCall)
         → PartialRun context start answer tests calls to_come (RunsAt pc position rows) (active ∷ below)
         → slice_get context.code pc ≢ Some End }
     ensures to_come { (context : RunContext) (start : RuleCall) (answer : Record) (tests : List Test)
         (calls : List RuleCall)
-        (to_come pc position : ℕ) (rows : List Row) (active : ActiveCall) (below : List ActiveCall)
+        (to_come : Effects) (pc position : ℕ) (rows : List Row) (active : ActiveCall) (below : List ActiveCall)
         → PartialRun context start answer tests calls to_come (RunsAt pc position rows) (active ∷ below)
-        → 0 < to_come }
+        → 0 < to_come.steps }
 {}
 
 /// A byte passes its terminal test, or the failed test is noted and the call fails. Either takes one step.
 pub fn a_test_passes_or_fails()
     ensures passes { (context : RunContext) (start : RuleCall) (answer : Record) (tests : List Test)
         (calls : List RuleCall)
-        (to_come pc position : ℕ) (rows : List Row) (active : ActiveCall) (below : List ActiveCall)
+        (to_come : Effects) (pc position : ℕ) (rows : List Row) (active : ActiveCall) (below : List ActiveCall)
         → PartialRun context start answer tests calls to_come (RunsAt pc position rows) (active ∷ below)
         → (set : Bytes) (terminal : ℕ) → slice_get context.code pc ≡ Some (TestOf set terminal)
         → byte_at (has set) terminal position (drop position context.text) ≡ matched_at (position + 1)
-        → (left : ℕ) × (to_come ≡ 1 + left)
+        → (left : Effects) × (to_come ≡ then_effects (only_steps 1) left)
         × PartialRun context start answer tests calls left (RunsAt (pc + 1) (position + 1) rows) (active ∷ below) }
     ensures fails { (context : RunContext) (start : RuleCall) (answer : Record) (tests : List Test)
         (calls : List RuleCall)
-        (to_come pc position : ℕ) (rows : List Row) (active : ActiveCall) (below : List ActiveCall)
+        (to_come : Effects) (pc position : ℕ) (rows : List Row) (active : ActiveCall) (below : List ActiveCall)
         → PartialRun context start answer tests calls to_come (RunsAt pc position rows) (active ∷ below)
         → (set : Bytes) (terminal : ℕ) (more_tests : List Test)
         → slice_get context.code pc ≡ Some (TestOf set terminal)
@@ -67,7 +69,7 @@ pub fn a_test_passes_or_fails()
         → ((test : Test) → Contains tests test → Contains more_tests test)
         → Contains more_tests (test_of terminal position)
         → ((test : Test) → Contains more_tests test → Contains tests test ⊎ (test_of terminal position ≡ test))
-        → (left : ℕ) × (to_come ≡ 1 + left)
+        → (left : Effects) × (to_come ≡ then_effects (effects_of (failed_at terminal position) 1) left)
         × PartialRun context start answer more_tests calls left Backtracks (active ∷ below) }
 {}
 
@@ -76,33 +78,33 @@ pub fn a_test_passes_or_fails()
 pub fn choice_points_are_pushed_and_popped()
     ensures leaves { (context : RunContext) (start : RuleCall) (answer : Record) (tests : List Test)
         (calls : List RuleCall)
-        (to_come pc position : ℕ) (rows : List Row) (active : ActiveCall) (below : List ActiveCall)
+        (to_come : Effects) (pc position : ℕ) (rows : List Row) (active : ActiveCall) (below : List ActiveCall)
         → PartialRun context start answer tests calls to_come (RunsAt pc position rows) (active ∷ below)
         → (target : ℕ) → slice_get context.code pc ≡ Some (Choice target)
-        → (left : ℕ) × (to_come ≡ 1 + left)
+        → (left : Effects) × (to_come ≡ then_effects (only_steps 1) left)
         × PartialRun context start answer tests calls left (RunsAt (pc + 1) position rows)
         (record active { choice_points = saved_choice target position rows ∷ active.choice_points } ∷ below) }
     ensures commits { (context : RunContext) (start : RuleCall) (answer : Record) (tests : List Test)
         (calls : List RuleCall)
-        (to_come pc position : ℕ) (rows : List Row) (active : ActiveCall) (below : List ActiveCall)
+        (to_come : Effects) (pc position : ℕ) (rows : List Row) (active : ActiveCall) (below : List ActiveCall)
         → PartialRun context start answer tests calls to_come (RunsAt pc position rows) (active ∷ below)
         → (target : ℕ) → slice_get context.code pc ≡ Some (Commit target)
-        → (choice_point : SavedChoice) × (choice_points : List SavedChoice) × (left : ℕ)
-        × (active.choice_points ≡ choice_point ∷ choice_points) × (to_come ≡ 1 + left)
+        → (choice_point : SavedChoice) × (choice_points : List SavedChoice) × (left : Effects)
+        × (active.choice_points ≡ choice_point ∷ choice_points) × (to_come ≡ then_effects (only_steps 1) left)
         × PartialRun context start answer tests calls left (RunsAt target position rows)
         (record active { choice_points = choice_points } ∷ below) }
     ensures fails_twice { (context : RunContext) (start : RuleCall) (answer : Record) (tests : List Test)
         (calls : List RuleCall)
-        (to_come pc position : ℕ) (rows : List Row) (active : ActiveCall) (below : List ActiveCall)
+        (to_come : Effects) (pc position : ℕ) (rows : List Row) (active : ActiveCall) (below : List ActiveCall)
         → PartialRun context start answer tests calls to_come (RunsAt pc position rows) (active ∷ below)
         → slice_get context.code pc ≡ Some FailTwice
-        → (choice_point : SavedChoice) × (choice_points : List SavedChoice) × (left : ℕ)
-        × (active.choice_points ≡ choice_point ∷ choice_points) × (to_come ≡ 1 + left)
+        → (choice_point : SavedChoice) × (choice_points : List SavedChoice) × (left : Effects)
+        × (active.choice_points ≡ choice_point ∷ choice_points) × (to_come ≡ then_effects (only_steps 1) left)
         × PartialRun context start answer tests calls left Backtracks
         (record active { choice_points = choice_points } ∷ below) }
     ensures falls_back { (context : RunContext) (start : RuleCall) (answer : Record) (tests : List Test)
         (calls : List RuleCall)
-        (to_come : ℕ) (active : ActiveCall) (below : List ActiveCall) (choice_point : SavedChoice)
+        (to_come : Effects) (active : ActiveCall) (below : List ActiveCall) (choice_point : SavedChoice)
         (choice_points : List SavedChoice)
         → active.choice_points ≡ choice_point ∷ choice_points
         → PartialRun context start answer tests calls to_come Backtracks (active ∷ below)
@@ -116,7 +118,7 @@ pub fn choice_points_are_pushed_and_popped()
 pub fn a_step_consumes_remaining_work()
     ensures step { (context : RunContext) (start : RuleCall) (answer : Record) (tests more_tests : List Test)
         (calls : List RuleCall)
-        (to_come pc position : ℕ) (rows : List Row) (active : ActiveCall) (below : List ActiveCall) (work : Effects)
+        (to_come : Effects) (pc position : ℕ) (rows : List Row) (active : ActiveCall) (below : List ActiveCall) (work : Effects)
         (next : Mode)
         (choice_points : List SavedChoice)
         → PartialRun context start answer tests calls to_come (RunsAt pc position rows) (active ∷ below)
@@ -127,12 +129,12 @@ pub fn a_step_consumes_remaining_work()
         → step_of (record { code = context.code; text = context.text; calls = reads; costs = costs }) later
         (slice_get context.code pc) pc position rows active.choice_points ≡ with_effects work
         (result_in_mode next later choice_points))
-        → (left : ℕ) × (to_come ≡ work.steps + left)
+        → (left : Effects) × (to_come ≡ then_effects work left)
         × PartialRun context start answer more_tests calls left next
         (record active { choice_points = choice_points } ∷ below) }
     ensures rounds { (context : RunContext) (start : RuleCall) (answer : Record) (tests more_tests : List Test)
         (calls : List RuleCall)
-        (to_come pc position : ℕ) (rows : List Row) (active : ActiveCall) (below : List ActiveCall) (k : ℕ)
+        (to_come : Effects) (pc position : ℕ) (rows : List Row) (active : ActiveCall) (below : List ActiveCall) (k : ℕ)
         (work : Effects)
         (next : Mode) (choice_points : List SavedChoice)
         → PartialRun context start answer tests calls to_come (RunsAt pc position rows) (active ∷ below)
@@ -145,7 +147,7 @@ pub fn a_step_consumes_remaining_work()
         active.choice_points
         ≡ with_effects work (result_in_mode next
         (run_local (record { code = context.code; text = context.text; calls = reads; costs = costs }) left) choice_points))
-        → (left : ℕ) × (to_come ≡ work.steps + left)
+        → (left : Effects) × (to_come ≡ then_effects work left)
         × PartialRun context start answer more_tests calls left next
         (record active { choice_points = choice_points } ∷ below) }
 {}
@@ -154,25 +156,25 @@ pub fn a_step_consumes_remaining_work()
 pub fn a_call_hits_or_starts()
     ensures hits { (context : RunContext) (start : RuleCall) (answer : Record) (tests : List Test)
         (calls : List RuleCall)
-        (to_come pc position : ℕ) (rows : List Row) (active : ActiveCall) (below : List ActiveCall)
+        (to_come : Effects) (pc position : ℕ) (rows : List Row) (active : ActiveCall) (below : List ActiveCall)
         → PartialRun context start answer tests calls to_come (RunsAt pc position rows) (active ∷ below)
         → (rule : ℕ) (r : Record) → slice_get context.code pc ≡ Some (Call rule)
         → MayBeStored context tests calls (record { rule = rule; position = position }) r
-        → (n : ℕ) × (steps : ℕ) × (left : ℕ)
+        → (n : ℕ) × (steps : ℕ) × (left : Effects)
         × (body_steps_in context.counted 1 context.bodies context.text n rule position ≡ Some steps)
-        × (to_come ≡ steps_of_call context.counted steps + left)
+        × (to_come ≡ then_effects (effects_of r (steps_of_call context.counted steps)) left)
         × PartialRun context start answer tests calls left (mode_after r.result (pc + 1) rows) (active ∷ below) }
     ensures begins { (context : RunContext) (start : RuleCall) (answer : Record) (entries : List ℕ)
         → EntriesAreLaidOut context.code entries context.bodies
-        → (tests : List Test) (calls more_uses : List RuleCall) (to_come pc : ℕ) (rows : List Row) (active : ActiveCall)
+        → (tests : List Test) (calls more_uses : List RuleCall) (to_come : Effects) (pc : ℕ) (rows : List Row) (active : ActiveCall)
         (below : List ActiveCall) (pair : RuleCall)
         → PartialRun context start answer tests calls to_come (RunsAt pc pair.position rows) (active ∷ below)
         → slice_get context.code pc ≡ Some (Call pair.rule)
         → ((other : RuleCall) → Contains calls other → Contains more_uses other) → Contains more_uses pair
         → ((other : RuleCall) → Contains more_uses other → Contains calls other ⊎ (pair ≡ other))
-        → (entry : ℕ) × (n : ℕ) × (steps : ℕ) × (left : ℕ) × (slice_get entries pair.rule ≡ Some entry)
+        → (entry : ℕ) × (n : ℕ) × (steps : ℕ) × (left : Effects) × (slice_get entries pair.rule ≡ Some entry)
         × (body_steps_in context.counted 1 context.bodies context.text n pair.rule pair.position ≡ Some steps)
-        × (steps_of_call context.counted steps + left ≡ steps + to_come)
+        × (steps_of_call context.counted steps + left.steps ≡ steps + to_come.steps) × (pair ∷ left.calls ≡ to_come.calls)
         × PartialRun context start answer tests more_uses left (RunsAt entry pair.position (opened rows pair))
         (record { frame = record { pair = pair; return_pc = pc + 1; before = rows }; choice_points = [] } ∷ active
         ∷ below) }
@@ -182,13 +184,13 @@ pub fn a_call_hits_or_starts()
 pub fn a_call_returns_to_its_caller()
     ensures returns { (context : RunContext) (start : RuleCall) (answer : Record) (tests : List Test)
         (calls : List RuleCall)
-        (to_come pc position : ℕ) (rows : List Row) (active caller : ActiveCall) (below : List ActiveCall)
+        (to_come : Effects) (pc position : ℕ) (rows : List Row) (active caller : ActiveCall) (below : List ActiveCall)
         → PartialRun context start answer tests calls to_come (RunsAt pc position rows) (active ∷ caller ∷ below)
         → slice_get context.code pc ≡ Some Ret
         → CallHasReturned context start answer tests calls to_come position rows active caller below }
     ensures fails { (context : RunContext) (start : RuleCall) (answer : Record) (tests : List Test)
         (calls : List RuleCall)
-        (to_come : ℕ) (active caller : ActiveCall) (below : List ActiveCall)
+        (to_come : Effects) (active caller : ActiveCall) (below : List ActiveCall)
         → PartialRun context start answer tests calls to_come Backtracks (active ∷ caller ∷ below)
         → active.choice_points ≡ []
         → CallHasFailed context start answer tests calls to_come active caller below }
@@ -198,13 +200,13 @@ pub fn a_call_returns_to_its_caller()
 pub fn a_run_ends_as_its_record_says()
     ensures matches { (context : RunContext) (start : RuleCall) (answer : Record) (tests : List Test)
         (calls : List RuleCall)
-        (to_come pc position : ℕ) (rows : List Row) (active : ActiveCall)
+        (to_come : Effects) (pc position : ℕ) (rows : List Row) (active : ActiveCall)
         → PartialRun context start answer tests calls to_come (RunsAt pc position rows) (active ∷ [])
         → slice_get context.code pc ≡ Some Ret
         → RunMatched start answer tests calls to_come position rows active }
     ensures fails { (context : RunContext) (start : RuleCall) (answer : Record) (tests : List Test)
         (calls : List RuleCall)
-        (to_come : ℕ) (active : ActiveCall)
+        (to_come : Effects) (active : ActiveCall)
         → PartialRun context start answer tests calls to_come Backtracks (active ∷ []) → active.choice_points ≡ []
         → RunFailed start answer tests calls to_come }
 {}
@@ -223,7 +225,7 @@ pub fn storable_results_stay_storable()
 /// No pair of a rule and a position is on the stack twice: no older call has the pair of the newest one.
 pub fn no_pair_is_on_the_stack_twice()
     ensures { (context : RunContext) (start : RuleCall) (answer : Record) (tests : List Test) (calls : List RuleCall)
-        (to_come : ℕ)
+        (to_come : Effects)
         (mode : Mode) (active : ActiveCall) (below : List ActiveCall)
         → PartialRun context start answer tests calls to_come mode (active ∷ below)
         → All (λ (other : ActiveCall). other.frame.pair ≢ active.frame.pair) below }
