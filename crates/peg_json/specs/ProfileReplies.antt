@@ -6,7 +6,7 @@ use Rattle.peg_machine.specs.CoreOutcome.{saturated}
 use Rattle.peg_semantics.specs.Record.{Record, RuleCall}
 use Rattle.peg_semantics.specs.Rules.{Rule, names, is_defined}
 use Rattle.peg_semantics.specs.Starts.{Recognizes, start_name}
-use Rattle.peg_parser.specs.Calls.{AreCallsOf}
+use Rattle.peg_parser.specs.Calls.{AreCallsInOrder, AreCallsOf}
 use Rattle.peg_parser.specs.Cause.{NoSuchStart, StepLimit, TextTooLong}
 use Rattle.peg_parser.specs.StepLimits.{TakesMoreSteps, TakesPlainSteps}
 use Rattle.peg_profile.specs.Profiles.{AreProfilesOf}
@@ -23,7 +23,8 @@ AreSteps rules text start memo steps =
 
 -- The reply to a request for the profile of a parse from a start, with a memo of this capacity and an optional step
 -- limit. The end is that of Ford's record. The profiles are those of some list of calls that has, as a set, the calls of
--- the record. A text that is too long is reported before a start that no rule has.
+-- the record. Without a memo they are the calls of the record, each as often as it is made. A text that is too long is
+-- reported before a start that no rule has.
 pub data ProfilesTo (rules : List Rule) (text : List ℕ) (start : Option (List ℕ)) (memo : ℕ) (steps : Option ℕ)
     : Reply → Type 0 where
   text_over_limit : max_text_bytes < length text → ProfilesTo rules text start memo steps (Refused TextTooLong)
@@ -34,5 +35,5 @@ pub data ProfilesTo (rules : List Rule) (text : List ℕ) (start : Option (List 
   has_profile : {from : List ℕ} {r : Record} {taken : ℕ} {calls : List RuleCall} {profiles : List RuleProfile}
       → length text ≤ max_text_bytes → HasEnoughSteps rules text start memo steps → start_name rules start ≡ Some from
       → Recognizes rules text from r → AreSteps rules text start memo taken → AreCallsOf rules text from calls
-      → AreProfilesOf (length rules) calls profiles
+      → (memo ≡ 0 → AreCallsInOrder rules text from calls) → AreProfilesOf (length rules) calls profiles
       → ProfilesTo rules text start memo steps (Profiled (end_of (parsed_of r.result)) taken (names rules) profiles)

@@ -79,6 +79,13 @@ Traces bodies text start capacity allocation_failed max_steps (Ok answer) pairs 
 Traces bodies text start capacity allocation_failed max_steps (Err fault) pairs =
     HasTracedSoFar bodies text start max_steps fault pairs
 
+-- The tracer, if it records, got the calls of the record of the start, in order, each as often as it was made. The start
+-- is the first.
+abbrev pub TracesInOrder : List CoreForm → List ℕ → (start : ℕ) → (records : Bool) → (before after : List RuleCall) → Type 0
+TracesInOrder bodies text start records before after =
+    (n : ℕ) × (r : Record) × (core_record_in bodies text n (Rule start) 0 ≡ Some r)
+    × (IsTrue records → after ≡ before ++ r.calls)
+
 -- ---- a tracer
 
 -- A tracer that records got the same additional calls that the run counts among its pairs.

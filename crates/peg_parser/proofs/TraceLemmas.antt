@@ -1,5 +1,5 @@
 -- The calls that a run shows are those of Ford's record of the grammar as written, and its outcome fits the grammar.
-use Rattle.std.proofs.Common.{◌≡◌, ◌↔◌, ℕ, ◌<◌, List, Contains, IfOk, Result, Ok, Err, Option, None, Some, length, ap, ◌∙◌, subst}
+use Rattle.std.proofs.Common.{◌≡◌, ◌↔◌, ℕ, ◌<◌, Bool, List, Contains, IfOk, Result, Ok, Err, Option, None, Some, length, ap, ◌∙◌, subst}
 use Rattle.peg_bytes.specs.Extent.{between}
 use Rattle.peg_core.specs.CoreForm.{CoreForm, core_bodies, core_form}
 use Rattle.peg_core.specs.CoreForm.{Rule as use_of}
@@ -11,10 +11,10 @@ use Rattle.peg_semantics.specs.Form.{Name}
 use Rattle.peg_semantics.specs.Record.{Record, RuleCall}
 use Rattle.peg_semantics.specs.Rules.{Rule, name_of}
 use Rattle.peg_machine.specs.SelectedTests.{IsCoreOutcomeBy}
-use Rattle.peg_machine.specs.Traced.{IsVisited}
+use Rattle.peg_machine.specs.Traced.{IsVisited, TracesInOrder}
 use Rattle.peg_tree.specs.declared.outcome.Outcome.{Outcome}
 use Rattle.peg_machine.specs.declared.answer.Answer.{Answer}
-use Rattle.peg_parser.specs.Calls.{AreCallsOf}
+use Rattle.peg_parser.specs.Calls.{AreCallsOf, TracesCallsInOrder}
 use Rattle.peg_parser.specs.SelectedOutcomes.{FitsBy, IsParseOutcomeBy}
 use Rattle.peg_parser.specs.declared.parser.ParseFault.{ParseFault}
 use Rattle.peg_parser.specs.Parser.{parser_rules}
@@ -56,6 +56,18 @@ parser-calls among parser text start outcome calls bytes less is visited =
     (held.0, ap (λ (rule : ℕ). core_record_in (core_bodies rules) text held.0 (use_of rule) 0) (number-named parser start less) ∙ held.1.1) in
     written-calls rules text start r calls bytes named (held.0, held.1.1)
     (subst (λ (bodies : List CoreForm). AreVisitedCalls bodies text start calls) (same-bodies parser) visited)
+
+-- a tracer that got the calls of the rule's record on core forms got those of Ford's record, in the same order
+pub parser-calls-in-order : (parser : Parser) (text : List ℕ) (start : ℕ) (records : Bool) (before after : List RuleCall)
+    → AreBytes text → start < length (parser_rules parser)
+    → TracesInOrder (bodies_of parser.program.core) text start records before after
+    → TracesCallsInOrder (parser_rules parser) text (name_of (parser_rules parser) start) records before after
+parser-calls-in-order parser text start records before after bytes less is =
+    let rules = parser_rules parser in
+    let held = subst (λ (bodies : List CoreForm). TracesInOrder bodies text start records before after) (same-bodies parser) is in
+    let named : IsCoreRecord (core_bodies rules) text (core_form rules 0 (Name (name_of rules start) (between 0 0))) 0 held.1 =
+    (held.0, ap (λ (rule : ℕ). core_record_in (core_bodies rules) text held.0 (use_of rule) 0) (number-named parser start less) ∙ held.2) in
+    (held.1, IsRecord-from_core rules text bytes (Name (name_of rules start) (between 0 0)) 0 0 held.1 named, held.3)
 
 -- the outcome of an answer fits the grammar
 pub answer-fits : (among : Option (List ℕ)) (parser : Parser) (text : List ℕ) (start : ℕ)

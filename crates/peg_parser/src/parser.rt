@@ -96,7 +96,7 @@ impl Parser {
     ghost use Rattle.peg_semantics.specs.Rules.{name_of};
     ghost use Rattle.peg_notation.specs.Spans.{RuleLiesIn};
     ghost use Rattle.peg_parser.specs.Accepts.{Accepts, IsRead, IsAcceptedGrammar, code_size};
-    ghost use Rattle.peg_parser.specs.Calls.{TracesCallsOf};
+    ghost use Rattle.peg_parser.specs.Calls.{TracesCallsInOrder, TracesCallsOf};
     ghost use Rattle.peg_parser.specs.Faults.{RefusalMeaning, HasCause, HasDefinitionsOf};
     ghost use Rattle.peg_parser.specs.Fits.{Fits};
     ghost use Rattle.peg_parser.specs.GrammarRefusals.{IsRefusalOfGrammar};
@@ -329,8 +329,8 @@ impl Parser {
     }
 
     /// Parses as `parse` does, but in one run, and shows the tracer each call whose body runs. Without a memo these are
-    /// all calls. The calls shown are, as a set, those of Ford's record of the text (Ford 2004, section 3.3), whatever
-    /// the memo answers.
+    /// the calls of Ford's record of the text, in order, each as often as it is made (Ford 2004, section 3.3). With one they
+    /// are these calls as a set, whatever the memo answers.
     ///
     /// The errors are those of `parse`. After `NoSuchStart` and `TextTooLong` the tracer is as it was; after another error
     /// it may have been shown some of the calls.
@@ -360,6 +360,10 @@ impl Parser {
         ensures fits { IfOk result (λ answer. Fits (parser_rules self.now) answer.outcome) }
         ensures traced { OnOk result (IfSome (start_name (parser_rules self.now) (start_named options.now))
             (λ start. TracesCallsOf (parser_rules self.now) text.now start W.records (W.traced watch.old)
+            (W.traced watch.new))) }
+        ensures in_order { options.now.memo ≡ 0
+            → OnOk result (IfSome (start_name (parser_rules self.now) (start_named options.now))
+            (λ start. TracesCallsInOrder (parser_rules self.now) text.now start W.records (W.traced watch.old)
             (W.traced watch.new))) }
         ensures allowed { IfOk result (λ answer. (limit : ℕ) → options.now.steps ≡ Some limit → answer.steps ≤ limit) }
         ensures limited { IsErrOf result ParseFault.StepLimit
@@ -438,6 +442,9 @@ impl Parser {
             (parser_rules self.now) text.now (name_of (parser_rules self.now) start) answer.outcome) }
         ensures traced { OnOk result (TracesCallsOf (parser_rules self.now) text.now (name_of (parser_rules self.now) start)
             W.records (W.traced watch.old) (W.traced watch.new)) }
+        ensures in_order { ((any : K) → map.len (K.entries any) ≡ 0) → OnOk result (TracesCallsInOrder
+            (parser_rules self.now) text.now (name_of (parser_rules self.now) start) W.records (W.traced watch.old)
+            (W.traced watch.new)) }
         ensures allowed { IfOk result (λ answer. (limit : ℕ) → max_steps ≡ Some limit → answer.steps ≤ limit) }
         ensures limited { IsErrOf result ParseFault.StepLimit
             → ExceedsStepLimit (core_bodies (parser_rules self.now)) text.now start max_steps }

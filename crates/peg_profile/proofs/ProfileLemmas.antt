@@ -16,7 +16,7 @@ use Rattle.std.proofs.lemmas.Option.{slice_get_cases}
 use Rattle.std.proofs.Math.Dec.{eqb}
 use Rattle.peg_semantics.specs.Record.{RuleCall}
 use Rattle.peg_semantics.specs.Rules.{Rule}
-use Rattle.peg_parser.specs.Calls.{AreCallsOf, TracesCallsOf}
+use Rattle.peg_parser.specs.Calls.{AreCallsInOrder, AreCallsOf, TracesCallsInOrder, TracesCallsOf}
 use Rattle.peg_profile.specs.Positions.{ArePositions}
 use Rattle.peg_profile.specs.Profiles.{AreProfilesAt, AreProfilesOf, HasDistinct, IsProfileOf}
 use Rattle.peg_profile.specs.declared.counts.RuleProfile.{RuleProfile}
@@ -35,14 +35,21 @@ distinct-positions positions sorted distinct there back ordered is = (
 )
 
 -- the calls that a tracer was shown, and their profiles
-pub traced-profiles : (rules : List Rule) (text : List ℕ) (name : Option (List ℕ)) (shown : List RuleCall)
+pub traced-profiles : (rules : List Rule) (text : List ℕ) (name : Option (List ℕ)) (memo : ℕ) (shown : List RuleCall)
     (profiles : List RuleProfile)
-    → IfSome name (λ start. TracesCallsOf rules text start true [] shown) → AreProfilesOf (length rules) shown profiles
+    → IfSome name (λ start. TracesCallsOf rules text start true [] shown)
+    → (memo ≡ 0 → IfSome name (λ start. TracesCallsInOrder rules text start true [] shown))
+    → AreProfilesOf (length rules) shown profiles
     → IfSome name (λ start. (calls : List RuleCall) × AreCallsOf rules text start calls
-    × AreProfilesOf (length rules) calls profiles)
-traced-profiles rules text None shown profiles traced are = tt
-traced-profiles rules text (Some start) shown profiles traced are =
-    (traced.0, traced.2, subst (λ (calls : List RuleCall). AreProfilesOf (length rules) calls profiles) (traced.1 refl) are)
+    × (memo ≡ 0 → AreCallsInOrder rules text start calls) × AreProfilesOf (length rules) calls profiles)
+traced-profiles rules text None memo shown profiles traced ordered are = tt
+traced-profiles rules text (Some start) memo shown profiles traced ordered are =
+    let same : shown ≡ traced.0 = traced.1 refl in (
+      traced.0,
+      traced.2,
+      λ none. let all = ordered none in (all.0, all.1, sym same ∙ all.2 refl),
+      subst (λ (calls : List RuleCall). AreProfilesOf (length rules) calls profiles) same are,
+    )
 
 -- one more rule has its profile
 pub profile-pushed : (lists : List (Vec ℕ Global)) (profiles : List RuleProfile) (index : ℕ) (profile : RuleProfile)

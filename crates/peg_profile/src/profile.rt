@@ -4,7 +4,7 @@ ghost use Rattle.peg_grammar.specs.Limits.{max_text_bytes};
 ghost use Rattle.peg_grammar.specs.Outcomes.{IsParseOutcome};
 ghost use Rattle.peg_semantics.specs.Record.{RuleCall};
 ghost use Rattle.peg_semantics.specs.Starts.{start_name};
-ghost use Rattle.peg_parser.specs.Calls.{AreCallsOf};
+ghost use Rattle.peg_parser.specs.Calls.{AreCallsInOrder, AreCallsOf};
 ghost use Rattle.peg_parser.specs.Parser.{parser_rules, start_named};
 ghost use Rattle.peg_parser.specs.StepLimits.{TakesMoreSteps, TakesPlainSteps};
 ghost use Rattle.peg_machine.specs.CoreOutcome.{saturated};
@@ -26,7 +26,8 @@ impl Profile {
     /// Parses a prefix of a text as `Parser::parse` does, but in one run. Counts the calls of each rule whose bodies ran.
     ///
     /// The positions of a rule's calls are those of its calls in Ford's record of the text (Ford 2004, section 3.3), whatever
-    /// the memo. A body that runs again at a position is work that a memo can save (Ford 2002).
+    /// the memo. Without a memo the calls are those of the record, each counted as often as it is made. A body that runs
+    /// again at a position is work that a memo can save (Ford 2002).
     ///
     /// The errors are those of `Parser::parse`. Takes up to 32 bytes of memory for each call, besides what the parse takes.
     ///
@@ -52,6 +53,7 @@ impl Profile {
             (λ start. IsParseOutcome (parser_rules parser.now) text.now start profile.answer.outcome)) }
         ensures rules { IfOk result (λ profile. IfSome (start_name (parser_rules parser.now) (start_named options.now))
             (λ start. (calls : List RuleCall) × AreCallsOf (parser_rules parser.now) text.now start calls
+            × (options.now.memo ≡ 0 → AreCallsInOrder (parser_rules parser.now) text.now start calls)
             × AreProfilesOf (length (parser_rules parser.now)) calls profile.rules.items)) }
         ensures allowed { IfOk result (λ profile. (limit : ℕ) → options.now.steps ≡ Some limit
             → profile.answer.steps ≤ limit) }

@@ -9,7 +9,7 @@ use Rattle.peg_semantics.specs.Record.{RuleCall}
 use Rattle.peg_semantics.specs.Rules.{Rule, is_defined, names}
 use Rattle.peg_semantics.specs.Starts.{start_name}
 use Rattle.peg_tree.specs.declared.outcome.Parsed.{Parsed}
-use Rattle.peg_parser.specs.Calls.{AreCallsOf}
+use Rattle.peg_parser.specs.Calls.{AreCallsInOrder, AreCallsOf}
 use Rattle.peg_parser.specs.Cause.{NoSuchStart, TextTooLong}
 use Rattle.peg_parser.specs.declared.parser.ParseFault.{ParseFault}
 use Rattle.peg_parser.specs.declared.parser.ParseFault.TheVariants as fault
@@ -30,7 +30,7 @@ pub profile-replies : (rules : List Rule) (text : List ℕ) (start : Option (Lis
     → (start_name rules start ≡ None → ⊥)
     → IfSome (start_name rules start) (λ from. IsParseOutcome rules text from profile.answer.outcome)
     → IfSome (start_name rules start) (λ from. (calls : List RuleCall) × AreCallsOf rules text from calls
-    × AreProfilesOf (length rules) calls profile.rules.items)
+    × (memo ≡ 0 → AreCallsInOrder rules text from calls) × AreProfilesOf (length rules) calls profile.rules.items)
     → AreSteps rules text start memo profile.answer.steps
     → ProfilesTo rules text start memo steps
     (Profiled (end_of profile.answer.outcome.result) profile.answer.steps (names rules) profile.rules.items)
@@ -40,14 +40,14 @@ profile-replies rules text start memo steps profile within enough some is called
     by : (found : Option (List ℕ)) → start_name rules start ≡ found → (found ≡ None → ⊥)
         → IfSome found (λ from. IsParseOutcome rules text from profile.answer.outcome)
         → IfSome found (λ from. (calls : List RuleCall) × AreCallsOf rules text from calls
-        × AreProfilesOf (length rules) calls profile.rules.items)
+        × (memo ≡ 0 → AreCallsInOrder rules text from calls) × AreProfilesOf (length rules) calls profile.rules.items)
         → ProfilesTo rules text start memo steps
         (Profiled (end_of profile.answer.outcome.result) profile.answer.steps (names rules) profile.rules.items)
     by None there some is called = absurd (some refl)
     by (Some from) there some is called =
         subst (λ (parsed : Parsed). ProfilesTo rules text start memo steps
         (Profiled (end_of parsed) profile.answer.steps (names rules) profile.rules.items)) (sym is.1.2)
-        (has_profile within enough there (is.0, is.1.1) taken called.1 called.2)
+        (has_profile within enough there (is.0, is.1.1) taken called.1 called.2 called.3)
 
 -- the name of a start that no rule has
 missing-profile : (rules : List Rule) (text : List ℕ) (start : Option (List ℕ)) (memo : ℕ) (steps : Option ℕ)

@@ -80,7 +80,7 @@ ProfilesTo-longer rules text more start memo steps reply long longer (start_with
 ProfilesTo-longer rules text more start memo steps reply long longer (steps_over_limit within more_steps) =
     absurd (omega (arith, long, within))
 ProfilesTo-longer rules text more start memo steps reply long longer
-    (has_profile within enough starts found taken calls profiles) =
+    (has_profile within enough starts found taken calls ordered profiles) =
     absurd (omega (arith, long, within))
 
 -- the same for any task

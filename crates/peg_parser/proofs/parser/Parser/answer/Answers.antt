@@ -5,7 +5,7 @@ use Rattle.peg_machine.specs.SelectedTests.{listed}
 use Rattle.peg_machine.specs.CoreOutcome.{saturated, TakesSteps}
 use Rattle.peg_parser.proofs.CoreStarts.{length-bodies, parser-outcome, same-bodies}
 use Rattle.peg_parser.proofs.StepLemmas.{of-program, to-program}
-use Rattle.peg_parser.proofs.TraceLemmas.{parser-calls}
+use Rattle.peg_parser.proofs.TraceLemmas.{parser-calls, parser-calls-in-order}
 use Rattle.peg_parser.proofs.parser.Parser.answer.Goals as goal
 
 pub run_selecting-requires-clause-rule : goal.run_selecting-requires-clause-rule
@@ -28,6 +28,14 @@ returns-in-Ok-clause-traced g c =
           (All-from_get_or (λ byte. byte < 256) c.args.text.now 0 (λ i within. (c.type_inv.text i).fits)) c.requires.start
           c.in-Ok.ensures.outcome traced.2.visited,
     )
+
+-- without a memo they are the calls of Ford's record in order
+pub returns-in-Ok-clause-in_order : goal.returns-in-Ok-clause-in_order
+returns-in-Ok-clause-in_order g c never =
+    parser-calls-in-order c.args.self.now c.args.text.now c.args.start g.W.Watch.records
+    (g.W.Watch.traced c.args.watch.now) (g.W.Watch.traced c.run_selecting.new.watch)
+    (All-from_get_or (λ byte. byte < 256) c.args.text.now 0 (λ i within. (c.type_inv.text i).fits)) c.requires.start
+    (c.in-Ok.ensures.in_order never)
 
 pub returns-in-Ok-clause-enough : goal.returns-in-Ok-clause-enough
 returns-in-Ok-clause-enough g c never more =

@@ -1,10 +1,11 @@
-use Rattle.std.proofs.Common.{◌≡◌, ◌≤◌, None}
+use Rattle.std.proofs.Common.{◌≡◌, ◌≤◌, ℕ, IfSome, List, None, Option, subst, sym}
 use Rattle.std.proofs.lemmas.Result.{on_ok_weaker}
 use Rattle.std.specs.FinMap.{len-empty}
 use Rattle.peg_machine.specs.CoreOutcome.{saturated}
 use Rattle.peg_memo.specs.StoredResult.{StoredResult}
 use Rattle.peg_memo.specs.MemoKey.{key_cmp}
-use Rattle.peg_parser.specs.Parser.{start_named}
+use Rattle.peg_parser.specs.Calls.{TracesCallsInOrder}
+use Rattle.peg_parser.specs.Parser.{parser_rules, start_named}
 use Rattle.peg_parser.proofs.StepLemmas.{of-start, plain-steps, to-start}
 use Rattle.peg_parser.proofs.TraceLemmas.{answer-fits}
 use Rattle.peg_parser.proofs.parser.Parser.trace.Goals as goal
@@ -40,6 +41,15 @@ returns-in-Some-2-clause-exact g c none =
     plain-steps c.args.self.now c.args.text.now (start_named c.args.options.now) c.in-Some.field-0
     (λ answer count. answer.steps ≡ saturated count) c.in-Some.ensures.some c.in-Some.ensures.named c.answer.result
     (c.answer.ensures.exact (λ any. len-empty key_cmp StoredResult))
+
+pub returns-in-Some-2-clause-in_order : goal.returns-in-Some-2-clause-in_order
+returns-in-Some-2-clause-in_order g c none =
+    on_ok_weaker c.answer.result
+    (λ in_order. subst
+    (λ (named : Option (List ℕ)). IfSome named (λ start. TracesCallsInOrder (parser_rules c.args.self.now) c.args.text.now start
+    g.W.Watch.records (g.W.Watch.traced c.args.watch.now) (g.W.Watch.traced c.answer.new.watch)))
+    (sym c.in-Some.ensures.named) in_order)
+    (c.answer.ensures.in_order (λ any. len-empty key_cmp StoredResult))
 
 -- ---- with a memo
 
