@@ -1,6 +1,7 @@
 #!/usr/bin/env bash
 # Runs `pegtool parse --rows` with `--memo 0` and `--memo 4096` on generated texts. Prints the CPU seconds and the peak
-# memory of the whole processes, and the ratio of the times. The output must be the same. The argument is the program.
+# memory of the whole processes, and the ratio of the times. The output must be the same. Then, if crates/peg_bench is
+# built, the parse alone: without a memo, in one run with it, and as `Parser::parse` does. The argument is the program.
 set -eu
 program=$(realpath -- "${1:-$(dirname "$0")/../crates/pegtool/out/pegtool}")
 cd "$(dirname "$0")"
@@ -8,12 +9,16 @@ folder=$(mktemp -d)
 trap 'rm -rf "$folder"' EXIT
 python3 -B - "$program" "$folder" << 'PYTHON'
 import filecmp
+import os
+import re
+import subprocess
 import sys
 
 from runs import used, written
 from texts import EXAMPLES, csv_text, grammars, json_text, sums
 
 PROGRAM, FOLDER = sys.argv[1:]
+BENCH = "../crates/peg_bench/out/peg_bench"
 RUNS = 5
 
 GRAMMARS = {
@@ -61,10 +66,13 @@ WITH_MEMO = {
 }
 
 
-def best_of(grammar, text, memo):
-    """The least seconds and bytes of some runs."""
-    words = [PROGRAM, "parse", grammar, text, "--rows", "--memo", str(memo)]
-    return min(used(words, f"{FOLDER}/line{memo}") for _ in range(RUNS))
+def best_of(grammar, text, memos):
+    """The least seconds and bytes of some runs with each of these memos, which take turns."""
+    found = [
+        [used([PROGRAM, "parse", grammar, text, "--rows", "--memo", str(memo)], f"{FOLDER}/line{memo}") for memo in memos]
+        for _ in range(RUNS)
+    ]
+    return [min(runs) for runs in zip(*found)]
 
 
 print("| Text | `--memo 0`, seconds | MiB | `--memo 4096`, seconds | MiB | Ratio |")
@@ -72,7 +80,7 @@ print("|---|---|---|---|---|---|")
 for name, (grammar, make) in BOTH.items():
     text = f"{FOLDER}/text"
     written(text, make)
-    (plain, plain_peak), (kept, peak) = best_of(grammar, text, 0), best_of(grammar, text, 4096)
+    (plain, plain_peak), (kept, peak) = best_of(grammar, text, [0, 4096])
     if not filecmp.cmp(f"{FOLDER}/line0", f"{FOLDER}/line4096", shallow=False):
         sys.exit(f"not the same line: {name}")
     print(f"| {name} | {plain:.3f} | {plain_peak / 2**20:.0f} | {kept:.3f} | {peak / 2**20:.0f} | {kept / plain:.2f} |")
@@ -82,7 +90,34 @@ print("|---|---|---|---|")
 for name, (grammar, make) in WITH_MEMO.items():
     text = f"{FOLDER}/text"
     written(text, make)
-    for memo in (4096, 1_000_000):
-        seconds, peak = best_of(grammar, text, memo)
+    memos = [4096, 1_000_000]
+    for memo, (seconds, peak) in zip(memos, best_of(grammar, text, memos)):
         print(f"| {name} | {memo:,} | {1000 * seconds:.1f} | {peak / 2**20:.0f} |")
+
+
+def milliseconds(way, grammar, text):
+    """The time of one parse, without the time of reading the files."""
+    printed = subprocess.run([BENCH, "parse", way, grammar, text], capture_output=True, check=True).stdout
+    return int(re.fullmatch(rb"\d+ steps, (\d+) us\n", printed)[1]) / 1000
+
+
+def in_turn(ways, grammar, text):
+    """The least times of the ways to parse, which take turns."""
+    found = [[milliseconds(way, grammar, text) for way in ways] for _ in range(RUNS)]
+    return [max(min(times), 0.001) for times in zip(*found)]
+
+
+if os.path.exists(BENCH):
+    print("\n| Text | Without a memo, ms | One run with the memo, ms | `Parser::parse`, ms | To the first | To the second |")
+    print("|---|---|---|---|---|---|")
+    for name, (grammar, make) in (BOTH | WITH_MEMO).items():
+        text = f"{FOLDER}/text"
+        written(text, make)
+        if name in BOTH:
+            plain, kept, both = in_turn(["plain", "memo", "default"], grammar, text)
+            cells = f"{plain:.1f} | {kept:.1f} | {both:.1f} | {both / plain:.2f} | {both / kept:.2f}"
+        else:
+            kept, both = in_turn(["memo", "default"], grammar, text)
+            cells = f" | {kept:.1f} | {both:.1f} | | {both / kept:.2f}"
+        print(f"| {name} | {cells} |")
 PYTHON
