@@ -1,7 +1,8 @@
 #!/usr/bin/env bash
 # Runs `pegtool parse --rows` with `--memo 0` and `--memo 4096` on generated texts. Prints the CPU seconds and the peak
 # memory of the whole processes, and the ratio of the times. The output must be the same. Then, if crates/peg_bench is
-# built, the parse alone: without a memo, in one run with it, and as `Parser::parse` does. The argument is the program.
+# built, the parse alone, also of texts that need the memo: without a memo, in one run with it, and as `Parser::parse`
+# does. The argument is the program.
 set -eu
 program=$(realpath -- "${1:-$(dirname "$0")/../crates/pegtool/out/pegtool}")
 cd "$(dirname "$0")"
@@ -80,30 +81,21 @@ print("|---|---|---|---|---|---|")
 for name, (grammar, make) in BOTH.items():
     text = f"{FOLDER}/text"
     written(text, make)
-    (plain, plain_peak), (kept, peak) = best_of(grammar, text, [0, 4096])
+    (plain, plain_peak), (memo, peak) = best_of(grammar, text, [0, 4096])
     if not filecmp.cmp(f"{FOLDER}/line0", f"{FOLDER}/line4096", shallow=False):
         sys.exit(f"not the same line: {name}")
-    print(f"| {name} | {plain:.3f} | {plain_peak / 2**20:.0f} | {kept:.3f} | {peak / 2**20:.0f} | {kept / plain:.2f} |")
-print()
-print("| Text | Memo | Milliseconds | MiB |")
-print("|---|---|---|---|")
-for name, (grammar, make) in WITH_MEMO.items():
-    text = f"{FOLDER}/text"
-    written(text, make)
-    memos = [4096, 1_000_000]
-    for memo, (seconds, peak) in zip(memos, best_of(grammar, text, memos)):
-        print(f"| {name} | {memo:,} | {1000 * seconds:.1f} | {peak / 2**20:.0f} |")
+    print(f"| {name} | {plain:.3f} | {plain_peak / 2**20:.0f} | {memo:.3f} | {peak / 2**20:.0f} | {memo / plain:.2f} |")
 
 
-def milliseconds(way, grammar, text):
+def milliseconds(mode, grammar, text):
     """The time of one parse, without the time of reading the files."""
-    printed = subprocess.run([BENCH, "parse", way, grammar, text], capture_output=True, check=True).stdout
+    printed = subprocess.run([BENCH, "parse", mode, grammar, text], capture_output=True, check=True).stdout
     return int(re.fullmatch(rb"\d+ steps, (\d+) us\n", printed)[1]) / 1000
 
 
-def in_turn(ways, grammar, text):
-    """The least times of the ways to parse, which take turns."""
-    found = [[milliseconds(way, grammar, text) for way in ways] for _ in range(RUNS)]
+def in_turn(modes, grammar, text):
+    """The least times of these modes of parsing, which take turns."""
+    found = [[milliseconds(mode, grammar, text) for mode in modes] for _ in range(RUNS)]
     return [max(min(times), 0.001) for times in zip(*found)]
 
 
@@ -114,10 +106,10 @@ if os.path.exists(BENCH):
         text = f"{FOLDER}/text"
         written(text, make)
         if name in BOTH:
-            plain, kept, both = in_turn(["plain", "memo", "default"], grammar, text)
-            cells = f"{plain:.1f} | {kept:.1f} | {both:.1f} | {both / plain:.2f} | {both / kept:.2f}"
+            plain, memo, both = in_turn(["plain", "memo", "default"], grammar, text)
+            cells = f"{plain:.1f} | {memo:.1f} | {both:.1f} | {both / plain:.2f} | {both / memo:.2f}"
         else:
-            kept, both = in_turn(["memo", "default"], grammar, text)
-            cells = f" | {kept:.1f} | {both:.1f} | | {both / kept:.2f}"
+            memo, both = in_turn(["memo", "default"], grammar, text)
+            cells = f" | {memo:.1f} | {both:.1f} | | {both / memo:.2f}"
         print(f"| {name} | {cells} |")
 PYTHON

@@ -3,7 +3,7 @@
 # runs the tests and the programs. Then the scripts run on the built programs: the examples, failed allocations of runs
 # and of single calls, the C library and the Python package, the commands in the documents, their generated parts and
 # links, and fuzzing. The scripts of a lane run one after the other, and the lanes side by side.
-# The last line counts all.
+# The last lines name what failed, and count all.
 set -u
 cd "$(dirname "$0")/.." || exit 1
 logs=$(mktemp -d)
@@ -56,5 +56,6 @@ else
   echo "no program was built"
   failed=$((failed + 1))
 fi
+grep -hE '^(rt: )?FAILED: ' "$logs"/*
 echo "$passed passed, $failed failed"
 [ "$failed" = 0 ]
