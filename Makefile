@@ -15,7 +15,7 @@ try: ## run the bundled input without proofs
 	cd crates/pegtool && rt try < stdin
 
 run: ## prove and build the program, then run it on the bundled input
-	cd crates/pegtool && rt run < stdin
+	tools/prove.py pegtool rt run < crates/pegtool/stdin
 
 lib: ## prove and build the C library, into out/lib
 	tools/c_library.sh
