@@ -63,10 +63,11 @@ def copied(folder):
 
 def prove(folder, crate, share):
     """Proves and builds a library in a copy, given its share of the longest chain. Returns whether it is proved."""
-    words = ["rt", "lib"]
-    if share < 1:
-        words += ["--jobs", "2"]
-    if share < URGENT_SHARE:
+    if share == 1:
+        words = ["rt", "lib"]
+    elif share >= URGENT_SHARE:
+        words = ["rt", "lib", "--jobs", "2"]
+    else:
         words = ["nice", "rt", "lib", "--jobs", "1"]
     done = subprocess.run(words, cwd=folder / "crates" / crate, stdout=subprocess.DEVNULL, stderr=subprocess.DEVNULL)
     return done.returncode == 0
