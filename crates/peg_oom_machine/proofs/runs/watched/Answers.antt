@@ -1,7 +1,0 @@
-use Rattle.std.specs.FinMap.{len-empty}
-use Rattle.peg_memo.specs.StoredResult.{StoredResult}
-use Rattle.peg_memo.specs.MemoKey.{key_cmp}
-use Rattle.peg_oom_machine.proofs.runs.watched.Goals as goal
-
-pub run-answer-requires-clause-empty : goal.run-answer-requires-clause-empty
-run-answer-requires-clause-empty g c = len-empty key_cmp StoredResult
