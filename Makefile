@@ -6,10 +6,13 @@ VERSION := $(shell sed -n 's/.*VERSION: &str = "\(.*\)";/\1/p' crates/peg_c/src/
 PREFIX := /usr/local
 PYTHON_PATH := $(PREFIX)/lib/python3/dist-packages
 
-.PHONY: help try run lib install dist test test-bindings fuzz fmt drawing
+.PHONY: help quick try run lib install dist test test-bindings fuzz fmt drawing
 
 help: ## list the targets
 	@sed -n 's/^\([a-z-]*\): ## \(.*\)/  make \1|\2/p' Makefile | column -t -s '|'
+
+quick: ## run several hundred cases without proofs
+	tests/quick.py
 
 try: ## run the bundled input without proofs
 	cd crates/pegtool && rt try < stdin
@@ -45,8 +48,8 @@ test-bindings: $(PROGRAM) ## test the C library and the Python package against t
 	tests/bindings.sh $(PROGRAM)
 	tests/python.sh $(PROGRAM)
 
-fuzz: ## compare the tool with the reference evaluator on random grammars
-	tests/fuzz.sh
+fuzz: $(PROGRAM) ## compare the program with Ford's relation on 20,000 random grammars
+	tests/fuzz.py $(PROGRAM) 1 20000
 
 fmt: ## format every crate
 	for crate in crates/*/; do (cd "$$crate" && rt fmt) || exit 1; done
