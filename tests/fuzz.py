@@ -19,7 +19,7 @@ from reference import Grammar, Parse, Refused, check_line, parse_line, table_lin
 
 EXAMPLES = pathlib.Path(__file__).resolve().parent.parent / "examples"
 MEMOS = [0, 1, 2, 7, 4096]
-STEPS = 20_000_000  # a run that takes more is skipped
+STEPS = 1_000_000  # a run that takes more is skipped
 NAMES = ["S A B C D E F G H".split(), "a aa a_ aA _ __ a1 a10 aaa".split(),
          "Start Statement_1 Statement_2 Expression Expressions _9 Z z Name0123456789abcdefghijklmnopqrstuvwxyz".split()]
 LITERALS = ["'a'", '"b"', "'ab'", "'abc'", "''", '""', r"'\x61'", r"'\141'", r"'\n'", r"'\377'", "'c'", r"'\''", "'a b'"]

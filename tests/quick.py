@@ -21,7 +21,7 @@ COUNT = 300
 SEPARATOR = b"%%\n"
 ON_GRAMMAR = {"check", "table", "code", "lint"}
 SHELL = re.compile(r"[|<>;&$`\n]|\bcd\b")
-LINE = re.compile(r"^(\d+): .*?status=(\d+)")
+LINE = re.compile(r"^case=(\d+) run=\w+ (?:status=(\d+) )?.*\boutput=(\w+)")
 
 
 @dataclasses.dataclass
@@ -96,11 +96,12 @@ def main() -> int:
             write(quick, folder, str(number))
         done = subprocess.run(["rt", "try", "--cases", folder], cwd=TOP / "crates/pegtool", stdin=subprocess.DEVNULL,
                               stdout=subprocess.PIPE, stderr=subprocess.STDOUT, text=True, errors="replace", check=False)
-    ended = {int(found[1]): (int(found[2]), line) for line in done.stdout.split("\n") if (found := LINE.match(line))}
+    ended = {int(found[1]): found for line in done.stdout.split("\n") if (found := LINE.match(line))}
     faults = 0
     for number, quick in enumerate(taken):
-        status, line = ended.get(number, (None, "did not run"))
-        if status != quick.case.status or "wrong" in line:
+        found = ended.get(number)
+        if not found or found[2] != str(quick.case.status) or found[3] != "expected":
+            line = found[0] if found else "did not run"
             faults += 1
             print(f"{os.path.relpath(quick.file, TOP)}:{quick.case.line}: {quick.case.command}\n    {line}")
     if not ended:
