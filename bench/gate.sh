@@ -1,6 +1,7 @@
 #!/usr/bin/env bash
-# Runs `rt ci` and prints for each crate the seconds that its proof, the proof of its tests and its wrong edits took, as
-# wall-clock time and, in parentheses, CPU time. It samples the provers once a second, so shorter ones are missed.
+# Runs `rt ci --anew`, which proves all that it could take from earlier runs on this machine, too. Prints for each crate
+# the seconds that its proof, the proof of its tests and its wrong edits took, as wall-clock time and, in parentheses,
+# processor time, and the peak memory of a check in MiB. It samples the provers once a second, so shorter ones are missed.
 set -u
 cd "$(dirname "$0")/.." || exit 1
 exec python3 - "$PWD" << 'PYTHON'
@@ -27,8 +28,14 @@ def is_below(pid, gate):
     return int(pid) == gate
 
 
+def peak_memory(pid):
+    """The most memory that a process had so far, in MiB."""
+    with open(f"/proc/{pid}/status", encoding="utf-8") as file:
+        return next((int(line.split()[1]) // 1024 for line in file if line.startswith("VmHWM:")), 0)
+
+
 def provers(gate):
-    """The gate's provers: the process, the crate, what is proved, and the seconds of processor time so far."""
+    """The gate's provers: the process, the crate, what is proved, the seconds of processor time and the memory so far."""
     for pid in filter(str.isdigit, os.listdir("/proc")):
         try:
             with open(f"/proc/{pid}/cmdline", "rb") as file:
@@ -39,6 +46,7 @@ def provers(gate):
                 continue
             folder = os.readlink(f"/proc/{pid}/cwd")
             fields = stat(pid)
+            memory = peak_memory(pid)
         except OSError:
             continue
         crate = words[words.index("--crate-name") + 1]
@@ -48,18 +56,19 @@ def provers(gate):
             kind = "tests"
         else:
             kind = "proof"
-        yield pid, crate, kind, (int(fields[11]) + int(fields[12])) / TICKS
+        yield pid, crate, kind, (int(fields[11]) + int(fields[12])) / TICKS, memory
 
 
 def main():
     with tempfile.TemporaryFile("w+", errors="replace") as log:
-        gate = subprocess.Popen(["rt", "ci"], stdout=log, stderr=subprocess.STDOUT)
-        clock, used = {}, {}
+        gate = subprocess.Popen(["rt", "ci", "--anew"], stdout=log, stderr=subprocess.STDOUT)
+        clock, used, peak = {}, {}, {}
         began = time.time()
         while gate.poll() is None:
             seen = set()
-            for pid, crate, kind, seconds in provers(gate.pid):
+            for pid, crate, kind, seconds, memory in provers(gate.pid):
                 seen.add((crate, kind))
+                peak[crate] = max(peak.get(crate, 0), memory)
                 used[pid, crate, kind] = seconds
             for key in seen:
                 clock[key] = clock.get(key, 0) + 1
@@ -70,10 +79,10 @@ def main():
     for (_, crate, kind), seconds in used.items():
         spent[crate, kind] = spent.get((crate, kind), 0) + seconds
     kinds = ["proof", "tests", "edits"]
-    print("| Crate | Proof | Tests | Edits |\n|---|---|---|---|")
+    print("| Crate | Proof | Tests | Edits | MiB |\n|---|---|---|---|---|")
     for crate in sorted({crate for crate, _ in spent}):
         cells = [f"{clock.get((crate, kind), 0)} ({spent.get((crate, kind), 0):.0f})" for kind in kinds]
-        print(f"| {crate} | {' | '.join(cells)} |")
+        print(f"| {crate} | {' | '.join(cells)} | {peak[crate]} |")
     print(f"{time.time() - began:.0f} seconds of wall-clock time, {sum(spent.values()):.0f} of CPU time")
     print(last.split("\n")[-1])
     return gate.returncode
