@@ -39,6 +39,7 @@ PURPOSE = {
     "peg_coverage": "a grammar, texts -> the rules and alternatives that they use",
     "peg_coverage_files": "names of texts -> what they use",
     "peg_profile": "a parser, a text -> the calls of each rule",
+    "peg_listings": "code, a table, warnings -> JSON",
     "peg_json": "an answer or a refusal -> a line of JSON, a status",
     "peg_cli": "arguments -> a command",
     "peg_tool": "a command, bytes -> a line of output, a status",

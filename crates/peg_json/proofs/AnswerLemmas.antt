@@ -18,7 +18,8 @@ use Rattle.peg_tree.specs.TextJson.{bytes_between, bytes_data, leaf_data, leaf_m
 use Rattle.peg_tree.specs.TextJson.{text_node_data, text_row_data}
 use Rattle.peg_tree.specs.Trees.{Trees, NoTrees, Tree}
 use Rattle.peg_json.specs.Parses.{extents_at}
-use Rattle.peg_json.specs.Reply.{extent_data, failed_data, matched_data, text_tree_member, tree_member}
+use Rattle.peg_json.specs.Reply.{failed_data, matched_data, text_tree_member, tree_member}
+use Rattle.peg_listings.specs.Extents.{extent_data}
 use Rattle.peg_json.specs.declared.tree_form.TreeForm.{TreeForm}
 use Rattle.peg_json.specs.declared.tree_form.TreeForm.TheVariants.{Nested, Rows, NoTree}
 

@@ -11,8 +11,8 @@ use Rattle.peg_semantics.specs.Form.{Reference}
 use Rattle.peg_semantics.specs.Rules.{Rule, name_of}
 use Rattle.peg_json.specs.CoverageText.{alternative_data, coverage_data, placed_alternative, placed_rule, reference_at}
 use Rattle.peg_json.specs.CoverageText.{unused_rule_data}
-use Rattle.peg_json.specs.Positions.{IsPositionIn}
-use Rattle.peg_json.specs.declared.positions.Position.{Position}
+use Rattle.peg_listings.specs.Positions.{IsPositionIn}
+use Rattle.peg_listings.specs.declared.positions.Position.{Position}
 
 -- an alternative printed at the position of its start
 pub alternative-is : (file : List ℕ) (span : Span) (position : Position) → IsPositionIn file position

@@ -3,7 +3,6 @@ use Rattle.std.proofs.Common.{◌≡◌, ℕ, Bool, false, List, [], IfOk, Resul
 use Rattle.serde.specs.Event.{Log}
 use Rattle.serde_json.specs.Data.{Data, member, no_members, null}
 use Rattle.serde_json.specs.Events.{SendsValue}
-use Rattle.serde_json.specs.Sent.{IsTextOf}
 use Rattle.serde_json.specs.Written.{compact_text, has_float}
 use Rattle.serde_json.proofs.FreeTexts.{text_of_value}
 use Rattle.std.specs.declared.alloc.AllocError.{AllocError}
@@ -11,6 +10,7 @@ use Rattle.std.specs.declared.alloc.Global.{Global}
 use Rattle.peg_bytes.specs.Extent.{Extent}
 use Rattle.peg_tree.specs.Events.{SendsNested, SendsNestedText}
 use Rattle.peg_tree.specs.Trees.{Trees}
+use Rattle.peg_listings.proofs.SentText.{IsTextSentBy}
 use Rattle.peg_json.specs.Reply.{matched_data, text_tree_data, tree_data}
 use Rattle.peg_json.specs.Sending.{SendsMatch}
 
@@ -66,15 +66,6 @@ nested_match-sent partial end far expected key names tree old new s = (
   (s.11.0, s.11.1, nested-sent names tree s.11.0 s.5 s.11.2),
   s.12,
 )
-
--- the text of something that serializes a value is the text of that value
-abbrev pub IsTextSentBy : (Log → Log → Type 0) → Result (String Global) AllocError → Type 0
-IsTextSentBy Sent result = IfOk result (λ text. (log : Log) × Sent (Some []) log × IsTextOf log (string_bytes text))
-
-pub value-text : (result : Result (String Global) AllocError) (value : Data) → has_float value ≡ false
-    → IsTextSentBy (SendsValue value) result → IfOk result (λ text. string_bytes text ≡ compact_text value)
-value-text (Ok text) value whole sent = text_of_value value sent.0 (string_bytes text) sent.1 sent.2 whole
-value-text (Err why) value whole sent = tt
 
 pub match-text : (result : Result (String Global) AllocError) (partial : Bool) (end far : ℕ) (expected : List Extent)
     (key : List ℕ) (value : Data) → has_float (matched_data partial end far expected (member key value no_members)) ≡ false

@@ -16,11 +16,11 @@ use Rattle.peg_lint.specs.declared.warning.Warning.{Warning}
 use Rattle.peg_parser.specs.Cause.{Cause}
 use Rattle.peg_profile.specs.declared.counts.RuleProfile.{RuleProfile}
 use Rattle.peg_json.specs.CauseText.{bare_data, cause_data, cause_status}
-use Rattle.peg_json.specs.CodeText.{code_data}
+use Rattle.peg_listings.specs.CodeText.{code_data}
 use Rattle.peg_json.specs.CoverageText.{coverage_data, status_of_coverage, too_large_word}
-use Rattle.peg_json.specs.LintText.{lint_data, status_of_warnings}
+use Rattle.peg_listings.specs.LintText.{lint_data, status_of_warnings}
 use Rattle.peg_json.specs.ProfileText.{profile_data, status_of_end}
-use Rattle.peg_json.specs.TableText.{table_data}
+use Rattle.peg_listings.specs.TableText.{table_data}
 use Rattle.peg_json.specs.declared.tree_form.TreeForm.{TreeForm}
 use Rattle.peg_json.specs.declared.tree_form.TreeForm.TheVariants.{Nested, Rows, NoTree}
 
@@ -93,10 +93,6 @@ status_of NoCoverage = 6
 status_of (Failed far expected) = 1
 status_of (Matched partial form end far expected names tree) = if partial then 1 else 0
 status_of (MatchedWithText partial form end far expected names tree text) = if partial then 1 else 0
-
--- the JSON of the span of a terminal
-abbrev pub extent_data : Extent → Data
-extent_data extent = array (item (number (unsigned extent.start)) (item (number (unsigned extent.end)) no_items))
 
 abbrev pub expected_data : List Extent → Data
 expected_data expected = array (items_of (map extent_data expected))

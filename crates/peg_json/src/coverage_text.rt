@@ -11,11 +11,10 @@ ghost use Rattle.peg_grammar.specs.GrammarRules.{rules_in};
 ghost use Rattle.peg_json.specs.CoverageText.{alternative_data, coverage_data, placed_alternative, placed_rule, reference_at};
 ghost use Rattle.peg_json.specs.CoverageText.{unused_rule_data};
 
-use crate::positions::{Position, column, first_position, position_from};
-use crate::text::text_of;
 use peg_bytes::Span;
 use peg_coverage::Coverage;
 use peg_grammar::Grammar;
+use peg_listings::{Position, column, first_position, position_from, text_of};
 use peg_tree::serialize_member;
 use serde::{Described, Serialize, Serializer};
 use std::alloc::{AllocError, Global};

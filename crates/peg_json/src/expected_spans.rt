@@ -2,13 +2,12 @@
 ghost use Rattle.std.specs.Prelude.{◌≡◌, ◌<◌, All, OnOk, length};
 ghost use Rattle.std.proofs.Props.{props};
 ghost use Rattle.serde_json.specs.Events.{SendsValue};
-ghost use Rattle.peg_bytes.specs.Extent.{extent};
 ghost use Rattle.peg_semantics.specs.Terminals.{extents_of_terminals};
 ghost use Rattle.peg_parser.specs.Parser.{parser_rules};
 ghost use Rattle.peg_json.specs.Parses.{extents_at};
-ghost use Rattle.peg_json.specs.Reply.{expected_data, extent_data};
+ghost use Rattle.peg_json.specs.Reply.{expected_data};
 
-use peg_bytes::Span;
+use peg_listings::serialize_span;
 use peg_parser::Parser;
 use serde::{Described, Serialize, Serializer};
 
@@ -59,15 +58,5 @@ fn serialize_spans<S: Serializer>(
     for terminal in terminals {
         serialize_span(parser.terminal_span(*terminal), out)?;
     }
-    out.end_seq()
-}
-
-/// Serializes a span as the pair of its start and its end.
-pub(crate) fn serialize_span<S: Serializer>(span: Span, out: &mut S) -> Result<(), S::Error>
-    ensures { OnOk result (SendsValue (extent_data (extent span)) (S.written out.old) (S.written out.new)) }
-{
-    out.begin_seq(Some(2))?;
-    span.start.serialize(out)?;
-    span.end.serialize(out)?;
     out.end_seq()
 }

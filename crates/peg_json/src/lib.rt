@@ -4,29 +4,22 @@
 
 mod answer_object;
 mod answer_text;
-mod byte_runs;
-mod code_text;
 mod coverage_lines;
 mod coverage_text;
 mod expected_spans;
 mod fault;
 mod line;
 mod lines;
-mod lint_text;
-mod positions;
 mod profile_lines;
 mod profile_text;
 mod refusal_text;
 mod row_lines;
 mod shown_lines;
 mod status;
-mod table_text;
-mod text;
 mod text_lines;
 mod tree_form;
 
 pub use answer_text::answer_json;
-pub use code_text::code_json;
 pub use coverage_lines::{coverage_line, no_coverage_line};
 pub use coverage_text::coverage_json;
 pub use fault::Fault;
@@ -35,12 +28,11 @@ pub use lines::{
     accepted_line, answer_line, code_line, lint_line, long_text_line, no_rule_line, no_start_line,
     refused_line, step_limit_line, table_line,
 };
-pub use lint_text::lint_json;
+pub use peg_listings::{code_json, lint_json, table_json};
 pub use profile_lines::profile_line;
 pub use profile_text::profile_json;
 pub use refusal_text::refusal_json;
 pub use shown_lines::shown_rows_line;
 pub use status::Status;
-pub use table_text::table_json;
 pub use text_lines::answer_line_with_text;
 pub use tree_form::TreeForm;

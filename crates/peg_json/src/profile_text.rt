@@ -10,8 +10,8 @@ ghost use Rattle.peg_semantics.specs.Rules.{names};
 ghost use Rattle.peg_json.specs.ProfileText.{end_of, end_word, profile_data, profile_members, rule_entries_data};
 ghost use Rattle.peg_json.specs.ProfileText.{rule_entry_data, with_end};
 
-use crate::text::text_of;
 use peg_grammar::Grammar;
+use peg_listings::text_of;
 use peg_profile::{Profile, RuleProfile};
 use peg_tree::{Parsed, serialize_member};
 use serde::{Described, Serialize, Serializer};

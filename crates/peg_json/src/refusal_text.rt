@@ -17,10 +17,10 @@ ghost use Rattle.peg_parser.specs.Faults.{RefusalNames, StartsIn};
 ghost use Rattle.peg_parser.specs.Faults.{check_cause, grammar_cause, notation_cause, refusal_cause};
 
 use crate::fault::Fault;
-use crate::text::text_of;
 use peg_bytes::{LineColumn, Span, place};
 use peg_check::CheckFault;
 use peg_grammar::GrammarFault;
+use peg_listings::text_of;
 use peg_notation::NotationFault;
 use peg_parser::Refusal;
 use peg_tree::serialize_member;

@@ -1,7 +1,7 @@
 use Rattle.peg_json.specs.Reply.{failed_data}
 use Rattle.peg_json.specs.Sending.{spans_of}
 use Rattle.peg_json.proofs.AnswerLemmas.{failed-without_floats}
-use Rattle.peg_json.proofs.Sent.{value-text}
+use Rattle.peg_listings.proofs.SentText.{value-text}
 use Rattle.peg_json.proofs.answer_text.failed_text.Goals as goal
 
 pub returns : goal.returns

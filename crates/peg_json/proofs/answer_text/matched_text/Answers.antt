@@ -9,7 +9,8 @@ use Rattle.peg_json.specs.Reply.{matched_data, tree_member, tree_rows_data}
 use Rattle.peg_json.specs.Sending.{SendsMatch, spans_of}
 use Rattle.peg_json.specs.declared.tree_form.TreeForm.TheVariants.{Nested, Rows, NoTree}
 use Rattle.peg_json.proofs.AnswerLemmas.{match-without_floats}
-use Rattle.peg_json.proofs.Sent.{IsTextSentBy, match-text, nested-text, value-text}
+use Rattle.peg_json.proofs.Sent.{match-text, nested-text}
+use Rattle.peg_listings.proofs.SentText.{IsTextSentBy, value-text}
 use Rattle.peg_json.proofs.answer_text.matched_text.Goals as goal
 
 pub returns-in-Rows : goal.returns-in-Rows

@@ -5,7 +5,7 @@ use Rattle.peg_bytes.specs.declared.span.Span.{Span}
 use Rattle.peg_grammar.specs.GrammarRules.{rules_in}
 use Rattle.peg_json.specs.CoverageText.{coverage_data, reference_at}
 use Rattle.peg_json.proofs.CoverageLemmas.{coverage-without_floats}
-use Rattle.peg_json.proofs.Sent.{value-text}
+use Rattle.peg_listings.proofs.SentText.{value-text}
 use Rattle.peg_json.proofs.coverage_text.coverage_json.Goals as goal
 
 pub returns : goal.returns

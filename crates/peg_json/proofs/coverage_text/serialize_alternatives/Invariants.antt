@@ -4,7 +4,7 @@ use Rattle.serde_json.specs.Events.{SendsItems}
 use Rattle.serde_json.specs.View.{items_of}
 use Rattle.peg_bytes.specs.Extent.{extent}
 use Rattle.peg_json.specs.CoverageText.{alternative_data}
-use Rattle.peg_json.specs.Positions.{IsPositionIn}
+use Rattle.peg_listings.specs.Positions.{IsPositionIn}
 use Rattle.peg_json.proofs.coverage_text.serialize_alternatives.Given as goal
 
 -- the position is right, and if the events from here on complete the list of places, so do all events from its start on

@@ -4,7 +4,7 @@ use Rattle.serde_json.specs.Events.{SendsItems}
 use Rattle.serde_json.specs.View.{items_of}
 use Rattle.peg_grammar.specs.GrammarRules.{rules_in}
 use Rattle.peg_json.specs.CoverageText.{reference_at, unused_rule_data}
-use Rattle.peg_json.specs.Positions.{IsPositionIn}
+use Rattle.peg_listings.specs.Positions.{IsPositionIn}
 use Rattle.peg_json.proofs.coverage_text.serialize_rules.Given as goal
 
 -- the position is right, and if the events from here on complete the list of rules, so do all events from its start on

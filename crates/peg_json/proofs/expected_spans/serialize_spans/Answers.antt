@@ -4,7 +4,7 @@ use Rattle.peg_bytes.specs.Extent.{extent}
 use Rattle.peg_parser.specs.Parser.{parser_rules}
 use Rattle.peg_tree.proofs.Sent.{array-sent, item-sent}
 use Rattle.peg_json.specs.Parses.{extents_at}
-use Rattle.peg_json.specs.Reply.{extent_data}
+use Rattle.peg_listings.specs.Extents.{extent_data}
 use Rattle.peg_json.proofs.AnswerLemmas.{length-places, place_at}
 use Rattle.peg_json.proofs.expected_spans.serialize_spans.Goals as goal
 

@@ -4,7 +4,7 @@ use Rattle.serde_json.specs.Events.{SendsItems}
 use Rattle.serde_json.specs.View.{items_of}
 use Rattle.peg_parser.specs.Parser.{parser_rules}
 use Rattle.peg_json.specs.Parses.{extents_at}
-use Rattle.peg_json.specs.Reply.{extent_data}
+use Rattle.peg_listings.specs.Extents.{extent_data}
 use Rattle.peg_json.proofs.expected_spans.serialize_spans.Given as goal
 
 -- if the events from here on complete the list of spans, so do all events from its start on

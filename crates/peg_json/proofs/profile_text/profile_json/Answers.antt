@@ -5,7 +5,7 @@ use Rattle.peg_semantics.specs.Rules.{names}
 use Rattle.peg_profile.specs.declared.counts.RuleProfile.{RuleProfile}
 use Rattle.peg_json.specs.ProfileText.{profile_data}
 use Rattle.peg_json.proofs.ProfileLemmas.{profile-without_floats}
-use Rattle.peg_json.proofs.Sent.{value-text}
+use Rattle.peg_listings.proofs.SentText.{value-text}
 use Rattle.peg_json.proofs.profile_text.profile_json.Goals as goal
 
 pub returns : goal.returns

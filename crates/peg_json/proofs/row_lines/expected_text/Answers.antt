@@ -3,7 +3,7 @@ use Rattle.serde_json.specs.Written.{compact_text}
 use Rattle.peg_json.specs.Reply.{expected_data}
 use Rattle.peg_json.specs.Sending.{spans_of}
 use Rattle.peg_json.proofs.AnswerLemmas.{expected-without_floats}
-use Rattle.peg_json.proofs.Sent.{value-text}
+use Rattle.peg_listings.proofs.SentText.{value-text}
 use Rattle.peg_json.proofs.row_lines.expected_text.Goals as goal
 
 pub returns : goal.returns

@@ -10,7 +10,8 @@ use Rattle.peg_json.specs.Reply.{matched_data, text_rows_data, text_tree_member}
 use Rattle.peg_json.specs.Sending.{SendsMatch, spans_of}
 use Rattle.peg_json.specs.declared.tree_form.TreeForm.TheVariants.{Nested, Rows, NoTree}
 use Rattle.peg_json.proofs.AnswerLemmas.{text_match-without_floats}
-use Rattle.peg_json.proofs.Sent.{IsTextSentBy, match-text, nested_text-text, value-text}
+use Rattle.peg_json.proofs.Sent.{match-text, nested_text-text}
+use Rattle.peg_listings.proofs.SentText.{IsTextSentBy, value-text}
 use Rattle.peg_json.proofs.text_lines.matched_with_text.Goals as goal
 
 pub returns-in-Rows : goal.returns-in-Rows

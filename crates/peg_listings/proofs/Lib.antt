@@ -1,0 +1,6 @@
+mod CodeLemmas
+mod LintLemmas
+mod PositionLemmas
+mod RunLemmas
+pub mod SentText
+mod TableLemmas
