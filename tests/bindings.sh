@@ -45,7 +45,7 @@ if command -v rustc > /dev/null; then
     fault "rows.rs doesn't compile"
   programs="$programs rows_rust"
 else
-  echo "rows.rs: skipped, there is no rustc"
+  echo "SKIPPED: rows.rs, there is no rustc"
 fi
 
 # The rows of each text, beside those of the tool.
@@ -112,6 +112,8 @@ if command -v valgrind > /dev/null; then
   valgrind -q --tool=helgrind --error-exitcode=99 "$work/threads" examples/json.peg "$json" > "$work/out" 2>&1 ||
     { fault "helgrind reports an error"; cat "$work/out" >&2; }
   echo "valgrind: 5 programs"
+else
+  echo "SKIPPED: the C programs under valgrind, there is none"
 fi
 echo "$faults faults"
 [ "$faults" = 0 ]
