@@ -17,6 +17,7 @@ use Rattle.peg_parser.specs.Cause.{Cause}
 use Rattle.peg_profile.specs.declared.counts.RuleProfile.{RuleProfile}
 use Rattle.peg_json.specs.CauseText.{bare_data, cause_data, cause_status}
 use Rattle.peg_listings.specs.CodeText.{code_data}
+use Rattle.peg_listings.specs.Extents.{extent_data}
 use Rattle.peg_json.specs.CoverageText.{coverage_data, status_of_coverage, too_large_word}
 use Rattle.peg_listings.specs.LintText.{lint_data, status_of_warnings}
 use Rattle.peg_json.specs.ProfileText.{profile_data, status_of_end}
