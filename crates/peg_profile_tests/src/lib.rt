@@ -1,5 +1,0 @@
-//! Tests of profiles, worked by hand.
-#![tactic(auto)]
-
-#[cfg(test)]
-mod profiles;

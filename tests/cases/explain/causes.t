@@ -1,0 +1,179 @@
+The causes that explain names for refused grammars. Each is found in the bytes of the file at the offset of the
+refusal.
+
+Left recursion is shown at the definition of its first rule, with all rules of the cycle.
+
+  $ printf "A <- B\nB <- A 'x'" > g
+  $ pegtool explain g
+  g:1:1: left recursion: A -> B -> A
+  A <- B
+  ^
+  [2]
+  $ printf 'A <- A' > g
+  $ pegtool explain g
+  g:1:1: left recursion: A -> A
+  A <- A
+  ^
+  [2]
+
+A loop is shown with its rule, a double or missing rule with its name.
+
+  $ printf "A <- 'x'\nB <- ('y'?)*" > g
+  $ pegtool explain g
+  g:2:6: this repetition matches the empty text again and again, in B
+  B <- ('y'?)*
+       ^
+  [2]
+  $ printf "A <- 'x'\nA <- 'y'" > g
+  $ pegtool explain g
+  g:2:1: the rule A is defined twice
+  A <- 'y'
+  ^
+  [2]
+  $ printf "A <- 'x' Other" > g
+  $ pegtool explain g
+  g:1:10: the rule Other is not defined
+  A <- 'x' Other
+           ^
+  [2]
+
+A count of zero is out of its range, and is shown at its brace.
+
+  $ printf "A <- 'x'{0}" > g
+  $ pegtool explain g
+  g:1:9: a count ends at 1 to 255, and its first number is at most its second
+  A <- 'x'{0}
+          ^
+  [2]
+
+A letter beyond ASCII is no part of a name, and is shown as it is.
+
+  $ printf 'A <- \303\251' > g
+  $ pegtool explain g | cat -A
+  g:1:6: unexpected 'M-CM-)'$
+  A <- M-CM-)$
+       ^$
+
+A second name before the arrow is shown as a whole, with its underscore and digit.
+
+  $ printf "A next_1 <- 'x'" > g
+  $ pegtool explain g
+  g:1:3: unexpected next_1
+  A next_1 <- 'x'
+    ^
+  [2]
+
+A second count needs parentheses, and a parenthesis must be closed.
+
+  $ printf "A <- 'x'{2}{3}" > g
+  $ pegtool explain g
+  g:1:12: unexpected '{'
+  A <- 'x'{2}{3}
+             ^
+  [2]
+  $ printf "A <- ('x'" > g
+  $ pegtool explain g
+  g:1:10: the file ends too early
+  A <- ('x'
+           ^
+  [2]
+
+A byte order mark is no spacing, and is named as what it is.
+
+  $ printf "\357\273\277A <- 'x'" > g
+  $ pegtool explain g | cat -A
+  g:1:1: the notation has no byte order mark: remove it$
+  M-oM-;M-?A <- 'x'$
+  ^$
+
+A comment, a literal and a class without their ends are shown at their starts.
+
+  $ printf "A <- 'x' #end" > g
+  $ pegtool explain g
+  g:1:10: this comment has no line end
+  A <- 'x' #end
+           ^
+  [2]
+  $ printf "A <- 'x\n" > g
+  $ pegtool explain g
+  g:1:6: this literal isn't closed
+  A <- 'x
+       ^
+  [2]
+  $ printf 'A <- [a-]' > g
+  $ pegtool explain g
+  g:1:6: this class isn't closed: a bracket after a dash, as in [a-], ends a range
+  A <- [a-]
+       ^
+  [2]
+
+An escape that isn't one is shown at its backslash, also in a later line.
+
+  $ printf 'A <- "a\\-b"' > g
+  $ pegtool explain g
+  g:1:8: \- isn't an escape: write a dash first in its class, as in [-a]
+  A <- "a\-b"
+         ^
+  [2]
+  $ printf "A <- '\\\\x4g'" > g
+  $ pegtool explain g
+  g:1:7: \x isn't an escape
+  A <- '\x4g'
+        ^
+  [2]
+  $ printf "A <- 'a\n\\\\\303\251'" > g
+  $ pegtool explain g | cat -A
+  g:2:1: \M-CM-) isn't an escape$
+  \M-CM-)'$
+  ^$
+
+The signs that other notations have for the arrow are shown with the right form.
+
+  $ printf "A = 'x'" > g
+  $ pegtool explain g
+  g:1:3: a definition is written NAME <- EXPRESSION
+  A = 'x'
+    ^
+  [2]
+  $ printf "A := 'x'" > g
+  $ pegtool explain g
+  g:1:3: a definition is written NAME <- EXPRESSION
+  A := 'x'
+    ^
+  [2]
+  $ printf "A -> 'x'" > g
+  $ pegtool explain g
+  g:1:3: a definition is written NAME <- EXPRESSION
+  A -> 'x'
+    ^
+  [2]
+  $ printf "A < 'x'" > g
+  $ pegtool explain g
+  g:1:3: a definition is written NAME <- EXPRESSION
+  A < 'x'
+    ^
+  [2]
+
+The bar and the semicolon of other notations have sentences of their own.
+
+  $ printf "A <- 'x' | 'y'" > g
+  $ pegtool explain g
+  g:1:10: alternatives are separated by /, not by |
+  A <- 'x' | 'y'
+           ^
+  [2]
+  $ printf "A <- 'x';" > g
+  $ pegtool explain g
+  g:1:9: a definition doesn't end in a semicolon
+  A <- 'x';
+          ^
+  [2]
+
+A parenthesis is closed that isn't open, as the last token of the file.
+
+  $ printf "A <- 'x')" > g
+  $ pegtool explain g
+  g:1:9: unexpected ')'
+  A <- 'x')
+          ^
+  [2]

@@ -1,0 +1,66 @@
+The warning Shadowed: an alternative that fails wherever an earlier one fails, so that its result is never taken.
+
+Where `'a'` fails the literal `'ab'` fails too, so its match is never taken.
+
+  $ printf "S <- 'a' / 'ab'" | pegtool lint /dev/stdin
+  {"warnings":[{"by":[5,8],"column":12,"end":15,"kind":"Shadowed","line":1,"proved":true,"rule":"S","start":11}]}
+  [1]
+
+The class holds the letter i, with which the keyword begins, so the keyword never wins.
+
+  $ printf "S <- [a-z] / 'if'" | pegtool lint /dev/stdin
+  {"warnings":[{"by":[5,10],"column":14,"end":17,"kind":"Shadowed","line":1,"proved":true,"rule":"S","start":13}]}
+  [1]
+
+The rule L begins with `<`, so its call fails where the first alternative does.
+
+  $ printf "S <- '<' / L\nL <- '<=' ' '*" | pegtool lint /dev/stdin
+  {"warnings":[{"by":[5,8],"column":12,"end":12,"kind":"Shadowed","line":1,"proved":true,"rule":"S","start":11}]}
+  [1]
+
+A dot fails only at the end of the text, where a class fails as well.
+
+  $ printf 'S <- . / [a]' | pegtool lint /dev/stdin
+  {"warnings":[{"by":[5,6],"column":10,"end":12,"kind":"Shadowed","line":1,"proved":true,"rule":"S","start":9}]}
+  [1]
+
+Both later alternatives begin with a letter of the first class, so both are shadowed by it.
+
+  $ printf "S <- [a-z] / 'x' / [b-d] 'c'" | pegtool lint /dev/stdin
+  {"warnings":[{"by":[5,10],"column":14,"end":16,"kind":"Shadowed","line":1,"proved":true,"rule":"S","start":13},{"by":[5,10],"column":20,"end":28,"kind":"Shadowed","line":1,"proved":true,"rule":"S","start":19}]}
+  [1]
+
+The predicate `&'a'` fails where the first alternative fails, and with it the third alternative.
+
+  $ printf "S <- 'a' / 'b' / &'a' ." | pegtool lint /dev/stdin
+  {"warnings":[{"by":[5,8],"column":18,"end":23,"kind":"Shadowed","line":1,"proved":true,"rule":"S","start":17}]}
+  [1]
+
+A plus fails where its part fails, so it is shadowed by that part.
+
+  $ printf "S <- 'a' / 'a'+" | pegtool lint /dev/stdin
+  {"warnings":[{"by":[5,8],"column":12,"end":15,"kind":"Shadowed","line":1,"proved":true,"rule":"S","start":11}]}
+  [1]
+
+The longer literal and the keyword are first, so both alternatives can be taken.
+
+  $ printf "S <- 'ab' / 'a'" | pegtool lint /dev/stdin
+  {"warnings":[]}
+  $ printf "S <- 'if' / [a-z]" | pegtool lint /dev/stdin
+  {"warnings":[]}
+
+The first alternative can fail where the second one matches: on ac, on d, and twice on b.
+
+  $ printf "S <- 'a' 'b' / 'ac'" | pegtool lint /dev/stdin
+  {"warnings":[]}
+  $ printf 'S <- [a-c] / [b-d]' | pegtool lint /dev/stdin
+  {"warnings":[]}
+  $ printf "S <- 'a' / !'a' 'b'" | pegtool lint /dev/stdin
+  {"warnings":[]}
+  $ printf "S <- 'a' / 'a'? 'b'" | pegtool lint /dev/stdin
+  {"warnings":[]}
+
+The empty class after a dot has no warning, since it fails on purpose.
+
+  $ printf 'S <- . / []' | pegtool lint /dev/stdin
+  {"warnings":[]}
