@@ -57,12 +57,18 @@ def quick_case(case: Case, folder: str) -> tuple[bytes, list[str]] | None:
     before, sign, last = case.command.rpartition("pegtool")
     if not sign or SHELL.search(last) or "pegtool" in before:
         return None
-    words = shlex.split(last)
+    try:
+        words = shlex.split(last)
+    except ValueError:  # quotes that `before` opens
+        return None
     if not before and words:
         return of_words(words, folder)
-    if before.rstrip().endswith("|") and not words:
-        return shell(before.rstrip()[:-1], folder), []
-    return None
+    if not before.rstrip().endswith("|"):
+        return None
+    stdin = shell(before.rstrip()[:-1], folder)
+    if words and words[0] in ON_GRAMMAR and words[1:2] == ["/dev/stdin"]:
+        return stdin, [words[0], "{}", *words[2:]]
+    return None if words else (stdin, [])
 
 
 def quick_cases(path: pathlib.Path) -> list[Quick]:

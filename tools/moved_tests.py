@@ -3,6 +3,7 @@
 a line `TEST: SUCCESSOR` for each of its tests, or several. A successor is
 
     cases/FOLDER/FILE.t: BEGINNING        a case in tests/, by the first words of the sentence above it
+    cases/FOLDER/FILE.t: $ PART           a case in tests/, by a part of its command
     CRATE::MODULE::TEST                   a test in Rattle
     PATH: WHAT                            another script or file of the repository, with what in it shows the same
 
@@ -44,7 +45,11 @@ def successor(text: str) -> str | None:
         return None
     if path.suffix != ".t":
         return text
-    lines = [line for line, sentence in sentences(path) if sentence.startswith(beginning)]
+    if beginning.startswith("$ "):
+        lines = [number for number, line in enumerate(path.read_text(encoding="utf-8").split("\n"), 1)
+                 if line.startswith("  $ ") and beginning[2:] in line]
+    else:
+        lines = [line for line, sentence in sentences(path) if sentence.startswith(beginning)]
     return f"tests/{name}:{lines[0]}: {beginning}" if lines else None
 
 

@@ -86,27 +86,6 @@ A byte order mark is no spacing, and is named as what it is.
   M-oM-;M-?A <- 'x'$
   ^$
 
-A comment, a literal and a class without their ends are shown at their starts.
-
-  $ printf "A <- 'x' #end" > g
-  $ pegtool explain g
-  g:1:10: this comment has no line end
-  A <- 'x' #end
-           ^
-  [2]
-  $ printf "A <- 'x\n" > g
-  $ pegtool explain g
-  g:1:6: this literal isn't closed
-  A <- 'x
-       ^
-  [2]
-  $ printf 'A <- [a-]' > g
-  $ pegtool explain g
-  g:1:6: this class isn't closed: a bracket after a dash, as in [a-], ends a range
-  A <- [a-]
-       ^
-  [2]
-
 An escape that isn't one is shown at its backslash, also in a later line.
 
   $ printf 'A <- "a\\-b"' > g

@@ -32,21 +32,6 @@ These literals are closed, so it is the quote that can't begin a definition.
   ^
   [2]
 
-These literals aren't closed: an escaped quote and the other quote close none.
-
-  $ printf "'a\\\\'" > g
-  $ pegtool explain g
-  g:1:1: this literal isn't closed
-  'a\'
-  ^
-  [2]
-  $ printf "'a\"" > g
-  $ pegtool explain g
-  g:1:1: this literal isn't closed
-  'a"
-  ^
-  [2]
-
 The first escape that isn't one is named, at its backslash; others before it are passed over.
 
   $ printf "\"a'\\\\x4G\"" > g
@@ -104,33 +89,6 @@ These classes are closed, so it is the bracket that can't begin a definition.
   $ pegtool explain g
   g:1:1: unexpected '['
   [a-\x41-]
-  ^
-  [2]
-
-These classes aren't closed, some of them since a range ends at their bracket.
-
-  $ printf '[' > g
-  $ pegtool explain g
-  g:1:1: this class isn't closed: a bracket after a dash, as in [a-], ends a range
-  [
-  ^
-  [2]
-  $ printf '[a-' > g
-  $ pegtool explain g
-  g:1:1: this class isn't closed: a bracket after a dash, as in [a-], ends a range
-  [a-
-  ^
-  [2]
-  $ printf "[+-] 'x'" > g
-  $ pegtool explain g
-  g:1:1: this class isn't closed: a bracket after a dash, as in [a-], ends a range
-  [+-] 'x'
-  ^
-  [2]
-  $ printf '[\\12-]' > g
-  $ pegtool explain g
-  g:1:1: this class isn't closed: a bracket after a dash, as in [a-], ends a range
-  [\12-]
   ^
   [2]
 
