@@ -4,6 +4,8 @@
 #[cfg(test)]
 mod blame;
 #[cfg(test)]
+mod calls;
+#[cfg(test)]
 mod coverage;
 #[cfg(test)]
 mod diagnostics;
