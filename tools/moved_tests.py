@@ -4,6 +4,7 @@ a line `TEST: SUCCESSOR` for each of its tests, or several. A successor is
 
     cases/FOLDER/FILE.t: BEGINNING        a case in tests/, by the first words of the sentence above it
     cases/FOLDER/FILE.t: $ PART           a case in tests/, by a part of its command
+    cases/FOLDER/FILE.t: all cases        each case of a file in tests/
     CRATE::MODULE::TEST                   a test in Rattle
     PATH: WHAT                            another script or file of the repository, with what in it shows the same
 
@@ -43,7 +44,7 @@ def successor(text: str) -> str | None:
     path = TOP / "tests" / name if name.startswith("cases/") else TOP / name
     if not path.is_file() or not beginning:
         return None
-    if path.suffix != ".t":
+    if path.suffix != ".t" or beginning == "all cases":
         return text
     if beginning.startswith("$ "):
         lines = [number for number, line in enumerate(path.read_text(encoding="utf-8").split("\n"), 1)

@@ -1,0 +1,82 @@
+The command profile with the option --coverage: what no text uses, worked out by hand.
+
+On the text aab both alternatives of the chain have a node, and on bcd only the second one.
+
+  $ echo "S <- 'a' S / 'b'" > line; printf aab > aab; printf bcd > bcd
+  $ pegtool profile line --coverage aab
+  {"matched":1,"texts":1,"unused_alternatives":[],"unused_rules":[]}
+
+  $ pegtool profile line --coverage bcd
+  {"matched":1,"texts":1,"unused_alternatives":[{"column":6,"end":10,"line":1,"start":5}],"unused_rules":[]}
+  [1]
+
+Of several texts each adds what it uses, wherever the option is.
+
+  $ pegtool profile line --coverage bcd aab
+  {"matched":2,"texts":2,"unused_alternatives":[],"unused_rules":[]}
+
+  $ pegtool profile line bcd aab --coverage
+  {"matched":2,"texts":2,"unused_alternatives":[],"unused_rules":[]}
+
+Neither a memo nor a limit of steps that is enough changes what is used.
+
+  $ pegtool profile line --coverage bcd --memo 9 --steps 100
+  {"matched":1,"texts":1,"unused_alternatives":[{"column":6,"end":10,"line":1,"start":5}],"unused_rules":[]}
+  [1]
+
+The text aab doesn't match here, so no rule and no alternative has a node.
+
+  $ printf "S <- T 'c'\nT <- 'a' / 'b'\n" > short
+  $ pegtool profile short --coverage aab
+  {"matched":0,"texts":1,"unused_alternatives":[{"column":6,"end":19,"line":2,"start":16},{"column":12,"end":25,"line":2,"start":22}],"unused_rules":[{"column":1,"end":1,"line":1,"rule":"S","start":0},{"column":1,"end":12,"line":2,"rule":"T","start":11}]}
+  [1]
+
+From the rule T both texts match, each by another alternative, and S is unused.
+
+  $ pegtool profile short --coverage aab bcd --start T
+  {"matched":2,"texts":2,"unused_alternatives":[],"unused_rules":[{"column":1,"end":1,"line":1,"rule":"S","start":0}]}
+  [1]
+
+A refused grammar and an unknown start are reported before any text is opened.
+
+  $ pegtool profile aab --coverage bcd nowhere
+  {"at":3,"column":4,"line":1,"refusal":"Syntax"}
+  [2]
+
+  $ pegtool profile line --coverage nowhere --start T
+  {"name":"T","refusal":"NoSuchStart"}
+  [3]
+
+  $ pegtool profile examples/json.peg --coverage missing --start Nothing
+  {"name":"Nothing","refusal":"NoSuchStart"}
+  [3]
+
+The first text that takes too many steps ends the run, so a later one isn't opened.
+
+  $ pegtool profile line --coverage aab nowhere --steps 1
+  {"refusal":"StepLimit"}
+  [6]
+
+  $ pegtool profile examples/cookbook/memo.peg --coverage examples/cookbook/memo/match_nested.txt --steps 10000
+  {"refusal":"StepLimit"}
+  [6]
+
+A grammar or a text that can't be opened is a fault, and nothing is printed.
+
+  $ pegtool profile nowhere --coverage aab
+  pegtool: file fault
+  [4]
+
+  $ pegtool profile line --coverage nowhere aab
+  pegtool: file fault
+  [4]
+
+  $ pegtool profile line --coverage aab nowhere
+  pegtool: file fault
+  [4]
+
+So is a text that can be opened and not read, such as a folder.
+
+  $ pegtool profile examples/json.peg --coverage examples/json/match_object.txt .
+  pegtool: file fault
+  [4]
