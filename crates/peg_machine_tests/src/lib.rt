@@ -1,36 +1,22 @@
-//! Tests of the parsing machine, by its public calls. Small grammars are compared with results worked by hand. Further
-//! tests cover deep nesting, long texts, and many grammars and texts that are compared with the evaluator.
+//! Tests of what no run of the program shows: the tokens and core forms of a file, shortcuts, memos, devices, runs with
+//! other memos, and the reference evaluator. The expected values were worked out by hand.
 #![tactic(auto)]
 
 #[cfg(test)]
-mod among;
+mod core_forms;
 #[cfg(test)]
-mod counts;
+mod devices;
 #[cfg(test)]
-mod deep;
+mod entries;
 #[cfg(test)]
-mod examples;
+mod grammars;
 #[cfg(test)]
-mod forgetful;
-#[cfg(test)]
-mod limits;
-#[cfg(test)]
-mod memos;
-#[cfg(test)]
-mod outcomes;
+mod notation;
 #[cfg(test)]
 mod pairs;
 #[cfg(test)]
-mod prefixes;
-#[cfg(test)]
-mod random;
+mod policy;
 #[cfg(test)]
 mod refusing;
 #[cfg(test)]
-mod runs;
-#[cfg(test)]
-mod small;
-#[cfg(test)]
-mod tables;
-#[cfg(test)]
-mod uses;
+mod shortcuts;

@@ -1,8 +1,0 @@
-use Rattle.std.proofs.Common.{◌∙◌, ap}
-use Rattle.std.specs.FinMap.{len, len-empty}
-use Rattle.peg_memo.specs.StoredResult.{StoredResult}
-use Rattle.peg_memo.specs.MemoKey.{key_cmp}
-use Rattle.peg_machine_tests.proofs.runs.run_selecting.Goals as goal
-
-pub run-requires-clause-empty : goal.run-requires-clause-empty
-run-requires-clause-empty c = ap len c.in_ok-memo.ensures ∙ len-empty key_cmp StoredResult
