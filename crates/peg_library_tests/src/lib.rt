@@ -17,3 +17,5 @@ mod names;
 mod profile;
 #[cfg(test)]
 mod refusals;
+#[cfg(test)]
+mod values;
