@@ -1,14 +1,15 @@
 #!/usr/bin/env bash
-# Runs `rt ci --anew`, which proves all that it could take from earlier runs on this machine, too. Prints for each crate
+# Runs the gate with `--anew`, which proves also what it could take from earlier runs on this machine. Prints for each crate
 # the seconds that its proof, the proof of its tests and its wrong edits took, as wall-clock time and, in parentheses,
 # processor time, and the peak memory of a check in MiB. It samples the provers once a second, so shorter ones are missed.
+# What the gate prints is in out/gate.log.
 set -u
 cd "$(dirname "$0")/.." || exit 1
 exec python3 - "$PWD" << 'PYTHON'
 import os
+import resource
 import subprocess
 import sys
-import tempfile
 import time
 
 TICKS = os.sysconf("SC_CLK_TCK")
@@ -60,8 +61,9 @@ def provers(gate):
 
 
 def main():
-    with tempfile.TemporaryFile("w+", errors="replace") as log:
-        gate = subprocess.Popen(["rt", "ci", "--anew"], stdout=log, stderr=subprocess.STDOUT)
+    os.makedirs("out", exist_ok=True)
+    with open("out/gate.log", "w+", encoding="utf-8", errors="replace") as log:
+        gate = subprocess.Popen(["tests/gate.sh", "--anew"], stdout=log, stderr=subprocess.STDOUT)
         clock, used, peak = {}, {}, {}
         began = time.time()
         while gate.poll() is None:
@@ -75,6 +77,7 @@ def main():
             time.sleep(1)
         log.seek(0)
         last = log.read().strip()
+        scripts = [line for line in last.split("\n") if line.endswith(" seconds")]
     spent = {}
     for (_, crate, kind), seconds in used.items():
         spent[crate, kind] = spent.get((crate, kind), 0) + seconds
@@ -83,8 +86,11 @@ def main():
     for crate in sorted({crate for crate, _ in spent}):
         cells = [f"{clock.get((crate, kind), 0)} ({spent.get((crate, kind), 0):.0f})" for kind in kinds]
         print(f"| {crate} | {' | '.join(cells)} | {peak[crate]} |")
-    print(f"{time.time() - began:.0f} seconds of wall-clock time, {sum(spent.values()):.0f} of CPU time")
-    print(last.split("\n")[-1])
+    print("\n".join(scripts))
+    all_used = resource.getrusage(resource.RUSAGE_CHILDREN)
+    print(f"{time.time() - began:.0f} seconds of wall-clock time; processor time: {sum(spent.values()):.0f} seconds of the "
+          f"provers that were seen, {all_used.ru_utime + all_used.ru_stime:.0f} of all processes")
+    print("\n".join(last.split("\n")[-4:]))
     return gate.returncode
 
 
