@@ -1,7 +1,7 @@
 -- The line and the exit status of the tool's replies.
 use Rattle.std.specs.Prelude.{ℕ, Bool, true, false, List, [], ◌∷◌, ◌++◌, Option, codes, map, slice_index_or, if◌then◌else◌}
 use Rattle.serde_json.specs.Data.{Data, Members, unsigned, number, string}
-use Rattle.serde_json.specs.Data.{array, object, no_members, member, no_items, item}
+use Rattle.serde_json.specs.Data.{array, object, no_members, member}
 use Rattle.serde_json.specs.Data.{null}
 use Rattle.serde_json.specs.View.{items_of}
 use Rattle.serde_json.specs.Written.{compact_text}
