@@ -18,9 +18,9 @@ fn only_rule(alloc: Global, body: Expr) -> Result<Vec<Definition>, Fail> {
 }
 
 // A count of a part.
-fn counted(alloc: Global, part: Expr, bounds: (u8, u8), start: u32) -> Result<Expr, AllocError> {
+fn counted(alloc: Global, part: Expr, bounds: (u8, u8), span: Span) -> Result<Expr, AllocError> {
     let part = Box::new(alloc, part)?;
-    let ((min, max), span) = (bounds, Span::new(start, 18));
+    let (min, max) = bounds;
     Ok(Expr::Counted {
         part,
         min,
@@ -32,8 +32,8 @@ fn counted(alloc: Global, part: Expr, bounds: (u8, u8), start: u32) -> Result<Ex
 // Where the fault of a rule with a count of a count of a dot is.
 fn fault_of_counts(alloc: Global, inner: (u8, u8), outer: (u8, u8)) -> Result<Option<u32>, Fail> {
     let span = Span::new(7, 8);
-    let part = counted(alloc, Expr::Any { span }, inner, 6)?;
-    let body = counted(alloc, part, outer, 5)?;
+    let part = counted(alloc, Expr::Any { span }, inner, Span::new(6, 18))?;
+    let body = counted(alloc, part, outer, Span::new(5, 18))?;
     match Grammar::new(alloc, only_rule(alloc, body)?) {
         Err(GrammarFault::BadCount { span }) => Ok(Some(span.start)),
         _ => Ok(None),
