@@ -7,8 +7,8 @@
  *   A handle is a struct of one pointer. A null handle, `PEG_NULL`, holds nothing. Initialise each handle to it before
  *   the first call. A call that fills a handle releases what it held before; a call that fails leaves it unchanged.
  *   The caller owns what a handle holds and releases it with `peg_grammar_free`, `peg_match_free` or
- *   `peg_explanation_free`, which leave the handle null. Releasing a null handle does nothing. Move a handle by copying the struct and no longer using the old
- *   one: two copies are two owners, and using both is undefined. A match and an
+ *   `peg_explanation_free`, which leave the handle null. Releasing a null handle does nothing. Move a handle by copying
+ *   the struct and no longer using the old one: two copies are two owners, and using both is undefined. A match and an
  *   explanation don't depend on their grammar.
  *
  * Memory
@@ -74,7 +74,8 @@ enum peg_status {
     PEG_OUT_OF_RANGE = 8   /* the offset is past the end of the text, or past 2,147,483,647 */
 };
 
-/* Why a grammar file was refused. docs/USAGE.md describes the kinds: PEG_FILE_TOO_LONG is FileTooLong there, etc. */
+/* Why a grammar file was refused. docs/USAGE.md describes the kinds: PEG_FILE_TOO_LONG is FileTooLong there, etc. No
+ * file gives PEG_NO_RULE, since each has a rule. */
 enum peg_refusal_kind {
     PEG_FILE_TOO_LONG = 1,
     PEG_SYNTAX = 2,
@@ -202,8 +203,9 @@ size_t peg_match_expected(peg_match *match, size_t from, peg_span *out, size_t o
 
 /* ---- explanations */
 
-/* Explains where a text doesn't match as a whole, as `pegtool explain` does, and stores the explanation in `out`. `name`
- * is how the message calls the text. `start`, `memo` and `steps` are those of `peg_parse`. `grammar` is unchanged.
+/* Explains where a text doesn't match as a whole, as `pegtool explain` does, and stores the explanation in `out`.
+ * `name` is how the message calls the text. `start`, `memo` and `steps` are those of `peg_parse`. `grammar` is
+ * unchanged.
  * The parse is by a larger grammar, whose items tell where predicates fail: it takes more steps than `peg_parse`, and
  * each call compiles that grammar. So parse first, and explain only what doesn't match.
  * Returns PEG_OK if the text matches as a whole; `out` is then unchanged.

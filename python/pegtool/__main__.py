@@ -22,7 +22,8 @@ def arguments() -> argparse.ArgumentParser:
 
 
 def main(words: Optional[List[str]] = None) -> int:
-    """Runs a command. Returns 0 if the text is matched whole, 1 if not, 2 for a refused grammar, and 4 for file faults."""
+    """Runs a command. Returns 0 if the text is matched whole, 1 if not, 2 for a refused grammar, 3 for a start that no rule
+    has and for other errors of this package, and 4 for file faults. Wrong arguments end the process with status 2."""
     options = arguments().parse_args(words)
     try:
         grammar = Grammar.from_file(options.grammar)

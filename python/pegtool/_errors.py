@@ -58,7 +58,7 @@ class ParseError(PegError):
 
     `position` is the offset of the fault in bytes from 0; `line` and `column` are the same, both from 1. `expected`
     lists what would have been accepted there, as it is written in the grammar. `found` is the character there in quotes,
-    or "the end". `consumed` is the length of the longest prefix that matched, or `None` if there is none. `str(error)`
+    or "the end". `consumed` is the length of the prefix that matched, or `None` if there is none. `str(error)`
     is the message of `pegtool explain`, which shows the line with a caret. It may name a rule in place of a class.
     """
 

@@ -1,6 +1,7 @@
 How the parser takes the alternatives of a choice.
 
-The second alternative is tried where the first fails, at the same position (Ford 2004, section 3.3). Worked out by hand.
+The second alternative is tried where the first fails, at the same position (Ford 2004, section 3.3). Worked out by
+hand.
 
   $ printf "S <- 'a' S / 'b'\n" > g.peg
   $ printf aab > t.txt
