@@ -152,3 +152,21 @@ fn a_rule_in_debt_stores_a_sample(rt: HostRuntime) -> Result<(), Fail> {
     }
     Ok(())
 }
+
+// Each result is found twice after it was stored, so no more were stored than found, and all are stored.
+#[test]
+fn a_rule_whose_results_are_found_is_in_no_debt(rt: HostRuntime) -> Result<(), Fail> {
+    let costs = costs_of(rt.alloc(), FILE)?;
+    let mut memo = SelectiveMemo::new(rt.alloc(), 16, &costs, b"")?;
+    let mut found: u32 = 0;
+    for position in 0..1000 {
+        if fails(&mut memo, 1, position)
+            && !begins(&mut memo, 1, position)
+            && !begins(&mut memo, 1, position)
+        {
+            found = found.saturating_add(1);
+        }
+    }
+    assert_eq!(rt; found, 1000);
+    Ok(())
+}
