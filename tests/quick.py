@@ -18,6 +18,7 @@ import tempfile
 from cases import TOP, Case, read_cases
 
 COUNT = 300
+MOST_BYTES = 100_000  # of a file
 SEPARATOR = b"%%\n"
 ON_GRAMMAR = {"check", "table", "code", "lint"}
 SHELL = re.compile(r"[|<>;&$`\n]|\bcd\b")
@@ -40,13 +41,23 @@ def shell(command: str, folder: str) -> bytes:
                           stderr=subprocess.DEVNULL, timeout=60, check=False).stdout
 
 
+def small(path: pathlib.Path) -> bytes:
+    """The content of a small file. Raises OSError for any other."""
+    if not path.is_file() or path.stat().st_size > MOST_BYTES:
+        raise OSError
+    return path.read_bytes()
+
+
 def of_words(words: list[str], folder: str) -> tuple[bytes, list[str]] | None:
     """The standard input and the arguments that stand for a command on files of a folder."""
-    paths = [pathlib.Path(folder, word) for word in words[1:3]]
-    if words[0] in ON_GRAMMAR and len(words) >= 2 and paths[0].is_file():
-        return paths[0].read_bytes(), [words[0], "{}", *words[2:]]
-    if words[0] == "parse" and len(words) == 3 and all(path.is_file() for path in paths):
-        grammar, text = (path.read_bytes() for path in paths)
+    try:
+        contents = [small(pathlib.Path(folder, word)) for word in words[1:3]]
+    except OSError:
+        return None
+    if words[0] in ON_GRAMMAR and contents:
+        return contents[0], [words[0], "{}", *words[2:]]
+    if words[0] == "parse" and len(words) == 3:
+        grammar, text = contents
         if grammar.endswith(b"\n") and SEPARATOR not in grammar:
             return grammar + SEPARATOR + text, []
     return None
