@@ -1,7 +1,8 @@
 """The errors of this package, and the texts that they show."""
 
+import os
 import re
-from typing import Any, Dict, List, Optional, Tuple
+from typing import Any, Dict, List, Optional, Tuple, Type, TypeVar
 
 # The greatest number of columns of a source line that a message shows.
 SHOWN_COLUMNS = 120
@@ -23,8 +24,22 @@ MESSAGES = {
 }
 
 
+Error = TypeVar("Error", bound="PegError")
+
+
+def restored(kind: Type[Error], arguments: Tuple[Any, ...], members: Dict[str, Any]) -> Error:
+    """An error that was pickled or is copied."""
+    error = kind.__new__(kind, *arguments)
+    error.args = arguments
+    error.__dict__.update(members)
+    return error
+
+
 class PegError(Exception):
-    """The base of all errors of this package."""
+    """The base of all errors of this package. Errors can be pickled and copied, so a process may send them to another."""
+
+    def __reduce__(self) -> Tuple[Any, ...]:
+        return restored, (type(self), self.args, self.__dict__)
 
 
 class GrammarError(PegError):
@@ -46,10 +61,11 @@ class GrammarError(PegError):
         self.column: Optional[int] = None
         words = dict(refusal, path=" -> ".join(self.path + self.path[:1]))
         self.message = MESSAGES.get(self.kind, self.kind).format_map(words)
-        text = f"{name}: {self.message}"
+        called = shown_name(name)
+        text = f"{called}: {self.message}"
         if self.offset is not None:
             self.line, self.column = line_and_column(source, self.offset)
-            text = f"{name}:{self.line}:{self.column}: {self.message}\n{caret_lines(source, self.offset)}"
+            text = f"{called}:{self.line}:{self.column}: {self.message}\n{caret_lines(source, self.offset)}"
         super().__init__(text)
 
 
@@ -76,9 +92,10 @@ class ParseError(PegError):
         self.expected = expected
         self.consumed = consumed
         self.far = far
-        self.line, self.column = line_and_column(data, position)
-        # The first line of the text, after the name and the place.
-        sentence = text[len(name) + len(f":{self.line}:{self.column}: ") :].partition(b"\n")[0]
+        # The text begins with the name, the line and the column.
+        line, column, rest = text[len(name) + 1 :].split(b":", 2)
+        self.line, self.column = int(line), int(column)
+        sentence = rest[1:].partition(b"\n")[0]
         self.message = sentence.decode("utf-8", "backslashreplace")
         self.found: str = self.message.rpartition(", found ")[2]
         super().__init__(text.decode("utf-8", "backslashreplace").rstrip("\n"))
@@ -97,13 +114,12 @@ class TextTooLongError(PegError, ValueError):
 
 
 def line_start(data: bytes, position: int) -> Tuple[int, int]:
-    """The number of the line of a position, from 1, and the offset where that line starts."""
-    line, start = 1, 0
-    for end in LINE_END.finditer(data, 0, min(position + 1, len(data))):
-        if end.end() > position:
-            break
-        line, start = line + 1, end.end()
-    return line, start
+    """The number of the line of a position, from 1, and the offset where that line starts. LF, CR LF and CR end lines."""
+    pairs = data.count(b"\r\n", 0, position + 1)
+    line = data.count(b"\n", 0, position) + data.count(b"\r", 0, position) - pairs + 1
+    # A position between CR and LF is in the line that they end.
+    end = position - 1 if data[max(position - 1, 0) : position + 1] == b"\r\n" else position
+    return line, max(data.rfind(b"\n", 0, end), data.rfind(b"\r", 0, end)) + 1
 
 
 def line_and_column(data: bytes, position: int) -> Tuple[int, int]:
@@ -118,10 +134,35 @@ def definition_of(rule: str, source: bytes) -> Optional[int]:
     return found.start() if found else None
 
 
+def shown_name(name: str) -> str:
+    """The name of a file, with escapes for what can't be printed."""
+    return shown(os.fsencode(name))
+
+
 def shown(data: bytes) -> str:
     """Bytes as text: what isn't UTF-8 or can't be printed is escaped."""
     text = data.decode("utf-8", "backslashreplace")
     return "".join(c if c.isprintable() else c.encode("unicode_escape").decode("ascii") for c in text)
+
+
+def message_at(name: bytes, data: bytes, position: int, expected: List[str]) -> bytes:
+    """A message in the form of `pegtool explain`: the place, what is expected and found there, the line and a caret."""
+    line, column = line_and_column(data, position)
+    items = " or ".join(filter(None, [", ".join(expected[:-1]), *expected[-1:]]))
+    found = found_at(data, position)
+    return name + f":{line}:{column}: expected {items}, found {found}\n{caret_lines(data, position)}\n".encode("utf-8")
+
+
+def found_at(data: bytes, position: int) -> str:
+    """The character at a position in quotes, a byte that is none as an escape, or "the end"."""
+    if position >= len(data):
+        return "the end"
+    for length in range(1, 5):
+        try:
+            return f"'{shown(data[position : position + length].decode('utf-8').encode('utf-8'))}'"
+        except UnicodeDecodeError:
+            continue
+    return f"'\\x{data[position]:02X}'"
 
 
 def caret_lines(data: bytes, position: int) -> str:

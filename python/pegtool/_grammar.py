@@ -1,9 +1,10 @@
 """Grammars: grammar files that were accepted, and parses by them."""
 
 import json
+import operator
 import os
 import threading
-from typing import Optional, Tuple, Union
+from typing import FrozenSet, NamedTuple, Optional, Tuple, Union
 
 from ._errors import GrammarError, NoSuchRuleError, ParseError, StepLimitError, TextTooLongError
 from ._library import FAILED, NO_SUCH_START, OK, REFUSED, STEP_LIMIT, TEXT_TOO_LONG, GrammarHandle, RawExplanation
@@ -17,6 +18,15 @@ MAX_MEMO = 1_000_000
 MAX_STEPS = 1_000_000_000_000
 
 Text = Union[str, bytes, bytearray, memoryview]
+
+
+class Options(NamedTuple):
+    """The options of a parse, as the library takes them: the name of the start rule, empty for the first one; the
+    capacity of the memo; and the limit of steps, 0 for none."""
+
+    start: bytes
+    memo: int
+    steps: int
 
 
 class Grammar:
@@ -38,6 +48,7 @@ class Grammar:
         # How messages call the grammar file.
         self.name = name
         self._handles = threading.local()
+        self._leaves: Optional[FrozenSet[str]] = None
         # The names of the rules, in order.
         self.rules: Tuple[str, ...] = self._handle().rules()
 
@@ -45,7 +56,7 @@ class Grammar:
     def from_file(cls, path: Union[str, "os.PathLike[str]"]) -> "Grammar":
         """The grammar in a file. Raises `OSError` if it can't be read, and `GrammarError` if it is refused."""
         with open(path, "rb") as file:
-            return cls(file.read(), name=os.fspath(path))
+            return cls(file.read(), name=os.fsdecode(path))
 
     def parse(
         self,
@@ -66,7 +77,8 @@ class Grammar:
           ^
 
         `start` is the name of the start rule, by default the first one. `memo` is the capacity of the memo, which changes
-        no result. `steps` limits the parse. `name` is how the error calls the text.
+        no result. `steps` limits the parse, and the second one that finds what was expected. `name` is how the error
+        calls the text.
 
         Raises `ParseError` if the text isn't matched as a whole. Raises `NoSuchRuleError` if no rule has the name of the
         start, `StepLimitError` if more steps are needed, `TextTooLongError` for a text over the limit, and `MemoryError`
@@ -94,25 +106,29 @@ class Grammar:
 
         The options and the other errors are those of `parse`.
         """
-        if not 0 <= memo <= MAX_MEMO:
-            raise ValueError(f"memo must be from 0 to {MAX_MEMO}")
-        if steps is not None and not 1 <= steps <= MAX_STEPS:
-            raise ValueError(f"steps must be from 1 to {MAX_STEPS}")
-        if start == "":
-            raise NoSuchRuleError("no rule has an empty name")
+        options = options_of(start, memo, steps)
         text = as_bytes(data)
-        status, raw = self._handle().parse(text, (start or "").encode("utf-8"), memo, steps or 0)
+        status, raw = self._handle().parse(text, *options)
         if status in (OK, FAILED):
             given = data if isinstance(data, str) else text
-            return (Match if status == OK else Failure)(self, given, text, raw, start or "", memo)
-        raise fault(status, start)
+            return (Match if status == OK else Failure)(self, given, text, raw, options)
+        raise fault(status, options)
 
-    def _explain(self, name: bytes, data: bytes, start: str, memo: int) -> RawExplanation:
+    def is_leaf(self, rule: str) -> bool:
+        """Whether nodes of a rule never have children: the rule calls no other outside predicates. The first use takes
+        time linear in the grammar file."""
+        if self._leaves is None:
+            from ._notation import leaves  # which is read by a grammar itself
+
+            self._leaves = leaves(self)
+        return rule in self._leaves
+
+    def _explain(self, name: bytes, data: bytes, options: Options) -> RawExplanation:
         """Where a text doesn't match as a whole. The name begins the message."""
-        status, raw = self._handle().explain(name, data, start.encode("utf-8"), memo)
+        status, raw = self._handle().explain(name, data, *options)
         if status == FAILED:
             return raw
-        raise fault(status, start)
+        raise fault(status, options)
 
     def _handle(self) -> GrammarHandle:
         """The compiled grammar of this thread."""
@@ -129,14 +145,34 @@ class Grammar:
 
 
 def as_bytes(data: Text) -> bytes:
-    """A text as bytes; `str` is encoded as UTF-8."""
-    return data.encode("utf-8") if isinstance(data, str) else bytes(data)
+    """A text as bytes; `str` is encoded as UTF-8. Raises `TypeError` for what isn't `str`, `bytes` or a buffer."""
+    if isinstance(data, str):
+        return data.encode("utf-8")
+    try:
+        return data if type(data) is bytes else bytes(memoryview(data))
+    except TypeError:
+        raise TypeError(f"a text is str, bytes or a buffer, and not {type(data).__name__}") from None
 
 
-def fault(status: int, start: Optional[str]) -> Exception:
+def options_of(start: Optional[str], memo: int, steps: Optional[int]) -> Options:
+    """The options of a parse. Raises `TypeError` or `ValueError` for a value that isn't one."""
+    if start is not None and not isinstance(start, str):
+        raise TypeError(f"start is the name of a rule, and not {type(start).__name__}")
+    if start == "":
+        raise NoSuchRuleError("no rule has an empty name")
+    memo = operator.index(memo)
+    if not 0 <= memo <= MAX_MEMO:
+        raise ValueError(f"memo must be from 0 to {MAX_MEMO}")
+    limit = 0 if steps is None else operator.index(steps)
+    if steps is not None and not 1 <= limit <= MAX_STEPS:
+        raise ValueError(f"steps must be from 1 to {MAX_STEPS}")
+    return Options((start or "").encode("utf-8"), memo, limit)
+
+
+def fault(status: int, options: Options) -> Exception:
     """The error of a parse that has no answer."""
     if status == NO_SUCH_START:
-        return NoSuchRuleError(f"no rule has the name {start}")
+        return NoSuchRuleError(f"no rule has the name {options.start.decode('utf-8')}")
     if status == STEP_LIMIT:
         return StepLimitError("the parse takes more steps than the limit allows")
     if status == TEXT_TOO_LONG:

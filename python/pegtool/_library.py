@@ -5,7 +5,7 @@ import os
 import threading
 from ctypes import POINTER, byref, c_char_p, c_size_t, c_uint8, c_uint32, c_uint64, c_void_p
 from ctypes.util import find_library
-from typing import Callable, List, Tuple
+from typing import Callable, Dict, Iterator, List, Tuple
 
 # The number of the binary interface that this module is written for.
 ABI = 1
@@ -99,22 +99,31 @@ DECLARATIONS = {
 }
 
 
-def candidates() -> List[str]:
-    """The paths where the library is looked for, in order."""
+def candidates() -> Iterator[str]:
+    """The paths where the library is looked for, in order. The system is asked last, since that may run a linker."""
     if "PEGTOOL_LIBRARY" in os.environ:
-        return [os.environ["PEGTOOL_LIBRARY"]]
+        yield os.environ["PEGTOOL_LIBRARY"]
+        return
     here = os.path.dirname(os.path.abspath(__file__))
     beside = [os.path.join(here, name) for name in ("libpeg.so.1", "libpeg.so")]
     built = os.path.join(here, os.pardir, os.pardir, "out", "lib", "libpeg.so")
     installed = os.path.join(here, os.pardir, os.pardir, os.pardir, "libpeg.so.1")
+    yield from (path for path in (*beside, built, installed) if os.path.exists(path))
     found = find_library("peg")
-    return [path for path in (*beside, built, installed) if os.path.exists(path)] + ([found] if found else [])
+    if found:
+        yield found
 
 
 def load() -> ctypes.CDLL:
-    """Loads the library. Raises `ImportError` if there is none, or if it is too old or has another binary interface."""
+    """Loads the library. Raises `ImportError` if there is none, or if it is another one, too old, or has another binary
+    interface."""
     for path in candidates():
-        library = ctypes.CDLL(path)
+        try:
+            library = ctypes.CDLL(path)
+        except OSError as error:
+            raise ImportError(f"{path} can't be loaded: {error}") from error
+        if not hasattr(library, "peg_abi"):
+            raise ImportError(f"{path} is another library: it has no peg_abi")
         if library.peg_abi() != ABI:
             raise ImportError(f"{path} has the binary interface {library.peg_abi()}, and not {ABI}")
         for name, (result, *arguments) in DECLARATIONS.items():
@@ -143,15 +152,45 @@ def version() -> str:
 
 
 class Owner:
-    """A thread that owns handles, and the handles that other threads have let go of."""
+    """A thread that owns handles: those that it holds, and of these the ones that other threads have let go of."""
 
     def __init__(self) -> None:
         self.abandoned: List[Handle] = []
+        self.held: Dict[int, Handle] = {}
+        # A finalizer may run at any time, also while this thread has the lock.
+        self.lock = threading.RLock()
 
     def release(self) -> None:
         """Frees the handles that other threads have let go of."""
         while self.abandoned:
             LIBRARY.peg_grammar_free(byref(self.abandoned.pop()))
+
+    def let_go(self, handle: Handle) -> None:
+        """Frees a handle, or leaves it to its thread. If that has ended, it has freed the handle."""
+        with self.lock:
+            if self.held.pop(id(handle), None) is None:
+                return
+            self.abandoned.append(handle)
+        if self is getattr(_threads, "owner", None):
+            self.release()
+
+    def end(self) -> None:
+        """Frees all handles, as the thread ends."""
+        with self.lock:
+            self.abandoned.extend(self.held.values())
+            self.held.clear()
+        self.release()
+
+
+class Guard:
+    """Ends with its thread, on that thread, and frees what the thread still owns."""
+
+    def __init__(self, owner: Owner) -> None:
+        self.owner = owner
+
+    def __del__(self) -> None:
+        if LIBRARY is not None:  # the interpreter isn't ending
+            self.owner.end()
 
 
 _threads = threading.local()
@@ -161,6 +200,7 @@ def this_thread() -> Owner:
     """The owner that represents the current thread."""
     if not hasattr(_threads, "owner"):
         _threads.owner = Owner()
+        _threads.guard = Guard(_threads.owner)
     return _threads.owner
 
 
@@ -168,7 +208,7 @@ class GrammarHandle:
     """A grammar of the library, or a refusal. The thread that made it uses it and frees it.
 
     If another thread drops the last reference, the handle is freed when its owner makes or uses a grammar the next
-    time. If its owner has ended, it isn't freed.
+    time, or ends. A thread that ends frees its handles.
     """
 
     def __init__(self, file: bytes) -> None:
@@ -178,14 +218,11 @@ class GrammarHandle:
         self.status = LIBRARY.peg_grammar_read(file, len(file), byref(self.raw))
         if self.status == OUT_OF_MEMORY:
             raise MemoryError("no memory for a grammar")
+        self.owner.held[id(self.raw)] = self.raw
 
     def __del__(self) -> None:
-        if LIBRARY is None:  # the interpreter is ending
-            return
-        if self.owner is getattr(_threads, "owner", None):
-            LIBRARY.peg_grammar_free(byref(self.raw))
-        else:
-            self.owner.abandoned.append(self.raw)
+        if LIBRARY is not None:  # the interpreter isn't ending
+            self.owner.let_go(self.raw)
 
     def refusal(self) -> bytes:
         """The line of JSON that says why the file was refused."""
@@ -212,13 +249,13 @@ class GrammarHandle:
         finally:
             LIBRARY.peg_match_free(byref(found))
 
-    def explain(self, name: bytes, text: bytes, start: bytes, memo: int) -> Tuple[int, "RawExplanation"]:
+    def explain(self, name: bytes, text: bytes, start: bytes, memo: int, steps: int) -> Tuple[int, "RawExplanation"]:
         """Explains where a text doesn't match. Returns the status, and the explanation if there is one."""
         self.owner.release()
         found = Handle()
         try:
             status = LIBRARY.peg_explain(
-                byref(self.raw), name, len(name), text, len(text), start, len(start), memo, 0, byref(found)
+                byref(self.raw), name, len(name), text, len(text), start, len(start), memo, steps, byref(found)
             )
             return status, RawExplanation(found)
         finally:

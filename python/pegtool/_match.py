@@ -1,15 +1,17 @@
 """The answers to parses: matches with their nodes, and failures."""
 
+from __future__ import annotations
+
 import array
 import os
 import re
-from typing import TYPE_CHECKING, Iterable, Iterator, List, NamedTuple, Optional, Sequence, Tuple, Union, overload
+from typing import TYPE_CHECKING, Dict, Iterable, Iterator, List, NamedTuple, Optional, Sequence, Tuple, Union, overload
 
-from ._errors import ParseError
+from ._errors import NoSuchRuleError, ParseError, StepLimitError, message_at
 from ._library import RawAnswer
 
 if TYPE_CHECKING:
-    from ._grammar import Grammar
+    from ._grammar import Grammar, Options
 
 # A packed node has six 32-bit words: rule, start, end, level, and the size, whose upper word is always 0 here: a match
 # whose nodes don't fit into the memory of the process isn't made.
@@ -78,6 +80,12 @@ class Rows(Sequence[Row]):
         """The packed nodes, for `memoryview(rows)` (Python 3.12)."""
         return self.buffer
 
+    def __eq__(self, other: object) -> bool:
+        """Whether the other is the rows of a match or a list, with the same rows."""
+        if not isinstance(other, (Rows, list)):
+            return NotImplemented
+        return len(self) == len(other) and all(one == another for one, another in zip(self, other))
+
     def __repr__(self) -> str:
         return f"<Rows of {len(self)} nodes>"
 
@@ -85,8 +93,9 @@ class Rows(Sequence[Row]):
 class Node:
     """A node of a parse tree: a rule that matched a part of the text.
 
-    Iterating over a node gives its children, and `node[i]` is the child with that number. Two nodes are equal if they
-    are the same node of the same match.
+    Iterating over a node gives its children, and `node[i]` is the child with that number. The first use of `node[i]` or
+    `len(node)` takes time linear in the number of children, and later ones take constant time. Two nodes are equal if
+    they are the same node of the same match.
     """
 
     __slots__ = ("_match", "_number")
@@ -142,6 +151,11 @@ class Node:
         return list(self)
 
     @property
+    def match(self) -> "Match":
+        """The match that the node belongs to."""
+        return self._match
+
+    @property
     def parent(self) -> Optional["Node"]:
         """The node above this one; `None` for the root. The first use takes time linear in the tree."""
         return Node(self._match, self._match._parents()[self._number]) if self._number else None
@@ -152,13 +166,18 @@ class Node:
         return (Node(match, number) for number in range(self._number, self._number + self.size))
 
     def find(self, rule: str) -> Optional["Node"]:
-        """The first node of a rule below this one, in preorder; `None` if there is none."""
+        """The first node of a rule below this one, in preorder; `None` if there is none.
+
+        Raises `NoSuchRuleError` if no rule has the name.
+        """
         return next(self.find_all(rule), None)
 
     def find_all(self, rule: str) -> Iterator["Node"]:
-        """All nodes of a rule below this one, in preorder. Raises `ValueError` if no rule has the name."""
-        match, wanted = self._match, self._match.grammar.rules.index(rule)
-        words = match._words
+        """All nodes of a rule below this one, in preorder. Raises `NoSuchRuleError` if no rule has the name."""
+        match, rules = self._match, self._match.grammar.rules
+        if rule not in rules:
+            raise NoSuchRuleError(f"no rule has the name {rule}")
+        wanted, words = rules.index(rule), match._words
         numbers = range(self._number + 1, self._number + self.size)
         return (Node(match, number) for number in numbers if words[WORDS * number] == wanted)
 
@@ -170,13 +189,22 @@ class Node:
             number += match._words[WORDS * number + SIZE]
 
     def __len__(self) -> int:
-        return sum(1 for _ in self)
+        return len(self._match._children_of(self._number))
 
     def __bool__(self) -> bool:
         return True
 
-    def __getitem__(self, index: int) -> "Node":
-        return self.children[index]
+    @overload
+    def __getitem__(self, index: int) -> "Node": ...
+
+    @overload
+    def __getitem__(self, index: slice) -> List["Node"]: ...
+
+    def __getitem__(self, index: Union[int, slice]) -> Union["Node", List["Node"]]:
+        numbers = self._match._children_of(self._number)[index]
+        if isinstance(numbers, array.array):
+            return [Node(self._match, number) for number in numbers]
+        return Node(self._match, numbers)
 
     def __eq__(self, other: object) -> bool:
         return isinstance(other, Node) and self._match is other._match and self._number == other._number
@@ -187,25 +215,45 @@ class Node:
     def __repr__(self) -> str:
         return f"<{self.rule} {self.start}..{self.end}>"
 
-    def pprint(self, width: int = 40) -> str:
-        """The subtree as text, a line for each node: its rule and, cut to `width`, what it matched."""
-        lines = []
-        for node in self.walk():
-            shown = repr(node.text)
-            shown = shown if len(shown) <= width else shown[: width - 3] + "..."
-            lines.append(f"{'  ' * (node.level - self.level)}{node.rule} {shown}")
-        return "\n".join(lines)
+    def pprint(self, width: int = 40, levels: int = 40, lines: int = 1000) -> str:
+        """The subtree as text, a line for each node: its rule and, cut to `width`, what it matched.
+
+        Nodes below `levels` levels are left out, and after `lines` lines the rest is. A line `...` says so.
+        """
+        shown: List[str] = []
+        number, end = self._number, self._number + self.size
+        while number < end:
+            node = Node(self._match, number)
+            depth = node.level - self.level
+            if len(shown) >= lines:
+                shown.append("...")
+                break
+            if depth < levels:
+                shown.append(f"{'  ' * depth}{node.rule} {node._shown(width)}")
+                number += 1
+            else:
+                shown.append(f"{'  ' * depth}...")
+                # The nodes beside this one are as deep, so the rest of the parent's subtree is left out.
+                parent = node.parent
+                number = parent.number + parent.size if parent else end
+        return "\n".join(shown)
+
+    def _shown(self, width: int) -> str:
+        """What the rule matched, cut to a width. Only the bytes that are shown are looked at."""
+        part = self._match._as_given(self._match.data[self.start : min(self.end, self.start + 4 * width)])
+        text = repr(part)
+        is_cut = len(text) > width or self.end - self.start > 4 * width
+        return text[: width - 3] + "..." if is_cut else text
 
 
 class _Answer:
     """What matches and failures have in common."""
 
     def __init__(
-        self, grammar: "Grammar", given: Union[str, bytes], data: bytes, raw: RawAnswer, start: str, memo: int
+        self, grammar: "Grammar", given: Union[str, bytes], data: bytes, raw: RawAnswer, options: "Options"
     ) -> None:
         self.grammar = grammar
-        # The name of the start rule, or empty for the first rule, and the capacity of the memo.
-        self._start, self._memo = start, memo
+        self._options = options
         # The text as bytes. All offsets count these.
         self.data = data
         # The greatest offset at which a terminal failed, or 0 if none failed.
@@ -226,17 +274,29 @@ class _Answer:
         """The error that `Grammar.parse` raises if the text isn't matched as a whole.
 
         It is at the furthest failure outside predicates, or at the end of the match if that is further. The parse that
-        finds it counts predicates as items, and takes more steps than `Grammar.match`. There is no limit to them.
+        finds it counts predicates as items, and takes more steps than `Grammar.match`. If it takes more than the limit
+        of steps, the error is at the furthest failure of this answer, which predicates may have moved.
         Raises `ValueError` if the text is matched as a whole.
         """
         consumed = self.consumed if isinstance(self, Match) else None
         if consumed == len(self.data):
             raise ValueError("the text is matched as a whole")
         encoded = os.fsencode(name)
-        raw = self.grammar._explain(encoded, self.data, self._start, self._memo)
+        try:
+            raw = self.grammar._explain(encoded, self.data, self._options)
+        except StepLimitError:
+            return self._furthest_error(encoded, consumed)
         items = [_item(self._written(span.start, span.end)) for span in raw.expected]
         expected = _each_once(items + ["the end"] * raw.mismatch.end_expected)
         return ParseError(raw.message, encoded, self.data, raw.mismatch.position, expected, consumed, self.far)
+
+    def _furthest_error(self, name: bytes, consumed: Optional[int]) -> ParseError:
+        """The error at the furthest failure, or at the end of the match if that is further."""
+        position = max(self.far, consumed or 0)
+        expected = self.expected if position == self.far else []
+        expected = _each_once(expected + ["the end"] * (position == consumed))
+        message = message_at(name, self.data, position, expected)
+        return ParseError(message, name, self.data, position, expected, consumed, self.far)
 
     def _written(self, start: int, end: int) -> str:
         """A part of the grammar file."""
@@ -270,13 +330,15 @@ class Match(_Answer):
     """
 
     def __init__(
-        self, grammar: "Grammar", given: Union[str, bytes], data: bytes, raw: RawAnswer, start: str, memo: int
+        self, grammar: "Grammar", given: Union[str, bytes], data: bytes, raw: RawAnswer, options: "Options"
     ) -> None:
-        super().__init__(grammar, given, data, raw, start, memo)
+        super().__init__(grammar, given, data, raw, options)
         # The length of the prefix, in bytes.
         self.consumed: int = raw.summary.consumed
         self._words = memoryview(raw.nodes).cast("B").cast("I")
-        self._parent_numbers: Optional[array.array] = None
+        self._parent_numbers: Optional[array.array[int]] = None
+        # The numbers of the children of the nodes that were asked for.
+        self._child_numbers: Dict[int, array.array[int]] = {}
 
     @property
     def root(self) -> Node:
@@ -324,7 +386,14 @@ class Match(_Answer):
         pieces.extend(_closed(row) for row in reversed(open_rows))
         return '"tree":' + "".join(pieces)
 
-    def _parents(self) -> array.array:
+    def _children_of(self, number: int) -> array.array[int]:
+        """The numbers of the children of a node."""
+        found = self._child_numbers.get(number)
+        if found is None:
+            found = self._child_numbers[number] = array.array("Q", (child.number for child in Node(self, number)))
+        return found
+
+    def _parents(self) -> array.array[int]:
         if self._parent_numbers is None:
             parents = array.array("Q", [0])
             above: List[int] = []

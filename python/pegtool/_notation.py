@@ -1,7 +1,7 @@
 """The structure of grammar files: each rule's expression, read by a grammar of the notation."""
 
 from dataclasses import dataclass
-from typing import Dict, List, Optional, Tuple, Union
+from typing import Dict, FrozenSet, List, Optional, Tuple, Union
 
 from ._grammar import Grammar
 from ._match import Node
@@ -127,6 +127,20 @@ class _Reader(Visitor):
 
     def generic_visit(self, node: Node, values: List) -> None:
         return None
+
+
+def has_call(expression: Expression) -> bool:
+    """Whether an expression calls a rule outside predicates."""
+    if isinstance(expression, Name):
+        return True
+    if isinstance(expression, (Sequence, Choice)):
+        return any(map(has_call, expression.items))
+    return isinstance(expression, Repeat) and has_call(expression.part)
+
+
+def leaves(grammar: Grammar) -> FrozenSet[str]:
+    """The rules of a grammar that call no rule outside predicates."""
+    return frozenset(rule for rule, body in expressions(grammar).items() if not has_call(body))
 
 
 def expressions(grammar: Grammar) -> Dict[str, Expression]:

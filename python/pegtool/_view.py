@@ -4,7 +4,7 @@ import json
 from html import escape
 from typing import List, Optional, Union
 
-from ._errors import ParseError, shown
+from ._errors import ParseError, shown, shown_name
 from ._grammar import Grammar
 from ._match import Failure, Match
 from ._notation import expressions
@@ -157,9 +157,9 @@ def page(grammar: Grammar, answer: Union[Match, Failure], title: str) -> str:
     return f"""<!DOCTYPE html>
 <html lang="en">
 <meta charset="utf-8">
-<title>{escape(title)}</title>
+<title>{escape(shown_name(title))}</title>
 <style>{STYLE}</style>
-<header><h1>{escape(title)} by {escape(grammar.name)}: {result}</h1></header>
+<header><h1>{escape(shown_name(title))} by {escape(shown_name(grammar.name))}: {result}</h1></header>
 <main>
 <section><h2>Text</h2>{message}<pre id="text">{text}</pre><div id="path"></div></section>
 <section><h2>Tree</h2><div id="tree">{tree}</div></section>

@@ -2,6 +2,7 @@
 
 from typing import Any, List, Union
 
+from ._errors import NoSuchRuleError
 from ._match import Match, Node
 
 
@@ -25,8 +26,11 @@ class Visitor:
     """
 
     def visit(self, of: Union[Match, Node]) -> Any:
-        """The value of a node, or of a match's root."""
+        """The value of a node, or of a match's root. Raises `NoSuchRuleError` if a method `visit_RULE` fits no rule."""
         root = of.root if isinstance(of, Match) else of
+        for method in (name for name in dir(self) if name.startswith("visit_")):
+            if method[len("visit_") :] not in root.match.grammar.rules:
+                raise NoSuchRuleError(f"{type(self).__name__}.{method} fits no rule")
         # The nodes that are open, with the numbers after their subtrees and the values of their children so far.
         open_nodes: List[Node] = []
         ends: List[int] = []
@@ -48,8 +52,9 @@ class Visitor:
         values[-1].append(method(node, of_children))
 
     def generic_visit(self, node: Node, values: List[Any]) -> Any:
-        """The value of a node whose rule has no method: its children's values, or its text if it has no children."""
-        return values or node.text
+        """The value of a node whose rule has no method: the list of its children's values, or its text if nodes of the
+        rule never have children."""
+        return node.text if not values and node.match.grammar.is_leaf(node.rule) else values
 
     def only(self, node: Node, values: List[Any]) -> Any:
         """The value of the only child. `visit_Group = Visitor.only` passes a child's value on."""

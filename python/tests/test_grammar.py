@@ -5,6 +5,7 @@ import tempfile
 import threading
 import unittest
 
+from pegtool import _library
 from pegtool import (
     Failure,
     Grammar,
@@ -197,6 +198,21 @@ class Threads(unittest.TestCase):
         for thread in threads:
             thread.join()
         self.assertEqual(lengths, {count: [count + 1] * 50 for count in (1, 10, 100, 1000)})
+
+    def test_a_thread_that_ends_frees_its_handles(self):
+        grammar, owners = Grammar(CHAIN), []
+
+        def parse():
+            grammar.parse("ab")
+            owners.append((_library.this_thread(), len(_library.this_thread().held)))
+
+        for _ in range(3):
+            thread = threading.Thread(target=parse)
+            thread.start()
+            thread.join()
+        self.assertEqual([held for _, held in owners], [1, 1, 1])
+        self.assertEqual([(owner.held, owner.abandoned) for owner, _ in owners], [({}, [])] * 3)
+        self.assertEqual(grammar.parse("ab").consumed, 2)
 
     def test_a_grammar_of_another_thread_is_let_go_of(self):
         made = []

@@ -3,7 +3,7 @@
 import struct
 import unittest
 
-from pegtool import Grammar, Row, Rows, Visitor
+from pegtool import Grammar, NoSuchRuleError, Row, Rows, Visitor
 
 CHAIN = "S <- 'a' S / 'b'\n"
 SUM = "Sum <- Product ('+' Product)*\nProduct <- Number ('*' Number)*\nNumber <- [0-9]+\n"
@@ -33,6 +33,11 @@ class Nodes(unittest.TestCase):
         self.assertEqual(self.root[1][-1].bytes, b"45")
         self.assertEqual((len(self.root), len(self.root[0][0])), (2, 0))
         self.assertRaises(IndexError, lambda: self.root[2])
+        self.assertEqual(self.root[0:1] + self.root[:0:-1], self.root.children)
+
+    def test_the_children_of_a_node_are_looked_for_once(self):
+        self.assertIs(self.match._children_of(3), self.match._children_of(3))
+        self.assertEqual(self.match._children_of(3).tolist(), [4, 5])
 
     def test_parents_lead_to_the_root(self):
         last = self.root[1][1]
@@ -53,6 +58,14 @@ class Nodes(unittest.TestCase):
         )
         self.assertEqual(repr(self.match), "<Match of 6 bytes, 6 nodes>")
 
+    def test_a_shown_tree_is_bounded(self):
+        shown = "Sum '2+3*45'\n  Product '2'\n    ...\n  Product '3*45'\n    ..."
+        self.assertEqual(self.root.pprint(levels=2), shown)
+        self.assertEqual(self.root.pprint(lines=2), "Sum '2+3*45'\n  Product '2'\n...")
+        self.assertEqual(self.root.pprint(width=6).split("\n")[0], "Sum '2+...")
+        deep = Grammar(CHAIN).parse("a" * 100_000 + "b").root.pprint()
+        self.assertEqual((len(deep.split("\n")), len(deep) < 5_000), (41, True))
+
     def test_nodes_are_compared_by_place(self):
         self.assertEqual(self.root[0], next(iter(self.root)))
         self.assertNotEqual(self.root[0], Grammar(SUM).parse("2").root)
@@ -65,6 +78,14 @@ class RowsOfAMatch(unittest.TestCase):
         self.assertEqual(list(rows), [Row(1, "S", 0, 2), Row(2, "S", 1, 2)])
         self.assertEqual((len(rows), rows[-1], rows[1:]), (2, (2, "S", 1, 2), [(2, "S", 1, 2)]))
         self.assertRaises(IndexError, lambda: rows[2])
+
+    def test_rows_are_compared(self):
+        match = Grammar(CHAIN).parse("ab")
+        self.assertEqual(match.rows, match.rows)
+        self.assertEqual(match.rows, Grammar(CHAIN).parse("ab").rows)
+        self.assertEqual(match.rows, [(1, "S", 0, 2), (2, "S", 1, 2)])
+        self.assertNotEqual(match.rows, Grammar(CHAIN).parse("aab").rows)
+        self.assertNotEqual(match.rows, [(1, "S", 0, 2)])
 
     def test_rows_are_packed(self):
         rows = Grammar(CHAIN).parse("ab").rows
@@ -135,6 +156,21 @@ class Visitors(unittest.TestCase):
 
     def test_other_nodes_have_their_values_or_their_text(self):
         self.assertEqual(Visitor().visit(Grammar(SUM).parse("2+3*45")), [["2"], ["3", "45"]])
+
+    def test_the_type_of_a_value_depends_on_its_rule_alone(self):
+        grammar = Grammar("List <- '[' Item* ']'\nItem <- &Word [a-z]+\nWord <- [a-z]\n")
+        self.assertEqual(Visitor().visit(grammar.parse("[]")), [])
+        self.assertEqual(Visitor().visit(grammar.parse("[a]")), ["a"])
+        self.assertEqual([rule for rule in grammar.rules if grammar.is_leaf(rule)], ["Item", "Word"])
+
+    def test_a_method_fits_a_rule(self):
+        class Misspelt(Visitor):
+            def visit_Itme(self, node, values):
+                return None
+
+        with self.assertRaises(NoSuchRuleError) as caught:
+            Misspelt().visit(Grammar(SUM).parse("7"))
+        self.assertEqual(str(caught.exception), "Misspelt.visit_Itme fits no rule")
 
     def test_only_passes_a_value_on(self):
         class First(Evaluate):

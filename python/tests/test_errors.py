@@ -1,0 +1,154 @@
+"""Errors: how they are sent between processes, what they say of wrong arguments, and how the library is found."""
+
+import array
+import concurrent.futures
+import copy
+import mmap
+import os
+import pathlib
+import pickle
+import subprocess
+import sys
+import tempfile
+import unittest
+
+from pegtool import Grammar, GrammarError, NoSuchRuleError, ParseError, StepLimitError
+
+CHAIN = "S <- 'a' S / 'b'\n"
+PACKAGE = pathlib.Path(__file__).resolve().parent.parent
+
+
+def parse_chain(text):
+    """The number of bytes that match; a function that a pool of processes can call."""
+    return Grammar(CHAIN).parse(text).consumed
+
+
+def error_of(call, *arguments, **options):
+    """The error that a call raises."""
+    try:
+        call(*arguments, **options)
+    except Exception as error:
+        return error
+    raise AssertionError("no error")
+
+
+class Sending(unittest.TestCase):
+    def errors(self):
+        grammar = Grammar(CHAIN)
+        return [
+            error_of(grammar.parse, "aac", name="t.txt"),
+            error_of(Grammar, "S <- T\n"),
+            error_of(grammar.parse, "b", "T"),
+            error_of(grammar.parse, "aab", memo=0, steps=14),
+        ]
+
+    def test_errors_are_pickled_and_copied(self):
+        kinds = [ParseError, GrammarError, NoSuchRuleError, StepLimitError]
+        for error, kind in zip(self.errors(), kinds):
+            for other in (pickle.loads(pickle.dumps(error)), copy.copy(error), copy.deepcopy(error)):
+                self.assertIs(type(other), kind)
+                self.assertEqual((str(other), other.__dict__), (str(error), error.__dict__))
+
+    def test_a_pool_of_processes_raises_the_error(self):
+        with concurrent.futures.ProcessPoolExecutor(1) as pool:
+            self.assertEqual(pool.submit(parse_chain, "ab").result(timeout=60), 2)
+            with self.assertRaises(ParseError) as caught:
+                pool.submit(parse_chain, "ac").result(timeout=60)
+        self.assertEqual((caught.exception.position, caught.exception.found), (1, "'c'"))
+
+
+class Arguments(unittest.TestCase):
+    def test_a_text_is_a_str_bytes_or_a_buffer(self):
+        grammar = Grammar("S <- .*\n")
+        for text in ("ab", b"ab", bytearray(b"ab"), memoryview(b"xab")[1:], array.array("B", b"ab")):
+            self.assertEqual(grammar.parse(text).consumed, 2)
+        with tempfile.TemporaryFile() as file:
+            file.write(b"ab")
+            file.flush()
+            with mmap.mmap(file.fileno(), 2) as mapped:
+                self.assertEqual(grammar.parse(mapped).consumed, 2)
+        for text in (pathlib.Path("ab"), 5, True, [97, 97], {97}, None):
+            self.assertRaises(TypeError, grammar.match, text)
+            self.assertRaises(TypeError, Grammar, text)
+
+    def test_options_have_types(self):
+        grammar = Grammar(CHAIN)
+        for options in ({"start": b"S"}, {"memo": 1.5}, {"memo": None}, {"steps": 2.5}, {"steps": "9"}):
+            self.assertRaises(TypeError, grammar.match, "b", **options)
+
+    def test_an_unknown_rule_is_named(self):
+        error = error_of(Grammar(CHAIN).parse("b").root.find, "X")
+        self.assertIsInstance(error, NoSuchRuleError)
+        self.assertEqual(str(error), "no rule has the name X")
+
+
+class Steps(unittest.TestCase):
+    # The predicate doubles the items of the grammar of messages, so a parse for the message takes more steps.
+    GRAMMAR = "S <- !'x' 'a' S / 'b'\n"
+
+    def test_the_second_parse_has_the_limit_too(self):
+        grammar = Grammar(self.GRAMMAR)
+        steps = grammar.match("aac", memo=0).steps
+        error = error_of(grammar.parse, "aac", memo=0, steps=steps, name="t.txt")
+        self.assertIsInstance(error, ParseError)
+        # The furthest failure counts the predicate's terminal.
+        self.assertEqual(str(error), "t.txt:1:3: expected 'x', 'a' or 'b', found 'c'\naac\n  ^")
+        self.assertEqual((error.position, error.line, error.column, error.consumed), (2, 1, 3, None))
+        self.assertEqual(error.expected, ["'x'", "'a'", "'b'"])
+        self.assertEqual(error_of(grammar.parse, "aac", memo=0).expected, ["!'x'", "'a'", "'b'"][1:])
+
+    def test_the_end_is_expected_after_a_prefix(self):
+        grammar = Grammar("S <- !'x' 'a'\n")
+        steps = grammar.match("a\xfcc", memo=0).steps
+        error = error_of(grammar.parse, "a\xfcc", memo=0, steps=steps)
+        self.assertEqual((error.expected, error.found, error.consumed), (["the end"], "'\xfc'", 1))
+
+
+class Places(unittest.TestCase):
+    def test_all_line_ends_count(self):
+        grammar = Grammar("S <- [ab\\r\\n]*\n")
+        for text, place in [("a\nb!", (2, 2)), ("a\r\nb!", (2, 2)), ("a\rb!", (2, 2)), ("\n\r\n\r!", (4, 1)), ("!", (1, 1))]:
+            error = error_of(grammar.parse, text)
+            self.assertEqual((error.line, error.column), place, text)
+
+    def test_a_place_between_cr_and_lf_is_in_their_line(self):
+        error = error_of(Grammar("S <- 'a\\r' 'x'\n").parse, "a\r\n")
+        self.assertEqual((error.line, error.column), (1, 3))
+        error = error_of(Grammar, "S <- 'a'\r\nT <- )\r\n")
+        self.assertEqual((error.line, error.column), (2, 6))
+
+    def test_names_are_shown_with_escapes(self):
+        error = error_of(Grammar, "S <- T\n", name="a\n\x1b[31m\udcff.peg")
+        self.assertTrue(str(error).startswith("a\\n\\x1b[31m\\xff.peg:1:6: no rule has the name T\n"), str(error))
+        with tempfile.TemporaryDirectory() as folder:
+            path = os.fsencode(folder) + b"/x.peg"
+            pathlib.Path(os.fsdecode(path)).write_text("S <- T\n", encoding="ascii")
+            self.assertTrue(str(error_of(Grammar.from_file, path)).startswith(f"{folder}/x.peg:1:6: "))
+
+
+class Library(unittest.TestCase):
+    def run_python(self, program, **environment):
+        """What a program in another process prints, and the last line that it reports."""
+        variables = {**os.environ, "PYTHONPATH": str(PACKAGE), **environment}
+        done = subprocess.run([sys.executable, "-c", program], env=variables, capture_output=True, text=True, check=False)
+        return done.stdout.strip(), done.stderr.strip().rpartition("\n")[2]
+
+    def test_the_system_is_asked_last(self):
+        program = (
+            "import ctypes.util\n"
+            "def asked(name): raise AssertionError('asked')\n"
+            "ctypes.util.find_library = asked\n"
+            "import pegtool; print(pegtool.Grammar(\"S <- 'a'\").rules)\n"
+        )
+        self.assertEqual(self.run_python(program), ("('S',)", ""))
+
+    def test_another_library_is_an_import_error(self):
+        for path, wanted in [("/nowhere/libpeg.so", "can't be loaded"), (sys.executable, "can't be loaded")]:
+            _, reported = self.run_python("import pegtool", PEGTOOL_LIBRARY=path)
+            self.assertTrue(reported.startswith(f"ImportError: {path} {wanted}"), reported)
+        _, reported = self.run_python("import pegtool", PEGTOOL_LIBRARY="libc.so.6")
+        self.assertEqual(reported, "ImportError: libc.so.6 is another library: it has no peg_abi")
+
+
+if __name__ == "__main__":
+    unittest.main()
