@@ -12,7 +12,9 @@ import tempfile
 from refusing import build_library, refused_runs, run
 
 TOP = pathlib.Path(__file__).resolve().parent.parent.parent
-CRATES = ["peg_library_tests"]
+CRATES = ["peg_library_tests", "peg_machine_tests"]
+# Of `peg_machine_tests` the one that calls `plain_total`: the others compare what a memo could store.
+OF_MACHINE = {"grammars::worked_texts_have_one_outcome"}
 # These compare an error, in whose place memory is reported.
 OF_ERRORS = {
     "blame::rules_are_called_outside_predicates",
@@ -21,7 +23,7 @@ OF_ERRORS = {
     "names::names_with_a_mark_are_refused",
     "refusals::names_of_rules_and_defaults_are_given",
 }
-MOST = 1_500  # allocations of a test
+MOST = 5_000  # allocations of a test
 STOPPED = b"test stopped at"
 
 
@@ -52,7 +54,8 @@ def main() -> int:
         for crate in missing:
             print(f"{crate}: not built; `rt ci` builds it")
         pairs = [(program, test) for crate, program in programs.items() if crate not in missing
-                 for test in tests_of(program) if test not in OF_ERRORS]
+                 for test in tests_of(program)
+                 if (test in OF_MACHINE if crate == "peg_machine_tests" else test not in OF_ERRORS)]
         with concurrent.futures.ThreadPoolExecutor(os.cpu_count()) as pool:
             results = list(pool.map(lambda at: judge(*pairs[at], library, f"{folder}/met-{at}"), range(len(pairs))))
     faults = len(missing)
