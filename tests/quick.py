@@ -17,11 +17,12 @@ import tempfile
 
 from cases import TOP, Case, read_cases
 
-COUNT = 300
+COUNT = 270
 MOST_BYTES = 100_000  # of a file
 SEPARATOR = b"%%\n"
 ON_GRAMMAR = {"check", "table", "code", "lint"}
 SHELL = re.compile(r"[|<>;&$`\n]|\bcd\b")
+WRITES = re.compile(r">(?! ?/dev/null|&)")
 LINE = re.compile(r"^case=(\d+) run=\w+ (?:status=(\d+) )?.*\boutput=(\w+)")
 
 
@@ -35,10 +36,11 @@ class Quick:
     file: pathlib.Path
 
 
-def shell(command: str, folder: str) -> bytes:
-    """The output of a command that doesn't need the program."""
-    return subprocess.run(["bash", "-c", command], cwd=folder, stdin=subprocess.DEVNULL, stdout=subprocess.PIPE,
-                          stderr=subprocess.DEVNULL, timeout=60, check=False).stdout
+def shell(command: str, folder: str) -> bytes | None:
+    """The output of a command that doesn't need the program; None if it reports something."""
+    done = subprocess.run(["bash", "-c", command], cwd=folder, stdin=subprocess.DEVNULL, capture_output=True, timeout=60,
+                          check=False)
+    return None if done.stderr else done.stdout
 
 
 def small(path: pathlib.Path) -> bytes:
@@ -77,6 +79,8 @@ def quick_case(case: Case, folder: str) -> tuple[bytes, list[str]] | None:
     if not before.rstrip().endswith("|"):
         return None
     stdin = shell(before.rstrip()[:-1], folder)
+    if stdin is None:
+        return None
     if words and words[0] in ON_GRAMMAR and words[1:2] == ["/dev/stdin"]:
         return stdin, [words[0], "{}", *words[2:]]
     return None if words else (stdin, [])
@@ -90,8 +94,11 @@ def quick_cases(path: pathlib.Path) -> list[Quick]:
         for case in read_cases(path.read_text(encoding="utf-8")):
             if "pegtool" not in case.command:
                 shell(case.command, folder)
-            elif (taken := quick_case(case, folder)) and not case.wanted().startswith(("pegtool: ", "error: ")):
-                found.append(Quick(*taken, case, path))
+            elif taken := quick_case(case, folder):
+                if not case.wanted().startswith(("pegtool: ", "error: ")):
+                    found.append(Quick(*taken, case, path))
+            elif WRITES.search(case.command):
+                break  # the cases below may need what this command writes
     return found
 
 
