@@ -9,7 +9,7 @@ PYTHON_PATH := $(PREFIX)/lib/python3/dist-packages
 .PHONY: help quick try run lib install dist test test-bindings fuzz fmt drawing
 
 help: ## list the targets
-	@sed -n 's/^\([a-z-]*\): ## \(.*\)/  make \1|\2/p' Makefile | column -t -s '|'
+	@sed -n 's/^\([a-z-]*\):[^#]*## \(.*\)/  make \1|\2/p' Makefile | column -t -s '|'
 
 quick: ## run several hundred cases without proofs
 	tests/quick.py

@@ -27,10 +27,10 @@ passed=${passed:-0}
 failed=${failed:-1}
 program=crates/pegtool/out/pegtool
 lanes=(growths bindings cases others)
-growths=("tests/oom/each_growth.py $program" "tests/oom/each_test.py" "tests/fuzz.py $program 2004 1000")
+growths=("tests/oom/each_growth.py $program" "tests/oom/each_test.py" "tests/fuzz.py $program 2004 3000")
 # The Python package and the comparison of warnings use the C library that the first of these builds, over what `rt ci`
 # has proved.
-bindings=("tests/bindings.sh $program --proved" "tests/python.sh $program" "tests/lint.py $program 2004 500")
+bindings=("tests/bindings.sh $program --proved" "tests/python.sh $program" "tests/lint.py $program 2004 2000")
 cases=("tests/cases.py $program" "tests/examples.py $program" "tests/explain.py $program" "tests/deep.py $program")
 others=("tests/scripts.sh" "tools/moved_tests.py" "tools/crates.py --check" "tools/contracts.py --check"
   "tools/definitions.py --check" "tools/documents.py" "tests/fuzz.py $program --examples")
