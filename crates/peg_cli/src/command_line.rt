@@ -286,19 +286,21 @@ a text. It parses the text by the grammar's first rule.
 
 A run with an answer or a refusal prints one line of JSON; `explain` prints
 messages for people instead. The exit status is:
-  0  success: matched, accepted, printed, no warnings, or help
-  1  no match, a partial match under --all, or warnings of `lint`
+  0  success: matched, accepted, printed, no warnings, all used, or help
+  1  no match, a partial match under --all, a text of `explain` that doesn't
+     match, warnings of `lint`, or something unused under --coverage
   2  the grammar is refused
   3  wrong arguments, or an unknown rule
   4  a file can't be opened or read, or the output can't be written
   5  out of memory
-  6  TooDeep, TextTooLong or StepLimit (see `pegtool parse --help`)
+  6  TooDeep, TextTooLong, StepLimit or CoverageTooLarge (see the help of `parse`
+     and `profile`)
 
 Example: pegtool parse grammar.peg text
 
 The notation beyond Ford's: any byte may be written as `\\xHH`, two hexadecimal
 digits, in literals and classes. `e{2}` is `e` twice, and `e{2,4}` two to four
-times; both numbers are required, and the second is at most 255.
+times. With a comma, both numbers are required; none is greater than 255.
 
 Two traps: `[a-]` isn't closed, as `-]` makes the bracket the end of a range;
 write `[-a]`. The greatest octal escape is `\\277`: `\\377` is `\\37` and a `7`.";

@@ -26,7 +26,7 @@ same_test a b = elim (eqb_tells a b) [ inl same ↦ same.0 ∙ sym (elim (eqb_te
 
 -- ---- parts that are built of empty expressions alone
 
--- each record matches nothing, without tests and calls
+-- each record matches the empty string, without tests and calls
 abbrev MatchNothing : (ℕ → Option Record) → Type 0
 MatchNothing take = (at : ℕ) (r : Record) → take at ≡ Some r → r ≡ matched_at at
 
@@ -164,7 +164,7 @@ module _ (rules : List grammar.Rule) (text : List ℕ) where
       core-Seq part (unfolded part min max) (take position) (λ end. recognize_repeat take min max end) position (h position)
       (λ end. core-unfolded part take h min max end)
 
-  -- a form of empty expressions alone matches nothing
+  -- a form of empty expressions alone matches the empty string
   core-all_empty : (form : CoreForm) → is_all_empty form ≡ true → (position : ℕ)
       → IsReached (Some (matched_at position)) (core form position)
   core-all_empty Empty empty position = core-Empty position

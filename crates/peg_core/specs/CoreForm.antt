@@ -55,7 +55,7 @@ is_all_empty (Star part origin) = false
 is_all_empty (Not part) = false
 
 -- How many iterations of a count are left out. If the part is built of empty expressions alone, these are the ones
--- after the first that must match: they match nothing and never fail. Of any other part none is left out.
+-- after the first that must match: they match the empty string and never fail. Of any other part none is left out.
 abbrev pub left_out : CoreForm → (min : ℕ) → ℕ
 left_out part min = if is_all_empty part then min - 1 else 0
 

@@ -32,7 +32,7 @@ use std::alloc::{AllocError, Global};
 /// Returns the core forms of a grammar (Ford 2004, section 3.2). They are in written order, rule by rule, and the forms
 /// of an expression's parts come before its own. The part of a plus or a count is added once, and each iteration names
 /// it. If the part is built of empty expressions alone, as in `''{255}`, the iterations after the first that must match
-/// are left out: they match nothing and have no code.
+/// are left out: they match the empty string and have no code.
 ///
 /// There are at most two forms for each part of the grammar's weight and each iteration of its counts. Takes time and
 /// memory linear in this number, apart from hashing. The recursion is as deep as expressions nest. The only error is a

@@ -4,7 +4,7 @@ use peg_bytes::{ByteSet, Span};
 /// A core form (Ford 2004, section 3.1) that names its parts by their numbers.
 #[derive(Clone, Copy, Debug, PartialEq, Eq)]
 pub enum Node {
-    /// The empty form: matches nothing and succeeds.
+    /// The empty form: matches the empty string and succeeds.
     Empty,
     /// Matches one byte of the set. A failed test is recorded for this terminal.
     Test { set: ByteSet, terminal: u32 },

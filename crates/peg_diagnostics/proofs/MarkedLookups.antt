@@ -22,7 +22,8 @@ pub record HasMarked (count total : ℕ) (other : List Rule) (name : List ℕ) (
   pub is_marked : copy.body ≡ mark number m.body
   pub within : number + alternatives m.body ≤ total
 
--- The name of a marker refers to a rule after the first ones, with the number of the alternative. It matches nothing.
+-- The name of a marker refers to a rule after the first ones, with the number of the alternative. It matches the empty
+-- string.
 pub record HasMarker (count : ℕ) (other : List Rule) (number : ℕ) : Type 0 where
   pub marker : Meaning
   pub span : Extent

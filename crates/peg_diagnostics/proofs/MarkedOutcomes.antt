@@ -61,7 +61,7 @@ module _ (count total : ℕ) (rules other : List Rule)
     (copied : (name : List ℕ) (m : Meaning) → meaning_of rules name ≡ Some m → HasMarked count total other name m)
     (closed : All (IsKnown (names rules)) (references rules))
     (markers : (number : ℕ) → number < total → HasMarker count other number) where
-  -- a marker matches nothing
+  -- a marker matches the empty string
   CanAll-marker : (n number : ℕ) (span : Extent) → number < total
       → CanAll (can_in other n (Name (marker_name number) span)) always_empty
   unfolding can_in

@@ -105,7 +105,7 @@ module _ (count total : ℕ) (rules other : List Rule) (text : List ℕ)
       by true = IsLike-matched_at (same_unmarked count) (position + 1)
       by false = IsLike-failed_at t T position
 
-  -- a marker matches nothing and leaves a node that is left out
+  -- a marker matches the empty string and leaves a node that is left out
   abbrev IsMarkerMatch : ℕ → Record → Type 0
   IsMarkerMatch position r =
       (trees : Trees) × (r.result ≡ Matched position trees) × (unmarked count trees ≡ NoTrees)

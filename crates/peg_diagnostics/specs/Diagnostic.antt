@@ -1,5 +1,5 @@
 -- The diagnostic grammar of rules. It recognizes the same texts, and each item that fails there also fails a test of an
--- added empty class at the item's own start. An empty class matches nothing, so the results stay the same.
+-- added empty class at the item's own start. An empty class never matches, so the results stay the same.
 use Rattle.std.specs.Prelude.{ℕ, false, List, [], ◌∷◌, ◌++◌, map, replicate, All, Contains}
 use Rattle.peg_bytes.specs.ByteSet.{Bytes}
 use Rattle.peg_bytes.specs.Extent.{Extent}

@@ -1,5 +1,6 @@
 -- The marked grammar of rules. Each alternative of a choice begins with a call of a rule of its own, its marker, which
--- matches nothing. So an alternative that matches leaves a node of its marker, and nothing else changes.
+-- matches the empty string. So an alternative that matches leaves a node of its marker. Results and spans of other nodes
+-- stay the same.
 use Rattle.std.specs.Prelude.{ℕ, ◌+◌, List, [], ◌∷◌, ◌++◌, if◌then◌else◌, nat_lt}
 use Rattle.std.specs.Fmt.{decimal}
 use Rattle.peg_bytes.specs.Extent.{Extent}
@@ -116,7 +117,7 @@ abbrev pub extents_of_alternatives : List Rule → List Extent
 extents_of_alternatives [] = []
 extents_of_alternatives (rule ∷ more) = alternative_extents rule.body ++ extents_of_alternatives more
 
--- the marker of an alternative with this extent; it matches nothing
+-- the marker of an alternative with this extent; it matches the empty string
 abbrev pub marker_rule : (number : ℕ) → Extent → Rule
 marker_rule number span = record { name = marker_name number; span = span; body = Seq End span }
 

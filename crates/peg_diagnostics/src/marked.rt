@@ -18,8 +18,8 @@ use peg_grammar::{Definition, Expr, Grammar, GrammarFault};
 use std::alloc::{AllocError, Global};
 
 /// Returns the marked grammar of a grammar. Each alternative of a choice first calls a rule of its own, its marker,
-/// which matches nothing. The rules come first, in order, and then the marker of each alternative in written order. So a
-/// tree of the marked grammar has a node of an alternative's marker where the alternative has matched.
+/// which matches the empty string. The rules come first, in order, and then the marker of each alternative in written
+/// order. So a tree of the marked grammar has a node of an alternative's marker where the alternative has matched.
 ///
 /// Linear in the weight, except for hashing. Returns `TooManyParts` if the weight of the result is over `MAX_PARTS`, and
 /// `Memory` if an allocation fails. If a rule has a name with a `!`, it can also return `Duplicate`.

@@ -10,6 +10,6 @@ use Rattle.peg_grammar.specs.declared.found.Furthest.{Furthest}
 abbrev pub furthest_in : Furthest → definition.Furthest
 furthest_in furthest = record { far = furthest.far; expected = furthest.expected.items }
 
--- the furthest failure and the nodes in a `ScannedToken`
+-- the furthest failure and the nodes in a `Found`
 abbrev pub seen_in : Found → Evaluation
 seen_in found = record { furthest = furthest_in found.furthest; rows = map row_of found.rows.items }

@@ -14,7 +14,7 @@ use Rattle.peg_json.specs.Statuses.{status_code}
 use Rattle.peg_json.specs.declared.line.Line.{Line}
 use Rattle.peg_json.specs.declared.status.Status.{Status}
 
--- the facts about a refusal other than `MemoState`, given the names of the rules
+-- the facts about a refusal other than `Memory`, given the names of the rules
 pub record IsReportable (size : ℕ) (names : List (List ℕ)) (why : Refusal) : Type 0 where
   pub reported : is_some (refusal_cause names why) ≡ true
   pub places : IfSome (refusal_cause names why) (StartsIn size)

@@ -76,7 +76,8 @@ IsPredicate (Counted part min max span) = ⊥
 IsPredicate (And part span) = Unit {0}
 IsPredicate (Not part span) = Unit {0}
 
--- An operator is without effect: `e?`, `e*`, `&e` or `!e` always matches nothing, or `e?` has the records of `e`.
+-- An operator is without effect: `e?`, `e*`, `&e` or `!e` always matches the empty string, or `e?` has the records of
+-- `e`.
 abbrev pub IsWithoutEffect : List Rule → Form → Type 0
 IsWithoutEffect rules (Literal bytes span) = ⊥
 IsWithoutEffect rules (Class set span) = ⊥

@@ -21,7 +21,7 @@ pub(crate) fn none() -> Can
     }
 }
 
-/// Returns the outcomes of an expression that always matches nothing.
+/// Returns the outcomes of an expression that always matches the empty string.
 pub(crate) fn empty() -> Can
     ensures { can_of result ≡ always_empty }
 {

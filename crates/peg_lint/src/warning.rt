@@ -6,7 +6,7 @@ use peg_bytes::Span;
 /// What a warning says of a part of a grammar.
 #[derive(Clone, Copy, Debug, PartialEq, Eq)]
 pub enum WarningKind {
-    /// A rule that the start rule never calls, directly or through other rules. The span is that of its expression.
+    /// A rule that the start rule never calls, directly or through other rules. The span is that of its name.
     UnusedRule,
     /// An alternative, an item of a sequence, or a rule's expression that fails wherever it is tried.
     NeverMatches,

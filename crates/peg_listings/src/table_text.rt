@@ -19,7 +19,7 @@ use serde::{Described, Serialize, Serializer};
 use std::alloc::{AllocError, Global};
 
 /// Returns the table of a grammar's rules as one line of JSON without its line end. Each entry says whether the rule's
-/// expression can succeed on nothing, succeed on something, and fail (Ford 2004, section 3.5).
+/// expression can match the empty string, match a byte or more, and fail (Ford 2004, section 3.5).
 ///
 /// `table` is the table of the grammar's core forms. Linear in the number of rules and the length of their names.
 pub fn table_json(

@@ -9,7 +9,7 @@ pub data StoredResult : Type 0 where
   StoredFailure : StoredResult
   StoredMatch : (end : ℕ) → (rows : List Row) → StoredResult
 
--- the result that a `ScannedToken` denotes
+-- the result that a `Found` denotes
 abbrev pub stored_of : Found → StoredResult
 stored_of Failed = StoredFailure
 stored_of (Done end nodes) = StoredMatch end (map row_of nodes.now)

@@ -19,7 +19,7 @@ pub enum Reason<'a> {
     Undefined { name: &'a str, at: u32 },
     /// The grammar has too many parts.
     TooManyParts,
-    /// The repetition at this offset, in this rule, has a part that can match nothing.
+    /// The repetition at this offset, in this rule, has a part that can match the empty string.
     EmptyLoop { rule: &'a str, at: u32 },
     /// Rules call each other before a byte is matched: each rule of the path the next, and the last the first. The
     /// first rule is defined at this offset.

@@ -80,7 +80,7 @@ RefusalNames count other = Unit {0}
 
 -- ---- how faults are converted
 
--- out of memory is `MemoState` in every stage
+-- out of memory is `Memory` in every stage
 abbrev pub of_notation : NotationFault → Refusal
 of_notation notation.Memory = refusal.Memory
 of_notation why = refusal.Notation why

@@ -1,5 +1,5 @@
--- The abstract outcomes of expressions as written (Ford 2004, section 3.5): whether an expression can succeed on
--- nothing, succeed on something, or fail, on any text. Ford's rules are extended to the sugared expressions.
+-- The abstract outcomes of expressions as written (Ford 2004, section 3.5): whether an expression can match the empty
+-- string, match a byte or more, or fail, on any text. Ford's rules are extended to the sugared expressions.
 use Rattle.std.specs.Prelude.{◌≡◌, ℕ, zero, suc, Bool, true, false, ◌&&◌, ◌||◌, List, [], ◌∷◌, Option, None, Some}
 use Rattle.peg_bytes.specs.ByteSet.{Bytes, has_some}
 use Rattle.peg_semantics.specs.Form.{Form, Forms, Literal, Class, Any, Name, Seq, Choice, Optional, Star, Plus, Counted}
@@ -28,7 +28,7 @@ consumes_or_fails = record { nothing = false; something = true; fails = true }
 abbrev pub can_of_set : Bytes → Can
 can_of_set set = record { nothing = false; something = has_some set; fails = true }
 
--- whether the expression can succeed, on nothing or on something
+-- whether the expression can succeed: match the empty string or something
 abbrev pub succeeds : Can → Bool
 succeeds can = can.nothing || can.something
 

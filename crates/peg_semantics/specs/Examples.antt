@@ -165,7 +165,7 @@ too_few_record = record { result = Failed; tests = test 1 0 ∷ []; calls = call
 abbrev pub four_record : Record
 four_record = record { result = Matched 4 (node 0 0 4 NoTrees); tests = []; calls = call_at 0 0 ∷ [] }
 
--- a triple of outcomes: succeeds on nothing, succeeds on something, fails
+-- a triple of outcomes: matches the empty string, matches a byte or more, fails
 abbrev can : (nothing something fails : Bool) → Can
 can nothing something fails = record { nothing = nothing; something = something; fails = fails }
 

@@ -39,6 +39,6 @@ after_empty_class =
 abbrev pub counted_itself : List Rule
 counted_itself = only_rule (Counted (Name (codes "A") (between 5 6)) 0 2 (between 5 11))
 
--- A <- ('x'{0,2})*: the count can match nothing
+-- A <- ('x'{0,2})*: the count can match the empty string
 abbrev pub star_of_count : List Rule
 star_of_count = only_rule (Star (Counted (Literal (codes "x") (between 6 9)) 0 2 (between 6 14)) (between 5 16))

@@ -1,5 +1,5 @@
--- Why a grammar is not well-formed (Ford 2004, section 3.6). Either it has an empty loop, which can repeat on nothing
--- forever, or a left cycle of rules that left-call each other.
+-- Why a grammar is not well-formed (Ford 2004, section 3.6). Either it has an empty loop, which can repeat on the empty
+-- string forever, or a left cycle of rules that left-call each other.
 use Rattle.std.specs.Prelude.{◌≡◌, ◌⊎◌, ℕ, Contains, List, [], ◌∷◌, ◌++◌, Some, option_map, slice_get}
 use Rattle.peg_bytes.specs.Extent.{Extent}
 use Rattle.peg_semantics.specs.AbstractOutcomes.{GivesNothing}

@@ -70,7 +70,7 @@ choice_result (Matched end trees) part other = Some part
 abbrev pub or_else : Option Record → Option Record → Option Record
 or_else tried other = option_and_then (λ part. choice_result part.result part other) tried
 
--- a star: matches nothing if the part fails; else the next iteration starts at the end of the part
+-- a star: matches the empty string if the part fails; else the next iteration starts at the end of the part
 abbrev pub star_result : Recognition → ℕ → Record → (ℕ → Option Record) → Option Record
 star_result Failed position part next = choice_result Failed part (Some (matched_at position))
 star_result (Matched end trees) position part next = then_result (Matched end trees) part next

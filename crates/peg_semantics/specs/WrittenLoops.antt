@@ -1,5 +1,5 @@
--- The stars and pluses of a rule in written order, and the first of them that can repeat on nothing (Ford 2004,
--- section 3.6). Expressions come before their parts, parts from left to right, and rules in order.
+-- The stars and pluses of a rule in written order, and the first of them that can repeat on the empty string (Ford
+-- 2004, section 3.6). Expressions come before their parts, parts from left to right, and rules in order.
 use Rattle.std.specs.Prelude.{◌≡◌, ◌⊎◌, ℕ, ◌<◌, List, [], ◌∷◌, ◌++◌, All, Option, None, Some, slice_get}
 use Rattle.peg_bytes.specs.Extent.{Extent}
 use Rattle.peg_semantics.specs.AbstractOutcomes.{GivesNothing}

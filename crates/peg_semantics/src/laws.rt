@@ -59,7 +59,7 @@ pub fn the_definitions_agree_with_hand_worked_grammars()
 {}
 
 /// The abstract outcomes agree with grammars that were worked by hand. A rule that is only itself has no outcome in any
-/// number of rounds. A star or a plus over a part that can match nothing is not well-formed.
+/// number of rounds. A star or a plus over a part that can match the empty string is not well-formed.
 pub fn the_outcomes_agree_with_hand_worked_grammars()
     ensures nested { all_can_in nested 8 ≡ nested_can }
     ensures abc_grammar { all_can_in abc_grammar 8 ≡ abc_can }

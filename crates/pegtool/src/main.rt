@@ -1,5 +1,6 @@
-//! `pegtool`: checks a grammar file, prints its table of outcomes, its code or warnings about it, or parses a text by
-//! it. Without arguments, parses a grammar file and a text from standard input.
+//! `pegtool`: checks a grammar file, prints its table of outcomes, its code or warnings about it, parses a text by it,
+//! explains where texts don't match, or profiles a parse. Without arguments, parses a grammar file and a text from
+//! standard input.
 #![tactic(auto)]
 
 use peg_tool::{Device, FileSystem, read_args, run_program};

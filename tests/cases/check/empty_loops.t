@@ -27,13 +27,13 @@ A count bounds its iterations, but the star in it doesn't.
   {"column":7,"end":9,"line":1,"refusal":"EmptyLoop","rule":"A","start":6}
   [2]
 
-The inner star has no outcome, since it never ends, so the outer one is no loop on nothing.
+The inner star has no outcome, since it never ends, so the outer one is no loop on the empty string.
 
   $ pegtool check <(printf "%s" "A <- (''*)*")
   {"column":7,"end":9,"line":1,"refusal":"EmptyLoop","rule":"A","start":6}
   [2]
 
-The first alternative succeeds on nothing, so the outer star is a loop, and it starts first.
+The first alternative matches the empty string, so the outer star is a loop, and it starts first.
 
   $ pegtool check <(printf "%s" "A <- ('' / ''*)*")
   {"column":6,"end":16,"line":1,"refusal":"EmptyLoop","rule":"A","start":5}

@@ -5,7 +5,7 @@ A rule may call itself after a byte (Ford 2004, section 3.6).
   $ pegtool check <(printf "%s" "A <- 'a' A / 'b'")
   {"result":"accepted","rules":1}
 
-It may not call itself after an expression that can match nothing, or in a later alternative.
+It may not call itself after an expression that can match the empty string, or in a later alternative.
 
   $ pegtool check <(printf "%s" "A <- B 'x'    B <- 'y'? A")
   {"path":["A","B"],"refusal":"LeftRecursion"}

@@ -12,7 +12,7 @@ Of several names that no rule has the first one in the file is reported.
   {"column":8,"end":8,"line":1,"name":"T","refusal":"Undefined","start":7}
   [2]
 
-Names are looked up in all forms; here all are found, and the star of the predicate can loop on nothing.
+Names are looked up in all forms; here all are found, and the star of the predicate can loop on the empty string.
 
   $ pegtool check <(printf "S <- [a-z]. 'xy'? (!S)* [a-z]+ &S")
   {"column":19,"end":23,"line":1,"refusal":"EmptyLoop","rule":"S","start":18}
@@ -45,7 +45,7 @@ From T the rule S is unused, and its name is at 0 to 1; from S the rule T is use
   $ pegtool lint st.peg
   {"warnings":[]}
 
-Counts don't hide a loop on nothing if the code would be too large: the loop is reported first.
+Counts don't hide a loop on the empty string if the code would be too large: the loop is reported first.
 
   $ pegtool check <(printf "S <- (((.{255}){255}){255} T{2,5})\nT <- (''{0,3})*")
   {"column":6,"end":50,"line":2,"refusal":"EmptyLoop","rule":"T","start":40}

@@ -108,7 +108,7 @@ A literal of 100,000 bytes has as many tests, the end and the return.
   $ printf "A <- '%0100000d'\n" 0 | bash size.sh
   100002
 
-The optional in a star isn't dropped, so the star loops on nothing.
+The optional in a star isn't dropped, so the star loops on the empty string.
 
   $ pegtool check <(echo "A <- (('')?)*")
   {"column":6,"end":13,"line":1,"refusal":"EmptyLoop","rule":"A","start":5}

@@ -29,7 +29,7 @@ The dot before the call consumes a byte, although the predicate before it doesn'
   $ echo "A <- !'x' . A / 'x'" | pegtool check /dev/stdin
   {"result":"accepted","rules":1}
 
-A rule that calls itself first is left-recursive, directly or after a part that can match nothing.
+A rule that calls itself first is left-recursive, directly or after a part that can match the empty string.
 
   $ echo "A <- A" | pegtool check /dev/stdin
   {"path":["A"],"refusal":"LeftRecursion"}
@@ -109,7 +109,7 @@ Of several paths the shortest one is reported, and of those the one through the 
   {"path":["A","B"],"refusal":"LeftRecursion"}
   [2]
 
-A star or plus over a part that can match nothing is an empty loop, reported with its span.
+A star or plus over a part that can match the empty string is an empty loop, reported with its span.
 
   $ echo "A <- ('a'*)*" | pegtool check /dev/stdin
   {"column":6,"end":12,"line":1,"refusal":"EmptyLoop","rule":"A","start":5}

@@ -31,7 +31,7 @@ The grammar has two rules, and no loop or recursion that doesn't consume a byte.
   $ pegtool check grammar.peg
   {"result":"accepted","rules":2}
 
-Both rules can fail or consume a byte, and neither can match nothing.
+Both rules can fail or consume a byte, and neither can match the empty string.
 
   $ pegtool table --help | grep '^Example: '
   Example: pegtool table grammar.peg

@@ -41,7 +41,7 @@ An optional fails on no text, and has nothing in place of a failure. The order i
   $ bash can {None,Nothing,Something,Fails,Maybe,Ahead,Byte,All}'?'
      -   0   1   0  01   0  01  01
 
-A star over a part that can match nothing has no end there, so it has no such outcome (Ford 2004, section 3.5).
+A star over a part that can match the empty string has no end there, so it has no such outcome (Ford 2004, section 3.5).
 
   $ bash can {None,Nothing,Something,Fails,Maybe,Ahead,Byte,All}'*'
      -   -   1   0   1   0  01  01
@@ -89,12 +89,13 @@ A choice has the matches of the first part, and if that can fail, all outcomes o
      1  01   1  1f  01 01f  1f 01f
     01  01  01 01f  01 01f 01f 01f
 
-Literals and classes fail or match something, but an empty literal matches nothing, and an empty class always fails.
+Literals and classes fail or match something, but an empty literal matches the empty string, and an empty class always
+fails.
 
   $ bash can "''" "'ab'" '[]' '[z-a]' '[a-z]' .
      0  1f   f   f  1f  1f
 
-Empty sequences match nothing, in parentheses and on both sides of a slash.
+Empty sequences match the empty string, in parentheses and on both sides of a slash.
 
   $ bash can '()' / 'Byte / / Fails'
      0   0  01

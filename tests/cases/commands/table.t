@@ -16,12 +16,12 @@ A rule that nothing calls has its entry, in the order of the file.
   $ printf "S <- 'a'\nT <- T\n" | pegtool table /dev/stdin
   {"table":[{"fails":true,"nothing":false,"rule":"S","something":true},{"fails":false,"nothing":false,"rule":"T","something":false}]}
 
-A loop on nothing has no outcome, an empty class only fails, and the end of the text consumes nothing.
+A loop on the empty string has no outcome, an empty class only fails, and the end of the text consumes nothing.
 
   $ printf "Loop <- ''*\nNone <- []\nEnd <- !.\n" | pegtool table /dev/stdin
   {"table":[{"fails":false,"nothing":false,"rule":"Loop","something":false},{"fails":true,"nothing":false,"rule":"None","something":false},{"fails":true,"nothing":true,"rule":"End","something":false}]}
 
-A right recursion can fail or consume a byte, and never matches nothing.
+A right recursion can fail or consume a byte, and never matches the empty string.
 
   $ echo "S <- 'a' S / 'b'" | pegtool table /dev/stdin
   {"table":[{"fails":true,"nothing":false,"rule":"S","something":true}]}

@@ -65,7 +65,7 @@ A rule that is called and not defined is named, at its first call.
            ^
   [2]
 
-A loop on nothing has a message with its rule, also where the lines end with CR LF.
+A loop on the empty string has a message with its rule, also where the lines end with CR LF.
 
   $ printf 'A <- B\r\nB <- ("b"*)*' > loop.peg
   $ pegtool explain loop.peg examples/json.peg

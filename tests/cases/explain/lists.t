@@ -1,5 +1,5 @@
 How explain lists what is expected: different items once, in the order of the grammar file, and at most eight. An
-optional choice matches nothing, so that the end is expected, too.
+optional choice matches the empty string, so that the end is expected, too.
 
 A grammar that is too large for its items fails by a predicate, in which no terminal fails.
 
@@ -10,7 +10,7 @@ A grammar that is too large for its items fails by a predicate, in which no term
   ^
   [1]
 
-The empty literal matches nothing, so only the end is expected at the first byte.
+The empty literal matches the empty string, so only the end is expected at the first byte.
 
   $ printf "S <- ''" > g; printf z > t
   $ pegtool explain g t

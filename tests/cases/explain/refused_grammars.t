@@ -72,7 +72,7 @@ The missing rule is shown where it is called, at column 11 of line 2.
             ^
   [2]
 
-The part of the star is optional, so the star could loop on nothing.
+The part of the star is optional, so the star could loop on the empty string.
 
   $ printf "A <- B 'x'\nB <- ('y'?)*\n" > g.peg
   $ pegtool explain g.peg

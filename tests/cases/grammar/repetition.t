@@ -57,7 +57,7 @@ No iteration is needed.
   $ printf 'y' | pegtool parse g.peg /dev/stdin --rows
   {"consumed":0,"expected":[[26,29]],"far":0,"result":"matched","rows":[[1,"A",0,0]]}
 
-A counted part may match nothing, three times at the same position.
+A counted part may match the empty string, three times at the same position.
 
   $ cat > g.peg <<'END'
   > A <- (''){3}

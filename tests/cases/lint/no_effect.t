@@ -1,7 +1,7 @@
-The warning NoEffect: an optional, a star or a predicate that always matches nothing, or an optional that changes
-nothing.
+The warning NoEffect: an optional, a star or a predicate that always matches the empty string, or an optional that
+changes nothing.
 
-The part never matches, so the optional and the star always match nothing.
+The part never matches, so the optional and the star always match the empty string.
 
   $ printf "S <- 'a' []?" | pegtool lint /dev/stdin
   {"warnings":[{"column":10,"end":12,"kind":"NoEffect","line":1,"proved":true,"rule":"S","start":9}]}

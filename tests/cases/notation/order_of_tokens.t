@@ -159,7 +159,7 @@ An expression may be empty, and comments may come before the first rule and afte
   $ printf "# first\n\nA <- 'x' # last\n" | pegtool check /dev/stdin
   {"result":"accepted","rules":1}
 
-Comments may be between any two tokens; this star of a predicate, from 13 to 52, loops on nothing.
+Comments may be between any two tokens; this star of a predicate, from 13 to 52, loops on the empty string.
 
   $ printf "A # a\n<- # b\n( # c\n'x' # d\n/ # e\n! # f\nB # g\n) # h\n* # i\nB <- ." > g.peg
   > pegtool check g.peg

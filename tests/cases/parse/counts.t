@@ -91,7 +91,7 @@ The part of a count may match the empty string, since the number of iterations i
   $ printf "A <- (''){3}" | pegtool check /dev/stdin
   {"result":"accepted","rules":1}
 
-A count from zero can match nothing, so a star over it can loop on the empty string.
+A count from zero can match the empty string, so a star over it can loop on the empty string.
 
   $ printf "A <- ('x'{0,2})*" | pegtool check /dev/stdin
   {"column":6,"end":16,"line":1,"refusal":"EmptyLoop","rule":"A","start":5}
@@ -103,7 +103,7 @@ A rule that begins with a count of itself calls itself before it consumes a byte
   {"path":["A"],"refusal":"LeftRecursion"}
   [2]
 
-A count from zero stands for nested optionals, which can match nothing or something and never fail.
+A count from zero stands for nested optionals, which can match the empty string or something and never fail.
 
   $ printf "A <- 'x'{0,2}" | pegtool table /dev/stdin
   {"table":[{"fails":false,"nothing":true,"rule":"A","something":true}]}
