@@ -160,6 +160,12 @@ void peg_grammar_free(peg_grammar *grammar);
  * Returns the length of the whole line, or 0 if the handle holds no refusal. */
 size_t peg_grammar_refusal(peg_grammar *grammar, uint8_t *out, size_t out_length);
 
+/* Copies to `out` the message that `pegtool explain` prints for a refused file, after the name of the file:
+ * `:LINE:COLUMN: SENTENCE`, the line of the file, and a caret; or `: SENTENCE`, if the refusal has no place. Each line
+ * ends with LF; there is no final null byte. If the message is longer than `out_length`, only its start is copied.
+ * Returns the length of the whole message, or 0 if the handle holds no refusal. */
+size_t peg_grammar_message(peg_grammar *grammar, uint8_t *out, size_t out_length);
+
 /* Writes the kind of a refusal, and the part of the file that it is about.
  * Returns PEG_OK, or PEG_WRONG_HANDLE if the handle holds no refusal; `out` is then unchanged. */
 uint32_t peg_grammar_refusal_info(peg_grammar *grammar, peg_refusal_info *out);

@@ -1,24 +1,19 @@
 /* lint GRAMMAR [TEXT]: says what is wrong with a grammar file, or where a text stops matching it.
- * Ends with 0 if nothing is wrong, and 1 otherwise. The message for a text is that of `pegtool explain`. */
+ * Ends with 0 if nothing is wrong, and 1 otherwise. The messages are those of `pegtool explain`. */
 #include "files.h"
 #include "peg.h"
 
 #include <inttypes.h>
 #include <string.h>
 
+/* Prints why a grammar file is refused. */
 static int report_refusal(peg_grammar *grammar, const char *path) {
-    static uint8_t line[4096];
-    peg_refusal_info info = {0, 0, 0, 0, 0};
-    peg_grammar_refusal_info(grammar, &info);
-    size_t length = peg_grammar_refusal(grammar, line, sizeof line);
-    if (length > sizeof line) {
-        length = sizeof line;
+    static uint8_t message[4096];
+    size_t length = peg_grammar_message(grammar, message, sizeof message);
+    if (length > sizeof message) {
+        length = sizeof message;
     }
-    if (info.line > 0) {
-        printf("%s:%" PRIu32 ":%" PRIu32 ": refused: %.*s\n", path, info.line, info.column, (int)length, (char *)line);
-    } else {
-        printf("%s: refused: %.*s\n", path, (int)length, (char *)line);
-    }
+    printf("%s%.*s", path, (int)length, (const char *)message);
     return 1;
 }
 

@@ -9,21 +9,6 @@ SHOWN_COLUMNS = 120
 
 LINE_END = re.compile(rb"\r\n|\r|\n")
 
-MESSAGES = {
-    "FileTooLong": "the grammar file is too long",
-    "Syntax": "this isn't in the notation of grammar files",
-    "TooNested": "too many parentheses are open here",
-    "BadCount": "this count is out of range",
-    "NoRule": "the grammar has no rule",
-    "Duplicate": "rule {name} is defined twice",
-    "Undefined": "no rule has the name {name}",
-    "TooManyParts": "the grammar has too many parts",
-    "EmptyLoop": "a repetition of rule {rule} can go on without consuming a byte",
-    "LeftRecursion": "left recursion: {path}",
-    "CodeTooLarge": "the code of the grammar is too large",
-}
-
-
 Error = TypeVar("Error", bound="PegError")
 
 
@@ -46,27 +31,26 @@ class GrammarError(PegError):
     """A grammar file is refused.
 
     `kind` names the cause as `pegtool check` does, for example "Syntax" or "LeftRecursion". `line` and `column` are the
-    position in the file, both from 1, or `None` if the cause has none; columns count bytes. `offset` is the same in
-    bytes from 0. `refusal` is the whole report of pegtool, as a dict. `str(error)` shows the line with a caret.
+    place that the message shows, both from 1, or `None` if it shows none; columns count bytes. `offset` is the same in
+    bytes from 0. `refusal` is the whole report of pegtool, as a dict. `str(error)` is the message of `pegtool explain`,
+    which says the cause and shows the line with a caret.
     """
 
-    def __init__(self, refusal: Dict[str, Any], source: bytes, name: str) -> None:
+    def __init__(self, refusal: Dict[str, Any], text: bytes, source: bytes, name: str) -> None:
         self.refusal = refusal
         self.kind: str = refusal["refusal"]
-        self.offset: Optional[int] = refusal.get("at", refusal.get("start"))
         self.path: List[str] = refusal.get("path", [])
-        if self.offset is None and self.path:
-            self.offset = definition_of(self.path[0], source)
         self.line: Optional[int] = None
         self.column: Optional[int] = None
-        words = dict(refusal, path=" -> ".join(self.path + self.path[:1]))
-        self.message = MESSAGES.get(self.kind, self.kind).format_map(words)
-        called = shown_name(name)
-        text = f"{called}: {self.message}"
-        if self.offset is not None:
-            self.line, self.column = line_and_column(source, self.offset)
-            text = f"{called}:{self.line}:{self.column}: {self.message}\n{caret_lines(source, self.offset)}"
-        super().__init__(text)
+        self.offset: Optional[int] = None
+        # The text is ":LINE:COLUMN: SENTENCE" and two lines, or ": SENTENCE".
+        place, _, rest = text.partition(b": ")
+        if place:
+            line, column = place[1:].split(b":")
+            self.line, self.column = int(line), int(column)
+            self.offset = offset_at(source, self.line, self.column)
+        self.message = rest.partition(b"\n")[0].decode("utf-8", "backslashreplace")
+        super().__init__(shown_name(name) + text.decode("utf-8", "backslashreplace").rstrip("\n"))
 
 
 class ParseError(PegError):
@@ -128,10 +112,13 @@ def line_and_column(data: bytes, position: int) -> Tuple[int, int]:
     return line, position - start + 1
 
 
-def definition_of(rule: str, source: bytes) -> Optional[int]:
-    """The offset of a rule's definition in a grammar file."""
-    found = re.search(rb"(?<![A-Za-z0-9_])" + rule.encode("ascii") + rb"(?:\s|#[^\r\n]*)*<-", source)
-    return found.start() if found else None
+def offset_at(data: bytes, line: int, column: int) -> int:
+    """The offset of a line and a column, both from 1."""
+    start = 0
+    for _ in range(line - 1):
+        found = LINE_END.search(data, start)
+        start = found.end() if found else len(data)
+    return start + column - 1
 
 
 def shown_name(name: str) -> str:

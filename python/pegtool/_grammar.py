@@ -136,7 +136,7 @@ class Grammar:
         if handle is None:
             handle = GrammarHandle(self.source)
             if handle.status == REFUSED:
-                raise GrammarError(json.loads(handle.refusal()), self.source, self.name)
+                raise GrammarError(json.loads(handle.refusal()), handle.message(), self.source, self.name)
             self._handles.handle = handle
         return handle
 

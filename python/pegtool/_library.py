@@ -60,6 +60,7 @@ DECLARATIONS = {
     "peg_grammar_read": (c_uint32, c_char_p, c_size_t, POINTER(Handle)),
     "peg_grammar_free": (None, POINTER(Handle)),
     "peg_grammar_refusal": (c_size_t, POINTER(Handle), POINTER(c_uint8), c_size_t),
+    "peg_grammar_message": (c_size_t, POINTER(Handle), POINTER(c_uint8), c_size_t),
     "peg_rule_count": (c_uint32, POINTER(Handle), POINTER(c_uint32)),
     "peg_rule_name": (c_size_t, POINTER(Handle), c_uint32, POINTER(c_uint8), c_size_t),
     "peg_parse": (
@@ -227,6 +228,10 @@ class GrammarHandle:
     def refusal(self) -> bytes:
         """The line of JSON that says why the file was refused."""
         return copied(lambda out, length: LIBRARY.peg_grammar_refusal(byref(self.raw), out, length))
+
+    def message(self) -> bytes:
+        """The message that says why the file was refused, after the name of the file."""
+        return copied(lambda out, length: LIBRARY.peg_grammar_message(byref(self.raw), out, length))
 
     def rules(self) -> Tuple[str, ...]:
         """The names of the rules, in order."""

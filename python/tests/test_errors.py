@@ -119,7 +119,7 @@ class Places(unittest.TestCase):
 
     def test_names_are_shown_with_escapes(self):
         error = error_of(Grammar, "S <- T\n", name="a\n\x1b[31m\udcff.peg")
-        self.assertTrue(str(error).startswith("a\\n\\x1b[31m\\xff.peg:1:6: no rule has the name T\n"), str(error))
+        self.assertTrue(str(error).startswith("a\\n\\x1b[31m\\xff.peg:1:6: the rule T is not defined\n"), str(error))
         with tempfile.TemporaryDirectory() as folder:
             path = os.fsencode(folder) + b"/x.peg"
             pathlib.Path(os.fsdecode(path)).write_text("S <- T\n", encoding="ascii")

@@ -37,7 +37,7 @@ class Grammars(unittest.TestCase):
                 file.write(b"S <- T\n")
             with self.assertRaises(GrammarError) as caught:
                 Grammar.from_file(path)
-            self.assertTrue(str(caught.exception).startswith(f"{path}:1:6: no rule has the name T\nS <- T\n     ^"))
+            self.assertTrue(str(caught.exception).startswith(f"{path}:1:6: the rule T is not defined\nS <- T\n     ^"))
             self.assertRaises(OSError, Grammar.from_file, os.path.join(folder, "missing"))
 
     def test_the_version_has_three_numbers(self):
@@ -55,31 +55,42 @@ class Refusals(unittest.TestCase):
         self.assertEqual((error.kind, error.offset, error.line, error.column), ("Syntax", 14, 2, 6))
         self.assertEqual(error.refusal, {"at": 14, "column": 6, "line": 2, "refusal": "Syntax"})
         self.assertEqual(
-            str(error), "<grammar>:2:6: this isn't in the notation of grammar files\nB <- )\n     ^"
+            str(error), "<grammar>:2:6: unexpected ')'\nB <- )\n     ^"
         )
 
     def test_names_are_reported(self):
         error = self.refusal("A <- 'a'\nA <- 'b'\n")
         self.assertEqual((error.kind, error.line, error.column), ("Duplicate", 2, 1))
-        self.assertEqual(error.message, "rule A is defined twice")
+        self.assertEqual(error.message, "the rule A is defined twice")
         error = self.refusal("A <- B\n")
         self.assertEqual((error.kind, error.offset), ("Undefined", 5))
 
     def test_an_empty_loop_has_its_rule(self):
         error = self.refusal("A <- ('a'*)*\n")
         self.assertEqual((error.kind, error.offset), ("EmptyLoop", 5))
-        self.assertIn("rule A", error.message)
+        self.assertEqual(error.message, "this repetition matches the empty text again and again, in A")
 
     def test_left_recursion_has_its_path_and_the_first_definition(self):
         error = self.refusal("S <- A\nA <- B 'x'\nB <- A\n")
         self.assertEqual((error.kind, error.path), ("LeftRecursion", ["A", "B"]))
         self.assertEqual(error.message, "left recursion: A -> B -> A")
-        self.assertEqual((error.line, error.column), (2, 1))
+        self.assertEqual((error.line, error.column, error.offset), (2, 1, 7))
+        # The first rule of the cycle is defined after a comment that looks like its definition.
+        error = self.refusal("S <- 'x' # A <- here\r\n/ A\r\nA <- B\r\nB <- A\r\n")
+        self.assertEqual((error.path, error.line, error.column, error.offset), (["A", "B"], 3, 1, 27))
+
+    def test_the_cause_of_a_syntax_error_is_named(self):
+        error = self.refusal("A <- 'a\\q'\n")
+        self.assertEqual(error.message, "\\q isn't an escape")
+        # The backslash is shown; the report has the start of the literal.
+        self.assertEqual((error.column, error.offset, error.refusal["at"]), (8, 7, 5))
+        error = self.refusal("A <- 'a\n")
+        self.assertEqual(str(error), "<grammar>:1:6: this literal isn't closed\nA <- 'a\n     ^")
 
     def test_a_file_that_is_too_long_has_no_position(self):
         error = self.refusal(b" " * 1_048_577)
         self.assertEqual((error.kind, error.offset, error.line), ("FileTooLong", None, None))
-        self.assertEqual(str(error), "<grammar>: the grammar file is too long")
+        self.assertEqual(str(error), "<grammar>: the grammar file is longer than 1048576 bytes")
 
 
 class Parses(unittest.TestCase):

@@ -48,6 +48,7 @@ static void null_handles_give_nothing(void) {
     CHECK(peg_rule_count(&grammar, &count) == PEG_WRONG_HANDLE && count == 9);
     CHECK(peg_rule_name(&grammar, 0, &byte, 1) == 0 && byte == 9);
     CHECK(peg_grammar_refusal(&grammar, &byte, 1) == 0 && byte == 9);
+    CHECK(peg_grammar_message(&grammar, &byte, 1) == 0 && byte == 9);
     CHECK(peg_grammar_refusal_info(&grammar, &info) == PEG_WRONG_HANDLE && info.kind == 9);
     CHECK(peg_match_summary(&match, &summary) == PEG_WRONG_HANDLE && summary.steps == 9);
     CHECK(peg_match_nodes(&match, 0, &node, 1) == 0 && node.size == 9);
@@ -87,6 +88,7 @@ static void other_handles_are_reported(void) {
     CHECK(peg_match_summary((peg_match *)&grammar, &summary) == PEG_WRONG_HANDLE && summary.nodes == 9);
     CHECK(peg_match_nodes((peg_match *)&grammar, 0, &node, 1) == 0 && node.size == 9);
     CHECK(peg_grammar_refusal(&grammar, &byte, 1) == 0 && byte == 9);
+    CHECK(peg_grammar_message(&grammar, &byte, 1) == 0 && byte == 9);
     CHECK(peg_grammar_refusal_info(&grammar, &info) == PEG_WRONG_HANDLE && info.kind == 9);
     CHECK(peg_rule_count((peg_grammar *)&match, &count) == PEG_WRONG_HANDLE && count == 9);
     peg_match_free(&match);
@@ -104,6 +106,12 @@ static void refusals_have_their_place(void) {
     const char *expected = "{\"column\":6,\"end\":15,\"line\":2,\"name\":\"B\",\"refusal\":\"Undefined\",\"start\":14}";
     size_t length = peg_grammar_refusal(&grammar, line, sizeof line);
     CHECK(length == strlen(expected) && strcmp((char *)line, expected) == 0);
+    uint8_t message[100] = {0};
+    const char *said = ":2:6: the rule B is not defined\nS <- B\n     ^\n";
+    length = peg_grammar_message(&grammar, message, sizeof message - 1);
+    CHECK(length == strlen(said) && strcmp((char *)message, said) == 0);
+    uint8_t start[6] = {0};
+    CHECK(peg_grammar_message(&grammar, start, 5) == strlen(said) && strcmp((char *)start, ":2:6:") == 0);
     CHECK(parse(&grammar, "a", "", 0, &match) == PEG_WRONG_HANDLE);
     CHECK(read_grammar("S <- S", &grammar) == PEG_REFUSED);
     CHECK(peg_grammar_refusal_info(&grammar, &info) == PEG_OK);

@@ -7,8 +7,8 @@ use Rattle.peg_tree.specs.declared.outcome.Parsed.{Parsed}
 use Rattle.peg_tree.specs.declared.outcome.Parsed.TheVariants as parsed
 use Rattle.peg_handle.specs.Answers.{IsAnswerTo}
 use Rattle.peg_handle.specs.Contents.{content_expected, content_mismatch, content_grammar, content_info, content_json}
-use Rattle.peg_handle.specs.Contents.{content_message, content_name, content_nodes, content_rules, content_spans}
-use Rattle.peg_handle.specs.Contents.{content_summary}
+use Rattle.peg_handle.specs.Contents.{content_message, content_name, content_nodes, content_reason, content_rules}
+use Rattle.peg_handle.specs.Contents.{content_spans, content_summary}
 use Rattle.peg_handle.specs.Explanations.{IsExplanationOf}
 use Rattle.peg_handle.specs.Rejections.{IsRejectionOf}
 use Rattle.peg_handle.specs.declared.content.Content.{Content}
@@ -92,6 +92,10 @@ held_name (Some content) rule = content_name content rule
 abbrev pub held_json : Option Content → List ℕ
 held_json None = []
 held_json (Some content) = content_json content
+
+abbrev pub held_reason : Option Content → List ℕ
+held_reason None = []
+held_reason (Some content) = content_reason content
 
 abbrev pub held_info : Option Content → Option RefusalInfo
 held_info None = None

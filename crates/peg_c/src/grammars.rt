@@ -1,12 +1,13 @@
 //! Calls on grammar handles.
 ghost use Rattle.std.specs.Prelude.{◌≡◌, ◌≢◌, ◌≤◌, ◌<◌, ◌↔◌, ℕ, IfSome, None, Some, length, min, slice_get};
-ghost use Rattle.peg_c.specs.Handles.{HoldsParserOf, HoldsRejectionOf, held_info, held_json, held_name, held_rules};
+ghost use Rattle.peg_c.specs.Handles.{HoldsParserOf, HoldsRejectionOf, held_info, held_json, held_name, held_reason};
+ghost use Rattle.peg_c.specs.Handles.{held_rules};
 
 use crate::handle::Handle;
 use crate::store::store;
 use peg_handle::{
     Content, DONE, OUT_OF_MEMORY, REFUSED, ReadFault, RefusalInfo, WRONG_HANDLE, copy_json_of,
-    copy_name_of, read, write_info, write_rule_count,
+    copy_name_of, copy_reason_of, read, write_info, write_rule_count,
 };
 use std::alloc::Global;
 
@@ -59,6 +60,27 @@ pub extern "C" fn peg_grammar_refusal(alloc: Global, grammar: &mut Handle, out: 
         None => 0,
         Some(content) => {
             let length = copy_json_of(&content, out);
+            *grammar = Handle::new(content);
+            length
+        }
+    }
+}
+
+/// Copies the start of the message that says why a file is rejected, after the name of the file. Returns the length of
+/// the whole message.
+#[unsafe(no_mangle)]
+pub extern "C" fn peg_grammar_message(alloc: Global, grammar: &mut Handle, out: &mut [u8]) -> usize
+    ensures kept { grammar.new.content ≡ grammar.old.content }
+    ensures length { result ≡ length (held_reason grammar.old.content) }
+    ensures copied { (place : ℕ) → place < min (length out.old) result
+        → slice_get out.new place ≡ slice_get (held_reason grammar.old.content) place }
+    ensures rest { (place : ℕ) → min (length out.old) result ≤ place
+        → slice_get out.new place ≡ slice_get out.old place }
+{
+    match grammar.take(alloc) {
+        None => 0,
+        Some(content) => {
+            let length = copy_reason_of(&content, out);
             *grammar = Handle::new(content);
             length
         }

@@ -1,4 +1,5 @@
 mod ExpectedLemmas
 mod ExplanationLemmas
 mod MappedLemmas
+pub mod RefusalCauses
 pub mod RefusalLemmas

@@ -5,12 +5,13 @@ use Rattle.peg_messages.specs.Rejections.{rejection_message}
 use Rattle.peg_messages.specs.declared.reason.Reason.{Reason}
 use Rattle.peg_messages.specs.declared.reason.Reason.TheVariants as reason
 use Rattle.peg_messages.specs.declared.rejection.Rejection.{Rejection}
+use Rattle.peg_parser.specs.Accepts.{IsRead}
 use Rattle.peg_parser.specs.Cause.{Cause, FileTooLong, Syntax, TooNested, BadCount, NoRule, Duplicate, Undefined}
 use Rattle.peg_parser.specs.Cause.{TooManyParts, EmptyLoop, LeftRecursion, CodeTooLarge}
 use Rattle.peg_parser.specs.declared.refusal.Refusal.{Refusal}
 use Rattle.peg_parser.specs.declared.refusal.Refusal.TheVariants.{NotWellFormed}
 use Rattle.peg_semantics.specs.Form.{Reference}
-use Rattle.peg_semantics.specs.Rules.{defined_at}
+use Rattle.peg_semantics.specs.Rules.{Rule, defined_at}
 
 -- where the rules of a refused grammar are defined, if the refusal has the grammar
 abbrev pub refusal_definitions : Refusal → List Reference
@@ -59,6 +60,10 @@ pub record IsRejectionOf (name file : List ℕ) (definitions : List Reference) (
 abbrev pub IsRefusalMessage : (name file : List ℕ) → (definitions : List Reference) → Cause → (message : List ℕ) → Type 0
 IsRefusalMessage name file definitions cause message =
     (rejection : Rejection) × IsRejectionOf name file definitions cause rejection × (message ≡ rejection_message rejection)
+
+-- if the cause names a left cycle, these are the rules of the file
+abbrev pub AreRulesOfCycle : (file : List ℕ) → Cause → List Rule → Type 0
+AreRulesOfCycle file cause rules = (path : List (List ℕ)) → cause ≡ LeftRecursion path → IsRead file rules
 
 -- Describes code: the message for a file of this name and a reason
 abbrev pub IsReasonMessage : (name file : List ℕ) → Reason → (message : List ℕ) → Type 0

@@ -4,22 +4,18 @@ use Rattle.std.proofs.Common.{add-one, ap, get_or, length, map, option_map, refl
 use Rattle.std.proofs.Math.Seq.{take-suc}
 use Rattle.std.proofs.lemmas.List.{map-append}
 use Rattle.std.specs.Borrow.{Bor}
+use Rattle.peg_explain.proofs.RefusalCauses.{cause-rules}
 use Rattle.peg_explain.specs.RefusalMessages.{IsRefusalMessage, refusal_definitions}
-use Rattle.peg_grammar.specs.declared.fault.GrammarFault.{GrammarFault}
-use Rattle.peg_grammar.specs.declared.fault.GrammarFault.TheVariants as grammar
 use Rattle.peg_io.specs.NamedFile.{NamedFile}
-use Rattle.peg_notation.specs.declared.fault.NotationFault.{NotationFault}
-use Rattle.peg_notation.specs.declared.fault.NotationFault.TheVariants as notation
-use Rattle.peg_parser.specs.Cause.{Cause, LeftRecursion}
-use Rattle.peg_parser.specs.Faults.{HasCause, HasDefinitionsOf, cause_of, grammar_cause, notation_cause, of_cause}
+use Rattle.peg_parser.specs.Cause.{Cause}
+use Rattle.peg_parser.specs.Faults.{HasCause, HasDefinitionsOf, cause_of, of_cause}
 use Rattle.peg_parser.specs.Faults.{out_of_memory}
 use Rattle.peg_parser.specs.Refusals.{IsRefusalOf}
 use Rattle.peg_parser.specs.declared.refusal.Refusal.{Refusal}
-use Rattle.peg_parser.specs.declared.refusal.Refusal.TheVariants as refusal
 use Rattle.peg_semantics.specs.Form.{Reference}
-use Rattle.peg_semantics.specs.Rules.{Rule, defined_at}
+use Rattle.peg_semantics.specs.Rules.{defined_at}
 use Rattle.peg_explain_files.specs.Entries.{entry_name}
-use Rattle.peg_explain_files.specs.Explained.{AreRulesOfCycle, IsAnswer, refused}
+use Rattle.peg_explain_files.specs.Explained.{IsAnswer, refused}
 use Rattle.peg_explain_files.specs.Questions.{Question}
 use Rattle.peg_explain_files.specs.declared.entry.Entry.{Entry}
 use Rattle.peg_explain_files.specs.declared.report.Report.{Report}
@@ -51,41 +47,6 @@ unwrap-name None default empty = empty
 unwrap-name (Some name) default empty = refl
 
 -- ---- refused grammar files
-
--- no other refusal names a left cycle
-no_cycle-notation : (why : NotationFault) (path : List (List ℕ)) → notation_cause why ≡ Some (LeftRecursion path) → ⊥
-no_cycle-notation notation.FileTooLong path is = cc
-no_cycle-notation (notation.Syntax at) path is = cc
-no_cycle-notation (notation.TooNested at) path is = cc
-no_cycle-notation (notation.BadCount at) path is = cc
-no_cycle-notation notation.Memory path is = cc
-
-no_cycle-grammar : (why : GrammarFault) (path : List (List ℕ)) → grammar_cause why ≡ Some (LeftRecursion path) → ⊥
-no_cycle-grammar grammar.NoRule path is = cc
-no_cycle-grammar (grammar.Duplicate name span) path is = cc
-no_cycle-grammar (grammar.Undefined name span) path is = cc
-no_cycle-grammar (grammar.BadCount span) path is = cc
-no_cycle-grammar grammar.TooManyParts path is = cc
-no_cycle-grammar grammar.Memory path is = cc
-
--- the rules of the file, for the cause of a refusal
-record HasRules (file : List ℕ) (why : Refusal) (cause : Cause) : Type 0 where
-  rules : List Rule
-  of_cycle : AreRulesOfCycle file cause rules
-  defined : refusal_definitions why ≡ map defined_at rules
-
-cause-rules : (file : List ℕ) (why : Refusal) (cause : Cause) → cause_of why ≡ Some cause → HasDefinitionsOf file why
-    → HasRules file why cause
-cause-rules file (refusal.NotWellFormed why grammar) cause is has =
-    record { rules = has.0; of_cycle = λ path cycle. has.1; defined = has.2 }
-cause-rules file (refusal.Notation why) cause is has =
-    record { rules = []; of_cycle = λ path cycle. absurd (no_cycle-notation why path (is ∙ ap Some cycle)); defined = refl }
-cause-rules file (refusal.Grammar why) cause is has =
-    record { rules = []; of_cycle = λ path cycle. absurd (no_cycle-grammar why path (is ∙ ap Some cycle)); defined = refl }
-cause-rules file refusal.CodeTooLarge cause is has =
-    record { rules = []; of_cycle = λ path cycle. absurd (cc); defined = refl }
-cause-rules file refusal.Memory cause is has =
-    record { rules = []; of_cycle = λ path cycle. absurd (cc); defined = refl }
 
 -- the message of a refusal alone answers a question
 pub refused-answer : (question : Question) (file_at : List ℕ → NamedFile) (input : Option (List ℕ)) (file name : List ℕ)

@@ -1,12 +1,12 @@
 -- What is printed for a question about texts.
 use Rattle.std.specs.Prelude.{◌≡◌, ℕ, ◌+◌, All, List, [], ◌++◌, Option, None, Some, codes, map, string_bytes, unwrap_or}
 use Rattle.std.specs.List.{flat_map}
-use Rattle.peg_explain.specs.RefusalMessages.{IsRefusalMessage}
+use Rattle.peg_explain.specs.RefusalMessages.{AreRulesOfCycle, IsRefusalMessage}
 use Rattle.peg_grammar.specs.Limits.{max_text_bytes}
 use Rattle.peg_io.specs.NamedFile.{NamedFile}
 use Rattle.peg_metagrammar.specs.Notation.{max_file_bytes}
-use Rattle.peg_parser.specs.Accepts.{Accepts, IsRead}
-use Rattle.peg_parser.specs.Cause.{Cause, LeftRecursion}
+use Rattle.peg_parser.specs.Accepts.{Accepts}
+use Rattle.peg_parser.specs.Cause.{Cause}
 use Rattle.peg_parser.specs.Refusals.{IsRefusalOf}
 use Rattle.peg_semantics.specs.Rules.{Rule, defined_at}
 use Rattle.peg_semantics.specs.Starts.{start_name}
@@ -46,10 +46,6 @@ pub record IsReportOfTexts (question : Question) (file_at : List ℕ → NamedFi
   pub reports : All (IsEntryOf file_at file rules question.style question.start question.memo question.steps) entries
   pub of_list : AreFaultEntries (unwrap_or question.list []) (list_fault list) added
   pub printed : IsReportOfEntries (entries ++ added) report
-
--- if the cause names a left cycle, these are the rules of the file
-abbrev pub AreRulesOfCycle : (file : List ℕ) → Cause → List Rule → Type 0
-AreRulesOfCycle file cause rules = (path : List (List ℕ)) → cause ≡ LeftRecursion path → IsRead file rules
 
 -- What is printed by a grammar file: the message of a refused file; or that no rule has the name of the start; or what
 -- is printed of the texts.

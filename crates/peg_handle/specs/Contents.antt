@@ -42,6 +42,13 @@ content_json (Rejected rejection) = string_bytes rejection.json
 content_json (Answered found) = []
 content_json (Explained explanation) = []
 
+-- the message of a refusal, after the name of the file; no bytes if there is no refusal
+abbrev pub content_reason : Content → List ℕ
+content_reason (Accepted grammar) = []
+content_reason (Rejected rejection) = rejection.message.items
+content_reason (Answered found) = []
+content_reason (Explained explanation) = []
+
 -- the kind and the place of a refusal
 abbrev pub content_info : Content → Option RefusalInfo
 content_info (Accepted grammar) = None

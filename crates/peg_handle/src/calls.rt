@@ -3,8 +3,8 @@ ghost use Rattle.std.specs.Prelude.{◌≡◌, ◌≢◌, ◌≤◌, ◌<◌, �
 ghost use Rattle.std.specs.Prelude.{length, min, slice_get, string_bytes};
 ghost use Rattle.peg_grammar.specs.Limits.{max_text_bytes};
 ghost use Rattle.peg_handle.specs.Answers.{IsAnswerTo};
-ghost use Rattle.peg_handle.specs.Contents.{content_info, content_json, content_name, content_nodes, content_rules};
-ghost use Rattle.peg_handle.specs.Contents.{content_spans, content_summary};
+ghost use Rattle.peg_handle.specs.Contents.{content_info, content_json, content_name, content_nodes, content_reason};
+ghost use Rattle.peg_handle.specs.Contents.{content_rules, content_spans, content_summary};
 ghost use Rattle.peg_handle.specs.Starts.{start_of_bytes, step_limit};
 ghost use Rattle.peg_parser.specs.StepLimits.{TakesMoreSteps};
 ghost use Rattle.peg_semantics.specs.Rules.{Rule};
@@ -146,6 +146,21 @@ pub fn copy_json_of(content: &Content, out: &mut [u8]) -> usize
 {
     match content {
         Content::Rejected(rejection) => copy_text(rejection.json.as_bytes(), out),
+        _ => 0,
+    }
+}
+
+/// Copies the start of a refusal's message, as much as fits, and returns the length of the whole message. The length is
+/// 0 if there is no refusal.
+pub fn copy_reason_of(content: &Content, out: &mut [u8]) -> usize
+    ensures length { result ≡ length (content_reason content.now) }
+    ensures copied { (place : ℕ) → place < min (length out.old) result
+        → slice_get out.new place ≡ slice_get (content_reason content.now) place }
+    ensures rest { (place : ℕ) → min (length out.old) result ≤ place
+        → slice_get out.new place ≡ slice_get out.old place }
+{
+    match content {
+        Content::Rejected(rejection) => copy_text(&rejection.message, out),
         _ => 0,
     }
 }

@@ -30,6 +30,8 @@ pub struct GrammarFile {
 pub struct Rejection {
     /// The line of JSON that pegtool prints, without its line end.
     pub json: String,
+    /// The message of `pegtool explain`, after the name of the file.
+    pub message: Vec<u8>,
     pub info: RefusalInfo,
 }
 

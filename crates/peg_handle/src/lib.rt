@@ -19,7 +19,7 @@ mod summary;
 
 pub use buffers::{copy_items, copy_text};
 pub use calls::{
-    copy_json_of, copy_name_of, copy_nodes_of, copy_spans_of, parse_by, write_info,
+    copy_json_of, copy_name_of, copy_nodes_of, copy_reason_of, copy_spans_of, parse_by, write_info,
     write_rule_count, write_summary,
 };
 pub use content::{Content, Explanation, FileSpan, GrammarFile, Match, Rejection};

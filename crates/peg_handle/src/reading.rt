@@ -4,7 +4,7 @@ ghost use Rattle.peg_metagrammar.specs.Notation.{max_file_bytes};
 ghost use Rattle.peg_handle.specs.ReadFaults.{IsRejectedBy};
 ghost use Rattle.peg_handle.specs.Rejections.{IsRejectionOf};
 ghost use Rattle.peg_parser.specs.Accepts.{Accepts};
-ghost use Rattle.peg_parser.specs.Faults.{HasCause, RefusalMeaning};
+ghost use Rattle.peg_parser.specs.Faults.{HasCause, HasDefinitionsOf, RefusalMeaning};
 ghost use Rattle.peg_parser.specs.Parser.{parser_rules};
 ghost use Rattle.peg_parser.specs.Refusals.{IsRefusalOf};
 
@@ -73,6 +73,7 @@ fn rejection(alloc: Global, file: &[u8], refusal: &Refusal) -> Result<Rejection,
     requires short { length file.now ≤ max_file_bytes }
     requires cause { HasCause (IsRefusalOf file.now) (length file.now) refusal.now }
     requires meaning { RefusalMeaning file.now refusal.now }
+    requires definitions { HasDefinitionsOf file.now refusal.now }
     requires not_memory { refusal.now ≢ Refusal.Memory }
     ensures { IfOk result (IsRejectionOf file.now) }
 {

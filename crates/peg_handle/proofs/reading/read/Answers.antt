@@ -5,3 +5,6 @@ rejection-requires-clause-cause c = c.in-Err.ensures.refused
 
 pub rejection-requires-clause-meaning : goal.rejection-requires-clause-meaning
 rejection-requires-clause-meaning c = c.in-Err.ensures.wrong
+
+pub rejection-requires-clause-definitions : goal.rejection-requires-clause-definitions
+rejection-requires-clause-definitions c = c.in-Err.ensures.definitions

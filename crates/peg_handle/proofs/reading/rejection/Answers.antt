@@ -10,4 +10,4 @@ rejection_for-requires-clause-true_refusal c =
 pub returns : goal.returns
 returns c =
     is_rejection_ok c.args.file.now c.args.refusal.now c.rejection_for.result c.requires.cause c.requires.meaning
-    c.requires.not_memory c.rejection_for.ensures
+    c.requires.definitions c.requires.not_memory c.rejection_for.ensures.reports c.rejection_for.ensures.message
