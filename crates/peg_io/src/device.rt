@@ -1,10 +1,11 @@
 //! Byte sources, byte sinks, and `Device`, which remembers a failed call.
 ghost use Rattle.std.specs.Prelude.{◌≡◌, ℕ, ◌<◌, ◌≤◌, Bool, true};
-ghost use Rattle.std.specs.Prelude.{false, List, Option, length, is_ok, IfOk, if◌then◌else◌};
+ghost use Rattle.std.specs.Prelude.{false, List, Option, length, is_ok, is_some, IfOk, if◌then◌else◌};
 ghost use Rattle.std.specs.Io.KnownBytes.{ReadConsumes, WriteAppends};
+ghost use Rattle.std.specs.declared.io.ErrorKind.{ErrorKind};
 
 use crate::retry::{read_again, write_again};
-use std::io::{Read, Write};
+use std::io::{ErrorKind, Read, Write};
 use thiserror::Error;
 
 /// A read or a write failed.
@@ -19,6 +20,9 @@ pub trait Source {
 
     // whether a read has failed
     ghost failed: { Self → Bool };
+
+    // the kind of the error of the last read that failed
+    ghost fault_kind: { Self → Option ErrorKind };
 
     // whether the source specifies that no read fails
     ghost never_fails: { Self → Bool } = { λ _. false };
@@ -35,6 +39,11 @@ pub trait Source {
     /// Returns whether a read has failed.
     fn failed(&self) -> bool
         ensures { result ≡ failed self.now };
+
+    /// Returns the kind of the error of the last read that failed, if one has failed.
+    fn fault_kind(&self) -> Option<ErrorKind>
+        ensures kind { result ≡ fault_kind self.now }
+        ensures failed { is_some result ≡ failed self.now };
 }
 
 /// A sink for bytes. Once a write has failed, `failed` returns true from then on.
@@ -44,6 +53,9 @@ pub trait Sink {
 
     // whether a write has failed
     ghost failed: { Self → Bool };
+
+    // the kind of the error of the last write that failed
+    ghost fault_kind: { Self → Option ErrorKind };
 
     /// Writes a nonempty prefix of `piece` and returns its length. On an error no byte is written.
     fn write(&mut self, piece: &[u8]) -> Result<usize, DeviceFault>
@@ -56,6 +68,12 @@ pub trait Sink {
     /// Returns whether a write has failed.
     fn failed(&self) -> bool
         ensures { result ≡ failed self.now };
+
+    /// Returns the kind of the error of the last write that failed, if one has failed. It is `BrokenPipe` if the reader
+    /// of a pipe is gone.
+    fn fault_kind(&self) -> Option<ErrorKind>
+        ensures kind { result ≡ fault_kind self.now }
+        ensures failed { is_some result ≡ failed self.now };
 }
 
 /// A standard reader or writer that remembers whether a call has failed. A call that a signal interrupts is repeated. A
@@ -63,12 +81,12 @@ pub trait Sink {
 #[derive(Drop)]
 pub struct Device<D> {
     inner: D,
-    fault: Option<DeviceFault>,
+    fault: Option<ErrorKind>,
 }
 
 impl<D> Device<D> {
-    ghost use Rattle.std.specs.Prelude.{◌≡◌, true, false};
-    ghost use Rattle.peg_io.specs.Device.{inner_of, has_failed};
+    ghost use Rattle.std.specs.Prelude.{◌≡◌, Some, true, false};
+    ghost use Rattle.peg_io.specs.Device.{device_fault, inner_of, has_failed};
 
     /// Returns a device over `inner` that has not failed.
     pub fn new(inner: D) -> Device<D>
@@ -85,49 +103,62 @@ impl<D> Device<D> {
     }
 
     // Records the failure and returns the error.
-    fn fail(&mut self) -> DeviceFault
+    fn fail(&mut self, kind: ErrorKind) -> DeviceFault
         ensures inner { inner_of self.new ≡ inner_of self.old }
         ensures failed { has_failed self.new ≡ true }
+        ensures kind { device_fault self.new ≡ Some kind }
     {
-        self.fault = Some(DeviceFault);
+        self.fault = Some(kind);
         DeviceFault
     }
 }
 
 impl<D: Read> Source for Device<D> {
-    ghost use Rattle.peg_io.specs.Device.{inner_of, has_failed};
+    ghost use Rattle.peg_io.specs.Device.{device_fault, inner_of, has_failed};
 
     ghost left = { λ device. D.remaining (inner_of device) };
 
     ghost failed = { has_failed };
 
+    ghost fault_kind = { device_fault };
+
     fn read(&mut self, piece: &mut [u8]) -> Result<usize, DeviceFault> {
         match read_again(&mut self.inner, piece) {
             Ok(count) => Ok(count),
-            Err(_) => Err(self.fail()),
+            Err(kind) => Err(self.fail(kind)),
         }
     }
 
     fn failed(&self) -> bool {
         self.has_failed()
     }
+
+    fn fault_kind(&self) -> Option<ErrorKind> {
+        self.fault
+    }
 }
 
 impl<D: Write> Sink for Device<D> {
-    ghost use Rattle.peg_io.specs.Device.{inner_of, has_failed};
+    ghost use Rattle.peg_io.specs.Device.{device_fault, inner_of, has_failed};
 
     ghost written = { λ device. D.contents (inner_of device) };
 
     ghost failed = { has_failed };
 
+    ghost fault_kind = { device_fault };
+
     fn write(&mut self, piece: &[u8]) -> Result<usize, DeviceFault> {
         match write_again(&mut self.inner, piece) {
             Ok(count) => Ok(count),
-            Err(_) => Err(self.fail()),
+            Err(kind) => Err(self.fail(kind)),
         }
     }
 
     fn failed(&self) -> bool {
         self.has_failed()
+    }
+
+    fn fault_kind(&self) -> Option<ErrorKind> {
+        self.fault
     }
 }

@@ -3,14 +3,14 @@ ghost use Rattle.std.specs.Prelude.{◌≡◌, ◌↔◌, ◌<◌, ◌≤◌, le
 ghost use Rattle.std.specs.Io.KnownBytes.{ReadConsumes, WriteAppends};
 ghost use Rattle.std.specs.IoError.{error_kind};
 
-use crate::device::DeviceFault;
 use std::io::{Error, ErrorKind, Read, Write};
 
 // The number of interruptions in a row after which a call counts as failed. So a call always ends.
 const MAX_INTERRUPTIONS: u32 = 1_000_000;
 
-/// Reads bytes into the start of `piece` and returns their number. If a signal interrupts the read, it is repeated.
-pub(crate) fn read_again<D: Read>(inner: &mut D, piece: &mut [u8]) -> Result<usize, DeviceFault>
+/// Reads bytes into the start of `piece` and returns their number, or the kind of the error. If a signal interrupts the
+/// read, it is repeated.
+pub(crate) fn read_again<D: Read>(inner: &mut D, piece: &mut [u8]) -> Result<usize, ErrorKind>
     requires { 0 < length piece.old }
     ensures bound { IfOk result (λ count. count ≤ length piece.new) }
     ensures bytes { ReadConsumes (D.remaining inner.old) (D.remaining inner.new) result piece.new }
@@ -20,17 +20,17 @@ pub(crate) fn read_again<D: Read>(inner: &mut D, piece: &mut [u8]) -> Result<usi
             Ok(count) => return Ok(count),
             Err(error) => {
                 if !is_interruption(&error) {
-                    return Err(DeviceFault);
+                    return Err(error.kind());
                 }
             }
         }
     }
-    Err(DeviceFault)
+    Err(ErrorKind::Interrupted)
 }
 
-/// Writes a nonempty prefix of `piece` and returns its length. If a signal interrupts the write, it is repeated. A write
-/// of 0 bytes is a failure.
-pub(crate) fn write_again<D: Write>(inner: &mut D, piece: &[u8]) -> Result<usize, DeviceFault>
+/// Writes a nonempty prefix of `piece` and returns its length, or the kind of the error. If a signal interrupts the
+/// write, it is repeated. A write of 0 bytes is a failure.
+pub(crate) fn write_again<D: Write>(inner: &mut D, piece: &[u8]) -> Result<usize, ErrorKind>
     requires { 0 < length piece.now }
     ensures bound { IfOk result (λ count. count ≤ length piece.now) }
     ensures some { IfOk result (λ count. 0 < count) }
@@ -38,16 +38,16 @@ pub(crate) fn write_again<D: Write>(inner: &mut D, piece: &[u8]) -> Result<usize
 {
     'tries: for _ in 0..MAX_INTERRUPTIONS {
         match inner.write(piece) {
-            Ok(0) => return Err(DeviceFault),
+            Ok(0) => return Err(ErrorKind::WriteZero),
             Ok(count) => return Ok(count),
             Err(error) => {
                 if !is_interruption(&error) {
-                    return Err(DeviceFault);
+                    return Err(error.kind());
                 }
             }
         }
     }
-    Err(DeviceFault)
+    Err(ErrorKind::Interrupted)
 }
 
 fn is_interruption(error: &Error) -> bool

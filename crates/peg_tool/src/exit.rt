@@ -1,5 +1,6 @@
 //! The program from its arguments to its exit.
-ghost use Rattle.std.specs.Prelude.{◌≡◌, ℕ, ◌<◌, ◌≤◌, true, false, List, length, drop, Result, Ok, Err, IfOk, IfErr, IsErrAnd};
+ghost use Rattle.std.specs.Prelude.{◌≡◌, ◌≢◌, ℕ, ◌<◌, ◌≤◌, true, false, [], List, length, drop, Result, Ok, Err, IfOk};
+ghost use Rattle.std.specs.Prelude.{IfErr, IsErrAnd, Some};
 ghost use Rattle.std.specs.Vec.Iter.{into_iter_items};
 ghost use Rattle.peg_cli.specs.Words.{IsAsking};
 ghost use Rattle.peg_tool.specs.Exits.{IsArgsFault, IsExitOf, exit_message, exit_of, exit_status, explanation_exit, words_exit};
@@ -53,6 +54,19 @@ impl Exit {
             Exit::Reported { faults, .. } => faults,
             Exit::Usage { text } => text,
             Exit::Fault { fault } => fault.message(),
+        }
+    }
+
+    /// Returns the text that the program prints on standard error after it wrote to this output; it may be empty. It is
+    /// empty if the reader of the output is gone, as in `pegtool parse G T | head -c 1`: the status alone reports that.
+    pub fn message_after<W: Sink>(&self, output: &W) -> &str
+        ensures unread { W.fault_kind output.now ≡ Some ErrorKind.BrokenPipe → result.now ≡ [] }
+        ensures message { W.fault_kind output.now ≢ Some ErrorKind.BrokenPipe → result.now ≡ exit_message self.now }
+    {
+        if output.fault_kind() == Some(ErrorKind::BrokenPipe) {
+            ""
+        } else {
+            self.message()
         }
     }
 

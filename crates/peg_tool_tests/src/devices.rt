@@ -1,11 +1,12 @@
 //! Runs whose input or output fails in mid-stream.
-ghost use Rattle.std.specs.Prelude.{◌≡◌, None, false};
+ghost use Rattle.std.specs.Prelude.{◌≡◌, None, is_some};
 
 use peg_fixtures::grammars::COUNTS;
 use peg_tool::{
     Command, DeviceFault, Nodes, ParseOptions, Sink, Source, ToolFault, run_joined, run_tool,
 };
 use std::alloc::Global;
+use std::io::ErrorKind;
 use std::process::Abort;
 use std::test::Fail;
 
@@ -15,18 +16,18 @@ struct ShortReader {
     bytes: &'static [u8],
     at: usize,
     breaks_at: usize,
-    broken: bool,
+    fault: Option<ErrorKind>,
 }
 
 impl ShortReader {
     fn new(bytes: &'static [u8], breaks_at: usize) -> ShortReader
-        ensures { result.broken ≡ false }
+        ensures { result.fault ≡ None }
     {
         ShortReader {
             bytes,
             at: 0,
             breaks_at,
-            broken: false,
+            fault: None,
         }
     }
 }
@@ -34,11 +35,13 @@ impl ShortReader {
 impl Source for ShortReader {
     ghost left = { λ _. None };
 
-    ghost failed = { λ source. source.broken };
+    ghost failed = { λ source. is_some source.fault };
+
+    ghost fault_kind = { λ source. source.fault };
 
     fn read(&mut self, piece: &mut [u8]) -> Result<usize, DeviceFault> {
         if self.at >= self.breaks_at {
-            self.broken = true;
+            self.fault = Some(ErrorKind::UnexpectedEof);
             return Err(DeviceFault);
         }
         if self.at >= self.bytes.len() {
@@ -50,7 +53,11 @@ impl Source for ShortReader {
     }
 
     fn failed(&self) -> bool {
-        self.broken
+        self.fault.is_some()
+    }
+
+    fn fault_kind(&self) -> Option<ErrorKind> {
+        self.fault
     }
 }
 
@@ -59,17 +66,17 @@ impl Source for ShortReader {
 struct FailingWriter {
     taken: Vec<u8>,
     breaks_at: usize,
-    broken: bool,
+    fault: Option<ErrorKind>,
 }
 
 impl FailingWriter {
     fn new(alloc: Global, breaks_at: usize) -> FailingWriter
-        ensures { result.broken ≡ false }
+        ensures { result.fault ≡ None }
     {
         FailingWriter {
             taken: Vec::new(alloc),
             breaks_at,
-            broken: false,
+            fault: None,
         }
     }
 }
@@ -77,18 +84,24 @@ impl FailingWriter {
 impl Sink for FailingWriter {
     ghost written = { λ _. None };
 
-    ghost failed = { λ sink. sink.broken };
+    ghost failed = { λ sink. is_some sink.fault };
+
+    ghost fault_kind = { λ sink. sink.fault };
 
     fn write(&mut self, piece: &[u8]) -> Result<usize, DeviceFault> {
         if self.taken.len() >= self.breaks_at || self.taken.push(piece[0]).is_err() {
-            self.broken = true;
+            self.fault = Some(ErrorKind::BrokenPipe);
             return Err(DeviceFault);
         }
         Ok(1)
     }
 
     fn failed(&self) -> bool {
-        self.broken
+        self.fault.is_some()
+    }
+
+    fn fault_kind(&self) -> Option<ErrorKind> {
+        self.fault
     }
 }
 

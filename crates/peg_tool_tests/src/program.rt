@@ -1,5 +1,5 @@
 //! Runs of the program for its arguments that run out of memory, and help of any bytes.
-ghost use Rattle.std.specs.Prelude.{◌≡◌, Some, true, false};
+ghost use Rattle.std.specs.Prelude.{◌≡◌, None, Some, true, false};
 
 use peg_tool::{
     Device, DeviceFault, OpenFault, Opener, Source, Words, read_args, run_program, run_words,
@@ -18,6 +18,8 @@ impl Source for Held {
 
     ghost failed = { λ _. false };
 
+    ghost fault_kind = { λ _. None };
+
     ghost never_fails = { λ _. true };
 
     fn read(&mut self, piece: &mut [u8]) -> Result<usize, DeviceFault> {
@@ -29,6 +31,10 @@ impl Source for Held {
 
     fn failed(&self) -> bool {
         false
+    }
+
+    fn fault_kind(&self) -> Option<ErrorKind> {
+        None
     }
 }
 

@@ -19,6 +19,6 @@ fn main(rt: HostRuntime) -> ExitCode {
         words,
     );
     // The exit status reports a fault too, so a failed print is ignored.
-    let _ = rt.eprint(exit.message());
+    let _ = rt.eprint(exit.message_after(&output));
     ExitCode::from(exit.status())
 }

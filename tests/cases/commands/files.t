@@ -88,30 +88,39 @@ A device that is full takes no byte of the output of any command.
   pegtool: file fault
   [4]
 
-A pipe that nobody reads takes none either, and the signal for it doesn't end the program.
+A pipe that nobody reads takes none either, and the signal for it doesn't end the program. As with other filters,
+nothing is said of it: the status is that of a file that can't be written.
 
   $ cat > unread <<'END'
   > mkfifo pipe; exec 3<> pipe 4> pipe 3>&-; rm pipe
   > pegtool "$@" >&4
   > END
   $ bash unread --help
-  pegtool: file fault
   [4]
 
   $ bash unread check examples/json.peg
-  pegtool: file fault
   [4]
 
   $ bash unread table examples/json.peg
-  pegtool: file fault
   [4]
 
   $ bash unread code examples/json.peg
-  pegtool: file fault
   [4]
 
   $ bash unread parse examples/json.peg examples/json/match_object.txt
-  pegtool: file fault
+  [4]
+
+  $ bash unread lint examples/json.peg
+  [4]
+
+  $ bash unread profile examples/json.peg examples/json/match_object.txt
+  [4]
+
+  $ bash unread profile examples/json.peg --coverage examples/json/match_object.txt
+  [4]
+
+  $ echo '[1' > open.json
+  $ bash unread explain examples/json.peg open.json
   [4]
 
 Where a write fails later, the file has the first part of the line, here 1024 bytes of it.
