@@ -383,8 +383,9 @@ has this form:
 
 The position is the furthest failure outside predicates, where a predicate fails at
 its own start. Columns count bytes from 1. A class or dot is written as the name of
-its rule if the rule was called at the position. Without texts, only the grammar is
-checked. A refused grammar has a message with its place and cause.
+its rule if it failed in a call of the rule that starts at the position. Without
+texts, only the grammar is checked. A refused grammar has a message with its place
+and cause.
 
 Status: 0 all texts match; 1 some text doesn't; 2 the grammar is refused; 3 wrong
 arguments, or an unknown rule; 4 a file can't be opened or read (standard error

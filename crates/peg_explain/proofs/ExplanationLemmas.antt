@@ -4,27 +4,32 @@ use Rattle.peg_blame.specs.BlameOutcome.{IsBlameOutcome}
 use Rattle.peg_grammar.specs.Outcomes.{IsParseOutcome}
 use Rattle.peg_semantics.specs.Rules.{Rule}
 use Rattle.peg_tree.specs.declared.outcome.Outcome.{Outcome}
-use Rattle.peg_explain.specs.Explanations.{HasNoBlameParser, IsExplained, IsExplanation, IsMismatchIn, IsMismatchMessage}
-use Rattle.peg_explain.specs.Explanations.{ItemFacts, by_blame, by_tests, facts_by_blame, facts_by_tests}
+use Rattle.peg_explain.specs.Explanations.{AreRestsFor, HasNoBlameParser, IsExplained, IsExplanation, IsMismatchIn}
+use Rattle.peg_explain.specs.Explanations.{IsMismatchMessage, ItemFacts, by_blame, by_tests, facts_by_blame}
+use Rattle.peg_explain.specs.Explanations.{facts_by_tests}
 use Rattle.peg_explain.specs.declared.mismatch.Mismatch.{Mismatch}
+use Rattle.peg_explain.specs.declared.names.Rest.{Rest}
 use Rattle.peg_explain.specs.declared.style.ItemStyle.{ItemStyle}
 
 -- what is said by a blame
-pub blame-explains : (rules : List Rule) (text : List ℕ) (found : Option (List ℕ)) (outcome : Outcome)
-    (Says : ItemFacts → Outcome → Type 0) → IfSome found (λ start. IsBlameOutcome rules text start outcome)
+pub blame-explains : (file : List ℕ) (rules : List Rule) (style : ItemStyle) (text : List ℕ) (found : Option (List ℕ))
+    (outcome : Outcome) (Says : ItemFacts → Outcome → Type 0)
+    → IfSome found (λ start. IsBlameOutcome rules text start outcome)
     → ((start : List ℕ) → found ≡ Some start → (is : IsBlameOutcome rules text start outcome)
-    → Says (facts_by_blame rules is.blame) outcome)
-    → IfSome found (λ start. IsExplained rules text start Says)
-blame-explains rules text None outcome Says blamed says = tt
-blame-explains rules text (Some start) outcome Says blamed says = by_blame outcome blamed (says start refl blamed)
+    → (rests : List Rest) × AreRestsFor file rules style text outcome is.blame.calls rests
+    × Says (facts_by_blame rules rests) outcome)
+    → IfSome found (λ start. IsExplained file rules style text start Says)
+blame-explains file rules style text None outcome Says blamed says = tt
+blame-explains file rules style text (Some start) outcome Says blamed says =
+    let said = says start refl blamed in by_blame outcome blamed said.0 said.1 said.2
 
 -- the same for the outcome of a parse
-pub tests-explain : (rules : List Rule) (text : List ℕ) (found : Option (List ℕ)) (outcome : Outcome)
-    (Says : ItemFacts → Outcome → Type 0) → HasNoBlameParser rules
+pub tests-explain : (file : List ℕ) (rules : List Rule) (style : ItemStyle) (text : List ℕ) (found : Option (List ℕ))
+    (outcome : Outcome) (Says : ItemFacts → Outcome → Type 0) → HasNoBlameParser rules
     → IfSome found (λ start. IsParseOutcome rules text start outcome)
-    → Says (facts_by_tests rules) outcome → IfSome found (λ start. IsExplained rules text start Says)
-tests-explain rules text None outcome Says lacks parsed says = tt
-tests-explain rules text (Some start) outcome Says lacks parsed says = by_tests outcome lacks parsed says
+    → Says (facts_by_tests rules) outcome → IfSome found (λ start. IsExplained file rules style text start Says)
+tests-explain file rules style text None outcome Says lacks parsed says = tt
+tests-explain file rules style text (Some start) outcome Says lacks parsed says = by_tests outcome lacks parsed says
 
 -- the message for the mismatch in a text is its explanation
 pub message-explains : (file : List ℕ) (rules : List Rule) (style : ItemStyle) (name text : List ℕ)
@@ -33,8 +38,8 @@ pub message-explains : (file : List ℕ) (rules : List Rule) (style : ItemStyle)
     → IsMismatchMessage file rules style name text mismatch message
     → IfSome found (λ start. IsExplanation file rules style name text start (Some message))
 message-explains file rules style name text None mismatch message is written = tt
-message-explains file rules style name text (Some start) mismatch message (by_blame outcome blamed says) written =
-    by_blame outcome blamed (mismatch, says, written)
+message-explains file rules style name text (Some start) mismatch message (by_blame outcome blamed rests are says) written =
+    by_blame outcome blamed rests are (mismatch, says, written)
 message-explains file rules style name text (Some start) mismatch message (by_tests outcome lacks parsed says) written =
     by_tests outcome lacks parsed (mismatch, says, written)
 
@@ -43,7 +48,7 @@ pub no_message-explains : (file : List ℕ) (rules : List Rule) (style : ItemSty
     (found : Option (List ℕ)) → IfSome found (λ start. IsMismatchIn file rules style text start None)
     → IfSome found (λ start. IsExplanation file rules style name text start None)
 no_message-explains file rules style name text None is = tt
-no_message-explains file rules style name text (Some start) (by_blame outcome blamed says) =
-    by_blame outcome blamed says
+no_message-explains file rules style name text (Some start) (by_blame outcome blamed rests are says) =
+    by_blame outcome blamed rests are says
 no_message-explains file rules style name text (Some start) (by_tests outcome lacks parsed says) =
     by_tests outcome lacks parsed says

@@ -2,7 +2,8 @@
 use Rattle.std.specs.Prelude.{ℕ, false, if◌then◌else◌, List, [], None, map, take}
 use Rattle.peg_bytes.specs.Extent.{Extent}
 use Rattle.peg_tree.specs.declared.outcome.Outcome.{Outcome}
-use Rattle.peg_explain.specs.Explanations.{ItemFact, max_items, numbered_extent}
+use Rattle.peg_explain.specs.Explanations.{ItemFact, max_items}
+use Rattle.peg_explain.specs.Names.{numbered_extent}
 use Rattle.peg_explain.specs.Reports.{are_items_expected}
 
 -- the spans with these numbers

@@ -1,12 +1,11 @@
 -- The explanation of a text: the message for the outcome of its parse.
 use Rattle.std.specs.Prelude.{◌≡◌, ◌≢◌, ◌⊎◌, ℕ, Bool, true, false, not, ◌==◌, ◌&&◌, ◌||◌, if◌then◌else◌, List, []}
 use Rattle.std.specs.Prelude.{Option, None, Some, length, map, min, option_map, slice_get, slice_index, slice_index_or, take}
-use Rattle.peg_blame.specs.BlameCalls.{is_called}
 use Rattle.peg_blame.specs.BlameOutcome.{IsBlameOutcome}
 use Rattle.peg_blame.specs.Faults.{IsBlameRefusal}
 use Rattle.peg_blame.specs.declared.fault.BlameFault.{BlameFault}
 use Rattle.peg_blame.specs.declared.fault.BlameFault.TheVariants.{Memory}
-use Rattle.peg_bytes.specs.Extent.{Extent, between, extent}
+use Rattle.peg_bytes.specs.Extent.{Extent, extent}
 use Rattle.peg_diagnostics.specs.Diagnostic.{diagnostic_rules}
 use Rattle.peg_diagnostics.specs.Items.{extents_of_items, rules_of_items}
 use Rattle.peg_grammar.specs.Outcomes.{IsParseOutcome}
@@ -14,12 +13,14 @@ use Rattle.peg_messages.specs.Failures.{failure_message}
 use Rattle.peg_messages.specs.declared.failure.Failure.{Failure}
 use Rattle.peg_messages.specs.declared.items.Item.{Item}
 use Rattle.peg_parser.specs.StepLimits.{TakesMoreSteps}
-use Rattle.peg_semantics.specs.Record.{Record, RuleCall}
+use Rattle.peg_semantics.specs.Record.{RuleCall}
 use Rattle.peg_semantics.specs.Rules.{Rule, names}
 use Rattle.peg_semantics.specs.Terminals.{extents_of_terminals}
 use Rattle.peg_tree.specs.declared.outcome.Outcome.{Outcome}
+use Rattle.peg_explain.specs.Names.{AreRests, is_class_or_dot, numbered_extent, stands_for}
 use Rattle.peg_explain.specs.declared.mismatch.ExpectedItem.{ExpectedItem}
 use Rattle.peg_explain.specs.declared.mismatch.Mismatch.{Mismatch}
+use Rattle.peg_explain.specs.declared.names.Rest.{Rest}
 use Rattle.peg_explain.specs.declared.style.ItemStyle.{ItemStyle}
 use Rattle.peg_explain.specs.Reports.{are_items_expected, is_end_expected, is_whole_match, named_position}
 
@@ -27,21 +28,25 @@ use Rattle.peg_explain.specs.Reports.{are_items_expected, is_end_expected, is_wh
 unfoldable pub max_items : ℕ
 max_items = 65536
 
+-- the most items that can be named
+unfoldable pub max_named : ℕ
+max_named = 64
+
 -- What is known of the items that a message can name: the extent of each in the grammar file, the number of the rule
--- of each, and the calls outside predicates.
+-- of each, and the outcomes of the rest of the text from rules that are called at the position.
 pub record ItemFacts : Type 0 where
   pub extents : List Extent
   pub rules : List ℕ
-  pub calls : List RuleCall
+  pub rests : List Rest
 
 -- what is known by a blame
-abbrev pub facts_by_blame : List Rule → (blame : Record) → ItemFacts
-facts_by_blame rules blame =
-    record { extents = extents_of_items rules; rules = rules_of_items rules; calls = blame.calls }
+abbrev pub facts_by_blame : List Rule → List Rest → ItemFacts
+facts_by_blame rules rests =
+    record { extents = extents_of_items rules; rules = rules_of_items rules; rests = rests }
 
 -- what is known by the failed tests of terminals: neither their rules nor which calls are outside predicates
 abbrev pub facts_by_tests : List Rule → ItemFacts
-facts_by_tests rules = record { extents = extents_of_terminals rules; rules = []; calls = [] }
+facts_by_tests rules = record { extents = extents_of_terminals rules; rules = []; rests = [] }
 
 -- ---- what is expected
 
@@ -54,54 +59,42 @@ pub record ItemFact : Type 0 where
 abbrev pub fact_of : ExpectedItem → ItemFact
 fact_of item = record { extent = extent item.span; rule = item.rule; is_named = item.is_named }
 
--- the extent with a number
-abbrev pub numbered_extent : List Extent → (number : ℕ) → Extent
-numbered_extent extents number = slice_index_or extents number (between 0 0)
+-- whether the rule of an item is known and stands for the item
+abbrev pub is_named_after : List Rest → Option ℕ → (item : ℕ) → Bool
+is_named_after rests None item = false
+is_named_after rests (Some rule) item = stands_for rests rule item
 
--- A class begins with a bracket, and a dot is a dot.
-abbrev pub is_class_or_dot : (file : List ℕ) → Extent → Bool
-is_class_or_dot file span = slice_index file span.start == 91 || slice_index file span.start == 46
-
--- whether the rule of an item is known and passes a test
-abbrev pub rule_passes : (ℕ → Bool) → Option ℕ → Bool
-rule_passes test None = false
-rule_passes test (Some rule) = test rule
-
--- The item with a number. A class or dot is named after its rule if the rule passes a test.
-abbrev pub item_numbered : (file : List ℕ) → List Extent → (rules : List ℕ) → (ℕ → Bool) → (number : ℕ) → ItemFact
-item_numbered file extents rules test number = record {
+-- The item with a number. A class or dot is named after its rule if the rule stands for it.
+abbrev pub item_numbered : (file : List ℕ) → List Extent → (rules : List ℕ) → List Rest → (number : ℕ) → ItemFact
+item_numbered file extents rules rests number = record {
   extent = numbered_extent extents number;
   rule = slice_get rules number;
-  is_named = rule_passes test (slice_get rules number) && is_class_or_dot file (numbered_extent extents number);
+  is_named =
+      is_named_after rests (slice_get rules number) number && is_class_or_dot file (numbered_extent extents number);
 }
 
--- whether items may be named after a rule: if that is the style, and the rule is called at the position
-abbrev pub gives_name : ItemStyle → List RuleCall → (at rule : ℕ) → Bool
-gives_name style calls at rule = style.uses_names && is_called calls rule at
-
--- the items with some numbers, at a position
-abbrev pub items_numbered : (file : List ℕ) → ItemStyle → ItemFacts → (at : ℕ) → (numbers : List ℕ) → List ItemFact
-items_numbered file style facts at numbers =
-    map (item_numbered file facts.extents facts.rules (gives_name style facts.calls at)) numbers
+-- the items with some numbers
+abbrev pub items_numbered : (file : List ℕ) → ItemFacts → (numbers : List ℕ) → List ItemFact
+items_numbered file facts numbers = map (item_numbered file facts.extents facts.rules facts.rests) numbers
 
 -- the items that are expected at a position
-abbrev pub expected_items : (file : List ℕ) → ItemStyle → ItemFacts → (at : ℕ) → Outcome → List ItemFact
-expected_items file style facts at outcome =
+abbrev pub expected_items : (file : List ℕ) → ItemFacts → Outcome → List ItemFact
+expected_items file facts outcome =
     if are_items_expected outcome.result outcome.far
-    then items_numbered file style facts at (take max_items outcome.expected.items) else []
+    then items_numbered file facts (take max_items outcome.expected.items) else []
 
 -- A mismatch is that of an outcome, given what is known of the items. Its position is within the text.
-pub record IsMismatchOf (file : List ℕ) (style : ItemStyle) (facts : ItemFacts) (text : List ℕ) (outcome : Outcome)
+pub record IsMismatchOf (file : List ℕ) (facts : ItemFacts) (text : List ℕ) (outcome : Outcome)
     (mismatch : Mismatch) : Type 0 where
   pub at : mismatch.at ≡ min (named_position outcome.result outcome.far) (length text)
-  pub items : map fact_of mismatch.expected.items ≡ expected_items file style facts mismatch.at outcome
+  pub items : map fact_of mismatch.expected.items ≡ expected_items file facts outcome
   pub end : mismatch.is_end_expected ≡ is_end_expected outcome.result outcome.far
 
 -- A text that matched as a whole has no mismatch. Otherwise the mismatch is that of the outcome.
-abbrev pub HasMismatch : (file : List ℕ) → ItemStyle → ItemFacts → (text : List ℕ) → Outcome → Option Mismatch → Type 0
-HasMismatch file style facts text outcome None = is_whole_match outcome.result (length text) ≡ true
-HasMismatch file style facts text outcome (Some mismatch) =
-    (is_whole_match outcome.result (length text) ≡ false) × IsMismatchOf file style facts text outcome mismatch
+abbrev pub HasMismatch : (file : List ℕ) → ItemFacts → (text : List ℕ) → Outcome → Option Mismatch → Type 0
+HasMismatch file facts text outcome None = is_whole_match outcome.result (length text) ≡ true
+HasMismatch file facts text outcome (Some mismatch) =
+    (is_whole_match outcome.result (length text) ≡ false) × IsMismatchOf file facts text outcome mismatch
 
 -- ---- messages
 
@@ -150,9 +143,9 @@ IsMismatchMessage file rules style name text mismatch message =
 -- There is no message for a text that has no mismatch. Otherwise it is the message for the mismatch of the outcome.
 abbrev pub HasMessage : (file : List ℕ) → List Rule → ItemStyle → ItemFacts → (name text : List ℕ) → Outcome
     → Option (List ℕ) → Type 0
-HasMessage file rules style facts name text outcome None = HasMismatch file style facts text outcome None
+HasMessage file rules style facts name text outcome None = HasMismatch file facts text outcome None
 HasMessage file rules style facts name text outcome (Some message) = (mismatch : Mismatch)
-    × HasMismatch file style facts text outcome (Some mismatch)
+    × HasMismatch file facts text outcome (Some mismatch)
     × IsMismatchMessage file rules style name text mismatch message
 
 -- The rules have no parser of blame, for another reason than memory: they aren't well-formed, the name of a rule
@@ -160,24 +153,46 @@ HasMessage file rules style facts name text outcome (Some message) = (mismatch :
 abbrev pub HasNoBlameParser : List Rule → Type 0
 HasNoBlameParser rules = (fault : BlameFault) × IsBlameRefusal rules fault × (fault ≢ Memory)
 
+-- The items that can be named: the first ones of those that are expected. None are, if the text matches as a whole.
+abbrev pub nameable_items : (bytes : ℕ) → Outcome → List ℕ
+nameable_items bytes outcome =
+    if not (is_whole_match outcome.result bytes) && are_items_expected outcome.result outcome.far
+    then take max_named outcome.expected.items else []
+
+-- The rests by which items are named at a position, given the calls of a blame: none if the style doesn't use names.
+abbrev pub AreRestsBy : (uses_names : Bool) → (file : List ℕ) → List Rule → (text : List ℕ) → List RuleCall
+    → (at : ℕ) → (items : List ℕ) → List Rest → Type 0
+AreRestsBy false file rules text calls at items rests = rests ≡ []
+AreRestsBy true file rules text calls at items rests = AreRests file rules text calls at items rests
+
+-- the same for the message for an outcome, given the calls of its blame
+abbrev pub AreRestsFor : (file : List ℕ) → List Rule → ItemStyle → (text : List ℕ) → Outcome → List RuleCall
+    → List Rest → Type 0
+AreRestsFor file rules style text outcome calls rests =
+    AreRestsBy style.uses_names file rules text calls (min (named_position outcome.result outcome.far) (length text))
+    (nameable_items (length text) outcome) rests
+
 -- What an explanation says of a text from a start rule, given what is known of the items and the outcome: by the blame of
 -- items; or by the failed tests of terminals, if the rules have no parser of blame.
-pub data IsExplained (rules : List Rule) (text start : List ℕ) (Says : ItemFacts → Outcome → Type 0) : Type 0 where
-  by_blame : (outcome : Outcome) → (is : IsBlameOutcome rules text start outcome)
-      → Says (facts_by_blame rules is.blame) outcome → IsExplained rules text start Says
+pub data IsExplained (file : List ℕ) (rules : List Rule) (style : ItemStyle) (text start : List ℕ)
+    (Says : ItemFacts → Outcome → Type 0) : Type 0 where
+  by_blame : (outcome : Outcome) → (is : IsBlameOutcome rules text start outcome) → (rests : List Rest)
+      → AreRestsFor file rules style text outcome is.blame.calls rests
+      → Says (facts_by_blame rules rests) outcome → IsExplained file rules style text start Says
   by_tests : (outcome : Outcome) → HasNoBlameParser rules → IsParseOutcome rules text start outcome
-      → Says (facts_by_tests rules) outcome → IsExplained rules text start Says
+      → Says (facts_by_tests rules) outcome → IsExplained file rules style text start Says
 
 -- the mismatch in a text from a start rule, or nothing for a text that matches as a whole
 abbrev pub IsMismatchIn : (file : List ℕ) → List Rule → ItemStyle → (text start : List ℕ) → Option Mismatch → Type 0
 IsMismatchIn file rules style text start mismatch =
-    IsExplained rules text start (λ facts outcome. HasMismatch file style facts text outcome mismatch)
+    IsExplained file rules style text start (λ facts outcome. HasMismatch file facts text outcome mismatch)
 
 -- the explanation of a text from a start rule: the message, or nothing for a text that matches as a whole
 abbrev pub IsExplanation : (file : List ℕ) → List Rule → ItemStyle → (name text start : List ℕ) → Option (List ℕ)
     → Type 0
 IsExplanation file rules style name text start message =
-    IsExplained rules text start (λ facts outcome. HasMessage file rules style facts name text outcome message)
+    IsExplained file rules style text start
+    (λ facts outcome. HasMessage file rules style facts name text outcome message)
 
 -- The parse that an explanation needs takes more steps than the limit: the parse by the diagnostic rules; or the parse
 -- by the rules themselves, if they have no parser of blame.

@@ -22,6 +22,8 @@ pub use Rattle.peg_semantics.specs.Terminals
 pub mod Expected
 pub mod Explainers
 pub mod Explanations
+pub mod Names
+pub mod Namings
 pub mod RefusalMessages
 pub mod Reports
 pub mod Styles

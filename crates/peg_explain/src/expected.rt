@@ -4,19 +4,23 @@ ghost use Rattle.peg_bytes.specs.Extent.{between, extent};
 ghost use Rattle.peg_parser.specs.Fits.{Fits};
 ghost use Rattle.peg_parser.specs.Parser.{parser_rules};
 ghost use Rattle.peg_semantics.specs.Terminals.{extents_of_terminals};
-ghost use Rattle.peg_tree.specs.Selected.{has_rule};
 ghost use Rattle.peg_explain.specs.Expected.{expected_spans, numbered_spans, unnamed_fact};
-ghost use Rattle.peg_explain.specs.Explanations.{fact_of, is_class_or_dot, item_numbered, rule_passes};
+ghost use Rattle.peg_explain.specs.Explanations.{fact_of, is_named_after, item_numbered};
+ghost use Rattle.peg_explain.specs.Names.{is_class_or_dot};
 
 use crate::mismatch::ExpectedItem;
+use crate::names::{Rest, stands_for};
 use crate::outcomes::are_items_expected;
 use peg_bytes::Span;
 use peg_parser::Parser;
-use peg_tree::{Outcome, RuleSet};
+use peg_tree::Outcome;
 use std::alloc::{AllocError, Global};
 
 // The most items that a message looks at.
 const MAX_ITEMS: usize = 65_536;
+
+/// The most items that can be named.
+pub(crate) const MAX_NAMED: usize = 64;
 
 /// The items of a grammar file: the span and the rule of each.
 #[derive(Clone, Copy)]
@@ -26,22 +30,22 @@ pub(crate) struct Items<'a> {
     pub(crate) rules: &'a [u32],
 }
 
-/// Returns the items of the furthest failure. A class or dot is named after its rule if the set has the rule.
+/// Returns the items of the furthest failure. A class or dot is named after its rule if the rule stands for it.
 pub(crate) fn items_of_failure(
     alloc: Global,
     items: &Items<'_>,
-    named: &RuleSet,
+    rests: &[Rest],
     outcome: &Outcome,
 ) -> Result<Vec<ExpectedItem>, AllocError>
     ensures items { IfOk result (λ list. map fact_of list.items ≡ map (item_numbered items.now.file.now
-        (map extent items.now.spans.now) items.now.rules.now (has_rule named.now))
+        (map extent items.now.spans.now) items.now.rules.now rests.now)
         (take 65536 outcome.now.expected.items)) }
     ensures few { IfOk result (λ list. length list.items < 2 ^ 32) }
 {
     listed_items(
         alloc,
         items,
-        named,
+        rests,
         first_numbers(&outcome.expected, MAX_ITEMS),
     )
 }
@@ -50,46 +54,46 @@ pub(crate) fn items_of_failure(
 fn listed_items(
     alloc: Global,
     items: &Items<'_>,
-    named: &RuleSet,
+    rests: &[Rest],
     numbers: &[u32],
 ) -> Result<Vec<ExpectedItem>, AllocError>
     ensures items { IfOk result (λ list. map fact_of list.items ≡ map (item_numbered items.now.file.now
-        (map extent items.now.spans.now) items.now.rules.now (has_rule named.now)) numbers.now) }
+        (map extent items.now.spans.now) items.now.rules.now rests.now) numbers.now) }
     ensures count { IfOk result (λ list. length list.items ≡ length numbers.now) }
 {
     let mut list = Vec::new(alloc);
     'numbers: for number in numbers {
-        list.push(item_at(items, named, *number))?;
+        list.push(item_at(items, rests, *number))?;
     }
     Ok(list)
 }
 
 // Returns the item with a number.
-fn item_at(items: &Items<'_>, named: &RuleSet, number: u32) -> ExpectedItem
+fn item_at(items: &Items<'_>, rests: &[Rest], number: u32) -> ExpectedItem
     ensures { fact_of result ≡ item_numbered items.now.file.now (map extent items.now.spans.now) items.now.rules.now
-        (has_rule named.now) number }
+        rests.now number }
 {
     let span = span_at(items.spans, number);
     let rule = items.rules.get(number as usize).copied();
     ExpectedItem {
         span,
         rule,
-        is_named: has_known_rule(named, rule) && is_class_or_dot(items.file, span),
+        is_named: is_named_after(rests, rule, number) && is_class_or_dot(items.file, span),
     }
 }
 
-// Returns whether a set has the rule of an item, if the rule is known.
-fn has_known_rule(set: &RuleSet, rule: Option<u32>) -> bool
-    ensures { result ≡ rule_passes (has_rule set.now) rule }
+// Returns whether the rule of an item is known and stands for it.
+fn is_named_after(rests: &[Rest], rule: Option<u32>, number: u32) -> bool
+    ensures { result ≡ is_named_after rests.now rule number }
 {
     match rule {
-        Some(rule) => set.contains(rule),
+        Some(rule) => stands_for(rests, rule, number),
         None => false,
     }
 }
 
-// Returns whether the item with this span is a class or a dot.
-fn is_class_or_dot(file: &[u8], span: Span) -> bool
+/// Returns whether the item with this span is a class or a dot.
+pub(crate) fn is_class_or_dot(file: &[u8], span: Span) -> bool
     ensures { result ≡ is_class_or_dot file.now (extent span) }
 {
     match file.get(span.start as usize) {
@@ -98,8 +102,8 @@ fn is_class_or_dot(file: &[u8], span: Span) -> bool
     }
 }
 
-// Returns the span of an item; an empty one if there is no item with this number.
-fn span_at(items: &[Span], number: u32) -> Span
+/// Returns the span of an item; an empty one if there is no item with this number.
+pub(crate) fn span_at(items: &[Span], number: u32) -> Span
     ensures { extent result ≡ slice_index_or (map extent items.now) number (between 0 0) }
 {
     match items.get(number as usize) {
@@ -143,8 +147,8 @@ fn listed_terminals(
     Ok(spans)
 }
 
-// Returns the first numbers, at most this many.
-fn first_numbers(numbers: &[u32], most: usize) -> &[u32]
+/// Returns the first numbers, at most this many.
+pub(crate) fn first_numbers(numbers: &[u32], most: usize) -> &[u32]
     ensures first { result.now ≡ take most numbers.now }
     ensures few { length result.now ≤ most }
 {

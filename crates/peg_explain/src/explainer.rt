@@ -1,6 +1,7 @@
 //! Where texts don't match a grammar file.
 ghost use Rattle.std.specs.Prelude.{◌≡◌, ◌^◌, ◌≤◌, ◌<◌, ◌↔◌, ℕ, false, List, IfOk, IfSome, IsErrOf, None, OnOk, Some};
-ghost use Rattle.std.specs.Prelude.{length, map, min, option_map};
+ghost use Rattle.std.specs.Prelude.{length, map, min, option_map, take};
+ghost use Rattle.peg_blame.specs.BlameCalls.{is_called};
 ghost use Rattle.peg_blame.specs.BlameOutcome.{IsBlameOutcome};
 ghost use Rattle.peg_blame.specs.BlameParser.{IsBlameParserOf};
 ghost use Rattle.peg_diagnostics.specs.Blame.{StartHasBlame};
@@ -12,14 +13,19 @@ ghost use Rattle.peg_semantics.specs.Record.{Record};
 ghost use Rattle.peg_semantics.specs.Rules.{Rule};
 ghost use Rattle.peg_semantics.specs.Starts.{start_name};
 ghost use Rattle.peg_tree.specs.Selected.{has_rule};
-ghost use Rattle.peg_explain.specs.Explanations.{ExplainingStaysWithin, ExplainingTakesMoreSteps, HasMismatch};
-ghost use Rattle.peg_explain.specs.Explanations.{IsExplanation, IsMismatchIn, IsMismatchMessage, ItemFacts};
-ghost use Rattle.peg_explain.specs.Explanations.{expected_items, fact_of, facts_by_blame, gives_name, message_item_of};
-ghost use Rattle.peg_explain.specs.Explanations.{rule_name, shown_item};
+ghost use Rattle.peg_bytes.specs.Extent.{extent};
+ghost use Rattle.peg_diagnostics.specs.Items.{extents_of_items, rules_of_items};
+ghost use Rattle.peg_explain.specs.Explanations.{AreRestsBy, ExplainingStaysWithin, ExplainingTakesMoreSteps};
+ghost use Rattle.peg_explain.specs.Explanations.{HasMismatch, IsExplanation, IsMismatchIn, IsMismatchMessage, ItemFacts};
+ghost use Rattle.peg_explain.specs.Explanations.{expected_items, fact_of, message_item_of, rule_name, shown_item};
+ghost use Rattle.peg_explain.specs.Namings.{AreItemsFor};
 ghost use Rattle.peg_explain.specs.Reports.{is_whole_match, named_position};
 
-use crate::expected::{Items, items_of_failure, spans_of_terminals, unnamed_items};
+use crate::expected::{
+    Items, MAX_NAMED, first_numbers, items_of_failure, spans_of_terminals, unnamed_items,
+};
 use crate::mismatch::{ExpectedItem, Mismatch};
+use crate::names::{Naming, Rest};
 use crate::outcomes::{are_items_expected, is_end_expected, is_whole_match, named_position};
 use crate::style::ItemStyle;
 use peg_blame::{BlameFault, BlameParser};
@@ -168,70 +174,80 @@ impl<'a> Explainer<'a> {
     ) -> Result<Vec<ExpectedItem>, ParseFault>
         requires short { length text.now ≤ max_text_bytes }
         ensures items { (rules : List Rule) (start : List ℕ) → IsBlameParserOf rules blames.now
+            → parser_rules self.now.parser.now ≡ rules
             → start_name rules (start_named options.now) ≡ Some start
             → (is : IsBlameOutcome rules text.now start answer.now.outcome)
-            → is_whole_match answer.now.outcome.result (length text.now) ≡ false
-            → IfOk result (λ items. map fact_of items.items ≡ expected_items self.now.file.now self.now.style
-            (facts_by_blame rules is.blame)
-            (min (named_position answer.now.outcome.result answer.now.outcome.far) (length text.now))
-            answer.now.outcome) }
+            → IfOk result (λ items. AreItemsFor self.now.file.now rules self.now.style text.now answer.now.outcome
+            is.blame.calls (map fact_of items.items)) }
         ensures few { IfOk result (λ items. length items.items < 2 ^ 32) }
         ensures no_start { (rules : List Rule) → IsBlameParserOf rules blames.now
+            → parser_rules self.now.parser.now ≡ rules
             → IsErrOf result ParseFault.NoSuchStart → start_name rules (start_named options.now) ≡ None }
         ensures long { (rules : List Rule) (start : List ℕ) → IsBlameParserOf rules blames.now
+            → parser_rules self.now.parser.now ≡ rules
             → start_name rules (start_named options.now) ≡ Some start
             → IsErrOf result ParseFault.TextTooLong → max_text_bytes < length text.now }
-        ensures limited { (rules : List Rule) → IsBlameParserOf rules blames.now → IsErrOf result ParseFault.StepLimit
+        ensures limited { (rules : List Rule) → IsBlameParserOf rules blames.now
+            → parser_rules self.now.parser.now ≡ rules → IsErrOf result ParseFault.StepLimit
             → TakesMoreSteps (diagnostic_rules rules) text.now (start_named options.now) options.now.steps }
     {
         let outcome = &answer.outcome;
         if is_whole_match(outcome, text.len()) || !are_items_expected(outcome) {
             return Ok(Vec::new(alloc));
         }
-        let at = position_in(text, outcome);
-        let named = self.named_rules(alloc, blames, text, options, answer.steps, at)?;
         let items = Items {
             file: self.file,
             spans: blames.items(),
             rules: blames.item_rules(),
         };
-        Ok(items_of_failure(alloc, &items, &named, outcome)?)
+        let rests = self.rests_for(alloc, blames, &items, text, options, answer)?;
+        Ok(items_of_failure(alloc, &items, &rests, outcome)?)
     }
 
-    // Returns the rules that items may be named after at a position. The blame took these steps. If it took them without
-    // a memo, so does the parse for the rules, which is faster then.
-    fn named_rules(
+    // Returns the outcomes of the rest of the text by which items are named at the position of the message.
+    fn rests_for(
         &self,
         alloc: Global,
         blames: &BlameParser,
+        items: &Items<'_>,
         text: &[u8],
         options: &ParseOptions<'_>,
-        steps: u64,
-        at: u32,
-    ) -> Result<RuleSet, ParseFault>
-        ensures named { (rules : List Rule) (start : List ℕ) (blame : Record) → IsBlameParserOf rules blames.now
+        answer: &Answer,
+    ) -> Result<Vec<Rest>, ParseFault>
+        requires short { length text.now ≤ max_text_bytes }
+        requires file { items.now.file.now ≡ self.now.file.now }
+        ensures rests { (rules : List Rule) (start : List ℕ) (blame : Record) → IsBlameParserOf rules blames.now
+            → parser_rules self.now.parser.now ≡ rules
+            → map extent items.now.spans.now ≡ extents_of_items rules → items.now.rules.now ≡ rules_of_items rules
             → start_name rules (start_named options.now) ≡ Some start → StartHasBlame rules text.now start blame
-            → IfOk result (λ set. (rule : ℕ) → has_rule set rule ≡ gives_name self.now.style blame.calls at rule) }
+            → IfOk result (λ rests. AreRestsBy self.now.style.uses_names self.now.file.now rules text.now blame.calls
+            (min (named_position answer.now.outcome.result answer.now.outcome.far) (length text.now))
+            (take 64 answer.now.outcome.expected.items) rests.items) }
         ensures no_start { (rules : List Rule) → IsBlameParserOf rules blames.now
+            → parser_rules self.now.parser.now ≡ rules
             → IsErrOf result ParseFault.NoSuchStart → start_name rules (start_named options.now) ≡ None }
         ensures long { (rules : List Rule) (start : List ℕ) → IsBlameParserOf rules blames.now
+            → parser_rules self.now.parser.now ≡ rules
             → start_name rules (start_named options.now) ≡ Some start
             → IsErrOf result ParseFault.TextTooLong → max_text_bytes < length text.now }
-        ensures limited { (rules : List Rule) → IsBlameParserOf rules blames.now → IsErrOf result ParseFault.StepLimit
+        ensures limited { (rules : List Rule) → IsBlameParserOf rules blames.now
+            → parser_rules self.now.parser.now ≡ rules → IsErrOf result ParseFault.StepLimit
             → TakesMoreSteps (diagnostic_rules rules) text.now (start_named options.now) options.now.steps }
     {
         if !self.style.uses_names {
-            return Ok(RuleSet::none(alloc, 0)?);
+            return Ok(Vec::new(alloc));
         }
-        let plain = ParseOptions {
-            start: options.start,
-            memo: 0,
-            steps: Some(steps),
+        let at = position_in(text, &answer.outcome);
+        let called = called_rules(alloc, blames, text, options, answer.steps, at)?;
+        let naming = Naming {
+            blames,
+            grammar: self.parser.grammar(),
+            items: *items,
+            called: &called,
+            rest: &text[at as usize..],
+            memo: options.memo,
         };
-        match blames.called_rules(alloc, text, &plain, at) {
-            Err(ParseFault::StepLimit) => blames.called_rules(alloc, text, options, at),
-            result => result,
-        }
+        naming.rests(alloc, first_numbers(&answer.outcome.expected, MAX_NAMED))
     }
 
     /// Returns the message for a mismatch in a text. The name begins the message. The only error is a failed allocation.
@@ -304,6 +320,38 @@ impl<'a> Explainer<'a> {
     }
 }
 
+// Returns the rules that are called at a position. The blame took these steps. If it took them without a memo, so does
+// the parse for the rules, which is faster then.
+fn called_rules(
+    alloc: Global,
+    blames: &BlameParser,
+    text: &[u8],
+    options: &ParseOptions<'_>,
+    steps: u64,
+    at: u32,
+) -> Result<RuleSet, ParseFault>
+    ensures called { (rules : List Rule) (start : List ℕ) (blame : Record) → IsBlameParserOf rules blames.now
+        → start_name rules (start_named options.now) ≡ Some start → StartHasBlame rules text.now start blame
+        → IfOk result (λ set. (rule : ℕ) → has_rule set rule ≡ is_called blame.calls rule at) }
+    ensures no_start { (rules : List Rule) → IsBlameParserOf rules blames.now
+        → IsErrOf result ParseFault.NoSuchStart → start_name rules (start_named options.now) ≡ None }
+    ensures long { (rules : List Rule) (start : List ℕ) → IsBlameParserOf rules blames.now
+        → start_name rules (start_named options.now) ≡ Some start
+        → IsErrOf result ParseFault.TextTooLong → max_text_bytes < length text.now }
+    ensures limited { (rules : List Rule) → IsBlameParserOf rules blames.now → IsErrOf result ParseFault.StepLimit
+        → TakesMoreSteps (diagnostic_rules rules) text.now (start_named options.now) options.now.steps }
+{
+    let plain = ParseOptions {
+        start: options.start,
+        memo: 0,
+        steps: Some(steps),
+    };
+    match blames.called_rules(alloc, text, &plain, at) {
+        Err(ParseFault::StepLimit) => blames.called_rules(alloc, text, options, at),
+        result => result,
+    }
+}
+
 // Returns the position that a message names, which is within the text.
 fn position_in(text: &[u8], outcome: &Outcome) -> u32
     requires { length text.now ≤ max_text_bytes }
@@ -316,11 +364,10 @@ fn position_in(text: &[u8], outcome: &Outcome) -> u32
 fn mismatch_in(text: &[u8], outcome: &Outcome, expected: Vec<ExpectedItem>) -> Option<Mismatch>
     requires short { length text.now ≤ max_text_bytes }
     requires few { length expected.items < 2 ^ 32 }
-    ensures mismatch { (file : List ℕ) (facts : ItemFacts) (style : ItemStyle)
-        → (is_whole_match outcome.now.result (length text.now) ≡ false → map fact_of expected.items
-        ≡ expected_items file style facts (min (named_position outcome.now.result outcome.now.far) (length text.now))
-        outcome.now)
-        → HasMismatch file style facts text.now outcome.now result }
+    ensures mismatch { (file : List ℕ) (facts : ItemFacts)
+        → (is_whole_match outcome.now.result (length text.now) ≡ false
+        → map fact_of expected.items ≡ expected_items file facts outcome.now)
+        → HasMismatch file facts text.now outcome.now result }
     ensures in_text { IfSome result (λ mismatch. mismatch.at ≤ length text.now) }
     ensures few { IfSome result (λ mismatch. length mismatch.expected.items < 2 ^ 32) }
 {

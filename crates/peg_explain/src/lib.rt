@@ -4,6 +4,7 @@
 mod expected;
 mod explainer;
 mod mismatch;
+mod names;
 mod outcomes;
 mod refusals;
 mod style;

@@ -1,5 +1,5 @@
-The names of rules in messages of explain: a class or dot is written as its rule if the rule is called at the
-position, and --rules adds the rules of the others.
+The names of rules in messages of explain: a class or dot is written as its rule if it failed in a call of the rule
+that starts at the position, and --rules adds the rules of the others.
 
 The class is the expression of Number, which is called where it fails.
 
@@ -84,6 +84,46 @@ Number is called at position 0 and its class fails at 1, so it isn't named there
   t:1:2: expected ' ', '+', [0-9] or the end, found 'x'
   1x
    ^
+  [1]
+
+L is called at position 3, but there it tries the parenthesis alone. The class fails in the loop of the outer call, so a
+letter is expected, and not only an L.
+
+  $ printf "L <- '(' [a-z]+ L? ')'" > g; printf '(ab1' > t
+  $ pegtool explain g t
+  t:1:4: expected '(', [a-z] or ')', found '1'
+  (ab1
+     ^
+  [1]
+  $ pegtool explain g t --memo 0
+  t:1:4: expected '(', [a-z] or ')', found '1'
+  (ab1
+     ^
+  [1]
+
+In an open comment any byte is expected, not only another comment: the dot is that of the outer call.
+
+  $ printf "Comment <- '(;' (Comment / !';)' .)* ';)'" > g; printf '(;a' > t
+  $ pegtool explain g t
+  t:1:4: expected '(;', . or ';)', found the end
+  (;a
+     ^
+  [1]
+
+The class fails at 2 both in the loop of the first word and in the second call of Word, which is named. A second class
+of Word fails in the first word alone.
+
+  $ printf 'S <- Word+ !.\nWord <- [a-z]+' > g; printf 'ab?' > t
+  $ pegtool explain g t
+  t:1:3: expected the end or Word, found '?'
+  ab?
+    ^
+  [1]
+  $ printf 'S <- Word+ !.\nWord <- [a-z] [0-9a-z]*' > g
+  $ pegtool explain g t
+  t:1:3: expected the end, Word or [0-9a-z], found '?'
+  ab?
+    ^
   [1]
 
 The rule Any is called at the end of the text, where its dot fails.

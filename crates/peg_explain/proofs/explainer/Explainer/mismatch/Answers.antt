@@ -1,4 +1,4 @@
-use Rattle.std.proofs.Common.{rules as by_rules, ◌≡◌, ◌∙◌, ℕ, IfSome, List, ap, inr, length, map, min, subst, sym}
+use Rattle.std.proofs.Common.{rules as by_rules, ◌≡◌, ◌∙◌, ℕ, IfSome, List, ap, inr, map, subst, sym}
 use Rattle.std.proofs.lemmas.Simd.{map-map}
 use Rattle.peg_blame.specs.BlameParser.{IsBlameParserOf}
 use Rattle.peg_bytes.specs.Extent.{extent}
@@ -13,7 +13,7 @@ use Rattle.peg_explain.specs.Expected.{expected_spans, unnamed_fact}
 use Rattle.peg_explain.specs.Explainers.{IsBlameOf}
 use Rattle.peg_explain.specs.Explanations.{HasMismatch, HasNoBlameParser, expected_items, fact_of, facts_by_blame}
 use Rattle.peg_explain.specs.Explanations.{facts_by_tests}
-use Rattle.peg_explain.specs.Reports.{named_position}
+use Rattle.peg_explain.specs.Namings.{AreItemsFor}
 use Rattle.peg_explain.proofs.ExpectedLemmas.{unnamed-items}
 use Rattle.peg_explain.proofs.ExplanationLemmas.{blame-explains, tests-explain}
 use Rattle.peg_explain.proofs.explainer.Explainer.mismatch.Goals as goal
@@ -23,22 +23,22 @@ returns-in_ok-expected-in-Some-clause-mismatch c file rules of_explainer =
     let text = c.args.text.now in
     let style = c.args.self.now.style in
     let outcome = c.in_ok-answer-in-Some.answer.outcome in
-    let at = min (named_position outcome.result outcome.far) (length text) in
     let expected = map fact_of c.in_ok-expected-in-Some.expected.items in
     let blames : IsBlameParserOf rules c.in-Some.blames = subst (IsBlameOf rules) c.in-Some.is of_explainer.blames in
-    blame-explains rules text (start_name rules (start_named c.args.options.now)) outcome
-    (λ facts parsed. HasMismatch file style facts text parsed c.mismatch_in.result)
+    blame-explains file rules style text (start_name rules (start_named c.args.options.now)) outcome
+    (λ facts parsed. HasMismatch file facts text parsed c.mismatch_in.result)
     (c.in_ok-answer-in-Some.ensures.outcome rules blames)
-    (λ start named is. c.mismatch_in.ensures.mismatch file (facts_by_blame rules is.blame) style
-    (λ differs. subst (λ (bytes : List ℕ). expected ≡ expected_items bytes style (facts_by_blame rules is.blame) at outcome)
-    of_explainer.has_file (c.in_ok-expected-in-Some.ensures.items rules start blames named is differs)))
+    (λ start named is.
+    let stated : AreItemsFor file rules style text outcome is.blame.calls expected =
+    subst (λ (bytes : List ℕ). AreItemsFor bytes rules style text outcome is.blame.calls expected) of_explainer.has_file
+    (c.in_ok-expected-in-Some.ensures.items rules start blames of_explainer.has_parser named is) in
+    (stated.0, stated.1, c.mismatch_in.ensures.mismatch file (facts_by_blame rules stated.0) stated.2))
 
 pub returns-in_ok-expected-in-None-clause-mismatch : goal.returns-in_ok-expected-in-None-clause-mismatch
 returns-in_ok-expected-in-None-clause-mismatch c file rules of_explainer =
     let text = c.args.text.now in
     let style = c.args.self.now.style in
     let outcome = c.in_ok-answer-in-None.answer.outcome in
-    let at = min (named_position outcome.result outcome.far) (length text) in
     let start = start_named c.args.options.now in
     let same = of_explainer.has_parser in
     let lacks : HasNoBlameParser rules = subst (IsBlameOf rules) c.in-None.is of_explainer.blames in
@@ -46,16 +46,16 @@ returns-in_ok-expected-in-None-clause-mismatch c file rules of_explainer =
     c.in_ok-spans-in-None.ensures.spans
     ∙ ap (λ (l : List Rule). expected_spans (extents_of_terminals l) outcome) same in
     let items : map fact_of c.in_ok-expected-in-None.expected.items
-    ≡ expected_items file style (facts_by_tests rules) at outcome =
+    ≡ expected_items file (facts_by_tests rules) outcome =
     c.in_ok-expected-in-None.ensures.items
     ∙ ap (map (λ (span : Span). unnamed_fact (extent span))) c.deref.ensures.value
     ∙ sym (map-map unnamed_fact extent c.in_ok-spans-in-None.spans.items)
-    ∙ unnamed-items file style at outcome rules (map extent c.in_ok-spans-in-None.spans.items) spans in
+    ∙ unnamed-items file outcome rules (map extent c.in_ok-spans-in-None.spans.items) spans in
     let parsed = subst (λ (l : List Rule). IfSome (start_name l start) (λ from. IsParseOutcome l text from outcome)) same
     c.in_ok-answer-in-None.ensures.outcome in
-    tests-explain rules text (start_name rules start) outcome
-    (λ facts parsed. HasMismatch file style facts text parsed c.mismatch_in-in-None.result) lacks parsed
-    (c.mismatch_in-in-None.ensures.mismatch file (facts_by_tests rules) style (λ differs. items))
+    tests-explain file rules style text (start_name rules start) outcome
+    (λ facts parsed. HasMismatch file facts text parsed c.mismatch_in-in-None.result) lacks parsed
+    (c.mismatch_in-in-None.ensures.mismatch file (facts_by_tests rules) (λ differs. items))
 
 pub returns-in_err-answer-in-None-clause-limited : goal.returns-in_err-answer-in-None-clause-limited
 returns-in_err-answer-in-None-clause-limited c file rules of_explainer is_limit =
