@@ -18,14 +18,21 @@
  *
  * Pointers
  *   No pointer may be NULL, not even with a length of 0: pass any valid address, such as that of a string literal.
- *   Memory that a call writes must be initialised before, for example by `= {0}` or calloc. It must not overlap other
- *   memory of the same call. Two handles of one call must be different variables.
+ *   Check what malloc and calloc return, and request at least one byte: `calloc(0, ..)` may return NULL.
+ *   Memory that a call writes must be initialised before, for example by calloc, or by `= {0}` in C and `= {}` in C++.
+ *   It must not overlap other memory of the same call. Two handles of one call must be different variables.
  *
  * Threads
  *   The library starts no thread. Distinct handles may be used by distinct threads at the same time. A handle is used
  *   by one call at a time, also where a call only reads it. It stays on the thread that made it: that it may move to
  *   another thread isn't proved. No function may be called from a signal handler, or in the child of a process with
  *   threads after fork. All functions may be called from any thread within these rules.
+ *
+ * Steps
+ *   A step is one instruction that the parsing machine executes. A call of a rule that the memo answers is one step.
+ *   With a memo, a parse runs without it first, within 4,096 steps and 64 for each byte of the text. If these are not
+ *   enough, it runs again with the memo. A limit holds for each of the two runs. A summary has the steps of the run
+ *   that gave the answer.
  *
  * Results
  *   Functions that return `uint32_t` return a status, except for `peg_abi`. Functions that return `size_t` return a
@@ -130,7 +137,7 @@ typedef struct peg_summary {
     uint32_t furthest; /* the greatest offset of the text at which a terminal failed, or 0 if none failed */
     uint64_t nodes;    /* the number of nodes of the tree; 0 if no prefix matched */
     uint64_t expected; /* the number of terminals that failed at `furthest` */
-    uint64_t steps;    /* the number of instructions executed */
+    uint64_t steps;    /* the number of steps of the run that gave the answer; see "Steps" */
 } peg_summary;
 
 /* Where a text doesn't match as a whole. An item is a terminal or a predicate outside predicates. */

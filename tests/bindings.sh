@@ -36,7 +36,14 @@ compile lint examples/c/lint.c $archive
 compile misuse tests/c/misuse.c $archive
 compile memory tests/c/memory.c $archive $wrap
 compile threads tests/c/threads.c $archive -pthread
-printf '#include "peg.h"\nint main() { return peg_abi() != PEG_ABI; }\n' > "$work/abi.cc"
+# In C++ the outputs of calls are initialised by `= {}`.
+printf '#include "peg.h"
+int main() {
+  peg_grammar grammar = PEG_NULL;
+  peg_refusal_info info = {};
+  peg_summary summary = {};
+  return peg_abi() != PEG_ABI || grammar.opaque || info.kind || summary.nodes;
+}\n' > "$work/abi.cc"
 g++ -Wall -Wextra -Werror -Iinclude -o "$work/abi" "$work/abi.cc" $archive || fault "C++ can't include the header"
 "$work/abi" || fault "the library has another interface than the header"
 programs="rows rows_shared"
