@@ -14,7 +14,10 @@
  * Memory
  *   The library keeps no pointer to the caller's memory: a grammar file and a text may be freed after the call. Memory
  *   is requested from malloc, realloc and free. If a request fails, the call returns PEG_OUT_OF_MEMORY, and handles and
- *   buffers are as they were. The library prints nothing, doesn't end the process and has no global state.
+ *   buffers are as they were. Two kinds of requests may fail without it, since no answer depends on them. If there is
+ *   no memory for a result in the memo, the memo evicts older results and tries again; the parse is out of memory only
+ *   if none is left. If there is none for tables that save time, the parse goes on without them.
+ *   The library prints nothing, doesn't end the process and has no global state.
  *
  * Pointers
  *   No pointer may be NULL, not even with a length of 0: pass any valid address, such as that of a string literal.

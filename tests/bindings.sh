@@ -102,6 +102,10 @@ json=$(find examples/json -type f | sort | head -n 1)
 "$work/memory" examples/json.peg "$json" || fault "memory"
 printf '[%s]' "$(seq -s, 4000)" > "$work/long"
 "$work/memory" examples/json.peg "$work/long" || fault "memory of a long text"
+# Without a memo the steps double with each level of nesting.
+printf 'S <- A\nA <- "(" A ")" "x" / "(" A ")" "y" / "a"\n' > "$work/nested.peg"
+printf '%s' "$(printf '(%.0s' {1..22})a$(printf ')y%.0s' {1..22})" > "$work/nested"
+"$work/memory" "$work/nested.peg" "$work/nested" || fault "memory of a nested text"
 
 "$work/threads" examples/json.peg "$json" || fault "threads"
 

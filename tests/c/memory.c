@@ -1,12 +1,19 @@
-/* memory GRAMMAR TEXT: refuses each request for memory of a reading, a parse and an explanation in turn. Each call has
- * to return PEG_OUT_OF_MEMORY, leave the handles as they were and release what it requested. The text to be explained is
- * all but the last byte of TEXT. Link it with the linker's options --wrap=malloc, --wrap=realloc and --wrap=free. */
+/* memory GRAMMAR TEXT: refuses each request for memory of a reading, a parse and an explanation in turn, alone and with
+ * all later ones. Each call has to return PEG_OUT_OF_MEMORY, leave the handles as they were and release what it
+ * requested, or to have the answer. It makes at most ten times the requests and the steps that it takes without a
+ * refusal. The text to be explained is all but the last byte of TEXT. Link it with the linker's options --wrap=malloc,
+ * --wrap=realloc and --wrap=free. */
 #include "../../examples/c/files.h"
 #include "peg.h"
 
 /* The number of requests until one is refused, or a negative number for none; and the number of live blocks. */
 static long requests_left = -1, blocks;
-static int refused;
+/* Whether a request was refused, and whether all later ones are refused, too. */
+static int refused, is_lasting;
+/* The number of requests of a call, and how many it may make; 0 is no limit. */
+static long requests, most_requests;
+/* The number of steps that a parse may take; 0 is no limit. */
+static uint64_t most_steps;
 
 void *__real_malloc(size_t size);
 void *__real_realloc(void *block, size_t size);
@@ -15,12 +22,24 @@ void *__wrap_malloc(size_t size);
 void *__wrap_realloc(void *block, size_t size);
 void __wrap_free(void *block);
 
-/* The request before which no other is left is refused, and no later one. */
+static void fail(const char *what, long request) {
+    printf("memory: %s, request %ld%s\n", what, request, is_lasting ? " and all later ones" : "");
+    exit(1);
+}
+
+/* The request before which no other is left is refused, and no later one unless the refusal lasts. */
 static int is_refused(void) {
-    if (requests_left == 0) {
-        refused = 1;
+    requests++;
+    if (most_requests > 0 && requests > most_requests) {
+        fail("the call makes ten times the requests", requests);
     }
-    return requests_left >= 0 && requests_left-- == 0;
+    if (requests_left != 0) {
+        requests_left -= requests_left > 0;
+        return 0;
+    }
+    refused = 1;
+    requests_left = is_lasting ? 0 : -1;
+    return 1;
 }
 
 void *__wrap_malloc(size_t size) {
@@ -40,21 +59,27 @@ void __wrap_free(void *block) {
     __real_free(block);
 }
 
-static void fail(const char *what, long request) {
-    printf("memory: %s, request %ld\n", what, request);
-    exit(1);
-}
-
+/* Refuses request number n. Number -1 is none: that call sets the limits for the others. */
 static void refuse_request(long n) {
     requests_left = n;
+    requests = 0;
     refused = 0;
+    if (n < 0) {
+        most_requests = 0;
+        most_steps = 0;
+    }
 }
 
-/* Ends the refusal. Returns whether the request was made, and tests that a call without an answer changed nothing. */
+/* Ends the refusal. Returns whether another request is to be refused, and tests that a call without an answer changed
+ * nothing. */
 static int was_refused(int has_answer, uint32_t status, int is_unchanged, long blocks_before, long n) {
     requests_left = -1;
     if (!refused && !has_answer) {
         fail("the call gives no answer without a refusal", n);
+    }
+    if (n < 0) {
+        most_requests = 10 * requests;
+        return 1;
     }
     if (!has_answer && (status != PEG_OUT_OF_MEMORY || !is_unchanged)) {
         fail("the call has another status, or changed a handle", n);
@@ -65,10 +90,21 @@ static int was_refused(int has_answer, uint32_t status, int is_unchanged, long b
     return refused;
 }
 
+/* Tests the steps of an answer against the limit, or sets it. */
+static void count_steps(peg_match *match, long n) {
+    peg_summary summary = {0};
+    peg_match_summary(match, &summary);
+    if (n < 0) {
+        most_steps = 10 * summary.steps;
+    } else if (summary.steps > most_steps) {
+        fail("the call takes ten times the steps", n);
+    }
+}
+
 /* Reads a grammar file with request number n refused, for each n until there are fewer. Returns the number of requests.
  * A refused request that an answer doesn't need, as of a cache, may be passed over. */
 static long refuse_in_reading(const uint8_t *file, size_t length, uint32_t expected) {
-    for (long n = 0;; n++) {
+    for (long n = -1;; n++) {
         peg_grammar grammar = PEG_NULL;
         long before = blocks;
         refuse_request(n);
@@ -82,7 +118,7 @@ static long refuse_in_reading(const uint8_t *file, size_t length, uint32_t expec
 }
 
 static long refuse_in_parsing(peg_grammar *grammar, const uint8_t *text, size_t length, uint32_t memo) {
-    for (long n = 0;; n++) {
+    for (long n = -1;; n++) {
         peg_match match = PEG_NULL;
         long before = blocks;
         void *held = grammar->opaque;
@@ -90,6 +126,9 @@ static long refuse_in_parsing(peg_grammar *grammar, const uint8_t *text, size_t 
         uint32_t status = peg_parse(grammar, text, length, (const uint8_t *)"", 0, memo, 0, &match);
         int has_answer = status == PEG_OK || status == PEG_FAILED;
         int more = was_refused(has_answer, status, match.opaque == NULL && grammar->opaque == held, before, n);
+        if (has_answer) {
+            count_steps(&match, n);
+        }
         peg_match_free(&match);
         if (!more) {
             return n;
@@ -98,13 +137,13 @@ static long refuse_in_parsing(peg_grammar *grammar, const uint8_t *text, size_t 
 }
 
 static long refuse_in_explaining(peg_grammar *grammar, const uint8_t *text, size_t length, uint32_t memo) {
-    for (long n = 0;; n++) {
+    for (long n = -1;; n++) {
         peg_explanation explanation = PEG_NULL;
         long before = blocks;
         void *held = grammar->opaque;
         refuse_request(n);
-        uint32_t status = peg_explain(grammar, (const uint8_t *)"text", 4, text, length, (const uint8_t *)"", 0, memo, 0,
-                                      &explanation);
+        uint32_t status = peg_explain(grammar, (const uint8_t *)"text", 4, text, length, (const uint8_t *)"", 0, memo,
+                                      0, &explanation);
         int has_answer = status == PEG_OK || status == PEG_FAILED;
         int is_unchanged = explanation.opaque == NULL && grammar->opaque == held;
         int more = was_refused(has_answer, status, is_unchanged, before, n);
@@ -113,6 +152,21 @@ static long refuse_in_explaining(peg_grammar *grammar, const uint8_t *text, size
             return n;
         }
     }
+}
+
+static void refuse_in_calls(const uint8_t *file, size_t file_length, const uint8_t *text, size_t text_length) {
+    long reading = refuse_in_reading(file, file_length, PEG_OK);
+    long refusal = refuse_in_reading((const uint8_t *)"A <- 'a'\nS <- B", 15, PEG_REFUSED);
+    peg_grammar grammar = PEG_NULL;
+    most_requests = 0;
+    if (peg_grammar_read(file, file_length, &grammar) != PEG_OK) {
+        fail("the grammar is refused", 0);
+    }
+    long parse = refuse_in_parsing(&grammar, text, text_length, PEG_DEFAULT_MEMO);
+    long explanation = refuse_in_explaining(&grammar, text, text_length - 1, PEG_DEFAULT_MEMO);
+    peg_grammar_free(&grammar);
+    printf("memory: refused %ld requests of a reading, %ld of a refusal, %ld of a parse, %ld of an explanation%s\n",
+           reading, refusal, parse, explanation, is_lasting ? ", each with all later ones" : "");
 }
 
 int main(int argc, char **argv) {
@@ -124,20 +178,12 @@ int main(int argc, char **argv) {
     uint8_t *file = read_file(argv[1], &file_length);
     uint8_t *text = read_file(argv[2], &text_length);
     long live = blocks;
-    long reading = refuse_in_reading(file, file_length, PEG_OK);
-    long refusal = refuse_in_reading((const uint8_t *)"A <- 'a'\nS <- B", 15, PEG_REFUSED);
-    peg_grammar grammar = PEG_NULL;
-    if (peg_grammar_read(file, file_length, &grammar) != PEG_OK) {
-        fail("the grammar is refused", 0);
+    for (is_lasting = 0; is_lasting <= 1; is_lasting++) {
+        refuse_in_calls(file, file_length, text, text_length);
     }
-    long parse = refuse_in_parsing(&grammar, text, text_length, PEG_DEFAULT_MEMO);
-    long explanation = refuse_in_explaining(&grammar, text, text_length - 1, PEG_DEFAULT_MEMO);
-    peg_grammar_free(&grammar);
     if (blocks != live) {
         fail("memory is left", blocks - live);
     }
-    printf("memory: refused %ld requests of a reading, %ld of a refusal, %ld of a parse, %ld of an explanation\n", reading,
-           refusal, parse, explanation);
     free(text);
     free(file);
     return 0;

@@ -38,8 +38,14 @@ impl Keep for AllBut {
 
     ghost allocation_failed = { λ _. false };
 
+    ghost out_of_memory = { λ _. false };
+
     fn is_empty(&self) -> bool {
         self.memo.is_empty()
+    }
+
+    fn is_out_of_memory(&self) -> bool {
+        false
     }
 
     fn touch(&mut self, rule: u32, position: u32) {

@@ -19,6 +19,9 @@ pub trait Keep {
     // whether an allocation has failed; it never becomes false again
     ghost allocation_failed: { Self → Bool };
 
+    // whether the memo can hold no entry, since an allocation has failed
+    ghost out_of_memory: { Self → Bool };
+
     /// Returns whether the memo has no entries.
     fn is_empty(&self) -> bool
         ensures { IsTrue result ↔ (map.len (entries self.now) ≡ 0) };
@@ -30,6 +33,11 @@ pub trait Keep {
     {
         true
     }
+
+    /// Returns whether the memo is out of memory: an allocation has failed, and no entry can be held without it. A run
+    /// then ends at the next call of a rule, since without a memo it could take exponential time.
+    fn is_out_of_memory(&self) -> bool
+        ensures { result ≡ out_of_memory self.now };
 
     /// Marks the entry of a rule at a position as used, if there is one.
     fn touch(&mut self, rule: u32, position: u32)

@@ -132,11 +132,18 @@ impl Keep for LruMemo {
 
     ghost allocation_failed = { λ it. it.allocation_failed };
 
+    ghost out_of_memory = { λ _. false };
+
     fn is_empty(&self) -> bool
         ensures pairs { IsTrue result ↔ (self.now.pairs ≡ []) }
         ensures entries { IsTrue result ↔ (map.len (entries_in self.now.pairs) ≡ 0) }
     {
         self.has_no_entries()
+    }
+
+    /// Returns false: a failed allocation costs one result, and `was_refused` reports it.
+    fn is_out_of_memory(&self) -> bool {
+        false
     }
 
     /// Moves the entry of a rule at a position to the front, if there is one.

@@ -15,11 +15,17 @@ impl Keep for NoMemo {
 
     ghost allocation_failed = { λ _. false };
 
+    ghost out_of_memory = { λ _. false };
+
     fn is_empty(&self) -> bool {
         true
     }
 
     fn may_store(&self) -> bool {
+        false
+    }
+
+    fn is_out_of_memory(&self) -> bool {
         false
     }
 

@@ -1,10 +1,12 @@
 -- Parts of a memo's entries, and pairs without the last one.
-use Rattle.std.proofs.Common.{Bool, true, false, sym, ap, ◌∙◌, ⊎_elim}
+use Rattle.std.proofs.Common.{◌≡◌, ℕ, ◌-◌, Bool, true, false, List, [], ◌∷◌, length, slice_get, take, None, sym, ap, ◌∙◌, ⊎_elim, arith}
+use Rattle.std.proofs.lemmas.Option.{slice_get-get_or}
 use Rattle.std.specs.Bool.{if◌then◌else◌}
 use Rattle.std.specs.FinMap as map
-use Rattle.peg_memo.specs.MemoMap.{MemoMap, IsPartOf}
-use Rattle.peg_memo.specs.StoredResult.{StoredResult}
-use Rattle.peg_memo.specs.MemoKey.{MemoKey}
+use Rattle.std.specs.Option.{option_map}
+use Rattle.peg_memo.specs.MemoMap.{MemoMap, IsPartOf, entries_in}
+use Rattle.peg_memo.specs.StoredResult.{StoredResult, stored_node_count}
+use Rattle.peg_memo.specs.MemoKey.{MemoKey, key_cmp}
 use Rattle.peg_memo.proofs.HeldLemmas.{get_inserted, get_other, same_or_other}
 
 -- `IsPartOf` is transitive
@@ -33,3 +35,16 @@ IsPartOf-stored old middle new asked stored true part after =
     IsPartOf-trans new (map.insert middle asked stored) (map.insert old asked stored) after
     (IsPartOf-insert middle old asked stored part)
 IsPartOf-stored old middle new asked stored false part after = IsPartOf-trans new middle old after part
+
+abbrev rows_of_pair : MemoKey × StoredResult → ℕ
+rows_of_pair pair = stored_node_count pair.1
+
+-- pairs without a last one are none, and have no entries
+pub no_entries-no_last : (pairs : List (MemoKey × StoredResult)) → option_map rows_of_pair (slice_get pairs (length pairs - 1)) ≡ None
+    → map.len (entries_in (take (length pairs - 1) pairs)) ≡ 0
+no_entries-no_last [] none = map.len-empty key_cmp StoredResult
+no_entries-no_last (pair ∷ pairs) none =
+    let there = ap (option_map rows_of_pair)
+    (slice_get-get_or (pair ∷ pairs) (length (pair ∷ pairs) - 1) pair (omega arith)) in
+    let not = none in
+    cc

@@ -17,6 +17,8 @@
 //! instructions are bounded too. Such a body runs again at most as often as it is called, and its work then counts as
 //! work of the calling body. If that work grows, the calling body is no longer small. Then the first test alone decides
 //! whether it is stored.
+ghost use Rattle.std.specs.Prelude.{◌≡◌};
+
 use crate::recent_filter::RecentFilter;
 use crate::size::Size;
 use crate::{RerunCost, RerunCosts};
@@ -84,10 +86,11 @@ pub struct Policy<'a> {
     costs: &'a RerunCosts,
     accounts: Vec<RuleAccount>,
     recent: RecentFilter,
-    // The open bodies, without the newest `untracked` ones, for which an allocation failed.
+    // The open bodies.
     open: Vec<CallRun>,
-    untracked: u64,
     credit: u64,
+    // Whether an allocation for an open body has failed. Then `open` lacks it.
+    pub(crate) out_of_memory: bool,
 }
 
 impl<'a> Policy<'a> {
@@ -104,8 +107,8 @@ impl<'a> Policy<'a> {
             accounts: first_accounts(alloc, costs.rules())?,
             recent: RecentFilter::new(alloc, capacity)?,
             open: Vec::new(alloc),
-            untracked: 0,
             credit: 0,
+            out_of_memory: false,
         })
     }
 
@@ -125,12 +128,17 @@ impl<'a> Policy<'a> {
         }
     }
 
-    /// Records the start of a body. If an allocation fails, the result of this body isn't stored. Neither are the
-    /// results of bodies that start within it, until an allocation succeeds. They then count as started with the body
-    /// for which it succeeded.
+    /// Returns whether an allocation for the start of a body has failed. Then no more results may be offered.
+    pub fn is_out_of_memory(&self) -> bool
+        ensures { result ≡ self.now.out_of_memory }
+    {
+        self.out_of_memory
+    }
+
+    /// Records the start of a body. If an allocation for it fails, the policy is out of memory.
     pub fn begin(&mut self) {
         match self.open.last_mut() {
-            Some(run) if run.next == self.credit && self.untracked == 0 => {
+            Some(run) if run.next == self.credit => {
                 run.bodies = run.bodies.saturating_add(1);
                 run.next = run.next.saturating_add(WORK_PER_CALL);
                 self.credit = run.next;
@@ -139,16 +147,14 @@ impl<'a> Policy<'a> {
         }
     }
 
-    // Records the start of a body that is not directly within the newest nest. Bodies that were missed join it.
+    // Records the start of a body that is not directly within the newest nest.
     #[inline(never)]
     fn begin_run(&mut self) {
-        let bodies = self.untracked.saturating_add(1);
         let next = self.credit.saturating_add(WORK_PER_CALL);
-        if self.open.push(CallRun { next, bodies }).is_ok() {
-            self.untracked = 0;
+        if self.open.push(CallRun { next, bodies: 1 }).is_ok() {
             self.credit = next;
         } else {
-            self.untracked = bodies;
+            self.out_of_memory = true;
         }
     }
 
@@ -167,14 +173,9 @@ impl<'a> Policy<'a> {
     }
 
     /// Ends a call whose body has ended. Returns the work since the body began, or `None` if it isn't known: for a
-    /// trivial rule, for the first call of the start rule, which nothing looks up, and for a body whose start could
-    /// not be recorded.
+    /// trivial rule, and for the first call of the start rule, which nothing looks up.
     pub fn end_call(&mut self, rule: u32) -> Option<u64> {
         if self.accounts.get(rule as usize)?.trivial {
-            return None;
-        }
-        if self.untracked > 0 {
-            self.untracked = self.untracked.saturating_sub(1);
             return None;
         }
         let began = end_newest_call(&mut self.open)?;

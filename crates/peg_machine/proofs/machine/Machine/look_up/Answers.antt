@@ -18,8 +18,8 @@ there_is : (state : MemoMap) (rule position : ℕ) (result : StoredResult) → f
     → finite.get state (rule, position) ≢ None
 there_is state rule position result there none = cc
 
-pub returns-in-Some-Failed : goal.returns-in-Some-Failed
-returns-in-Some-Failed g c = λ trace runs.
+pub returns-in-Some-Failed-clause-post : goal.returns-in-Some-Failed-clause-post
+returns-in-Some-Failed-clause-post g c = λ trace runs.
     let old = c.args.self.now in
     let memo = memo_state (g.K.Keep.entries c.args.memo.now) (g.K.Keep.capacity c.args.memo.now) (g.K.Keep.allocation_failed c.args.memo.now) in
     let there : finite.get memo.entries (c.args.rule, old.position) ≡ Some StoredFailure =
@@ -27,8 +27,8 @@ returns-in-Some-Failed g c = λ trace runs.
     let next = hits_failure (context_of c.args.input) trace (state_of old memo) old.pc old.position c.args.rule runs
     c.requires.here there in (there_is memo.entries c.args.rule old.position StoredFailure there, next.0, next.1)
 
-pub returns-in_ok-extend_from_slice-in-Some-Done : goal.returns-in_ok-extend_from_slice-in-Some-Done
-returns-in_ok-extend_from_slice-in-Some-Done g c = λ trace runs.
+pub returns-in_ok-extend_from_slice-in-Some-Done-clause-post : goal.returns-in_ok-extend_from_slice-in-Some-Done-clause-post
+returns-in_ok-extend_from_slice-in-Some-Done-clause-post g c = λ trace runs.
     let old = c.args.self.now in
     let context = context_of c.args.input in
     let memo = memo_state (g.K.Keep.entries c.args.memo.now) (g.K.Keep.capacity c.args.memo.now) (g.K.Keep.allocation_failed c.args.memo.now) in
