@@ -159,11 +159,10 @@ fn explain_texts<O: Opener>(
         → IfOk result (IsReportOfTexts (question_of query.now) (O.file_at files.now) file.now (parser_rules parser.now)
         list.now) }
 {
-    let explainer = Explainer::new(alloc, file, parser, query.style)?;
     let mut names = Vec::new(alloc);
     push_texts(query.texts, &mut names)?;
     let fault = push_listed(list, query.end, &mut names)?;
-    let mut entries = entries_of(alloc, files, &explainer, &names, &query.options)?;
+    let mut entries = entries_by_file(alloc, files, file, parser, &names, query)?;
     push_fault(query.list.unwrap_or(""), fault, &mut entries)?;
     report_of_entries(alloc, &entries)
 }
@@ -184,6 +183,28 @@ fn push_fault<'a>(
         }
         None => Ok(()),
     }
+}
+
+// What is reported of the texts with these names by a grammar file. The grammar of explanations is large, so it is made
+// only if there is a name.
+fn entries_by_file<'a, O: Opener>(
+    alloc: Global,
+    files: &O,
+    file: &[u8],
+    parser: &Parser,
+    names: &[&'a str],
+    query: &Query<'_>,
+) -> Result<Vec<Entry<'a>>, AllocError>
+    ensures names { IfOk result (λ entries. map entry_name entries.items ≡ map (λ name. name.now) names.now) }
+    ensures reports { (from : List ℕ) → start_name (parser_rules parser.now) (start_named query.now.options) ≡ Some from
+        → IfOk result (λ entries. All (IsEntryOf (O.file_at files.now) file.now (parser_rules parser.now) query.now.style
+        (start_named query.now.options) query.now.options.memo query.now.options.steps) entries.items) }
+{
+    if names.is_empty() {
+        return Ok(Vec::new(alloc));
+    }
+    let explainer = Explainer::new(alloc, file, parser, query.style)?;
+    entries_of(alloc, files, &explainer, names, &query.options)
 }
 
 // What is reported of the texts with these names.

@@ -1,8 +1,7 @@
-use Rattle.std.proofs.Common.{All, ◌≡◌, ◌∙◌, ◌++◌, ℕ, List, [], Option, ap, map, refl, string_bytes, subst, unwrap_or}
+use Rattle.std.proofs.Common.{◌≡◌, ◌∙◌, ◌++◌, ℕ, List, [], Option, ap, map, refl, string_bytes, subst, unwrap_or}
 use Rattle.std.specs.List.{flat_map}
-use Rattle.peg_explain.specs.declared.style.ItemStyle.{ItemStyle}
-use Rattle.peg_parser.specs.Parser.{parser_rules, start_named}
-use Rattle.peg_explain_files.specs.Entries.{AreFaultEntries, IsEntryOf, entry_fault, entry_message, verdict_of_entries}
+use Rattle.peg_parser.specs.Parser.{parser_rules}
+use Rattle.peg_explain_files.specs.Entries.{AreFaultEntries, entry_fault, entry_message, verdict_of_entries}
 use Rattle.peg_explain_files.specs.Explained.{IsReportOfTexts}
 use Rattle.peg_explain_files.specs.Names.{list_fault, listed_names}
 use Rattle.peg_explain_files.specs.Questions.{question_of}
@@ -27,16 +26,12 @@ returns g c from is =
     let of_list = subst (λ (name : List ℕ). AreFaultEntries name (list_fault list) fault.0) list_name
     (subst (λ (f : Option TextReport). AreFaultEntries c.unwrap_or.result.now f fault.0) c.in_ok-fault.ensures.fault
     fault.2) in
-    let start = start_named c.args.query.now.options in
-    let reports = subst (λ (style : ItemStyle). All (IsEntryOf (g.O.Opener.file_at c.args.files.now) c.args.file.now rules
-    style start question.memo question.steps) entries) c.in_ok-explainer.ensures.styled
-    (c.in_ok-entries.ensures.reports c.args.file.now rules from c.in_ok-explainer.ensures.made is) in
     IfOk-three c.report_of_entries.result _ _ _ (IsReportOfTexts question (g.O.Opener.file_at c.args.files.now) c.args.file.now rules list)
     (λ report messages faults verdict. record {
       entries = entries;
       added = fault.0;
       names = names;
-      reports = reports;
+      reports = c.in_ok-entries.ensures.reports from is;
       of_list = of_list;
       printed = record {
         messages = messages ∙ ap (flat_map entry_message) all;
