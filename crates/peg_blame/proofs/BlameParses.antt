@@ -9,6 +9,7 @@ use Rattle.peg_diagnostics.specs.LoudCalls.{calls_of_first}
 use Rattle.peg_diagnostics.proofs.ItemNumbers.{extents-terminals}
 use Rattle.peg_diagnostics.proofs.Lookups.{Distinct}
 use Rattle.peg_grammar.specs.Outcomes.{IsParseOutcomeAmong}
+use Rattle.peg_machine.specs.Traced.{GetsCalls}
 use Rattle.peg_parser.specs.Calls.{AreCallsOf, TracesCallsOf}
 use Rattle.peg_semantics.specs.Grammar.{IsGrammar}
 use Rattle.peg_semantics.specs.Record.{RuleCall}
@@ -64,10 +65,14 @@ module _ (rules shown : List Rule) (named : Option (List ℕ)) (same : shown ≡
           (subst (λ (l : List ℕ). IsParseOutcomeAmong (diagnostic_rules rules) text start l outcome) listed
           (subst (λ (all : List Rule). IsParseOutcomeAmong all text start terminals outcome) same here))
 
+  -- a tracer that stores a list has traced these calls
+  abbrev stores : (stored calls : List RuleCall) → Type 0
+  stores stored calls = stored ≡ calls
+
   -- the rules that are called from a start
   pub start-called : (text : List ℕ) (at : ℕ) (set : List Bool) (before after : List RuleCall) → before ≡ []
       → Distinct (names (diagnostic_rules rules)) → ∥ IsWellFormedGrammar rules ∥₁
-      → IfSome (start_name shown named) (λ start. TracesCallsOf shown text start true before after)
+      → IfSome (start_name shown named) (λ start. TracesCallsOf shown text start (GetsCalls true stores before after))
       → ((rule : ℕ) → has_rule set rule ≡ is_called (calls_of_first (length rules) after) rule at)
       → IfSome (start_name rules named) (λ start. HasCalledRules rules text start at set)
   start-called text at set before after none distinct formed traced is = by (start_name rules named) refl
@@ -77,11 +82,11 @@ module _ (rules shown : List Rule) (named : Option (List ℕ)) (same : shown ≡
       by None found = tt
       by (Some start) found =
           let numbered = start-numbered rules named start some found in
-          let here : TracesCallsOf shown text start true before after =
-          subst (λ (o : Option (List ℕ)). IfSome o (λ start. TracesCallsOf shown text start true before after))
+          let here : TracesCallsOf shown text start (GetsCalls true stores before after) =
+          subst (λ (o : Option (List ℕ)). IfSome o (λ start. TracesCallsOf shown text start (GetsCalls true stores before after)))
           (shown-start start found) traced in
           let calls = here.0 in
-          let all : after ≡ calls = here.1 refl ∙ ap (λ (l : List RuleCall). l ++ calls) none in
+          let all : after ≡ calls = here.1 refl before refl ∙ ap (λ (l : List RuleCall). l ++ calls) none in
           called-rules rules distinct text start at set calls numbered.0 numbered.1 numbered.2 formed
           (subst (λ (l : List Rule). AreCallsOf l text start calls) same here.2)
           (λ rule. is rule ∙ ap (λ (l : List RuleCall). is_called (calls_of_first (length rules) l) rule at) all)

@@ -1,5 +1,5 @@
 -- The entries of a printed profile, in order; no entry contains a float.
-use Rattle.std.proofs.Common.{◌≡◌, ℕ, ◌<◌, List, [], ◌∷◌, length, map, Bool, false, ◌||◌, Option, None, Some}
+use Rattle.std.proofs.Common.{◌≡◌, ℕ, ◌<◌, List, [], ◌∷◌, length, map, Bool, false, ◌||◌, ◌⊎◌, inl, inr, Option, Some}
 use Rattle.std.proofs.Common.{codes, unwrap_or, get_or, refl, subst, suc, sym, ap, ◌∙◌, arith}
 use Rattle.std.specs.List.{zip}
 use Rattle.std.proofs.lemmas.List.{length-map, get_or-map}
@@ -14,25 +14,31 @@ use Rattle.serde_json.specs.View.{items_of}
 use Rattle.serde_json.specs.Written.{has_float, items_have_float, members_have_float}
 use Rattle.peg_semantics.specs.Rules.{Rule, names, name_of}
 use Rattle.peg_profile.specs.declared.counts.RuleProfile.{RuleProfile}
+use Rattle.peg_json.specs.declared.profile_end.ProfileEnd.{ProfileEnd}
+use Rattle.peg_json.specs.declared.profile_end.ProfileEnd.TheVariants.{Matched, Failed, Stopped}
 use Rattle.peg_json.specs.ProfileText.{profile_data, profile_members, rule_entries_data, rule_entry_data, with_end}
 
 -- ---- the beginning of a profile
 
--- of a parse that failed
-pub failed-begun : (end : Option ℕ) (rest : Members) (old mid last : Log) → end ≡ None
+-- of a parse that failed or was stopped
+pub failed-begun : (end : ProfileEnd) (rest : Members) (old mid last : Log) → (end ≡ Failed) ⊎ (end ≡ Stopped)
     → Logs old mid (event.map_begins (Some 3)) → members_len rest ≡ 3 → SendsMembers rest mid last
     → SendsValue (object (with_end end rest)) old last
-failed-begun end rest old mid last is begins count sent =
-    subst (λ (e : Option ℕ). SendsValue (object (with_end e rest)) old last) (sym is)
-    (mid, subst (λ (n : ℕ). Logs old mid (event.map_begins (Some n))) (sym count) begins, sent)
+failed-begun end rest old mid last is begins count sent = elim is [
+  | inl failed ↦ subst (λ (e : ProfileEnd). SendsValue (object (with_end e rest)) old last) (sym failed) begun
+  | inr stopped ↦ subst (λ (e : ProfileEnd). SendsValue (object (with_end e rest)) old last) (sym stopped) begun
+]
+  where
+    begun : SendsValue (object rest) old last
+    begun = (mid, subst (λ (n : ℕ). Logs old mid (event.map_begins (Some n))) (sym count) begins, sent)
 
 -- of a parse that matched up to an end
-pub matched-begun : (end : Option ℕ) (to : ℕ) (rest : Members) (old mid named inner last : Log) → end ≡ Some to
+pub matched-begun : (end : ProfileEnd) (to : ℕ) (rest : Members) (old mid named inner last : Log) → end ≡ Matched to
     → Logs old mid (event.map_begins (Some 4)) → members_len rest ≡ 3
     → Logs mid named (event.field_key (codes "consumed") AsIs) → SendsValue (number (unsigned to)) named inner
     → SendsMembers rest inner last → SendsValue (object (with_end end rest)) old last
 matched-begun end to rest old mid named inner last is begins count key consumed sent =
-    subst (λ (e : Option ℕ). SendsValue (object (with_end e rest)) old last) (sym is) (
+    subst (λ (e : ProfileEnd). SendsValue (object (with_end e rest)) old last) (sym is) (
       mid,
       subst (λ (n : ℕ). Logs old mid (event.map_begins (Some (suc n)))) (sym count) begins,
       (named, inner, key, consumed, sent),
@@ -46,12 +52,13 @@ entries-without_floats : (entries : List (List ℕ × RuleProfile)) → items_ha
 entries-without_floats [] = refl
 entries-without_floats (entry ∷ entries) = entries-without_floats entries
 
-end-without_floats : (end : Option ℕ) (others : Members) → members_have_float others ≡ false
+end-without_floats : (end : ProfileEnd) (others : Members) → members_have_float others ≡ false
     → members_have_float (with_end end others) ≡ false
-end-without_floats None others clear = clear
-end-without_floats (Some end) others clear = clear
+end-without_floats (Matched end) others clear = clear
+end-without_floats Failed others clear = clear
+end-without_floats Stopped others clear = clear
 
-pub profile-without_floats : (end : Option ℕ) (steps : ℕ) (names : List (List ℕ)) (profiles : List RuleProfile)
+pub profile-without_floats : (end : ProfileEnd) (steps : ℕ) (names : List (List ℕ)) (profiles : List RuleProfile)
     → has_float (profile_data end steps names profiles) ≡ false
 profile-without_floats end steps names profiles =
     end-without_floats end (profile_members end steps names profiles)

@@ -6,14 +6,15 @@ use Rattle.peg_machine.specs.CoreOutcome.{saturated}
 use Rattle.peg_semantics.specs.Record.{Record, RuleCall}
 use Rattle.peg_semantics.specs.Rules.{Rule, names, is_defined}
 use Rattle.peg_semantics.specs.Starts.{Recognizes, start_name}
-use Rattle.peg_parser.specs.Calls.{AreCallsInOrder, AreCallsOf}
-use Rattle.peg_parser.specs.Cause.{NoSuchStart, StepLimit, TextTooLong}
+use Rattle.peg_parser.specs.Calls.{AreCallsInOrder, AreCallsOf, AreCallsSoFar, AreFirstCalls}
+use Rattle.peg_parser.specs.Cause.{NoSuchStart, TextTooLong}
 use Rattle.peg_parser.specs.StepLimits.{TakesMoreSteps, TakesPlainSteps}
 use Rattle.peg_profile.specs.Profiles.{AreProfilesOf}
 use Rattle.peg_profile.specs.declared.counts.RuleProfile.{RuleProfile}
 use Rattle.peg_json.specs.Parses.{HasEnoughSteps}
-use Rattle.peg_json.specs.ProfileText.{end_of}
+use Rattle.peg_json.specs.ProfileText.{parsed_end}
 use Rattle.peg_json.specs.Reply.{Reply, Refused, Profiled}
+use Rattle.peg_json.specs.declared.profile_end.ProfileEnd.TheVariants.{Stopped}
 
 -- a number of steps of a parse: at most its plain steps, and without a memo exactly these
 abbrev pub AreSteps : List Rule → List ℕ → (start : Option (List ℕ)) → (memo : ℕ) → (steps : ℕ) → Type 0
@@ -25,15 +26,21 @@ AreSteps rules text start memo steps =
 -- limit. The end is that of Ford's record. The profiles are those of some list of calls that has, as a set, the calls of
 -- the record. Without a memo they are the calls of the record, each as often as it is made. A text that is too long is
 -- reported before a start that no rule has.
+--
+-- A parse that takes more steps than the limit is stopped there. Its profiles are of calls of the record, and without a
+-- memo of the first ones, in order.
 pub data ProfilesTo (rules : List Rule) (text : List ℕ) (start : Option (List ℕ)) (memo : ℕ) (steps : Option ℕ)
     : Reply → Type 0 where
   text_over_limit : max_text_bytes < length text → ProfilesTo rules text start memo steps (Refused TextTooLong)
   start_without_rule : (name : List ℕ) → length text ≤ max_text_bytes → start ≡ Some name
       → is_defined rules name ≡ false → ProfilesTo rules text start memo steps (Refused (NoSuchStart name))
-  steps_over_limit : length text ≤ max_text_bytes → TakesMoreSteps rules text start steps
-      → ProfilesTo rules text start memo steps (Refused StepLimit)
+  steps_over_limit : {from : List ℕ} {limit : ℕ} {calls : List RuleCall} {profiles : List RuleProfile}
+      → length text ≤ max_text_bytes → start_name rules start ≡ Some from → steps ≡ Some limit
+      → TakesMoreSteps rules text start steps → AreCallsSoFar rules text from steps calls
+      → (memo ≡ 0 → AreFirstCalls rules text from calls) → AreProfilesOf (length rules) calls profiles
+      → ProfilesTo rules text start memo steps (Profiled Stopped limit (names rules) profiles)
   has_profile : {from : List ℕ} {r : Record} {taken : ℕ} {calls : List RuleCall} {profiles : List RuleProfile}
       → length text ≤ max_text_bytes → HasEnoughSteps rules text start memo steps → start_name rules start ≡ Some from
       → Recognizes rules text from r → AreSteps rules text start memo taken → AreCallsOf rules text from calls
       → (memo ≡ 0 → AreCallsInOrder rules text from calls) → AreProfilesOf (length rules) calls profiles
-      → ProfilesTo rules text start memo steps (Profiled (end_of (parsed_of r.result)) taken (names rules) profiles)
+      → ProfilesTo rules text start memo steps (Profiled (parsed_end (parsed_of r.result)) taken (names rules) profiles)

@@ -1,5 +1,5 @@
 -- The line and the exit status of the tool's replies.
-use Rattle.std.specs.Prelude.{ℕ, Bool, true, false, List, [], ◌∷◌, ◌++◌, Option, codes, map, slice_index_or, if◌then◌else◌}
+use Rattle.std.specs.Prelude.{ℕ, Bool, true, false, List, [], ◌∷◌, ◌++◌, codes, map, slice_index_or, if◌then◌else◌}
 use Rattle.serde_json.specs.Data.{Data, Members, unsigned, number, string}
 use Rattle.serde_json.specs.Data.{array, object, no_members, member}
 use Rattle.serde_json.specs.Data.{null}
@@ -22,6 +22,7 @@ use Rattle.peg_json.specs.CoverageText.{coverage_data, status_of_coverage, too_l
 use Rattle.peg_listings.specs.LintText.{lint_data, status_of_warnings}
 use Rattle.peg_json.specs.ProfileText.{profile_data, status_of_end}
 use Rattle.peg_listings.specs.TableText.{table_data}
+use Rattle.peg_json.specs.declared.profile_end.ProfileEnd.{ProfileEnd}
 use Rattle.peg_json.specs.declared.tree_form.TreeForm.{TreeForm}
 use Rattle.peg_json.specs.declared.tree_form.TreeForm.TheVariants.{Nested, Rows, NoTree}
 
@@ -29,7 +30,7 @@ use Rattle.peg_json.specs.declared.tree_form.TreeForm.TheVariants.{Nested, Rows,
 -- grammar. Others are the code with the entry of each rule, the rules' names with warnings, a profile, what texts use, a
 -- failure, and a match.
 --
--- A profile has the end of the parse if it matched, the number of its steps, and the rules' names with their profiles.
+-- A profile has how the parse has ended, the number of its steps, and the rules' names with their profiles.
 -- What texts use has the number of texts, how many of them match, and the rules and alternatives that are unused; or
 -- the marked grammar, by which that is found, is over a limit.
 -- A failure is the furthest failure: a position of the text, and the spans of terminals in the grammar file. A match
@@ -41,7 +42,7 @@ pub data Reply : Type 0 where
   Accepted : (rules : ℕ) → Reply
   Coded : (code : List Instruction) → (entries : List ℕ) → Reply
   Linted : (names : List (List ℕ)) → List Warning → Reply
-  Profiled : (end : Option ℕ) → (steps : ℕ) → (names : List (List ℕ)) → List RuleProfile → Reply
+  Profiled : (end : ProfileEnd) → (steps : ℕ) → (names : List (List ℕ)) → List RuleProfile → Reply
   Covered : (texts matched : ℕ) → (rules : List Reference) → (alternatives : List Extent) → Reply
   NoCoverage : Reply
   Failed : (far : ℕ) → (expected : List Extent) → Reply

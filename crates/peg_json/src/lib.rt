@@ -10,6 +10,7 @@ mod expected_spans;
 mod fault;
 mod line;
 mod lines;
+mod profile_end;
 mod profile_lines;
 mod profile_text;
 mod refusal_text;

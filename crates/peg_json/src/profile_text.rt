@@ -7,13 +7,14 @@ ghost use Rattle.serde_json.specs.View.{items_of};
 ghost use Rattle.serde_json.specs.Written.{compact_text};
 ghost use Rattle.peg_grammar.specs.GrammarRules.{rules_in};
 ghost use Rattle.peg_semantics.specs.Rules.{names};
-ghost use Rattle.peg_json.specs.ProfileText.{end_of, end_word, profile_data, profile_members, rule_entries_data};
+ghost use Rattle.peg_json.specs.ProfileText.{end_of, profile_data, profile_members, rule_entries_data};
 ghost use Rattle.peg_json.specs.ProfileText.{rule_entry_data, with_end};
 
+use crate::profile_end::ProfileEnd;
 use peg_grammar::Grammar;
 use peg_listings::text_of;
 use peg_profile::{Profile, RuleProfile};
-use peg_tree::{Parsed, serialize_member};
+use peg_tree::serialize_member;
 use serde::{Described, Serialize, Serializer};
 use std::alloc::{AllocError, Global};
 
@@ -25,36 +26,25 @@ pub fn profile_json(
     profile: &Profile,
 ) -> Result<String, AllocError>
     requires { length profile.now.rules.items ≡ length (rules_in grammar.now) }
-    ensures { IfOk result (λ text. string_bytes text ≡ compact_text (profile_data
-        (end_of profile.now.answer.outcome.result) profile.now.answer.steps (names (rules_in grammar.now))
-        profile.now.rules.items)) }
+    ensures { IfOk result (λ text. string_bytes text ≡ compact_text (profile_data (end_of profile.now.answer)
+        profile.now.steps (names (rules_in grammar.now)) profile.now.rules.items)) }
 {
     text_of(
         alloc,
         &ProfileObject {
             grammar,
-            end: end_of(&profile.answer.outcome.result),
-            steps: profile.answer.steps,
+            end: ProfileEnd::of(profile),
+            steps: profile.steps,
             profiles: &profile.rules,
         },
     )
-}
-
-// The end of a match; none of a failure.
-fn end_of(parsed: &Parsed) -> Option<u32>
-    ensures { result ≡ end_of parsed.now }
-{
-    match parsed {
-        Parsed::Matched { end, .. } => Some(*end),
-        Parsed::Failed => None,
-    }
 }
 
 // A profile, serialized as the result of the parse and the entries of its rules.
 #[derive(Drop)]
 struct ProfileObject<'a> {
     grammar: &'a Grammar,
-    end: Option<u32>,
+    end: ProfileEnd,
     steps: u64,
     profiles: &'a [RuleProfile],
     ghost count: { length profiles.now ≡ length (rules_in grammar.now) },
@@ -74,7 +64,7 @@ impl Serialize for ProfileObject<'_> {
 // Serializes the profile of a parse with this end and this number of steps.
 fn serialize_profile<S: Serializer>(
     grammar: &Grammar,
-    end: Option<u32>,
+    end: ProfileEnd,
     steps: u64,
     profiles: &[RuleProfile],
     out: &mut S,
@@ -89,14 +79,14 @@ fn serialize_profile<S: Serializer>(
 }
 
 // Begins the object of a profile, with the number of consumed bytes first if the parse matched.
-fn begin_profile<S: Serializer>(end: Option<u32>, out: &mut S) -> Result<(), S::Error>
+fn begin_profile<S: Serializer>(end: ProfileEnd, out: &mut S) -> Result<(), S::Error>
     ensures { OnOk result ((rest : Members) (last : Log) → members_len rest ≡ 3
         → SendsMembers rest (S.written out.new) last
         → SendsValue (object (with_end end rest)) (S.written out.old) last) }
 {
     match end {
-        None => out.begin_map(Some(3)),
-        Some(end) => {
+        ProfileEnd::Failed | ProfileEnd::Stopped => out.begin_map(Some(3)),
+        ProfileEnd::Matched(end) => {
             out.begin_map(Some(4))?;
             serialize_member("consumed", &end, out)
         }
@@ -106,7 +96,7 @@ fn begin_profile<S: Serializer>(end: Option<u32>, out: &mut S) -> Result<(), S::
 // Serializes the members from the result to the number of steps.
 fn serialize_result<S: Serializer>(
     grammar: &Grammar,
-    end: Option<u32>,
+    end: ProfileEnd,
     steps: u64,
     profiles: &[RuleProfile],
     out: &mut S,
@@ -116,20 +106,10 @@ fn serialize_result<S: Serializer>(
         → SendsMembers (profile_members end steps (names (rules_in grammar.now)) profiles.now)
         (S.written out.old) last) }
 {
-    serialize_member("result", &end_word(end), out)?;
+    serialize_member("result", &end.word(), out)?;
     out.key("rules")?;
     serialize_entries(grammar, profiles, out)?;
     serialize_member("steps", &steps, out)
-}
-
-// The `result` member of a profile.
-fn end_word(end: Option<u32>) -> &'static str
-    ensures { result.now ≡ end_word end }
-{
-    match end {
-        None => "failed",
-        Some(_) => "matched",
-    }
 }
 
 // Serializes the entries of the rules, in order.

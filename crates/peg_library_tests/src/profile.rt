@@ -1,7 +1,7 @@
-//! The calls of rules in the order of a parse, and profiles of any calls.
-use peg_machine::ListWatch;
+//! The calls of rules in the order of a parse, and counts of any calls.
+use peg_machine::{ListWatch, Watch};
 use peg_parser::{ParseFault, ParseOptions, Parser};
-use peg_profile::{RuleProfile, rule_profiles};
+use peg_profile::{CallCounts, RuleProfile};
 use peg_tree::Parsed;
 use std::process::Abort;
 use std::test::Fail;
@@ -29,21 +29,37 @@ fn a_tracer_is_shown_each_call(rt: HostRuntime) -> Result<(), Fail> {
     Ok(())
 }
 
+// A list has room for four positions first. So repetitions are dropped before the fifth call, and more are added.
 #[test]
-fn calls_of_other_rules_are_left_out(rt: HostRuntime) -> Result<(), Fail> {
-    let calls = [(1, 5), (0, 2), (1, 3), (1, 5), (2, 0)];
-    let profiles = rule_profiles(rt.alloc(), 2, &calls)?;
+fn repeated_positions_are_counted_once(rt: HostRuntime) -> Result<(), Fail> {
+    let calls = [
+        (1, 5),
+        (0, 2),
+        (1, 3),
+        (1, 5),
+        (1, 3),
+        (2, 0),
+        (1, 4),
+        (1, 3),
+        (1, 9),
+        (1, 5),
+    ];
+    let mut counts = CallCounts::new(rt.alloc());
+    for (rule, position) in calls.iter() {
+        counts.begin(*rule, *position)?;
+    }
+    let profiles = counts.profiles(rt.alloc(), 2)?;
     let expected = [
         RuleProfile {
             calls: 1,
             places: 1,
         },
         RuleProfile {
-            calls: 3,
-            places: 2,
+            calls: 8,
+            places: 4,
         },
     ];
     assert_eq!(rt; profiles.as_slice(), expected.as_slice());
-    assert!(rt; rule_profiles(rt.alloc(), 0, &calls)?.is_empty());
+    assert!(rt; counts.profiles(rt.alloc(), 0)?.is_empty());
     Ok(())
 }

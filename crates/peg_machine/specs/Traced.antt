@@ -79,16 +79,36 @@ Traces bodies text start capacity allocation_failed max_steps (Ok answer) pairs 
 Traces bodies text start capacity allocation_failed max_steps (Err fault) pairs =
     HasTracedSoFar bodies text start max_steps fault pairs
 
--- The tracer, if it records, got the calls of the record of the start, in order, each as often as it was made. The start
--- is the first.
-abbrev pub TracesInOrder : List CoreForm → List ℕ → (start : ℕ) → (records : Bool) → (before after : List RuleCall) → Type 0
-TracesInOrder bodies text start records before after =
-    (n : ℕ) × (r : Record) × (core_record_in bodies text n (Rule start) 0 ≡ Some r)
-    × (IsTrue records → after ≡ before ++ r.calls)
+-- A tracer got the calls of the record of the start, in order, each as often as it was made. The start is the first.
+abbrev pub TracesInOrder : List CoreForm → List ℕ → (start : ℕ) → (gets : List RuleCall → Type 0) → Type 0
+TracesInOrder bodies text start gets =
+    (n : ℕ) × (r : Record) × (core_record_in bodies text n (Rule start) 0 ≡ Some r) × gets r.calls
+
+-- A run without a memo was stopped by its step limit. The pairs are the first calls of the record of the start, in
+-- order, and their own steps exceed the limit.
+pub record HasTracedFirst (bodies : List CoreForm) (text : List ℕ) (start : ℕ) (max_steps : Option ℕ)
+    (pairs : List RuleCall) : Type 0 where
+  pub so_far : HasTracedSoFar bodies text start max_steps StepLimit pairs
+  pub n : ℕ
+  pub r : Record
+  pub later : List RuleCall
+  pub recorded : core_record_in bodies text n (Rule start) 0 ≡ Some r
+  pub first : r.calls ≡ pairs ++ later
 
 -- ---- a tracer
 
+-- between two states a tracer got these calls: what the old state had traced, and these after it, the new one has traced
+abbrev pub TracesMore : {Tracer : Type 0} → (traced : Tracer → List RuleCall → Type 0) → (old new : Tracer)
+    → (calls : List RuleCall) → Type 0
+TracesMore traced old new calls = (before : List RuleCall) → traced old before → traced new (before ++ calls)
+
+-- the same, for a tracer that records
+abbrev pub GetsCalls : {Tracer : Type 0} → (records : Bool) → (traced : Tracer → List RuleCall → Type 0)
+    → (old new : Tracer) → (calls : List RuleCall) → Type 0
+GetsCalls records traced old new calls = IsTrue records → TracesMore traced old new calls
+
 -- A tracer that records got the same additional calls that the run counts among its pairs.
-abbrev pub TracesAgree : (records : Bool) → (before after counted_before counted_after : List RuleCall) → Type 0
-TracesAgree records before after counted_before counted_after =
-    IsTrue records → (more : List RuleCall) × (after ≡ before ++ more) × (counted_after ≡ counted_before ++ more)
+abbrev pub TracesAgree : {Tracer : Type 0} → (records : Bool) → (traced : Tracer → List RuleCall → Type 0)
+    → (old new : Tracer) → (counted_before counted_after : List RuleCall) → Type 0
+TracesAgree records traced old new counted_before counted_after =
+    IsTrue records → (more : List RuleCall) × TracesMore traced old new more × (counted_after ≡ counted_before ++ more)

@@ -1,6 +1,7 @@
 //! Tracers: receivers of the rule calls of a run.
-ghost use Rattle.std.specs.Prelude.{◌≡◌, ◌∷◌, ◌++◌, [], map, false, true, Bool, IsTrue, List, OnErr, OnOk};
+ghost use Rattle.std.specs.Prelude.{◌≡◌, ◌∷◌, [], map, ⊤, false, true, Bool, IsTrue, List, OnErr, OnOk};
 ghost use Rattle.peg_semantics.specs.Record.{RuleCall};
+ghost use Rattle.peg_machine.specs.Traced.{GetsCalls};
 ghost use Rattle.peg_machine.specs.Watched.{traced_call, call_of};
 
 use std::alloc::{AllocError, Global};
@@ -12,8 +13,8 @@ pub trait Watch {
     // whether the contracts promise anything about the calls traced
     ghost records: { Bool };
 
-    // the calls traced so far
-    ghost traced: { Self → List RuleCall };
+    // whether a state has traced these calls so far, in order; a tracer needn't store them
+    ghost traced: { Self → List RuleCall → Type 0 };
 
     /// Returns whether the tracer is active. An inactive tracer isn't called for every body.
     fn is_active(&self) -> bool
@@ -24,8 +25,8 @@ pub trait Watch {
 
     /// Records that the body of a rule runs from a position. An `Err` leaves the calls recorded so far.
     fn begin(&mut self, rule: u32, position: u32) -> Result<(), AllocError>
-        ensures ok { OnOk result (IsTrue records → traced self.new ≡ traced self.old ++ traced_call rule position ∷ []) }
-        ensures err { OnErr result (IsTrue records → traced self.new ≡ traced self.old) };
+        ensures ok { OnOk result (GetsCalls records traced self.old self.new (traced_call rule position ∷ [])) }
+        ensures err { OnErr result (GetsCalls records traced self.old self.new []) };
 }
 
 /// A tracer that ignores all calls.
@@ -35,7 +36,7 @@ pub struct NoWatch;
 impl Watch for NoWatch {
     ghost records = { false };
 
-    ghost traced = { λ _. [] };
+    ghost traced = { λ _ _. ⊤ };
 
     fn is_active(&self) -> bool {
         false
@@ -83,7 +84,7 @@ impl ListWatch {
 impl Watch for ListWatch {
     ghost records = { true };
 
-    ghost traced = { λ watch. watch };
+    ghost traced = { λ watch calls. watch ≡ calls };
 
     fn begin(&mut self, rule: u32, position: u32) -> Result<(), AllocError> {
         self.pairs.push((rule, position))?;

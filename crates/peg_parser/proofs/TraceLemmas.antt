@@ -1,5 +1,5 @@
 -- The calls that a run shows are those of Ford's record of the grammar as written, and its outcome fits the grammar.
-use Rattle.std.proofs.Common.{◌≡◌, ◌↔◌, ℕ, ◌<◌, Bool, List, Contains, IfOk, Result, Ok, Err, Option, None, Some, length, ap, ◌∙◌, subst}
+use Rattle.std.proofs.Common.{◌≡◌, ◌↔◌, ℕ, ◌<◌, List, Contains, IfOk, Result, Ok, Err, Option, None, Some, length, ap, ◌∙◌, refl, subst, sym}
 use Rattle.peg_bytes.specs.Extent.{between}
 use Rattle.peg_core.specs.CoreForm.{CoreForm, core_bodies, core_form}
 use Rattle.peg_core.specs.CoreForm.{Rule as use_of}
@@ -10,11 +10,13 @@ use Rattle.peg_core.proofs.SugarRecords.{IsRecord-from_core}
 use Rattle.peg_semantics.specs.Form.{Name}
 use Rattle.peg_semantics.specs.Record.{Record, RuleCall}
 use Rattle.peg_semantics.specs.Rules.{Rule, name_of}
+use Rattle.peg_semantics.specs.Starts.{Recognizes}
 use Rattle.peg_machine.specs.SelectedTests.{IsCoreOutcomeBy}
-use Rattle.peg_machine.specs.Traced.{IsVisited, TracesInOrder}
+use Rattle.peg_machine.specs.Traced.{HasTracedFirst, HasTracedSoFar, IsVisited, OwnStepsExceed, TracesInOrder}
+use Rattle.peg_machine.specs.declared.fault.RunFault.TheVariants.{StepLimit}
 use Rattle.peg_tree.specs.declared.outcome.Outcome.{Outcome}
 use Rattle.peg_machine.specs.declared.answer.Answer.{Answer}
-use Rattle.peg_parser.specs.Calls.{AreCallsOf, TracesCallsInOrder}
+use Rattle.peg_parser.specs.Calls.{AreCallsOf, AreCallsSoFar, AreFirstCalls, TracesCallsInOrder}
 use Rattle.peg_parser.specs.SelectedOutcomes.{FitsBy, IsParseOutcomeBy}
 use Rattle.peg_parser.specs.declared.parser.ParseFault.{ParseFault}
 use Rattle.peg_parser.specs.Parser.{parser_rules}
@@ -57,17 +59,56 @@ parser-calls among parser text start outcome calls bytes less is visited =
     written-calls rules text start r calls bytes named (held.0, held.1.1)
     (subst (λ (bodies : List CoreForm). AreVisitedCalls bodies text start calls) (same-bodies parser) visited)
 
--- a tracer that got the calls of the rule's record on core forms got those of Ford's record, in the same order
-pub parser-calls-in-order : (parser : Parser) (text : List ℕ) (start : ℕ) (records : Bool) (before after : List RuleCall)
-    → AreBytes text → start < length (parser_rules parser)
-    → TracesInOrder (bodies_of parser.program.core) text start records before after
-    → TracesCallsInOrder (parser_rules parser) text (name_of (parser_rules parser) start) records before after
-parser-calls-in-order parser text start records before after bytes less is =
+-- the record of a rule on core forms is Ford's record from the rule's name
+recognized : (parser : Parser) (text : List ℕ) (start n : ℕ) (r : Record) → AreBytes text
+    → start < length (parser_rules parser)
+    → core_record_in (core_bodies (parser_rules parser)) text n (use_of start) 0 ≡ Some r
+    → Recognizes (parser_rules parser) text (name_of (parser_rules parser) start) r
+recognized parser text start n r bytes less is =
     let rules = parser_rules parser in
-    let held = subst (λ (bodies : List CoreForm). TracesInOrder bodies text start records before after) (same-bodies parser) is in
-    let named : IsCoreRecord (core_bodies rules) text (core_form rules 0 (Name (name_of rules start) (between 0 0))) 0 held.1 =
-    (held.0, ap (λ (rule : ℕ). core_record_in (core_bodies rules) text held.0 (use_of rule) 0) (number-named parser start less) ∙ held.2) in
-    (held.1, IsRecord-from_core rules text bytes (Name (name_of rules start) (between 0 0)) 0 0 held.1 named, held.3)
+    let named : IsCoreRecord (core_bodies rules) text (core_form rules 0 (Name (name_of rules start) (between 0 0))) 0 r =
+    (n, ap (λ (rule : ℕ). core_record_in (core_bodies rules) text n (use_of rule) 0) (number-named parser start less) ∙ is) in
+    IsRecord-from_core rules text bytes (Name (name_of rules start) (between 0 0)) 0 0 r named
+
+-- a tracer that got the calls of the rule's record on core forms got those of Ford's record, in the same order
+pub parser-calls-in-order : (parser : Parser) (text : List ℕ) (start : ℕ) (gets : List RuleCall → Type 0)
+    → AreBytes text → start < length (parser_rules parser)
+    → TracesInOrder (bodies_of parser.program.core) text start gets
+    → TracesCallsInOrder (parser_rules parser) text (name_of (parser_rules parser) start) gets
+parser-calls-in-order parser text start gets bytes less is =
+    let held = subst (λ (bodies : List CoreForm). TracesInOrder bodies text start gets) (same-bodies parser) is in
+    (held.1, recognized parser text start held.0 held.1 bytes less held.2, held.3)
+
+-- the calls of a run that was stopped are calls of Ford's record
+pub parser-calls-so-far : (parser : Parser) (text : List ℕ) (start : ℕ) (max_steps : Option ℕ) (calls : List RuleCall)
+    → AreBytes text → start < length (parser_rules parser)
+    → HasTracedSoFar (bodies_of parser.program.core) text start max_steps StepLimit calls
+    → AreCallsSoFar (parser_rules parser) text (name_of (parser_rules parser) start) max_steps calls
+parser-calls-so-far parser text start max_steps calls bytes less is =
+    let rules = parser_rules parser in
+    let held = subst (λ (bodies : List CoreForm). HasTracedSoFar bodies text start max_steps StepLimit calls)
+    (same-bodies parser) is in
+    let limited = held.limited refl in
+    record {
+      of_record = λ call has.
+          let there = held.visited call has in
+          (there.1, recognized parser text start there.0 there.1 bytes less there.2, there.3);
+      limit = limited.0;
+      own = limited.1;
+      asked = limited.2;
+      own_steps = limited.3;
+      exceed = subst (λ (n : ℕ). OwnStepsExceed (core_bodies rules) text n limited.0 limited.1)
+          (sym (number-named parser start less)) limited.4;
+    }
+
+-- without a memo they are its first calls, in order
+pub parser-first-calls : (parser : Parser) (text : List ℕ) (start : ℕ) (max_steps : Option ℕ) (calls : List RuleCall)
+    → AreBytes text → start < length (parser_rules parser)
+    → HasTracedFirst (bodies_of parser.program.core) text start max_steps calls
+    → AreFirstCalls (parser_rules parser) text (name_of (parser_rules parser) start) calls
+parser-first-calls parser text start max_steps calls bytes less is =
+    let held = subst (λ (bodies : List CoreForm). HasTracedFirst bodies text start max_steps calls) (same-bodies parser) is in
+    (held.r, held.later, recognized parser text start held.n held.r bytes less held.recorded, held.first)
 
 -- the outcome of an answer fits the grammar
 pub answer-fits : (among : Option (List ℕ)) (parser : Parser) (text : List ℕ) (start : ℕ)

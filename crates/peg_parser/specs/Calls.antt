@@ -1,5 +1,8 @@
 -- The calls of rules in Ford's record of a text (Ford 2004, section 3.3; Ford 2002, section 3).
-use Rattle.std.specs.Prelude.{◌≡◌, ◌↔◌, ℕ, Bool, IsTrue, List, ◌++◌, Contains}
+use Rattle.std.specs.Prelude.{◌≡◌, ◌↔◌, ℕ, List, ◌++◌, Contains, Option, Some}
+use Rattle.peg_core.specs.CoreForm.{core_bodies, number_of}
+use Rattle.peg_machine.specs.Accounts.{OwnSteps}
+use Rattle.peg_machine.specs.Traced.{OwnStepsExceed}
 use Rattle.peg_semantics.specs.Record.{Record, RuleCall}
 use Rattle.peg_semantics.specs.Rules.{Rule}
 use Rattle.peg_semantics.specs.Starts.{Recognizes}
@@ -15,14 +18,38 @@ AreCallsOf rules text start calls =
 abbrev pub AreCallsInOrder : List Rule → List ℕ → (start : List ℕ) → List RuleCall → Type 0
 AreCallsInOrder rules text start calls = (r : Record) × Recognizes rules text start r × (calls ≡ r.calls)
 
--- a tracer that records was shown the calls of the record, in order
-abbrev pub TracesCallsInOrder : List Rule → List ℕ → (start : List ℕ) → (records : Bool)
-    → (before after : List RuleCall) → Type 0
-TracesCallsInOrder rules text start records before after =
-    (r : Record) × Recognizes rules text start r × (IsTrue records → after ≡ before ++ r.calls)
+-- The calls are the first ones of Ford's record of a text from the start rule with this name, in order.
+abbrev pub AreFirstCalls : List Rule → List ℕ → (start : List ℕ) → List RuleCall → Type 0
+AreFirstCalls rules text start calls =
+    (r : Record) × (later : List RuleCall) × Recognizes rules text start r × (r.calls ≡ calls ++ later)
 
--- a tracer that records was shown calls of the record, and each of them
-abbrev pub TracesCallsOf : List Rule → List ℕ → (start : List ℕ) → (records : Bool) → (before after : List RuleCall)
-    → Type 0
-TracesCallsOf rules text start records before after =
-    (calls : List RuleCall) × (IsTrue records → after ≡ before ++ calls) × AreCallsOf rules text start calls
+-- the call is one of Ford's record of a text from the start rule with this name
+abbrev pub IsCallOf : List Rule → List ℕ → (start : List ℕ) → RuleCall → Type 0
+IsCallOf rules text start call = (r : Record) × Recognizes rules text start r × Contains r.calls call
+
+-- The calls are some of Ford's record of a text from the start rule with this name. There is a limit of steps, and the
+-- steps of the bodies of these calls alone are more than the limit.
+pub record AreCallsSoFar (rules : List Rule) (text start : List ℕ) (max_steps : Option ℕ) (calls : List RuleCall)
+    : Type 0 where
+  pub of_record : (call : RuleCall) → Contains calls call → IsCallOf rules text start call
+  pub limit : ℕ
+  pub own : ℕ
+  pub asked : max_steps ≡ Some limit
+  pub own_steps : OwnSteps (core_bodies rules) text calls own
+  pub exceed : OwnStepsExceed (core_bodies rules) text (number_of rules start) limit own
+
+-- a tracer got the calls of the record, in order
+abbrev pub TracesCallsInOrder : List Rule → List ℕ → (start : List ℕ) → (gets : List RuleCall → Type 0) → Type 0
+TracesCallsInOrder rules text start gets = (r : Record) × Recognizes rules text start r × gets r.calls
+
+-- a tracer got calls of the record, and each of them
+abbrev pub TracesCallsOf : List Rule → List ℕ → (start : List ℕ) → (gets : List RuleCall → Type 0) → Type 0
+TracesCallsOf rules text start gets = (calls : List RuleCall) × gets calls × AreCallsOf rules text start calls
+
+-- A parse that met its step limit had shown a tracer some calls of the record, and without a memo the first ones, in
+-- order.
+abbrev pub TracesCallsSoFar : List Rule → List ℕ → (start : List ℕ) → (memo : ℕ) → (max_steps : Option ℕ)
+    → (gets : List RuleCall → Type 0) → Type 0
+TracesCallsSoFar rules text start memo max_steps gets =
+    (calls : List RuleCall) × gets calls × AreCallsSoFar rules text start max_steps calls
+    × (memo ≡ 0 → AreFirstCalls rules text start calls)

@@ -16,6 +16,8 @@ ghost use Rattle.peg_semantics.specs.Terminals.{extents_of_terminals};
 ghost use Rattle.peg_semantics.specs.WellFormed.{IsWellFormedGrammar};
 ghost use Rattle.peg_machine.specs.CoreOutcome.{ExceedsStepLimit, saturated, TakesSteps};
 ghost use Rattle.peg_machine.specs.SelectedTests.{listed};
+ghost use Rattle.peg_machine.specs.Traced.{GetsCalls};
+ghost use Rattle.peg_semantics.specs.Record.{RuleCall};
 
 use crate::large_code::refusal_of_large_code;
 use crate::options::ParseOptions;
@@ -96,7 +98,8 @@ impl Parser {
     ghost use Rattle.peg_semantics.specs.Rules.{name_of};
     ghost use Rattle.peg_notation.specs.Spans.{RuleLiesIn};
     ghost use Rattle.peg_parser.specs.Accepts.{Accepts, IsRead, IsAcceptedGrammar, code_size};
-    ghost use Rattle.peg_parser.specs.Calls.{TracesCallsInOrder, TracesCallsOf};
+    ghost use Rattle.peg_parser.specs.Calls.{AreCallsSoFar, AreFirstCalls, TracesCallsInOrder, TracesCallsOf};
+    ghost use Rattle.peg_parser.specs.Calls.{TracesCallsSoFar};
     ghost use Rattle.peg_parser.specs.Faults.{RefusalMeaning, HasCause, HasDefinitionsOf};
     ghost use Rattle.peg_parser.specs.Fits.{Fits};
     ghost use Rattle.peg_parser.specs.GrammarRefusals.{IsRefusalOfGrammar};
@@ -332,8 +335,9 @@ impl Parser {
     /// the calls of Ford's record of the text, in order, each as often as it is made (Ford 2004, section 3.3). With one they
     /// are these calls as a set, whatever the memo answers.
     ///
-    /// The errors are those of `parse`. After `NoSuchStart` and `TextTooLong` the tracer is as it was; after another error
-    /// it may have been shown some of the calls.
+    /// The errors are those of `parse`. After `NoSuchStart` and `TextTooLong` the tracer is as it was. After `StepLimit` it
+    /// has been shown the calls made so far: some of these calls, and without a memo the first of them. After `Memory` it
+    /// may have been shown some of them.
     ///
     /// # Example
     ///
@@ -359,12 +363,16 @@ impl Parser {
             (λ start. IsParseOutcome (parser_rules self.now) text.now start answer.outcome)) }
         ensures fits { IfOk result (λ answer. Fits (parser_rules self.now) answer.outcome) }
         ensures traced { OnOk result (IfSome (start_name (parser_rules self.now) (start_named options.now))
-            (λ start. TracesCallsOf (parser_rules self.now) text.now start W.records (W.traced watch.old)
-            (W.traced watch.new))) }
+            (λ start. TracesCallsOf (parser_rules self.now) text.now start
+            (GetsCalls W.records W.traced watch.old watch.new))) }
         ensures in_order { options.now.memo ≡ 0
             → OnOk result (IfSome (start_name (parser_rules self.now) (start_named options.now))
-            (λ start. TracesCallsInOrder (parser_rules self.now) text.now start W.records (W.traced watch.old)
-            (W.traced watch.new))) }
+            (λ start. TracesCallsInOrder (parser_rules self.now) text.now start
+            (GetsCalls W.records W.traced watch.old watch.new))) }
+        ensures stopped { IsErrOf result ParseFault.StepLimit
+            → IfSome (start_name (parser_rules self.now) (start_named options.now))
+            (λ start. TracesCallsSoFar (parser_rules self.now) text.now start options.now.memo options.now.steps
+            (GetsCalls W.records W.traced watch.old watch.new)) }
         ensures allowed { IfOk result (λ answer. (limit : ℕ) → options.now.steps ≡ Some limit → answer.steps ≤ limit) }
         ensures limited { IsErrOf result ParseFault.StepLimit
             → TakesMoreSteps (parser_rules self.now) text.now (start_named options.now) options.now.steps }
@@ -411,7 +419,10 @@ impl Parser {
         ensures outcome { IfOk result (λ answer. IsParseOutcomeBy (listed among.entry)
             (parser_rules self.now) text.now (name_of (parser_rules self.now) start) answer.outcome) }
         ensures traced { OnOk result (TracesCallsOf (parser_rules self.now) text.now (name_of (parser_rules self.now) start)
-            W.records (W.traced watch.old) (W.traced watch.new)) }
+            (GetsCalls W.records W.traced watch.old watch.new)) }
+        ensures stopped { IsErrOf result ParseFault.StepLimit → (calls : List RuleCall)
+            × GetsCalls W.records W.traced watch.old watch.new calls
+            × AreCallsSoFar (parser_rules self.now) text.now (name_of (parser_rules self.now) start) max_steps calls }
         ensures allowed { IfOk result (λ answer. (limit : ℕ) → max_steps ≡ Some limit → answer.steps ≤ limit) }
         ensures limited { IsErrOf result ParseFault.StepLimit
             → ExceedsStepLimit (core_bodies (parser_rules self.now)) text.now start max_steps }
@@ -441,10 +452,17 @@ impl Parser {
         ensures outcome { IfOk result (λ answer. IsParseOutcomeBy (listed among.entry)
             (parser_rules self.now) text.now (name_of (parser_rules self.now) start) answer.outcome) }
         ensures traced { OnOk result (TracesCallsOf (parser_rules self.now) text.now (name_of (parser_rules self.now) start)
-            W.records (W.traced watch.old) (W.traced watch.new)) }
+            (GetsCalls W.records W.traced watch.old watch.new)) }
+        ensures stopped { IsErrOf result ParseFault.StepLimit → (calls : List RuleCall)
+            × GetsCalls W.records W.traced watch.old watch.new calls
+            × AreCallsSoFar (parser_rules self.now) text.now (name_of (parser_rules self.now) start) max_steps calls }
         ensures in_order { ((any : K) → map.len (K.entries any) ≡ 0) → OnOk result (TracesCallsInOrder
-            (parser_rules self.now) text.now (name_of (parser_rules self.now) start) W.records (W.traced watch.old)
-            (W.traced watch.new)) }
+            (parser_rules self.now) text.now (name_of (parser_rules self.now) start)
+            (GetsCalls W.records W.traced watch.old watch.new)) }
+        ensures stopped_in_order { ((any : K) → map.len (K.entries any) ≡ 0) → IsErrOf result ParseFault.StepLimit
+            → (calls : List RuleCall) × GetsCalls W.records W.traced watch.old watch.new calls
+            × AreCallsSoFar (parser_rules self.now) text.now (name_of (parser_rules self.now) start) max_steps calls
+            × AreFirstCalls (parser_rules self.now) text.now (name_of (parser_rules self.now) start) calls }
         ensures allowed { IfOk result (λ answer. (limit : ℕ) → max_steps ≡ Some limit → answer.steps ≤ limit) }
         ensures limited { IsErrOf result ParseFault.StepLimit
             → ExceedsStepLimit (core_bodies (parser_rules self.now)) text.now start max_steps }

@@ -1,2 +1,2 @@
-mod PositionLemmas
+mod CountLemmas
 mod ProfileLemmas

@@ -1,9 +1,9 @@
 -- Profiles of rules: how often a rule is called, and at how many positions.
-use Rattle.std.specs.Prelude.{◌≡◌, ◌↔◌, ℕ, ◌<◌, List, Contains, length, slice_index_or}
+use Rattle.std.specs.Prelude.{◌≡◌, ◌↔◌, ℕ, ◌<◌, List, Contains, Option, length, slice_index_or}
 use Rattle.std.specs.List.Sorted.{IsStrictlyIncreasing}
-use Rattle.std.specs.declared.vec.Vec.{Vec}
-use Rattle.std.specs.declared.alloc.Global.{Global}
+use Rattle.peg_parser.specs.Calls.{AreCallsInOrder, AreCallsOf, AreCallsSoFar, AreFirstCalls}
 use Rattle.peg_semantics.specs.Record.{RuleCall}
+use Rattle.peg_semantics.specs.Rules.{Rule}
 use Rattle.peg_profile.specs.Positions.{positions_of}
 use Rattle.peg_profile.specs.declared.counts.RuleProfile.{RuleProfile}
 
@@ -18,14 +18,23 @@ pub record IsProfileOf (positions : List ℕ) (profile : RuleProfile) : Type 0 w
   pub calls : profile.calls ≡ length positions
   pub places : HasDistinct positions profile.places
 
--- the profiles of rules with calls at these positions
-pub record AreProfilesAt (lists : List (Vec ℕ Global)) (profiles : List RuleProfile) : Type 0 where
-  pub count : length profiles ≡ length lists
-  pub each : (rule : ℕ) (d : RuleProfile) (e : Vec ℕ Global) → rule < length lists
-      → IsProfileOf (slice_index_or lists rule e).items (slice_index_or profiles rule d)
-
 -- the profile of each rule of a grammar with this many, for these calls
 pub record AreProfilesOf (rules : ℕ) (calls : List RuleCall) (profiles : List RuleProfile) : Type 0 where
   pub count : length profiles ≡ rules
   pub each : (rule : ℕ) (d : RuleProfile) → rule < rules
       → IsProfileOf (positions_of rule calls) (slice_index_or profiles rule d)
+
+-- The profiles of a parse that has ended: they are of calls that are those of Ford's record as a set. Without a memo they
+-- are these calls, each as often as it is made.
+abbrev pub AreProfilesOfParse : List Rule → List ℕ → (start : List ℕ) → (memo : ℕ) → List RuleProfile → Type 0
+AreProfilesOfParse rules text start memo profiles =
+    (calls : List RuleCall) × AreCallsOf rules text start calls
+    × (memo ≡ 0 → AreCallsInOrder rules text start calls) × AreProfilesOf (length rules) calls profiles
+
+-- The profiles of a parse that its step limit stopped: they are of the calls made, which are calls of Ford's record.
+-- Without a memo they are the first of these calls, in order.
+abbrev pub AreProfilesSoFar : List Rule → List ℕ → (start : List ℕ) → (memo : ℕ) → (max_steps : Option ℕ)
+    → List RuleProfile → Type 0
+AreProfilesSoFar rules text start memo max_steps profiles =
+    (calls : List RuleCall) × AreCallsSoFar rules text start max_steps calls
+    × (memo ≡ 0 → AreFirstCalls rules text start calls) × AreProfilesOf (length rules) calls profiles

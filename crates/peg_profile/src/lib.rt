@@ -4,5 +4,5 @@
 mod counts;
 mod profile;
 
-pub use counts::{RuleProfile, rule_profiles};
+pub use counts::{CallCounts, RuleProfile};
 pub use profile::Profile;

@@ -1,24 +1,26 @@
 //! The profile of a parse.
-ghost use Rattle.std.specs.Prelude.{◌≡◌, ◌↔◌, ◌<◌, ◌≤◌, ℕ, List, IfOk, IfSome, IsErrOf, None, OnOk, Some, length};
+ghost use Rattle.std.specs.Prelude.{◌≡◌, ◌↔◌, ◌<◌, ◌≤◌, ℕ, List, IfNone, IfOk, IfSome, IsErrOf, IsSome, None, OnOk, Some, length};
 ghost use Rattle.peg_grammar.specs.Limits.{max_text_bytes};
 ghost use Rattle.peg_grammar.specs.Outcomes.{IsParseOutcome};
-ghost use Rattle.peg_semantics.specs.Record.{RuleCall};
 ghost use Rattle.peg_semantics.specs.Starts.{start_name};
-ghost use Rattle.peg_parser.specs.Calls.{AreCallsInOrder, AreCallsOf};
 ghost use Rattle.peg_parser.specs.Parser.{parser_rules, start_named};
 ghost use Rattle.peg_parser.specs.StepLimits.{TakesMoreSteps, TakesPlainSteps};
 ghost use Rattle.peg_machine.specs.CoreOutcome.{saturated};
-ghost use Rattle.peg_profile.specs.Profiles.{AreProfilesOf};
+ghost use Rattle.peg_profile.specs.Profiles.{AreProfilesOfParse, AreProfilesSoFar};
 
-use crate::counts::{RuleProfile, rule_profiles};
-use peg_machine::ListWatch;
-use peg_parser::{Answer, ParseFault, ParseOptions, Parser};
+use crate::counts::{CallCounts, RuleProfile};
+use peg_machine::Answer;
+use peg_parser::{ParseFault, ParseOptions, Parser};
 use std::alloc::Global;
 
-/// The answer of a parse, and the profile of each rule of the grammar.
+/// The profile of each rule of the grammar, and the answer of the parse if it has ended.
 #[derive(Debug, Drop)]
 pub struct Profile {
-    pub answer: Answer,
+    /// The answer; `None` if the step limit stopped the parse.
+    pub answer: Option<Answer>,
+    /// The number of steps made, at most `u64::MAX`.
+    pub steps: u64,
+    /// The profile of each rule, in order.
     pub rules: Vec<RuleProfile>,
 }
 
@@ -29,7 +31,10 @@ impl Profile {
     /// the memo. Without a memo the calls are those of the record, each counted as often as it is made. A body that runs
     /// again at a position is work that a memo can save (Ford 2002).
     ///
-    /// The errors are those of `Parser::parse`. Takes up to 32 bytes of memory for each call, besides what the parse takes.
+    /// If the parse takes more steps than the limit allows, it is stopped there, and the profile has the calls made so far.
+    /// They are calls of the record, and without a memo its first ones. The other errors are those of `Parser::parse`.
+    ///
+    /// Takes the memory of a `CallCounts`, besides what the parse takes.
     ///
     /// # Example
     ///
@@ -49,27 +54,54 @@ impl Profile {
         ensures long { (start : List ℕ) → start_name (parser_rules parser.now) (start_named options.now) ≡ Some start
             → (IsErrOf result ParseFault.TextTooLong ↔ (max_text_bytes < length text.now)) }
         ensures short { OnOk result (length text.now ≤ max_text_bytes) }
-        ensures outcome { IfOk result (λ profile. IfSome (start_name (parser_rules parser.now) (start_named options.now))
-            (λ start. IsParseOutcome (parser_rules parser.now) text.now start profile.answer.outcome)) }
-        ensures rules { IfOk result (λ profile. IfSome (start_name (parser_rules parser.now) (start_named options.now))
-            (λ start. (calls : List RuleCall) × AreCallsOf (parser_rules parser.now) text.now start calls
-            × (options.now.memo ≡ 0 → AreCallsInOrder (parser_rules parser.now) text.now start calls)
-            × AreProfilesOf (length (parser_rules parser.now)) calls profile.rules.items)) }
-        ensures allowed { IfOk result (λ profile. (limit : ℕ) → options.now.steps ≡ Some limit
-            → profile.answer.steps ≤ limit) }
-        ensures limited { IsErrOf result ParseFault.StepLimit
-            → TakesMoreSteps (parser_rules parser.now) text.now (start_named options.now) options.now.steps }
-        ensures enough { options.now.memo ≡ 0 → OnOk result
-            (¬ TakesMoreSteps (parser_rules parser.now) text.now (start_named options.now) options.now.steps) }
-        ensures steps { IfOk result (λ profile. (count : ℕ) × TakesPlainSteps (parser_rules parser.now) text.now
-            (start_named options.now) count × (profile.answer.steps ≤ count)) }
-        ensures exact { options.now.memo ≡ 0 → IfOk result (λ profile. (count : ℕ)
+        ensures unlimited { ¬ IsErrOf result ParseFault.StepLimit }
+        ensures count { IfOk result (λ profile. length profile.rules.items ≡ length (parser_rules parser.now)) }
+
+        // A parse that has ended.
+        ensures outcome { IfOk result (λ profile. IfSome profile.answer (λ answer.
+            IfSome (start_name (parser_rules parser.now) (start_named options.now))
+            (λ start. IsParseOutcome (parser_rules parser.now) text.now start answer.outcome))) }
+        ensures rules { IfOk result (λ profile. IfSome profile.answer (λ answer.
+            IfSome (start_name (parser_rules parser.now) (start_named options.now)) (λ start.
+            AreProfilesOfParse (parser_rules parser.now) text.now start options.now.memo profile.rules.items))) }
+        ensures enough { options.now.memo ≡ 0 → IfOk result (λ profile. IfSome profile.answer (λ answer.
+            ¬ TakesMoreSteps (parser_rules parser.now) text.now (start_named options.now) options.now.steps)) }
+        ensures exact { options.now.memo ≡ 0 → IfOk result (λ profile. IfSome profile.answer (λ answer. (count : ℕ)
             × TakesPlainSteps (parser_rules parser.now) text.now (start_named options.now) count
-            × (profile.answer.steps ≡ saturated count)) }
+            × (profile.steps ≡ saturated count))) }
+
+        // A parse that was stopped.
+        ensures stopped { IfOk result (λ profile. IfNone profile.answer (
+            IfSome (start_name (parser_rules parser.now) (start_named options.now)) (λ start.
+            AreProfilesSoFar (parser_rules parser.now) text.now start options.now.memo options.now.steps
+            profile.rules.items))) }
+        ensures limited { IfOk result (λ profile. IfNone profile.answer (
+            TakesMoreSteps (parser_rules parser.now) text.now (start_named options.now) options.now.steps)) }
+        ensures limit { IfOk result (λ profile. IfNone profile.answer (options.now.steps ≡ Some profile.steps)) }
+
+        // Any parse.
+        ensures allowed { IfOk result (λ profile. (limit : ℕ) → options.now.steps ≡ Some limit
+            → profile.steps ≤ limit) }
+        ensures steps { IfOk result (λ profile. (count : ℕ) × TakesPlainSteps (parser_rules parser.now) text.now
+            (start_named options.now) count × (profile.steps ≤ count)) }
     {
-        let mut calls = ListWatch::new(alloc);
-        let answer = parser.trace(alloc, text, options, &mut calls)?;
-        let rules = rule_profiles(alloc, parser.grammar().rules(), calls.pairs())?;
-        Ok(Profile { answer, rules })
+        let count = parser.grammar().rules();
+        let mut calls = CallCounts::new(alloc);
+        match parser.trace(alloc, text, options, &mut calls) {
+            Ok(answer) => {
+                let rules = calls.profiles(alloc, count)?;
+                Ok(Profile {
+                    steps: answer.steps,
+                    answer: Some(answer),
+                    rules,
+                })
+            }
+            Err(ParseFault::StepLimit) => Ok(Profile {
+                steps: options.steps.unwrap_or(0),
+                answer: None,
+                rules: calls.profiles(alloc, count)?,
+            }),
+            Err(fault) => Err(fault),
+        }
     }
 }

@@ -1,24 +1,24 @@
 -- Lines of profiles.
-use Rattle.std.proofs.Common.{◌≡◌, ◌↔◌, inl, inr, ℕ, ◌<◌, ◌≤◌, Bool, true, false, List, IfOk, IfSome, Option, None, Some, Result, Err}
+use Rattle.std.proofs.Common.{◌≡◌, ◌↔◌, inl, inr, ℕ, ◌<◌, ◌≤◌, Bool, true, false, List, IfNone, IfOk, IfSome, Option, None, Some, Result, Err}
 use Rattle.std.proofs.Common.{if◌then◌else◌, length, refl, subst, sym, ap, ◌∙◌}
 use Rattle.std.proofs.lemmas.Bool.{cases_lt}
 use Rattle.std.specs.declared.alloc.AllocError.{AllocError}
 use Rattle.peg_grammar.specs.Limits.{max_text_bytes}
 use Rattle.peg_grammar.specs.Outcomes.{IsParseOutcome}
-use Rattle.peg_semantics.specs.Record.{RuleCall}
+use Rattle.peg_machine.specs.CoreOutcome.{saturated}
+use Rattle.peg_machine.specs.declared.answer.Answer.{Answer}
 use Rattle.peg_semantics.specs.Rules.{Rule, is_defined, names}
 use Rattle.peg_semantics.specs.Starts.{start_name}
 use Rattle.peg_tree.specs.declared.outcome.Parsed.{Parsed}
-use Rattle.peg_parser.specs.Calls.{AreCallsInOrder, AreCallsOf}
 use Rattle.peg_parser.specs.Cause.{NoSuchStart, TextTooLong}
 use Rattle.peg_parser.specs.declared.parser.ParseFault.{ParseFault}
 use Rattle.peg_parser.specs.declared.parser.ParseFault.TheVariants as fault
-use Rattle.peg_profile.specs.Profiles.{AreProfilesOf}
+use Rattle.peg_parser.specs.StepLimits.{TakesMoreSteps, TakesPlainSteps}
+use Rattle.peg_profile.specs.Profiles.{AreProfilesOfParse, AreProfilesSoFar}
 use Rattle.peg_profile.specs.declared.profile.Profile.{Profile}
 use Rattle.peg_json.specs.Lines.{IsLineOf, IsReply, line_bytes}
-use Rattle.peg_json.specs.Parses.{HasEnoughSteps}
-use Rattle.peg_json.specs.ProfileReplies.{AreSteps, ProfilesTo, has_profile, start_without_rule, text_over_limit}
-use Rattle.peg_json.specs.ProfileText.{end_of}
+use Rattle.peg_json.specs.ProfileReplies.{ProfilesTo, has_profile, start_without_rule, steps_over_limit, text_over_limit}
+use Rattle.peg_json.specs.ProfileText.{end_of, parsed_end}
 use Rattle.peg_json.specs.Reply.{Refused, Profiled}
 use Rattle.peg_json.specs.Statuses.{status_code}
 use Rattle.peg_json.specs.declared.line.Line.{Line}
@@ -26,28 +26,42 @@ use Rattle.peg_json.proofs.PrintLemmas.{reply-kind}
 
 -- a profile whose parts are right is the reply
 pub profile-replies : (rules : List Rule) (text : List ℕ) (start : Option (List ℕ)) (memo : ℕ) (steps : Option ℕ)
-    (profile : Profile) → length text ≤ max_text_bytes → HasEnoughSteps rules text start memo steps
-    → (start_name rules start ≡ None → ⊥)
-    → IfSome (start_name rules start) (λ from. IsParseOutcome rules text from profile.answer.outcome)
-    → IfSome (start_name rules start) (λ from. (calls : List RuleCall) × AreCallsOf rules text from calls
-    × (memo ≡ 0 → AreCallsInOrder rules text from calls) × AreProfilesOf (length rules) calls profile.rules.items)
-    → AreSteps rules text start memo profile.answer.steps
+    (profile : Profile) → length text ≤ max_text_bytes → (start_name rules start ≡ None → ⊥)
+    → IfSome profile.answer (λ answer. IfSome (start_name rules start)
+    (λ from. IsParseOutcome rules text from answer.outcome))
+    → IfSome profile.answer (λ answer. IfSome (start_name rules start)
+    (λ from. AreProfilesOfParse rules text from memo profile.rules.items))
+    → (memo ≡ 0 → IfSome profile.answer (λ answer. ¬ TakesMoreSteps rules text start steps))
+    → (memo ≡ 0 → IfSome profile.answer (λ answer. (count : ℕ) × TakesPlainSteps rules text start count
+    × (profile.steps ≡ saturated count)))
+    → (count : ℕ) × TakesPlainSteps rules text start count × (profile.steps ≤ count)
+    → IfNone profile.answer (IfSome (start_name rules start)
+    (λ from. AreProfilesSoFar rules text from memo steps profile.rules.items))
+    → IfNone profile.answer (TakesMoreSteps rules text start steps)
+    → IfNone profile.answer (steps ≡ Some profile.steps)
     → ProfilesTo rules text start memo steps
-    (Profiled (end_of profile.answer.outcome.result) profile.answer.steps (names rules) profile.rules.items)
-profile-replies rules text start memo steps profile within enough some is called taken =
-    by (start_name rules start) refl some is called
+    (Profiled (end_of profile.answer) profile.steps (names rules) profile.rules.items)
+profile-replies rules text start memo steps profile within some is called enough exact taken stopped more limit =
+    by profile.answer (start_name rules start) refl some is called enough exact stopped more limit
   where
-    by : (found : Option (List ℕ)) → start_name rules start ≡ found → (found ≡ None → ⊥)
-        → IfSome found (λ from. IsParseOutcome rules text from profile.answer.outcome)
-        → IfSome found (λ from. (calls : List RuleCall) × AreCallsOf rules text from calls
-        × (memo ≡ 0 → AreCallsInOrder rules text from calls) × AreProfilesOf (length rules) calls profile.rules.items)
+    by : (answer : Option Answer) (found : Option (List ℕ)) → start_name rules start ≡ found → (found ≡ None → ⊥)
+        → IfSome answer (λ answer. IfSome found (λ from. IsParseOutcome rules text from answer.outcome))
+        → IfSome answer (λ answer. IfSome found
+        (λ from. AreProfilesOfParse rules text from memo profile.rules.items))
+        → (memo ≡ 0 → IfSome answer (λ answer. ¬ TakesMoreSteps rules text start steps))
+        → (memo ≡ 0 → IfSome answer (λ answer. (count : ℕ) × TakesPlainSteps rules text start count
+        × (profile.steps ≡ saturated count)))
+        → IfNone answer (IfSome found (λ from. AreProfilesSoFar rules text from memo steps profile.rules.items))
+        → IfNone answer (TakesMoreSteps rules text start steps) → IfNone answer (steps ≡ Some profile.steps)
         → ProfilesTo rules text start memo steps
-        (Profiled (end_of profile.answer.outcome.result) profile.answer.steps (names rules) profile.rules.items)
-    by None there some is called = absurd (some refl)
-    by (Some from) there some is called =
+        (Profiled (end_of answer) profile.steps (names rules) profile.rules.items)
+    by answer None there some is called enough exact stopped more limit = absurd (some refl)
+    by (Some answer) (Some from) there some is called enough exact stopped more limit =
         subst (λ (parsed : Parsed). ProfilesTo rules text start memo steps
-        (Profiled (end_of parsed) profile.answer.steps (names rules) profile.rules.items)) (sym is.1.2)
-        (has_profile within enough there (is.0, is.1.1) taken called.1 called.2 called.3)
+        (Profiled (parsed_end parsed) profile.steps (names rules) profile.rules.items)) (sym is.1.2)
+        (has_profile within enough there (is.0, is.1.1) (taken, exact) called.1 called.2 called.3)
+    by None (Some from) there some is called enough exact stopped more limit =
+        steps_over_limit within there limit more stopped.1 stopped.2 stopped.3
 
 -- the name of a start that no rule has
 missing-profile : (rules : List Rule) (text : List ℕ) (start : Option (List ℕ)) (memo : ℕ) (steps : Option ℕ)
@@ -97,11 +111,3 @@ long-profile result rules start size is none long = by (start_name rules start) 
     by None there =
         absurd (let bad : Err fault.TextTooLong ≡ Err fault.NoSuchStart = sym is ∙ none.1 there in cc)
     by (Some from) there = (long from there).0 is
-
--- a text whose parse exceeds the step limit isn't too long
-pub short-profile : (result : Result Profile ParseFault) (size : ℕ) → result ≡ Err fault.StepLimit
-    → (result ≡ Err fault.TextTooLong) ↔ (max_text_bytes < size) → size ≤ max_text_bytes
-short-profile result size is long = elim (cases_lt max_text_bytes size) [
-  | inl over ↦ absurd (let bad : Err fault.StepLimit ≡ Err fault.TextTooLong = sym is ∙ long.1 over in cc)
-  | inr within ↦ within
-]

@@ -16,7 +16,7 @@ use crate::loading::{Loaded, load};
 use crate::parse::no_start;
 use peg_grammar::MAX_TEXT_BYTES;
 use peg_io::{ReadFault, Source, read_up_to};
-use peg_json::{Line, long_text_line, profile_line, step_limit_line};
+use peg_json::{Line, long_text_line, profile_line};
 use peg_parser::{ParseFault, ParseOptions, Parser};
 use peg_profile::Profile;
 use std::alloc::{AllocError, Global};
@@ -81,7 +81,8 @@ fn line_of_text(
         // A grammar has a first rule, so a start that is missing was given by name.
         Err(ParseFault::NoSuchStart) => no_start(alloc, text, options.start.unwrap_or("")),
         Err(ParseFault::TextTooLong) => long_text_line(alloc),
-        Err(ParseFault::StepLimit) => step_limit_line(alloc),
+        // A parse that its step limit stops has a profile.
+        Err(ParseFault::StepLimit) => unreachable!(),
         Err(ParseFault::Memory) => Err(AllocError),
     }
 }

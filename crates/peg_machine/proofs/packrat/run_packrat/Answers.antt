@@ -15,7 +15,7 @@ pub returns-clause-packrat : goal.returns-clause-packrat
 returns-clause-packrat c =
     let traced = c.run.ensures.traced in (
       traced.0,
-      traced.1 refl,
+      traced.1 refl c.args.watch.now refl,
       RanOnce-from_traces (bodies_of c.args.program.now.core) c.args.text.now c.args.start c.args.memo.now.capacity
           c.run.new.memo.allocation_failed c.args.max_steps c.run.result traced.0 traced.2,
     )

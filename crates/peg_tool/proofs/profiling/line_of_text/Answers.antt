@@ -1,18 +1,18 @@
 use Rattle.std.proofs.Common.{◌≡◌, IfOk, List, None, Ok, Err, ap, subst, sym, ◌∙◌, length}
-use Rattle.peg_parser.specs.Cause.{NoSuchStart, StepLimit, TextTooLong}
+use Rattle.peg_parser.specs.Cause.{NoSuchStart, TextTooLong}
 use Rattle.peg_parser.specs.Parser.{parser_rules, start_named}
 use Rattle.peg_parser.specs.declared.parser.ParseFault.TheVariants.{NoSuchStart as NoStart}
 use Rattle.peg_semantics.specs.Rules.{Rule, names}
 use Rattle.peg_semantics.specs.Starts.{start_name}
 use Rattle.peg_json.specs.Lines.{IsReply, line_bytes}
-use Rattle.peg_json.specs.ProfileReplies.{ProfilesTo, steps_over_limit, text_over_limit}
+use Rattle.peg_json.specs.ProfileReplies.{ProfilesTo, text_over_limit}
 use Rattle.peg_json.specs.ProfileText.{end_of}
 use Rattle.peg_json.specs.Reply.{Profiled, Refused}
 use Rattle.peg_json.specs.Statuses.{status_code}
 use Rattle.peg_json.proofs.ParseLemmas.{start-given}
 use Rattle.peg_json.proofs.PrintLemmas.{reply-kind}
 use Rattle.peg_tool.proofs.ParsedLines.{given-name}
-use Rattle.peg_tool.proofs.ProfiledLines.{long-profile, no_start-profile, profile-replies, short-profile}
+use Rattle.peg_tool.proofs.ProfiledLines.{long-profile, no_start-profile, profile-replies}
 use Rattle.peg_tool.proofs.profiling.line_of_text.Goals as goal
 
 pub returns-in-Ok : goal.returns-in-Ok
@@ -24,13 +24,13 @@ returns-in-Ok c file =
     let steps = c.args.options.now.steps in
     let some : (start_name rules start ≡ None → ⊥) =
     λ none. let both : Ok profile ≡ Err NoStart = sym c.in-Ok.is ∙ c.of_text.ensures.no_start.1 none in cc in
-    let reply_of = λ (l : List Rule). Profiled (end_of profile.answer.outcome.result) profile.answer.steps (names l)
-    profile.rules.items in
+    let reply_of = λ (l : List Rule). Profiled (end_of profile.answer) profile.steps (names l) profile.rules.items in
     reply-kind c.profile_line.result file (ProfilesTo rules c.args.text.now start memo steps) (reply_of rules)
     (subst (λ (l : List Rule). IfOk c.profile_line.result (λ line.
     IsReply file (reply_of l) (line_bytes line) (status_code line.status))) c.grammar.ensures (c.profile_line.ensures file))
-    (profile-replies rules c.args.text.now start memo steps profile c.in-Ok.ensures.short c.in-Ok.ensures.enough some
-    c.in-Ok.ensures.outcome c.in-Ok.ensures.rules (c.in-Ok.ensures.steps, c.in-Ok.ensures.exact))
+    (profile-replies rules c.args.text.now start memo steps profile c.in-Ok.ensures.short some c.in-Ok.ensures.outcome
+    c.in-Ok.ensures.rules c.in-Ok.ensures.enough c.in-Ok.ensures.exact c.in-Ok.ensures.steps c.in-Ok.ensures.stopped
+    c.in-Ok.ensures.limited c.in-Ok.ensures.limit)
 
 pub returns-in-Err-NoSuchStart : goal.returns-in-Err-NoSuchStart
 returns-in-Err-NoSuchStart c file =
@@ -57,15 +57,3 @@ returns-in-Err-TextTooLong c file =
     (c.long_text_line.ensures file)
     (text_over_limit (long-profile c.of_text.result rules start (length c.args.text.now) is c.of_text.ensures.no_start
     c.of_text.ensures.long))
-
-pub returns-in-Err-StepLimit : goal.returns-in-Err-StepLimit
-returns-in-Err-StepLimit c file =
-    let rules = parser_rules c.args.parser.now in
-    let start = start_named c.args.options.now in
-    let is = c.in-Err-StepLimit.is ∙ ap Err c.in-Err-StepLimit.field-0-is in
-    let more = c.of_text.ensures.limited is in
-    reply-kind c.step_limit_line.result file
-    (ProfilesTo rules c.args.text.now start c.args.options.now.memo c.args.options.now.steps) (Refused StepLimit)
-    (c.step_limit_line.ensures file)
-    (steps_over_limit (short-profile c.of_text.result (length c.args.text.now) is (c.of_text.ensures.long more.0 more.1))
-    more)

@@ -1,11 +1,15 @@
-use Rattle.std.proofs.Common.{◌≡◌, ◌≤◌, ◌<◌, ◌∙◌, ℕ, List, Err, ap, arith, subst}
+use Rattle.std.proofs.Common.{◌≡◌, ◌≤◌, ◌<◌, ◌∙◌, ℕ, List, Result, Err, ap, arith, subst}
 use Rattle.std.proofs.lemmas.List.Elements.{All-from_get_or}
 use Rattle.peg_core.specs.CoreForm.{CoreForm}
+use Rattle.peg_core.specs.Layout.{bodies_of}
+use Rattle.peg_machine.specs.declared.answer.Answer.{Answer}
+use Rattle.peg_machine.specs.declared.fault.RunFault.{RunFault}
 use Rattle.peg_machine.specs.SelectedTests.{listed}
 use Rattle.peg_machine.specs.CoreOutcome.{saturated, TakesSteps}
+use Rattle.peg_machine.specs.Traced.{GetsCalls, Traces}
 use Rattle.peg_parser.proofs.CoreStarts.{length-bodies, parser-outcome, same-bodies}
 use Rattle.peg_parser.proofs.StepLemmas.{of-program, to-program}
-use Rattle.peg_parser.proofs.TraceLemmas.{parser-calls, parser-calls-in-order}
+use Rattle.peg_parser.proofs.TraceLemmas.{parser-calls, parser-calls-in-order, parser-calls-so-far, parser-first-calls}
 use Rattle.peg_parser.proofs.parser.Parser.answer.Goals as goal
 
 pub run_selecting-requires-clause-rule : goal.run_selecting-requires-clause-rule
@@ -32,8 +36,8 @@ returns-in-Ok-clause-traced g c =
 -- without a memo they are the calls of Ford's record in order
 pub returns-in-Ok-clause-in_order : goal.returns-in-Ok-clause-in_order
 returns-in-Ok-clause-in_order g c never =
-    parser-calls-in-order c.args.self.now c.args.text.now c.args.start g.W.Watch.records
-    (g.W.Watch.traced c.args.watch.now) (g.W.Watch.traced c.run_selecting.new.watch)
+    parser-calls-in-order c.args.self.now c.args.text.now c.args.start
+    (GetsCalls g.W.Watch.records g.W.Watch.traced c.args.watch.now c.run_selecting.new.watch)
     (All-from_get_or (λ byte. byte < 256) c.args.text.now 0 (λ i within. (c.type_inv.text i).fits)) c.requires.start
     (c.in-Ok.ensures.in_order never)
 
@@ -45,6 +49,33 @@ pub returns-in-Err-StepLimit-clause-limited : goal.returns-in-Err-StepLimit-clau
 returns-in-Err-StepLimit-clause-limited g c is =
     of-program c.args.self.now c.args.text.now c.args.start c.args.max_steps
     (c.run_selecting.ensures.limited (c.in-Err-StepLimit.is ∙ ap Err c.in-Err-StepLimit.field-0-is))
+
+-- the calls of a run that was stopped
+pub returns-in-Err-StepLimit-clause-stopped : goal.returns-in-Err-StepLimit-clause-stopped
+returns-in-Err-StepLimit-clause-stopped g c is =
+    let limit = c.in-Err-StepLimit.is ∙ ap Err c.in-Err-StepLimit.field-0-is in
+    let traced = c.run_selecting.ensures.traced in (
+      traced.0,
+      traced.1,
+      parser-calls-so-far c.args.self.now c.args.text.now c.args.start c.args.max_steps traced.0
+          (All-from_get_or (λ byte. byte < 256) c.args.text.now 0 (λ i within. (c.type_inv.text i).fits))
+          c.requires.start
+          (subst (λ (result : Result Answer RunFault). Traces (bodies_of c.args.self.now.program.core) c.args.text.now
+          c.args.start (g.K.Keep.capacity c.args.memo.now) (g.K.Keep.allocation_failed c.run_selecting.new.memo)
+          c.args.max_steps result traced.0) limit traced.2),
+    )
+
+pub returns-in-Err-StepLimit-clause-stopped_in_order : goal.returns-in-Err-StepLimit-clause-stopped_in_order
+returns-in-Err-StepLimit-clause-stopped_in_order g c never is =
+    let bytes = (All-from_get_or (λ byte. byte < 256) c.args.text.now 0 (λ i within. (c.type_inv.text i).fits)) in
+    let traced = c.run_selecting.ensures.stopped never (c.in-Err-StepLimit.is ∙ ap Err c.in-Err-StepLimit.field-0-is) in (
+      traced.0,
+      traced.1,
+      parser-calls-so-far c.args.self.now c.args.text.now c.args.start c.args.max_steps traced.0 bytes c.requires.start
+          traced.2.so_far,
+      parser-first-calls c.args.self.now c.args.text.now c.args.start c.args.max_steps traced.0 bytes c.requires.start
+          traced.2,
+    )
 
 pub returns-in-Ok-clause-steps : goal.returns-in-Ok-clause-steps
 returns-in-Ok-clause-steps g c =

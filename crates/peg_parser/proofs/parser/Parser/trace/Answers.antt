@@ -1,10 +1,11 @@
-use Rattle.std.proofs.Common.{◌≡◌, ◌≤◌, ℕ, IfSome, List, None, Option, subst, sym}
+use Rattle.std.proofs.Common.{◌≡◌, ◌≤◌, ℕ, IfSome, List, None, Option, arith, subst, sym}
 use Rattle.std.proofs.lemmas.Result.{on_ok_weaker}
 use Rattle.std.specs.FinMap.{len-empty}
 use Rattle.peg_machine.specs.CoreOutcome.{saturated}
+use Rattle.peg_machine.specs.Traced.{GetsCalls}
 use Rattle.peg_memo.specs.StoredResult.{StoredResult}
 use Rattle.peg_memo.specs.MemoKey.{key_cmp}
-use Rattle.peg_parser.specs.Calls.{TracesCallsInOrder}
+use Rattle.peg_parser.specs.Calls.{TracesCallsInOrder, TracesCallsSoFar}
 use Rattle.peg_parser.specs.Parser.{parser_rules, start_named}
 use Rattle.peg_parser.proofs.StepLemmas.{of-start, plain-steps, to-start}
 use Rattle.peg_parser.proofs.TraceLemmas.{answer-fits}
@@ -47,11 +48,29 @@ returns-in-Some-2-clause-in_order g c none =
     on_ok_weaker c.answer.result
     (λ in_order. subst
     (λ (named : Option (List ℕ)). IfSome named (λ start. TracesCallsInOrder (parser_rules c.args.self.now) c.args.text.now start
-    g.W.Watch.records (g.W.Watch.traced c.args.watch.now) (g.W.Watch.traced c.answer.new.watch)))
+    (GetsCalls g.W.Watch.records g.W.Watch.traced c.args.watch.now c.answer.new.watch)))
     (sym c.in-Some.ensures.named) in_order)
     (c.answer.ensures.in_order (λ any. len-empty key_cmp StoredResult))
 
+pub returns-in-Some-2-clause-stopped : goal.returns-in-Some-2-clause-stopped
+returns-in-Some-2-clause-stopped g c is =
+    let all = c.answer.ensures.stopped_in_order (λ any. len-empty key_cmp StoredResult) is in
+    subst
+    (λ (named : Option (List ℕ)). IfSome named (λ start. TracesCallsSoFar (parser_rules c.args.self.now) c.args.text.now start
+    c.args.options.now.memo c.args.options.now.steps
+    (GetsCalls g.W.Watch.records g.W.Watch.traced c.args.watch.now c.answer.new.watch)))
+    (sym c.in-Some.ensures.named) (all.0, all.1, all.2, λ _. all.3)
+
 -- ---- with a memo
+
+pub returns-in-Some-3-clause-stopped : goal.returns-in-Some-3-clause-stopped
+returns-in-Some-3-clause-stopped g c is =
+    let all = c.answer_with_memo.ensures.stopped is in
+    subst
+    (λ (named : Option (List ℕ)). IfSome named (λ start. TracesCallsSoFar (parser_rules c.args.self.now) c.args.text.now start
+    c.args.options.now.memo c.args.options.now.steps
+    (GetsCalls g.W.Watch.records g.W.Watch.traced c.args.watch.now c.answer_with_memo.new.watch)))
+    (sym c.in-Some.ensures.named) (all.0, all.1, all.2, λ none. absurd (omega (arith, none)))
 
 pub returns-in-Some-3-clause-fits : goal.returns-in-Some-3-clause-fits
 returns-in-Some-3-clause-fits g c =

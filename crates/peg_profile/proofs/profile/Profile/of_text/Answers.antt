@@ -1,28 +1,25 @@
-use Rattle.std.proofs.Common.{◌≡◌, ◌∙◌, true, IfSome, List, [], ap, length, subst}
-use Rattle.peg_semantics.specs.Record.{RuleCall}
+use Rattle.std.proofs.Common.{◌≡◌, ◌≤◌, ◌∙◌, ℕ, Err, List, Option, ap, arith, length, subst, unwrap_or}
 use Rattle.peg_semantics.specs.Starts.{start_name}
-use Rattle.peg_parser.specs.Calls.{TracesCallsInOrder, TracesCallsOf}
 use Rattle.peg_parser.specs.Parser.{parser_rules, start_named}
 use Rattle.peg_profile.specs.Profiles.{AreProfilesOf}
-use Rattle.peg_profile.proofs.ProfileLemmas.{traced-profiles}
+use Rattle.peg_profile.proofs.ProfileLemmas.{ended-profiles}
 use Rattle.peg_profile.proofs.profile.Profile.of_text.Goals as goal
 
-pub returns-clause-rules : goal.returns-clause-rules
-returns-clause-rules c =
+pub returns-in-Ok-clause-rules : goal.returns-in-Ok-clause-rules
+returns-in-Ok-clause-rules c =
     let rules = parser_rules c.args.parser.now in
-    let text = c.args.text.now in
-    let name = start_name rules (start_named c.args.options.now) in
-    let shown = c.trace.new.watch in
-    let profiles = c.in_ok-rules.rules.items in
-    let traced : IfSome name (λ start. TracesCallsOf rules text start true [] shown) =
-    subst (λ (before : List RuleCall). IfSome name (λ start. TracesCallsOf rules text start true before shown))
-    c.new-calls.ensures c.in_ok-answer.ensures.traced in
-    let memo = c.args.options.now.memo in
-    let ordered : memo ≡ 0 → IfSome name (λ start. TracesCallsInOrder rules text start true [] shown) = λ none.
-    subst (λ (before : List RuleCall). IfSome name (λ start. TracesCallsInOrder rules text start true before shown))
-    c.new-calls.ensures (c.in_ok-answer.ensures.in_order none) in
-    let counted = c.rules.ensures.count ∙ ap length c.grammar.ensures in
-    let are : AreProfilesOf (length rules) shown profiles =
-    subst (λ count. AreProfilesOf count shown profiles) counted
-    (subst (λ calls. AreProfilesOf c.rules.result calls profiles) c.pairs.ensures c.in_ok-rules.ensures) in
-    traced-profiles rules text name memo shown profiles traced ordered are
+    let profiles = c.in_ok-rules-in-Ok.rules.items in
+    ended-profiles rules c.args.text.now c.args.options.now.memo c.new-calls.result c.trace.new.watch profiles
+    c.new-calls.ensures
+    (λ calls has. subst (λ (count : ℕ). AreProfilesOf count calls profiles)
+    (c.rules-count.ensures.count ∙ ap length c.grammar.ensures) (c.in_ok-rules-in-Ok.ensures calls has))
+    (start_name rules (start_named c.args.options.now)) c.in-Ok.ensures.traced c.in-Ok.ensures.in_order
+
+pub returns-in-Err-StepLimit-clause-steps : goal.returns-in-Err-StepLimit-clause-steps
+returns-in-Err-StepLimit-clause-steps c =
+    let more = c.trace.ensures.limited (c.in-Err-StepLimit.is ∙ ap Err c.in-Err-StepLimit.field-0-is) in
+    let over = more.2 in
+    let taken : c.unwrap_or.result ≡ over.0 = c.unwrap_or.ensures ∙ ap (λ (o : Option ℕ). unwrap_or o 0) over.2 in
+    let less = over.4 in
+    let within : c.unwrap_or.result ≤ over.1 = omega (arith, taken, less) in
+    (over.1, (more.0, more.1, over.3), within)
