@@ -7,6 +7,7 @@ use Rattle.std.specs.Borrow.{Bor}
 use Rattle.peg_explain.proofs.RefusalCauses.{cause-rules}
 use Rattle.peg_explain.specs.RefusalMessages.{IsRefusalMessage, refusal_definitions}
 use Rattle.peg_io.specs.NamedFile.{NamedFile}
+use Rattle.peg_messages.specs.FileNames.{shown_name}
 use Rattle.peg_parser.specs.Cause.{Cause}
 use Rattle.peg_parser.specs.Faults.{HasCause, HasDefinitionsOf, cause_of, of_cause}
 use Rattle.peg_parser.specs.Faults.{out_of_memory}
@@ -53,7 +54,7 @@ pub refused-answer : (question : Question) (file_at : List ℕ → NamedFile) (i
     (why : Refusal) (message : List ℕ) (report : Report)
     → HasCause (IsRefusalOf file) (length file) why → HasDefinitionsOf file why
     → (cause : Cause) × (cause_of why ≡ Some cause) × IsRefusalMessage name file (refusal_definitions why) cause message
-    → name ≡ question.grammar → report.messages.items ≡ message → string_bytes report.faults ≡ []
+    → name ≡ shown_name question.grammar → report.messages.items ≡ message → string_bytes report.faults ≡ []
     → report.verdict ≡ Refused → IsAnswer question file_at input file report
 refused-answer question file_at input file name why message report (out_of_memory is) has printed same messages faults verdict =
     absurd (let none : None ≡ Some printed.0 = sym (ap cause_of is) ∙ printed.1 in cc)
@@ -63,7 +64,7 @@ refused-answer question file_at input file name why message report (of_cause cau
     let of_cause : printed.0 ≡ cause = cc in
     let known = cause-rules file why cause cause_is has in
     refused holds known.of_cycle
-    (subst (λ (m : List ℕ). IsRefusalMessage question.grammar file (map defined_at known.rules) cause m) (sym messages)
+    (subst (λ (m : List ℕ). IsRefusalMessage (shown_name question.grammar) file (map defined_at known.rules) cause m) (sym messages)
     (subst (λ (n : List ℕ). IsRefusalMessage n file (map defined_at known.rules) cause message) same
     (subst (λ (d : List Reference). IsRefusalMessage name file d cause message) known.defined
     (subst (λ (c : Cause). IsRefusalMessage name file (refusal_definitions why) c message) of_cause printed.2)))) faults

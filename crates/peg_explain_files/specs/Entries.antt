@@ -3,6 +3,7 @@ use Rattle.std.specs.Prelude.{◌≡◌, ℕ, Bool, ◌==◌, if◌then◌else�
 use Rattle.std.specs.List.{list_any}
 use Rattle.peg_explain.specs.declared.style.ItemStyle.{ItemStyle}
 use Rattle.peg_io.specs.NamedFile.{NamedFile}
+use Rattle.peg_messages.specs.FileNames.{shown_name}
 use Rattle.peg_semantics.specs.Rules.{Rule}
 use Rattle.peg_explain_files.specs.TextReports.{IsReport, IsReportOf}
 use Rattle.peg_explain_files.specs.declared.entry.Entry.{Entry}
@@ -19,7 +20,8 @@ entry_name entry = entry.name.now
 abbrev pub IsEntryOf : (file_at : List ℕ → NamedFile) → (file : List ℕ) → List Rule → ItemStyle → (start : Option (List ℕ))
     → (memo : ℕ) → (steps : Option ℕ) → Entry → Type 0
 IsEntryOf file_at file rules style start memo steps entry =
-    IsReportOf (IsReport file rules style start memo steps entry.name.now) (file_at entry.name.now) entry.report
+    IsReportOf (IsReport file rules style start memo steps (shown_name entry.name.now)) (file_at entry.name.now)
+    entry.report
 
 -- the entry of a list that has no names
 abbrev pub AreFaultEntries : (list : List ℕ) → Option TextReport → List Entry → Type 0
@@ -29,9 +31,9 @@ AreFaultEntries list (Some fault) entries =
 
 -- ---- what is printed
 
--- a name and what follows it
+-- a name, as messages show it, and what follows it
 abbrev pub named_line : (name rest : List ℕ) → List ℕ
-named_line name rest = name ++ rest
+named_line name rest = shown_name name ++ rest
 
 -- the same after the program's name
 abbrev pub program_line : (name rest : List ℕ) → List ℕ

@@ -4,6 +4,7 @@ use Rattle.std.specs.List.{flat_map}
 use Rattle.peg_explain.specs.RefusalMessages.{AreRulesOfCycle, IsRefusalMessage}
 use Rattle.peg_grammar.specs.Limits.{max_text_bytes}
 use Rattle.peg_io.specs.NamedFile.{NamedFile}
+use Rattle.peg_messages.specs.FileNames.{shown_name}
 use Rattle.peg_metagrammar.specs.Notation.{max_file_bytes}
 use Rattle.peg_parser.specs.Accepts.{Accepts}
 use Rattle.peg_parser.specs.Cause.{Cause}
@@ -52,7 +53,7 @@ pub record IsReportOfTexts (question : Question) (file_at : List ℕ → NamedFi
 pub data IsAnswer (question : Question) (file_at : List ℕ → NamedFile) (input : Option (List ℕ)) (file : List ℕ)
     (report : Report) : Type 0 where
   refused : {rules : List Rule} {cause : Cause} → IsRefusalOf file cause → AreRulesOfCycle file cause rules
-      → IsRefusalMessage question.grammar file (map defined_at rules) cause report.messages.items
+      → IsRefusalMessage (shown_name question.grammar) file (map defined_at rules) cause report.messages.items
       → string_bytes report.faults ≡ [] → report.verdict ≡ verdict.Refused → IsAnswer question file_at input file report
   no_such_start : {rules : List Rule} → Accepts file rules → start_name rules question.start ≡ None
       → report.messages.items ≡ no_start_message question.grammar (unwrap_or question.start [])

@@ -2,6 +2,7 @@ pub use Rattle.peg_explain.specs.Explanations
 pub use Rattle.peg_explain.specs.RefusalMessages
 pub use Rattle.peg_grammar.specs.Limits
 pub use Rattle.peg_io.specs.NamedFile
+pub use Rattle.peg_messages.specs.FileNames
 pub use Rattle.peg_metagrammar.specs.Notation
 pub use Rattle.peg_parser.specs.Accepts
 pub use Rattle.peg_parser.specs.Cause

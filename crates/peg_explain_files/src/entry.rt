@@ -4,7 +4,8 @@ ghost use Rattle.peg_explain_files.specs.Entries.{named_line, program_line};
 
 use crate::report::Verdict;
 use crate::reports::TextReport;
-use std::alloc::AllocError;
+use peg_messages::shown_name;
+use std::alloc::{AllocError, Global};
 
 /// The name of a text, and what is reported of it.
 #[derive(Drop)]
@@ -17,15 +18,21 @@ impl Entry<'_> {
     ghost use Rattle.peg_explain_files.specs.Entries.{entry_fault, entry_message, entry_verdict};
 
     /// Appends what is printed of the text on the output. Appends nothing, or a part of it, if an allocation fails.
-    pub(crate) fn write_message(&self, out: &mut Vec<u8>) -> Result<(), AllocError>
+    pub(crate) fn write_message(&self, alloc: Global, out: &mut Vec<u8>) -> Result<(), AllocError>
         ensures { OnOk result (out.new.items ≡ out.old.items ++ entry_message self.now) }
     {
         match &self.report {
             TextReport::Differs(message) => out.extend_from_slice(message),
             TextReport::TooLong => {
-                write_line(self.name, ": the text is longer than 67108864 bytes\n", out)
+                write_line(
+                    alloc,
+                    self.name,
+                    ": the text is longer than 67108864 bytes\n",
+                    out,
+                )
             }
             TextReport::TooManySteps => write_line(
+                alloc,
                 self.name,
                 ": the parse takes more steps than --steps allows\n",
                 out,
@@ -35,13 +42,28 @@ impl Entry<'_> {
     }
 
     /// Appends what is printed of the text on standard error. Appends nothing, or a part of it, if an allocation fails.
-    pub(crate) fn write_fault(&self, out: &mut String) -> Result<(), AllocError>
+    pub(crate) fn write_fault(&self, alloc: Global, out: &mut String) -> Result<(), AllocError>
         ensures { OnOk result (string_bytes out.new ≡ string_bytes out.old ++ entry_fault self.now) }
     {
         match self.report {
-            TextReport::NotUtf8 => write_program_line(self.name, ": the names aren't UTF-8\n", out),
-            TextReport::Unopened => write_program_line(self.name, ": can't be opened\n", out),
-            TextReport::Unreadable => write_program_line(self.name, ": can't be read\n", out),
+            TextReport::NotUtf8 => write_program_line(
+                alloc,
+                self.name,
+                ": the names aren't UTF-8\n",
+                out,
+            ),
+            TextReport::Unopened => write_program_line(
+                alloc,
+                self.name,
+                ": can't be opened\n",
+                out,
+            ),
+            TextReport::Unreadable => write_program_line(
+                alloc,
+                self.name,
+                ": can't be read\n",
+                out,
+            ),
             _ => Ok(()),
         }
     }
@@ -61,19 +83,31 @@ impl Entry<'_> {
     }
 }
 
-/// Appends a name and what follows it.
-pub(crate) fn write_line(name: &str, rest: &str, out: &mut Vec<u8>) -> Result<(), AllocError>
+/// Appends a name, as messages show it, and what follows it.
+pub(crate) fn write_line(
+    alloc: Global,
+    name: &str,
+    rest: &str,
+    out: &mut Vec<u8>,
+) -> Result<(), AllocError>
     ensures { OnOk result (out.new.items ≡ out.old.items ++ named_line name.now rest.now) }
 {
-    out.extend_from_slice(name.as_bytes())?;
+    let shown = shown_name(alloc, name.as_bytes())?;
+    out.extend_from_slice(shown.as_bytes())?;
     out.extend_from_slice(rest.as_bytes())
 }
 
-/// Appends the program's name, a name and what follows it.
-pub(crate) fn write_program_line(name: &str, rest: &str, out: &mut String) -> Result<(), AllocError>
+/// Appends the program's name, a name as messages show it, and what follows it.
+pub(crate) fn write_program_line(
+    alloc: Global,
+    name: &str,
+    rest: &str,
+    out: &mut String,
+) -> Result<(), AllocError>
     ensures { OnOk result (string_bytes out.new ≡ string_bytes out.old ++ program_line name.now rest.now) }
 {
+    let shown = shown_name(alloc, name.as_bytes())?;
     out.push_str("pegtool: ")?;
-    out.push_str(name)?;
+    out.push_str(&shown)?;
     out.push_str(rest)
 }

@@ -20,6 +20,7 @@ use crate::report::{Report, Verdict, report_of_entries};
 use crate::reports::{TextReport, report_of};
 use peg_explain::{Explainer, refusal_message};
 use peg_io::{Opener, Source};
+use peg_messages::shown_name;
 use peg_notation::MAX_FILE_BYTES;
 use peg_parser::{ParseOptions, Parser, Refusal};
 use std::alloc::{AllocError, Global};
@@ -59,7 +60,7 @@ fn unread_grammar(alloc: Global, name: &str, rest: &str) -> Result<Report, Alloc
     ensures { IfOk result (IsUnread name.now rest.now) }
 {
     let mut faults = String::new(alloc);
-    write_program_line(name, rest, &mut faults)?;
+    write_program_line(alloc, name, rest, &mut faults)?;
     Ok(Report {
         messages: Vec::new(alloc),
         faults,
@@ -84,7 +85,8 @@ fn explain_by_file<O: Opener, I: Source>(
         Ok(parser) => explain_by_parser(alloc, files, input, file, &parser, query),
         Err(Refusal::Memory) => Err(AllocError),
         Err(refusal) => {
-            let message = refusal_message(alloc, query.grammar.as_bytes(), file, &refusal)?;
+            let called = shown_name(alloc, query.grammar.as_bytes())?;
+            let message = refusal_message(alloc, called.as_bytes(), file, &refusal)?;
             Ok(message_alone(alloc, message, Verdict::Refused))
         }
     }
@@ -141,8 +143,8 @@ fn no_such_start(alloc: Global, grammar: &str, start: &str) -> Result<Report, Al
     ensures verdict { IfOk result (λ report. report.verdict ≡ Verdict.NoSuchStart) }
 {
     let mut message = Vec::new(alloc);
-    write_line(grammar, ": no rule is named ", &mut message)?;
-    write_line(start, "\n", &mut message)?;
+    write_line(alloc, grammar, ": no rule is named ", &mut message)?;
+    write_line(alloc, start, "\n", &mut message)?;
     Ok(message_alone(alloc, message, Verdict::NoSuchStart))
 }
 

@@ -72,7 +72,7 @@ fn messages_of(alloc: Global, entries: &[Entry<'_>]) -> Result<Vec<u8>, AllocErr
 {
     let mut messages = Vec::new(alloc);
     'entries: for entry in entries {
-        entry.write_message(&mut messages)?;
+        entry.write_message(alloc, &mut messages)?;
     }
     Ok(messages)
 }
@@ -83,7 +83,7 @@ fn faults_of(alloc: Global, entries: &[Entry<'_>]) -> Result<String, AllocError>
 {
     let mut faults = String::new(alloc);
     'entries: for entry in entries {
-        entry.write_fault(&mut faults)?;
+        entry.write_fault(alloc, &mut faults)?;
     }
     Ok(faults)
 }

@@ -1,6 +1,7 @@
 //! What is reported of a text.
 ghost use Rattle.std.specs.Prelude.{◌≡◌, ℕ, List, IfOk, Some};
 ghost use Rattle.peg_explain.specs.Explainers.{IsExplainerOf};
+ghost use Rattle.peg_messages.specs.FileNames.{shown_name};
 ghost use Rattle.peg_parser.specs.Parser.{start_named};
 ghost use Rattle.peg_semantics.specs.Rules.{Rule};
 ghost use Rattle.peg_semantics.specs.Starts.{start_name};
@@ -10,6 +11,7 @@ use crate::content::{Content, content_of};
 use peg_explain::Explainer;
 use peg_grammar::MAX_TEXT_BYTES;
 use peg_io::Opener;
+use peg_messages::shown_name;
 use peg_parser::{ParseFault, ParseOptions};
 use std::alloc::{AllocError, Global};
 
@@ -42,29 +44,33 @@ pub(crate) fn report_of<O: Opener>(
 ) -> Result<TextReport, AllocError>
     ensures { (file : List ℕ) (rules : List Rule) → IsExplainerOf file rules explainer.now
         → (from : List ℕ) → start_name rules (start_named options.now) ≡ Some from → IfOk result
-        (IsReportOf (IsReport file rules explainer.now.style (start_named options.now) options.now.memo options.now.steps name.now)
-        (O.file_at files.now name.now)) }
+        (IsReportOf (IsReport file rules explainer.now.style (start_named options.now) options.now.memo options.now.steps
+        (shown_name name.now)) (O.file_at files.now name.now)) }
 {
     match content_of(alloc, files, name, MAX_TEXT_BYTES + 1)? {
-        Content::Bytes(text) => report_of_text(alloc, explainer, name, &text, options),
+        Content::Bytes(text) => {
+            let called = shown_name(alloc, name.as_bytes())?;
+            report_of_text(alloc, explainer, called.as_bytes(), &text, options)
+        }
         Content::Unopened => Ok(TextReport::Unopened),
         Content::Unreadable => Ok(TextReport::Unreadable),
     }
 }
 
-// Returns what is reported of this text.
+// Returns what is reported of this text, whose name messages show like this.
 fn report_of_text(
     alloc: Global,
     explainer: &Explainer<'_>,
-    name: &str,
+    called: &[u8],
     text: &[u8],
     options: &ParseOptions<'_>,
 ) -> Result<TextReport, AllocError>
     ensures { (file : List ℕ) (rules : List Rule) → IsExplainerOf file rules explainer.now
         → (from : List ℕ) → start_name rules (start_named options.now) ≡ Some from → IfOk result
-        (IsReport file rules explainer.now.style (start_named options.now) options.now.memo options.now.steps name.now text.now) }
+        (IsReport file rules explainer.now.style (start_named options.now) options.now.memo options.now.steps called.now
+        text.now) }
 {
-    match explainer.explain(alloc, name.as_bytes(), text, options) {
+    match explainer.explain(alloc, called, text, options) {
         Ok(None) => Ok(TextReport::Matches),
         Ok(Some(message)) => Ok(TextReport::Differs(message)),
         Err(ParseFault::TextTooLong) => Ok(TextReport::TooLong),

@@ -2,3 +2,4 @@ mod CharacterLemmas
 mod ListingLemmas
 mod ScanningLemmas
 mod AppendLemmas
+mod FileNameLemmas

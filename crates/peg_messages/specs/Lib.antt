@@ -2,6 +2,7 @@ pub use Rattle.peg_bytes.specs.Extent
 pub use Rattle.peg_bytes.specs.Place
 pub mod Characters
 pub mod Shown
+pub mod FileNames
 pub mod Source
 pub mod Listing
 pub mod Listings

@@ -5,6 +5,7 @@ mod blanks;
 mod causes;
 mod characters;
 mod failure;
+mod file_name;
 mod found;
 mod items;
 mod listing;
@@ -19,6 +20,7 @@ mod syntax;
 
 pub use causes::SyntaxCause;
 pub use failure::Failure;
+pub use file_name::shown_name;
 pub use items::Item;
 pub use reason::Reason;
 pub use rejection::Rejection;

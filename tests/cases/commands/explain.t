@@ -110,7 +110,7 @@ A folder can be opened but not read.
   pegtool: .: can't be read
   [4]
 
-A name may have quotes and blanks, and stands in the message as it is.
+A name may have quotes and blanks, and is written in the message as it is.
 
   $ pegtool explain line "no 'such' \"file\""
   pegtool: no 'such' "file": can't be opened
@@ -178,12 +178,10 @@ A dash in place of a list is standard input, here with three lines that name no 
   pegtool: a: can't be opened
   [4]
 
-With the null option the same input is one name of three lines.
+With the null option the same input is one name with two line ends, which are written as escapes.
 
   $ printf "S <- 'a'\n%%%%\na" | pegtool explain line --files-from - --null
-  pegtool: S <- 'a'
-  %%
-  a: can't be opened
+  pegtool: S <- 'a'\n%%\na: can't be opened
   [4]
 
 A list that isn't UTF-8 has no names, and is reported.

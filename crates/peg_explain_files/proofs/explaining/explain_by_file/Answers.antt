@@ -1,5 +1,6 @@
-use Rattle.std.proofs.Common.{length}
+use Rattle.std.proofs.Common.{◌∙◌, ap, length}
 use Rattle.peg_explain.proofs.RefusalLemmas.{true_refusal}
+use Rattle.peg_messages.specs.FileNames.{shown_name}
 use Rattle.peg_parser.specs.Refusals.{IsRefusalOf}
 use Rattle.peg_explain_files.specs.Questions.{question_of}
 use Rattle.peg_explain_files.proofs.ExplainedLemmas.{refused-answer}
@@ -12,7 +13,7 @@ refusal_message-requires-clause-true_refusal g c =
 pub returns-in_ok-message-in-Err-clause-answer : goal.returns-in_ok-message-in-Err-clause-answer
 returns-in_ok-message-in-Err-clause-answer g c =
     refused-answer (question_of c.args.query.now) (g.O.Opener.file_at c.args.files.now) (g.I.Source.left c.args.input.now)
-    c.args.file.now c.as_bytes.result.now c.in-Err.refusal c.in_ok-message-in-Err.message.items c.message_alone.result
+    c.args.file.now c.as_bytes-in-Err.result.now c.in-Err.refusal c.in_ok-message-in-Err.message.items c.message_alone.result
     c.in-Err.ensures.refused c.in-Err.ensures.definitions c.in_ok-message-in-Err.ensures
-    c.as_bytes.ensures.value c.message_alone.ensures.messages c.message_alone.ensures.faults
+    (c.as_bytes-in-Err.ensures.value ∙ c.in_ok-called-in-Err.ensures ∙ ap shown_name c.as_bytes.ensures.value) c.message_alone.ensures.messages c.message_alone.ensures.faults
     c.message_alone.ensures.verdict

@@ -1,4 +1,4 @@
-use Rattle.std.proofs.Common.{◌≡◌, ◌∙◌, None, Some, Err, ap, sym}
+use Rattle.std.proofs.Common.{◌≡◌, ◌∙◌, None, Some, Err, ap, refl, sym}
 use Rattle.peg_parser.specs.Parser.{start_named}
 use Rattle.peg_semantics.specs.Starts.{start_name}
 use Rattle.peg_explain_files.specs.TextReports.{differs, matches, too_long, too_many_steps}
@@ -7,16 +7,16 @@ use Rattle.peg_explain_files.proofs.reports.report_of_text.Goals as goal
 
 pub returns-in-Ok-None : goal.returns-in-Ok-None
 returns-in-Ok-None c file rules of from is =
-    matches is (explained-from file rules c.args.explainer.now.style c.as_bytes.result.now c.args.name.now c.args.text.now from
-    (start_name rules (start_named c.args.options.now)) c.in-Ok-None.field-0 None is c.as_bytes.ensures.value
+    matches is (explained-from file rules c.args.explainer.now.style c.args.called.now c.args.called.now c.args.text.now from
+    (start_name rules (start_named c.args.options.now)) c.in-Ok-None.field-0 None is refl
     c.in-Ok-None.field-0-is (c.in-Ok-None.ensures.explanation file rules of))
     (c.in-Ok-None.ensures.enough file rules of)
 
 pub returns-in-Ok-Some : goal.returns-in-Ok-Some
 returns-in-Ok-Some c file rules of from is =
-    differs is (explained-from file rules c.args.explainer.now.style c.as_bytes.result.now c.args.name.now c.args.text.now from
+    differs is (explained-from file rules c.args.explainer.now.style c.args.called.now c.args.called.now c.args.text.now from
     (start_name rules (start_named c.args.options.now)) c.in-Ok-Some.field-0 (Some c.in-Ok-Some.message) is
-    c.as_bytes.ensures.value c.in-Ok-Some.field-0-is (c.in-Ok-Some.ensures.explanation file rules of))
+    refl c.in-Ok-Some.field-0-is (c.in-Ok-Some.ensures.explanation file rules of))
     (c.in-Ok-Some.ensures.enough file rules of)
 
 pub returns-in-Err-TextTooLong : goal.returns-in-Err-TextTooLong
