@@ -2,7 +2,6 @@
 use Rattle.std.specs.Prelude.{◌≡◌, ℕ, ◌+◌, All, List, [], ◌++◌, Option, None, Some, codes, map, string_bytes, unwrap_or}
 use Rattle.std.specs.List.{flat_map}
 use Rattle.peg_explain.specs.RefusalMessages.{AreRulesOfCycle, IsRefusalMessage}
-use Rattle.peg_grammar.specs.Limits.{max_text_bytes}
 use Rattle.peg_io.specs.NamedFile.{NamedFile}
 use Rattle.peg_messages.specs.FileNames.{shown_name}
 use Rattle.peg_metagrammar.specs.Notation.{max_file_bytes}
@@ -14,7 +13,7 @@ use Rattle.peg_semantics.specs.Starts.{start_name}
 use Rattle.peg_explain_files.specs.Contents.{IsContentOf}
 use Rattle.peg_explain_files.specs.Entries.{AreFaultEntries, IsEntryOf, entry_fault, entry_message, entry_name}
 use Rattle.peg_explain_files.specs.Entries.{named_line, program_line, verdict_of_entries}
-use Rattle.peg_explain_files.specs.Names.{list_fault, list_file, listed_names}
+use Rattle.peg_explain_files.specs.Names.{list_fault, list_file, listed_names, max_list_bytes}
 use Rattle.peg_explain_files.specs.Questions.{Question}
 use Rattle.peg_explain_files.specs.declared.content.Content.{Content}
 use Rattle.peg_explain_files.specs.declared.content.Content.TheVariants.{Bytes, Unopened, Unreadable}
@@ -61,7 +60,7 @@ pub data IsAnswer (question : Question) (file_at : List ℕ → NamedFile) (inpu
       → report.verdict ≡ verdict.NoSuchStart → IsAnswer question file_at input file report
   explained : {rules : List Rule} {from : List ℕ} {list : Content} → Accepts file rules
       → start_name rules question.start ≡ Some from
-      → IsContentOf (max_text_bytes + 1) (list_file file_at input question.list) list
+      → IsContentOf max_list_bytes (list_file file_at input question.list) list
       → IsReportOfTexts question file_at file rules list report → IsAnswer question file_at input file report
 
 -- what is printed by what is read of the grammar file

@@ -49,6 +49,10 @@ input_file (Some bytes) = Holds bytes
 abbrev pub is_input : List ℕ → Bool
 is_input name = bytes_eq name (codes "-")
 
+-- the maximum number of bytes that are read of a list: no file has more
+abbrev pub max_list_bytes : ℕ
+max_list_bytes = 9223372036854775807
+
 -- the file that lists names; without one it is as if it were empty
 abbrev pub list_file : (file_at : List ℕ → NamedFile) → (input : Option (List ℕ)) → Option (List ℕ) → NamedFile
 list_file file_at input None = Readable []

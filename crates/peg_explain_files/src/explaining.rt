@@ -29,8 +29,8 @@ use std::alloc::{AllocError, Global};
 /// match as a whole, in order; or the message of a refused grammar file. Texts in a list come after the others.
 ///
 /// A file that can't be opened or read has a line for standard error, and the others are read. The only error is a
-/// failed allocation. At most 1,048,577 bytes of the grammar file are read, and 67,108,865 of each text and of the list.
-/// One text is held in memory at a time.
+/// failed allocation. At most 1,048,577 bytes of the grammar file are read, and 67,108,865 of each text. The list
+/// is read to its end. It is held in memory, and one text at a time.
 ///
 /// # Example
 ///

@@ -1,18 +1,19 @@
 //! The names of the texts: those that are given, and those in a list.
-ghost use Rattle.std.specs.Prelude.{◌≡◌, ◌+◌, ◌++◌, false, IfOk, OnOk, map, option_map, string_bytes};
-ghost use Rattle.peg_grammar.specs.Limits.{max_text_bytes};
+ghost use Rattle.std.specs.Prelude.{◌≡◌, ◌++◌, false, IfOk, OnOk, map, option_map, string_bytes};
 ghost use Rattle.peg_explain_files.specs.Contents.{IsContentOf};
-ghost use Rattle.peg_explain_files.specs.Names.{IsInput, list_fault, list_file, listed_names, names_in};
+ghost use Rattle.peg_explain_files.specs.Names.{IsInput, list_fault, list_file, listed_names, max_list_bytes, names_in};
 
 use crate::content::{Content, content_of, read_content};
 use crate::query::NameEnd;
 use crate::reports::TextReport;
-use peg_grammar::MAX_TEXT_BYTES;
 use peg_io::{Opener, Source};
 use std::alloc::{AllocError, Global};
 
-/// Returns what the list with this name holds; nothing if there is no list. The list `-` is the input. At most as many
-/// bytes are read as of a text.
+// The greatest number of bytes that are read of a list. No file has more: it is the greatest offset of a file.
+const MAX_LIST_BYTES: usize = 9_223_372_036_854_775_807;
+
+/// Returns what the list with this name holds; nothing if there is no list. The list `-` is the input. It is read to its
+/// end, and held as a whole.
 pub(crate) fn list_content<O: Opener, I: Source>(
     alloc: Global,
     files: &O,
@@ -20,14 +21,14 @@ pub(crate) fn list_content<O: Opener, I: Source>(
     list: Option<&str>,
 ) -> Result<Content, AllocError>
     requires { I.failed input.old ≡ false }
-    ensures content { IfOk result (IsContentOf (max_text_bytes + 1) (list_file (O.file_at files.now)
+    ensures content { IfOk result (IsContentOf max_list_bytes (list_file (O.file_at files.now)
         (I.left input.old) (option_map (λ name. name.now) list.entry))) }
     ensures unread { ¬ IsInput (option_map (λ name. name.now) list.entry) → input.new ≡ input.old }
 {
     match list {
         None => Ok(Content::Bytes(Vec::new(alloc))),
-        Some("-") => read_content(alloc, input, MAX_TEXT_BYTES + 1),
-        Some(name) => content_of(alloc, files, name, MAX_TEXT_BYTES + 1),
+        Some("-") => read_content(alloc, input, MAX_LIST_BYTES),
+        Some(name) => content_of(alloc, files, name, MAX_LIST_BYTES),
     }
 }
 
