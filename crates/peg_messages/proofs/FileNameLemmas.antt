@@ -67,8 +67,10 @@ several-utf8 byte rest several =
   where
     bytes : List ℕ
     bytes = byte ∷ rest
+
     length_by : (a b c d : Bool) → ℕ
     length_by a b c d = if a then 1 else if b then 2 else if c then 3 else if d then 4 else 1
+
     by : (a b c d : Bool) → is_utf8 (take 1 bytes) ≡ a → is_utf8 (take 2 bytes) ≡ b → is_utf8 (take 3 bytes) ≡ c
         → is_utf8 (take 4 bytes) ≡ d → (length (take (length_by a b c d) bytes) == 1) ≡ false
         → is_utf8 (take (length_by a b c d) bytes) ≡ true
@@ -84,6 +86,7 @@ character-utf8 byte rest small = by (length character == 1) refl
   where
     character : List ℕ
     character = first_character (byte ∷ rest)
+
     by : (b : Bool) → (length character == 1) ≡ b
         → IsUtf8 (if b then shown_byte Spelling (get_or character 0 0) else character)
     by true is =

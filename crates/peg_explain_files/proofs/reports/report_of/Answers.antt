@@ -21,6 +21,6 @@ returns-in_ok-called-in-Bytes g c file rules of from is =
           (g.O.Opener.file_at c.args.files.now c.args.name.now) content) c.in-Bytes.is c.in_ok-text.ensures.content,
       subst (λ (name : List ℕ). IsReport file rules style (start_named options) options.memo options.steps name
           c.in-Bytes.text.items report) called
-      (subst (λ (text : List ℕ). IsReport file rules style (start_named options) options.memo options.steps
+          (subst (λ (text : List ℕ). IsReport file rules style (start_named options) options.memo options.steps
           c.as_bytes-in-Bytes.result.now text report) c.deref.ensures.value right),
     )) (c.report_of_text.ensures file rules of from is)
