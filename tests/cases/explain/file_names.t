@@ -3,8 +3,8 @@ nothing but its characters to a terminal, and no name looks like several lines.
 
 Byte 27 begins the code of a colour and is \x1B; the line end is \n (docs/NOTATION.md). The text is b, not a.
 
-  $ echo "S <- 'a'" > a.peg; red="$(printf 'b\033[31m\n.txt')"; printf b > "$red"
-  $ pegtool explain a.peg "$red"
+  $ echo "S <- 'a'" > a.peg; printf b > "$(printf 'b\033[31m\n.txt')"
+  $ pegtool explain a.peg b*.txt
   b\x1B[31m\n.txt:1:1: expected 'a', found 'b'
   b
   ^
@@ -12,7 +12,7 @@ Byte 27 begins the code of a colour and is \x1B; the line end is \n (docs/NOTATI
 
 So is the name of a text whose parse takes too many steps, and of one that can't be opened.
 
-  $ pegtool explain a.peg "$red" --steps 1
+  $ pegtool explain a.peg b*.txt --steps 1
   b\x1B[31m\n.txt: the parse takes more steps than --steps allows
   [6]
 
@@ -22,7 +22,7 @@ So is the name of a text whose parse takes too many steps, and of one that can't
 
 The name of a grammar file has escapes where it is refused, lacks the start or can't be opened; so has the start.
 
-  $ pegtool explain "$red"
+  $ pegtool explain b*.txt
   b\x1B[31m\n.txt:1:2: the file ends too early
   b
    ^

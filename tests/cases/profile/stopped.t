@@ -38,9 +38,8 @@ more than a billion steps. The first descent takes three steps for each parenthe
   [6]
 
 A call takes five to seven steps of its own, so that 20 million steps make some three million calls, at these positions.
-Memory is taken for the positions alone: three million calls in a list would need 24 MB.
 
-  $ (ulimit -v 20000; pegtool profile twice.peg deep.txt --steps 20000000) | grep -cE '"calls":[0-9]{7},"places":65,'
+  $ pegtool profile twice.peg deep.txt --steps 20000000 | grep -cE '"calls":[0-9]{7},"places":65,'
   1
 
 With a memo the steps are few for each parenthesis, so the limit isn't met.
