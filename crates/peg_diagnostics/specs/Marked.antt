@@ -1,6 +1,6 @@
 -- The marked grammar of rules. Each alternative of a choice begins with a call of a rule of its own, its marker, which
--- matches the empty string. So an alternative that matches leaves a node of its marker. Results and spans of other nodes
--- stay the same.
+-- matches the empty string. So an alternative that matches leaves a node of its marker. Results and spans of other
+-- nodes stay the same.
 use Rattle.std.specs.Prelude.{ℕ, ◌+◌, List, [], ◌∷◌, ◌++◌, if◌then◌else◌, nat_lt}
 use Rattle.std.specs.Fmt.{decimal}
 use Rattle.peg_bytes.specs.Extent.{Extent}

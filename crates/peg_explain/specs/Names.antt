@@ -31,8 +31,8 @@ pub record CanBeNamed (file : List ℕ) (rules : List Rule) (calls : List RuleCa
 abbrev pub fails_at_once : Outcome → (item : ℕ) → Bool
 fails_at_once outcome item = outcome.far == 0 && list_any (λ (failed : ℕ). failed == item) outcome.expected.items
 
--- The rest of the text was parsed from the rule, and the item failed at its start. So the item failed in the call of the
--- rule at the position.
+-- The rest of the text was parsed from the rule, and the item failed at its start. So the item failed in the call of
+-- the rule at the position.
 abbrev pub stands_for : List Rest → (rule item : ℕ) → Bool
 stands_for rests rule item = list_any (λ (rest : Rest). rest.rule == rule && fails_at_once rest.outcome item) rests
 

@@ -28,7 +28,8 @@ pub record IsNamingAt (file : List ℕ) (rules : List Rule) (text : List ℕ) (c
   pub rest : naming.rest.now ≡ drop at text
   pub short : length naming.rest.now ≤ max_text_bytes
 
--- These are the items that are expected by an outcome, given the calls of its blame, if the text doesn't match as a whole.
+-- These are the items that are expected by an outcome, given the calls of its blame, if the text doesn't match as a
+-- whole.
 abbrev pub AreItemsFor : (file : List ℕ) → List Rule → ItemStyle → (text : List ℕ) → Outcome → List RuleCall
     → List ItemFact → Type 0
 AreItemsFor file rules style text outcome calls items =

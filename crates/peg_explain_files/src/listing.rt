@@ -12,8 +12,8 @@ use std::alloc::{AllocError, Global};
 // The greatest number of bytes that are read of a list. No file has more: it is the greatest offset of a file.
 const MAX_LIST_BYTES: usize = 9_223_372_036_854_775_807;
 
-/// Returns what the list with this name holds; nothing if there is no list. The list `-` is the input. It is read to its
-/// end, and held as a whole.
+/// Returns what the list with this name holds; nothing if there is no list. The list `-` is the input. It is read to
+/// its end, and held as a whole.
 pub(crate) fn list_content<O: Opener, I: Source>(
     alloc: Global,
     files: &O,

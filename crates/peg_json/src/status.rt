@@ -6,8 +6,8 @@ ghost use Rattle.std.specs.Prelude.{◌≡◌};
 pub enum Status {
     /// Matched, accepted, a table or code printed, no warnings, all texts explained match, all is used, or help.
     Done,
-    /// The parse failed, or matched only in part though the whole was asked for. Or there are warnings, a text explained
-    /// doesn't match, or texts leave something unused.
+    /// The parse failed, or matched only in part though the whole was asked for. Or there are warnings, a text
+    /// explained doesn't match, or texts leave something unused.
     Failed,
     /// The grammar is rejected.
     Refused,

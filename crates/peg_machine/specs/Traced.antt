@@ -97,7 +97,8 @@ pub record HasTracedFirst (bodies : List CoreForm) (text : List ℕ) (start : �
 
 -- ---- a tracer
 
--- between two states a tracer got these calls: what the old state had traced, and these after it, the new one has traced
+-- between two states a tracer got these calls: what the old state had traced, and these after it, the new one has
+-- traced
 abbrev pub TracesMore : {Tracer : Type 0} → (traced : Tracer → List RuleCall → Type 0) → (old new : Tracer)
     → (calls : List RuleCall) → Type 0
 TracesMore traced old new calls = (before : List RuleCall) → traced old before → traced new (before ++ calls)

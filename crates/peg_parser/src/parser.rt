@@ -332,12 +332,12 @@ impl Parser {
     }
 
     /// Parses as `parse` does, but in one run, and shows the tracer each call whose body runs. Without a memo these are
-    /// the calls of Ford's record of the text, in order, each as often as it is made (Ford 2004, section 3.3). With one they
-    /// are these calls as a set, whatever the memo answers.
+    /// the calls of Ford's record of the text, in order, each as often as it is made (Ford 2004, section 3.3). With one
+    /// they are these calls as a set, whatever the memo answers.
     ///
-    /// The errors are those of `parse`. After `NoSuchStart` and `TextTooLong` the tracer is as it was. After `StepLimit` it
-    /// has been shown the calls made so far: some of these calls, and without a memo the first of them. After `Memory` it
-    /// may have been shown some of them.
+    /// The errors are those of `parse`. After `NoSuchStart` and `TextTooLong` the tracer is as it was. After `StepLimit`
+    /// it has been shown the calls made so far: some of these calls, and without a memo the first of them. After
+    /// `Memory` it may have been shown some of them.
     ///
     /// # Example
     ///

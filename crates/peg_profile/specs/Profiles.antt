@@ -24,8 +24,8 @@ pub record AreProfilesOf (rules : ℕ) (calls : List RuleCall) (profiles : List 
   pub each : (rule : ℕ) (d : RuleProfile) → rule < rules
       → IsProfileOf (positions_of rule calls) (slice_index_or profiles rule d)
 
--- The profiles of a parse that has ended: they are of calls that are those of Ford's record as a set. Without a memo they
--- are these calls, each as often as it is made.
+-- The profiles of a parse that has ended: they are of calls that are those of Ford's record as a set. Without a memo
+-- they are these calls, each as often as it is made.
 abbrev pub AreProfilesOfParse : List Rule → List ℕ → (start : List ℕ) → (memo : ℕ) → List RuleProfile → Type 0
 AreProfilesOfParse rules text start memo profiles =
     (calls : List RuleCall) × AreCallsOf rules text start calls

@@ -20,8 +20,8 @@ pub struct RuleProfile {
 
 /// A tracer that counts the calls of each rule and their different positions.
 ///
-/// Takes at most 24 bytes of memory for each pair of a rule and a position, also while it grows, and 40 bytes for each
-/// rule. The number of calls doesn't matter. A call takes logarithmic time in the number of positions, on average.
+/// Takes at most 24 bytes of memory for each pair of a rule and a position, also while it grows, and up to 120 bytes for
+/// each rule. The number of calls doesn't matter. A call takes logarithmic time in the number of positions, on average.
 ///
 /// # Example
 ///
@@ -102,8 +102,8 @@ impl RuleCalls {
         }
     }
 
-    // Makes room for another position. If the list is full, repetitions are dropped first. It grows only if more than half
-    // of it is left.
+    // Makes room for another position. If the list is full, repetitions are dropped first. It grows only if more than
+    // half of it is left.
     fn make_room(&mut self) -> Result<(), AllocError>
         ensures calls { self.new.calls ≡ self.old.calls }
         ensures same { (n : ℕ) → (Contains self.new.positions.items n ↔ Contains self.old.positions.items n) }
@@ -157,8 +157,8 @@ impl CallCounts {
         }
     }
 
-    /// Returns the profile of each rule of a grammar with this many, in order. Calls of other rules are left out. Sorts the
-    /// positions. The only error is a failed allocation.
+    /// Returns the profile of each rule of a grammar with this many, in order. Calls of other rules are left out. Sorts
+    /// the positions. The only error is a failed allocation.
     pub fn profiles(&mut self, alloc: Global, rules: u32) -> Result<Vec<RuleProfile>, AllocError>
         ensures { (calls : List RuleCall) → HasCounted self.old calls
             → IfOk result (λ profiles. AreProfilesOf rules calls profiles.items) }

@@ -31,8 +31,9 @@ impl Profile {
     /// the memo. Without a memo the calls are those of the record, each counted as often as it is made. A body that runs
     /// again at a position is work that a memo can save (Ford 2002).
     ///
-    /// If the parse takes more steps than the limit allows, it is stopped there, and the profile has the calls made so far.
-    /// They are calls of the record, and without a memo its first ones. The other errors are those of `Parser::parse`.
+    /// If the parse takes more steps than the limit allows, it is stopped there, and the profile has the calls made so
+    /// far. They are calls of the record, and without a memo its first ones. The other errors are those of
+    /// `Parser::parse`.
     ///
     /// Takes the memory of a `CallCounts`, besides what the parse takes.
     ///
