@@ -3,11 +3,10 @@
 from __future__ import annotations
 
 import array
-import os
 import re
 from typing import TYPE_CHECKING, Dict, Iterable, Iterator, List, NamedTuple, Optional, Sequence, Tuple, Union, overload
 
-from ._errors import NoSuchRuleError, ParseError, StepLimitError, message_at
+from ._errors import NoSuchRuleError, ParseError, StepLimitError, message_at, shown_name
 from ._library import RawAnswer
 
 if TYPE_CHECKING:
@@ -281,7 +280,7 @@ class _Answer:
         consumed = self.consumed if isinstance(self, Match) else None
         if consumed == len(self.data):
             raise ValueError("the text is matched as a whole")
-        encoded = os.fsencode(name)
+        encoded = shown_name(name).encode("utf-8")
         try:
             raw = self.grammar._explain(encoded, self.data, self._options)
         except StepLimitError:

@@ -124,6 +124,9 @@ class Places(unittest.TestCase):
             path = os.fsencode(folder) + b"/x.peg"
             pathlib.Path(os.fsdecode(path)).write_text("S <- T\n", encoding="ascii")
             self.assertTrue(str(error_of(Grammar.from_file, path)).startswith(f"{folder}/x.peg:1:6: "))
+        error = error_of(Grammar(CHAIN).parse, "ac", name="a:\n\x1b[31m\udcff\xe9.txt")
+        self.assertTrue(str(error).startswith("a:\\n\\x1b[31m\\xff\xe9.txt:1:2: expected "), str(error))
+        self.assertEqual((error.line, error.column, error.found), (1, 2, "'c'"))
 
 
 class Library(unittest.TestCase):
