@@ -77,7 +77,8 @@ pub ProfilesTo-longer : (rules : List Rule) (text more : List ℕ) (start : Opti
 ProfilesTo-longer rules text more start memo steps reply long longer (text_over_limit over) = text_over_limit longer
 ProfilesTo-longer rules text more start memo steps reply long longer (start_without_rule name within named missing) =
     absurd (omega (arith, long, within))
-ProfilesTo-longer rules text more start memo steps reply long longer (steps_over_limit within more_steps) =
+ProfilesTo-longer rules text more start memo steps reply long longer
+    (steps_over_limit within starts limited more_steps calls first profiles) =
     absurd (omega (arith, long, within))
 ProfilesTo-longer rules text more start memo steps reply long longer
     (has_profile within enough starts found taken calls ordered profiles) =
