@@ -14,12 +14,12 @@ With a memo of one entry the second call at 1 is one step instead of seven.
   $ pegtool profile twice.peg one.txt --memo 1
   {"consumed":4,"result":"matched","rules":[{"again":0,"calls":2,"places":2,"rule":"A"}],"steps":19}
 
-That many steps are enough, and one less isn't.
+That many steps are enough. One less stops the run before its last instruction, when all calls have been made.
 
   $ pegtool profile twice.peg one.txt --memo 1 --steps 19
   {"consumed":4,"result":"matched","rules":[{"again":0,"calls":2,"places":2,"rule":"A"}],"steps":19}
   $ pegtool profile twice.peg one.txt --memo 1 --steps 18
-  {"refusal":"StepLimit"}
+  {"result":"stopped","rules":[{"again":0,"calls":2,"places":2,"rule":"A"}],"steps":18}
   [6]
 
 With capacity for each rule at each position, no call runs twice.
@@ -41,7 +41,7 @@ Each level takes twelve steps, and the innermost call seven: 12 n + 7 steps for 
   $ pegtool profile twice.peg 30.txt --memo 1 --steps 367
   {"consumed":91,"result":"matched","rules":[{"again":0,"calls":31,"places":31,"rule":"A"}],"steps":367}
   $ pegtool profile twice.peg 30.txt --memo 1 --steps 366
-  {"refusal":"StepLimit"}
+  {"result":"stopped","rules":[{"again":0,"calls":31,"places":31,"rule":"A"}],"steps":366}
   [6]
 
 Without a memo the time would be exponential; each node starts a byte later and ends two bytes earlier than its
@@ -56,7 +56,7 @@ Each level takes twelve steps, and the innermost call seven: 12 n + 7 steps for 
   $ pegtool profile twice.peg 30.txt --memo 4096 --steps 367
   {"consumed":91,"result":"matched","rules":[{"again":0,"calls":31,"places":31,"rule":"A"}],"steps":367}
   $ pegtool profile twice.peg 30.txt --memo 4096 --steps 366
-  {"refusal":"StepLimit"}
+  {"result":"stopped","rules":[{"again":0,"calls":31,"places":31,"rule":"A"}],"steps":366}
   [6]
 
 Without a memo the time would be exponential; each node starts a byte later and ends two bytes earlier than its
@@ -71,7 +71,7 @@ Each level takes twelve steps, and the innermost call seven: 12 n + 7 steps for 
   $ pegtool profile twice.peg 100.txt --memo 1 --steps 1207
   {"consumed":301,"result":"matched","rules":[{"again":0,"calls":101,"places":101,"rule":"A"}],"steps":1207}
   $ pegtool profile twice.peg 100.txt --memo 1 --steps 1206
-  {"refusal":"StepLimit"}
+  {"result":"stopped","rules":[{"again":0,"calls":101,"places":101,"rule":"A"}],"steps":1206}
   [6]
 
 Without a memo the time would be exponential; each node starts a byte later and ends two bytes earlier than its
@@ -86,7 +86,7 @@ Each level takes twelve steps, and the innermost call seven: 12 n + 7 steps for 
   $ pegtool profile twice.peg 100.txt --memo 4096 --steps 1207
   {"consumed":301,"result":"matched","rules":[{"again":0,"calls":101,"places":101,"rule":"A"}],"steps":1207}
   $ pegtool profile twice.peg 100.txt --memo 4096 --steps 1206
-  {"refusal":"StepLimit"}
+  {"result":"stopped","rules":[{"again":0,"calls":101,"places":101,"rule":"A"}],"steps":1206}
   [6]
 
 Without a memo the time would be exponential; each node starts a byte later and ends two bytes earlier than its
