@@ -7,13 +7,13 @@ use Rattle.std.proofs.lemmas.Str.{IsUtf8-from_ascii}
 use Rattle.std.specs.List.{starts_with}
 use Rattle.std.specs.Str.{IsUtf8}
 use Rattle.peg_lexer.specs.Lexical.{begins_name, is_digit, in_name, identifier, quoted_char, up_to_quote, quoted, literal, classed_range, class, is_quote}
-use Rattle.peg_lexer.specs.LexicalCode.{char_piece, item_piece, spells_of}
+use Rattle.peg_lexer.specs.LexicalCode.{char_piece, range_piece, spells_of}
 use Rattle.peg_lexer.specs.Matchers.{PrefixMatch, Matcher, literal_bytes, satisfy, seq_matcher, or_piece, star, many, many_after, and_more, concat_matches, plain}
 use Rattle.peg_metagrammar.specs.Ranges.{Range}
 use Rattle.peg_metagrammar.specs.RangesCode.{range_of}
 use Rattle.peg_metagrammar.specs.Denotation.{Denotation, bytes_in, ranges_in}
 use Rattle.peg_lexer.specs.declared.scan_literals.Char.{Char}
-use Rattle.peg_lexer.specs.declared.scan_literals.Item.{Item}
+use Rattle.peg_lexer.specs.declared.scan_literals.SpelledRange.{SpelledRange}
 use Rattle.peg_lexer.proofs.PieceLemmas.{from, from-drop, length-from, many-none, many-some}
 use Rattle.peg_lexer.proofs.PieceSizes.{IsBlank, blank-one, blank-literal_bytes, followed_parts}
 
@@ -45,13 +45,13 @@ bytes-one find rest at char bytes s found long fits = record {
       ∙ sym (append_assoc bytes (char.byte ∷ []) (bytes_in (many find (drop (at + char.length) rest)).spells)));
 }
 
-pub ranges-one : (find : Matcher) (rest : List ℕ) (at : ℕ) (item : Item) (ranges : List Range) → Spelled ranges_in find rest at ranges
-    → Some (item_piece item) ≡ find (from at rest) → 0 < item.length → item.length ≤ length (from at rest)
+pub ranges-one : (find : Matcher) (rest : List ℕ) (at : ℕ) (item : SpelledRange) (ranges : List Range) → Spelled ranges_in find rest at ranges
+    → Some (range_piece item) ≡ find (from at rest) → 0 < item.length → item.length ≤ length (from at rest)
     → Spelled ranges_in find rest (at + item.length) (ranges ++ range_of item.bytes ∷ [])
 ranges-one find rest at item ranges s found long fits = record {
   within = omega (arith, length-from at rest, s.within);
   same =
-      s.same ∙ (ap (λ (p : PrefixMatch). ranges ++ ranges_in p.spells) (next-piece find rest at (item_piece item) (sym found) long fits)
+      s.same ∙ (ap (λ (p : PrefixMatch). ranges ++ ranges_in p.spells) (next-piece find rest at (range_piece item) (sym found) long fits)
       ∙ sym (append_assoc ranges (range_of item.bytes ∷ []) (ranges_in (many find (drop (at + item.length) rest)).spells)));
 }
 

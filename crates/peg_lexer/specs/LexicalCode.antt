@@ -12,7 +12,7 @@ use Rattle.peg_lexer.specs.declared.counts.CountText.{CountText}
 use Rattle.peg_lexer.specs.declared.counts.NumberText.{NumberText}
 use Rattle.peg_lexer.specs.declared.scan.Scanned.{Scanned}
 use Rattle.peg_lexer.specs.declared.scan_literals.Char.{Char}
-use Rattle.peg_lexer.specs.declared.scan_literals.Item.{Item}
+use Rattle.peg_lexer.specs.declared.scan_literals.SpelledRange.{SpelledRange}
 use Rattle.peg_lexer.specs.declared.token.TokenKind.{TokenKind}
 
 -- the kind of a token and the length of its text
@@ -36,8 +36,8 @@ abbrev pub char_piece : Char → PrefixMatch
 char_piece char = record { spells = Byte char.byte ∷ []; length = char.length }
 
 -- the match of a range in a class
-abbrev pub item_piece : Item → PrefixMatch
-item_piece item = record { spells = Bytes (range_of item.bytes) ∷ []; length = item.length }
+abbrev pub range_piece : SpelledRange → PrefixMatch
+range_piece item = record { spells = Bytes (range_of item.bytes) ∷ []; length = item.length }
 
 -- the character that consists of a backslash and the escape at the start of the bytes
 abbrev pub escaped_char : List ℕ → Option PrefixMatch

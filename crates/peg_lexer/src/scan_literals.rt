@@ -4,7 +4,7 @@ ghost use Rattle.peg_lexer.specs.Lexical.{begins_name, is_digit, in_name, identi
 ghost use Rattle.peg_lexer.specs.Lexical.{escape};
 ghost use Rattle.peg_lexer.specs.Lexical.{backslash, char, is_quote, quoted_char, up_to_quote, quoted, literal, range_matcher};
 ghost use Rattle.peg_lexer.specs.Lexical.{classed_range, class};
-ghost use Rattle.peg_lexer.specs.LexicalCode.{char_piece, item_piece, escaped_char};
+ghost use Rattle.peg_lexer.specs.LexicalCode.{char_piece, range_piece, escaped_char};
 ghost use Rattle.peg_lexer.specs.Matchers.{match_length, satisfy, seq_matcher, many};
 ghost use Rattle.peg_metagrammar.specs.Denotation.{is_octal, hexadecimal_value};
 ghost use Rattle.peg_metagrammar.specs.SimpleEscapes.{is_simple_escape, simple_escape};
@@ -18,11 +18,11 @@ pub(crate) struct Char {
     pub(crate) length: usize,
 }
 
-/// A range of a class: its bytes, and the length of its text.
+/// A range of a class as a grammar file spells it: its bytes, and the length of its text in bytes.
 #[derive(Clone, Copy, Debug)]
-pub(crate) struct Item {
-    pub(crate) bytes: ByteRange,
-    pub(crate) length: usize,
+pub struct SpelledRange {
+    pub bytes: ByteRange,
+    pub length: usize,
 }
 
 /// Returns the length of the name at the start of `rest`. Linear in that length.
@@ -123,8 +123,9 @@ fn byte_at_start(byte: u8, rest: &[u8]) -> Option<usize>
     }
 }
 
-// The length of the characters up to the quote, or up to an invalid character.
-fn chars_before(quote: u8, rest: &[u8]) -> usize
+/// Returns the length of the characters of a literal up to its closing quote, or up to an invalid character: a backslash
+/// that begins no escape. Linear in that length.
+pub fn chars_before(quote: u8, rest: &[u8]) -> usize
     ensures value { result ≡ (many (quoted_char quote) rest.now).length }
     ensures fits { result ≤ length rest.now }
 {
@@ -165,8 +166,9 @@ pub(crate) fn class(rest: &[u8]) -> Option<usize>
     Some(length + 2)
 }
 
-// The length of the ranges up to the bracket, or up to an invalid range.
-fn ranges_before_bracket(rest: &[u8]) -> usize
+/// Returns the length of the ranges of a class up to its closing bracket, or up to an invalid range. Linear in that
+/// length.
+pub fn ranges_before_bracket(rest: &[u8]) -> usize
     ensures value { result ≡ (many classed_range rest.now).length }
     ensures fits { result ≤ length rest.now }
 {
@@ -177,9 +179,9 @@ fn ranges_before_bracket(rest: &[u8]) -> usize
     at
 }
 
-/// Returns the range at the start of `rest`, unless the closing bracket comes next.
-pub(crate) fn classed_range(rest: &[u8]) -> Option<Item>
-    ensures value { option_map item_piece result ≡ classed_range rest.now }
+/// Returns the range of a class at the start of `rest`, unless the closing bracket comes next. Constant time.
+pub fn classed_range(rest: &[u8]) -> Option<SpelledRange>
+    ensures value { option_map range_piece result ≡ classed_range rest.now }
     ensures some { IfSome result (λ item. 0 < item.length) }
     ensures fits { IfSome result (λ item. item.length ≤ length rest.now) }
 {
@@ -191,13 +193,13 @@ pub(crate) fn classed_range(rest: &[u8]) -> Option<Item>
 
 // A range: two characters separated by a dash, or one character.
 #[tactic(auto, unfolding(crate::specs::Lexical::range_matcher))]
-fn range_at(rest: &[u8]) -> Option<Item>
-    ensures value { option_map item_piece result ≡ range_matcher rest.now }
+fn range_at(rest: &[u8]) -> Option<SpelledRange>
+    ensures value { option_map range_piece result ≡ range_matcher rest.now }
     ensures some { IfSome result (λ item. 0 < item.length) }
     ensures fits { IfSome result (λ item. item.length ≤ length rest.now) }
 {
     let low = char_at(rest)?;
-    let alone = Item {
+    let alone = SpelledRange {
         bytes: ByteRange {
             low: low.byte,
             high: low.byte,
@@ -209,7 +211,7 @@ fn range_at(rest: &[u8]) -> Option<Item>
         return Some(alone);
     }
     match char_at(&rest_after[1..]) {
-        Some(high) => Some(Item {
+        Some(high) => Some(SpelledRange {
             bytes: ByteRange {
                 low: low.byte,
                 high: high.byte,

@@ -21,5 +21,4 @@ pub mod Reaching
 pub mod WithoutExtents
 pub mod Spelling
 pub mod Habits
-pub mod SpellingCode
 pub mod FileWarnings

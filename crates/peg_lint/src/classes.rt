@@ -14,9 +14,9 @@ ghost use Rattle.peg_lint.specs.Warnings.{IsPartOfRule};
 use crate::habits::{
     begins_with_caret, ends_in_bracket, has_blanks_around, holds_high_byte, holds_line_end, text_in,
 };
-use crate::spelled::classed_range;
 use crate::{Warning, WarningKind};
 use peg_bytes::Span;
+use peg_lexer::classed_range;
 use peg_metagrammar::ByteRange;
 use std::alloc::AllocError;
 

@@ -22,7 +22,6 @@ mod repeats;
 mod same;
 mod selection;
 mod shadows;
-mod spelled;
 mod stops;
 mod visit;
 mod warning;

@@ -1,5 +1,4 @@
 mod CharacterLemmas
 mod ListingLemmas
-mod ScanningLemmas
 mod AppendLemmas
 mod FileNameLemmas

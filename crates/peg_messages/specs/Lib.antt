@@ -12,7 +12,6 @@ pub mod Places
 pub mod Found
 pub mod Ends
 pub mod Failures
-pub mod Scanning
 pub mod SyntaxCauses
 pub mod SyntaxCausesCode
 pub mod Sentences

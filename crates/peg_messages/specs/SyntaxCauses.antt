@@ -2,7 +2,8 @@
 use Rattle.std.specs.Prelude.{ℕ, ◌+◌, ◌==◌, Bool, true, false, not, ◌&&◌, ◌||◌, if◌then◌else◌, nat_eq, nat_le}
 use Rattle.std.specs.Prelude.{List, [], ◌∷◌, drop, length, slice_index}
 use Rattle.std.specs.List.{starts_with}
-use Rattle.peg_messages.specs.Scanning.{inside_len}
+use Rattle.peg_lexer.specs.Lexical.{classed_range, quoted_char}
+use Rattle.peg_lexer.specs.Matchers.{many}
 use Rattle.peg_messages.specs.declared.causes.SyntaxCause.{SyntaxCause}
 use Rattle.peg_messages.specs.declared.causes.SyntaxCause.TheVariants.{EndsEarly, ByteOrderMark, OpenComment}
 use Rattle.peg_messages.specs.declared.causes.SyntaxCause.TheVariants.{OpenLiteral, OpenClass, BadEscape, NoArrow}
@@ -13,6 +14,12 @@ abbrev pub open_cause : (is_class : Bool) → SyntaxCause
 open_cause true = OpenClass
 open_cause false = OpenLiteral
 
+-- How many bytes of a literal or class the lexer can read, up to the closing byte or a backslash that begins no escape:
+-- the ranges of a class, or the characters of a literal. `inside` is what follows the first byte.
+abbrev pub inside_length : (is_class : Bool) (close : ℕ) → (inside : List ℕ) → ℕ
+inside_length is_class close inside =
+    if is_class then (many classed_range inside).length else (many (quoted_char close) inside).length
+
 -- the cause where a literal or class begins, which can be read up to byte `end` of `inside`
 abbrev pub stop_cause : (is_class : Bool) (close at : ℕ) → (inside : List ℕ) → (end : ℕ) → SyntaxCause
 stop_cause is_class close at inside end =
@@ -22,7 +29,7 @@ stop_cause is_class close at inside end =
 -- the cause where a literal or class begins: `inside` is what follows its first byte
 unfoldable pub opened_cause : (is_class : Bool) (close at : ℕ) → (inside : List ℕ) → SyntaxCause
 opened_cause is_class close at inside =
-    stop_cause is_class close at inside (inside_len is_class close inside 0)
+    stop_cause is_class close at inside (inside_length is_class close inside)
 
 -- `=`, `:`, `->`, or a `<` that isn't followed by a dash
 abbrev pub is_other_arrow : List ℕ → Bool

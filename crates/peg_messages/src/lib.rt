@@ -2,6 +2,7 @@
 #![tactic(auto)]
 
 mod blanks;
+mod bytes;
 mod causes;
 mod characters;
 mod failure;
@@ -12,7 +13,6 @@ mod listing;
 mod numbers;
 mod reason;
 mod rejection;
-mod scanning;
 mod sentences;
 mod shown;
 mod source;

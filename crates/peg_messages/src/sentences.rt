@@ -6,11 +6,11 @@ ghost use Rattle.peg_messages.specs.Sentences.{arrowed, backslash_text, cause_se
 ghost use Rattle.peg_messages.specs.Sentences.{is_name_byte, name_from, path_text, reason_sentence};
 ghost use Rattle.peg_messages.specs.Sentences.{rule_sentence, token_text};
 
+use crate::bytes::{byte_at, bytes_after};
 use crate::causes::SyntaxCause;
 use crate::characters::character_len;
 use crate::found::write_found;
 use crate::reason::Reason;
-use crate::scanning::{byte_at, bytes_after};
 use crate::shown::{Style, write_character};
 use crate::source::part_of;
 use crate::syntax::syntax_cause;

@@ -1,12 +1,13 @@
 //! Finding why a grammar file isn't in the notation.
 ghost use Rattle.std.specs.Prelude.{◌≡◌, ◌+◌, ◌<◌, ◌≤◌, length};
 ghost use Rattle.peg_bytes.specs.Place.{max_offset};
-ghost use Rattle.peg_messages.specs.SyntaxCauses.{cause_from, is_at_mark, is_other_arrow, open_cause};
+ghost use Rattle.peg_messages.specs.SyntaxCauses.{cause_from, inside_length, is_at_mark, is_other_arrow, open_cause};
 ghost use Rattle.peg_messages.specs.SyntaxCauses.{opened_cause, syntax_cause, token_cause};
 ghost use Rattle.peg_messages.specs.SyntaxCausesCode.{IsBelow};
 
+use crate::bytes::{byte_at, bytes_after};
 use crate::causes::SyntaxCause;
-use crate::scanning::{byte_at, bytes_after, inside_len};
+use peg_lexer::{chars_before, ranges_before_bracket};
 
 /// Returns why a grammar file isn't in the notation, given the offset at which it is refused. Takes time linear in the
 /// literal or class that begins there.
@@ -55,7 +56,7 @@ fn opened_cause(is_class: bool, close: u8, at: u32, inside: &[u8]) -> SyntaxCaus
     ensures cause { result ≡ opened_cause is_class close at inside.now }
     ensures within { IsBelow (at + 1 + length inside.now) result }
 {
-    let end = inside_len(is_class, close, inside);
+    let end = inside_length(is_class, close, inside);
     if inside.len() <= end {
         open_cause(is_class)
     } else if byte_at(inside, end) == close {
@@ -64,6 +65,18 @@ fn opened_cause(is_class: bool, close: u8, at: u32, inside: &[u8]) -> SyntaxCaus
         SyntaxCause::BadEscape {
             at: at + 1 + end as u32,
         }
+    }
+}
+
+// Returns how many bytes of a literal or class the lexer can read, given what follows its first byte.
+fn inside_length(is_class: bool, close: u8, inside: &[u8]) -> usize
+    ensures value { result ≡ inside_length is_class close inside.now }
+    ensures within { result ≤ length inside.now }
+{
+    if is_class {
+        ranges_before_bracket(inside)
+    } else {
+        chars_before(close, inside)
     }
 }
 

@@ -1,6 +1,6 @@
 use Rattle.std.proofs.Common.{ap, sym, ◌∙◌, option_map}
 use Rattle.peg_lexer.specs.Lexical.{classed_range}
-use Rattle.peg_lexer.specs.LexicalCode.{item_piece}
+use Rattle.peg_lexer.specs.LexicalCode.{range_piece}
 use Rattle.peg_lexer.specs.Matchers.{match_length}
 use Rattle.peg_lexer.proofs.PieceLemmas.{Passed-one, Passed-all}
 use Rattle.peg_lexer.proofs.scan_literals.ranges_before_bracket.Goals as goal
@@ -12,4 +12,4 @@ items-preserved c =
 
 pub returns-clause-value : goal.returns-clause-value
 returns-clause-value c = Passed-all classed_range c.args.rest.now c.items.at c.items.invariant
-    (ap match_length (sym (ap (option_map item_piece) c.in_default.is) ∙ c.classed_range.ensures.value))
+    (ap match_length (sym (ap (option_map range_piece) c.in_default.is) ∙ c.classed_range.ensures.value))

@@ -1,7 +1,7 @@
 use Rattle.std.proofs.Common.{◌+◌, map, option_map, refl, sym, ap, ◌∙◌, subst}
 use Rattle.std.proofs.lemmas.List.{map_push}
 use Rattle.peg_lexer.specs.Lexical.{classed_range}
-use Rattle.peg_lexer.specs.LexicalCode.{item_piece}
+use Rattle.peg_lexer.specs.LexicalCode.{range_piece}
 use Rattle.peg_metagrammar.specs.RangesCode.{range_of}
 use Rattle.peg_metagrammar.specs.Denotation.{ranges_in}
 use Rattle.peg_lexer.proofs.TokenValues.{Spelled, ranges-one, spelled-all}
@@ -18,4 +18,4 @@ items-preserved c =
 pub returns : goal.returns
 returns c =
     spelled-all ranges_in refl classed_range c.args.rest.now c.items.at (map range_of c.items.ranges.items) c.items.invariant
-    (sym (ap (option_map item_piece) c.in_default.is) ∙ c.classed_range.ensures.value)
+    (sym (ap (option_map range_piece) c.in_default.is) ∙ c.classed_range.ensures.value)
