@@ -10,8 +10,8 @@ ghost use Rattle.peg_core.specs.CoreParts.{all_core_parts, are_defined, are_in_r
 ghost use Rattle.peg_core.specs.Appending.{Appends, AppendsForm, AppendsForms};
 ghost use Rattle.peg_core.specs.Layout.{bodies_of, max_forms, max_forms_each};
 ghost use Rattle.peg_core.specs.Subexpressions.{numbered_subexpressions, all_core_stars, is_star};
-ghost use Rattle.peg_semantics.specs.Form.{counts_written, counts_written_by_all, form_weight, forms, forms_weight};
-ghost use Rattle.peg_semantics.specs.Form.{names_used, names_used_by_all};
+ghost use Rattle.peg_semantics.specs.Form.{Seq, counts_written, counts_written_by_all, form_weight, forms};
+ghost use Rattle.peg_semantics.specs.Form.{forms_weight, names_used, names_used_by_all};
 ghost use Rattle.peg_semantics.specs.Grammar.{max_parts};
 ghost use Rattle.peg_grammar.specs.GrammarRules.{rules_in};
 ghost use Rattle.peg_semantics.specs.Loops.{LeftCalls, IsEmptyLoop, IsLeftCycle};
@@ -90,10 +90,7 @@ fn add(
         Expr::Class { set, span } => add_class(builder, *set, *span),
         Expr::Any { span } => add_any(builder, *span),
         Expr::Name { name, .. } => add_name(builder, grammar, name.as_str()),
-        Expr::Seq { items, .. } => {
-            let numbers = add_all(alloc, builder, grammar, items)?;
-            add_sequence(builder, &numbers)
-        }
+        Expr::Seq { items, .. } => add_items(alloc, builder, grammar, items),
         Expr::Choice { first, rest, .. } => {
             let first = add(alloc, builder, grammar, first)?;
             let others = add_all(alloc, builder, grammar, rest)?;
@@ -110,8 +107,31 @@ fn add(
     }
 }
 
+// Adds the core forms of a sequence of items, and returns the number of its own.
+#[cycle(sugar)]
+#[inline(never)]
+fn add_items(
+    alloc: Global,
+    builder: &mut CoreBuilder,
+    grammar: &Grammar,
+    items: &[Expr],
+) -> Result<u32, AllocError>
+    requires room { length builder.old.forms + max_forms_each * (1 + forms_weight (forms (map form_of items.now)))
+        ≤ max_forms }
+    requires few { length builder.old.spans + forms_weight (forms (map form_of items.now)) ≤ max_parts }
+    requires rules { builder.old.rules ≡ length (rules_in grammar.now) }
+    requires defined { are_defined (rules_in grammar.now) (names_used_by_all (forms (map form_of items.now))) ≡ true }
+    requires ranged { are_in_range (counts_written_by_all (forms (map form_of items.now))) ≡ true }
+    ensures { (span : Extent) → IfOk result (λ number. AppendsForm (rules_in grammar.now)
+        (Seq (forms (map form_of items.now)) span) builder.old number builder.new) }
+{
+    let numbers = add_all(alloc, builder, grammar, items)?;
+    add_sequence(builder, &numbers)
+}
+
 // Adds the core forms of expressions in order, and returns the numbers of their own.
 #[cycle(sugar)]
+#[inline(never)]
 fn add_all(
     alloc: Global,
     builder: &mut CoreBuilder,
@@ -136,6 +156,7 @@ fn add_all(
 }
 
 // Adds the call of the rule that a name denotes.
+#[inline(never)]
 fn add_name(builder: &mut CoreBuilder, grammar: &Grammar, name: &str) -> Result<u32, AllocError>
     requires room { length builder.old.forms + 1 ≤ max_forms }
     requires rules { builder.old.rules ≡ length (rules_in grammar.now) }

@@ -19,6 +19,7 @@ fn no_origin() -> Span {
 }
 
 /// Adds the part or the empty form: `e / ''`.
+#[inline(never)]
 pub(crate) fn add_optional(part: u32, builder: &mut CoreBuilder) -> Result<u32, AllocError>
     requires room { length builder.old.forms + 2 ≤ max_forms }
     requires part { part < length builder.old.forms }
@@ -30,6 +31,7 @@ pub(crate) fn add_optional(part: u32, builder: &mut CoreBuilder) -> Result<u32, 
 }
 
 /// Adds the star of a part.
+#[inline(never)]
 pub(crate) fn add_star(
     part: u32,
     builder: &mut CoreBuilder,
@@ -44,6 +46,7 @@ pub(crate) fn add_star(
 }
 
 /// Adds the part and then its star: `e e*`.
+#[inline(never)]
 pub(crate) fn add_plus(
     part: u32,
     builder: &mut CoreBuilder,
@@ -63,6 +66,7 @@ pub(crate) fn add_plus(
 /// Adds the part at least `min` and at most `max` times. If the part is built of empty expressions alone, the
 /// iterations after the first that must match are left out. If `max` is 0, the part is an alternative that is never
 /// tried, so that it is checked all the same.
+#[inline(never)]
 pub(crate) fn add_count(
     part: u32,
     builder: &mut CoreBuilder,
@@ -126,6 +130,7 @@ fn add_iterations(part: u32, builder: &mut CoreBuilder, min: u8, max: u8) -> Res
 }
 
 /// Adds the and-predicate of a part: `!(!e)`.
+#[inline(never)]
 pub(crate) fn add_and(part: u32, builder: &mut CoreBuilder) -> Result<u32, AllocError>
     requires room { length builder.old.forms + 2 ≤ max_forms }
     requires part { part < length builder.old.forms }
@@ -137,6 +142,7 @@ pub(crate) fn add_and(part: u32, builder: &mut CoreBuilder) -> Result<u32, Alloc
 }
 
 /// Adds the not-predicate of a part.
+#[inline(never)]
 pub(crate) fn add_not(part: u32, builder: &mut CoreBuilder) -> Result<u32, AllocError>
     requires room { length builder.old.forms + 1 ≤ max_forms }
     requires part { part < length builder.old.forms }
@@ -147,6 +153,7 @@ pub(crate) fn add_not(part: u32, builder: &mut CoreBuilder) -> Result<u32, Alloc
 }
 
 /// Adds a call of a rule.
+#[inline(never)]
 pub(crate) fn add_call(builder: &mut CoreBuilder, rule: u32) -> Result<u32, AllocError>
     requires room { length builder.old.forms + 1 ≤ max_forms }
     requires rule { rule < builder.old.rules }
@@ -156,6 +163,7 @@ pub(crate) fn add_call(builder: &mut CoreBuilder, rule: u32) -> Result<u32, Allo
 }
 
 /// Adds a class: one test, of the next terminal.
+#[inline(never)]
 pub(crate) fn add_class(
     builder: &mut CoreBuilder,
     set: ByteSet,
@@ -171,6 +179,7 @@ pub(crate) fn add_class(
 }
 
 /// Adds a dot: one test of any byte, of the next terminal.
+#[inline(never)]
 pub(crate) fn add_any(builder: &mut CoreBuilder, span: Span) -> Result<u32, AllocError>
     requires room { length builder.old.forms + 1 ≤ max_forms }
     requires few { length builder.old.spans + 1 ≤ max_parts }

@@ -13,6 +13,7 @@ use peg_bytes::{ByteSet, Span};
 use std::alloc::{AllocError, Global};
 
 /// Adds the sequence of these forms, which is the empty form if there are none, and returns its number.
+#[inline(never)]
 pub(crate) fn add_sequence(builder: &mut CoreBuilder, numbers: &[u32]) -> Result<u32, AllocError>
     requires room { length builder.old.forms + length numbers.now + 1 ≤ max_forms }
     requires within { All (λ number. number < length builder.old.forms) numbers.now }
@@ -33,6 +34,7 @@ pub(crate) fn add_sequence(builder: &mut CoreBuilder, numbers: &[u32]) -> Result
 }
 
 /// Adds the prioritized choice of a first form and others, and returns its number.
+#[inline(never)]
 pub(crate) fn add_choices(
     builder: &mut CoreBuilder,
     first: u32,
@@ -59,6 +61,7 @@ pub(crate) fn add_choices(
 }
 
 /// Adds a literal, the sequence of its bytes' tests, and returns its number. All its tests are of one terminal.
+#[inline(never)]
 pub(crate) fn add_literal(
     alloc: Global,
     builder: &mut CoreBuilder,

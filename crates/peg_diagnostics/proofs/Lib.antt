@@ -20,6 +20,7 @@ mod MarkedLookups
 mod MarkedOutcomes
 mod MarkedRecords
 mod NumberLoops
+mod OperatorCopies
 pub mod OwnStarts
 mod Placement
 mod RefusalLemmas

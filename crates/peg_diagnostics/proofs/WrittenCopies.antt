@@ -1,6 +1,8 @@
 -- Lists of copied expressions, as `Forms`.
 use Rattle.std.proofs.Common.{◌≡◌, List, [], ◌∷◌, map, refl, ap}
 use Rattle.std.proofs.Common.{Result, IfOk, subst}
+use Rattle.std.specs.declared.alloc.Global.{Global}
+use Rattle.std.specs.declared.boxed.Box.{Box}
 use Rattle.peg_semantics.specs.Form.{Form, Then, forms}
 use Rattle.peg_grammar.specs.Written.{form_of}
 use Rattle.peg_grammar.specs.declared.expr.Expr.{Expr}
@@ -18,7 +20,7 @@ pub forms-loud : (items : List Expr)
 forms-loud [] = refl
 forms-loud (item ∷ items) = ap (Then (loud (form_of item))) (forms-loud items)
 
--- an expression that represents one form represents an equal one
-pub IfOk-form : {E : Type 0} (r : Result Expr E) (a b : Form) → a ≡ b → IfOk r (λ e. form_of e ≡ a)
-    → IfOk r (λ e. form_of e ≡ b)
-IfOk-form r a b same is = subst (λ form. IfOk r (λ e. form_of e ≡ form)) same is
+-- a boxed expression that represents one form represents an equal one
+pub IfOk-form : {E : Type 0} (r : Result (Box Expr Global) E) (a b : Form) → a ≡ b
+    → IfOk r (λ e. form_of e.value ≡ a) → IfOk r (λ e. form_of e.value ≡ b)
+IfOk-form r a b same is = subst (λ form. IfOk r (λ e. form_of e.value ≡ form)) same is

@@ -12,5 +12,6 @@ pub mod LoudCalls
 pub mod Marked
 pub mod MarkedExamples
 pub mod MarkedResults
+pub mod Operators
 pub mod Placed
 pub mod Refusal

@@ -1,147 +1,127 @@
-//! Constructors of expressions. The only error of each is a failed allocation.
-ghost use Rattle.std.specs.Prelude.{◌≡◌, IfOk, map};
+//! Constructors of boxed expressions. The only error of each is a failed allocation. The functions that call them recurse
+//! as deep as expressions nest. So the constructors aren't inlined: what they need of the stack isn't in each frame of the
+//! recursion.
+ghost use Rattle.std.specs.Prelude.{◌≡◌, ◌∷◌, [], ◌++◌, IfOk, OnOk, map};
 ghost use Rattle.peg_bytes.specs.ByteSet.{bytes_of};
 ghost use Rattle.peg_bytes.specs.Extent.{extent};
-ghost use Rattle.peg_diagnostics.specs.Diagnostic.{no_bytes, or_fail};
+ghost use Rattle.peg_diagnostics.specs.Diagnostic.{or_fail};
+ghost use Rattle.peg_diagnostics.specs.Operators.{with_part};
 ghost use Rattle.peg_grammar.specs.Written.{form_of};
-ghost use Rattle.peg_semantics.specs.Form.{Literal, Class, Any, Name, Seq, Choice, Optional, Star, Plus, Counted};
-ghost use Rattle.peg_semantics.specs.Form.{And, Not, forms};
+ghost use Rattle.peg_semantics.specs.Form.{Literal, Class, Any, Name, Seq, Choice, forms};
 
 use peg_bytes::{ByteSet, Span};
 use peg_grammar::Expr;
 use std::alloc::{AllocError, Global};
 
 /// Builds a literal.
-pub(crate) fn literal(alloc: Global, bytes: &[u8], span: Span) -> Result<Expr, AllocError>
-    ensures { IfOk result (λ e. form_of e ≡ Literal bytes.now (extent span)) }
+#[inline(never)]
+pub(crate) fn literal(alloc: Global, bytes: &[u8], span: Span) -> Result<Box<Expr>, AllocError>
+    ensures { IfOk result (λ e. form_of e.value ≡ Literal bytes.now (extent span)) }
 {
-    Ok(Expr::Literal {
-        bytes: bytes.to_vec(alloc)?,
-        span,
-    })
+    let bytes = bytes.to_vec(alloc)?;
+    Ok(Box::new(alloc, Expr::Literal { bytes, span })?)
 }
 
 /// Builds a class.
-pub(crate) fn class(set: ByteSet, span: Span) -> Expr
-    ensures { form_of result ≡ Class (bytes_of set) (extent span) }
+#[inline(never)]
+pub(crate) fn class(alloc: Global, set: ByteSet, span: Span) -> Result<Box<Expr>, AllocError>
+    ensures { IfOk result (λ e. form_of e.value ≡ Class (bytes_of set) (extent span)) }
 {
-    Expr::Class { set, span }
+    Ok(Box::new(alloc, Expr::Class { set, span })?)
 }
 
 /// Builds a dot.
-pub(crate) fn any(span: Span) -> Expr
-    ensures { form_of result ≡ Any (extent span) }
+#[inline(never)]
+pub(crate) fn any(alloc: Global, span: Span) -> Result<Box<Expr>, AllocError>
+    ensures { IfOk result (λ e. form_of e.value ≡ Any (extent span)) }
 {
-    Expr::Any { span }
+    Ok(Box::new(alloc, Expr::Any { span })?)
 }
 
 /// Builds a call of a rule.
-pub(crate) fn name(alloc: Global, name: &str, span: Span) -> Result<Expr, AllocError>
-    ensures { IfOk result (λ e. form_of e ≡ Name name.now (extent span)) }
+#[inline(never)]
+pub(crate) fn name(alloc: Global, name: &str, span: Span) -> Result<Box<Expr>, AllocError>
+    ensures { IfOk result (λ e. form_of e.value ≡ Name name.now (extent span)) }
 {
-    Ok(Expr::Name {
-        name: String::from_str(alloc, name)?,
-        span,
-    })
+    let name = String::from_str(alloc, name)?;
+    Ok(Box::new(alloc, Expr::Name { name, span })?)
 }
 
 /// Builds a sequence.
-pub(crate) fn seq(items: Vec<Expr>, span: Span) -> Expr
-    ensures { form_of result ≡ Seq (forms (map form_of items.items)) (extent span) }
+#[inline(never)]
+pub(crate) fn seq(alloc: Global, items: Vec<Expr>, span: Span) -> Result<Box<Expr>, AllocError>
+    ensures { IfOk result (λ e. form_of e.value ≡ Seq (forms (map form_of items.items)) (extent span)) }
 {
-    Expr::Seq { items, span }
+    Ok(Box::new(alloc, Expr::Seq { items, span })?)
 }
 
 /// Builds an ordered choice.
+#[inline(never)]
 pub(crate) fn choice(
     alloc: Global,
-    first: Expr,
+    first: Box<Expr>,
     rest: Vec<Expr>,
     span: Span,
-) -> Result<Expr, AllocError>
-    ensures { IfOk result (λ e. form_of e
-        ≡ Choice (form_of first) (forms (map form_of rest.items)) (extent span)) }
+) -> Result<Box<Expr>, AllocError>
+    ensures { IfOk result (λ e. form_of e.value
+        ≡ Choice (form_of first.value) (forms (map form_of rest.items)) (extent span)) }
 {
-    Ok(Expr::Choice {
-        first: Box::new(alloc, first)?,
-        rest,
-        span,
-    })
+    Ok(Box::new(alloc, Expr::Choice { first, rest, span })?)
 }
 
-/// Builds an optional expression.
-pub(crate) fn optional(alloc: Global, part: Expr, span: Span) -> Result<Expr, AllocError>
-    ensures { IfOk result (λ e. form_of e ≡ Optional (form_of part) (extent span)) }
-{
-    Ok(Expr::Optional {
-        part: Box::new(alloc, part)?,
-        span,
-    })
-}
-
-/// Builds a star.
-pub(crate) fn star(alloc: Global, part: Expr, span: Span) -> Result<Expr, AllocError>
-    ensures { IfOk result (λ e. form_of e ≡ Star (form_of part) (extent span)) }
-{
-    Ok(Expr::Star {
-        part: Box::new(alloc, part)?,
-        span,
-    })
-}
-
-/// Builds a plus.
-pub(crate) fn plus(alloc: Global, part: Expr, span: Span) -> Result<Expr, AllocError>
-    ensures { IfOk result (λ e. form_of e ≡ Plus (form_of part) (extent span)) }
-{
-    Ok(Expr::Plus {
-        part: Box::new(alloc, part)?,
-        span,
-    })
-}
-
-/// Builds a counted expression.
-pub(crate) fn counted(
+/// Builds an operator on another part: a repetition or a predicate. For any other expression it is the part itself.
+#[inline(never)]
+pub(crate) fn with_part(
     alloc: Global,
-    part: Expr,
-    min: u8,
-    max: u8,
-    span: Span,
-) -> Result<Expr, AllocError>
-    ensures { IfOk result (λ e. form_of e ≡ Counted (form_of part) min max (extent span)) }
+    operator: &Expr,
+    part: Box<Expr>,
+) -> Result<Box<Expr>, AllocError>
+    ensures { IfOk result (λ e. form_of e.value ≡ with_part (form_of operator.now) (form_of part.value)) }
 {
-    Ok(Expr::Counted {
-        part: Box::new(alloc, part)?,
-        min,
-        max,
-        span,
-    })
-}
-
-/// Builds an and-predicate.
-pub(crate) fn and(alloc: Global, part: Expr, span: Span) -> Result<Expr, AllocError>
-    ensures { IfOk result (λ e. form_of e ≡ And (form_of part) (extent span)) }
-{
-    Ok(Expr::And {
-        part: Box::new(alloc, part)?,
-        span,
-    })
-}
-
-/// Builds a not-predicate.
-pub(crate) fn not(alloc: Global, part: Expr, span: Span) -> Result<Expr, AllocError>
-    ensures { IfOk result (λ e. form_of e ≡ Not (form_of part) (extent span)) }
-{
-    Ok(Expr::Not {
-        part: Box::new(alloc, part)?,
-        span,
-    })
+    match operator {
+        Expr::Optional { span, .. } => Ok(Box::new(alloc, Expr::Optional { part, span: *span })?),
+        Expr::Star { span, .. } => Ok(Box::new(alloc, Expr::Star { part, span: *span })?),
+        Expr::Plus { span, .. } => Ok(Box::new(alloc, Expr::Plus { part, span: *span })?),
+        Expr::Counted { min, max, span, .. } => {
+            let whole = Expr::Counted {
+                part,
+                min: *min,
+                max: *max,
+                span: *span,
+            };
+            Ok(Box::new(alloc, whole)?)
+        }
+        Expr::And { span, .. } => Ok(Box::new(alloc, Expr::And { part, span: *span })?),
+        Expr::Not { span, .. } => Ok(Box::new(alloc, Expr::Not { part, span: *span })?),
+        Expr::Literal { .. }
+        | Expr::Class { .. }
+        | Expr::Any { .. }
+        | Expr::Name { .. }
+        | Expr::Seq { .. }
+        | Expr::Choice { .. } => Ok(part),
+    }
 }
 
 /// Builds the choice of an expression and the empty class.
-pub(crate) fn or_empty_class(alloc: Global, first: Expr, span: Span) -> Result<Expr, AllocError>
-    ensures { IfOk result (λ e. form_of e ≡ or_fail (form_of first) (extent span)) }
+#[inline(never)]
+pub(crate) fn or_empty_class(
+    alloc: Global,
+    first: Box<Expr>,
+    span: Span,
+) -> Result<Box<Expr>, AllocError>
+    ensures { IfOk result (λ e. form_of e.value ≡ or_fail (form_of first.value) (extent span)) }
 {
+    let none = class(alloc, ByteSet::empty(), span)?;
     let mut rest = Vec::new(alloc);
-    rest.push(class(ByteSet::empty(), span))?;
+    add(&mut rest, none)?;
     choice(alloc, first, rest, span)
+}
+
+/// Appends an expression without its box to a list.
+#[inline(never)]
+pub(crate) fn add(items: &mut Vec<Expr>, item: Box<Expr>) -> Result<(), AllocError>
+    ensures { OnOk result (items.new.items ≡ items.old.items ++ item.value ∷ []) }
+{
+    items.push(Box::into_inner(item))?;
+    Ok(())
 }

@@ -77,7 +77,7 @@ fn loud_definition(alloc: Global, grammar: &Grammar, rule: u32) -> Result<Defini
     Ok(Definition {
         name: String::from_str(alloc, grammar.rule_name(rule))?,
         span: span_of(body),
-        body: loud_expression(alloc, body)?,
+        body: Box::into_inner(loud_expression(alloc, body)?),
     })
 }
 
@@ -91,6 +91,6 @@ fn quiet_definition(alloc: Global, grammar: &Grammar, rule: u32) -> Result<Defin
     Ok(Definition {
         name: name_of_copy(alloc, grammar.rule_name(rule))?,
         span: span_of(body),
-        body: quiet_expression(alloc, body)?,
+        body: Box::into_inner(quiet_expression(alloc, body)?),
     })
 }

@@ -4,7 +4,7 @@ ghost use Rattle.peg_bytes.specs.Extent.{extent};
 ghost use Rattle.peg_diagnostics.specs.Diagnostic.{form_extent, loud};
 ghost use Rattle.peg_grammar.specs.Written.{form_of};
 
-use crate::builders::{choice, counted, name, optional, or_empty_class, plus, seq, star};
+use crate::builders::{add, choice, name, or_empty_class, seq, with_part};
 use crate::quiet_copies::quiet_expression;
 use peg_bytes::Span;
 use peg_grammar::Expr;
@@ -33,8 +33,8 @@ pub(crate) fn span_of(expr: &Expr) -> Span
 /// Returns the expression with an empty class added to each terminal and to each predicate. Predicates become quiet.
 /// The only error is a failed allocation. Recurses as deep as expressions nest.
 #[cycle(loud)]
-pub(crate) fn loud_expression(alloc: Global, expression: &Expr) -> Result<Expr, AllocError>
-    ensures { IfOk result (λ e. form_of e ≡ loud (form_of expression.now)) }
+pub(crate) fn loud_expression(alloc: Global, expression: &Expr) -> Result<Box<Expr>, AllocError>
+    ensures { IfOk result (λ e. form_of e.value ≡ loud (form_of expression.now)) }
 {
     match expression {
         Expr::Literal { span, .. }
@@ -45,30 +45,30 @@ pub(crate) fn loud_expression(alloc: Global, expression: &Expr) -> Result<Expr, 
             or_empty_class(alloc, quiet_expression(alloc, expression)?, *span)
         }
         Expr::Name { name: called, span } => name(alloc, called, *span),
-        Expr::Seq { items, span } => Ok(seq(loud_items(alloc, items)?, *span)),
+        Expr::Seq { items, span } => seq(alloc, loud_items(alloc, items)?, *span),
         Expr::Choice { first, rest, span } => {
             let first = loud_expression(alloc, first)?;
             choice(alloc, first, loud_items(alloc, rest)?, *span)
         }
-        Expr::Optional { part, span } => optional(alloc, loud_expression(alloc, part)?, *span),
-        Expr::Star { part, span } => star(alloc, loud_expression(alloc, part)?, *span),
-        Expr::Plus { part, span } => plus(alloc, loud_expression(alloc, part)?, *span),
-        Expr::Counted {
-            part,
-            min,
-            max,
-            span,
-        } => { counted(alloc, loud_expression(alloc, part)?, *min, *max, *span) }
+        Expr::Optional { part, .. }
+        | Expr::Star { part, .. }
+        | Expr::Plus { part, .. }
+        | Expr::Counted { part, .. } => {
+            let copy = loud_expression(alloc, part)?;
+            with_part(alloc, expression, copy)
+        }
     }
 }
 
 #[cycle(loud)]
+#[inline(never)]
 fn loud_items(alloc: Global, items: &[Expr]) -> Result<Vec<Expr>, AllocError>
     ensures { IfOk result (λ copies. map form_of copies.items ≡ map (λ item. loud (form_of item)) items.now) }
 {
     let mut copies = Vec::new(alloc);
     for item in items {
-        copies.push(loud_expression(alloc, item)?)?;
+        let copy = loud_expression(alloc, item)?;
+        add(&mut copies, copy)?;
     }
     Ok(copies)
 }

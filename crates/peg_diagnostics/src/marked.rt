@@ -55,7 +55,7 @@ fn add_marked_rules(
     let mut next = 0;
     for rule in 0..grammar.rules() {
         let body = marked_expression(alloc, grammar.body(rule), &mut next)?;
-        definitions.push(definition_with(alloc, grammar, rule, body)?)?;
+        definitions.push(definition_with(alloc, grammar, rule, Box::into_inner(body))?)?;
     }
     Ok(())
 }
@@ -103,6 +103,6 @@ fn marker_definition(alloc: Global, number: u32, span: Span) -> Result<Definitio
     Ok(Definition {
         name: name_of_marker(alloc, number)?,
         span,
-        body: seq(Vec::new(alloc), span),
+        body: Box::into_inner(seq(alloc, Vec::new(alloc), span)?),
     })
 }

@@ -7,9 +7,7 @@ ghost use Rattle.peg_diagnostics.specs.Marked.{mark_each, marker_name, with_mark
 ghost use Rattle.peg_grammar.specs.Written.{form_of};
 ghost use Rattle.peg_semantics.specs.Form.{forms};
 
-use crate::builders::{
-    and, any, choice, class, counted, literal, name, not, optional, plus, seq, star,
-};
+use crate::builders::{add, any, choice, class, literal, name, seq, with_part};
 use crate::loud_copies::span_of;
 use itoa::Buffer;
 use peg_bytes::Span;
@@ -33,46 +31,35 @@ pub(crate) fn marked_expression(
     alloc: Global,
     expression: &Expr,
     next: &mut u32,
-) -> Result<Expr, AllocError>
+) -> Result<Box<Expr>, AllocError>
     requires { next.old + alternatives (form_of expression.now) < 2 ^ 32 }
-    ensures marked { IfOk result (λ e. form_of e ≡ mark next.old (form_of expression.now)) }
+    ensures marked { IfOk result (λ e. form_of e.value ≡ mark next.old (form_of expression.now)) }
     ensures next { OnOk result (next.new ≡ next.old + alternatives (form_of expression.now)) }
 {
     match expression {
         Expr::Literal { bytes, span } => literal(alloc, bytes, *span),
-        Expr::Class { set, span } => Ok(class(*set, *span)),
-        Expr::Any { span } => Ok(any(*span)),
+        Expr::Class { set, span } => class(alloc, *set, *span),
+        Expr::Any { span } => any(alloc, *span),
         Expr::Name { name: called, span } => name(alloc, called, *span),
-        Expr::Seq { items, span } => Ok(seq(marked_items(alloc, items, next)?, *span)),
+        Expr::Seq { items, span } => seq(alloc, marked_items(alloc, items, next)?, *span),
         Expr::Choice { first, rest, span } => {
             let first = marked_alternative(alloc, first, next)?;
             choice(alloc, first, marked_alternatives(alloc, rest, next)?, *span)
         }
-        Expr::Optional { part, span } => {
-            optional(alloc, marked_expression(alloc, part, next)?, *span)
+        Expr::Optional { part, .. }
+        | Expr::Star { part, .. }
+        | Expr::Plus { part, .. }
+        | Expr::Counted { part, .. }
+        | Expr::And { part, .. }
+        | Expr::Not { part, .. } => {
+            let copy = marked_expression(alloc, part, next)?;
+            with_part(alloc, expression, copy)
         }
-        Expr::Star { part, span } => star(alloc, marked_expression(alloc, part, next)?, *span),
-        Expr::Plus { part, span } => plus(alloc, marked_expression(alloc, part, next)?, *span),
-        Expr::Counted {
-            part,
-            min,
-            max,
-            span,
-        } => {
-            counted(
-                alloc,
-                marked_expression(alloc, part, next)?,
-                *min,
-                *max,
-                *span,
-            )
-        }
-        Expr::And { part, span } => and(alloc, marked_expression(alloc, part, next)?, *span),
-        Expr::Not { part, span } => not(alloc, marked_expression(alloc, part, next)?, *span),
     }
 }
 
 #[cycle(mark)]
+#[inline(never)]
 fn marked_items(alloc: Global, items: &[Expr], next: &mut u32) -> Result<Vec<Expr>, AllocError>
     requires { next.old + alternatives_of_all (forms (map form_of items.now)) < 2 ^ 32 }
     ensures marked { IfOk result (λ copies. forms (map form_of copies.items)
@@ -81,12 +68,14 @@ fn marked_items(alloc: Global, items: &[Expr], next: &mut u32) -> Result<Vec<Exp
 {
     let mut copies = Vec::new(alloc);
     for item in items {
-        copies.push(marked_expression(alloc, item, next)?)?;
+        let copy = marked_expression(alloc, item, next)?;
+        add(&mut copies, copy)?;
     }
     Ok(copies)
 }
 
 #[cycle(mark)]
+#[inline(never)]
 fn marked_alternatives(
     alloc: Global,
     items: &[Expr],
@@ -99,16 +88,18 @@ fn marked_alternatives(
 {
     let mut copies = Vec::new(alloc);
     for item in items {
-        copies.push(marked_alternative(alloc, item, next)?)?;
+        let copy = marked_alternative(alloc, item, next)?;
+        add(&mut copies, copy)?;
     }
     Ok(copies)
 }
 
 // Returns an alternative after the call of its marker, and counts it.
 #[cycle(mark)]
-fn marked_alternative(alloc: Global, item: &Expr, next: &mut u32) -> Result<Expr, AllocError>
+#[inline(never)]
+fn marked_alternative(alloc: Global, item: &Expr, next: &mut u32) -> Result<Box<Expr>, AllocError>
     requires { next.old + 1 + alternatives (form_of item.now) < 2 ^ 32 }
-    ensures marked { IfOk result (λ e. form_of e ≡ with_marker next.old (form_extent (form_of item.now))
+    ensures marked { IfOk result (λ e. form_of e.value ≡ with_marker next.old (form_extent (form_of item.now))
         (mark (next.old + 1) (form_of item.now))) }
     ensures next { OnOk result (next.new ≡ next.old + 1 + alternatives (form_of item.now)) }
 {
@@ -119,17 +110,19 @@ fn marked_alternative(alloc: Global, item: &Expr, next: &mut u32) -> Result<Expr
 }
 
 // Builds the sequence of the call of a marker and an alternative.
+#[inline(never)]
 fn after_marker(
     alloc: Global,
     number: u32,
     span: Span,
-    alternative: Expr,
-) -> Result<Expr, AllocError>
-    ensures { IfOk result (λ e. form_of e ≡ with_marker number (extent span) (form_of alternative)) }
+    alternative: Box<Expr>,
+) -> Result<Box<Expr>, AllocError>
+    ensures { IfOk result (λ e. form_of e.value ≡ with_marker number (extent span) (form_of alternative.value)) }
 {
     let marker = name_of_marker(alloc, number)?;
+    let call = name(alloc, &marker, span)?;
     let mut items = Vec::new(alloc);
-    items.push(name(alloc, &marker, span)?)?;
-    items.push(alternative)?;
-    Ok(seq(items, span))
+    add(&mut items, call)?;
+    add(&mut items, alternative)?;
+    seq(alloc, items, span)
 }

@@ -40,7 +40,8 @@ AreTexts file from (lexeme ∷ more) =
 
 -- the model of an expression that was read
 abbrev pub form_seen : ParsedExpr → FormRead
-form_seen read = record { form = form_of read.expression; token_count = read.token_count; last = read.last; depth = read.depth }
+form_seen read =
+    record { form = form_of read.expression.value; token_count = read.token_count; last = read.last; depth = read.depth }
 
 -- the model of several expressions that were read
 abbrev pub forms_seen : ParsedExprs → FormsRead

@@ -12,7 +12,8 @@ use std::alloc::{AllocError, Global};
 /// An expression that was read.
 #[derive(Debug, Drop)]
 pub(crate) struct ParsedExpr {
-    pub(crate) expression: Expr,
+    /// In a box, so that it takes little of the stack in each call of the reader.
+    pub(crate) expression: Box<Expr>,
     /// The number of its tokens.
     pub(crate) token_count: usize,
     /// The offset where the text of its last token ends. Without tokens, it is the end of the token before it.
@@ -44,11 +45,12 @@ impl ParsedExprs {
     }
 
     /// Appends an expression. The only error is a failed allocation.
+    #[inline(never)]
     pub(crate) fn add(&mut self, part: ParsedExpr) -> Result<(), AllocError>
         requires { self.old.token_count + part.token_count < 2 ^ 64 }
         ensures { OnOk result (forms_seen self.new ≡ with_form (forms_seen self.old) (form_seen part)) }
     {
-        self.expressions.push(part.expression)?;
+        self.expressions.push(Box::into_inner(part.expression))?;
         self.token_count += part.token_count;
         self.last = part.last;
         self.depth = self.depth.max(part.depth);
@@ -56,10 +58,16 @@ impl ParsedExprs {
     }
 
     /// Returns the sequence of these expressions, from the offset `start`. A single expression is itself. An empty
-    /// sequence is at the end of the token before it.
-    pub(crate) fn into_sequence(self, before: u32, start: u32) -> ParsedExpr
+    /// sequence is at the end of the token before it. The only error is a failed allocation.
+    #[inline(never)]
+    pub(crate) fn into_sequence(
+        self,
+        alloc: Global,
+        before: u32,
+        start: u32,
+    ) -> Result<ParsedExpr, AllocError>
         requires { 1 < length self.expressions.items → start ≤ self.last }
-        ensures { form_seen result ≡ whole_sequence before start (forms_seen self) }
+        ensures { IfOk result (λ part. form_seen part ≡ whole_sequence before start (forms_seen self)) }
     {
         let ParsedExprs {
             expressions,
@@ -67,16 +75,18 @@ impl ParsedExprs {
             last,
             depth,
         } = self;
-        ParsedExpr {
-            expression: sequence_of(expressions, before, start, last),
+        let expression = sequence_of(expressions, before, start, last);
+        Ok(ParsedExpr {
+            expression: Box::new(alloc, expression)?,
             token_count,
             last,
             depth,
-        }
+        })
     }
 
     /// Returns the choice of a first expression and these, from the offset `start`. Without these it is the first one
     /// alone. The only error is a failed allocation.
+    #[inline(never)]
     pub(crate) fn into_choice(
         self,
         alloc: Global,
@@ -95,9 +105,10 @@ impl ParsedExprs {
         } = self;
         let token_count = first.token_count + token_count;
         let depth = first.depth.max(depth);
-        let expression = choice_of(alloc, first.expression, expressions, start, last)?;
+        let first = Box::into_inner(first.expression);
+        let expression = choice_of(alloc, first, expressions, start, last)?;
         Ok(ParsedExpr {
-            expression,
+            expression: Box::new(alloc, expression)?,
             token_count,
             last,
             depth,

@@ -93,6 +93,7 @@ impl<'a> Reader<'a> {
     }
 
     /// Returns the `Syntax` error at the next token.
+    #[inline(never)]
     pub(crate) fn unexpected(&self, tokens: &[Token]) -> NotationFault
         ensures { result ≡ NotationFault.Syntax (place_of (length (file_of self.now)) (lexemes tokens.now)) }
     {
@@ -172,7 +173,7 @@ impl<'a> Reader<'a> {
             let item = self.prefix(rest_after(tokens, items.token_count), left)?;
             items.add(item)?;
         }
-        Ok(items.into_sequence(before, self.place_of(tokens)))
+        Ok(items.into_sequence(self.alloc, before, self.place_of(tokens))?)
     }
 
     // Prefix: a suffix, or a predicate of one.
@@ -199,34 +200,36 @@ impl<'a> Reader<'a> {
         }
     }
 
+    #[inline(never)]
     fn and(&self, sign: Token, part: ParsedExpr) -> Result<ParsedExpr, AllocError>
         requires few { part.token_count < 2 ^ 63 }
         requires order { sign.span.start ≤ part.last }
         ensures { IfOk result (λ whole. form_seen whole ≡ with_prefix sign.span.start And (form_seen part)) }
     {
         let expression = Expr::And {
-            part: Box::new(self.alloc, part.expression)?,
+            part: part.expression,
             span: Span::new(sign.span.start, part.last),
         };
         Ok(ParsedExpr {
-            expression,
+            expression: Box::new(self.alloc, expression)?,
             token_count: 1 + part.token_count,
             last: part.last,
             depth: part.depth,
         })
     }
 
+    #[inline(never)]
     fn not(&self, sign: Token, part: ParsedExpr) -> Result<ParsedExpr, AllocError>
         requires few { part.token_count < 2 ^ 63 }
         requires order { sign.span.start ≤ part.last }
         ensures { IfOk result (λ whole. form_seen whole ≡ with_prefix sign.span.start Not (form_seen part)) }
     {
         let expression = Expr::Not {
-            part: Box::new(self.alloc, part.expression)?,
+            part: part.expression,
             span: Span::new(sign.span.start, part.last),
         };
         Ok(ParsedExpr {
-            expression,
+            expression: Box::new(self.alloc, expression)?,
             token_count: 1 + part.token_count,
             last: part.last,
             depth: part.depth,
@@ -250,6 +253,7 @@ impl<'a> Reader<'a> {
     }
 
     // Adds the operator or count that is next, if there is one. `start` is the offset where the expression starts.
+    #[inline(never)]
     fn then_suffix(
         &self,
         start: u32,
@@ -295,17 +299,17 @@ impl<'a> Reader<'a> {
             last,
             depth,
         } = part;
-        let expression = match sign.kind {
+        let whole = match sign.kind {
             TokenKind::Question => Expr::Optional {
-                part: Box::new(self.alloc, expression)?,
+                part: expression,
                 span,
             },
             TokenKind::Star => Expr::Star {
-                part: Box::new(self.alloc, expression)?,
+                part: expression,
                 span,
             },
             TokenKind::Plus => Expr::Plus {
-                part: Box::new(self.alloc, expression)?,
+                part: expression,
                 span,
             },
             TokenKind::Count => self.counted(sign, expression, span)?,
@@ -319,7 +323,7 @@ impl<'a> Reader<'a> {
             }
         };
         Ok(ParsedExpr {
-            expression,
+            expression: Box::new(self.alloc, whole)?,
             token_count: token_count + 1,
             last: sign.span.end,
             depth,
@@ -327,14 +331,14 @@ impl<'a> Reader<'a> {
     }
 
     // An expression with a count.
-    fn counted(&self, count: Token, part: Expr, span: Span) -> Result<Expr, NotationFault>
+    fn counted(&self, count: Token, part: Box<Expr>, span: Span) -> Result<Expr, NotationFault>
         requires inside { LiesIn (length (file_of self.now)) (extent count.span) }
         requires count { count.kind ≡ TokenKind.Count }
-        ensures { IsCounted (file_of self.now) (lexeme_of count) (form_of part) (extent span) result }
+        ensures { IsCounted (file_of self.now) (lexeme_of count) (form_of part.value) (extent span) result }
     {
         let bounds = self.bounds(count)?;
         Ok(Expr::Counted {
-            part: Box::new(self.alloc, part)?,
+            part,
             min: bounds.min,
             max: bounds.max,
             span,
@@ -368,9 +372,9 @@ impl<'a> Reader<'a> {
         match tokens {
             [token, ..] => match token.kind {
                 TokenKind::Ident => self.name(*token, &tokens[1..]),
-                TokenKind::Literal => Ok(self.literal(*token)?),
-                TokenKind::Class => Ok(self.class(*token)?),
-                TokenKind::Dot => Ok(one_token(any_of(token.span), *token)),
+                TokenKind::Literal => self.literal(*token),
+                TokenKind::Class => self.class(*token),
+                TokenKind::Dot => one_token(self.alloc, any_of(token.span), *token),
                 TokenKind::Open => self.parenthesized(*token, &tokens[1..], left),
                 _ => Err(self.unexpected(tokens)),
             },
@@ -379,6 +383,7 @@ impl<'a> Reader<'a> {
     }
 
     // A name that isn't the name of the next definition.
+    #[inline(never)]
     fn name(&self, token: Token, rest: &[Token]) -> Result<ParsedExpr, NotationFault>
         requires text { IsText (file_of self.now) (lexeme_of token) }
         requires inside { LiesIn (length (file_of self.now)) (extent token.span) }
@@ -393,35 +398,37 @@ impl<'a> Reader<'a> {
             self.alloc,
             &self.file[span.start as usize..span.end as usize],
         )?;
-        Ok(one_token(Expr::Name { name, span }, token))
+        one_token(self.alloc, Expr::Name { name, span }, token)
     }
 
     // The bytes that a literal denotes.
-    fn literal(&self, token: Token) -> Result<ParsedExpr, AllocError>
+    #[inline(never)]
+    fn literal(&self, token: Token) -> Result<ParsedExpr, NotationFault>
         requires text { IsText (file_of self.now) (lexeme_of token) }
         requires inside { LiesIn (length (file_of self.now)) (extent token.span) }
         requires literal { token.kind ≡ TokenKind.Literal }
-        ensures { IfOk result (λ part. Ok (form_seen part) ≡ one_token
+        ensures { Agrees form_seen (one_token
             (Literal (bytes_in (pieces_of (file_of self.now) (lexeme_of token))) (extent token.span))
-            (lexeme_of token)) }
+            (lexeme_of token)) result }
     {
         let span = token.span;
         let bytes = literal_bytes(self.alloc, &self.file[span.start as usize..])?;
-        Ok(one_token(literal_of(bytes, span), token))
+        one_token(self.alloc, literal_of(bytes, span), token)
     }
 
     // The set of bytes that a class denotes.
-    fn class(&self, token: Token) -> Result<ParsedExpr, AllocError>
+    #[inline(never)]
+    fn class(&self, token: Token) -> Result<ParsedExpr, NotationFault>
         requires text { IsText (file_of self.now) (lexeme_of token) }
         requires inside { LiesIn (length (file_of self.now)) (extent token.span) }
         requires class { token.kind ≡ TokenKind.Class }
-        ensures { IfOk result (λ part. Ok (form_seen part) ≡ one_token
+        ensures { Agrees form_seen (one_token
             (Class (class_of (ranges_in (pieces_of (file_of self.now) (lexeme_of token)))) (extent token.span))
-            (lexeme_of token)) }
+            (lexeme_of token)) result }
     {
         let span = token.span;
         let set = class_of_token(self.alloc, &self.file[span.start as usize..])?;
-        Ok(one_token(class_of(set, span), token))
+        one_token(self.alloc, class_of(set, span), token)
     }
 
     // The expression after an open parenthesis, if one more may be open, and the parenthesis that closes it.
@@ -452,6 +459,7 @@ impl<'a> Reader<'a> {
 
     // The closing parenthesis. If there is a name instead, it is followed by an arrow, and the arrow is the unexpected
     // token.
+    #[inline(never)]
     fn closed(&self, rest: &[Token], inside: ParsedExpr) -> Result<ParsedExpr, NotationFault>
         requires few { inside.token_count < 2 ^ 63 }
         requires shallow { inside.depth + 1 < 2 ^ 64 }
@@ -477,15 +485,16 @@ impl<'a> Reader<'a> {
     }
 }
 
-fn one_token(expression: Expr, token: Token) -> ParsedExpr
-    ensures { Ok (form_seen result) ≡ one_token (form_of expression) (lexeme_of token) }
+#[inline(never)]
+fn one_token(alloc: Global, expression: Expr, token: Token) -> Result<ParsedExpr, NotationFault>
+    ensures { Agrees form_seen (one_token (form_of expression) (lexeme_of token)) result }
 {
-    ParsedExpr {
-        expression,
+    Ok(ParsedExpr {
+        expression: Box::new(alloc, expression)?,
         token_count: 1,
         last: token.span.end,
         depth: 0,
-    }
+    })
 }
 
 fn any_of(span: Span) -> Expr

@@ -89,7 +89,7 @@ impl<'a> Reader<'a> {
                 let definition = Definition {
                     name: name_text(self.alloc, text)?,
                     span,
-                    body: body.expression,
+                    body: Box::into_inner(body.expression),
                 };
                 Ok(ReadRule {
                     definition,

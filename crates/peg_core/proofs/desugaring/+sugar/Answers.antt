@@ -160,29 +160,56 @@ add-returns-in_ok-add-in-Not t c =
 
 -- ---- sequences and choices
 
-pub add-add_sequence-requires-clause-room : goal.add-add_sequence-requires-clause-room
-add-add_sequence-requires-clause-room t c =
+pub add-add_items-requires : goal.add-add_items-requires
+add-add_items-requires t c =
     let items = forms (map form_of c.deref-in-Seq.result.now) in
+    let rules = rules_in c.args.grammar.now in
     let same : form_of c.args.expr.now ≡ form.Seq items (extent c.in-Seq.span) = ap form_of c.in-Seq.is ∙ (form_of-Seq c.in-Seq.items c.in-Seq.span ∙ ap (λ l. form.Seq (forms (map form_of l)) (extent c.in-Seq.span)) (sym c.deref-in-Seq.ensures.value)) in
-    omega (arith, c.requires.room, ap form_weight same, ap length c.deref-in-Seq-2.ensures.value, AppendsForms-room (rules_in c.args.grammar.now) items c.args.builder.now c.add_all.new.builder c.in_ok-numbers-in-Seq.numbers.items c.in_ok-numbers-in-Seq.ensures (subst (λ f. are_in_range (counts_written f) ≡ true) same c.requires.ranged))
+    let weight : form_weight (form_of c.args.expr.now) ≡ 1 + forms_weight items = ap form_weight same in (
+      search (search_rules, the_lemmas),
+      (
+        omega (arith, c.requires.room, weight),
+        (
+          omega (arith, c.requires.few, weight),
+          (
+            c.requires.rules,
+            (
+              subst (λ f. are_defined rules (names_used f) ≡ true) same c.requires.defined,
+              subst (λ f. are_in_range (counts_written f) ≡ true) same c.requires.ranged,
+            ),
+          ),
+        ),
+      ),
+    )
 
-pub add-returns-in_ok-numbers-in-Seq : goal.add-returns-in_ok-numbers-in-Seq
-add-returns-in_ok-numbers-in-Seq t c =
+pub add-returns-in-Seq : goal.add-returns-in-Seq
+add-returns-in-Seq t c =
     let items = forms (map form_of c.deref-in-Seq.result.now) in
+    let rules = rules_in c.args.grammar.now in
     let same : form_of c.args.expr.now ≡ form.Seq items (extent c.in-Seq.span) = ap form_of c.in-Seq.is ∙ (form_of-Seq c.in-Seq.items c.in-Seq.span ∙ ap (λ l. form.Seq (forms (map form_of l)) (extent c.in-Seq.span)) (sym c.deref-in-Seq.ensures.value)) in
+    subst (λ f. IfOk c.add_items.result (λ number. AppendsForm rules f c.args.builder.now number c.add_items.new.builder))
+    (sym same) (c.add_items.ensures (extent c.in-Seq.span))
+
+pub add_items-add_sequence-requires-clause-room : goal.add_items-add_sequence-requires-clause-room
+add_items-add_sequence-requires-clause-room t c =
+    let items = forms (map form_of c.args.items.now) in
+    omega (arith, c.requires.room, ap length c.deref.ensures.value, AppendsForms-room (rules_in c.args.grammar.now) items c.args.builder.now c.add_all.new.builder c.in_ok-numbers.numbers.items c.in_ok-numbers.ensures c.requires.ranged)
+
+pub add_items-returns : goal.add_items-returns
+add_items-returns t c = λ span.
+    let items = forms (map form_of c.args.items.now) in
     let rules = rules_in c.args.grammar.now in
     let old = c.args.builder.now in
     let mid = c.add_all.new.builder in
     let new = c.add_sequence.new.builder in
-    let numbers = c.in_ok-numbers-in-Seq.numbers.items in
-    subst (λ f. IfOk c.add_sequence.result (λ number. AppendsForm rules f old number new)) (sym same)
-    (if_ok (λ number. Appends mid (sequences_of (map (form_at mid.forms) numbers)) [] (all_in_order (map (form_at mid.forms) numbers)) number new)
-    (λ number. AppendsForm rules (form.Seq items (extent c.in-Seq.span)) old number new) c.add_sequence.result
-    (λ number lays. Appends-sequence rules items (extent c.in-Seq.span) old mid new numbers number c.in_ok-numbers-in-Seq.ensures lays)
-    (subst (λ l. IfOk c.add_sequence.result (λ number. Appends mid (sequences_of (map (form_at mid.forms) l)) [] (all_in_order (map (form_at mid.forms) l)) number new)) c.deref-in-Seq-2.ensures.value c.add_sequence.ensures))
+    let numbers = c.in_ok-numbers.numbers.items in
+    if_ok (λ number. Appends mid (sequences_of (map (form_at mid.forms) numbers)) [] (all_in_order (map (form_at mid.forms) numbers)) number new)
+    (λ number. AppendsForm rules (form.Seq items span) old number new) c.add_sequence.result
+    (λ number lays. Appends-sequence rules items span old mid new numbers number c.in_ok-numbers.ensures lays)
+    (subst (λ l. IfOk c.add_sequence.result (λ number. Appends mid (sequences_of (map (form_at mid.forms) l)) [] (all_in_order (map (form_at mid.forms) l)) number new)) c.deref.ensures.value c.add_sequence.ensures)
 
-pub add-add_all-requires-in-Choice : goal.add-add_all-requires-in-Choice
-add-add_all-requires-in-Choice t c =
+pub add-add_all-requires : goal.add-add_all-requires
+add-add_all-requires t c =
     let e = form_of c.deref-in-Choice.result.now in
     let items = forms (map form_of c.deref-in-Choice-2.result.now) in
     let rules = rules_in c.args.grammar.now in
@@ -215,7 +242,7 @@ add-add_choices-requires-clause-room t c =
     let first = c.in_ok-first-in-Choice.first in
     let one = c.in_ok-first-in-Choice.ensures in
     let same : form_of c.args.expr.now ≡ form.Choice e items (extent c.in-Choice.span) = ap form_of c.in-Choice.is ∙ (form_of-Choice c.in-Choice.first c.in-Choice.rest c.in-Choice.span ∙ sym (λ i. form.Choice (form_of (c.deref-in-Choice.ensures i)) (forms (map form_of (c.deref-in-Choice-2.ensures.value i))) (extent c.in-Choice.span))) in
-    let later = c.add_all-in-Choice.new.builder in
+    let later = c.add_all.new.builder in
     let others = c.in_ok-others-in-Choice.others.items in
     let ranged = subst (λ f. are_in_range (counts_written f) ≡ true) same c.requires.ranged in
     let here = are_in_range-left (counts_written e) (counts_written_by_all items) ranged in
@@ -232,7 +259,7 @@ add-returns-in_ok-others-in-Choice t c =
     let first = c.in_ok-first-in-Choice.first in
     let one = c.in_ok-first-in-Choice.ensures in
     let same : form_of c.args.expr.now ≡ form.Choice e items (extent c.in-Choice.span) = ap form_of c.in-Choice.is ∙ (form_of-Choice c.in-Choice.first c.in-Choice.rest c.in-Choice.span ∙ sym (λ i. form.Choice (form_of (c.deref-in-Choice.ensures i)) (forms (map form_of (c.deref-in-Choice-2.ensures.value i))) (extent c.in-Choice.span))) in
-    let later = c.add_all-in-Choice.new.builder in
+    let later = c.add_all.new.builder in
     let others = c.in_ok-others-in-Choice.others.items in
     let new = c.add_choices.new.builder in
     subst (λ f. IfOk c.add_choices.result (λ number. AppendsForm rules f old number new)) (sym same)

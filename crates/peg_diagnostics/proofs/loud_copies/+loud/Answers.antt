@@ -3,6 +3,8 @@ use Rattle.peg_bytes.specs.Extent.{extent}
 use Rattle.peg_semantics.specs.Form as form
 use Rattle.peg_semantics.specs.Form.{forms}
 use Rattle.peg_diagnostics.specs.Diagnostic.{loud}
+use Rattle.peg_diagnostics.specs.Operators.{with_part}
+use Rattle.peg_diagnostics.proofs.OperatorCopies.{loud-operator}
 use Rattle.peg_grammar.specs.Written.{form_of}
 use Rattle.peg_grammar.proofs.WrittenForms.{form_of-Seq, form_of-Choice}
 use Rattle.peg_diagnostics.proofs.WrittenCopies.{forms-loud, IfOk-form}
@@ -12,12 +14,15 @@ pub loud_expression-returns-in_ok-loud_items-in-Seq :
     goal.loud_expression-returns-in_ok-loud_items-in-Seq
 loud_expression-returns-in_ok-loud_items-in-Seq t c =
     let span = c.in-Seq.span in
-    c.seq.ensures
-    ∙ ap (λ l. form.Seq (forms l) (extent span)) c.in_ok-loud_items-in-Seq.ensures
+    let whole =
+    ap (λ l. form.Seq (forms l) (extent span)) c.in_ok-loud_items-in-Seq.ensures
     ∙ ap (λ l. form.Seq (forms (map (λ item. loud (form_of item)) l)) (extent span)) c.deref-in-Seq.ensures.value
     ∙ ap (λ l. form.Seq l (extent span)) (forms-loud c.in-Seq.items.items)
     ∙ ap loud (sym (form_of-Seq c.in-Seq.items span))
-    ∙ ap (λ e. loud (form_of e)) (sym c.in-Seq.is)
+    ∙ ap (λ e. loud (form_of e)) (sym c.in-Seq.is) in
+    IfOk-form c.seq.result
+    (form.Seq (forms (map form_of c.in_ok-loud_items-in-Seq.field-0.items)) (extent span))
+    (loud (form_of c.args.expression.now)) whole c.seq.ensures
 
 pub loud_expression-returns-in_ok-loud_items-in-Choice :
     goal.loud_expression-returns-in_ok-loud_items-in-Choice
@@ -33,6 +38,15 @@ loud_expression-returns-in_ok-loud_items-in-Choice t c =
     ∙ ap loud (sym (form_of-Choice c.in-Choice.first c.in-Choice.rest span))
     ∙ ap (λ e. loud (form_of e)) (sym c.in-Choice.is) in
     IfOk-form c.choice.result
-    (form.Choice (form_of c.in_ok-first-in-Choice.first)
+    (form.Choice (form_of c.in_ok-first-in-Choice.first.value)
     (forms (map form_of c.in_ok-loud_items-in-Choice.field-0.items)) (extent span))
     (loud (form_of c.args.expression.now)) whole c.choice.ensures
+
+pub loud_expression-returns-in_ok-copy-in-Optional :
+    goal.loud_expression-returns-in_ok-copy-in-Optional
+loud_expression-returns-in_ok-copy-in-Optional t c =
+    let whole = form_of c.args.expression.now in
+    let copied = c.in_ok-copy-in-Optional.ensures ∙ ap (λ e. loud (form_of e)) c.deref-in-Optional.ensures in
+    IfOk-form c.with_part.result (with_part whole (form_of c.in_ok-copy-in-Optional.copy.value)) (loud whole)
+    (ap (with_part whole) copied ∙ loud-operator c.args.expression.now c.in-Optional.part c.in-Optional.is)
+    c.with_part.ensures

@@ -25,7 +25,7 @@ loop-rule-preserved c =
     let so_far = rules_of c.loop-rule.definitions.items in
     let number = c.loop-rule.next in
     let counts = c.in_ok-body.ensures.next ∙ ap (λ e. number + alternatives e) (sym same) in
-    let marked = c.in_ok-body.ensures.marked ∙ ap (mark number) (sym same) in
+    let marked = ap form_of c.into_inner.ensures ∙ c.in_ok-body.ensures.marked ∙ ap (mark number) (sym same) in
     record {
       rules =
           ap (λ l. rules_of l ++ mark_rules c.marked_expression.new.next later) c.in_ok-push.ensures.items

@@ -125,7 +125,7 @@ sequence-returns-clause-read t c =
     let all = so_far-all begins_prefix (λ b. prefix file inner) c.args.before ls (forms_seen c.items.items) c.items.invariant.so_far ended in
     sequence_read file inner c.args.before ls (forms_seen c.items.items) all
     ∙ ap (λ (p : FormRead). Ok p) (ap (λ start. whole_sequence c.args.before start (forms_seen c.items.items)) (sym c.place_of.ensures)
-    ∙ sym c.into_sequence.ensures)
+    ∙ sym c.in_ok-into_sequence.ensures)
 
 -- ---- Expression
 

@@ -1,6 +1,7 @@
-use Rattle.std.proofs.Common.{rules, ◌+◌, ◌-◌, ℕ, List, length, take, drop, Ok, sym, ap, ◌∙◌}
+use Rattle.std.proofs.Common.{rules, ◌+◌, ◌-◌, ℕ, List, length, take, drop, Ok, sym, ap, ◌∙◌, string_bytes}
 use Rattle.peg_bytes.specs.Extent.{extent}
 use Rattle.peg_grammar.specs.Written.{form_of}
+use Rattle.peg_grammar.specs.declared.expr.Expr.{Expr}
 use Rattle.peg_notation.specs.Reader.{starts_with_arrow, definition_after}
 use Rattle.peg_notation.specs.ReaderCode.{lexemes, form_seen, AgreesOnError}
 use Rattle.peg_notation.specs.ReaderFile.{file_of}
@@ -38,8 +39,17 @@ returns-in_ok-name_text-in-len1-up-clause-read c =
       rule = record {
         name = name;
         span = extent c.args.name.span;
-        body = form_of body.expression;
+        body = form_of body.expression.value;
       };
       token_count = 2 + body.token_count;
       depth = body.depth;
     })) (sym c.in_ok-name_text-in-len1-up.ensures)
+    ∙ ap (λ (e : Expr). Ok (record {
+      rule = record {
+        name = string_bytes c.in_ok-name_text-in-len1-up.field-0;
+        span = extent c.args.name.span;
+        body = form_of e;
+      };
+      token_count = 2 + body.token_count;
+      depth = body.depth;
+    })) (sym c.into_inner.ensures)

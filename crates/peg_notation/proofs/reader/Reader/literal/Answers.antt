@@ -1,7 +1,8 @@
-use Rattle.std.proofs.Common.{ap, ◌∙◌}
+use Rattle.std.proofs.Common.{ap, ◌∙◌, subst}
 use Rattle.peg_bytes.specs.Extent.{extent}
 use Rattle.peg_semantics.specs.Form.{Literal}
 use Rattle.peg_notation.specs.Reader.{one_token}
+use Rattle.peg_notation.specs.ReaderCode.{Agrees, form_seen}
 use Rattle.peg_notation.specs.ReaderFile.{file_of}
 use Rattle.peg_metagrammar.specs.Denotation.{bytes_in}
 use Rattle.peg_lexer.specs.Tokens.{lexeme_of}
@@ -14,5 +15,6 @@ literal_bytes-requires c = literal-here (file_of c.args.self.now) (lexeme_of c.a
 pub returns : goal.returns
 returns c =
     let pieces = literal-pieces (file_of c.args.self.now) (lexeme_of c.args.token) c.requires.literal in
-    c.one_token.ensures ∙ ap (λ f. one_token f (lexeme_of c.args.token)) (c.literal_of.ensures
-    ∙ ap (λ bytes. Literal bytes (extent c.args.token.span)) (c.in_ok-bytes.ensures ∙ ap bytes_in pieces))
+    let same = c.literal_of.ensures
+    ∙ ap (λ bytes. Literal bytes (extent c.args.token.span)) (c.in_ok-bytes.ensures ∙ ap bytes_in pieces) in
+    subst (λ f. Agrees form_seen (one_token f (lexeme_of c.args.token)) c.one_token.result) same c.one_token.ensures
