@@ -1,5 +1,7 @@
 pub mod Device
 pub mod FileSystem
 pub mod NamedFile
+pub mod OpenFaults
+pub mod Reasons
 pub mod Split
 pub mod Transfer

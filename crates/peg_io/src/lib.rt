@@ -4,11 +4,13 @@
 
 mod device;
 mod opener;
+mod reasons;
 mod retry;
 mod separator;
 mod transfer;
 
 pub use device::{Device, DeviceFault, Sink, Source};
 pub use opener::{FileSystem, OpenFault, Opener};
+pub use reasons::reason;
 pub use separator::split;
 pub use transfer::{ReadFault, read_up_to, write_all_bytes};

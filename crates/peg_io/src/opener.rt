@@ -1,6 +1,7 @@
 //! Opening files by name.
-ghost use Rattle.std.specs.Prelude.{◌≡◌, ℕ, List, Some, true, false, IfOk, IfSome, IsErrOf, IsSome};
+ghost use Rattle.std.specs.Prelude.{◌≡◌, ℕ, List, Some, true, false, IfOk, IfSome, IsErrAnd, IsSome};
 ghost use Rattle.peg_io.specs.NamedFile.{NamedFile, Missing, bytes_of, is_readable};
+ghost use Rattle.peg_io.specs.OpenFaults.{IsOfFile};
 
 use crate::device::{Device, Source};
 use std::fs::Files;
@@ -11,9 +12,9 @@ use thiserror::Error;
 /// Why a file could not be opened.
 #[derive(Clone, Copy, Debug, PartialEq, Eq, Error)]
 pub enum OpenFault {
-    /// The file could not be opened.
+    /// The system could not open the file. `kind` is the kind of its error.
     #[error("the file can't be opened")]
-    File,
+    File { kind: ErrorKind },
     /// An allocation failed.
     #[error("out of memory")]
     Memory,
@@ -26,12 +27,12 @@ impl From<io::Error> for OpenFault {
     ghost use Rattle.peg_io.specs.declared.opener.OpenFault.TheVariants.{File, Memory};
 
     ghost from_gives = { λ error fault. (error_kind error ≡ OutOfMemory → fault ≡ Memory)
-        × (error_kind error ≢ OutOfMemory → fault ≡ File) };
+        × (error_kind error ≢ OutOfMemory → fault ≡ File (error_kind error)) };
 
     fn from(error: io::Error) -> OpenFault {
         match error.kind() {
             ErrorKind::OutOfMemory => OpenFault::Memory,
-            _ => OpenFault::File,
+            kind => OpenFault::File { kind },
         }
     }
 }
@@ -47,8 +48,8 @@ pub trait Opener {
     /// Opens the file with the given name, to be read from its start. A returned file has no failed read yet. A file
     /// that is specified not to exist is `OpenFault::File`, and one with specified bytes isn't.
     fn open(&self, name: &str) -> Result<Self::File, OpenFault>
-        ensures missing { file_at self.now name.now ≡ Missing → IsErrOf result OpenFault.File }
-        ensures present { IsSome (bytes_of (file_at self.now name.now)) → ¬ IsErrOf result OpenFault.File }
+        ensures missing { file_at self.now name.now ≡ Missing → IsErrAnd result IsOfFile }
+        ensures present { IsSome (bytes_of (file_at self.now name.now)) → ¬ IsErrAnd result IsOfFile }
         ensures bytes { IfOk result (λ file. IfSome (bytes_of (file_at self.now name.now))
             (λ bytes. Self.File.left file ≡ Some bytes)) }
         ensures readable { IfOk result (λ file. is_readable (file_at self.now name.now) ≡ true
