@@ -3,6 +3,7 @@ use Rattle.std.specs.Prelude.{◌≡◌, true, false, ℕ, Bool, List, [], ◌�
 use Rattle.std.specs.Str.Parse.{digits_value, without_leading_plus}
 use Rattle.clap.specs.Matches.{first_value, matched_of, one_text, raw_values}
 use Rattle.clap.specs.declared.parser.matches.Found.{Found}
+use Rattle.peg_cli.specs.Words.{default_coverage_memo, default_profile_memo}
 use Rattle.peg_cli.specs.declared.words.Words.{Words}
 use Rattle.peg_cli.specs.declared.words.Words.TheVariants.{Joined, Help, Table, Check, Code, Lint, Profile, Coverage, Explain, Parse}
 
@@ -13,6 +14,10 @@ all_values found id = unwrap_or (option_map raw_values (matched_of found id)) []
 -- the first value of an argument, read as a decimal number; a plus may come first
 abbrev pub number_at : Found → (id : List ℕ) → Option ℕ
 number_at found id = option_map (λ text. digits_value 10 (without_leading_plus text)) (one_text found id)
+
+-- the capacity of the memo, which has a default where none is given
+abbrev pub memo_or : Found → (default : ℕ) → ℕ
+memo_or found default = unwrap_or (number_at found (codes "memo")) default
 
 -- A flag is false if its argument has no value, and otherwise what the value says.
 abbrev pub IsFlagAt : Found → (id : List ℕ) → Bool → Type 0
@@ -36,14 +41,14 @@ IsCommandOf name found (Profile g t start memo steps) = (name ≡ codes "profile
     × (first_value found (codes "G") ≡ Some (string_bytes g))
     × (all_values found (codes "T") ≡ string_bytes t ∷ [])
     × (first_value found (codes "start") ≡ option_map string_bytes start)
-    × (number_at found (codes "memo") ≡ Some memo)
+    × (memo ≡ memo_or found default_profile_memo)
     × (number_at found (codes "steps") ≡ steps)
 IsCommandOf name found (Coverage g texts start memo steps) = (name ≡ codes "profile")
     × IsFlagAt found (codes "coverage") true
     × (first_value found (codes "G") ≡ Some (string_bytes g))
     × (all_values found (codes "T") ≡ map string_bytes texts.items)
     × (first_value found (codes "start") ≡ option_map string_bytes start)
-    × (number_at found (codes "memo") ≡ Some memo)
+    × (memo ≡ memo_or found default_coverage_memo)
     × (number_at found (codes "steps") ≡ steps)
 IsCommandOf name found (Explain g texts files_from null start memo steps rules terminals quiet) = (name ≡ codes "explain")
     × (first_value found (codes "G") ≡ Some (string_bytes g))

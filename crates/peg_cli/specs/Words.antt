@@ -8,6 +8,14 @@ abbrev pub AreInRange : (memo : ℕ) → (steps : Option ℕ) → Type 0
 AreInRange memo steps =
     (memo ≤ 1000000) × IfSome steps (λ max_steps. (1 ≤ max_steps) × (max_steps ≤ 1000000000000))
 
+-- The capacity of the memo of `profile` where none is given: no memo, so that each call is counted; and with `--coverage`
+-- that of `parse`, since what texts use doesn't depend on it.
+abbrev pub default_profile_memo : ℕ
+default_profile_memo = 0
+
+abbrev pub default_coverage_memo : ℕ
+default_coverage_memo = 4096
+
 -- The arguments request a command or help. The capacity of a memo and a step limit are in their ranges.
 abbrev pub IsAsking : Words → Type 0
 IsAsking Joined = ⊥

@@ -83,7 +83,7 @@ fn profile<'a>(alloc: Global) -> Result<Command<'a>, AllocError> {
         .arg(profiled_files(alloc))?
         .arg(coverage_flag(alloc))?
         .arg(start_option(alloc))?
-        .arg(memo_option(alloc, "0"))?
+        .arg(profile_memo_option(alloc))?
         .arg(steps_option(alloc).default_value("1000000000"))
 }
 
@@ -98,7 +98,7 @@ fn explain<'a>(alloc: Global) -> Result<Command<'a>, AllocError> {
         .arg(files_from_option(alloc))?
         .arg(null_flag(alloc)?)?
         .arg(start_option(alloc))?
-        .arg(memo_option(alloc, DEFAULT_MEMO))?
+        .arg(memo_option(alloc).default_value(DEFAULT_MEMO))?
         .arg(optional_steps_option(alloc))?
         .arg(rules_flag(alloc))?
         .arg(terminals_flag(alloc))?
@@ -112,7 +112,7 @@ fn parse<'a>(alloc: Global) -> Result<Command<'a>, AllocError> {
         .arg(grammar_file(alloc))?
         .arg(text_file(alloc))?
         .arg(start_option(alloc))?
-        .arg(memo_option(alloc, DEFAULT_MEMO))?
+        .arg(memo_option(alloc).default_value(DEFAULT_MEMO))?
         .arg(optional_steps_option(alloc))?
         .arg(all_flag(alloc))?
         .arg(rows_flag(alloc))?
@@ -201,14 +201,20 @@ fn start_option<'a>(alloc: Global) -> Arg<'a> {
         .help("The rule to start from [default: the first rule of the file]")
 }
 
-fn memo_option<'a>(alloc: Global, default: &'static str) -> Arg<'a> {
+fn memo_option<'a>(alloc: Global) -> Arg<'a> {
     Arg::new(alloc, "memo")
         .long("memo")
         .value_name("N")
         .value_parser(value_parser!(u32).range(..=i64::from(MAX_MEMO)))
         .allow_negative_numbers(true)
-        .default_value(default)
         .help("The capacity of the memo, in entries, 0 to 1000000")
+}
+
+// The default depends on `--coverage`, so `profile_of` and `coverage_of` have it.
+fn profile_memo_option<'a>(alloc: Global) -> Arg<'a> {
+    memo_option(alloc).help(
+        "The capacity of the memo, in entries, 0 to 1000000 [default: 0, with --coverage 4096]",
+    )
 }
 
 fn steps_option<'a>(alloc: Global) -> Arg<'a> {
@@ -364,12 +370,14 @@ is there if the parse matched, and \"steps\" is the number of instructions.
 
 With --coverage, each text is parsed, and the line has the rules and alternatives
 that none of them uses: they have no node in any tree. Each has its place in the
-grammar file. This says what these texts show, not what can happen.
+grammar file. This says what these texts show, not what can happen. A text whose
+parse takes more steps than --steps allows uses nothing; \"stopped\" counts these
+texts, and standard error names them.
 
 Status: 0 matched, or everything is used; 1 failed, or something is unused; 2 the
 grammar is refused; 3 wrong arguments, or an unknown rule; 4 a file can't be opened
-or read, or the output can't be written; 5 out of memory; 6 TextTooLong, StepLimit
-or CoverageTooLarge.
+or read, or the output can't be written; 5 out of memory; 6 the parse of a text was
+stopped, TextTooLong or CoverageTooLarge.
 
 Example: pegtool profile grammar.peg text";
 

@@ -4,7 +4,7 @@ ghost use Rattle.clap.specs.Matches.{found_of, first_value};
 ghost use Rattle.clap.specs.declared.parser.matches.Found.{Found};
 ghost use Rattle.clap.specs.Simple.{subcommand_rows_of};
 ghost use Rattle.clap.specs.Walk.{rows_of};
-ghost use Rattle.peg_cli.specs.Mapping.{IsCommandOf, IsFlagAt, all_values, number_at};
+ghost use Rattle.peg_cli.specs.Mapping.{IsCommandOf, IsFlagAt, all_values, memo_or, number_at};
 ghost use Rattle.peg_cli.specs.Words.{IsAsking};
 
 use crate::command_line::{MAX_MEMO, MAX_STEPS, program};
@@ -12,6 +12,12 @@ use clap::error::ErrorKind;
 use clap::{ArgMatches, Error};
 use std::alloc::{AllocError, Global};
 use thiserror::Error;
+
+// The default capacity of the memo for `profile`: with no memo each call is counted.
+const PROFILE_MEMO: u32 = 0;
+
+// The same with `--coverage`: that of `parse`, since what texts use doesn't depend on it.
+const COVERAGE_MEMO: u32 = 4096;
 
 // The usage error for a profile of several texts.
 const SEVERAL_TEXTS: &str = "\
@@ -194,7 +200,7 @@ fn profile_of(alloc: Global, matches: &ArgMatches<'_>) -> Result<Words, WordsFau
     let g = file_name(alloc, matches, "G")?;
     let t = only_file_name(alloc, matches, "T")?;
     let start = optional_text(alloc, matches, "start")?;
-    let memo = memo_size(alloc, matches)?;
+    let memo = memo_size_or(alloc, matches, PROFILE_MEMO)?;
     let steps = step_limit(alloc, matches)?;
     Ok(Words::Profile {
         g,
@@ -215,7 +221,7 @@ fn coverage_of(alloc: Global, matches: &ArgMatches<'_>) -> Result<Words, WordsFa
         g: file_name(alloc, matches, "G")?,
         texts,
         start: optional_text(alloc, matches, "start")?,
-        memo: memo_size(alloc, matches)?,
+        memo: memo_size_or(alloc, matches, COVERAGE_MEMO)?,
         steps: step_limit(alloc, matches)?,
     })
 }
@@ -316,6 +322,19 @@ fn memo_size(alloc: Global, matches: &ArgMatches<'_>) -> Result<u32, WordsFault>
     ensures number { IfOk result (λ memo. number_at (found_of matches.now) (codes "memo") ≡ Some memo) }
 {
     match matches.try_get_one::<u32>("memo") {
+        Ok(Some(memo)) if memo <= MAX_MEMO => Ok(memo),
+        _ => Err(internal_usage_error(alloc)),
+    }
+}
+
+// The capacity of the memo, or this default where none is given.
+fn memo_size_or(alloc: Global, matches: &ArgMatches<'_>, default: u32) -> Result<u32, WordsFault>
+    requires { default ≤ 1000000 }
+    ensures range { IfOk result (λ memo. memo ≤ 1000000) }
+    ensures number { IfOk result (λ memo. memo ≡ memo_or (found_of matches.now) default) }
+{
+    match matches.try_get_one::<u32>("memo") {
+        Ok(None) => Ok(default),
         Ok(Some(memo)) if memo <= MAX_MEMO => Ok(memo),
         _ => Err(internal_usage_error(alloc)),
     }

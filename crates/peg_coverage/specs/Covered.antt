@@ -1,6 +1,9 @@
--- The rules that have a node in the tree of a text.
-use Rattle.std.specs.Prelude.{◌≡◌, ℕ, ◌==◌, All, Bool, true, false, ◌||◌, IfSome, List, Option, count_by, map}
-use Rattle.std.specs.List.{list_any}
+-- The rules that have a node in the tree of a text, and which texts are stopped.
+use Rattle.std.specs.Prelude.{◌≡◌, ℕ, ◌==◌, All, Bool, true, false, ◌||◌, IfSome, List, Option, count_by, filter, map}
+use Rattle.std.specs.List.{enumerate_from, list_any}
+use Rattle.peg_parser.specs.Parser.{start_named}
+use Rattle.peg_parser.specs.StepLimits.{TakesMoreSteps}
+use Rattle.peg_parser.specs.declared.options.ParseOptions.{ParseOptions}
 use Rattle.peg_semantics.specs.Record.{Recognition, Record}
 use Rattle.peg_semantics.specs.Record as recognition
 use Rattle.peg_semantics.specs.Rules.{Rule}
@@ -32,28 +35,68 @@ HasCovered rules text start before after found = (r : Record) × Recognizes rule
 
 -- ---- several texts
 
--- a text, if its bytes are specified, and a result
-pub record TextResult : Type 0 where
+-- How texts are parsed: from the rule with a name, or without one from the first rule, with a memo of this capacity (0 for
+-- none) and an optional limit of steps.
+pub record ParseSettings : Type 0 where
+  pub start : Option (List ℕ)
+  pub memo : ℕ
+  pub steps : Option ℕ
+
+abbrev pub settings_of : ParseOptions → ParseSettings
+settings_of options = record { start = start_named options; memo = options.memo; steps = options.steps }
+
+-- how the parse of a text ends: with a result, or stopped by the limit of steps
+pub data TextOutcome : Type 0 where
+  Ended : (result : Recognition) → TextOutcome
+  Stopped : TextOutcome
+
+-- a text, if its bytes are specified, and how its parse ends
+pub record ParsedText : Type 0 where
   pub text : Option (List ℕ)
-  pub result : Recognition
+  pub outcome : TextOutcome
 
--- the result is that of the text from a start by Ford's relation
-abbrev pub IsResultOf : List Rule → (start : List ℕ) → TextResult → Type 0
-IsResultOf rules start item = IfSome item.text
-    (λ text. (r : Record) × Recognizes rules text start r × (item.result ≡ r.result))
+-- How the parse of a text may end. With a result: it is that of the text from a start by Ford's relation. Stopped: the
+-- parse takes more steps than the limit allows. Without a memo each parse that does is stopped.
+abbrev pub IsOutcomeOf : List Rule → (start : List ℕ) → ParseSettings → (text : List ℕ) → TextOutcome → Type 0
+IsOutcomeOf rules start settings text (Ended result) =
+    ((r : Record) × Recognizes rules text start r × (result ≡ r.result))
+    × (settings.memo ≡ 0 → ¬ TakesMoreSteps rules text settings.start settings.steps)
+IsOutcomeOf rules start settings text Stopped = TakesMoreSteps rules text settings.start settings.steps
 
--- whether a result is a match
-abbrev pub is_match : Recognition → Bool
-is_match recognition.Failed = false
-is_match (recognition.Matched end trees) = true
+-- the same of a text whose bytes may not be specified
+abbrev pub IsParsed : List Rule → (start : List ℕ) → ParseSettings → ParsedText → Type 0
+IsParsed rules start settings item = IfSome item.text (λ text. IsOutcomeOf rules start settings text item.outcome)
 
--- Texts have results by Ford's relation, one for each. The set gets the rules that have a node in one of the results,
--- and keeps those it had. `matched` of the results are matches.
-pub record HaveCovered (rules : List Rule) (start : List ℕ) (texts : List (Option (List ℕ))) (before after : List Bool)
-    (matched : ℕ) : Type 0 where
-  pub results : List TextResult
-  pub of_texts : map (λ (item : TextResult). item.text) results ≡ texts
-  pub right : All (IsResultOf rules start) results
+-- whether a rule has a node in the trees of an outcome; a stopped parse has no trees
+abbrev pub is_used : (rule : ℕ) → TextOutcome → Bool
+is_used rule (Ended result) = has_node rule result
+is_used rule Stopped = false
+
+-- whether an outcome is a match
+abbrev pub is_match : TextOutcome → Bool
+is_match (Ended recognition.Failed) = false
+is_match (Ended (recognition.Matched end trees)) = true
+is_match Stopped = false
+
+-- whether an outcome is that of a stopped parse
+abbrev pub is_stopped : TextOutcome → Bool
+is_stopped (Ended result) = false
+is_stopped Stopped = true
+
+-- the numbers of the stopped texts from 0 on, in ascending order
+abbrev pub stopped_numbers : List ParsedText → List ℕ
+stopped_numbers items =
+    map (λ (numbered : ℕ × ParsedText). numbered.0)
+    (filter (λ (numbered : ℕ × ParsedText). is_stopped numbered.1.outcome) (enumerate_from 0 items))
+
+-- Texts are parsed from a start, each with an outcome. The set gets the rules that have a node in one of the outcomes,
+-- and keeps those it had. `matched` of the outcomes are matches, and the texts with the numbers `stopped` are stopped.
+pub record HaveCovered (rules : List Rule) (start : List ℕ) (settings : ParseSettings) (texts : List (Option (List ℕ)))
+    (before after : List Bool) (matched : ℕ) (stopped : List ℕ) : Type 0 where
+  pub parsed : List ParsedText
+  pub of_texts : map (λ (item : ParsedText). item.text) parsed ≡ texts
+  pub right : All (IsParsed rules start settings) parsed
   pub used : (rule : ℕ)
-      → has_rule after rule ≡ (list_any (λ (item : TextResult). has_node rule item.result) results || has_rule before rule)
-  pub matches : matched ≡ count_by (λ (item : TextResult). is_match item.result) results
+      → has_rule after rule ≡ (list_any (λ (item : ParsedText). is_used rule item.outcome) parsed || has_rule before rule)
+  pub matches : matched ≡ count_by (λ (item : ParsedText). is_match item.outcome) parsed
+  pub stops : stopped ≡ stopped_numbers parsed

@@ -5,7 +5,7 @@ use Rattle.peg_bytes.specs.Extent.{Extent, between, extent}
 use Rattle.peg_diagnostics.specs.Marked.{extents_of_alternatives, marked_rules}
 use Rattle.peg_semantics.specs.Rules.{Rule}
 use Rattle.peg_tree.specs.Selected.{has_rule}
-use Rattle.peg_coverage.specs.Covered.{HaveCovered}
+use Rattle.peg_coverage.specs.Covered.{HaveCovered, ParseSettings}
 use Rattle.peg_coverage.specs.declared.coverage.Coverage.{Coverage}
 
 -- the numbers that aren't in a set, of `count` numbers from `first` on
@@ -23,12 +23,13 @@ unused_alternatives rules used =
     map (λ number. slice_index_or extents (number - length rules) (between 0 0))
     (numbers_outside used (length rules) (length extents))
 
--- What texts use of a grammar from a start: how many texts there are and how many match, and the rules and alternatives
--- that have no node in any of their trees.
-pub record IsCoverageOf (rules : List Rule) (start : List ℕ) (texts : List (Option (List ℕ))) (coverage : Coverage)
-    : Type 0 where
+-- What texts use of a grammar from a start: how many texts there are, how many match and which are stopped, and the rules
+-- and alternatives that have no node in any of their trees.
+pub record IsCoverageOf (rules : List Rule) (start : List ℕ) (settings : ParseSettings) (texts : List (Option (List ℕ)))
+    (coverage : Coverage) : Type 0 where
   pub set : List Bool
-  pub covered : HaveCovered (marked_rules rules) start texts [] set coverage.matched
+  pub covered :
+      HaveCovered (marked_rules rules) start settings texts [] set coverage.matched coverage.stopped.items
   pub count : coverage.texts ≡ length texts
   pub rules_unused : coverage.unused_rules.items ≡ unused_rules rules set
   pub alternatives_unused : map extent coverage.unused_alternatives.items ≡ unused_alternatives rules set

@@ -9,3 +9,4 @@ pub use Rattle.peg_semantics.specs.Starts
 pub mod CoveredTexts
 pub mod CoveringFaults
 pub mod NamedTexts
+pub mod TextEnds

@@ -1,30 +1,32 @@
 //! Covers texts that are read by name.
-ghost use Rattle.std.specs.Prelude.{◌≡◌, ◌≢◌, ◌↔◌, ℕ, All, List, IfErr, IfOk, IsErrOf, None, OnOk, Some, length};
+ghost use Rattle.std.specs.Prelude.{◌≡◌, ◌≢◌, ◌↔◌, ℕ, All, List, IfErr, IfOk, IsErrOf, None, OnOk, Some, length, map, string_bytes};
 ghost use Rattle.peg_io.specs.NamedFile.{Missing, NamedFile, bytes_of};
 ghost use Rattle.peg_parser.specs.Parser.{start_named};
 ghost use Rattle.peg_semantics.specs.Rules.{Rule};
 ghost use Rattle.peg_semantics.specs.Starts.{start_name};
 ghost use Rattle.peg_diagnostics.specs.Marked.{marked_rules};
-ghost use Rattle.peg_coverage.specs.Covered.{HaveCovered};
+ghost use Rattle.peg_coverage.specs.Covered.{HaveCovered, settings_of};
 ghost use Rattle.peg_coverage.specs.CoverageParser.{IsCoverageParserOf, rule_count};
 ghost use Rattle.peg_coverage.specs.Unused.{IsCoverageOf};
 ghost use Rattle.peg_coverage_files.specs.CoveredTexts.{HasCoveredText};
-ghost use Rattle.peg_coverage_files.specs.CoveringFaults.{IsFaultOf, IsFaultOfText, StaysWithin};
+ghost use Rattle.peg_coverage_files.specs.CoveringFaults.{IsFaultOf, IsFaultOfText};
 ghost use Rattle.peg_coverage_files.specs.NamedTexts.{files_named, texts_in};
+ghost use Rattle.peg_coverage_files.specs.TextEnds.{end_of_parse};
 
+use crate::counts::{TextCounts, TextEnd};
 use crate::fault::CoveringFault;
+use crate::reading::read_text;
 use peg_coverage::{Coverage, CoverageParser, TextMatch};
-use peg_grammar::MAX_TEXT_BYTES;
-use peg_io::{Opener, read_up_to};
-use peg_parser::ParseOptions;
+use peg_io::Opener;
+use peg_parser::{ParseFault, ParseOptions};
 use peg_tree::RuleSet;
 use std::alloc::Global;
 
 /// Parses the texts with these names, in order, and returns what they use of the grammar that the parser was made for.
 ///
-/// The first text that can't be opened or read, is too long, or takes too many steps ends it with that fault. A start
-/// that no rule has is reported before any text is opened. At most 67,108,865 bytes of each text are read, and one text
-/// is held in memory at a time.
+/// A text whose parse takes too many steps is counted as stopped, and uses nothing. The first text that can't be opened or
+/// read, or is too long, ends it with that fault. A start that no rule has is reported before any text is opened. At most
+/// 67,108,865 bytes of each text are read, and one text is held in memory at a time.
 ///
 /// # Example
 ///
@@ -32,96 +34,102 @@ use std::alloc::Global;
 /// let coverage = cover_files(alloc, &files, &parser, &names, &options)?;
 /// println!("{} of {} texts match", coverage.matched, coverage.texts);
 /// ```
-pub fn cover_files<O: Opener>(
+pub fn cover_files<'a, O: Opener>(
     alloc: Global,
     files: &O,
     parser: &CoverageParser,
-    names: &[String],
+    names: &'a [String],
     options: &ParseOptions<'_>,
-) -> Result<Coverage, CoveringFault>
+) -> Result<Coverage, CoveringFault<'a>>
     ensures no_start { (rules : List Rule) → IsCoverageParserOf rules parser.now
         → (IsErrOf result CoveringFault.NoSuchStart ↔ (start_name rules (start_named options.now) ≡ None)) }
     ensures covered { (rules : List Rule) (start : List ℕ) → IsCoverageParserOf rules parser.now
         → start_name rules (start_named options.now) ≡ Some start
-        → IfOk result (IsCoverageOf rules start (texts_in (files_named (O.file_at files.now) names.now))) }
+        → IfOk result (IsCoverageOf rules start (settings_of options.now)
+        (texts_in (files_named (O.file_at files.now) names.now))) }
     ensures refused { (rules : List Rule) → IsCoverageParserOf rules parser.now
-        → IfErr result (IsFaultOf rules (files_named (O.file_at files.now) names.now) (start_named options.now)
-        options.now.steps) }
+        → IfErr result (IsFaultOf rules (O.file_at files.now) (map string_bytes names.now) (start_named options.now)) }
     ensures present { OnOk result (All (λ (file : NamedFile). file ≢ Missing)
-        (files_named (O.file_at files.now) names.now)) }
-    ensures enough { (rules : List Rule) → IsCoverageParserOf rules parser.now → options.now.memo ≡ 0
-        → OnOk result (All (StaysWithin rules (start_named options.now) options.now.steps)
         (files_named (O.file_at files.now) names.now)) }
 {
     if !parser.has_start(options) {
         return Err(CoveringFault::NoSuchStart);
     }
     let mut used = RuleSet::none(alloc, parser.rules())?;
-    let matched = cover_texts(alloc, files, parser, names, options, &mut used)?;
+    let counts = cover_texts(alloc, files, parser, names, options, &mut used)?;
     Ok(Coverage {
         texts: names.len() as u64,
-        matched,
+        matched: counts.matched,
+        stopped: counts.stopped,
         unused_rules: parser.unused_rules(alloc, &used)?,
         unused_alternatives: parser.unused_alternatives(alloc, &used)?,
     })
 }
 
-// Adds what the texts with these names use to a set, and returns how many of them match.
-fn cover_texts<O: Opener>(
+// Adds what the texts with these names use to a set, and counts the texts by how their parses end.
+fn cover_texts<'a, O: Opener>(
     alloc: Global,
     files: &O,
     parser: &CoverageParser,
-    names: &[String],
+    names: &'a [String],
     options: &ParseOptions<'_>,
     used: &mut RuleSet,
-) -> Result<u64, CoveringFault>
+) -> Result<TextCounts, CoveringFault<'a>>
     requires { length used.old ≡ rule_count parser.now }
     ensures covered { (rules : List Rule) (start : List ℕ) → IsCoverageParserOf rules parser.now
         → start_name rules (start_named options.now) ≡ Some start
-        → IfOk result (HaveCovered (marked_rules rules) start (texts_in (files_named (O.file_at files.now) names.now))
-        used.old used.new) }
+        → IfOk result (λ counts. HaveCovered (marked_rules rules) start (settings_of options.now)
+        (texts_in (files_named (O.file_at files.now) names.now)) used.old used.new counts.matched counts.stopped.items) }
     ensures count { length used.new ≡ length used.old }
     ensures refused { (rules : List Rule) → IsCoverageParserOf rules parser.now
-        → IfErr result (IsFaultOf rules (files_named (O.file_at files.now) names.now) (start_named options.now)
-        options.now.steps) }
+        → IfErr result (IsFaultOf rules (O.file_at files.now) (map string_bytes names.now) (start_named options.now)) }
     ensures present { OnOk result (All (λ (file : NamedFile). file ≢ Missing)
         (files_named (O.file_at files.now) names.now)) }
-    ensures enough { (rules : List Rule) → IsCoverageParserOf rules parser.now → options.now.memo ≡ 0
-        → OnOk result (All (StaysWithin rules (start_named options.now) options.now.steps)
-        (files_named (O.file_at files.now) names.now)) }
 {
-    let mut matched = 0;
-    'names: for name in names {
-        match cover_text(alloc, files, parser, name, options, used)? {
-            TextMatch::Matched => matched += 1,
-            TextMatch::Failed => {}
-        }
+    let mut counts = TextCounts {
+        matched: 0,
+        stopped: Vec::new(alloc),
+    };
+    'names: for (number, name) in names.iter().enumerate() {
+        let end = cover_text(alloc, files, parser, name, options, used)?;
+        counts.count(number, end)?;
     }
-    Ok(matched)
+    Ok(counts)
 }
 
-// Adds what the text with this name uses to a set.
-fn cover_text<O: Opener>(
+// Adds what the text with this name uses to a set, and returns how its parse ends.
+fn cover_text<'a, O: Opener>(
     alloc: Global,
     files: &O,
     parser: &CoverageParser,
-    name: &str,
+    name: &'a str,
     options: &ParseOptions<'_>,
     used: &mut RuleSet,
-) -> Result<TextMatch, CoveringFault>
+) -> Result<TextEnd, CoveringFault<'a>>
     requires { length used.old ≡ rule_count parser.now }
     ensures covered { (rules : List Rule) (start : List ℕ) → IsCoverageParserOf rules parser.now
         → start_name rules (start_named options.now) ≡ Some start
-        → IfOk result (HasCoveredText (marked_rules rules) start (bytes_of (O.file_at files.now name.now)) used.old
-        used.new) }
+        → IfOk result (HasCoveredText (marked_rules rules) start (settings_of options.now)
+        (bytes_of (O.file_at files.now name.now)) used.old used.new) }
     ensures count { length used.new ≡ length used.old }
     ensures refused { (rules : List Rule) → IsCoverageParserOf rules parser.now
-        → IfErr result (IsFaultOfText rules (O.file_at files.now name.now) (start_named options.now) options.now.steps) }
+        → IfErr result (IsFaultOfText rules (O.file_at files.now) name.now (start_named options.now)) }
     ensures present { OnOk result (O.file_at files.now name.now ≢ Missing) }
-    ensures enough { (rules : List Rule) → IsCoverageParserOf rules parser.now → options.now.memo ≡ 0
-        → OnOk result (StaysWithin rules (start_named options.now) options.now.steps (O.file_at files.now name.now)) }
 {
-    let mut file = files.open(name)?;
-    let text = read_up_to(alloc, &mut file, MAX_TEXT_BYTES + 1)?;
-    Ok(parser.cover(alloc, &text, options, used)?)
+    let text = read_text(alloc, files, name)?;
+    to_end(parser.cover(alloc, &text, options, used))
+}
+
+// How a parse has ended, or why there is none.
+fn to_end<'a>(covered: Result<TextMatch, ParseFault>) -> Result<TextEnd, CoveringFault<'a>>
+    ensures { result ≡ end_of_parse covered }
+{
+    match covered {
+        Ok(TextMatch::Matched) => Ok(TextEnd::Matched),
+        Ok(TextMatch::Failed) => Ok(TextEnd::Failed),
+        Err(ParseFault::StepLimit) => Ok(TextEnd::Stopped),
+        Err(ParseFault::NoSuchStart) => Err(CoveringFault::NoSuchStart),
+        Err(ParseFault::TextTooLong) => Err(CoveringFault::TextTooLong),
+        Err(ParseFault::Memory) => Err(CoveringFault::Memory),
+    }
 }

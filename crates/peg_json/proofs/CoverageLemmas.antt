@@ -2,15 +2,16 @@
 use Rattle.std.proofs.Common.{◌≡◌, ◌∙◌, ℕ, ◌+◌, ◌-◌, ◌<◌, List, [], ◌∷◌, Bool, false, ◌||◌, Option, Some, length, map, option_map, slice_get}
 use Rattle.std.proofs.Common.{ap, arith, get_or, refl, sym, unwrap_or}
 use Rattle.std.proofs.lemmas.List.{get_or-map, length-map}
+use Rattle.serde_json.specs.Data.{Members}
 use Rattle.serde_json.specs.View.{items_of}
-use Rattle.serde_json.specs.Written.{has_float, items_have_float}
+use Rattle.serde_json.specs.Written.{has_float, items_have_float, members_have_float}
 use Rattle.peg_bytes.specs.Extent.{Extent, between, extent}
 use Rattle.peg_bytes.specs.Place.{line_at, column_at}
 use Rattle.peg_bytes.specs.declared.span.Span.{Span}
 use Rattle.peg_semantics.specs.Form.{Reference}
 use Rattle.peg_semantics.specs.Rules.{Rule, name_of}
 use Rattle.peg_json.specs.CoverageText.{alternative_data, coverage_data, placed_alternative, placed_rule, reference_at}
-use Rattle.peg_json.specs.CoverageText.{unused_rule_data}
+use Rattle.peg_json.specs.CoverageText.{coverage_members, unused_rule_data, with_stopped}
 use Rattle.peg_listings.specs.Positions.{IsPositionIn}
 use Rattle.peg_listings.specs.declared.positions.Position.{Position}
 
@@ -26,18 +27,18 @@ alternative-is file span position placed at =
     λ i. placed_alternative (line i) (column i) (at i) span.end
 
 -- a rule printed at the position of its name
-pub rule-is : (file : List ℕ) (rules : List Rule) (number : ℕ) (span : Span) (position : Position) (name : List ℕ)
-    → IsPositionIn file position → position.at ≡ span.start → name ≡ name_of rules number
-    → option_map (λ r. r.span) (slice_get rules number) ≡ Some (extent span)
+pub rule-is : (file : List ℕ) (rules : List Rule) (nth : ℕ) (span : Span) (position : Position) (name : List ℕ)
+    → IsPositionIn file position → position.at ≡ span.start → name ≡ name_of rules nth
+    → option_map (λ r. r.span) (slice_get rules nth) ≡ Some (extent span)
     → placed_rule position.line (1 + (position.at - position.start)) name position.at span.end
-    ≡ unused_rule_data file (reference_at rules number)
-rule-is file rules number span position name placed at named defined =
+    ≡ unused_rule_data file (reference_at rules nth)
+rule-is file rules nth span position name placed at named defined =
     let line : position.line ≡ line_at file span.start = placed.line ∙ ap (line_at file) at in
     let column : 1 + (position.at - position.start) ≡ column_at file span.start =
     ap (λ (n : ℕ). 1 + (position.at - n)) placed.start ∙ ap (column_at file) at in
-    let whole : extent span ≡ (reference_at rules number).span =
+    let whole : extent span ≡ (reference_at rules nth).span =
     sym (ap (λ (e : Option Extent). unwrap_or e (between 0 0)) defined) in
-    let reference : Extent → Reference = λ e. record { name = name_of rules number; span = e } in
+    let reference : Extent → Reference = λ e. record { name = name_of rules nth; span = e } in
     (λ i. placed_rule (line i) (column i) (named i) (at i) span.end)
     ∙ ap (λ (e : Extent). unused_rule_data file (reference e)) whole
 
@@ -63,9 +64,20 @@ rules-without_floats : (file : List ℕ) (rules : List Reference)
 rules-without_floats file [] = refl
 rules-without_floats file (rule ∷ rules) = rules-without_floats file rules
 
-pub coverage-without_floats : (file : List ℕ) (texts matched : ℕ) (rules : List Reference) (alternatives : List Extent)
-    → has_float (coverage_data file texts matched rules alternatives) ≡ false
-coverage-without_floats file texts matched rules alternatives =
+members-without_floats : (file : List ℕ) (texts : ℕ) (rules : List Reference) (alternatives : List Extent)
+    → members_have_float (coverage_members file texts rules alternatives) ≡ false
+members-without_floats file texts rules alternatives =
     ap (λ (b : Bool). b || (items_have_float (items_of (map (unused_rule_data file) rules)) || false))
     (alternatives-without_floats file alternatives)
     ∙ ap (λ (b : Bool). b || false) (rules-without_floats file rules)
+
+stopped-without_floats : (stopped : List ℕ) (others : Members) → members_have_float others ≡ false
+    → members_have_float (with_stopped stopped others) ≡ false
+stopped-without_floats [] others clear = clear
+stopped-without_floats (first ∷ more) others clear = clear
+
+pub coverage-without_floats : (file : List ℕ) (texts matched : ℕ) (stopped : List ℕ) (rules : List Reference)
+    (alternatives : List Extent) → has_float (coverage_data file texts matched stopped rules alternatives) ≡ false
+coverage-without_floats file texts matched stopped rules alternatives =
+    stopped-without_floats stopped (coverage_members file texts rules alternatives)
+    (members-without_floats file texts rules alternatives)

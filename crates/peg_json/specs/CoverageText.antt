@@ -1,5 +1,5 @@
 -- The printed form of what texts use of a grammar.
-use Rattle.std.specs.Prelude.{ℕ, List, [], codes, map, option_map, slice_get, unwrap_or}
+use Rattle.std.specs.Prelude.{ℕ, List, [], ◌∷◌, codes, length, map, option_map, slice_get, unwrap_or}
 use Rattle.serde_json.specs.Data.{Data, Members, unsigned, number, string, array, object, no_members, member}
 use Rattle.serde_json.specs.View.{items_of}
 use Rattle.peg_bytes.specs.Extent.{Extent, between}
@@ -42,18 +42,31 @@ abbrev pub unused_rule_data : (file : List ℕ) → Reference → Data
 unused_rule_data file rule =
     placed_rule (line_at file rule.span.start) (column_at file rule.span.start) rule.name rule.span.start rule.span.end
 
--- the JSON of what texts use of a grammar: the counts of texts, and what is unused
-abbrev pub coverage_data : (file : List ℕ) → (texts matched : ℕ) → (rules : List Reference) → (alternatives : List Extent)
-    → Data
-coverage_data file texts matched rules alternatives =
-    object (member (codes "matched") (number (unsigned matched)) (member (codes "texts") (number (unsigned texts))
-    (member (codes "unused_alternatives") (array (items_of (map (alternative_data file) alternatives)))
-    (member (codes "unused_rules") (array (items_of (map (unused_rule_data file) rules))) no_members))))
+-- the members of the JSON of what texts use, with the number of stopped texts before these if there are any
+abbrev pub with_stopped : (stopped : List ℕ) → Members → Members
+with_stopped [] others = others
+with_stopped (first ∷ more) others = member (codes "stopped") (number (unsigned (length (first ∷ more)))) others
 
--- the exit status: 0 if nothing is unused, and otherwise 1
-abbrev pub status_of_coverage : (rules : List Reference) → (alternatives : List Extent) → ℕ
-status_of_coverage [] [] = 0
-status_of_coverage rules alternatives = 1
+-- the members from the number of texts on
+abbrev pub coverage_members : (file : List ℕ) → (texts : ℕ) → (rules : List Reference) → (alternatives : List Extent) → Members
+coverage_members file texts rules alternatives =
+    member (codes "texts") (number (unsigned texts))
+    (member (codes "unused_alternatives") (array (items_of (map (alternative_data file) alternatives)))
+    (member (codes "unused_rules") (array (items_of (map (unused_rule_data file) rules))) no_members))
+
+-- The JSON of what texts use of a grammar: the counts of texts, and what is unused. `stopped` are the numbers of the texts
+-- whose parse was stopped.
+abbrev pub coverage_data : (file : List ℕ) → (texts matched : ℕ) → (stopped : List ℕ) → (rules : List Reference)
+    → (alternatives : List Extent) → Data
+coverage_data file texts matched stopped rules alternatives =
+    object (member (codes "matched") (number (unsigned matched))
+    (with_stopped stopped (coverage_members file texts rules alternatives)))
+
+-- the exit status: 6 if a text is stopped, and otherwise 0 if nothing is unused, and 1 if something is
+abbrev pub status_of_coverage : (stopped : List ℕ) → (rules : List Reference) → (alternatives : List Extent) → ℕ
+status_of_coverage [] [] [] = 0
+status_of_coverage [] rules alternatives = 1
+status_of_coverage (first ∷ more) rules alternatives = 6
 
 -- the refusal if the marked grammar is over a limit
 abbrev pub too_large_word : List ℕ

@@ -31,8 +31,8 @@ use Rattle.peg_json.specs.declared.tree_form.TreeForm.TheVariants.{Nested, Rows,
 -- failure, and a match.
 --
 -- A profile has how the parse has ended, the number of its steps, and the rules' names with their profiles.
--- What texts use has the number of texts, how many of them match, and the rules and alternatives that are unused; or
--- the marked grammar, by which that is found, is over a limit.
+-- What texts use has the number of texts, how many of them match, the numbers of those whose parse was stopped, and the
+-- rules and alternatives that are unused; or the marked grammar, by which that is found, is over a limit.
 -- A failure is the furthest failure: a position of the text, and the spans of terminals in the grammar file. A match
 -- adds to these its end, the rules' names and the tree with its printed form. `partial` is a match shorter than asked
 -- for. A match with text is one whose tree is printed with the bytes of each node without children.
@@ -43,7 +43,7 @@ pub data Reply : Type 0 where
   Coded : (code : List Instruction) → (entries : List ℕ) → Reply
   Linted : (names : List (List ℕ)) → List Warning → Reply
   Profiled : (end : ProfileEnd) → (steps : ℕ) → (names : List (List ℕ)) → List RuleProfile → Reply
-  Covered : (texts matched : ℕ) → (rules : List Reference) → (alternatives : List Extent) → Reply
+  Covered : (texts matched : ℕ) → (stopped : List ℕ) → (rules : List Reference) → (alternatives : List Extent) → Reply
   NoCoverage : Reply
   Failed : (far : ℕ) → (expected : List Extent) → Reply
   Matched : (partial : Bool) → TreeForm → (end far : ℕ) → (expected : List Extent) → (names : List (List ℕ))
@@ -68,7 +68,7 @@ with_text text (Accepted rules) = Accepted rules
 with_text text (Coded code entries) = Coded code entries
 with_text text (Linted names warnings) = Linted names warnings
 with_text text (Profiled end steps names profiles) = Profiled end steps names profiles
-with_text text (Covered texts matched rules alternatives) = Covered texts matched rules alternatives
+with_text text (Covered texts matched stopped rules alternatives) = Covered texts matched stopped rules alternatives
 with_text text NoCoverage = NoCoverage
 with_text text (Failed far expected) = Failed far expected
 with_text text (Matched partial form end far expected names tree) =
@@ -81,8 +81,8 @@ abbrev pub with_text_if : (asked : Bool) → (text : List ℕ) → Reply → Rep
 with_text_if false text reply = reply
 with_text_if true text reply = with_text text reply
 
--- the exit status of a reply: 0 success, 1 a failed or partial match, warnings or anything unused, otherwise that of the
--- refusal
+-- the exit status of a reply: 0 success, 1 a failed or partial match, warnings or anything unused, 6 a stopped parse,
+-- otherwise that of the refusal
 abbrev pub status_of : Reply → ℕ
 status_of (Refused cause) = cause_status cause
 status_of (Tabled names cans) = 0
@@ -90,7 +90,7 @@ status_of (Accepted rules) = 0
 status_of (Coded code entries) = 0
 status_of (Linted names warnings) = status_of_warnings warnings
 status_of (Profiled end steps names profiles) = status_of_end end
-status_of (Covered texts matched rules alternatives) = status_of_coverage rules alternatives
+status_of (Covered texts matched stopped rules alternatives) = status_of_coverage stopped rules alternatives
 status_of NoCoverage = 6
 status_of (Failed far expected) = 1
 status_of (Matched partial form end far expected names tree) = if partial then 1 else 0
@@ -156,7 +156,7 @@ printed file (Accepted rules) = accepted_data rules
 printed file (Coded code entries) = code_data code entries
 printed file (Linted names warnings) = lint_data file names warnings
 printed file (Profiled end steps names profiles) = profile_data end steps names profiles
-printed file (Covered texts matched rules alternatives) = coverage_data file texts matched rules alternatives
+printed file (Covered texts matched stopped rules alternatives) = coverage_data file texts matched stopped rules alternatives
 printed file NoCoverage = bare_data too_large_word
 printed file (Failed far expected) = failed_data far expected
 printed file (Matched partial form end far expected names tree) =

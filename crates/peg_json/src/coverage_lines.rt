@@ -28,18 +28,22 @@ pub fn coverage_line(
 ) -> Result<Line, AllocError>
     requires { All (λ rule. rule < length (rules_in grammar.now)) coverage.now.unused_rules.items }
     ensures { IfOk result (λ line. IsReply file.now (Covered coverage.now.texts coverage.now.matched
-        (map (reference_at (rules_in grammar.now)) coverage.now.unused_rules.items)
+        coverage.now.stopped.items (map (reference_at (rules_in grammar.now)) coverage.now.unused_rules.items)
         (map extent coverage.now.unused_alternatives.items)) (line_bytes line) (status_code line.status)) }
 {
     let text = coverage_json(alloc, file, grammar, coverage)?;
     Ok(Line::new(text, coverage_status(coverage)))
 }
 
-// The exit status for what texts use: done if nothing is unused.
+// The exit status for what texts use: a limit if a parse was stopped, and otherwise done if nothing is unused.
 fn coverage_status(coverage: &Coverage) -> Status
     ensures { (rules : List Rule) → status_code result ≡ status_of_coverage
-        (map (reference_at rules) coverage.now.unused_rules.items) (map extent coverage.now.unused_alternatives.items) }
+        coverage.now.stopped.items (map (reference_at rules) coverage.now.unused_rules.items)
+        (map extent coverage.now.unused_alternatives.items) }
 {
+    if !coverage.stopped.is_empty() {
+        return Status::Limit;
+    }
     if coverage.unused_rules.is_empty() && coverage.unused_alternatives.is_empty() {
         Status::Done
     } else {

@@ -1,15 +1,15 @@
 //! What texts use of a grammar as JSON.
-ghost use Rattle.std.specs.Prelude.{◌≡◌, ◌+◌, ◌-◌, ◌<◌, ◌≤◌, All, IfOk, OnOk, codes, length, map, string_bytes};
+ghost use Rattle.std.specs.Prelude.{◌≡◌, ◌+◌, ◌-◌, ◌<◌, ◌≤◌, All, IfOk, OnOk, codes, length, map, string_bytes, suc};
 ghost use Rattle.std.proofs.Props.{props};
 ghost use Rattle.serde.specs.Event.{Log};
 ghost use Rattle.serde_json.specs.Data.{Members, array, member, number, unsigned};
-ghost use Rattle.serde_json.specs.Events.{SendsMembers, SendsValue};
+ghost use Rattle.serde_json.specs.Events.{SendsMembers, SendsValue, members_len};
 ghost use Rattle.serde_json.specs.View.{items_of};
 ghost use Rattle.serde_json.specs.Written.{compact_text};
 ghost use Rattle.peg_bytes.specs.Extent.{extent};
 ghost use Rattle.peg_grammar.specs.GrammarRules.{rules_in};
 ghost use Rattle.peg_json.specs.CoverageText.{alternative_data, coverage_data, placed_alternative, placed_rule, reference_at};
-ghost use Rattle.peg_json.specs.CoverageText.{unused_rule_data};
+ghost use Rattle.peg_json.specs.CoverageText.{unused_rule_data, with_stopped};
 
 use peg_bytes::Span;
 use peg_coverage::Coverage;
@@ -31,7 +31,8 @@ pub fn coverage_json(
 ) -> Result<String, AllocError>
     requires { All (λ rule. rule < length (rules_in grammar.now)) coverage.now.unused_rules.items }
     ensures { IfOk result (λ text. string_bytes text ≡ compact_text (coverage_data file.now coverage.now.texts
-        coverage.now.matched (map (reference_at (rules_in grammar.now)) coverage.now.unused_rules.items)
+        coverage.now.matched coverage.now.stopped.items
+        (map (reference_at (rules_in grammar.now)) coverage.now.unused_rules.items)
         (map extent coverage.now.unused_alternatives.items))) }
 {
     text_of(
@@ -41,6 +42,7 @@ pub fn coverage_json(
             grammar,
             texts: coverage.texts,
             matched: coverage.matched,
+            stopped: &coverage.stopped,
             rules: &coverage.unused_rules,
             alternatives: &coverage.unused_alternatives,
         },
@@ -54,6 +56,7 @@ struct CoverageObject<'a> {
     grammar: &'a Grammar,
     texts: u64,
     matched: u64,
+    stopped: &'a [usize],
     rules: &'a [u32],
     alternatives: &'a [Span],
     ghost below: { All (λ rule. rule < length (rules_in grammar.now)) rules.now } by { Prim.hlevel props },
@@ -61,14 +64,15 @@ struct CoverageObject<'a> {
 
 impl Described for CoverageObject<'_> {
     ghost writes = { λ value. SendsValue
-        (coverage_data value.file.now value.texts value.matched
+        (coverage_data value.file.now value.texts value.matched value.stopped.now
         (map (reference_at (rules_in value.grammar.now)) value.rules.now) (map extent value.alternatives.now)) };
 }
 
 impl Serialize for CoverageObject<'_> {
     fn serialize<S: Serializer>(&self, out: &mut S) -> Result<(), S::Error> {
-        out.begin_map(Some(4))?;
+        out.begin_map(Some(member_count(self.stopped)))?;
         serialize_member("matched", &self.matched, out)?;
+        serialize_stopped(self.stopped, out)?;
         serialize_member("texts", &self.texts, out)?;
         out.key("unused_alternatives")?;
         serialize_alternatives(self.file, self.alternatives, out)?;
@@ -76,6 +80,26 @@ impl Serialize for CoverageObject<'_> {
         serialize_rules(self.file, self.grammar, self.rules, out)?;
         out.end_map()
     }
+}
+
+// The number of members: all of them, or all but the number of stopped texts.
+fn member_count(stopped: &[usize]) -> usize
+    ensures { (rest : Members) → members_len rest ≡ 3
+        → result ≡ suc (members_len (with_stopped stopped.now rest)) }
+{
+    if stopped.is_empty() { 4 } else { 5 }
+}
+
+// Serializes the number of stopped texts, if there are any.
+fn serialize_stopped<S: Serializer>(stopped: &[usize], out: &mut S) -> Result<(), S::Error>
+    ensures { OnOk result ((rest : Members) (last : Log) → SendsMembers rest (S.written out.new) last
+        → SendsMembers (with_stopped stopped.now rest) (S.written out.old) last) }
+{
+    if stopped.is_empty() {
+        return Ok(());
+    }
+    let count = stopped.len() as u64;
+    serialize_member("stopped", &count, out)
 }
 
 // Serializes the places of alternatives, in order.

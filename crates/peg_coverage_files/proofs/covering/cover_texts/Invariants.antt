@@ -1,7 +1,6 @@
 use Rattle.std.proofs.Common.{◌≡◌, ◌≢◌, ◌≤◌, ℕ, All, List, Some, length, take}
 use Rattle.peg_coverage.specs.CoverageParser.{IsCoverageParserOf}
-use Rattle.peg_coverage.specs.Covered.{HaveCovered}
-use Rattle.peg_coverage_files.specs.CoveringFaults.{StaysWithin}
+use Rattle.peg_coverage.specs.Covered.{HaveCovered, settings_of}
 use Rattle.peg_coverage_files.specs.NamedTexts.{files_named, texts_in}
 use Rattle.peg_diagnostics.specs.Marked.{marked_rules}
 use Rattle.peg_io.specs.NamedFile.{NamedFile, Missing}
@@ -13,14 +12,13 @@ use Rattle.peg_coverage_files.proofs.covering.cover_texts.Given as goal
 -- the first texts are covered, and can all be opened
 abbrev pub invariant-names : goal.invariant-names
 invariant-names g l =
-    let files = files_named (g.O.Opener.file_at l.files) (take l.name-index l.names) in
+    let files = files_named (g.O.Opener.file_at l.files) (take l.number l.names) in
     record {
       count : length l.used ≡ length l.initial.used;
-      few : l.matched ≤ l.name-index;
+      few : l.counts.matched ≤ l.number;
       covered : (rules : List Rule) (start : List ℕ) → IsCoverageParserOf rules l.parser
           → start_name rules (start_named l.options) ≡ Some start
-          → HaveCovered (marked_rules rules) start (texts_in files) l.initial.used l.used l.matched;
+          → HaveCovered (marked_rules rules) start (settings_of l.options) (texts_in files) l.initial.used l.used
+          l.counts.matched l.counts.stopped.items;
       present : All (λ (file : NamedFile). file ≢ Missing) files;
-      enough : (rules : List Rule) → IsCoverageParserOf rules l.parser → l.options.memo ≡ 0
-          → All (StaysWithin rules (start_named l.options) l.options.steps) files;
     }

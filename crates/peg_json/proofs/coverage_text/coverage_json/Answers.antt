@@ -13,12 +13,14 @@ returns c =
     let file = c.args.file.now in
     let coverage = c.args.coverage.now in
     let rules = reference_at (rules_in c.args.grammar.now) in
-    let IsText = λ (numbers : List ℕ) (spans : List Span). IfOk c.text_of.result
+    let IsText = λ (stopped numbers : List ℕ) (spans : List Span). IfOk c.text_of.result
     (λ text. string_bytes text
-    ≡ compact_text (coverage_data file coverage.texts coverage.matched (map rules numbers) (map extent spans))) in
-    let sent = value-text c.text_of.result (coverage_data file coverage.texts coverage.matched
-    (map rules c.deref.result.now) (map extent c.deref-2.result.now))
-    (coverage-without_floats file coverage.texts coverage.matched (map rules c.deref.result.now)
-    (map extent c.deref-2.result.now)) c.text_of.ensures in
-    subst (λ (numbers : List ℕ). IsText numbers coverage.unused_alternatives.items) c.deref.ensures.value
-    (subst (λ (spans : List Span). IsText c.deref.result.now spans) c.deref-2.ensures.value sent)
+    ≡ compact_text (coverage_data file coverage.texts coverage.matched stopped (map rules numbers) (map extent spans))) in
+    let sent = value-text c.text_of.result (coverage_data file coverage.texts coverage.matched c.deref.result.now
+    (map rules c.deref-2.result.now) (map extent c.deref-3.result.now))
+    (coverage-without_floats file coverage.texts coverage.matched c.deref.result.now (map rules c.deref-2.result.now)
+    (map extent c.deref-3.result.now)) c.text_of.ensures in
+    subst (λ (stopped : List ℕ). IsText stopped coverage.unused_rules.items coverage.unused_alternatives.items)
+    c.deref.ensures.value
+    (subst (λ (numbers : List ℕ). IsText c.deref.result.now numbers coverage.unused_alternatives.items) c.deref-2.ensures.value
+    (subst (λ (spans : List Span). IsText c.deref.result.now c.deref-2.result.now spans) c.deref-3.ensures.value sent))
