@@ -1,4 +1,11 @@
+mod ContentLemmas
 mod ExplainedLemmas
-mod NameLemmas
+mod FaultLemmas
+mod ListFileLemmas
+mod ListLemmas
+mod PartLemmas
+mod ProgressLemmas
 mod ReportLemmas
+mod SourceLemmas
+mod SplitLemmas
 mod StartLemmas

@@ -13,6 +13,11 @@ pub use Rattle.peg_semantics.specs.Starts
 pub mod Contents
 pub mod Entries
 pub mod Explained
+pub mod Listings
 pub mod Names
+pub mod Printings
+pub mod Progress
 pub mod Questions
+pub mod Tasks
 pub mod TextReports
+pub mod Verdicts

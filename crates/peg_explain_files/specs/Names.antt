@@ -1,10 +1,9 @@
 -- The names of the texts.
-use Rattle.std.specs.Prelude.{◌≡◌, ℕ, Bool, true, false, ◌==◌, if◌then◌else◌, List, [], ◌∷◌, Option, None, Some, codes, bytes_eq}
+use Rattle.std.specs.Prelude.{◌≡◌, ℕ, ◌-◌, Bool, true, false, ◌==◌, if◌then◌else◌, List, [], ◌∷◌, ◌++◌, Option, None, Some, bytes_eq, codes}
+use Rattle.std.specs.Prelude.{length, take}
 use Rattle.std.specs.List.{filter, slice_split}
-use Rattle.std.specs.Str.{is_utf8}
-use Rattle.peg_io.specs.NamedFile.{NamedFile, Unspecified, Holds, Readable}
-use Rattle.peg_explain_files.specs.declared.content.Content.{Content}
-use Rattle.peg_explain_files.specs.declared.content.Content.TheVariants.{Bytes, Unopened, Unreadable}
+use Rattle.peg_io.specs.NamedFile.{NamedFile, Unspecified, Missing, Holds, Readable}
+use Rattle.peg_explain_files.specs.Questions.{Question}
 use Rattle.peg_explain_files.specs.declared.query.NameEnd.{NameEnd}
 use Rattle.peg_explain_files.specs.declared.query.NameEnd.TheVariants.{LineEnd, ZeroByte}
 use Rattle.peg_explain_files.specs.declared.reports.TextReport.{TextReport}
@@ -25,20 +24,70 @@ abbrev pub is_nonempty : List ℕ → Bool
 is_nonempty [] = false
 is_nonempty (byte ∷ rest) = true
 
--- the names in a list: its nonempty parts between ends
-abbrev pub names_in : NameEnd → (list : List ℕ) → List (List ℕ)
-names_in end list = filter is_nonempty (slice_split (λ byte. byte == end_byte end) list)
+-- whether a byte ends a name
+abbrev pub is_end : NameEnd → ℕ → Bool
+is_end end byte = byte == end_byte end
 
--- the names that a list gives by its content; only text in UTF-8 has names
-abbrev pub listed_names : NameEnd → Content → List (List ℕ)
-listed_names end (Bytes held) = if is_utf8 held.items then names_in end held.items else []
-listed_names end other = []
+-- the parts of a list between ends; the last part needs no end
+abbrev pub parts_in : NameEnd → (list : List ℕ) → List (List ℕ)
+parts_in end list = slice_split (is_end end) list
+
+-- the names in a list: its nonempty parts
+abbrev pub names_in : NameEnd → (list : List ℕ) → List (List ℕ)
+names_in end list = filter is_nonempty (parts_in end list)
+
+-- the names with an end: the nonempty parts but the last part
+abbrev pub ended_names_in : NameEnd → (list : List ℕ) → List (List ℕ)
+ended_names_in end list = filter is_nonempty (take (length (parts_in end list) - 1) (parts_in end list))
+
+-- ---- lists
+
+-- What is read of a list: it can't be opened; or it is read to its end; or a read fails after these bytes.
+pub data Listing : Type 0 where
+  Unopened : Listing
+  Whole : (bytes : List ℕ) → Listing
+  Broken : (bytes : List ℕ) → Listing
+
+-- the names that a list gives; if a read fails, those with an end before that
+abbrev pub listed_names : NameEnd → Listing → List (List ℕ)
+listed_names end Unopened = []
+listed_names end (Whole bytes) = names_in end bytes
+listed_names end (Broken bytes) = ended_names_in end bytes
 
 -- what is reported of the list itself
-abbrev pub list_fault : Content → Option TextReport
-list_fault (Bytes held) = if is_utf8 held.items then None else Some report.NotUtf8
+abbrev pub list_fault : Listing → Option TextReport
 list_fault Unopened = Some report.Unopened
-list_fault Unreadable = Some report.Unreadable
+list_fault (Whole bytes) = None
+list_fault (Broken bytes) = Some report.Unreadable
+
+-- the names of all texts: the given ones, and then those in the list
+abbrev pub names_asked : Question → Listing → List (List ℕ)
+names_asked question listing = question.texts ++ listed_names question.end listing
+
+-- the maximum number of bytes that are read of a list: no file has more
+abbrev pub max_list_bytes : ℕ
+max_list_bytes = 9223372036854775807
+
+-- this is read of a list that holds these bytes
+abbrev pub IsListed : (bytes : List ℕ) → Listing → Type 0
+IsListed bytes Unopened = ⊥
+IsListed bytes (Whole read) = read ≡ take max_list_bytes bytes
+IsListed bytes (Broken read) = (rest : List ℕ) × (bytes ≡ read ++ rest)
+
+-- no read of a list fails
+abbrev pub IsUnbroken : Listing → Type 0
+IsUnbroken Unopened = Unit {0}
+IsUnbroken (Whole bytes) = Unit {0}
+IsUnbroken (Broken bytes) = ⊥
+
+-- this is read of a list in a file, by what is specified of it
+abbrev pub IsListingOf : NamedFile → Listing → Type 0
+IsListingOf Unspecified listing = Unit {0}
+IsListingOf Missing listing = listing ≡ Unopened
+IsListingOf (Holds bytes) listing = IsListed bytes listing
+IsListingOf (Readable bytes) listing = IsListed bytes listing × IsUnbroken listing
+
+-- ---- the input
 
 -- the input as a file: reads of it may fail
 abbrev pub input_file : Option (List ℕ) → NamedFile
@@ -48,10 +97,6 @@ input_file (Some bytes) = Holds bytes
 -- whether a name is `-`, which is the input
 abbrev pub is_input : List ℕ → Bool
 is_input name = bytes_eq name (codes "-")
-
--- the maximum number of bytes that are read of a list: no file has more
-abbrev pub max_list_bytes : ℕ
-max_list_bytes = 9223372036854775807
 
 -- the file that lists names; without one it is as if it were empty
 abbrev pub list_file : (file_at : List ℕ → NamedFile) → (input : Option (List ℕ)) → Option (List ℕ) → NamedFile

@@ -1,5 +1,6 @@
 -- What is reported of a text.
 use Rattle.std.specs.Prelude.{◌≡◌, ℕ, ◌+◌, ◌<◌, List, Option, None, Some, length}
+use Rattle.std.specs.Str.{IsUtf8}
 use Rattle.std.specs.declared.alloc.Global.{Global}
 use Rattle.std.specs.declared.vec.Vec.{Vec}
 use Rattle.peg_explain.specs.Explanations.{ExplainingStaysWithin, ExplainingTakesMoreSteps, IsExplanation}
@@ -39,3 +40,9 @@ IsReportBy IsRight Unreadable result = result ≡ report.Unreadable
 abbrev pub IsReportOf : (IsRight : List ℕ → TextReport → Type 0) → NamedFile → TextReport → Type 0
 IsReportOf IsRight file result =
     (content : Content) × IsContentOf (max_text_bytes + 1) file content × IsReportBy IsRight content result
+
+-- What is reported of the text with a name, which may be any bytes. Only a name in UTF-8 has a file.
+pub record IsReportOfName (IsRight : List ℕ → TextReport → Type 0) (file_at : List ℕ → NamedFile) (name : List ℕ)
+    (result : TextReport) : Type 0 where
+  pub of_file : IsUtf8 name → IsReportOf IsRight (file_at name) result
+  pub not_utf8 : ¬ IsUtf8 name → result ≡ report.NotUtf8

@@ -28,7 +28,7 @@ pub(crate) fn content_of<O: Opener>(
 {
     match files.open(name) {
         Ok(mut source) => read_content(alloc, &mut source, limit),
-        Err(OpenFault::File) => Ok(Content::Unopened),
+        Err(OpenFault::File { .. }) => Ok(Content::Unopened),
         Err(OpenFault::Memory) => Err(AllocError),
     }
 }

@@ -2,15 +2,15 @@
 ghost use Rattle.std.specs.Prelude.{◌≡◌, ◌++◌, OnOk, string_bytes};
 ghost use Rattle.peg_explain_files.specs.Entries.{named_line, program_line};
 
-use crate::report::Verdict;
+use crate::ended::Verdict;
 use crate::reports::TextReport;
 use peg_messages::shown_name;
 use std::alloc::{AllocError, Global};
 
-/// The name of a text, and what is reported of it.
+/// The name of a text, which may be any bytes, and what is reported of the text.
 #[derive(Drop)]
 pub(crate) struct Entry<'a> {
-    pub(crate) name: &'a str,
+    pub(crate) name: &'a [u8],
     pub(crate) report: TextReport,
 }
 
@@ -49,7 +49,7 @@ impl Entry<'_> {
             TextReport::NotUtf8 => write_program_line(
                 alloc,
                 self.name,
-                ": the names aren't UTF-8\n",
+                ": the name isn't UTF-8\n",
                 out,
             ),
             TextReport::Unopened => write_program_line(
@@ -86,13 +86,13 @@ impl Entry<'_> {
 /// Appends a name, as messages show it, and what follows it.
 pub(crate) fn write_line(
     alloc: Global,
-    name: &str,
+    name: &[u8],
     rest: &str,
     out: &mut Vec<u8>,
 ) -> Result<(), AllocError>
     ensures { OnOk result (out.new.items ≡ out.old.items ++ named_line name.now rest.now) }
 {
-    let shown = shown_name(alloc, name.as_bytes())?;
+    let shown = shown_name(alloc, name)?;
     out.extend_from_slice(shown.as_bytes())?;
     out.extend_from_slice(rest.as_bytes())
 }
@@ -100,13 +100,13 @@ pub(crate) fn write_line(
 /// Appends the program's name, a name as messages show it, and what follows it.
 pub(crate) fn write_program_line(
     alloc: Global,
-    name: &str,
+    name: &[u8],
     rest: &str,
     out: &mut String,
 ) -> Result<(), AllocError>
     ensures { OnOk result (string_bytes out.new ≡ string_bytes out.old ++ program_line name.now rest.now) }
 {
-    let shown = shown_name(alloc, name.as_bytes())?;
+    let shown = shown_name(alloc, name)?;
     out.push_str("pegtool: ")?;
     out.push_str(&shown)?;
     out.push_str(rest)

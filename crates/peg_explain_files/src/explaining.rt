@@ -1,129 +1,165 @@
 //! Explains texts by a grammar file.
-ghost use Rattle.std.specs.Prelude.{◌≡◌, ◌≤◌, ◌++◌, false, ℕ, All, List, [], IfOk, OnOk, Some, is_some, length, map, string_bytes};
+ghost use Rattle.std.specs.Prelude.{◌≡◌, ◌≢◌, ◌≤◌, ◌++◌, false, IfErr, IfOk, OnOk, is_some, length, string_bytes};
 ghost use Rattle.peg_bytes.specs.Place.{max_offset};
-ghost use Rattle.peg_explain.specs.Explainers.{IsExplainerOf};
 ghost use Rattle.peg_parser.specs.Accepts.{Accepts};
+ghost use Rattle.peg_parser.specs.Faults.{HasCause};
 ghost use Rattle.peg_parser.specs.Parser.{parser_rules, start_named};
-ghost use Rattle.peg_semantics.specs.Rules.{Rule};
+ghost use Rattle.peg_parser.specs.Refusals.{IsRefusalOf};
 ghost use Rattle.peg_semantics.specs.Starts.{start_name};
-ghost use Rattle.peg_explain_files.specs.Entries.{AreFaultEntries, IsEntryOf, entry_name};
-ghost use Rattle.peg_explain_files.specs.Explained.{IsAnswer, IsExplained, IsReportOfTexts, IsUnread};
+ghost use Rattle.peg_explain_files.specs.Entries.{program_line};
+ghost use Rattle.peg_explain_files.specs.Explained.{ExplainsTexts, IsAnswer, IsExplained, IsUnread, WritesRefusal};
 ghost use Rattle.peg_explain_files.specs.Explained.{no_start_message};
-ghost use Rattle.peg_explain_files.specs.Names.{IsInput};
+ghost use Rattle.peg_explain_files.specs.Names.{IsInput, list_file};
+ghost use Rattle.peg_explain_files.specs.Printings.{WritesAlone, has_write_failed, printed_by};
 ghost use Rattle.peg_explain_files.specs.Questions.{question_of};
+ghost use Rattle.peg_explain_files.specs.Tasks.{HasStart, setting_of};
 
 use crate::content::{Content, content_of};
-use crate::entry::{Entry, write_line, write_program_line};
-use crate::listing::{list_content, push_listed, push_texts};
+use crate::ended::{Ended, ExplainFault, Verdict};
+use crate::entry::{write_line, write_program_line};
+use crate::listing::explain_list;
+use crate::printing::{Printing, write_alone};
 use crate::query::Query;
-use crate::report::{Report, Verdict, report_of_entries};
-use crate::reports::{TextReport, report_of};
-use peg_explain::{Explainer, refusal_message};
-use peg_io::{Opener, Source};
+use crate::task::{Run, Task, explain_texts};
+use peg_explain::refusal_message;
+use peg_io::{Opener, Sink, Source};
 use peg_messages::shown_name;
 use peg_notation::MAX_FILE_BYTES;
 use peg_parser::{ParseOptions, Parser, Refusal};
 use std::alloc::{AllocError, Global};
 
-/// Reads a grammar file and texts by name, and returns what is printed of them: a message for each text that doesn't
-/// match as a whole, in order; or the message of a refused grammar file. Texts in a list come after the others.
+/// Reads a grammar file and texts by name, and writes a message for each text that doesn't match as a whole, in order;
+/// or the message of a refused grammar file. Texts in a list come after the others. Each message is written before the
+/// next text is opened.
 ///
-/// A file that can't be opened or read has a line for standard error, and the others are read. The only error is a
-/// failed allocation. At most 1,048,577 bytes of the grammar file are read, and 67,108,865 of each text. The list
-/// is read to its end. It is held in memory, and one text at a time.
+/// A file that can't be opened or read, and a name that isn't UTF-8, have a line for standard error, and the others are
+/// read. On `Memory` the messages of the first texts are written. On `Write` a part of one more message may be written.
+/// At most 1,048,577 bytes of the grammar file are read, and 67,108,865 of each text. The list is read to its end, in
+/// pieces of 64 KiB. In memory are such a piece, a name of the list, one text, and the lines for standard error.
 ///
 /// # Example
 ///
 /// ```
 /// let query = Query { grammar: "ab.peg", texts: &texts, list: None, end: NameEnd::LineEnd, options, style };
-/// let report = explain_files(alloc, &files, &mut input, &query)?;
+/// let ended = explain_files(alloc, &files, &mut input, &mut output, &query, Printing::All)?;
 /// ```
-pub fn explain_files<O: Opener, I: Source>(
+pub fn explain_files<O: Opener, I: Source, W: Sink>(
     alloc: Global,
     files: &O,
     input: &mut I,
+    output: &mut W,
     query: &Query<'_>,
-) -> Result<Report, AllocError>
-    requires { I.failed input.old ≡ false }
-    ensures explained { IfOk result (IsExplained (question_of query.now) (O.file_at files.now) (I.left input.old)) }
+    printing: Printing,
+) -> Result<Ended, ExplainFault>
+    requires reads { I.failed input.old ≡ false }
+    requires works { W.failed output.old ≡ false }
+    ensures explained { IsExplained (question_of query.now) printing (O.file_at files.now) (I.left input.old)
+        (W.written output.old) (W.written output.new) result }
+    ensures failed { W.failed output.new ≡ has_write_failed result }
     ensures unread { ¬ IsInput (question_of query.now).list → input.new ≡ input.old }
 {
-    match content_of(alloc, files, query.grammar, MAX_FILE_BYTES + 1)? {
-        Content::Bytes(file) => explain_by_file(alloc, files, input, &file, query),
-        Content::Unopened => unread_grammar(alloc, query.grammar, ": can't be opened\n"),
-        Content::Unreadable => unread_grammar(alloc, query.grammar, ": can't be read\n"),
+    let file = match content_of(alloc, files, query.grammar, MAX_FILE_BYTES + 1)? {
+        Content::Bytes(file) => file,
+        Content::Unopened => {
+            return unread_grammar(alloc, query.grammar, ": can't be opened\n", printing);
+        }
+        Content::Unreadable => {
+            return unread_grammar(alloc, query.grammar, ": can't be read\n", printing);
+        }
+    };
+    match Parser::from_file(alloc, &file) {
+        Ok(parser) => {
+            let task = Task {
+                files,
+                file: &file,
+                parser: &parser,
+                query,
+                printing,
+            };
+            explain_by_parser(alloc, &task, input, output)
+        }
+        Err(Refusal::Memory) => Err(ExplainFault::Memory),
+        Err(refusal) => write_refusal(alloc, output, query.grammar, &file, &refusal, printing),
     }
 }
 
-// What is printed if the grammar file can't be opened or read.
-fn unread_grammar(alloc: Global, name: &str, rest: &str) -> Result<Report, AllocError>
-    ensures { IfOk result (IsUnread name.now rest.now) }
+// How an explanation ends if the grammar file can't be opened or read.
+fn unread_grammar(
+    alloc: Global,
+    name: &str,
+    rest: &str,
+    printing: Printing,
+) -> Result<Ended, ExplainFault>
+    ensures unread { IfOk result (IsUnread name.now rest.now printing) }
+    ensures memory { IfErr result (λ fault. fault ≡ ExplainFault.Memory) }
 {
     let mut faults = String::new(alloc);
-    write_program_line(alloc, name, rest, &mut faults)?;
-    Ok(Report {
-        messages: Vec::new(alloc),
+    push_unread(alloc, name, rest, printing, &mut faults)?;
+    Ok(Ended {
         faults,
         verdict: Verdict::Unreadable,
     })
 }
 
-// Explains texts by this grammar file.
-fn explain_by_file<O: Opener, I: Source>(
+// Appends the line for a grammar file that can't be opened or read, if it is printed.
+fn push_unread(
     alloc: Global,
-    files: &O,
-    input: &mut I,
-    file: &[u8],
-    query: &Query<'_>,
-) -> Result<Report, AllocError>
-    requires works { I.failed input.old ≡ false }
-    requires short { length file.now ≤ max_offset }
-    ensures answer { IfOk result (IsAnswer (question_of query.now) (O.file_at files.now) (I.left input.old) file.now) }
-    ensures unread { ¬ IsInput (question_of query.now).list → input.new ≡ input.old }
+    name: &str,
+    rest: &str,
+    printing: Printing,
+    faults: &mut String,
+) -> Result<(), AllocError>
+    ensures { OnOk result (string_bytes faults.new
+        ≡ string_bytes faults.old ++ printed_by printing (program_line name.now rest.now)) }
 {
-    match Parser::from_file(alloc, file) {
-        Ok(parser) => explain_by_parser(alloc, files, input, file, &parser, query),
-        Err(Refusal::Memory) => Err(AllocError),
-        Err(refusal) => {
-            let called = shown_name(alloc, query.grammar.as_bytes())?;
-            let message = refusal_message(alloc, called.as_bytes(), file, &refusal)?;
-            Ok(message_alone(alloc, message, Verdict::Refused))
-        }
+    match printing {
+        Printing::All => write_program_line(alloc, name.as_bytes(), rest, faults),
+        Printing::Nothing => Ok(()),
     }
 }
 
-// A message for the output, and nothing else.
-fn message_alone(alloc: Global, messages: Vec<u8>, verdict: Verdict) -> Report
-    ensures messages { result.messages.items ≡ messages.items }
-    ensures faults { string_bytes result.faults ≡ [] }
-    ensures verdict { result.verdict ≡ verdict }
+// Writes the message of a refused grammar file.
+fn write_refusal<W: Sink>(
+    alloc: Global,
+    output: &mut W,
+    name: &str,
+    file: &[u8],
+    refusal: &Refusal,
+    printing: Printing,
+) -> Result<Ended, ExplainFault>
+    requires short { length file.now ≤ max_offset }
+    requires refused { HasCause (IsRefusalOf file.now) (length file.now) refusal.now }
+    requires has_cause { refusal.now ≢ Refusal.Memory }
+    requires works { W.failed output.old ≡ false }
+    ensures writes { WritesRefusal name.now file.now refusal.now printing (W.written output.old) (W.written output.new)
+        result }
+    ensures failed { W.failed output.new ≡ has_write_failed result }
 {
-    Report {
-        messages,
-        faults: String::new(alloc),
-        verdict,
-    }
+    let called = shown_name(alloc, name.as_bytes())?;
+    let message = refusal_message(alloc, called.as_bytes(), file, refusal)?;
+    write_alone(alloc, output, &message, Verdict::Refused, printing)
 }
 
 // Explains texts by the parser of a grammar file, unless no rule has the name of the start.
-fn explain_by_parser<O: Opener, I: Source>(
+fn explain_by_parser<O: Opener, I: Source, W: Sink>(
     alloc: Global,
-    files: &O,
+    task: &Task<'_, O>,
     input: &mut I,
-    file: &[u8],
-    parser: &Parser,
-    query: &Query<'_>,
-) -> Result<Report, AllocError>
-    requires works { I.failed input.old ≡ false }
-    ensures answer { Accepts file.now (parser_rules parser.now)
-        → IfOk result (IsAnswer (question_of query.now) (O.file_at files.now) (I.left input.old) file.now) }
-    ensures unread { ¬ IsInput (question_of query.now).list → input.new ≡ input.old }
+    output: &mut W,
+) -> Result<Ended, ExplainFault>
+    requires reads { I.failed input.old ≡ false }
+    requires works { W.failed output.old ≡ false }
+    ensures answer { Accepts task.now.file.now (parser_rules task.now.parser.now)
+        → IsAnswer (question_of task.now.query.now) task.now.printing (O.file_at task.now.files.now) (I.left input.old)
+        task.now.file.now (W.written output.old) (W.written output.new) result }
+    ensures failed { W.failed output.new ≡ has_write_failed result }
+    ensures unread { ¬ IsInput (question_of task.now.query.now).list → input.new ≡ input.old }
 {
-    if !has_start(parser, &query.options) {
-        return no_such_start(alloc, query.grammar, query.options.start.unwrap_or(""));
+    if has_start(task.parser, &task.query.options) {
+        return explain_all(alloc, task, input, output);
     }
-    let list = list_content(alloc, files, input, query.list)?;
-    explain_texts(alloc, files, file, parser, &list, query)
+    let start = task.query.options.start.unwrap_or("");
+    write_no_start(alloc, output, task.query.grammar, start, task.printing)
 }
 
 // Whether a rule has the name of the start, if one is given.
@@ -136,98 +172,55 @@ fn has_start(parser: &Parser, options: &ParseOptions<'_>) -> bool
     }
 }
 
-// What is printed if no rule has the name of the start.
-fn no_such_start(alloc: Global, grammar: &str, start: &str) -> Result<Report, AllocError>
-    ensures messages { IfOk result (λ report. report.messages.items ≡ no_start_message grammar.now start.now) }
-    ensures faults { IfOk result (λ report. string_bytes report.faults ≡ []) }
-    ensures verdict { IfOk result (λ report. report.verdict ≡ Verdict.NoSuchStart) }
+// Writes that no rule has the name of the start.
+fn write_no_start<W: Sink>(
+    alloc: Global,
+    output: &mut W,
+    grammar: &str,
+    start: &str,
+    printing: Printing,
+) -> Result<Ended, ExplainFault>
+    requires { W.failed output.old ≡ false }
+    ensures writes { WritesAlone printing (no_start_message grammar.now start.now) Verdict.NoSuchStart
+        (W.written output.old) (W.written output.new) result }
+    ensures failed { W.failed output.new ≡ has_write_failed result }
+{
+    let message = message_for_no_start(alloc, grammar, start)?;
+    write_alone(alloc, output, &message, Verdict::NoSuchStart, printing)
+}
+
+// The message that no rule has the name of the start.
+fn message_for_no_start(alloc: Global, grammar: &str, start: &str) -> Result<Vec<u8>, AllocError>
+    ensures { IfOk result (λ message. message.items ≡ no_start_message grammar.now start.now) }
 {
     let mut message = Vec::new(alloc);
-    write_line(alloc, grammar, ": no rule is named ", &mut message)?;
-    write_line(alloc, start, "\n", &mut message)?;
-    Ok(message_alone(alloc, message, Verdict::NoSuchStart))
+    write_line(
+        alloc,
+        grammar.as_bytes(),
+        ": no rule is named ",
+        &mut message,
+    )?;
+    write_line(alloc, start.as_bytes(), "\n", &mut message)?;
+    Ok(message)
 }
 
-// Explains the given texts and those in a list.
-fn explain_texts<O: Opener>(
+// Explains the texts that the query names, and then those in its list.
+fn explain_all<O: Opener, I: Source, W: Sink>(
     alloc: Global,
-    files: &O,
-    file: &[u8],
-    parser: &Parser,
-    list: &Content,
-    query: &Query<'_>,
-) -> Result<Report, AllocError>
-    ensures { (from : List ℕ) → start_name (parser_rules parser.now) (start_named query.now.options) ≡ Some from
-        → IfOk result (IsReportOfTexts (question_of query.now) (O.file_at files.now) file.now (parser_rules parser.now)
-        list.now) }
+    task: &Task<'_, O>,
+    input: &mut I,
+    output: &mut W,
+) -> Result<Ended, ExplainFault>
+    requires reads { I.failed input.old ≡ false }
+    requires works { W.failed output.old ≡ false }
+    ensures explains { HasStart task.now → ExplainsTexts (setting_of (O.file_at task.now.files.now) task.now)
+        (list_file (O.file_at task.now.files.now) (I.left input.old) (question_of task.now.query.now).list)
+        (W.written output.old) (W.written output.new) result }
+    ensures failed { W.failed output.new ≡ has_write_failed result }
+    ensures unread { ¬ IsInput (question_of task.now.query.now).list → input.new ≡ input.old }
 {
-    let mut names = Vec::new(alloc);
-    push_texts(query.texts, &mut names)?;
-    let fault = push_listed(list, query.end, &mut names)?;
-    let mut entries = entries_by_file(alloc, files, file, parser, &names, query)?;
-    push_fault(query.list.unwrap_or(""), fault, &mut entries)?;
-    report_of_entries(alloc, &entries)
-}
-
-// Appends what is reported of the list itself.
-fn push_fault<'a>(
-    list: &'a str,
-    fault: Option<TextReport>,
-    entries: &mut Vec<Entry<'a>>,
-) -> Result<(), AllocError>
-    ensures { OnOk result ((added : List Entry) × (entries.new.items ≡ entries.old.items ++ added)
-        × AreFaultEntries list.now fault added) }
-{
-    match fault {
-        Some(report) => {
-            entries.push(Entry { name: list, report })?;
-            Ok(())
-        }
-        None => Ok(()),
-    }
-}
-
-// What is reported of the texts with these names by a grammar file. The grammar of explanations is large, so it is made
-// only if there is a name.
-fn entries_by_file<'a, O: Opener>(
-    alloc: Global,
-    files: &O,
-    file: &[u8],
-    parser: &Parser,
-    names: &[&'a str],
-    query: &Query<'_>,
-) -> Result<Vec<Entry<'a>>, AllocError>
-    ensures names { IfOk result (λ entries. map entry_name entries.items ≡ map (λ name. name.now) names.now) }
-    ensures reports { (from : List ℕ) → start_name (parser_rules parser.now) (start_named query.now.options) ≡ Some from
-        → IfOk result (λ entries. All (IsEntryOf (O.file_at files.now) file.now (parser_rules parser.now) query.now.style
-        (start_named query.now.options) query.now.options.memo query.now.options.steps) entries.items) }
-{
-    if names.is_empty() {
-        return Ok(Vec::new(alloc));
-    }
-    let explainer = Explainer::new(alloc, file, parser, query.style)?;
-    entries_of(alloc, files, &explainer, names, &query.options)
-}
-
-// What is reported of the texts with these names.
-fn entries_of<'a, O: Opener>(
-    alloc: Global,
-    files: &O,
-    explainer: &Explainer<'_>,
-    names: &[&'a str],
-    options: &ParseOptions<'_>,
-) -> Result<Vec<Entry<'a>>, AllocError>
-    ensures names { IfOk result (λ entries. map entry_name entries.items ≡ map (λ name. name.now) names.now) }
-    ensures reports { (file : List ℕ) (rules : List Rule) (from : List ℕ) → IsExplainerOf file rules explainer.now
-        → start_name rules (start_named options.now) ≡ Some from → IfOk result (λ entries.
-        All (IsEntryOf (O.file_at files.now) file rules explainer.now.style (start_named options.now) options.now.memo
-        options.now.steps)
-        entries.items) }
-{
-    let mut entries = Vec::new(alloc);
-    'names: for name in names {
-        let report = report_of(alloc, files, explainer, name, options)?;
-        entries.push(Entry { name, report })?;
-    }
-    Ok(entries)
+    let mut run = Run::new(alloc);
+    explain_texts(alloc, task, &mut run, output)?;
+    explain_list(alloc, task, &mut run, input, output)?;
+    Ok(run.into_ended())
 }

@@ -2,14 +2,17 @@
 #![tactic(auto)]
 
 mod content;
+mod ended;
 mod entry;
 mod explaining;
 mod listing;
+mod printing;
 mod query;
-mod report;
 mod reports;
+mod task;
 
+pub use ended::{Ended, ExplainFault, Verdict};
 pub use explaining::explain_files;
 pub use peg_explain::ItemStyle;
+pub use printing::Printing;
 pub use query::{NameEnd, Query};
-pub use report::{Report, Verdict};

@@ -26,13 +26,13 @@ impl NameEnd {
         }
     }
 
-    // The character that ends a name.
-    pub(crate) fn character(self) -> char
+    // The byte that ends a name.
+    pub(crate) fn byte(self) -> u8
         ensures { result ≡ end_byte self }
     {
         match self {
-            NameEnd::LineEnd => '\n',
-            NameEnd::ZeroByte => '\0',
+            NameEnd::LineEnd => b'\n',
+            NameEnd::ZeroByte => 0,
         }
     }
 }

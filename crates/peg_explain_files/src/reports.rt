@@ -5,7 +5,7 @@ ghost use Rattle.peg_messages.specs.FileNames.{shown_name};
 ghost use Rattle.peg_parser.specs.Parser.{start_named};
 ghost use Rattle.peg_semantics.specs.Rules.{Rule};
 ghost use Rattle.peg_semantics.specs.Starts.{start_name};
-ghost use Rattle.peg_explain_files.specs.TextReports.{IsReport, IsReportOf};
+ghost use Rattle.peg_explain_files.specs.TextReports.{IsReport, IsReportOf, IsReportOfName};
 
 use crate::content::{Content, content_of};
 use peg_explain::Explainer;
@@ -26,7 +26,7 @@ pub(crate) enum TextReport {
     TooLong,
     /// The parse takes more steps than its limit.
     TooManySteps,
-    /// The list of names isn't UTF-8.
+    /// The name isn't UTF-8, so no file can be opened by it.
     NotUtf8,
     /// The file can't be opened.
     Unopened,
@@ -34,8 +34,27 @@ pub(crate) enum TextReport {
     Unreadable,
 }
 
-/// Returns what is reported of the text with this name. The only error is a failed allocation.
-pub(crate) fn report_of<O: Opener>(
+/// Returns what is reported of the text with this name, which may be any bytes. The only error is a failed allocation.
+pub(crate) fn report_of_name<O: Opener>(
+    alloc: Global,
+    files: &O,
+    explainer: &Explainer<'_>,
+    name: &[u8],
+    options: &ParseOptions<'_>,
+) -> Result<TextReport, AllocError>
+    ensures { (file : List ℕ) (rules : List Rule) → IsExplainerOf file rules explainer.now
+        → (from : List ℕ) → start_name rules (start_named options.now) ≡ Some from → IfOk result
+        (IsReportOfName (IsReport file rules explainer.now.style (start_named options.now) options.now.memo
+        options.now.steps (shown_name name.now)) (O.file_at files.now) name.now) }
+{
+    match str::from_utf8(name) {
+        Ok(name) => report_of(alloc, files, explainer, name, options),
+        Err(_) => Ok(TextReport::NotUtf8),
+    }
+}
+
+// Returns what is reported of the text with this name. The only error is a failed allocation.
+fn report_of<O: Opener>(
     alloc: Global,
     files: &O,
     explainer: &Explainer<'_>,

@@ -1,0 +1,66 @@
+use Rattle.std.proofs.Common.{◌∙◌, ◌≤◌, ℕ, List, arith, length, refl, subst, sym}
+use Rattle.peg_bytes.specs.Place.{max_offset}
+use Rattle.peg_parser.specs.Accepts.{Accepts}
+use Rattle.peg_parser.specs.Faults.{HasCause, HasDefinitionsOf}
+use Rattle.peg_parser.specs.Parser.{parser_rules}
+use Rattle.peg_parser.specs.Refusals.{IsRefusalOf}
+use Rattle.peg_explain_files.specs.Contents.{HoldsAtMost}
+use Rattle.peg_explain_files.specs.Explained.{IsAnswer}
+use Rattle.peg_explain_files.specs.Questions.{question_of}
+use Rattle.peg_explain_files.specs.declared.content.Content.{Content}
+use Rattle.peg_explain_files.proofs.ContentLemmas.{answer-explained, refused-explained, unopened-explained, unreadable-explained}
+use Rattle.peg_explain_files.proofs.explaining.explain_files.Goals as goal
+
+pub returns-in-Unopened-clause-explained : goal.returns-in-Unopened-clause-explained
+returns-in-Unopened-clause-explained g c =
+    unopened-explained (question_of c.args.query.now) c.args.printing (g.O.Opener.file_at c.args.files.now)
+    (g.I.Source.left c.args.input.now) c.in_ok-file.field-0 c.in_ok-file.ensures.content
+    (g.W.Sink.written c.args.output.now) c.unread_grammar.result c.in-Unopened.is c.unread_grammar.ensures.unread
+    c.unread_grammar.ensures.memory
+
+pub returns-in-Unreadable-clause-explained : goal.returns-in-Unreadable-clause-explained
+returns-in-Unreadable-clause-explained g c =
+    unreadable-explained (question_of c.args.query.now) c.args.printing (g.O.Opener.file_at c.args.files.now)
+    (g.I.Source.left c.args.input.now) c.in_ok-file.field-0 c.in_ok-file.ensures.content
+    (g.W.Sink.written c.args.output.now) c.unread_grammar-in-Unreadable.result c.in-Unreadable.is
+    c.unread_grammar-in-Unreadable.ensures.unread c.unread_grammar-in-Unreadable.ensures.memory
+
+pub returns-in-Ok-clause-explained : goal.returns-in-Ok-clause-explained
+returns-in-Ok-clause-explained g c =
+    let question = question_of c.args.query.now in
+    let files = g.O.Opener.file_at c.args.files.now in
+    let input = g.I.Source.left c.args.input.now in
+    let old = g.W.Sink.written c.args.output.now in
+    let new = g.W.Sink.written c.explain_by_parser.new.output in
+    let accepts = subst (λ (l : List ℕ). Accepts l (parser_rules c.in-Ok.parser))
+    (c.deref.ensures.value ∙ sym c.deref-in-Ok.ensures.value) c.in-Ok.ensures.accepted in
+    answer-explained question c.args.printing files input c.in_ok-file.field-0 c.in_ok-file.ensures.content old new
+    c.explain_by_parser.result c.in-Bytes.file c.in-Bytes.is
+    (subst (λ (l : List ℕ). IsAnswer question c.args.printing files input l old new c.explain_by_parser.result)
+    c.deref-in-Ok.ensures.value (c.explain_by_parser.ensures.answer accepts))
+
+pub write_refusal-requires-clause-short : goal.write_refusal-requires-clause-short
+write_refusal-requires-clause-short g c =
+    let held : length c.in-Bytes.file.items ≤ 1048577 =
+    subst (λ (k : Content). HoldsAtMost 1048577 k) c.in-Bytes.is c.in_ok-file.ensures.held in
+    subst (λ (l : List ℕ). length l ≤ max_offset) (sym c.deref-in-Err.ensures.value) (omega arith)
+
+pub write_refusal-requires-clause-refused : goal.write_refusal-requires-clause-refused
+write_refusal-requires-clause-refused g c =
+    subst (λ (l : List ℕ). HasCause (IsRefusalOf l) (length l) c.in-Err.refusal)
+    (c.deref.ensures.value ∙ sym c.deref-in-Err.ensures.value) c.in-Err.ensures.refused
+
+pub returns : goal.returns
+returns g c =
+    let same = c.deref.ensures.value ∙ sym c.deref-in-Err.ensures.value in
+    record {
+      explained = refused-explained (question_of c.args.query.now) c.args.printing (g.O.Opener.file_at c.args.files.now)
+          (g.I.Source.left c.args.input.now) c.in_ok-file.field-0 c.in_ok-file.ensures.content
+          (g.W.Sink.written c.args.output.now) (g.W.Sink.written c.write_refusal.new.output) c.write_refusal.result
+          c.in-Bytes.file c.deref-in-Err.result.now c.in-Err.refusal c.in-Bytes.is c.deref-in-Err.ensures.value
+          (subst (λ (l : List ℕ). HasCause (IsRefusalOf l) (length l) c.in-Err.refusal) same c.in-Err.ensures.refused)
+          (subst (λ (l : List ℕ). HasDefinitionsOf l c.in-Err.refusal) same c.in-Err.ensures.definitions)
+          c.write_refusal.ensures.writes;
+      failed = c.write_refusal.ensures.failed;
+      unread = λ other. refl;
+    }
