@@ -1,57 +1,140 @@
 -- The lines of what texts use.
-use Rattle.std.proofs.Common.{◌≡◌, ◌≢◌, ◌∙◌, ℕ, All, Any, Bool, [], List, None, Option, Some, IfOk, IfSome, Result, Ok, Err, ap, length, map}
-use Rattle.std.proofs.Common.{◌<◌, arith, false, not, subst, sym, true}
+use Rattle.std.proofs.Common.{◌≡◌, ◌≢◌, ◌∙◌, ℕ, All, Any, Bool, [], List, None, Option, Some, IfErr, IfOk, IfSome, Result, Ok, Err, ap, length, map}
+use Rattle.std.proofs.Common.{◌+◌, ◌<◌, ◌≤◌, ◌++◌, ◌∷◌, append-nil, arith, false, get_or, inl, inr, length-append, not, refl, string_bytes}
+use Rattle.std.proofs.Common.{subst, suc, sym, take, true}
+use Rattle.std.proofs.Math.ListN.{get_or-append}
+use Rattle.std.proofs.Math.Seq.{get_or-append_seam}
+use Rattle.std.proofs.lemmas.Grind.{flat_map-append}
+use Rattle.std.proofs.lemmas.List.{take_more}
+use Rattle.std.proofs.lemmas.List.Concat.{flat_map-cons}
+use Rattle.std.specs.List.{flat_map}
+use Rattle.std.specs.Prelude.{Contains}
+use Rattle.std.specs.declared.io.ErrorKind.{ErrorKind}
 use Rattle.std.proofs.lemmas.List.Elements.{All-filter}
 use Rattle.std.proofs.lemmas.List.FromFn.{get_or-range_with_len, length-range_with_len}
+use Rattle.std.specs.Io.KnownBytes.{Consumes, IsAtEnd, Keeps}
 use Rattle.std.specs.List.{range_with_len}
 use Rattle.std.proofs.lemmas.List.{get_or-map, length-map}
 use Rattle.peg_bytes.specs.Extent.{extent}
+use Rattle.peg_coverage.specs.Covered.{settings_of}
 use Rattle.peg_coverage.specs.CoverageFaults.{IsCoverageRefusal}
-use Rattle.peg_coverage.specs.Unused.{IsCoverageOf, unused_alternatives, unused_rules}
+use Rattle.peg_coverage.specs.Unused.{IsCoverageOf, unused_rules}
 use Rattle.peg_coverage.specs.declared.coverage.Coverage.{Coverage}
 use Rattle.peg_coverage.specs.declared.fault.CoverageFault.{CoverageFault}
 use Rattle.peg_coverage.specs.declared.fault.CoverageFault.TheVariants as coverage
-use Rattle.peg_coverage_files.specs.CoveringFaults.{StaysWithin}
-use Rattle.peg_coverage_files.specs.NamedTexts.{texts_in}
+use Rattle.peg_coverage_files.specs.NamedTexts.{files_named, texts_in}
+use Rattle.peg_coverage_files.proofs.CoveringLemmas.{stopped-below}
+use Rattle.peg_diagnostics.specs.Marked.{marked_rules}
+use Rattle.std.specs.declared.alloc.Global.{Global}
+use Rattle.std.specs.declared.string.String.{String}
 use Rattle.peg_io.specs.NamedFile.{NamedFile, Missing, bytes_of, is_readable}
-use Rattle.peg_io.specs.declared.transfer.ReadFault.{ReadFault}
 use Rattle.peg_json.specs.CoverageText.{reference_at}
-use Rattle.peg_json.specs.Lines.{IsLineOf, IsReply, line_bytes}
-use Rattle.peg_json.specs.Reply.{Reply, Covered, NoCoverage}
+use Rattle.peg_json.specs.Lines.{IsReply, line_bytes}
+use Rattle.peg_json.specs.Reply.{Reply, Covered, NoCoverage, Refused, printed_line, status_of}
 use Rattle.peg_json.specs.Statuses.{status_code}
 use Rattle.peg_json.specs.declared.line.Line.{Line}
+use Rattle.peg_metagrammar.specs.Notation.{max_file_bytes}
+use Rattle.peg_parser.specs.Cause.{Cause, FileTooLong}
+use Rattle.peg_parser.specs.Faults.{HasCause, cause_of, of_cause, out_of_memory}
+use Rattle.peg_parser.specs.Parser.{start_named}
+use Rattle.peg_parser.specs.Refusals.{IsRefusalOf, file_too_long}
+use Rattle.peg_parser.specs.declared.options.ParseOptions.{ParseOptions}
+use Rattle.peg_parser.specs.declared.refusal.Refusal.{Refusal}
 use Rattle.peg_semantics.specs.Rules.{Rule}
 use Rattle.peg_semantics.specs.Starts.{start_name}
 use Rattle.peg_tree.specs.Selected.{has_rule}
+use Rattle.peg_messages.specs.FileNames.{shown_name}
+use Rattle.peg_tool.specs.CoverageOutcome.{IsPrintedOf, WritesCoverage, error_lines, stopped_line, stopped_lines}
+use Rattle.peg_tool.specs.Faults.{IsFaultAmong, IsFaultAt, standard_output}
 use Rattle.peg_tool.specs.CoverageReplies.{CoversTo, has_coverage, marked_over_limit}
+use Rattle.peg_tool.specs.CoverageWritten.{IsCoverFault, IsReplyOfKind, WritesCoverageReply}
+use Rattle.peg_tool.specs.Replies.{RepliesTo, refused_grammar}
+use Rattle.peg_tool.specs.Task.{ToolTask, Checks}
+use Rattle.peg_tool.specs.declared.covering.CoverFault.{CoverFault}
+use Rattle.peg_tool.specs.declared.covering.CoverFault.TheVariants as cover
+use Rattle.peg_tool.specs.declared.covering.CoverageReply.{CoverageReply}
+use Rattle.peg_tool.specs.declared.explaining.Explanation.{Explanation}
+use Rattle.peg_tool.specs.declared.fault.RequestFault.{RequestFault}
+use Rattle.peg_tool.specs.declared.fault.RequestFault.TheVariants as failed
+use Rattle.peg_tool.specs.declared.program.ProgramFault.{ProgramFault}
+use Rattle.peg_tool.specs.declared.program.ProgramFault.TheVariants.{File, Memory}
+use Rattle.peg_tool.proofs.JudgeLemmas.{refuses-replies}
+use Rattle.peg_tool.proofs.RunLemmas.{over-reply, right-held}
 
--- the line of one kind of reply is one of another kind that includes it
-pub read-weaker : (result : Result Line ReadFault) (file : List ℕ) (Kind More : Reply → Type 0)
-    → ((reply : Reply) → Kind reply → More reply)
-    → IfOk result (λ line. IsLineOf file Kind (line_bytes line) (status_code line.status))
-    → IfOk result (λ line. IsLineOf file More (line_bytes line) (status_code line.status))
-read-weaker (Ok line) file Kind More more is = (is.0, more is.0 is.1, is.2, is.3)
-read-weaker (Err why) file Kind More more is = tt
+-- ---- replies
 
--- the line of a reply is a line of its kind
-pub reply-line : (line : Line) (file : List ℕ) (Kind : Reply → Type 0) (reply : Reply)
-    → IsReply file reply (line_bytes line) (status_code line.status) → Kind reply
-    → IsLineOf file Kind (line_bytes line) (status_code line.status)
-reply-line line file Kind reply is kind = (reply, kind, is.0, is.1)
+-- what is printed of a reply of one kind is printed of one of another kind that includes it
+pub kind-weaker : {E : Type 0} (result : Result CoverageReply E) (names : List (List ℕ)) (file : List ℕ)
+    (Kind More : Reply → Type 0) → ((reply : Reply) → Kind reply → More reply)
+    → IfOk result (IsReplyOfKind Kind names file) → IfOk result (IsReplyOfKind More names file)
+kind-weaker (Ok reply) names file Kind More more is = (is.0, (more is.0 is.1.0, is.1.1), is.2, is.3)
+kind-weaker (Err why) names file Kind More more is = tt
+
+-- a line alone is printed of its reply, if the reply has no lines for standard error
+pub line-alone : (printed : CoverageReply) (line : Line) (names : List (List ℕ)) (file : List ℕ) (Kind : Reply → Type 0)
+    (reply : Reply) → printed.line ≡ line → string_bytes printed.faults ≡ []
+    → IsReply file reply (line_bytes line) (status_code line.status) → error_lines names reply ≡ [] → Kind reply
+    → IsReplyOfKind Kind names file printed
+line-alone printed line names file Kind reply same none is alone kind = (
+  reply,
+  (kind, none ∙ sym alone),
+  ap line_bytes same ∙ is.0,
+  ap (λ (l : Line). status_code l.status) same ∙ is.1,
+)
+
+-- the line of a refused file, for each task that needs it accepted
+pub refused-alone : (file text : List ℕ) (size : ℕ) (task : ToolTask) (why : Refusal) (printed : CoverageReply) (line : Line)
+    (names : List (List ℕ)) → Checks task → HasCause (IsRefusalOf file) size why → printed.line ≡ line
+    → string_bytes printed.faults ≡ []
+    → (cause : Cause) × (cause_of why ≡ Some cause)
+    × IsReply file (Refused cause) (line_bytes line) (status_code line.status)
+    → IsReplyOfKind (RepliesTo file text task) names file printed
+refused-alone file text size task why printed line names checks (out_of_memory is) same none known =
+    absurd (let bad : None ≡ Some known.0 = sym (ap cause_of is) ∙ known.1 in cc)
+refused-alone file text size task why printed line names checks (of_cause cause cause_is holds starts named) same none known =
+    let both : Some cause ≡ Some known.0 = sym cause_is ∙ known.1 in
+    let found : known.0 ≡ cause = cc in
+    let is = subst (λ (c : Cause). IsReply file (Refused c) (line_bytes line) (status_code line.status)) found known.2 in
+    line-alone printed line names file (RepliesTo file text task) (Refused cause) same none is refl
+    (refuses-replies file text task checks cause holds)
+
+-- the reply for a grammar without a parser of coverage
+pub no-coverage-replies : (result : Result CoverageReply CoverFault) (why : CoverageFault) (rules : List Rule)
+    (files : List NamedFile) (start : Option (List ℕ)) (memo : ℕ) (steps : Option ℕ) (names : List (List ℕ)) (file : List ℕ)
+    → IsCoverageRefusal rules why
+    → IfOk result (λ reply. (why ≢ coverage.Memory) × (string_bytes reply.faults ≡ [])
+    × ((bytes : List ℕ) → IsReply bytes NoCoverage (line_bytes reply.line) (status_code reply.line.status)))
+    → IfOk result (IsReplyOfKind (CoversTo rules files start memo steps) names file)
+no-coverage-replies (Ok reply) why rules files start memo steps names file refused is =
+    line-alone reply reply.line names file (CoversTo rules files start memo steps) NoCoverage refl is.1 (is.2 file) refl
+    (marked_over_limit why is.0 refused)
+no-coverage-replies (Err fault) why rules files start memo steps names file refused is = tt
 
 -- the reply for what texts use
-pub coverage-replies : (rules : List Rule) (files : List NamedFile) (start : Option (List ℕ)) (memo : ℕ) (steps : Option ℕ)
-    (from : List ℕ) (coverage : Coverage) → start_name rules start ≡ Some from
-    → All (λ (file : NamedFile). file ≢ Missing) files → IsCoverageOf rules from (texts_in files) coverage
-    → (memo ≡ 0 → All (StaysWithin rules start steps) files)
-    → CoversTo rules files start memo steps
-    (Covered coverage.texts coverage.matched (map (reference_at rules) coverage.unused_rules.items)
+pub coverage-replies : (rules : List Rule) (files : List NamedFile) (options : ParseOptions) (from : List ℕ)
+    (coverage : Coverage) → start_name rules (start_named options) ≡ Some from
+    → All (λ (file : NamedFile). file ≢ Missing) files
+    → IsCoverageOf rules from (settings_of options) (texts_in files) coverage
+    → CoversTo rules files (start_named options) options.memo options.steps
+    (Covered coverage.texts coverage.matched coverage.stopped.items (map (reference_at rules) coverage.unused_rules.items)
     (map extent coverage.unused_alternatives.items))
-coverage-replies rules files start memo steps from coverage is present of within =
+coverage-replies rules files options from coverage is present of =
     let count : coverage.texts ≡ length files = of.count ∙ length-map files bytes_of in
-    subst (CoversTo rules files start memo steps)
-    (λ i. Covered (sym count i) coverage.matched (map (reference_at rules) (sym of.rules_unused i)) (sym of.alternatives_unused i))
-    (has_coverage is present of.covered within)
+    subst (CoversTo rules files (start_named options) options.memo options.steps)
+    (λ i. Covered (sym count i) coverage.matched coverage.stopped.items (map (reference_at rules) (sym of.rules_unused i))
+    (sym of.alternatives_unused i))
+    (has_coverage is present of.covered)
+
+-- what is true of the file of some name is true of some file
+pub any-file : (P : NamedFile → Type 0) (file_at : List ℕ → NamedFile) (names : List (List ℕ))
+    → Any (λ (name : List ℕ). P (file_at name)) names → Any P (map file_at names)
+any-file P file_at names any = (
+  any.0,
+  file_at any.1,
+  omega (arith, any.2, length-map names file_at),
+  get_or-map file_at names any.0 any.1 (file_at any.1) any.2 ∙ ap file_at any.3,
+  any.4,
+)
 
 -- ---- unused rules
 
@@ -64,36 +147,145 @@ unused-below rules set =
     let at = get_or-range_with_len 0 (length rules) k d (omega (arith, within, count)) in
     omega (arith, at, within, count))
 
+-- stopped texts are among the names
+pub stopped-named : (rules : List Rule) (from : List ℕ) (options : ParseOptions) (file_at : List ℕ → NamedFile)
+    (names : List (String Global)) (coverage : Coverage)
+    → IsCoverageOf rules from (settings_of options) (texts_in (files_named file_at names)) coverage
+    → All (λ (number : ℕ). number < length names) coverage.stopped.items
+stopped-named rules from options file_at names coverage of =
+    let texts = texts_in (files_named file_at names) in
+    let count : length texts ≡ length names =
+    length-map (files_named file_at names) bytes_of ∙ length-map (map string_bytes names) file_at
+    ∙ length-map names string_bytes in
+    subst (λ (n : ℕ). All (λ (number : ℕ). number < n) coverage.stopped.items) count
+    (stopped-below (marked_rules rules) from (settings_of options) texts [] of.set coverage.matched coverage.stopped.items
+    of.covered)
+
+-- ---- grammar files
+
+-- what is printed for a prefix over the limit of a grammar file is printed for the whole file
+front-printed : (task : ToolTask) (names : List (List ℕ)) (text front rest line : List ℕ) (status : ℕ) (errors : List ℕ)
+    → max_file_bytes + 1 ≤ length front → IsPrintedOf (RepliesTo front text task) names front line status errors
+    → IsPrintedOf (RepliesTo (front ++ rest) text task) names (front ++ rest) line status errors
+front-printed task names text front rest line status errors long is =
+    let same = over-reply front text task is.0 (omega (arith, long)) is.1.0 in (
+      Refused FileTooLong,
+      (
+        refused_grammar (file_too_long (omega (arith, long, length-append front rest))),
+        is.1.1 ∙ ap (error_lines names) same,
+      ),
+      is.2 ∙ ap (printed_line front) same,
+      is.3 ∙ ap status_of same,
+    )
+
+-- what is printed for the bytes read of a grammar file is printed for the file
+pub reply-held : (result : Result CoverageReply CoverFault) (task : ToolTask) (names : List (List ℕ))
+    (left new : Option (List ℕ)) (held : List ℕ) → Consumes left new held → length held ≤ max_file_bytes + 1
+    → (length held < max_file_bytes + 1 → IsAtEnd new)
+    → ((text : List ℕ) → IfOk result (IsReplyOfKind (RepliesTo held text task) names held))
+    → IfSome left (λ file. (text : List ℕ) → IfOk result (IsReplyOfKind (RepliesTo file text task) names file))
+reply-held (Ok reply) task names left new held consumed within end right =
+    right-held (λ file line status. (text : List ℕ)
+    → IsPrintedOf (RepliesTo file text task) names file line status (string_bytes reply.faults)) (max_file_bytes + 1)
+    (λ front rest line status long is text. front-printed task names text front rest line status (string_bytes reply.faults)
+    long (is text)) left new held (line_bytes reply.line) (status_code reply.line.status) consumed within end right
+reply-held (Err why) task names None new held consumed within end right = tt
+reply-held (Err why) task names (Some file) new held consumed within end right = λ text. tt
+
+-- a fault is true whether or not the grammar file has been read
+pub fault-weaker : {X : Type 0} (result : Result X CoverFault) (failed : Bool) (file_at : List ℕ → NamedFile)
+    (names : List (List ℕ)) → IfErr result (IsCoverFault false file_at names)
+    → IfErr result (IsCoverFault failed file_at names)
+fault-weaker (Ok x) failed file_at names is = tt
+fault-weaker (Err cover.Grammar) failed file_at names is = absurd (let bad : false ≡ true = is in cc)
+fault-weaker (Err (cover.Text name kind)) failed file_at names is = is
+fault-weaker (Err cover.Memory) failed file_at names is = tt
+
 -- ---- requests
 
--- a task on files alone takes any text
-pub any-text : (left : Option (List ℕ)) (P : List ℕ → List ℕ → Type 0)
-    → IfSome left (λ file. (text : List ℕ) → Unit {0} → P file text) → IfSome left (λ file. (text : List ℕ) → P file text)
-any-text None P given = tt
-any-text (Some file) P given = λ text. given text tt
-
-pub each-text : (left : Option (List ℕ)) (P : List ℕ → List ℕ → Type 0)
-    → IfSome left (λ file. (text : List ℕ) → P file text) → IfSome left (λ file. (text : List ℕ) → Unit {0} → P file text)
-each-text None P given = tt
-each-text (Some file) P given = λ text any. given text
-
 -- no text is unreadable where all are readable
-pub none-unreadable : (file_at : List ℕ → NamedFile) (texts : List (List ℕ))
+pub none-unreadable : (file_at : List ℕ → NamedFile) (texts : List (List ℕ)) (unread : List ℕ)
     → All (λ (text : List ℕ). is_readable (file_at text) ≡ true) texts
-    → Any (λ (file : NamedFile). is_readable file ≡ false) (map file_at texts) → ⊥
-none-unreadable file_at texts all any =
-    let within : any.0 < length texts = omega (arith, any.2, length-map texts file_at) in
-    let at = get_or-map file_at texts any.0 [] any.1 within in
-    let readable : is_readable any.1 ≡ true = ap is_readable (sym any.3 ∙ at) ∙ all any.0 [] within in
-    let both : true ≡ false = sym readable ∙ any.4 in
+    → Any (λ (name : List ℕ). (unread ≡ name) × (is_readable (file_at name) ≡ false)) texts → ⊥
+none-unreadable file_at texts unread all any =
+    let at = all any.0 any.1 any.2 in
+    let readable : is_readable (file_at any.1) ≡ true = ap (λ (t : List ℕ). is_readable (file_at t)) (sym any.3) ∙ at in
+    let both : true ≡ false = sym readable ∙ any.4.1 in
     cc
 
--- the line that there is no parser of coverage
-pub no-coverage : (result : Result Line ReadFault) (file : List ℕ) (rules : List Rule) (files : List NamedFile)
-    (start : Option (List ℕ)) (memo : ℕ) (steps : Option ℕ) (why : CoverageFault) → IsCoverageRefusal rules why
-    → IfOk result (λ line. (why ≢ coverage.Memory) × ((f : List ℕ)
-    → IsReply f NoCoverage (line_bytes line) (status_code line.status)))
-    → IfOk result (λ line. IsLineOf file (CoversTo rules files start memo steps) (line_bytes line) (status_code line.status))
-no-coverage (Ok line) file rules files start memo steps why refused is =
-    reply-line line file (CoversTo rules files start memo steps) NoCoverage (is.1 file) (marked_over_limit why is.0 refused)
-no-coverage (Err other) file rules files start memo steps why refused is = tt
+-- what is written of a reply is written for a request
+pub reply-written : (task : ToolTask) (names : List (List ℕ)) (held left old new : Option (List ℕ)) (reply : CoverageReply)
+    (result : Result Explanation ProgramFault) → IfSome held (λ bytes. left ≡ Some bytes)
+    → WritesCoverageReply reply old new result
+    → IfSome left (λ file. (text : List ℕ) → IsReplyOfKind (RepliesTo file text task) names file reply)
+    → IfSome held (λ file. (text : List ℕ)
+    → WritesCoverage (IsPrintedOf (RepliesTo file text task) names file) old new result)
+reply-written task names None left old new reply result opened writes right = tt
+reply-written task names (Some file) left old new reply result opened writes right = λ text.
+    let known = subst (λ (l : Option (List ℕ)). IfSome l (λ f. (t : List ℕ)
+    → IsReplyOfKind (RepliesTo f t task) names f reply)) opened right in
+    by result writes (known text)
+  where
+    by : {text : List ℕ} (r : Result Explanation ProgramFault) → WritesCoverageReply reply old new r
+        → IsReplyOfKind (RepliesTo file text task) names file reply
+        → WritesCoverage (IsPrintedOf (RepliesTo file text task) names file) old new r
+    by (Ok ended) written is = (
+      line_bytes reply.line,
+      (is.0, (is.1.0, written.2 ∙ is.1.1), is.2, written.1 ∙ is.3),
+      written.0,
+    )
+    by (Err Memory) written is = absurd written
+    by (Err File) written is =
+        inr (string_bytes reply.faults, (line_bytes reply.line, status_code reply.line.status, written.0, is, written.1, written.2))
+
+-- a fault that is returned before anything is written
+pub fault-written : (task : ToolTask) (names : List (List ℕ)) (held old new : Option (List ℕ)) (fault : ProgramFault)
+    → Keeps old new → IfSome held (λ file. (text : List ℕ)
+    → WritesCoverage (IsPrintedOf (RepliesTo file text task) names file) old new (Err fault))
+fault-written task names None old new fault keeps = tt
+fault-written task names (Some file) old new Memory keeps = λ text. keeps
+fault-written task names (Some file) old new File keeps = λ text. inl keeps
+
+-- ---- the names of streams
+
+-- the name of an unread text is among the names of a request
+pub text-among : (first last unread : List ℕ) (names : List (List ℕ)) (P : List ℕ → Type 0)
+    → Any (λ (name : List ℕ). (unread ≡ name) × P name) names
+    → Contains (first ∷ map shown_name names ++ last ∷ []) (shown_name unread)
+text-among first last unread names P any =
+    let shown = map shown_name names in
+    let within : any.0 < length shown = omega (arith, any.2, length-map names shown_name) in (
+      suc any.0,
+      omega (arith, within, length-append shown (last ∷ [])),
+      get_or-append shown (last ∷ []) (shown_name unread) any.0 within
+          ∙ (get_or-map shown_name names any.0 any.1 (shown_name unread) any.2 ∙ ap shown_name (any.3 ∙ sym any.4.0)),
+    )
+
+-- so are the first name and the last one
+pub first-among : (first : List ℕ) (rest : List (List ℕ)) → Contains (first ∷ rest) first
+first-among first rest = (0, omega arith, refl)
+
+pub last-among : (first last : List ℕ) (shown : List (List ℕ)) → Contains (first ∷ shown ++ last ∷ []) last
+last-among first last shown =
+    (suc (length shown), omega (arith, length-append shown (last ∷ [])), get_or-append_seam shown last [] last)
+
+-- a fault of the output is among the faults of a request
+pub ended-among : {X : Type 0} (result : Result X RequestFault) (names : List (List ℕ)) (written : Option ErrorKind)
+    → IfErr result (IsFaultAt standard_output written) → Contains names standard_output
+    → IfErr result (IsFaultAmong names)
+ended-among (Ok ended) names written is has = tt
+ended-among (Err failed.Memory) names written is has = tt
+ended-among (Err (failed.Device at kind)) names written is has = subst (Contains names) (sym is.0) has
+
+-- ---- stopped texts
+
+-- one more text is stopped
+pub stopped-more : (names : List (List ℕ)) (stopped : List ℕ) (i : ℕ) → i < length stopped
+    → stopped_lines names (take (i + 1) stopped)
+    ≡ stopped_lines names (take i stopped) ++ stopped_line (get_or names (get_or stopped i 0) [])
+stopped-more names stopped i within =
+    let line : ℕ → List ℕ = λ number. stopped_line (get_or names number []) in
+    ap (stopped_lines names) (take_more stopped i 0 within)
+    ∙ (flat_map-append line (take i stopped) (get_or stopped i 0 ∷ [])
+    ∙ ap (λ (l : List ℕ). flat_map line (take i stopped) ++ l)
+    (flat_map-cons line (get_or stopped i 0) [] ∙ append-nil (line (get_or stopped i 0))))

@@ -1,5 +1,6 @@
 mod CoverageLemmas
 mod EndLemmas
+mod ExitLemmas
 mod JudgeLemmas
 mod LintLemmas
 mod ListedNames

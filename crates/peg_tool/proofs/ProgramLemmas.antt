@@ -1,16 +1,21 @@
 -- The results of commands as results of the program.
 use Rattle.std.proofs.Common.{◌≡◌, ◌↔◌, ℕ, Bool, true, false, inl, inr, List, Option, None, Some, Result, Ok, Err, IfSome}
-use Rattle.std.proofs.Common.{IsSome, refl, rules, subst, sym, ◌∙◌}
+use Rattle.std.proofs.Common.{IfErr, IsSome, refl, rules, subst, sym, ◌∙◌}
+use Rattle.std.specs.Prelude.{Contains}
+use Rattle.std.specs.declared.io.ErrorKind.{ErrorKind}
 use Rattle.peg_io.specs.NamedFile.{NamedFile, Unspecified, Missing, Holds, Readable, bytes_of, is_readable}
 use Rattle.peg_cli.specs.declared.words.Words.{Words}
 use Rattle.peg_cli.specs.declared.words.Words.TheVariants.{Joined, Help, Table, Check, Code, Lint, Profile, Coverage, Explain, Parse}
 use Rattle.peg_tool.specs.CommandOutcome.{WritesOrFails, program_result}
+use Rattle.peg_tool.specs.Faults.{IsFaultAmong, IsFaultAt, plain_result, standard_output}
 use Rattle.peg_tool.specs.Replies.{IsPrinted}
 use Rattle.peg_tool.specs.Requests.{ToolRequest, InputRequest, HelpRequest, FileRequest, FilesRequest, CoverRequest, ExplainRequest, requested}
 use Rattle.peg_tool.specs.Task.{ToolTask, TableTask, CheckTask, CodeTask, LintTask, ProfileTask, CoverTask, ParseTask, HasText, IsTextOf}
 use Rattle.peg_tool.specs.WritesReply.{WritesLine}
 use Rattle.peg_tool.specs.declared.write.CommandFault.{CommandFault}
 use Rattle.peg_tool.specs.declared.write.CommandFault.TheVariants as command
+use Rattle.peg_tool.specs.declared.fault.RequestFault.{RequestFault}
+use Rattle.peg_tool.specs.declared.fault.RequestFault.TheVariants as failed
 use Rattle.peg_tool.specs.declared.program.ProgramFault.{ProgramFault}
 use Rattle.peg_tool.specs.declared.program.ProgramFault.TheVariants.{File, Memory}
 
@@ -88,6 +93,21 @@ both-outcome task (Some file) (Some bytes) text old new result opened outcome =
     outcome bytes (takes_left task file text bytes opened)
 
 -- ---- faults
+
+-- a fault of a request is that of what it reads, or of the output
+pub request-among : (ended : Result ℕ CommandFault) (result : Result ℕ RequestFault) (names : List (List ℕ)) (source : List ℕ)
+    (read written : Option ErrorKind) → plain_result result ≡ program_result ended
+    → (ended ≡ Err command.Read → IfErr result (IsFaultAt source read))
+    → (ended ≡ Err command.Write → IfErr result (IsFaultAt standard_output written))
+    → Contains names source → Contains names standard_output → IfErr result (IsFaultAmong names)
+request-among ended (Ok status) names source read written plain reads writes has out = tt
+request-among ended (Err failed.Memory) names source read written plain reads writes has out = tt
+request-among (Ok status) (Err (failed.Device at kind)) names source read written plain reads writes has out = cc
+request-among (Err command.Memory) (Err (failed.Device at kind)) names source read written plain reads writes has out = cc
+request-among (Err command.Read) (Err (failed.Device at kind)) names source read written plain reads writes has out =
+    subst (Contains names) (sym (reads refl).0) has
+request-among (Err command.Write) (Err (failed.Device at kind)) names source read written plain reads writes has out =
+    subst (Contains names) (sym (writes refl).0) out
 
 -- a file fault comes exactly if a write failed, where no read failed
 pub program-file : (ended : Result ℕ CommandFault) (result : Result ℕ ProgramFault) (Reads Writes : Type 0)

@@ -110,7 +110,7 @@ RepliesTo-longer file text more task reply long longer
 -- ---- files over the limit
 
 -- a file over the limit is rejected as `FileTooLong`
-over-reply : (file text : List ℕ) (task : ToolTask) (reply : Reply) → max_file_bytes < length file
+pub over-reply : (file text : List ℕ) (task : ToolTask) (reply : Reply) → max_file_bytes < length file
     → RepliesTo file text task reply → reply ≡ Refused FileTooLong
 over-reply file text task reply long (refused_grammar is) = by is
   where

@@ -1,14 +1,14 @@
 -- The result of the program for a request.
-use Rattle.std.specs.Prelude.{◌≡◌, ◌⊎◌, ℕ, List, Option, map}
+use Rattle.std.specs.Prelude.{◌≡◌, ◌⊎◌, ℕ, List, Option}
 use Rattle.std.specs.Prelude.{Result, Ok, Err, IfSome}
 use Rattle.std.specs.Io.KnownBytes.{Appends, Keeps}
 use Rattle.peg_io.specs.declared.opener.OpenFault.{OpenFault}
 use Rattle.peg_io.specs.declared.opener.OpenFault.TheVariants as opening
 use Rattle.peg_io.specs.NamedFile.{NamedFile, bytes_of}
+use Rattle.peg_tool.specs.CoverageOutcome.{CoverageOutcome}
 use Rattle.peg_tool.specs.Explanations.{ExplanationOutcome}
 use Rattle.peg_tool.specs.Replies.{IsPrinted, IsPrintedJoined}
 use Rattle.peg_tool.specs.Requests.{ToolRequest, InputRequest, HelpRequest, FileRequest, FilesRequest, CoverRequest, ExplainRequest}
-use Rattle.peg_tool.specs.Task.{CoverTask}
 use Rattle.peg_tool.specs.Written.{PrintsInPart}
 use Rattle.peg_tool.specs.declared.explaining.Explanation.{Explanation}
 use Rattle.peg_tool.specs.declared.write.CommandFault.{CommandFault}
@@ -28,7 +28,7 @@ WritesOrFails IsRight old new (Err File) = Keeps old new ⊎ PrintsInPart IsRigh
 abbrev pub IsHelp : (text : List ℕ) → (line : List ℕ) → (status : ℕ) → Type 0
 IsHelp text line status = (line ≡ text) × (status ≡ 0)
 
--- the result of the program for that of an explanation
+-- the result of the program for that of an explanation or a coverage
 abbrev pub status_result : Result Explanation ProgramFault → Result ℕ ProgramFault
 status_result (Ok explanation) = Ok explanation.status
 status_result (Err fault) = Err fault
@@ -46,8 +46,8 @@ CommandOutcome (FilesRequest task g t) file_at input old new result =
     IfSome (bytes_of (file_at g)) (λ file. IfSome (bytes_of (file_at t)) (λ text.
     WritesOrFails (IsPrinted task file text) old new result))
 CommandOutcome (CoverRequest start memo steps g texts) file_at input old new result =
-    IfSome (bytes_of (file_at g)) (λ file. (text : List ℕ)
-    → WritesOrFails (IsPrinted (CoverTask (map file_at texts) start memo steps) file text) old new result)
+    (ended : Result Explanation ProgramFault) × CoverageOutcome start memo steps g texts file_at old new ended
+    × (result ≡ status_result ended)
 CommandOutcome (ExplainRequest question printing) file_at input old new result =
     (ended : Result Explanation ProgramFault) × ExplanationOutcome question printing file_at input old new ended
     × (result ≡ status_result ended)
@@ -63,5 +63,5 @@ program_result (Err command.Memory) = Err Memory
 
 -- the fault of a file that can't be opened
 abbrev pub open_fault : OpenFault → ProgramFault
-open_fault opening.File = File
+open_fault (opening.File kind) = File
 open_fault opening.Memory = Memory

@@ -1,38 +1,107 @@
 -- How the program exits.
-use Rattle.std.specs.Prelude.{◌≡◌, ◌≢◌, ℕ, List, [], ◌∷◌, ◌++◌, codes, Option, Result, Ok, Err, string_bytes}
+use Rattle.std.specs.Prelude.{◌≡◌, ◌≢◌, ℕ, true, Contains, List, [], ◌∷◌, ◌++◌, codes, Option, Some, Result, Ok, Err}
+use Rattle.std.specs.Prelude.{string_bytes}
 use Rattle.std.specs.IoError.{error_kind}
 use Rattle.std.specs.declared.io.Error.{Error}
+use Rattle.std.specs.declared.io.ErrorKind.{ErrorKind}
 use Rattle.std.specs.declared.io.ErrorKind.TheVariants.{OutOfMemory}
-use Rattle.peg_io.specs.NamedFile.{NamedFile}
+use Rattle.peg_io.specs.NamedFile.{NamedFile, Missing, is_readable}
+use Rattle.peg_messages.specs.FileNames.{shown_name}
 use Rattle.peg_cli.specs.declared.words.WordsFault.{WordsFault}
 use Rattle.peg_cli.specs.declared.words.WordsFault.TheVariants as words
 use Rattle.peg_tool.specs.CommandOutcome.{CommandOutcome}
+use Rattle.peg_tool.specs.CoverageOutcome.{CoverageOutcome}
 use Rattle.peg_tool.specs.Explanations.{ExplanationOutcome}
-use Rattle.peg_tool.specs.Requests.{ToolRequest, ExplainRequest}
+use Rattle.peg_tool.specs.Faults.{IsKind, device_message, standard_input, stream_name}
+use Rattle.peg_tool.specs.Requests.{ToolRequest, InputRequest, HelpRequest, FileRequest, FilesRequest, CoverRequest, ExplainRequest}
 use Rattle.peg_tool.specs.declared.exit.Exit.{Exit}
-use Rattle.peg_tool.specs.declared.exit.Exit.TheVariants.{Done, Reported, Usage, Fault}
+use Rattle.peg_tool.specs.declared.exit.Exit.TheVariants.{Done, Reported, Usage, Device, Fault}
 use Rattle.peg_tool.specs.declared.explaining.Explanation.{Explanation}
+use Rattle.peg_tool.specs.declared.fault.RequestFault.{RequestFault}
+use Rattle.peg_tool.specs.declared.fault.RequestFault.TheVariants as failed
 use Rattle.peg_tool.specs.declared.program.ProgramFault.{ProgramFault}
 use Rattle.peg_tool.specs.declared.program.ProgramFault.TheVariants.{File, Memory}
 
--- the exit of a run for valid arguments
-abbrev pub exit_of : Result ℕ ProgramFault → Exit
-exit_of (Ok status) = Done status
-exit_of (Err fault) = Fault fault
+-- The exit for a device that failed, by its name in messages and the kind of its error, where that is known. Without
+-- memory for the second line it has one line.
+abbrev pub IsDeviceExit : (name : List ℕ) → (known : Option ErrorKind) → Exit → Type 0
+IsDeviceExit name known (Device text) =
+    (kind : ErrorKind) × IsKind known kind × (string_bytes text ≡ device_message name kind)
+IsDeviceExit name known (Fault File) = Unit {0}
+IsDeviceExit name known other = ⊥
 
--- the exit of an explanation
-abbrev pub explanation_exit : Result Explanation ProgramFault → Exit
-explanation_exit (Ok explanation) = Reported explanation.status explanation.faults
-explanation_exit (Err fault) = Fault fault
+-- the exit for a fault of a device, of whichever one
+abbrev pub IsFileExit : Exit → Type 0
+IsFileExit (Device text) = Unit {0}
+IsFileExit (Fault File) = Unit {0}
+IsFileExit other = ⊥
+
+-- the exit for a fault
+abbrev pub IsFaultExit : Exit → Type 0
+IsFaultExit (Device text) = Unit {0}
+IsFaultExit (Fault fault) = Unit {0}
+IsFaultExit other = ⊥
+
+-- the exit for an exit status, and that of an explanation or a coverage
+abbrev pub done_exit : ℕ → Exit
+done_exit status = Done status
+
+abbrev pub reported_exit : Explanation → Exit
+reported_exit explanation = Reported explanation.status explanation.faults
+
+-- the exit for a result, given the exit without a fault
+abbrev pub IsExitFor : {X : Type 0} → (done : X → Exit) → Result X ProgramFault → Exit → Type 0
+IsExitFor done (Ok x) exit = exit ≡ done x
+IsExitFor done (Err File) exit = IsFileExit exit
+IsExitFor done (Err Memory) exit = exit ≡ Fault Memory
 
 -- the exit for a request, over files by name and an input
 abbrev pub IsExitOf : ToolRequest → (file_at : List ℕ → NamedFile) → (input : Option (List ℕ))
     → (old new : Option (List ℕ)) → Exit → Type 0
 IsExitOf (ExplainRequest question printing) file_at input old new exit =
     (ended : Result Explanation ProgramFault) × ExplanationOutcome question printing file_at input old new ended
-    × (exit ≡ explanation_exit ended)
+    × IsExitFor reported_exit ended exit
+IsExitOf (CoverRequest start memo steps g texts) file_at input old new exit =
+    (ended : Result Explanation ProgramFault) × CoverageOutcome start memo steps g texts file_at old new ended
+    × IsExitFor reported_exit ended exit
 IsExitOf request file_at input old new exit =
-    (ended : Result ℕ ProgramFault) × (exit ≡ exit_of ended) × CommandOutcome request file_at input old new ended
+    (ended : Result ℕ ProgramFault) × IsExitFor done_exit ended exit × CommandOutcome request file_at input old new ended
+
+-- a second line is that of the stream with this name
+abbrev pub IsExitNaming : (name : List ℕ) → Exit → Type 0
+IsExitNaming name (Device text) = (kind : ErrorKind) × (string_bytes text ≡ device_message name kind)
+IsExitNaming name other = Unit {0}
+
+-- Which stream a second line names if the output has not failed: a grammar file that is missing; the text if the grammar
+-- file is readable, and the grammar file if the text is. An explanation has no such line.
+abbrev pub IsExitOfCause : ToolRequest → (file_at : List ℕ → NamedFile) → Exit → Type 0
+IsExitOfCause InputRequest file_at exit = IsExitNaming standard_input exit
+IsExitOfCause (HelpRequest text) file_at exit = Unit {0}
+IsExitOfCause (FileRequest task g) file_at exit = IsExitNaming (shown_name g) exit
+IsExitOfCause (FilesRequest task g t) file_at exit = (file_at g ≡ Missing → IsExitNaming (shown_name g) exit)
+    × (is_readable (file_at g) ≡ true → IsExitNaming (shown_name t) exit)
+    × (is_readable (file_at t) ≡ true → IsExitNaming (shown_name g) exit)
+IsExitOfCause (CoverRequest start memo steps g texts) file_at exit =
+    file_at g ≡ Missing → IsExitNaming (shown_name g) exit
+IsExitOfCause (ExplainRequest question printing) file_at exit = Unit {0}
+
+-- an exit with a second line names one of these files or streams
+abbrev pub IsExitAmong : (names : List (List ℕ)) → Exit → Type 0
+IsExitAmong names (Device text) = (name : List ℕ) × (kind : ErrorKind) × Contains names name
+    × (string_bytes text ≡ device_message name kind)
+IsExitAmong names other = Unit {0}
+
+-- ---- exits of the code's faults
+
+-- the exit for a fault
+abbrev pub IsExitOfFault : RequestFault → Exit → Type 0
+IsExitOfFault (failed.Device at kind) exit = IsDeviceExit (stream_name at) (Some kind) exit
+IsExitOfFault failed.Memory exit = exit ≡ Fault Memory
+
+-- the exit for a result of the code, given the exit without a fault
+abbrev pub IsExitOfResult : {X : Type 0} → (done : X → Exit) → Result X RequestFault → Exit → Type 0
+IsExitOfResult done (Ok x) exit = exit ≡ done x
+IsExitOfResult done (Err why) exit = IsExitOfFault why exit
 
 -- the exit for arguments that are no command line
 abbrev pub words_exit : WordsFault → Exit
@@ -44,14 +113,16 @@ abbrev pub exit_status : Exit → ℕ
 exit_status (Done status) = status
 exit_status (Reported status faults) = status
 exit_status (Usage text) = 3
+exit_status (Device text) = 4
 exit_status (Fault File) = 4
 exit_status (Fault Memory) = 5
 
--- the text on standard error: lines for files, the usage error, or a line for a fault
+-- the text on standard error: lines for files and texts, the usage error, or one or two lines for a fault
 abbrev pub exit_message : Exit → List ℕ
 exit_message (Done status) = []
 exit_message (Reported status faults) = string_bytes faults
 exit_message (Usage text) = string_bytes text
+exit_message (Device text) = string_bytes text
 exit_message (Fault File) = codes "pegtool: file fault" ++ 10 ∷ []
 exit_message (Fault Memory) = codes "pegtool: out of memory" ++ 10 ∷ []
 

@@ -11,8 +11,10 @@ pub use Rattle.peg_coverage.specs.Unused
 pub use Rattle.peg_coverage_files.specs.CoveringFaults
 pub use Rattle.peg_coverage_files.specs.NamedTexts
 pub use Rattle.peg_diagnostics.specs.Marked
+pub use Rattle.peg_explain_files.specs.Entries
 pub use Rattle.peg_explain_files.specs.Explained
 pub use Rattle.peg_explain_files.specs.Names
+pub use Rattle.peg_explain_files.specs.Printings
 pub use Rattle.peg_explain_files.specs.Questions
 pub use Rattle.peg_io.specs.NamedFile
 pub use Rattle.peg_io.specs.Split
@@ -38,9 +40,12 @@ pub mod WritesReply
 pub mod Loaded
 pub mod PrintedNodes
 pub mod CommandOutcome
+pub mod CoverageOutcome
 pub mod CoverageReplies
+pub mod CoverageWritten
 pub mod Exits
 pub mod Explanations
+pub mod Faults
 pub mod Replies
 pub mod Requests
 pub mod Task

@@ -2,15 +2,15 @@
 use Rattle.std.specs.Prelude.{◌≡◌, true, ℕ, All, List, Option, map, option_map, string_bytes}
 use Rattle.peg_explain.specs.Styles.{style_of}
 use Rattle.peg_explain_files.specs.Names.{IsInput, name_end}
+use Rattle.peg_explain_files.specs.Printings.{printing_of}
 use Rattle.peg_explain_files.specs.Questions.{Question}
+use Rattle.peg_explain_files.specs.declared.printing.Printing.{Printing}
 use Rattle.peg_io.specs.NamedFile.{NamedFile, Missing, is_readable}
 use Rattle.peg_cli.specs.declared.words.Words.{Words}
 use Rattle.peg_cli.specs.declared.words.Words.TheVariants.{Joined, Help, Table, Check, Code, Lint, Profile, Coverage, Explain, Parse}
 use Rattle.peg_lint.specs.FileWarnings.{selection_of}
 use Rattle.peg_json.specs.TreeForms.{form_from_options}
-use Rattle.peg_tool.specs.Explanations.{printing_of}
 use Rattle.peg_tool.specs.PrintedNodes.{nodes_from_options}
-use Rattle.peg_tool.specs.declared.explaining.Printing.{Printing}
 use Rattle.peg_tool.specs.Task.{ToolTask, TableTask, CheckTask, CodeTask, LintTask, ProfileTask, ParseTask}
 
 -- A request: the default task on a grammar file and a text from one input, a help text, a task on the grammar file with

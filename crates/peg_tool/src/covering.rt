@@ -1,88 +1,151 @@
-//! The line of what texts use of a grammar.
-ghost use Rattle.std.specs.Prelude.{◌≡◌, ◌≢◌, ◌⊎◌, ◌≤◌, ℕ, Any, List, IfOk, IfSome, IsErrOf, false, length, true};
+//! What texts use of a grammar: the line, and the lines for standard error.
+ghost use Rattle.std.specs.Prelude.{◌≡◌, ◌≢◌, ◌↔◌, ◌<◌, ◌≤◌, ◌++◌, ℕ, All, List, [], IfErr, IfOk, IfSome, IsErrOf, false, length};
+ghost use Rattle.std.specs.Prelude.{OnOk, codes, map, string_bytes, true};
+ghost use Rattle.peg_bytes.specs.Extent.{extent};
 ghost use Rattle.peg_bytes.specs.Place.{max_offset};
 ghost use Rattle.peg_coverage.specs.CoverageParser.{IsCoverageParserOf};
 ghost use Rattle.peg_coverage_files.specs.NamedTexts.{files_named};
 ghost use Rattle.peg_grammar.specs.GrammarRules.{rules_in};
-ghost use Rattle.peg_io.specs.NamedFile.{NamedFile, is_readable};
-ghost use Rattle.peg_json.specs.Lines.{IsLineOf, IsReply, line_bytes};
-ghost use Rattle.peg_json.specs.Reply.{NoCoverage};
+ghost use Rattle.peg_json.specs.CoverageText.{reference_at};
+ghost use Rattle.peg_json.specs.Lines.{IsReply, line_bytes};
+ghost use Rattle.peg_json.specs.Reply.{Covered, NoCoverage};
 ghost use Rattle.peg_json.specs.Statuses.{status_code};
 ghost use Rattle.peg_parser.specs.Parser.{start_named};
+ghost use Rattle.peg_tool.specs.CoverageOutcome.{stopped_line, stopped_lines};
 ghost use Rattle.peg_tool.specs.CoverageReplies.{CoversTo};
-ghost use Rattle.peg_tool.specs.Replies.{IsPrinted};
+ghost use Rattle.peg_tool.specs.CoverageWritten.{IsCoverFault, IsReplyOfKind, WritesCoverageReply};
+ghost use Rattle.peg_tool.specs.Replies.{RepliesTo};
 ghost use Rattle.peg_tool.specs.Task.{CoverTask};
 
-use crate::loading::{Loaded, load};
-use peg_coverage::{CoverageFault, CoverageParser};
+use crate::explaining::Explanation;
+use crate::program::ProgramFault;
+use crate::write::write_reply;
+use peg_coverage::{Coverage, CoverageFault, CoverageParser};
 use peg_coverage_files::{CoveringFault, cover_files};
 use peg_grammar::Grammar;
-use peg_io::{Opener, ReadFault, Source, read_up_to};
+use peg_io::{Opener, ReadFault, Sink, Source, read_up_to};
 use peg_json::{
-    Line, coverage_line, long_text_line, no_coverage_line, no_start_line, step_limit_line,
+    Line, coverage_line, long_text_line, no_coverage_line, no_start_line, refused_line,
 };
+use peg_messages::shown_name;
 use peg_notation::MAX_FILE_BYTES;
-use peg_parser::ParseOptions;
-use std::alloc::Global;
+use peg_parser::{ParseOptions, Parser, Refusal};
+use std::alloc::{AllocError, Global};
+use std::io::ErrorKind;
 
-/// Reads a grammar file and returns the line of what the texts with these names use of it, or the line that reports why
-/// there is none. The texts are opened one after the other, if the file is accepted.
-pub(crate) fn coverage_reply<O: Opener, G: Source>(
+/// What is printed of what texts use.
+#[derive(Drop)]
+pub(crate) struct CoverageReply {
+    /// The line for the output.
+    pub(crate) line: Line,
+    /// A line for each stopped text, for standard error.
+    pub(crate) faults: String,
+}
+
+/// Why it isn't known what texts use.
+#[derive(Clone, Copy)]
+pub(crate) enum CoverFault<'a> {
+    /// The grammar file can't be read.
+    Grammar,
+    /// The text with this name can't be opened or read. `kind` is the kind of the system's error.
+    Text { name: &'a str, kind: ErrorKind },
+    /// An allocation failed.
+    Memory,
+}
+
+impl<'a> From<AllocError> for CoverFault<'a> {
+    ghost use Rattle.std.specs.Prelude.{◌≡◌};
+    ghost use Rattle.peg_tool.specs.declared.covering.CoverFault.TheVariants.{Memory};
+
+    ghost from_gives = { λ _ fault. fault ≡ Memory };
+
+    fn from(_error: AllocError) -> CoverFault<'a> {
+        CoverFault::Memory
+    }
+}
+
+impl<'a> From<ReadFault> for CoverFault<'a> {
+    ghost use Rattle.std.specs.Prelude.{◌≡◌};
+    ghost use Rattle.peg_tool.specs.CoverageWritten.{of_read};
+
+    ghost from_gives = { λ why fault. fault ≡ of_read why };
+
+    fn from(why: ReadFault) -> CoverFault<'a> {
+        match why {
+            ReadFault::Device => CoverFault::Grammar,
+            ReadFault::Memory => CoverFault::Memory,
+        }
+    }
+}
+
+/// Reads a grammar file and returns what is printed of what the texts with these names use of it, or the line that
+/// reports why there is nothing. The texts are opened one after the other, if the file is accepted.
+pub(crate) fn coverage_reply<'a, O: Opener, G: Source>(
     alloc: Global,
     files: &O,
     grammar: &mut G,
-    names: &[String],
+    names: &'a [String],
     options: &ParseOptions<'_>,
-) -> Result<Line, ReadFault>
+) -> Result<CoverageReply, CoverFault<'a>>
     requires { G.failed grammar.old ≡ false }
-    ensures answer { IfSome (G.left grammar.old) (λ file. (text : List ℕ) → IfOk result (λ line. IsPrinted
-        (CoverTask (files_named (O.file_at files.now) names.now) (start_named options.now) options.now.memo
-        options.now.steps) file text (line_bytes line) (status_code line.status))) }
-    ensures device { IsErrOf result ReadFault.Device → (G.failed grammar.new ≡ true)
-        ⊎ Any (λ (file : NamedFile). is_readable file ≡ false) (files_named (O.file_at files.now) names.now) }
+    ensures answer { IfSome (G.left grammar.old) (λ file. (text : List ℕ) → IfOk result (IsReplyOfKind
+        (RepliesTo file text (CoverTask (files_named (O.file_at files.now) names.now) (start_named options.now)
+        options.now.memo options.now.steps)) (map string_bytes names.now) file)) }
+    ensures fault { IfErr result (IsCoverFault (G.failed grammar.new) (O.file_at files.now) (map string_bytes names.now)) }
     ensures never { G.never_fails grammar.old ≡ true → G.failed grammar.new ≡ false }
 {
     let file = read_up_to(alloc, grammar, MAX_FILE_BYTES + 1)?;
     cover_by_file(alloc, files, &file, names, options)
 }
 
-// The line of what texts use of a grammar file, or the line that reports why there is none.
-fn cover_by_file<O: Opener>(
+// What is printed of what texts use of a grammar file, or the line that reports why there is nothing.
+fn cover_by_file<'a, O: Opener>(
     alloc: Global,
     files: &O,
     file: &[u8],
-    names: &[String],
+    names: &'a [String],
     options: &ParseOptions<'_>,
-) -> Result<Line, ReadFault>
+) -> Result<CoverageReply, CoverFault<'a>>
     requires { length file.now ≤ max_offset }
-    ensures answer { (text : List ℕ) → IfOk result (λ line. IsPrinted
-        (CoverTask (files_named (O.file_at files.now) names.now) (start_named options.now) options.now.memo
-        options.now.steps) file.now text (line_bytes line) (status_code line.status)) }
-    ensures device { IsErrOf result ReadFault.Device
-        → Any (λ (file : NamedFile). is_readable file ≡ false) (files_named (O.file_at files.now) names.now) }
+    ensures answer { (text : List ℕ) → IfOk result (IsReplyOfKind
+        (RepliesTo file.now text (CoverTask (files_named (O.file_at files.now) names.now) (start_named options.now)
+        options.now.memo options.now.steps)) (map string_bytes names.now) file.now) }
+    ensures fault { IfErr result (IsCoverFault false (O.file_at files.now) (map string_bytes names.now)) }
 {
-    match load(alloc, file)? {
-        Loaded::Accepted(parser) => {
-            cover_by_grammar(alloc, files, file, parser.grammar(), names, options)
+    match Parser::from_file(alloc, file) {
+        Ok(parser) => cover_by_grammar(alloc, files, file, parser.grammar(), names, options),
+        Err(Refusal::Memory) => Err(CoverFault::Memory),
+        Err(refusal) => {
+            let line = refused_line(alloc, file, &refusal)?;
+            Ok(line_alone(alloc, line))
         }
-        Loaded::Refused(line) => Ok(line),
     }
 }
 
-// The line of what texts use of a grammar, or the line that reports that its marked grammar is over a limit.
-fn cover_by_grammar<O: Opener>(
+// A line for the output, and nothing for standard error.
+fn line_alone(alloc: Global, line: Line) -> CoverageReply
+    ensures line { result.line ≡ line }
+    ensures faults { string_bytes result.faults ≡ [] }
+{
+    CoverageReply {
+        line,
+        faults: String::new(alloc),
+    }
+}
+
+// What is printed of what texts use of a grammar, or the line that reports that its marked grammar is over a limit.
+fn cover_by_grammar<'a, O: Opener>(
     alloc: Global,
     files: &O,
     file: &[u8],
     grammar: &Grammar,
-    names: &[String],
+    names: &'a [String],
     options: &ParseOptions<'_>,
-) -> Result<Line, ReadFault>
-    ensures answer { IfOk result (λ line. IsLineOf file.now
+) -> Result<CoverageReply, CoverFault<'a>>
+    ensures answer { IfOk result (IsReplyOfKind
         (CoversTo (rules_in grammar.now) (files_named (O.file_at files.now) names.now) (start_named options.now)
-        options.now.memo options.now.steps) (line_bytes line) (status_code line.status)) }
-    ensures device { IsErrOf result ReadFault.Device
-        → Any (λ (file : NamedFile). is_readable file ≡ false) (files_named (O.file_at files.now) names.now) }
+        options.now.memo options.now.steps) (map string_bytes names.now) file.now) }
+    ensures fault { IfErr result (IsCoverFault false (O.file_at files.now) (map string_bytes names.now)) }
 {
     match CoverageParser::new(alloc, grammar) {
         Ok(parser) => cover_by_parser(alloc, files, file, grammar, &parser, names, options),
@@ -91,41 +154,111 @@ fn cover_by_grammar<O: Opener>(
 }
 
 // The line that reports that there is no parser of coverage, unless an allocation failed.
-fn no_coverage(alloc: Global, why: CoverageFault) -> Result<Line, ReadFault>
-    ensures line { IfOk result (λ line. (why ≢ CoverageFault.Memory) × ((file : List ℕ)
-        → IsReply file NoCoverage (line_bytes line) (status_code line.status))) }
-    ensures device { ¬ IsErrOf result ReadFault.Device }
+fn no_coverage<'a>(alloc: Global, why: CoverageFault) -> Result<CoverageReply, CoverFault<'a>>
+    ensures line { IfOk result (λ reply. (why ≢ CoverageFault.Memory) × (string_bytes reply.faults ≡ [])
+        × ((file : List ℕ) → IsReply file NoCoverage (line_bytes reply.line) (status_code reply.line.status))) }
+    ensures fault { IfErr result (λ fault. fault ≡ CoverFault.Memory) }
 {
     match why {
-        CoverageFault::Memory => Err(ReadFault::Memory),
-        _ => Ok(no_coverage_line(alloc)?),
+        CoverageFault::Memory => Err(CoverFault::Memory),
+        _ => {
+            let line = no_coverage_line(alloc)?;
+            Ok(line_alone(alloc, line))
+        }
     }
 }
 
-// The line of what texts use of a grammar that has this parser of coverage.
-fn cover_by_parser<O: Opener>(
+// What is printed of what texts use of a grammar that has this parser of coverage.
+fn cover_by_parser<'a, O: Opener>(
     alloc: Global,
     files: &O,
     file: &[u8],
     grammar: &Grammar,
     parser: &CoverageParser,
-    names: &[String],
+    names: &'a [String],
     options: &ParseOptions<'_>,
-) -> Result<Line, ReadFault>
+) -> Result<CoverageReply, CoverFault<'a>>
     requires { IsCoverageParserOf (rules_in grammar.now) parser.now }
-    ensures answer { IfOk result (λ line. IsLineOf file.now
+    ensures answer { IfOk result (IsReplyOfKind
         (CoversTo (rules_in grammar.now) (files_named (O.file_at files.now) names.now) (start_named options.now)
-        options.now.memo options.now.steps) (line_bytes line) (status_code line.status)) }
-    ensures device { IsErrOf result ReadFault.Device
-        → Any (λ (file : NamedFile). is_readable file ≡ false) (files_named (O.file_at files.now) names.now) }
+        options.now.memo options.now.steps) (map string_bytes names.now) file.now) }
+    ensures fault { IfErr result (IsCoverFault false (O.file_at files.now) (map string_bytes names.now)) }
 {
     match cover_files(alloc, files, parser, names, options) {
-        Ok(coverage) => Ok(coverage_line(alloc, file, grammar, &coverage)?),
+        Ok(coverage) => Ok(covered_reply(alloc, file, grammar, names, &coverage)?),
         // A grammar has a first rule, so a start that is missing was given by name.
-        Err(CoveringFault::NoSuchStart) => Ok(no_start_line(alloc, options.start.unwrap_or(""))?),
-        Err(CoveringFault::TextTooLong) => Ok(long_text_line(alloc)?),
-        Err(CoveringFault::StepLimit) => Ok(step_limit_line(alloc)?),
-        Err(CoveringFault::File) => Err(ReadFault::Device),
-        Err(CoveringFault::Memory) => Err(ReadFault::Memory),
+        Err(CoveringFault::NoSuchStart) => {
+            let line = no_start_line(alloc, options.start.unwrap_or(""))?;
+            Ok(line_alone(alloc, line))
+        }
+        Err(CoveringFault::TextTooLong) => {
+            let line = long_text_line(alloc)?;
+            Ok(line_alone(alloc, line))
+        }
+        Err(CoveringFault::File { name, kind }) => Err(CoverFault::Text { name, kind }),
+        Err(CoveringFault::Memory) => Err(CoverFault::Memory),
+    }
+}
+
+// The line of what texts with these names use, and a line for each stopped text.
+fn covered_reply(
+    alloc: Global,
+    file: &[u8],
+    grammar: &Grammar,
+    names: &[String],
+    coverage: &Coverage,
+) -> Result<CoverageReply, AllocError>
+    requires rules { All (λ rule. rule < length (rules_in grammar.now)) coverage.now.unused_rules.items }
+    requires texts { All (λ number. number < length names.now) coverage.now.stopped.items }
+    ensures { let reply = Covered coverage.now.texts coverage.now.matched coverage.now.stopped.items
+        (map (reference_at (rules_in grammar.now)) coverage.now.unused_rules.items)
+        (map extent coverage.now.unused_alternatives.items) in
+        IfOk result (IsReplyOfKind (λ other. other ≡ reply) (map string_bytes names.now) file.now) }
+{
+    let line = coverage_line(alloc, file, grammar, coverage)?;
+    let faults = stopped_text_lines(alloc, names, &coverage.stopped)?;
+    Ok(CoverageReply { line, faults })
+}
+
+// A line for each of the texts with these numbers, in order.
+fn stopped_text_lines(
+    alloc: Global,
+    names: &[String],
+    stopped: &[usize],
+) -> Result<String, AllocError>
+    requires { All (λ number. number < length names.now) stopped.now }
+    ensures { IfOk result (λ lines.
+        string_bytes lines ≡ stopped_lines (map string_bytes names.now) stopped.now) }
+{
+    let mut lines = String::new(alloc);
+    'stopped: for number in stopped {
+        push_stopped_line(alloc, &names[*number], &mut lines)?;
+    }
+    Ok(lines)
+}
+
+// Appends the line for the text with this name.
+fn push_stopped_line(alloc: Global, name: &str, lines: &mut String) -> Result<(), AllocError>
+    ensures { OnOk result (string_bytes lines.new ≡ string_bytes lines.old ++ stopped_line name.now) }
+{
+    let shown = shown_name(alloc, name.as_bytes())?;
+    lines.push_str("pegtool: ")?;
+    lines.push_str(&shown)?;
+    lines.push_str(": the parse takes more steps than --steps allows\n")
+}
+
+/// Writes the line of what texts use, and returns its exit status and the lines for standard error.
+pub(crate) fn write_coverage<W: Sink>(
+    output: &mut W,
+    reply: CoverageReply,
+) -> Result<Explanation, ProgramFault>
+    requires { W.failed output.old ≡ false }
+    ensures writes { WritesCoverageReply reply (W.written output.old) (W.written output.new) result }
+    ensures fault { IsErrOf result ProgramFault.File ↔ (W.failed output.new ≡ true) }
+{
+    let CoverageReply { line, faults } = reply;
+    match write_reply(output, Ok(line)) {
+        Ok(status) => Ok(Explanation { status, faults }),
+        Err(_) => Err(ProgramFault::File),
     }
 }

@@ -1,13 +1,19 @@
 //! The program from its arguments to its exit.
-ghost use Rattle.std.specs.Prelude.{◌≡◌, ◌≢◌, ℕ, ◌<◌, ◌≤◌, true, false, [], List, length, drop, Result, Ok, Err, IfOk};
-ghost use Rattle.std.specs.Prelude.{IfErr, IsErrAnd, Some};
+ghost use Rattle.std.specs.Prelude.{◌≡◌, ◌≢◌, ◌⊎◌, ◌↔◌, ℕ, ◌<◌, ◌≤◌, true, false, [], List, length, drop, Result, Ok, Err};
+ghost use Rattle.std.specs.Prelude.{IfErr, IfOk, IsErrAnd, Some};
+ghost use Rattle.std.specs.Io.KnownBytes.{Keeps};
 ghost use Rattle.std.specs.Vec.Iter.{into_iter_items};
 ghost use Rattle.peg_cli.specs.Words.{IsAsking};
-ghost use Rattle.peg_tool.specs.Exits.{IsArgsFault, IsExitOf, exit_message, exit_of, exit_status, explanation_exit, words_exit};
+ghost use Rattle.peg_tool.specs.Exits.{IsArgsFault, IsDeviceExit, IsExitAmong, IsExitOf, IsExitOfFault, IsExitOfCause};
+ghost use Rattle.peg_tool.specs.Exits.{IsExitOfResult, IsFaultExit, IsFileExit, done_exit, exit_message, exit_status, reported_exit};
+ghost use Rattle.peg_tool.specs.Exits.{words_exit};
+ghost use Rattle.peg_tool.specs.Faults.{standard_input, standard_output, stream_name, stream_names};
+ghost use Rattle.peg_tool.specs.Requests.{HasReadableFiles, InputRequest, IsExplainRequest, LacksGrammar, LacksText, ReadsInput};
 ghost use Rattle.peg_tool.specs.Requests.{requested};
 
 use crate::explaining::{Explanation, explain};
-use crate::program::{ProgramFault, run_words};
+use crate::fault::{RequestFault, Stream, device_message};
+use crate::program::{ProgramFault, on_texts, run_on, to_request_explanation};
 use crate::request::Request;
 use peg_cli::{Words, WordsFault, read_words};
 use peg_io::{Opener, Sink, Source};
@@ -25,11 +31,15 @@ const NOT_UTF8: &str = "error: a word isn't UTF-8\n\nFor more information, try '
 pub enum Exit {
     /// The output is written, and this is the exit status.
     Done { status: u8 },
-    /// The output is written, and this is the exit status. `faults` has a line for each file that can't be opened or read.
+    /// The output is written, and this is the exit status. `faults` has a line for each file that can't be opened or
+    /// read, or for each text whose parse was stopped.
     Reported { status: u8, faults: String },
     /// The arguments are not a valid command line. `text` says what is wrong.
     Usage { text: String },
-    /// A device or an allocation failed.
+    /// A file can't be opened or read, or the output can't be written. `text` has the line of that fault, and a line
+    /// that names the file or the stream, with the reason.
+    Device { text: String },
+    /// An allocation failed. Or a device failed, and there was no memory for its second line.
     Fault { fault: ProgramFault },
 }
 
@@ -41,6 +51,7 @@ impl Exit {
         match self {
             Exit::Done { status } | Exit::Reported { status, .. } => *status,
             Exit::Usage { .. } => Status::Usage.code(),
+            Exit::Device { .. } => Status::File.code(),
             Exit::Fault { fault } => fault.status(),
         }
     }
@@ -52,7 +63,7 @@ impl Exit {
         match self {
             Exit::Done { .. } => "",
             Exit::Reported { faults, .. } => faults,
-            Exit::Usage { text } => text,
+            Exit::Usage { text } | Exit::Device { text } => text,
             Exit::Fault { fault } => fault.message(),
         }
     }
@@ -70,24 +81,50 @@ impl Exit {
         }
     }
 
-    fn from_result(ended: Result<u8, ProgramFault>) -> Exit
-        ensures { result ≡ exit_of ended }
+    // The exit of a request with an exit status or a fault.
+    fn from_result(alloc: Global, ended: Result<u8, RequestFault<'_>>) -> Exit
+        ensures { IsExitOfResult done_exit ended.entry result }
     {
         match ended {
             Ok(status) => Exit::Done { status },
-            Err(fault) => Exit::Fault { fault },
+            Err(fault) => Exit::from_fault(alloc, fault),
         }
     }
 
-    fn from_explanation(ended: Result<Explanation, ProgramFault>) -> Exit
-        ensures { result ≡ explanation_exit ended }
+    // The exit of an explanation or a coverage.
+    fn from_explanation(alloc: Global, ended: Result<Explanation, RequestFault<'_>>) -> Exit
+        ensures { IsExitOfResult reported_exit ended.entry result }
     {
         match ended {
             Ok(explained) => Exit::Reported {
                 status: explained.status,
                 faults: explained.faults,
             },
-            Err(why) => Exit::Fault { fault: why },
+            Err(fault) => Exit::from_fault(alloc, fault),
+        }
+    }
+
+    // The exit for a fault.
+    fn from_fault(alloc: Global, fault: RequestFault<'_>) -> Exit
+        ensures { IsExitOfFault fault.entry result }
+    {
+        match fault {
+            RequestFault::Device { stream, kind } => Exit::from_device(alloc, stream, kind),
+            RequestFault::Memory => Exit::Fault {
+                fault: ProgramFault::Memory,
+            },
+        }
+    }
+
+    // The exit for a device that failed with an error of this kind. Without memory it has one line alone.
+    fn from_device(alloc: Global, stream: Stream<'_>, kind: ErrorKind) -> Exit
+        ensures { IsDeviceExit (stream_name stream.entry) (Some kind) result }
+    {
+        match device_message(alloc, stream, kind) {
+            Ok(text) => Exit::Device { text },
+            Err(_) => Exit::Fault {
+                fault: ProgramFault::File,
+            },
         }
     }
 }
@@ -144,7 +181,28 @@ pub fn run_program<O: Opener, I: Source, W: Sink>(
         (W.written output.old) (W.written output.new) result) }
     ensures rejected { IfErr words (λ fault. result ≡ words_exit fault) }
     ensures untouched { IfErr words (λ _. (input.new ≡ input.old) × (output.new ≡ output.old)) }
-    ensures write_fault { W.failed output.new ≡ true → result ≡ Exit.Fault ProgramFault.File }
+    ensures unread { IfOk words (λ asked. ¬ ReadsInput (requested asked) → input.new ≡ input.old) }
+
+    // A grammar that can't be opened is reported first, then a text. Nothing is written then. If the files are readable,
+    // a file fault comes exactly if the input or the output failed.
+    ensures no_grammar { IfOk words (λ asked. LacksGrammar (requested asked) (O.file_at files.now)
+        → IsFileExit result × (output.new ≡ output.old)) }
+    ensures no_text { IfOk words (λ asked. LacksText (requested asked) (O.file_at files.now)
+        → IsFaultExit result × (output.new ≡ output.old)) }
+    ensures device_fault { IfOk words (λ asked. HasReadableFiles (requested asked) (O.file_at files.now)
+        → (IsFileExit result ↔ ((I.failed input.new ≡ true) ⊎ (W.failed output.new ≡ true)))) }
+    ensures explain_fault { IfOk words (λ asked. IsExplainRequest (requested asked)
+        → (IsFileExit result ↔ (W.failed output.new ≡ true))) }
+    ensures memory { IfOk words (λ asked. ¬ IsExplainRequest (requested asked) → result ≡ Exit.Fault ProgramFault.Memory
+        → Keeps (W.written output.old) (W.written output.new)) }
+
+    // A fault of a device names what failed: standard output or standard input, or else a file of the request.
+    ensures output { W.failed output.new ≡ true → IsDeviceExit standard_output (W.fault_kind output.new) result }
+    ensures input { IfOk words (λ asked. requested asked ≡ InputRequest → I.failed input.new ≡ true
+        → IsDeviceExit standard_input (I.fault_kind input.new) result) }
+    ensures cause { IfOk words (λ asked. W.failed output.new ≡ false
+        → IsExitOfCause (requested asked) (O.file_at files.now) result) }
+    ensures named { IfOk words (λ asked. IsExitAmong (stream_names (requested asked)) result) }
 {
     match words {
         Ok(words) => run_request(alloc, files, input, output, &words),
@@ -167,12 +225,31 @@ fn run_request<O: Opener, I: Source, W: Sink>(
     requires output_works { W.failed output.old ≡ false }
     ensures runs { IsExitOf (requested words.now) (O.file_at files.now) (I.left input.old) (W.written output.old)
         (W.written output.new) result }
-    ensures write_fault { W.failed output.new ≡ true → result ≡ Exit.Fault ProgramFault.File }
+    ensures unread { ¬ ReadsInput (requested words.now) → input.new ≡ input.old }
+    ensures no_grammar { LacksGrammar (requested words.now) (O.file_at files.now)
+        → IsFileExit result × (output.new ≡ output.old) }
+    ensures no_text { LacksText (requested words.now) (O.file_at files.now)
+        → IsFaultExit result × (output.new ≡ output.old) }
+    ensures device_fault { HasReadableFiles (requested words.now) (O.file_at files.now)
+        → (IsFileExit result ↔ ((I.failed input.new ≡ true) ⊎ (W.failed output.new ≡ true))) }
+    ensures explain_fault { IsExplainRequest (requested words.now) → (IsFileExit result ↔ (W.failed output.new ≡ true)) }
+    ensures memory { ¬ IsExplainRequest (requested words.now) → result ≡ Exit.Fault ProgramFault.Memory
+        → Keeps (W.written output.old) (W.written output.new) }
+    ensures output { W.failed output.new ≡ true → IsDeviceExit standard_output (W.fault_kind output.new) result }
+    ensures input { requested words.now ≡ InputRequest → I.failed input.new ≡ true
+        → IsDeviceExit standard_input (I.fault_kind input.new) result }
+    ensures cause { W.failed output.new ≡ false → IsExitOfCause (requested words.now) (O.file_at files.now) result }
+    ensures named { IsExitAmong (stream_names (requested words.now)) result }
 {
     match Request::from_words(words) {
         Request::Explain { query, printing } => {
-            Exit::from_explanation(explain(alloc, files, input, output, &query, printing))
+            let explained = explain(alloc, files, input, output, &query, printing);
+            let ended = to_request_explanation(explained, output.fault_kind());
+            Exit::from_explanation(alloc, ended)
         }
-        _ => Exit::from_result(run_words(alloc, files, input, output, words)),
+        Request::Cover { g, texts, options } => {
+            Exit::from_explanation(alloc, on_texts(alloc, files, output, g, texts, &options))
+        }
+        _ => Exit::from_result(alloc, run_on(alloc, files, input, output, words)),
     }
 }

@@ -1,39 +1,14 @@
 //! Explains texts: writes the messages, and returns what standard error gets.
-ghost use Rattle.std.specs.Prelude.{◌≡◌, ◌↔◌, true, false, IfOk, IsErrOf, string_bytes};
-ghost use Rattle.std.specs.Io.KnownBytes.{Keeps};
+ghost use Rattle.std.specs.Prelude.{◌≡◌, ◌↔◌, true, false, IsErrOf};
 ghost use Rattle.peg_explain_files.specs.Names.{IsInput};
 ghost use Rattle.peg_explain_files.specs.Questions.{question_of};
-ghost use Rattle.peg_tool.specs.Explanations.{ExplanationOutcome, WritesReport, printed_by, verdict_status};
+ghost use Rattle.peg_tool.specs.Explanations.{ExplanationOutcome, explanation_of, program_fault, verdict_status};
 
 use crate::program::ProgramFault;
-use peg_explain_files::{Query, Report, Verdict, explain_files};
-use peg_io::{Opener, Sink, Source, write_all_bytes};
+use peg_explain_files::{Ended, ExplainFault, Printing, Query, Verdict, explain_files};
+use peg_io::{Opener, Sink, Source};
 use peg_json::Status;
 use std::alloc::Global;
-
-/// What is printed of an explanation.
-#[derive(Clone, Copy, Debug, PartialEq, Eq)]
-pub enum Printing {
-    /// Messages, and lines for files that can't be opened or read.
-    All,
-    /// Nothing: the exit status alone says the result.
-    Nothing,
-}
-
-impl Printing {
-    ghost use Rattle.peg_tool.specs.Explanations.{printing_of};
-
-    /// Returns `Nothing` if nothing is to be printed, and `All` otherwise.
-    pub fn from_quiet(quiet: bool) -> Printing
-        ensures { result ≡ printing_of quiet }
-    {
-        if quiet {
-            Printing::Nothing
-        } else {
-            Printing::All
-        }
-    }
-}
 
 /// How an explanation ends: the exit status, and the lines for standard error.
 #[derive(Drop)]
@@ -42,7 +17,22 @@ pub(crate) struct Explanation {
     pub(crate) faults: String,
 }
 
-/// Explains texts and writes the messages. Writes nothing if an allocation fails.
+impl From<ExplainFault> for ProgramFault {
+    ghost use Rattle.std.specs.Prelude.{◌≡◌};
+    ghost use Rattle.peg_tool.specs.Explanations.{program_fault};
+
+    ghost from_gives = { λ stopped fault. fault ≡ program_fault stopped };
+
+    fn from(fault: ExplainFault) -> ProgramFault {
+        match fault {
+            ExplainFault::Write => ProgramFault::File,
+            ExplainFault::Memory => ProgramFault::Memory,
+        }
+    }
+}
+
+/// Explains texts and writes each message before the next text is opened. If an allocation fails, the messages of the
+/// first texts are written.
 pub(crate) fn explain<O: Opener, I: Source, W: Sink>(
     alloc: Global,
     files: &O,
@@ -58,36 +48,22 @@ pub(crate) fn explain<O: Opener, I: Source, W: Sink>(
     ensures unread { ¬ IsInput (question_of query.now).list → input.new ≡ input.old }
     ensures fault { IsErrOf result ProgramFault.File ↔ (W.failed output.new ≡ true) }
 {
-    let report = explain_files(alloc, files, input, query)?;
-    write_report(alloc, output, report, printing)
+    let ended = explain_files(alloc, files, input, output, query, printing)?;
+    Ok(Explanation::from_ended(ended))
 }
 
-// Writes the messages of a report.
-fn write_report<W: Sink>(
-    alloc: Global,
-    output: &mut W,
-    report: Report,
-    printing: Printing,
-) -> Result<Explanation, ProgramFault>
-    requires { W.failed output.old ≡ false }
-    ensures writes { WritesReport report printing (W.written output.old) (W.written output.new) result }
-    ensures fault { IsErrOf result ProgramFault.File ↔ (W.failed output.new ≡ true) }
-{
-    let Report {
-        messages,
-        faults,
-        verdict,
-    } = report;
-    let status = status_of(verdict).code();
-    match printing {
-        Printing::Nothing => Ok(Explanation {
-            status,
-            faults: String::new(alloc),
-        }),
-        Printing::All => match write_all_bytes(output, &messages) {
-            Ok(()) => Ok(Explanation { status, faults }),
-            Err(_) => Err(ProgramFault::File),
-        },
+impl Explanation {
+    ghost use Rattle.std.specs.Prelude.{◌≡◌};
+    ghost use Rattle.peg_tool.specs.Explanations.{explanation_of};
+
+    fn from_ended(ended: Ended) -> Explanation
+        ensures { result ≡ explanation_of ended }
+    {
+        let Ended { faults, verdict } = ended;
+        Explanation {
+            status: status_of(verdict).code(),
+            faults,
+        }
     }
 }
 

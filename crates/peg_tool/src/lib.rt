@@ -5,6 +5,7 @@ mod command;
 mod covering;
 mod exit;
 mod explaining;
+mod fault;
 mod joined;
 mod linting;
 mod loading;
@@ -19,11 +20,10 @@ mod write;
 
 pub use command::Command;
 pub use exit::{Exit, read_args, run_program};
-pub use explaining::Printing;
 pub use joined::run_joined;
 pub use nodes::Nodes;
 pub use peg_cli::{Words, WordsFault, read_words};
-pub use peg_explain_files::{ItemStyle, NameEnd, Query};
+pub use peg_explain_files::{ItemStyle, NameEnd, Printing, Query};
 pub use peg_io::{Device, DeviceFault, FileSystem, OpenFault, Opener, Sink, Source, split};
 pub use peg_json::{
     Fault, Status, answer_json, code_json, lint_json, profile_json, refusal_json, table_json,

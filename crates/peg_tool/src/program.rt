@@ -1,28 +1,35 @@
 //! Runs the program for its parsed arguments, and the faults that end it without an answer.
-ghost use Rattle.std.specs.Prelude.{◌≡◌, ◌≢◌, ◌⊎◌, ◌↔◌, ◌++◌, ◌∷◌, [], codes, ℕ, true, false, All, List, IfSome, IsErrOf, is_err};
-ghost use Rattle.std.specs.Prelude.{map, string_bytes};
+ghost use Rattle.std.specs.Prelude.{◌≡◌, ◌≢◌, ◌⊎◌, ◌↔◌, ◌++◌, ◌∷◌, [], codes, ℕ, true, false, All, List, IfErr, IfSome, IsErrOf};
+ghost use Rattle.std.specs.Prelude.{None, is_err, map, string_bytes};
 ghost use Rattle.std.specs.Io.KnownBytes.{Keeps};
 ghost use Rattle.peg_io.specs.NamedFile.{Missing, bytes_of, is_readable};
+ghost use Rattle.peg_messages.specs.FileNames.{shown_name};
 ghost use Rattle.peg_parser.specs.Parser.{start_named};
 ghost use Rattle.peg_tool.specs.Commands.{task_of};
 ghost use Rattle.peg_tool.specs.CommandOutcome.{CommandOutcome, WritesOrFails, IsHelp, program_result, status_result};
-ghost use Rattle.peg_tool.specs.Replies.{IsPrinted};
-ghost use Rattle.peg_tool.specs.Requests.{HasReadableFiles, IsExplainRequest, LacksGrammar, LacksText, ReadsInput, requested};
-ghost use Rattle.peg_tool.specs.Task.{CoverTask, HasText};
+ghost use Rattle.peg_tool.specs.Faults.{IsFaultAmong, IsFaultAt, NamesCause, plain_result, standard_input};
+ghost use Rattle.peg_tool.specs.Faults.{standard_output, stream_name, stream_names};
+ghost use Rattle.peg_tool.specs.Replies.{IsPrinted, IsPrintedJoined};
+ghost use Rattle.peg_tool.specs.Requests.{HasReadableFiles, InputRequest, IsExplainRequest, LacksGrammar, LacksText, ReadsInput};
+ghost use Rattle.peg_tool.specs.Requests.{requested};
+ghost use Rattle.peg_tool.specs.CoverageOutcome.{CoverageOutcome};
+ghost use Rattle.peg_tool.specs.Task.{HasText};
 
 use crate::command::Command;
-use crate::covering::coverage_reply;
+use crate::covering::{CoverFault, coverage_reply, write_coverage};
 use crate::explaining::{Explanation, explain};
+use crate::fault::{RequestFault, Stream};
 use crate::joined::run_input;
 use crate::request::Request;
 use crate::tool::run_command;
 use crate::write::{CommandFault, write_reply};
 use peg_cli::Words;
-use peg_io::{Device, OpenFault, Opener, Sink, Source, write_all_bytes};
+use peg_io::{Device, Opener, Sink, Source, write_all_bytes};
 use peg_json::Status;
 use peg_parser::ParseOptions;
 use std::alloc::{AllocError, Global};
 use std::io;
+use std::io::ErrorKind;
 use thiserror::Error;
 
 /// Why the program ends without an answer. The program prints its text on standard error.
@@ -61,20 +68,6 @@ impl ProgramFault {
     }
 }
 
-impl From<OpenFault> for ProgramFault {
-    ghost use Rattle.std.specs.Prelude.{◌≡◌};
-    ghost use Rattle.peg_tool.specs.CommandOutcome.{open_fault};
-
-    ghost from_gives = { λ opening fault. fault ≡ open_fault opening };
-
-    fn from(fault: OpenFault) -> ProgramFault {
-        match fault {
-            OpenFault::File => ProgramFault::File,
-            OpenFault::Memory => ProgramFault::Memory,
-        }
-    }
-}
-
 impl From<AllocError> for ProgramFault {
     ghost use Rattle.std.specs.Prelude.{◌≡◌};
     ghost use Rattle.peg_tool.specs.declared.program.ProgramFault.TheVariants.{Memory};
@@ -92,7 +85,8 @@ impl From<AllocError> for ProgramFault {
 ///
 /// Returns `File` if a file can't be opened or read, or if the output can't be written. Returns `Memory`, with nothing
 /// written, if an allocation fails. For an explanation of texts, a file that can't be opened or read is status 4, and
-/// the other texts are read; `run_program` names it. No device may have failed before.
+/// the other texts are read; `run_program` names it. The messages of the texts before a failed allocation are written.
+/// No device may have failed before.
 pub fn run_words<O: Opener, I: Source, W: Sink>(
     alloc: Global,
     files: &O,
@@ -119,135 +113,281 @@ pub fn run_words<O: Opener, I: Source, W: Sink>(
     ensures write_fault { W.failed output.new ≡ true → IsErrOf result ProgramFault.File }
     ensures explain_fault { IsExplainRequest (requested words.now)
         → (IsErrOf result ProgramFault.File ↔ (W.failed output.new ≡ true)) }
-    ensures memory { IsErrOf result ProgramFault.Memory → Keeps (W.written output.old) (W.written output.new) }
+    ensures memory { ¬ IsExplainRequest (requested words.now)
+        → IsErrOf result ProgramFault.Memory → Keeps (W.written output.old) (W.written output.new) }
+{
+    match run_on(alloc, files, input, output, words) {
+        Ok(status) => Ok(status),
+        Err(fault) => Err(fault.plain()),
+    }
+}
+
+/// Does the same as `run_words`. A fault of a device says which one it is, with the kind of its error.
+pub(crate) fn run_on<'a, O: Opener, I: Source, W: Sink>(
+    alloc: Global,
+    files: &O,
+    input: &mut I,
+    output: &mut W,
+    words: &'a Words,
+) -> Result<u8, RequestFault<'a>>
+    requires input_works { I.failed input.old ≡ false }
+    requires output_works { W.failed output.old ≡ false }
+    ensures leads { CommandOutcome (requested words.now) (O.file_at files.now) (I.left input.old) (W.written output.old)
+        (W.written output.new) (plain_result result) }
+    ensures unread { ¬ ReadsInput (requested words.now) → input.new ≡ input.old }
+    ensures no_grammar { LacksGrammar (requested words.now) (O.file_at files.now)
+        → IsErrOf (plain_result result) ProgramFault.File × (output.new ≡ output.old) }
+    ensures no_text { LacksText (requested words.now) (O.file_at files.now)
+        → (is_err (plain_result result) ≡ true) × (output.new ≡ output.old) }
+    ensures device_fault { HasReadableFiles (requested words.now) (O.file_at files.now)
+        → (IsErrOf (plain_result result) ProgramFault.File
+        ↔ ((I.failed input.new ≡ true) ⊎ (W.failed output.new ≡ true))) }
+    ensures write_fault { W.failed output.new ≡ true → IsErrOf (plain_result result) ProgramFault.File }
+    ensures explain_fault { IsExplainRequest (requested words.now)
+        → (IsErrOf (plain_result result) ProgramFault.File ↔ (W.failed output.new ≡ true)) }
+    ensures memory { ¬ IsExplainRequest (requested words.now) → IsErrOf (plain_result result) ProgramFault.Memory
+        → Keeps (W.written output.old) (W.written output.new) }
+
+    // Which stream a fault names.
+    ensures named { IfErr result (IsFaultAmong (stream_names (requested words.now))) }
+    ensures cause { W.failed output.new ≡ false → IfErr result (NamesCause (requested words.now) (O.file_at files.now)) }
+    ensures output { W.failed output.new ≡ true → IfErr result (IsFaultAt standard_output (W.fault_kind output.new)) }
+    ensures input { requested words.now ≡ InputRequest → I.failed input.new ≡ true
+        → IfErr result (IsFaultAt standard_input (I.fault_kind input.new)) }
 {
     match Request::from_words(words) {
-        Request::Joined => to_program_result(run_input(alloc, input, output)),
+        Request::Joined => on_input(alloc, input, output),
         Request::Help { text } => help(output, text),
         Request::OnFile { g, command } => on_file(alloc, files, output, g, &command),
         Request::OnFiles { g, t, command } => on_files(alloc, files, output, g, t, &command),
         Request::Cover { g, texts, options } => {
-            on_texts(alloc, files, output, g, texts, &options)
+            Ok(on_texts(alloc, files, output, g, texts, &options)?.status)
         }
         Request::Explain { query, printing } => {
-            to_status(explain(alloc, files, input, output, &query, printing))
+            let explained = explain(alloc, files, input, output, &query, printing);
+            to_status(explained, output.fault_kind())
         }
     }
 }
 
-// The exit status of an explanation.
-fn to_status(ended: Result<Explanation, ProgramFault>) -> Result<u8, ProgramFault>
-    ensures { result ≡ status_result ended }
+/// Converts the result of an explanation, whose only file fault is that of the output.
+pub(crate) fn to_request_explanation<'a>(
+    ended: Result<Explanation, ProgramFault>,
+    written: Option<ErrorKind>,
+) -> Result<Explanation, RequestFault<'a>>
+    ensures plain { plain_result result ≡ ended }
+    ensures named { IfErr result (IsFaultAt standard_output written) }
+{
+    match ended {
+        Ok(explanation) => Ok(explanation),
+        Err(ProgramFault::File) => Err(RequestFault::at(Stream::Output, written)),
+        Err(ProgramFault::Memory) => Err(RequestFault::Memory),
+    }
+}
+
+// The exit status of an explanation, whose only file fault is that of the output.
+fn to_status<'a>(
+    ended: Result<Explanation, ProgramFault>,
+    written: Option<ErrorKind>,
+) -> Result<u8, RequestFault<'a>>
+    ensures plain { plain_result result ≡ status_result ended }
+    ensures named { IfErr result (IsFaultAt standard_output written) }
 {
     match ended {
         Ok(explanation) => Ok(explanation.status),
-        Err(fault) => Err(fault),
+        Err(ProgramFault::File) => Err(RequestFault::at(Stream::Output, written)),
+        Err(ProgramFault::Memory) => Err(RequestFault::Memory),
     }
 }
 
-fn help<W: Sink>(output: &mut W, text: &str) -> Result<u8, ProgramFault>
+fn help<'a, W: Sink>(output: &mut W, text: &str) -> Result<u8, RequestFault<'a>>
     requires { W.failed output.old ≡ false }
-    ensures help { WritesOrFails (IsHelp text.now) (W.written output.old) (W.written output.new) result }
-    ensures fault { IsErrOf result ProgramFault.File ↔ (W.failed output.new ≡ true) }
+    ensures help { WritesOrFails (IsHelp text.now) (W.written output.old) (W.written output.new) (plain_result result) }
+    ensures fault { IsErrOf (plain_result result) ProgramFault.File ↔ (W.failed output.new ≡ true) }
+    ensures named { IfErr result (IsFaultAt standard_output (W.fault_kind output.new)) }
 {
     if text.is_empty() {
         return Ok(Status::Done.code());
     }
     match write_all_bytes(output, text.as_bytes()) {
         Ok(()) => Ok(Status::Done.code()),
-        Err(_) => Err(ProgramFault::File),
+        Err(_) => Err(RequestFault::at(Stream::Output, output.fault_kind())),
     }
 }
 
+// Parses a text by a grammar file, both from one input.
+fn on_input<'a, I: Source, W: Sink>(
+    alloc: Global,
+    input: &mut I,
+    output: &mut W,
+) -> Result<u8, RequestFault<'a>>
+    requires input_works { I.failed input.old ≡ false }
+    requires output_works { W.failed output.old ≡ false }
+    ensures leads { IfSome (I.left input.old) (λ bytes. WritesOrFails (IsPrintedJoined bytes) (W.written output.old)
+        (W.written output.new) (plain_result result)) }
+    ensures device_fault { IsErrOf (plain_result result) ProgramFault.File
+        ↔ ((I.failed input.new ≡ true) ⊎ (W.failed output.new ≡ true)) }
+    ensures memory { IsErrOf (plain_result result) ProgramFault.Memory
+        → Keeps (W.written output.old) (W.written output.new) }
+    ensures input { I.failed input.new ≡ true → IfErr result (IsFaultAt standard_input (I.fault_kind input.new)) }
+    ensures output { W.failed output.new ≡ true → IfErr result (IsFaultAt standard_output (W.fault_kind output.new)) }
+    ensures named { IfErr result (IsFaultAmong (standard_input ∷ standard_output ∷ [])) }
+{
+    let ended = run_input(alloc, input, output);
+    to_request_result(
+        ended,
+        Stream::Input,
+        input.fault_kind(),
+        output.fault_kind(),
+    )
+}
+
 // Runs a command on the grammar file with this name.
-fn on_file<O: Opener, W: Sink>(
+fn on_file<'a, O: Opener, W: Sink>(
     alloc: Global,
     files: &O,
     output: &mut W,
-    g: &str,
+    g: &'a str,
     command: &Command<'_>,
-) -> Result<u8, ProgramFault>
+) -> Result<u8, RequestFault<'a>>
     requires works { W.failed output.old ≡ false }
     requires alone { ¬ HasText (task_of command.now) }
     ensures leads { IfSome (bytes_of (O.file_at files.now g.now)) (λ file. (text : List ℕ)
         → WritesOrFails (IsPrinted (task_of command.now) file text) (W.written output.old)
-        (W.written output.new) result) }
+        (W.written output.new) (plain_result result)) }
     ensures no_grammar { O.file_at files.now g.now ≡ Missing
-        → IsErrOf result ProgramFault.File × (output.new ≡ output.old) }
+        → IsErrOf (plain_result result) ProgramFault.File × (output.new ≡ output.old) }
     ensures device_fault { is_readable (O.file_at files.now g.now) ≡ true
-        → (IsErrOf result ProgramFault.File ↔ (W.failed output.new ≡ true)) }
-    ensures write_fault { W.failed output.new ≡ true → IsErrOf result ProgramFault.File }
-    ensures memory { IsErrOf result ProgramFault.Memory → Keeps (W.written output.old) (W.written output.new) }
+        → (IsErrOf (plain_result result) ProgramFault.File ↔ (W.failed output.new ≡ true)) }
+    ensures write_fault { W.failed output.new ≡ true → IsErrOf (plain_result result) ProgramFault.File }
+    ensures memory { IsErrOf (plain_result result) ProgramFault.Memory
+        → Keeps (W.written output.old) (W.written output.new) }
+    ensures output { W.failed output.new ≡ true → IfErr result (IsFaultAt standard_output (W.fault_kind output.new)) }
+    ensures cause { W.failed output.new ≡ false → IfErr result (IsFaultAt (shown_name g.now) None) }
+    ensures named { IfErr result (IsFaultAmong (shown_name g.now ∷ standard_output ∷ [])) }
 {
-    let mut grammar = files.open(g)?;
+    let mut grammar = match files.open(g) {
+        Ok(file) => file,
+        Err(fault) => return Err(RequestFault::of_file(g, fault)),
+    };
     let mut text = Device::new(io::empty());
     let ended = run_command(alloc, &mut grammar, &mut text, output, command);
-    to_program_result(ended)
+    to_request_result(
+        ended,
+        Stream::File(g),
+        grammar.fault_kind(),
+        output.fault_kind(),
+    )
 }
 
 // Runs a command on the grammar file and the text with these names. Both are opened before either is read.
-fn on_files<O: Opener, W: Sink>(
+fn on_files<'a, O: Opener, W: Sink>(
     alloc: Global,
     files: &O,
     output: &mut W,
-    g: &str,
-    t: &str,
+    g: &'a str,
+    t: &'a str,
     command: &Command<'_>,
-) -> Result<u8, ProgramFault>
+) -> Result<u8, RequestFault<'a>>
     requires { W.failed output.old ≡ false }
     ensures leads { IfSome (bytes_of (O.file_at files.now g.now)) (λ file. IfSome (bytes_of (O.file_at files.now t.now))
         (λ text. WritesOrFails (IsPrinted (task_of command.now) file text) (W.written output.old)
-        (W.written output.new) result)) }
+        (W.written output.new) (plain_result result))) }
     ensures no_grammar { O.file_at files.now g.now ≡ Missing
-        → IsErrOf result ProgramFault.File × (output.new ≡ output.old) }
-    ensures no_text { O.file_at files.now t.now ≡ Missing → (is_err result ≡ true) × (output.new ≡ output.old) }
+        → IsErrOf (plain_result result) ProgramFault.File × (output.new ≡ output.old) }
+    ensures no_text { O.file_at files.now t.now ≡ Missing
+        → (is_err (plain_result result) ≡ true) × (output.new ≡ output.old) }
     ensures device_fault { is_readable (O.file_at files.now g.now) ≡ true
         → is_readable (O.file_at files.now t.now) ≡ true
-        → (IsErrOf result ProgramFault.File ↔ (W.failed output.new ≡ true)) }
-    ensures write_fault { W.failed output.new ≡ true → IsErrOf result ProgramFault.File }
-    ensures memory { IsErrOf result ProgramFault.Memory → Keeps (W.written output.old) (W.written output.new) }
+        → (IsErrOf (plain_result result) ProgramFault.File ↔ (W.failed output.new ≡ true)) }
+    ensures write_fault { W.failed output.new ≡ true → IsErrOf (plain_result result) ProgramFault.File }
+    ensures memory { IsErrOf (plain_result result) ProgramFault.Memory
+        → Keeps (W.written output.old) (W.written output.new) }
+    ensures output { W.failed output.new ≡ true → IfErr result (IsFaultAt standard_output (W.fault_kind output.new)) }
+    ensures missing { O.file_at files.now g.now ≡ Missing → IfErr result (IsFaultAt (shown_name g.now) None) }
+    ensures of_text { W.failed output.new ≡ false → is_readable (O.file_at files.now g.now) ≡ true
+        → IfErr result (IsFaultAt (shown_name t.now) None) }
+    ensures of_grammar { W.failed output.new ≡ false → is_readable (O.file_at files.now t.now) ≡ true
+        → IfErr result (IsFaultAt (shown_name g.now) None) }
+    ensures named { IfErr result (IsFaultAmong (shown_name g.now ∷ shown_name t.now ∷ standard_output ∷ [])) }
 {
-    let mut grammar = files.open(g)?;
-    let mut text = files.open(t)?;
+    let mut grammar = match files.open(g) {
+        Ok(file) => file,
+        Err(fault) => return Err(RequestFault::of_file(g, fault)),
+    };
+    let mut text = match files.open(t) {
+        Ok(file) => file,
+        Err(fault) => return Err(RequestFault::of_file(t, fault)),
+    };
     let ended = run_command(alloc, &mut grammar, &mut text, output, command);
-    to_program_result(ended)
+    let written = output.fault_kind();
+    match grammar.fault_kind() {
+        None => to_request_result(ended, Stream::File(t), text.fault_kind(), written),
+        kind => to_request_result(ended, Stream::File(g), kind, written),
+    }
 }
 
-// Prints what the texts with these names use of the grammar file with a name. The texts are opened after the grammar is
-// read.
-fn on_texts<O: Opener, W: Sink>(
+/// Prints what the texts with these names use of the grammar file with a name, and returns the exit status and a line for
+/// each stopped text. The texts are opened after the grammar is read.
+pub(crate) fn on_texts<'a, O: Opener, W: Sink>(
     alloc: Global,
     files: &O,
     output: &mut W,
-    g: &str,
-    texts: &[String],
+    g: &'a str,
+    texts: &'a [String],
     options: &ParseOptions<'_>,
-) -> Result<u8, ProgramFault>
+) -> Result<Explanation, RequestFault<'a>>
     requires { W.failed output.old ≡ false }
-    ensures leads { IfSome (bytes_of (O.file_at files.now g.now)) (λ file. (text : List ℕ) → WritesOrFails (IsPrinted
-        (CoverTask (map (O.file_at files.now) (map string_bytes texts.now)) (start_named options.now) options.now.memo
-        options.now.steps) file text) (W.written output.old) (W.written output.new) result) }
+    ensures leads { CoverageOutcome (start_named options.now) options.now.memo options.now.steps g.now
+        (map string_bytes texts.now) (O.file_at files.now) (W.written output.old) (W.written output.new)
+        (plain_result result) }
     ensures no_grammar { O.file_at files.now g.now ≡ Missing
-        → IsErrOf result ProgramFault.File × (output.new ≡ output.old) }
+        → IsErrOf (plain_result result) ProgramFault.File × (output.new ≡ output.old) }
     ensures device_fault { is_readable (O.file_at files.now g.now) ≡ true
         → All (λ text. is_readable (O.file_at files.now text) ≡ true) (map string_bytes texts.now)
-        → (IsErrOf result ProgramFault.File ↔ (W.failed output.new ≡ true)) }
-    ensures write_fault { W.failed output.new ≡ true → IsErrOf result ProgramFault.File }
-    ensures memory { IsErrOf result ProgramFault.Memory → Keeps (W.written output.old) (W.written output.new) }
+        → (IsErrOf (plain_result result) ProgramFault.File ↔ (W.failed output.new ≡ true)) }
+    ensures write_fault { W.failed output.new ≡ true → IsErrOf (plain_result result) ProgramFault.File }
+    ensures memory { IsErrOf (plain_result result) ProgramFault.Memory
+        → Keeps (W.written output.old) (W.written output.new) }
+    ensures output { W.failed output.new ≡ true → IfErr result (IsFaultAt standard_output (W.fault_kind output.new)) }
+    ensures missing { O.file_at files.now g.now ≡ Missing → IfErr result (IsFaultAt (shown_name g.now) None) }
+    ensures named { IfErr result
+        (IsFaultAmong (shown_name g.now ∷ map shown_name (map string_bytes texts.now) ++ standard_output ∷ [])) }
 {
-    let mut grammar = files.open(g)?;
-    let reply = coverage_reply(alloc, files, &mut grammar, texts, options);
-    to_program_result(write_reply(output, reply))
+    let mut grammar = match files.open(g) {
+        Ok(file) => file,
+        Err(fault) => return Err(RequestFault::of_file(g, fault)),
+    };
+    match coverage_reply(alloc, files, &mut grammar, texts, options) {
+        Ok(reply) => {
+            let ended = write_coverage(output, reply);
+            to_request_explanation(ended, output.fault_kind())
+        }
+        Err(CoverFault::Grammar) => { Err(RequestFault::at(Stream::File(g), grammar.fault_kind())) }
+        Err(CoverFault::Text { name, kind }) => Err(RequestFault::Device {
+            stream: Stream::File(name),
+            kind,
+        }),
+        Err(CoverFault::Memory) => Err(RequestFault::Memory),
+    }
 }
 
-// Converts the result of a command to that of the program.
-fn to_program_result(ended: Result<u8, CommandFault>) -> Result<u8, ProgramFault>
-    ensures { result ≡ program_result ended }
+// Converts the result of a command to that of a request, given what it reads and the kinds of the errors of the reads
+// and of the writes.
+fn to_request_result<'a>(
+    ended: Result<u8, CommandFault>,
+    source: Stream<'a>,
+    read: Option<ErrorKind>,
+    written: Option<ErrorKind>,
+) -> Result<u8, RequestFault<'a>>
+    ensures plain { plain_result result ≡ program_result ended }
+    ensures read { IsErrOf ended CommandFault.Read → IfErr result (IsFaultAt (stream_name source.entry) read) }
+    ensures written { IsErrOf ended CommandFault.Write → IfErr result (IsFaultAt standard_output written) }
 {
     match ended {
         Ok(status) => Ok(status),
-        Err(CommandFault::Read) => Err(ProgramFault::File),
-        Err(CommandFault::Write) => Err(ProgramFault::File),
-        Err(CommandFault::Memory) => Err(ProgramFault::Memory),
+        Err(CommandFault::Read) => Err(RequestFault::at(source, read)),
+        Err(CommandFault::Write) => Err(RequestFault::at(Stream::Output, written)),
+        Err(CommandFault::Memory) => Err(RequestFault::Memory),
     }
 }

@@ -6,10 +6,9 @@ ghost use Rattle.peg_tool.specs.Requests.{requested};
 ghost use Rattle.peg_tool.specs.Task.{ParseTask};
 
 use crate::command::Command;
-use crate::explaining::Printing;
 use crate::nodes::Nodes;
 use peg_cli::Words;
-use peg_explain_files::{ItemStyle, NameEnd, Query};
+use peg_explain_files::{ItemStyle, NameEnd, Printing, Query};
 use peg_lint::Selection;
 use peg_parser::ParseOptions;
 

@@ -12,7 +12,7 @@ use std::test::Fail;
 
 // A source that returns one byte per read, and fails after a number of bytes.
 #[derive(Drop)]
-struct ShortReader {
+pub(crate) struct ShortReader {
     bytes: &'static [u8],
     at: usize,
     breaks_at: usize,
@@ -20,7 +20,7 @@ struct ShortReader {
 }
 
 impl ShortReader {
-    fn new(bytes: &'static [u8], breaks_at: usize) -> ShortReader
+    pub(crate) fn new(bytes: &'static [u8], breaks_at: usize) -> ShortReader
         ensures { result.fault ≡ None }
     {
         ShortReader {

@@ -1,9 +1,11 @@
 //! Runs of the program for its arguments that run out of memory, and help of any bytes.
 ghost use Rattle.std.specs.Prelude.{◌≡◌, None, Some, true, false};
 
+use crate::devices::ShortReader;
 use peg_tool::{
     Device, DeviceFault, OpenFault, Opener, Source, Words, read_args, run_program, run_words,
 };
+use std::alloc::{AllocError, Global};
 use std::io::{Error, ErrorKind};
 use std::test::Fail;
 
@@ -64,32 +66,46 @@ impl Opener for Shelf {
             "line" => self.line,
             "bcd" => self.bcd,
             "vast" => return Err(OpenFault::Memory),
-            _ => return Err(OpenFault::File),
+            _ => {
+                return Err(OpenFault::File {
+                    kind: ErrorKind::NotFound,
+                })
+            }
         };
         Ok(Held { bytes })
     }
 }
 
-// Files are opened in the order of the arguments, and the first fault is reported.
+// The arguments in a command line without quotes.
+fn args_of(alloc: Global, text: &str) -> Result<Vec<String>, AllocError> {
+    let mut args = Vec::new(alloc);
+    'words: for word in text.split(' ') {
+        args.push(String::from_str(alloc, word)?)?;
+    }
+    Ok(args)
+}
+
+// Files are opened in the order of the arguments, and the first fault is reported. The message of an earlier text is
+// written before the next text is opened.
 #[test]
 fn a_file_that_is_opened_without_memory_is_reported(rt: HostRuntime) -> Result<(), Fail> {
     let alloc = rt.alloc();
-    let (file, memory) = ("pegtool: file fault\n", "pegtool: out of memory\n");
+    let file = "pegtool: file fault\nnowhere: No such file or directory\n";
+    let memory = "pegtool: out of memory\n";
+    let first = "bcd:1:2: expected the end, found 'c'\nbcd\n ^\n";
     let cases = [
-        ("pegtool check vast", 5, memory),
-        ("pegtool lint vast --start S", 5, memory),
-        ("pegtool parse line vast", 5, memory),
-        ("pegtool parse vast nowhere", 5, memory),
-        ("pegtool parse nowhere vast", 4, file),
-        ("pegtool profile line --coverage bcd vast", 5, memory),
-        ("pegtool explain vast bcd", 5, memory),
-        ("pegtool explain line bcd vast", 5, memory),
+        ("pegtool check vast", 5, memory, ""),
+        ("pegtool lint vast --start S", 5, memory, ""),
+        ("pegtool parse line vast", 5, memory, ""),
+        ("pegtool parse vast nowhere", 5, memory, ""),
+        ("pegtool parse nowhere vast", 4, file, ""),
+        ("pegtool profile line --coverage bcd vast", 5, memory, ""),
+        ("pegtool explain vast bcd", 5, memory, ""),
+        ("pegtool explain line bcd vast", 5, memory, first),
+        ("pegtool explain line vast bcd", 5, memory, ""),
     ];
-    for (text, status, message) in cases {
-        let mut args = Vec::new(alloc);
-        for word in text.split(' ') {
-            args.push(String::from_str(alloc, word)?)?;
-        }
+    for (text, status, message, printed) in cases {
+        let args = args_of(alloc, text)?;
         let mut output = Vec::new(alloc);
         let exit = run_program(
             alloc,
@@ -98,10 +114,33 @@ fn a_file_that_is_opened_without_memory_is_reported(rt: HostRuntime) -> Result<(
             &mut Device::new(&mut output),
             read_args(alloc, Ok(args.into_iter())),
         );
-        assert!(rt; output.is_empty(), "{text}");
+        assert_eq!(rt; output.as_slice(), printed.as_bytes(), "{text}");
         assert_eq!(rt; exit.status(), status, "{text}");
         assert_eq!(rt; exit.message(), message, "{text}");
     }
+    Ok(())
+}
+
+// The read of the list fails after the line end of the first name and two bytes of the second one. So one text is
+// explained, and the list is reported.
+#[test]
+fn names_that_end_before_a_failed_read_are_explained(rt: HostRuntime) -> Result<(), Fail> {
+    let alloc = rt.alloc();
+    let args = args_of(alloc, "pegtool explain line --files-from -")?;
+    let mut output = Vec::new(alloc);
+    let exit = run_program(
+        alloc,
+        &SHELF,
+        &mut ShortReader::new(b"bcd\nbcd\n", 6),
+        &mut Device::new(&mut output),
+        read_args(alloc, Ok(args.into_iter())),
+    );
+    assert_eq!(rt;
+        output.as_slice(),
+        b"bcd:1:2: expected the end, found 'c'\nbcd\n ^\n".as_slice()
+    );
+    assert_eq!(rt; exit.status(), 4);
+    assert_eq!(rt; exit.message(), "pegtool: -: can't be read\n");
     Ok(())
 }
 

@@ -1,26 +1,39 @@
-use Rattle.std.proofs.Common.{IfOk, List, subst}
+use Rattle.std.proofs.Common.{IfOk, List, length, map, string_bytes, subst}
 use Rattle.peg_coverage_files.specs.NamedTexts.{files_named}
 use Rattle.peg_parser.specs.Parser.{parser_rules, start_named}
-use Rattle.peg_json.specs.Lines.{IsLineOf, line_bytes}
-use Rattle.peg_json.specs.Statuses.{status_code}
+use Rattle.peg_parser.specs.Refusals.{IsRefusalOf}
 use Rattle.peg_semantics.specs.Rules.{Rule}
 use Rattle.peg_tool.specs.CoverageReplies.{CoversTo}
-use Rattle.peg_tool.specs.Loaded.{IsLoadedFrom}
+use Rattle.peg_tool.specs.CoverageWritten.{IsReplyOfKind}
 use Rattle.peg_tool.specs.Replies.{RepliesTo, covered}
 use Rattle.peg_tool.specs.Task.{CoverTask}
-use Rattle.peg_tool.proofs.CoverageLemmas.{read-weaker}
+use Rattle.peg_tool.proofs.CoverageLemmas.{kind-weaker, refused-alone}
+use Rattle.peg_tool.proofs.JudgeLemmas.{reported-true_refusal}
 use Rattle.peg_tool.proofs.covering.cover_by_file.Goals as goal
 
-pub returns-in-Accepted-clause-answer : goal.returns-in-Accepted-clause-answer
-returns-in-Accepted-clause-answer g c text =
+pub refused_line-requires-clause-true_refusal : goal.refused_line-requires-clause-true_refusal
+refused_line-requires-clause-true_refusal g c =
+    reported-true_refusal (IsRefusalOf c.args.file.now) (length c.args.file.now) c.in-Err.refusal c.in-Err.ensures.refused
+
+pub returns-in-Ok-clause-answer : goal.returns-in-Ok-clause-answer
+returns-in-Ok-clause-answer g c text =
     let file = c.args.file.now in
-    let rules = parser_rules c.in-Accepted.parser in
+    let rules = parser_rules c.in-Ok.parser in
     let files = files_named (g.O.Opener.file_at c.args.files.now) c.args.names.now in
+    let names = map string_bytes c.args.names.now in
     let start = start_named c.args.options.now in
     let memo = c.args.options.now.memo in
     let steps = c.args.options.now.steps in
-    let judged = subst (IsLoadedFrom file) c.in-Accepted.is c.in_ok-parser.ensures in
-    read-weaker c.cover_by_grammar.result file (CoversTo rules files start memo steps)
-    (RepliesTo file text (CoverTask files start memo steps)) (λ reply is. covered judged is)
-    (subst (λ (r : List Rule). IfOk c.cover_by_grammar.result (λ line. IsLineOf file (CoversTo r files start memo steps)
-    (line_bytes line) (status_code line.status))) c.grammar.ensures c.cover_by_grammar.ensures.answer)
+    kind-weaker c.cover_by_grammar.result names file (CoversTo rules files start memo steps)
+    (RepliesTo file text (CoverTask files start memo steps)) (λ reply is. covered c.in-Ok.ensures.accepted is)
+    (subst (λ (r : List Rule). IfOk c.cover_by_grammar.result (IsReplyOfKind (CoversTo r files start memo steps) names file))
+    c.grammar.ensures c.cover_by_grammar.ensures.answer)
+
+pub returns-in_ok-line-in-Err-clause-answer : goal.returns-in_ok-line-in-Err-clause-answer
+returns-in_ok-line-in-Err-clause-answer g c text =
+    let file = c.args.file.now in
+    let options = c.args.options.now in
+    let files = files_named (g.O.Opener.file_at c.args.files.now) c.args.names.now in
+    refused-alone file text (length file) (CoverTask files (start_named options) options.memo options.steps) c.in-Err.refusal
+    c.line_alone.result c.in_ok-line-in-Err.line (map string_bytes c.args.names.now) tt c.in-Err.ensures.refused
+    c.line_alone.ensures.line c.line_alone.ensures.faults c.in_ok-line-in-Err.ensures

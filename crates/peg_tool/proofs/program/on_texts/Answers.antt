@@ -1,45 +1,43 @@
-use Rattle.std.proofs.Common.{◌≡◌, ◌∙◌, inl, inr, Err, IfOk, None, false, map, string_bytes, sym, true}
-use Rattle.peg_io.specs.NamedFile.{bytes_of}
-use Rattle.peg_io.specs.declared.transfer.ReadFault.TheVariants as read
-use Rattle.peg_json.specs.Lines.{line_bytes}
-use Rattle.peg_json.specs.Statuses.{status_code}
+use Rattle.std.proofs.Common.{false, map, string_bytes, subst, sym, ◌≡◌, ◌∷◌, ◌++◌, [], Result}
+use Rattle.peg_io.specs.NamedFile.{bytes_of, is_readable}
+use Rattle.peg_messages.specs.FileNames.{shown_name}
 use Rattle.peg_parser.specs.Parser.{start_named}
-use Rattle.peg_tool.specs.Replies.{IsPrinted}
-use Rattle.peg_tool.specs.Task.{CoverTask, IsTextOf}
-use Rattle.peg_tool.proofs.CoverageLemmas.{each-text, none-unreadable}
-use Rattle.peg_tool.proofs.EndLemmas.{ends-read, file-writes}
-use Rattle.peg_tool.proofs.ProgramLemmas.{alone-outcome, opened-outcome, program-file}
+use Rattle.peg_tool.specs.CoverageOutcome.{CoverageOutcome}
+use Rattle.peg_tool.specs.CoverageWritten.{IsCoverFault}
+use Rattle.peg_tool.specs.Faults.{standard_output}
+use Rattle.peg_tool.specs.Task.{CoverTask}
+use Rattle.peg_tool.specs.declared.explaining.Explanation.{Explanation}
+use Rattle.peg_tool.specs.declared.program.ProgramFault.{ProgramFault}
+use Rattle.peg_tool.proofs.CoverageLemmas.{ended-among, last-among, reply-written, text-among}
 use Rattle.peg_tool.proofs.program.on_texts.Goals as goal
 
-pub returns-clause-leads : goal.returns-clause-leads
-returns-clause-leads g c =
+pub returns-in-Ok-coverage_reply-clause-leads : goal.returns-in-Ok-coverage_reply-clause-leads
+returns-in-Ok-coverage_reply-clause-leads g c =
     let file_at = g.O.Opener.file_at c.args.files.now in
     let options = c.args.options.now in
-    let task = CoverTask (map file_at (map string_bytes c.args.texts.now)) (start_named options) options.memo options.steps in
-    let held = bytes_of (file_at c.args.g.now) in
-    let left = g.O.File.Source.left c.in_ok-grammar.grammar in
+    let names = map string_bytes c.args.texts.now in
     let old = g.W.Sink.written c.args.output.now in
-    let new = g.W.Sink.written c.write_reply.new.output in
-    let reply = c.coverage_reply-reply.result in
-    let right = each-text left (λ file text. IfOk reply (λ line.
-    IsPrinted task file text (line_bytes line) (status_code line.status))) c.coverage_reply-reply.ensures.answer in
-    alone-outcome task held None old new c.to_program_result.result (λ text. text)
-    (opened-outcome task held left None old new c.write_reply.result c.to_program_result.result c.in_ok-grammar.ensures.bytes
-    c.to_program_result.ensures (file-writes (λ file bytes. IsTextOf task file None bytes) (IsPrinted task) left old new reply
-    c.write_reply.result c.write_reply.ensures.ends right))
+    let new = g.W.Sink.written c.write_coverage-ended.new.output in
+    subst (λ (r : Result Explanation ProgramFault).
+    CoverageOutcome (start_named options) options.memo options.steps c.args.g.now names file_at old new r)
+    (sym c.to_request_explanation.ensures.plain)
+    (reply-written (CoverTask (map file_at names) (start_named options) options.memo options.steps) names
+    (bytes_of (file_at c.args.g.now)) (g.O.File.Source.left c.in-Ok.file) old new c.in-Ok-coverage_reply.reply
+    c.write_coverage-ended.result c.in-Ok.ensures.bytes c.write_coverage-ended.ensures.writes
+    c.in-Ok-coverage_reply.ensures.answer)
 
-pub returns-clause-device_fault : goal.returns-clause-device_fault
-returns-clause-device_fault g c readable all =
-    let old = g.W.Sink.written c.args.output.now in
-    let new = g.W.Sink.written c.write_reply.new.output in
-    let reply = c.coverage_reply-reply.result in
-    let failed = g.O.File.Source.failed c.coverage_reply-reply.new.grammar in
-    let never : failed ≡ false = c.coverage_reply-reply.ensures.never (c.in_ok-grammar.ensures.readable readable) in
-    program-file c.write_reply.result c.to_program_result.result (reply ≡ Err read.Device)
-    (g.W.Sink.failed c.write_reply.new.output ≡ true) c.to_program_result.ensures
-    (ends-read old new reply c.write_reply.result (reply ≡ Err read.Device) c.write_reply.ensures.ends
-    (λ is. is, λ is. is)) c.write_reply.ensures.write_fault (λ is. elim (c.coverage_reply-reply.ensures.device is) [
-      | inl bad ↦ let both : true ≡ false = sym bad ∙ never in cc
-      | inr unreadable ↦
-          none-unreadable (g.O.Opener.file_at c.args.files.now) (map string_bytes c.args.texts.now) all unreadable
-    ])
+pub returns-in-Ok-coverage_reply-clause-named : goal.returns-in-Ok-coverage_reply-clause-named
+returns-in-Ok-coverage_reply-clause-named g c =
+    let names = map shown_name (map string_bytes c.args.texts.now) in
+    let first = shown_name c.args.g.now in
+    ended-among c.to_request_explanation.result (first ∷ names ++ standard_output ∷ []) _
+    c.to_request_explanation.ensures.named (last-among first standard_output names)
+
+pub returns-in-Err-Text-clause-named : goal.returns-in-Err-Text-clause-named
+returns-in-Err-Text-clause-named g c =
+    let file_at = g.O.Opener.file_at c.args.files.now in
+    let names = map string_bytes c.args.texts.now in
+    let unread = subst (IsCoverFault (g.O.File.Source.failed c.coverage_reply.new.grammar) file_at names)
+    c.in-Err-Text.field-0-is c.in-Err-Text.ensures.fault in
+    text-among (shown_name c.args.g.now) standard_output c.in-Err-Text.name.now names
+    (λ name. is_readable (file_at name) ≡ false) unread

@@ -1,0 +1,42 @@
+-- Describes code: what is printed of what texts use, and why there is nothing.
+use Rattle.std.specs.Prelude.{◌≡◌, ℕ, Any, Bool, true, false, List, Option, Result, Ok, Err, string_bytes}
+use Rattle.std.specs.Io.KnownBytes.{Appends}
+use Rattle.peg_io.specs.NamedFile.{NamedFile, is_readable}
+use Rattle.peg_io.specs.Transfer.{AppendsProperPrefix}
+use Rattle.peg_io.specs.declared.transfer.ReadFault.{ReadFault}
+use Rattle.peg_io.specs.declared.transfer.ReadFault.TheVariants as read
+use Rattle.peg_json.specs.Lines.{line_bytes}
+use Rattle.peg_json.specs.Reply.{Reply}
+use Rattle.peg_json.specs.Statuses.{status_code}
+use Rattle.peg_tool.specs.CoverageOutcome.{IsPrintedOf}
+use Rattle.peg_tool.specs.declared.covering.CoverFault.{CoverFault}
+use Rattle.peg_tool.specs.declared.covering.CoverFault.TheVariants as cover
+use Rattle.peg_tool.specs.declared.covering.CoverageReply.{CoverageReply}
+use Rattle.peg_tool.specs.declared.explaining.Explanation.{Explanation}
+use Rattle.peg_tool.specs.declared.program.ProgramFault.{ProgramFault}
+use Rattle.peg_tool.specs.declared.program.ProgramFault.TheVariants.{File, Memory}
+
+-- what is printed is that of a reply of a kind, about a grammar file and texts with these names
+abbrev pub IsReplyOfKind : (Kind : Reply → Type 0) → (names : List (List ℕ)) → (file : List ℕ) → CoverageReply → Type 0
+IsReplyOfKind Kind names file reply =
+    IsPrintedOf Kind names file (line_bytes reply.line) (status_code reply.line.status) (string_bytes reply.faults)
+
+-- Whether a fault is true: a read of the grammar file failed, or the file of a text with this name isn't specified to be
+-- readable. A failed allocation is always possible.
+abbrev pub IsCoverFault : (failed : Bool) → (file_at : List ℕ → NamedFile) → (names : List (List ℕ)) → CoverFault → Type 0
+IsCoverFault failed file_at names cover.Grammar = failed ≡ true
+IsCoverFault failed file_at names (cover.Text unread kind) =
+    Any (λ (name : List ℕ). (unread.now ≡ name) × (is_readable (file_at name) ≡ false)) names
+IsCoverFault failed file_at names cover.Memory = Unit {0}
+
+-- What is written of a reply: its line. If a write fails, a proper prefix of it is written.
+abbrev pub WritesCoverageReply : CoverageReply → (old new : Option (List ℕ)) → Result Explanation ProgramFault → Type 0
+WritesCoverageReply reply old new (Ok ended) = Appends old new (line_bytes reply.line)
+    × (ended.status ≡ status_code reply.line.status) × (string_bytes ended.faults ≡ string_bytes reply.faults)
+WritesCoverageReply reply old new (Err Memory) = ⊥
+WritesCoverageReply reply old new (Err File) = AppendsProperPrefix old new (line_bytes reply.line)
+
+-- the fault of a grammar file that can't be read
+abbrev pub of_read : ReadFault → CoverFault
+of_read read.Device = cover.Grammar
+of_read read.Memory = cover.Memory
