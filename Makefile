@@ -18,7 +18,7 @@ try: ## run the bundled input without proofs
 	cd crates/pegtool && rt try < stdin
 
 run: ## prove and build the program, then run it on the bundled input
-	tools/prove.py pegtool rt run < crates/pegtool/stdin
+	tools/prove.py pegtool run < crates/pegtool/stdin
 
 lib: ## prove and build the C library, into out/lib
 	tools/c_library.sh

@@ -11,7 +11,7 @@ work=$(mktemp -d)
 trap 'rm -rf "$work"' EXIT
 
 build() { # the archive of peg_c
-  if [ "${1:-}" = --proved ]; then tools/static_library.py; else tools/prove.py peg_c rt lib "$@"; fi
+  if [ "${1:-}" = --proved ]; then tools/static_library.py; else tools/prove.py peg_c lib "$@"; fi
 }
 build "$@" > "$work/log" 2>&1 || { tail -n 20 "$work/log" >&2; exit 1; }
 grep '^logic=' "$work/log" || true

@@ -1,10 +1,11 @@
 #!/usr/bin/env python3
-"""Proves and builds the libraries below a crate side by side, and then runs a command in the crate's folder.
+"""Proves and builds the libraries below a crate side by side, and then runs `rt` in the crate's folder.
 
 `rt` proves one library after the other, and much of a proof runs on one core. So each of a few workers has a copy of the
-crates, and proves there a library when those that it uses are proved. The library with the longest chain of others above
-it gets all cores; those with a much shorter one get what is left. `rt` takes over what another copy on this machine has
-proved. What fails in a copy fails again in the command, which says why. The arguments are the crate and the command.
+crates, and proves there a library when those that it uses are proved. What it has built is copied into the repository,
+and from there to the workers that need it, so that each library is proved once. The library with the longest chain of
+others above it gets all cores; those with a much shorter one get what is left. What fails in a copy fails again in the
+last run of `rt`, which says why. The arguments are the crate and those of `rt`.
 """
 
 import os
@@ -16,6 +17,7 @@ from concurrent.futures import FIRST_COMPLETED, ThreadPoolExecutor, wait
 from pathlib import Path
 
 TOP = Path(__file__).resolve().parent.parent
+RT = TOP / "tools" / "rt.py"
 BYTES_PER_WORKER = 3_300_000_000
 # A library whose chain is a smaller share of the longest one is proved with a lower priority.
 URGENT_SHARE = 0.6
@@ -24,7 +26,7 @@ WORKERS_PER_CORE = 1.5
 
 
 def libraries_below(crate):
-    """The libraries below a crate, each after those that it uses, and with them."""
+    """The libraries below a crate, each after those that it uses, with all libraries below it."""
     uses = {}
     for line in (TOP / "crates.txt").read_text(encoding="utf-8").splitlines():
         head, colon, names = line.partition("#")[0].partition(":")
@@ -36,7 +38,8 @@ def libraries_below(crate):
         for used in uses[name]:
             if used in uses and used not in found:
                 add(used)
-                found[used] = [low for low in uses[used] if low in uses]
+                direct = [low for low in uses[used] if low in uses]
+                found[used] = list(dict.fromkeys(name for low in direct for name in [*found[low], low]))
 
     add(crate)
     return found
@@ -61,15 +64,30 @@ def copied(folder):
     return folder
 
 
-def prove(folder, crate, share):
-    """Proves and builds a library in a copy, given its share of the longest chain. Returns whether it is proved."""
+def hand_over(part, crate, source, target):
+    """Copies a part of what was built of a library, if it is there, in place of what the target has."""
+    made, taken = (top / "crates" / crate / "out" / part for top in (source, target))
+    if made.is_dir():
+        shutil.rmtree(taken, ignore_errors=True)
+        shutil.copytree(made, taken)
+
+
+def prove(folder, crate, below, share):
+    """Proves and builds a library in a copy, given the libraries below it and its share of the longest chain. Copies what
+    was built into the repository. Returns whether the library is proved."""
+    for low in below:
+        if not (folder / "crates" / low / "out" / "rlib" / "stamp").exists():
+            hand_over("rlib", low, TOP, folder)
     if share == 1:
-        words = ["rt", "lib"]
+        words = [RT, "lib"]
     elif share >= URGENT_SHARE:
-        words = ["rt", "lib", "--jobs", "2"]
+        words = [RT, "lib", "--jobs", "2"]
     else:
-        words = ["nice", "rt", "lib", "--jobs", "1"]
+        words = ["nice", RT, "lib", "--jobs", "1"]
     done = subprocess.run(words, cwd=folder / "crates" / crate, stdout=subprocess.DEVNULL, stderr=subprocess.DEVNULL)
+    if done.returncode == 0:
+        hand_over("incremental", crate, folder, TOP)
+        hand_over("rlib", crate, folder, TOP)
     return done.returncode == 0
 
 
@@ -85,7 +103,7 @@ def prove_all(libraries, folders):
                 left.remove(name)
                 share = chain[name] / max(chain[other] for other in [name, *(other for other, _ in running.values())])
                 folder = free.pop()
-                running[pool.submit(prove, folder, name, share)] = name, folder
+                running[pool.submit(prove, folder, name, libraries[name], share)] = name, folder
             if not running:
                 return
             for task in wait(running, return_when=FIRST_COMPLETED).done:
@@ -104,15 +122,14 @@ def workers():
     return max(min(int(len(os.sched_getaffinity(0)) * WORKERS_PER_CORE), fitting), 1)
 
 
-def main(crate, *command):
+def main(crate, *words):
     libraries = libraries_below(crate)
     is_built = all((TOP / "crates" / name / "out" / "rlib" / "stamp").exists() for name in libraries)
     with tempfile.TemporaryDirectory() as work:
-        # After an edit, the command alone proves what changed.
+        # After an edit, the last run alone proves what changed.
         if not is_built:
             prove_all(libraries, [copied(Path(work) / str(number)) for number in range(workers())])
-        # What was proved in the copies is taken over before they go.
-        return subprocess.run(command, cwd=TOP / "crates" / crate).returncode
+        return subprocess.run([RT, *words], cwd=TOP / "crates" / crate).returncode
 
 
 if __name__ == "__main__":
