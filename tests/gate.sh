@@ -4,7 +4,6 @@
 # documents, the examples, failed allocations, the C library and the Python package, random grammars, and the generated
 # parts of the documents. The scripts of a lane run one after the other, and the lanes side by side. A script has half an
 # hour. The last lines name what was skipped and what failed, and count all.
-# Arguments go to `rt ci`: with `--anew` it takes nothing from earlier runs on this machine.
 set -u
 cd "$(dirname "$0")/.." || exit 1
 exec < /dev/null
@@ -18,7 +17,7 @@ limit=$(cat /sys/fs/cgroup/memory.max 2> /dev/null)
 checks=$((memory / 4400000))
 [ "$checks" -le "$(nproc)" ] || checks=$(nproc)
 [ "$checks" -lt 2 ] || export RT_JOBS=${RT_JOBS:-$checks}
-rt ci "$@" 2>&1 | tee "$logs/ci"
+rt ci 2>&1 | tee "$logs/ci"
 echo "rt ci: $SECONDS seconds"
 counts=$(tail -n 1 "$logs/ci")
 passed=$(sed -n 's/^\([0-9]*\) passed, [0-9]* failed$/\1/p' <<< "$counts")
@@ -32,7 +31,7 @@ growths=("tests/oom/each_growth.py $program" "tests/oom/each_test.py" "tests/fuz
 # has proved.
 bindings=("tests/bindings.sh $program --proved" "tests/python.sh $program" "tests/lint.py $program 2004 2000")
 cases=("tests/cases.py $program" "tests/examples.py $program" "tests/explain.py $program" "tests/deep.py $program")
-others=("tests/scripts.sh" "tools/moved_tests.py" "tools/crates.py --check" "tools/contracts.py --check"
+others=("tests/scripts.sh" "tools/moved_tests.py" "tools/crates.py --check" "tools/recipes.py" "tools/contracts.py --check"
   "tools/definitions.py --check" "tools/documents.py" "tests/fuzz.py $program --examples")
 run_lane() { # the scripts, in order; a line PASSED or FAILED ends what each prints
   local script start

@@ -51,32 +51,47 @@ A refused grammar and an unknown start are reported before any text is opened.
   {"name":"Nothing","refusal":"NoSuchStart"}
   [3]
 
-The first text that takes too many steps ends the run, so a later one isn't opened.
+A text that takes too many steps is stopped and the others are read; one that can't be opened is still a fault.
+
+  $ pegtool profile line --coverage aab bcd --steps 1
+  {"matched":0,"stopped":2,"texts":2,"unused_alternatives":[{"column":6,"end":10,"line":1,"start":5},{"column":14,"end":16,"line":1,"start":13}],"unused_rules":[{"column":1,"end":1,"line":1,"rule":"S","start":0}]}
+  pegtool: aab: the parse takes more steps than --steps allows
+  pegtool: bcd: the parse takes more steps than --steps allows
+  [6]
 
   $ pegtool profile line --coverage aab nowhere --steps 1
-  {"refusal":"StepLimit"}
-  [6]
+  pegtool: file fault
+  nowhere: No such file or directory
+  [4]
 
-  $ pegtool profile examples/cookbook/memo.peg --coverage examples/cookbook/memo/match_nested.txt --steps 10000
-  {"refusal":"StepLimit"}
-  [6]
+Without a memo each of 20 parentheses doubles the steps; with one, which is the default, ten thousand are enough.
+
+  $ pegtool profile examples/cookbook/memo.peg --coverage examples/cookbook/memo/match_nested.txt --steps 10000 | cut -c 1-24
+  {"matched":1,"texts":1,"
+
+  $ pegtool profile examples/cookbook/memo.peg --coverage examples/cookbook/memo/match_nested.txt --memo 0 --steps 10000 2>&1 | tail -n 1
+  pegtool: examples/cookbook/memo/match_nested.txt: the parse takes more steps than --steps allows
 
 A grammar or a text that can't be opened is a fault, and nothing is printed.
 
   $ pegtool profile nowhere --coverage aab
   pegtool: file fault
+  nowhere: No such file or directory
   [4]
 
   $ pegtool profile line --coverage nowhere aab
   pegtool: file fault
+  nowhere: No such file or directory
   [4]
 
   $ pegtool profile line --coverage aab nowhere
   pegtool: file fault
+  nowhere: No such file or directory
   [4]
 
 So is a text that can be opened and not read, such as a folder.
 
   $ pegtool profile examples/json.peg --coverage examples/json/match_object.txt .
   pegtool: file fault
+  .: Is a directory
   [4]

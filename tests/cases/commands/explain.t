@@ -184,9 +184,69 @@ With the null option the same input is one name with two line ends, which are wr
   pegtool: S <- 'a'\n%%\na: can't be opened
   [4]
 
-A list that isn't UTF-8 has no names, and is reported.
+A name that isn't UTF-8 names no file. It has a line on standard error, with an escape for byte 255, and the names before
+it and after it are explained.
 
-  $ printf '\377\n' > names
-  $ pegtool explain line --files-from names
-  pegtool: names: the names aren't UTF-8
+  $ printf 'bcd\n\377\naab\nbcd' > names
+  $ pegtool explain line --files-from names 2> /dev/null
+  bcd:1:2: expected the end, found 'c'
+  bcd
+   ^
+  bcd:1:2: expected the end, found 'c'
+  bcd
+   ^
   [4]
+
+  $ pegtool explain line --files-from names > /dev/null
+  pegtool: \xFF: the name isn't UTF-8
+  [4]
+
+  $ pegtool explain line --files-from names --quiet
+  [4]
+
+With the null option the name has a line end, too.
+
+  $ printf 'aab\0x\n\377y\0bcd\0' > names
+  $ pegtool explain line --files-from names --null 2> /dev/null
+  bcd:1:2: expected the end, found 'c'
+  bcd
+   ^
+  [4]
+
+  $ pegtool explain line --files-from names --null > /dev/null
+  pegtool: x\n\xFFy: the name isn't UTF-8
+  [4]
+
+A folder as the list can be opened but not read, so it names nothing; the texts of the arguments are explained.
+
+  $ pegtool explain line bcd --files-from . 2> /dev/null
+  bcd:1:2: expected the end, found 'c'
+  bcd
+   ^
+  [4]
+
+  $ pegtool explain line aab --files-from .
+  pegtool: .: can't be read
+  [4]
+
+A message is written before the next text is opened. Here the next text is a pipe with a name, and it gets its bytes only
+after the first line of the message was read.
+
+  $ mkfifo later
+  $ (timeout 60 pegtool explain line bcd later || echo "status $?") | timeout 60 bash -c '
+  > read -r first; echo "seen $first"; printf aab > later; cat'
+  seen bcd:1:2: expected the end, found 'c'
+  bcd
+   ^
+  status 1
+
+A name in a list is explained before the rest of the list is read. Here the rest is written only after the first line of
+the message was read.
+
+  $ mkfifo rest
+  $ (timeout 60 pegtool explain line --files-from rest || echo "status $?") | timeout 60 bash -c '
+  > exec 3> rest; echo bcd >&3; read -r first; echo "seen $first"; echo aab >&3; exec 3>&-; cat'
+  seen bcd:1:2: expected the end, found 'c'
+  bcd
+   ^
+  status 1

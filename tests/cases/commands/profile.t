@@ -66,6 +66,7 @@ A text that can't be opened is a fault, and nothing is printed.
 
   $ pegtool profile examples/json.peg missing
   pegtool: file fault
+  missing: No such file or directory
   [4]
 
 Two texts need the option for coverage, which the message names.

@@ -176,6 +176,7 @@ A text that can't be opened is a fault even if the grammar would be refused.
 
   $ pegtool parse refused.peg missing
   pegtool: file fault
+  missing: No such file or directory
   [4]
 
 With coverage each text is opened in its turn, so a missing one isn't met.

@@ -43,13 +43,13 @@ The help of lint has its options and an example with a start.
   $ grep -o -e 'Example: pegtool lint grammar\.peg --start Value' h
   Example: pegtool lint grammar.peg --start Value
 
-The help of profile has several texts, the option for coverage and the two defaults.
+The help of profile has several texts, the option for coverage and the defaults: that of the memo depends on it.
 
   $ pegtool profile --help > h
-  $ grep -o -e 'Usage: pegtool profile \[OPTIONS] <G> <T>\.\.\.' -e '  --coverage' -e '\[default: 0]' h
+  $ grep -o -e 'Usage: pegtool profile \[OPTIONS] <G> <T>\.\.\.' -e '  --coverage' -e '\[default: 0, with --coverage 4096]' h
   Usage: pegtool profile [OPTIONS] <G> <T>...
     --coverage
-  [default: 0]
+  [default: 0, with --coverage 4096]
   $ grep -o -e '\[default: 1000000000]' -e 'Example: pegtool profile grammar\.peg text' h
   [default: 1000000000]
   Example: pegtool profile grammar.peg text

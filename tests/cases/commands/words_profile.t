@@ -40,11 +40,12 @@ One text or several may stand on both sides of --coverage, also the same text tw
   $ pegtool profile g t --coverage u --memo 9
   {"matched":2,"texts":2,"unused_alternatives":[],"unused_rules":[]}
 
-The start is a rule of the grammar, and eight steps are too few for aab.
+The start is a rule of the grammar, and eight steps are too few for aab and ab.
 
   $ pegtool profile --start A g --steps 8 t u --coverage
   {"name":"A","refusal":"NoSuchStart"}
   [3]
-  $ pegtool profile --start S g --steps 8 t u --coverage
-  {"refusal":"StepLimit"}
-  [6]
+  $ pegtool profile --start S g --steps 8 t u --coverage 2>&1 | grep -o -e '"stopped":2' -e 'pegtool: [tu]:'
+  "stopped":2
+  pegtool: t:
+  pegtool: u:

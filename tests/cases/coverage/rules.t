@@ -66,14 +66,15 @@ C is no rule, nor is `!0`, by which the first alternative is marked inside.
   {"name":"!0","refusal":"NoSuchStart"}
   [3]
 
-One step isn't enough for a text, and 1,000 are; an error prints nothing else.
+One step isn't enough for a text, which is then stopped and uses nothing, and 1,000 are.
 
   $ printf "S <- 'a' / 'b'" > g; printf a > t
   $ pegtool profile g --coverage t --start T
   {"name":"T","refusal":"NoSuchStart"}
   [3]
   $ pegtool profile g --coverage t --steps 1
-  {"refusal":"StepLimit"}
+  {"matched":0,"stopped":1,"texts":1,"unused_alternatives":[{"column":6,"end":8,"line":1,"start":5},{"column":12,"end":14,"line":1,"start":11}],"unused_rules":[{"column":1,"end":1,"line":1,"rule":"S","start":0}]}
+  pegtool: t: the parse takes more steps than --steps allows
   [6]
   $ pegtool profile g --coverage t --start S --steps 1000
   {"matched":1,"texts":1,"unused_alternatives":[{"column":12,"end":14,"line":1,"start":11}],"unused_rules":[]}

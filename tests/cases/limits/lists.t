@@ -25,3 +25,51 @@ A name that begins before byte 67,108,864 and ends after it is one name: no file
   b
   ^
   [1]
+
+A list is read in pieces of 65,536 bytes. Here a name begins six bytes before the end of the first piece.
+
+  $ python3 -c "print(('./' * 2043 + 'good.text\n') * 15 + './' * 2040 + 'good.text\nbad.text\nnowhere')" > list
+  $ head -c 65536 list | tail -c 16
+  good.text
+  bad.te (no-eol)
+  $ pegtool explain a.peg --files-from list 2> /dev/null
+  bad.text:1:1: expected 'a', found 'b'
+  b
+  ^
+  [4]
+
+  $ pegtool explain a.peg --files-from list > /dev/null
+  pegtool: nowhere: can't be opened
+  [4]
+
+The same names end at zero bytes.
+
+  $ tr '\n' '\0' < list > zeros
+  $ pegtool explain a.peg --files-from zeros --null 2> /dev/null
+  bad.text:1:1: expected 'a', found 'b'
+  b
+  ^
+  [4]
+
+Here the end of a name is the last byte of the first piece, and then the first byte of the second one.
+
+  $ python3 -c "print(('./' * 2043 + 'good.text\n') * 16 + 'bad.text')" > list
+  $ head -c 65536 list | tail -c 5
+  text
+  $ pegtool explain a.peg --files-from list
+  bad.text:1:1: expected 'a', found 'b'
+  b
+  ^
+  [1]
+
+  $ python3 -c "print(('./' * 2043 + 'good.text\n') * 15 + './' * 2039 + 'good.text\nbad.text\nbad.text')" > list
+  $ head -c 65536 list | tail -c 4
+  text (no-eol)
+  $ pegtool explain a.peg --files-from list
+  bad.text:1:1: expected 'a', found 'b'
+  b
+  ^
+  bad.text:1:1: expected 'a', found 'b'
+  b
+  ^
+  [1]
