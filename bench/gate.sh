@@ -1,7 +1,7 @@
 #!/usr/bin/env bash
-# Runs the gate, in which `rt ci` proves all crates from nothing. Prints for each crate the seconds that its proof, the
-# proof of its tests and its wrong edits took, as wall-clock time and, in parentheses, processor time, and the peak memory
-# of a check in MiB. It samples the provers once a second, so shorter ones are missed.
+# Runs the gate with `--anew`, which proves also what it could take from earlier runs on this machine. Prints for each crate
+# the seconds that its proof, the proof of its tests and its wrong edits took, as wall-clock time and, in parentheses,
+# processor time, and the peak memory of a check in MiB. It samples the provers once a second, so shorter ones are missed.
 # What the gate prints is in out/gate.log.
 set -u
 cd "$(dirname "$0")/.." || exit 1
@@ -63,7 +63,7 @@ def provers(gate):
 def main():
     os.makedirs("out", exist_ok=True)
     with open("out/gate.log", "w+", encoding="utf-8", errors="replace") as log:
-        gate = subprocess.Popen(["tests/gate.sh"], stdout=log, stderr=subprocess.STDOUT)
+        gate = subprocess.Popen(["tests/gate.sh", "--anew"], stdout=log, stderr=subprocess.STDOUT)
         clock, used, peak = {}, {}, {}
         began = time.time()
         while gate.poll() is None:

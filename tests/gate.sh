@@ -4,6 +4,7 @@
 # documents, the examples, failed allocations, the C library and the Python package, random grammars, and the generated
 # parts of the documents. The scripts of a lane run one after the other, and the lanes side by side. A script has half an
 # hour. The last lines name what was skipped and what failed, and count all.
+# Arguments go to `rt ci`: with `--anew` it takes nothing from earlier runs on this machine.
 set -u
 cd "$(dirname "$0")/.." || exit 1
 exec < /dev/null
@@ -17,7 +18,7 @@ limit=$(cat /sys/fs/cgroup/memory.max 2> /dev/null)
 checks=$((memory / 4400000))
 [ "$checks" -le "$(nproc)" ] || checks=$(nproc)
 [ "$checks" -lt 2 ] || export RT_JOBS=${RT_JOBS:-$checks}
-rt ci 2>&1 | tee "$logs/ci"
+rt ci "$@" 2>&1 | tee "$logs/ci"
 echo "rt ci: $SECONDS seconds"
 counts=$(tail -n 1 "$logs/ci")
 passed=$(sed -n 's/^\([0-9]*\) passed, [0-9]* failed$/\1/p' <<< "$counts")
