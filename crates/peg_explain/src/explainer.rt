@@ -77,14 +77,16 @@ impl<'a> Explainer<'a> {
         }
     }
 
-    /// Returns the message for a text that doesn't match as a whole, or nothing if it does. The name begins the message.
+    /// Returns the message for a text that doesn't match as a whole, or nothing if it does. The name begins the
+    /// message.
     ///
-    /// The message names the furthest failure outside predicates: the greatest offset where an item failed, and the items
-    /// that failed there. An item is a terminal or a predicate outside predicates; it fails at its own start. The end of
-    /// the text is expected, too, if the match ended at that offset, and alone if it ended after it.
+    /// The message names the furthest failure outside predicates: the greatest offset where an item failed, and the
+    /// items that failed there. An item is a terminal or a predicate outside predicates; it fails at its own start. The
+    /// end of the text is expected, too, if the match ended at that offset, and alone if it ended after it.
     ///
-    /// The errors are those of `Parser::parse`. The steps are those of the diagnostic grammar, if it is within the limits.
-    /// Of many items the first 65,536 are looked at. A text that doesn't match is parsed again if the style uses names.
+    /// The errors are those of `Parser::parse`. The steps are those of the diagnostic grammar, if it is within the
+    /// limits. Of many items the first 65,536 are looked at. A text that doesn't match is parsed again if the style uses
+    /// names.
     ///
     /// # Example
     ///
@@ -108,7 +110,8 @@ impl<'a> Explainer<'a> {
         ensures short { OnOk result (length text.now ≤ max_text_bytes) }
         ensures explanation { (file : List ℕ) (rules : List Rule) → IsExplainerOf file rules self.now
             → IfOk result (λ message. IfSome (start_name rules (start_named options.now))
-            (λ start. IsExplanation file rules self.now.style name.now text.now start (option_map (λ bytes. bytes.items) message))) }
+            (λ start. IsExplanation file rules self.now.style name.now text.now start
+            (option_map (λ bytes. bytes.items) message))) }
         ensures limited { (file : List ℕ) (rules : List Rule) → IsExplainerOf file rules self.now
             → IsErrOf result ParseFault.StepLimit
             → ExplainingTakesMoreSteps rules text.now (start_named options.now) options.now.steps }
@@ -122,8 +125,8 @@ impl<'a> Explainer<'a> {
         }
     }
 
-    /// Returns where a text doesn't match as a whole, or nothing if it does. See `explain`, whose message names this place
-    /// and these items. The errors are those of `Parser::parse`.
+    /// Returns where a text doesn't match as a whole, or nothing if it does. See `explain`, whose message names this
+    /// position and these items. The errors are those of `Parser::parse`.
     pub fn mismatch(
         &self,
         alloc: Global,
@@ -250,7 +253,8 @@ impl<'a> Explainer<'a> {
         naming.rests(alloc, first_numbers(&answer.outcome.expected, MAX_NAMED))
     }
 
-    /// Returns the message for a mismatch in a text. The name begins the message. The only error is a failed allocation.
+    /// Returns the message for a mismatch in a text. The name begins the message. The only error is a failed
+    /// allocation.
     pub fn message(
         &self,
         alloc: Global,
@@ -262,7 +266,8 @@ impl<'a> Explainer<'a> {
         requires in_text { mismatch.now.at ≤ length text.now }
         requires few { length mismatch.now.expected.items < 2 ^ 32 }
         ensures { (file : List ℕ) (rules : List Rule) → IsExplainerOf file rules self.now
-            → IfOk result (λ message. IsMismatchMessage file rules self.now.style name.now text.now mismatch.now message.items) }
+            → IfOk result (λ message. IsMismatchMessage file rules self.now.style name.now text.now mismatch.now
+            message.items) }
     {
         let items = self.message_items(alloc, &mismatch.expected)?;
         let failure = Failure {

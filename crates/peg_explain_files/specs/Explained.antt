@@ -38,7 +38,8 @@ IsUnread name rest printing ended =
     (string_bytes ended.faults ≡ printed_by printing (program_line name rest)) × (ended.verdict ≡ verdict.Unreadable)
 
 -- nothing is written for such a file
-abbrev pub LeadsUnread : (name rest : List ℕ) → Printing → (old new : Option (List ℕ)) → Result Ended ExplainFault → Type 0
+abbrev pub LeadsUnread : (name rest : List ℕ) → Printing → (old new : Option (List ℕ)) → Result Ended ExplainFault
+    → Type 0
 LeadsUnread name rest printing old new result =
     (ended : Ended) × (result ≡ Ok ended) × IsUnread name rest printing ended × Keeps old new
 
@@ -56,7 +57,8 @@ no_start_message grammar start = named_line grammar (codes ": no rule is named "
 
 -- All texts are explained: there is an entry for each name, in order, and one for a list that can't be opened or read.
 -- Their messages are written, in order.
-pub record ExplainsAll (setting : Setting) (listing : Listing) (old new : Option (List ℕ)) (ended : Ended) : Type 0 where
+pub record ExplainsAll (setting : Setting) (listing : Listing) (old new : Option (List ℕ)) (ended : Ended)
+    : Type 0 where
   pub entries : List Entry
   pub added : List Entry
   pub are : AreEntriesOf setting (names_asked setting.question listing) entries
@@ -70,7 +72,8 @@ EndsTexts setting listing old new (Ok ended) = ExplainsAll setting listing old n
 EndsTexts setting listing old new (Err fault) = Stops setting fault (names_asked setting.question listing) old new
 
 -- texts are explained, with the names that are read of the list in this file
-abbrev pub ExplainsTexts : Setting → (list : NamedFile) → (old new : Option (List ℕ)) → Result Ended ExplainFault → Type 0
+abbrev pub ExplainsTexts : Setting → (list : NamedFile) → (old new : Option (List ℕ)) → Result Ended ExplainFault
+    → Type 0
 ExplainsTexts setting list old new result =
     (listing : Listing) × IsListingOf list listing × EndsTexts setting listing old new result
 
@@ -78,13 +81,14 @@ ExplainsTexts setting list old new result =
 -- is written of the texts.
 pub data IsAnswer (question : Question) (printing : Printing) (file_at : List ℕ → NamedFile) (input : Option (List ℕ))
     (file : List ℕ) (old new : Option (List ℕ)) (result : Result Ended ExplainFault) : Type 0 where
-  refused : {rules : List Rule} {cause : Cause} {message : List ℕ} → IsRefusalOf file cause → AreRulesOfCycle file cause rules
+  refused : {rules : List Rule} {cause : Cause} {message : List ℕ} → IsRefusalOf file cause
+      → AreRulesOfCycle file cause rules
       → IsRefusalMessage (shown_name question.grammar) file (map defined_at rules) cause message
       → WritesAlone printing message verdict.Refused old new result
       → IsAnswer question printing file_at input file old new result
   no_such_start : {rules : List Rule} → Accepts file rules → start_name rules question.start ≡ None
-      → WritesAlone printing (no_start_message question.grammar (unwrap_or question.start [])) verdict.NoSuchStart old new
-      result → IsAnswer question printing file_at input file old new result
+      → WritesAlone printing (no_start_message question.grammar (unwrap_or question.start [])) verdict.NoSuchStart
+      old new result → IsAnswer question printing file_at input file old new result
   explained : {rules : List Rule} {from : List ℕ} → Accepts file rules → start_name rules question.start ≡ Some from
       → ExplainsTexts record { question = question; printing = printing; named = file_at; file = file; rules = rules }
       (list_file file_at input question.list) old new result

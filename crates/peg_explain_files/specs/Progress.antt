@@ -37,7 +37,8 @@ pub record AreEntriesOf (setting : Setting) (names : List (List ℕ)) (entries :
   pub named : map entry_name entries ≡ names
   pub right : All (IsEntryOf setting) entries
 
--- What is known of an explanation: what is written, if that is specified, the lines for standard error, and the verdict.
+-- What is known of an explanation: what is written, if that is specified, the lines for standard error, and the
+-- verdict.
 pub record Progress : Type 0 where
   pub written : Option (List ℕ)
   pub lines : List ℕ
@@ -68,15 +69,16 @@ pub record IsPartOfMessage (setting : Setting) (names : List (List ℕ)) (part :
   pub short : count < length (printed_by setting.printing (entry_message entry))
   pub is : part ≡ take count (printed_by setting.printing (entry_message entry))
 
--- What is written of the message at which an explanation stops: nothing if an allocation fails, and a proper prefix if a
--- write fails.
+-- What is written of the message at which an explanation stops: nothing if an allocation fails, and a proper prefix if
+-- a write fails.
 abbrev pub IsCut : Setting → ExplainFault → (names : List (List ℕ)) → (part : List ℕ) → Type 0
 IsCut setting Memory names part = part ≡ []
 IsCut setting Write names part = IsPartOfMessage setting names part
 
--- An explanation of the texts with these names stops at a fault: the messages of the first texts are written, and a part
--- of the next one.
-pub record Stops (setting : Setting) (fault : ExplainFault) (names : List (List ℕ)) (old new : Option (List ℕ)) : Type 0 where
+-- An explanation of the texts with these names stops at a fault: the messages of the first texts are written, and a
+-- part of the next one.
+pub record Stops (setting : Setting) (fault : ExplainFault) (names : List (List ℕ)) (old new : Option (List ℕ))
+    : Type 0 where
   pub entries : List Entry
   pub first : List (List ℕ)
   pub rest : List (List ℕ)

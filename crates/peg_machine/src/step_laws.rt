@@ -118,8 +118,8 @@ pub fn choice_points_are_pushed_and_popped()
 pub fn a_step_consumes_remaining_work()
     ensures step { (context : RunContext) (start : RuleCall) (answer : Record) (tests more_tests : List Test)
         (calls : List RuleCall)
-        (to_come : Effects) (pc position : ℕ) (rows : List Row) (active : ActiveCall) (below : List ActiveCall) (work : Effects)
-        (next : Mode)
+        (to_come : Effects) (pc position : ℕ) (rows : List Row) (active : ActiveCall) (below : List ActiveCall)
+        (work : Effects) (next : Mode)
         (choice_points : List SavedChoice)
         → PartialRun context start answer tests calls to_come (RunsAt pc position rows) (active ∷ below)
         → ((test : Test) → Contains tests test → Contains more_tests test)
@@ -146,7 +146,8 @@ pub fn a_step_consumes_remaining_work()
         (k + left) pc position rows
         active.choice_points
         ≡ with_effects work (result_in_mode next
-        (run_local (record { code = context.code; text = context.text; calls = reads; costs = costs }) left) choice_points))
+        (run_local (record { code = context.code; text = context.text; calls = reads; costs = costs }) left)
+        choice_points))
         → (left : Effects) × (to_come ≡ then_effects work left)
         × PartialRun context start answer more_tests calls left next
         (record active { choice_points = choice_points } ∷ below) }
@@ -166,15 +167,16 @@ pub fn a_call_hits_or_starts()
         × PartialRun context start answer tests calls left (mode_after r.result (pc + 1) rows) (active ∷ below) }
     ensures begins { (context : RunContext) (start : RuleCall) (answer : Record) (entries : List ℕ)
         → EntriesAreLaidOut context.code entries context.bodies
-        → (tests : List Test) (calls more_uses : List RuleCall) (to_come : Effects) (pc : ℕ) (rows : List Row) (active : ActiveCall)
-        (below : List ActiveCall) (pair : RuleCall)
+        → (tests : List Test) (calls more_uses : List RuleCall) (to_come : Effects) (pc : ℕ) (rows : List Row)
+        (active : ActiveCall) (below : List ActiveCall) (pair : RuleCall)
         → PartialRun context start answer tests calls to_come (RunsAt pc pair.position rows) (active ∷ below)
         → slice_get context.code pc ≡ Some (Call pair.rule)
         → ((other : RuleCall) → Contains calls other → Contains more_uses other) → Contains more_uses pair
         → ((other : RuleCall) → Contains more_uses other → Contains calls other ⊎ (pair ≡ other))
         → (entry : ℕ) × (n : ℕ) × (steps : ℕ) × (left : Effects) × (slice_get entries pair.rule ≡ Some entry)
         × (body_steps_in context.counted 1 context.bodies context.text n pair.rule pair.position ≡ Some steps)
-        × (steps_of_call context.counted steps + left.steps ≡ steps + to_come.steps) × (pair ∷ left.calls ≡ to_come.calls)
+        × (steps_of_call context.counted steps + left.steps ≡ steps + to_come.steps)
+        × (pair ∷ left.calls ≡ to_come.calls)
         × PartialRun context start answer tests more_uses left (RunsAt entry pair.position (opened rows pair))
         (record { frame = record { pair = pair; return_pc = pc + 1; before = rows }; choice_points = [] } ∷ active
         ∷ below) }

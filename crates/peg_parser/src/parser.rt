@@ -76,8 +76,8 @@ impl From<AllocError> for ParseFault {
     }
 }
 
-// A parse runs without a memo first. That run may take `PLAIN_STEPS_BASE` steps, and `PLAIN_STEPS_PER_BYTE` for each byte
-// of the text. Data formats take 5 to 10 steps for each byte, grammar files about 20, and programs in C 40 to 60.
+// A parse runs without a memo first. That run may take `PLAIN_STEPS_BASE` steps, and `PLAIN_STEPS_PER_BYTE` for each
+// byte of the text. Data formats take 5 to 10 steps for each byte, grammar files about 20, and programs in C 40 to 60.
 const PLAIN_STEPS_BASE: u64 = 4_096;
 
 const PLAIN_STEPS_PER_BYTE: u64 = 64;
@@ -144,8 +144,8 @@ impl Parser {
         }
     }
 
-    /// Returns the parser of a grammar that isn't from a file, or why it has none. It has one if it is well-formed (Ford
-    /// 2004, section 3.6), its code is within the limit, and no allocation fails.
+    /// Returns the parser of a grammar that isn't from a file, or why it has none. It has one if it is well-formed
+    /// (Ford 2004, section 3.6), its code is within the limit, and no allocation fails.
     ///
     /// Returns `NotWellFormed`, or `CodeTooLarge` for a well-formed grammar, or `Memory` if an allocation fails.
     ///
@@ -335,9 +335,9 @@ impl Parser {
     /// the calls of Ford's record of the text, in order, each as often as it is made (Ford 2004, section 3.3). With one
     /// they are these calls as a set, whatever the memo answers.
     ///
-    /// The errors are those of `parse`. After `NoSuchStart` and `TextTooLong` the tracer is as it was. After `StepLimit`
-    /// it has been shown the calls made so far: some of these calls, and without a memo the first of them. After
-    /// `Memory` it may have been shown some of them.
+    /// The errors are those of `parse`. After `NoSuchStart` and `TextTooLong` the tracer is as it was. After
+    /// `StepLimit` it has been shown the calls made so far: some of these calls, and without a memo the first of them.
+    /// After `Memory` it may have been shown some of them.
     ///
     /// # Example
     ///
@@ -418,8 +418,8 @@ impl Parser {
         ensures short { OnOk result (length text.now ≤ max_text_bytes) }
         ensures outcome { IfOk result (λ answer. IsParseOutcomeBy (listed among.entry)
             (parser_rules self.now) text.now (name_of (parser_rules self.now) start) answer.outcome) }
-        ensures traced { OnOk result (TracesCallsOf (parser_rules self.now) text.now (name_of (parser_rules self.now) start)
-            (GetsCalls W.records W.traced watch.old watch.new)) }
+        ensures traced { OnOk result (TracesCallsOf (parser_rules self.now) text.now
+            (name_of (parser_rules self.now) start) (GetsCalls W.records W.traced watch.old watch.new)) }
         ensures stopped { IsErrOf result ParseFault.StepLimit → (calls : List RuleCall)
             × GetsCalls W.records W.traced watch.old watch.new calls
             × AreCallsSoFar (parser_rules self.now) text.now (name_of (parser_rules self.now) start) max_steps calls }
@@ -451,8 +451,8 @@ impl Parser {
         ensures long { IsErrOf result ParseFault.TextTooLong ↔ (max_text_bytes < length text.now) }
         ensures outcome { IfOk result (λ answer. IsParseOutcomeBy (listed among.entry)
             (parser_rules self.now) text.now (name_of (parser_rules self.now) start) answer.outcome) }
-        ensures traced { OnOk result (TracesCallsOf (parser_rules self.now) text.now (name_of (parser_rules self.now) start)
-            (GetsCalls W.records W.traced watch.old watch.new)) }
+        ensures traced { OnOk result (TracesCallsOf (parser_rules self.now) text.now
+            (name_of (parser_rules self.now) start) (GetsCalls W.records W.traced watch.old watch.new)) }
         ensures stopped { IsErrOf result ParseFault.StepLimit → (calls : List RuleCall)
             × GetsCalls W.records W.traced watch.old watch.new calls
             × AreCallsSoFar (parser_rules self.now) text.now (name_of (parser_rules self.now) start) max_steps calls }
