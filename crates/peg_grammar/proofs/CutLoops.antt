@@ -1,12 +1,22 @@
 -- Loops that replace each element of a list by another.
-use Rattle.std.proofs.Common.{◌≡◌, ◌⊎◌, inl, inr, ℕ, zero, suc, ◌+◌, ◌<◌, ◌≤◌, List, [], ◌∷◌, length, map, get_or, set}
+use Rattle.std.proofs.Common.{◌≡◌, ◌⊎◌, inl, inr, ℕ, zero, suc, ◌+◌, ◌<◌, ◌≤◌, min, List, [], ◌∷◌, length, map, get_or, set}
 use Rattle.std.proofs.Common.{refl, sym, ap, ap₂, ◌∙◌, subst, arith, get_or-set_same, get_or-set_other, length-set}
 use Rattle.std.proofs.lemmas.Bool.{cases_lt}
-use Rattle.peg_semantics.specs.CutCounts.{cut_all_counts, cut_counts, cut_rule, cut_rules}
+use Rattle.std.proofs.lemmas.List.{with_items_is}
+use Rattle.std.specs.Vec.{with_items}
+use Rattle.std.specs.declared.alloc.Global.{Global}
+use Rattle.std.specs.declared.boxed.Box.{Box}
+use Rattle.std.specs.declared.vec.Vec.{Vec}
+use Rattle.peg_bytes.specs.Extent.{extent}
+use Rattle.peg_bytes.specs.declared.span.Span.{Span}
+use Rattle.peg_semantics.specs.CutCounts.{at_most_one, cut_all_counts, cut_counts, cut_rule, cut_rules}
+use Rattle.peg_semantics.specs.Form as form
 use Rattle.peg_semantics.specs.Form.{Then, forms}
 use Rattle.peg_grammar.specs.Written.{form_of, rule_of, rules_of}
 use Rattle.peg_grammar.specs.declared.expr.Definition.{Definition}
 use Rattle.peg_grammar.specs.declared.expr.Expr.{Expr}
+use Rattle.peg_grammar.specs.declared.expr.Expr.TheViews.{Seq, Choice}
+use Rattle.peg_grammar.proofs.WrittenForms.{form_of-Seq, form_of-Choice}
 
 -- lists whose elements have the same images have the same list of images
 pub map-each : {X Y : Type 0} (f g : X → Y) (xs ys : List X) → length xs ≡ length ys
@@ -73,3 +83,21 @@ pub rules-cut : (definitions : List Definition)
     → map (λ definition. cut_rule (rule_of definition)) definitions ≡ cut_rules (rules_of definitions)
 rules-cut [] = refl
 rules-cut (definition ∷ definitions) = ap (λ l. cut_rule (rule_of definition) ∷ l) (rules-cut definitions)
+
+-- the smaller of a number and 1
+pub at_most_one-min : (n : ℕ) → min n 1 ≡ at_most_one n
+at_most_one-min zero = omega arith
+at_most_one-min (suc n) = omega arith
+
+-- a sequence or a choice whose list was written
+pub form_of-Seq-with : (items : Vec Expr Global) (new : List Expr) (span : Span) → length new ≡ items.len
+    → form_of (Seq (with_items items new) span) ≡ form.Seq (forms (map form_of new)) (extent span)
+form_of-Seq-with items new span count =
+    form_of-Seq (with_items items new) span
+    ∙ ap (λ l. form.Seq (forms (map form_of l)) (extent span)) (with_items_is items new count)
+
+pub form_of-Choice-with : (first : Box Expr Global) (rest : Vec Expr Global) (new : List Expr) (span : Span) → length new ≡ rest.len
+    → form_of (Choice first (with_items rest new) span) ≡ form.Choice (form_of first.value) (forms (map form_of new)) (extent span)
+form_of-Choice-with first rest new span count =
+    form_of-Choice first (with_items rest new) span
+    ∙ ap (λ l. form.Choice (form_of first.value) (forms (map form_of l)) (extent span)) (with_items_is rest new count)
