@@ -1,5 +1,6 @@
 #!/usr/bin/env python3
-"""Checks the documents: each link leads to a file and a heading, and each limit is stated in docs/USAGE.md alone.
+"""Checks the documents: each link leads to a file and a heading, each limit is stated in docs/USAGE.md alone, and
+README.md has the number of wrong edits.
 
 The limits are the numbers of at least four digits in the table "Limits" of docs/USAGE.md, and the defaults of at least
 four digits in its tables of options. With --sentences the average and the greatest number of words in a sentence of each
@@ -60,6 +61,13 @@ def stated_again(path, text, numbers):
             yield f"{number}: this limit is stated in docs/USAGE.md"
 
 
+def wrong_count(text, count):
+    """What is wrong with the number of wrong edits that README.md states."""
+    for stated in re.findall(r"(\d+) wrong edits", text):
+        if int(stated) != count:
+            yield f"{stated} wrong edits: there are {count}"
+
+
 def sentence_lengths(text):
     """The numbers of words of a document's sentences. Code and tables are left out."""
     text = CODE.sub("x", BLOCK.sub("", FENCED.sub("", text)))
@@ -70,13 +78,15 @@ def sentence_lengths(text):
 
 def main():
     faults = []
+    edits = len(list((TOP / "crates").glob("*/must-fail/*.edit")))
     for path in documents():
         text = path.read_text(encoding="utf-8")
         name = path.relative_to(TOP)
         if "--sentences" in sys.argv:
             lengths = sentence_lengths(text)
             print(f"{name}: {sum(lengths) / len(lengths):.1f} words on average, {max(lengths)} at most")
-        for fault in [*dead_links(path, text), *stated_again(path, text, limits())]:
+        wrong = wrong_count(text, edits) if name == Path("README.md") else []
+        for fault in [*dead_links(path, text), *stated_again(path, text, limits()), *wrong]:
             faults.append(f"{name}: {fault}")
     for fault in faults:
         print(fault)
