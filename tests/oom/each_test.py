@@ -17,9 +17,6 @@ CRATES = ["peg_library_tests", "peg_machine_tests"]
 OF_MACHINE = {"grammars::worked_texts_have_one_outcome"}
 # These compare an error, in whose place memory is reported.
 OF_ERRORS = {
-    "blame::rules_are_called_outside_predicates",
-    "coverage::an_error_leaves_the_set",
-    "names::a_grammar_that_is_not_well_formed_has_no_parser",
     "names::names_with_a_mark_are_refused",
     "refusals::names_of_rules_and_defaults_are_given",
 }

@@ -1,5 +1,5 @@
 //! Parses for blame: the rules that they call, and the trees and furthest failures of matches.
-use peg_blame::{BlameParser, ParseFault, ParseOptions};
+use peg_blame::{BlameParser, ParseOptions};
 use peg_fixtures::{Case, Node, matched};
 use peg_grammar::Grammar;
 use peg_notation::read;
@@ -26,12 +26,14 @@ fn blame_parser_of(alloc: Global, file: &[u8]) -> Result<BlameParser, Fail> {
     Ok(BlameParser::new(alloc, &grammar)?)
 }
 
-fn options(start: Option<&str>, memo: u32, steps: Option<u64>) -> ParseOptions<'_> {
+// A parse from the first rule with a memo of this capacity.
+fn with_memo<'a>(memo: u32) -> ParseOptions<'a> {
+    let (start, steps) = (None, None);
     ParseOptions { start, memo, steps }
 }
 
 // Q and SELECT are called at 0, S at 6 and N at 7. K, SELECT and FROM are called at 7 in a predicate alone. The last
-// six rules are quiet copies, which are no starts.
+// six rules are quiet copies.
 #[test]
 fn rules_are_called_outside_predicates(rt: HostRuntime) -> Result<(), Fail> {
     let alloc = rt.alloc();
@@ -45,7 +47,7 @@ fn rules_are_called_outside_predicates(rt: HostRuntime) -> Result<(), Fail> {
     ];
     for memo in MEMOS {
         for (at, rules) in places {
-            let called = parser.called_rules(alloc, text, &options(None, memo, None), at)?;
+            let called = parser.called_rules(alloc, text, &with_memo(memo), at)?;
             for rule in 0..12 {
                 assert_eq!(rt;
                     called.contains(rule),
@@ -55,16 +57,6 @@ fn rules_are_called_outside_predicates(rt: HostRuntime) -> Result<(), Fail> {
             }
         }
     }
-    let called = parser.called_rules(alloc, b"a", &options(Some("N"), 0, None), 0)?;
-    assert!(rt; called.contains(1) && !called.contains(0));
-    let fault = parser
-        .called_rules(alloc, b"a", &options(Some("N!"), 0, None), 0)
-        .err();
-    assert_eq!(rt; fault, Some(ParseFault::NoSuchStart));
-    let fault = parser
-        .called_rules(alloc, text, &options(None, 0, Some(5)), 0)
-        .err();
-    assert_eq!(rt; fault, Some(ParseFault::StepLimit));
     Ok(())
 }
 
@@ -72,9 +64,7 @@ fn rules_are_called_outside_predicates(rt: HostRuntime) -> Result<(), Fail> {
 fn assert_blame(rt: &impl Abort, alloc: Global, file: &[u8], case: &Case) -> Result<(), Fail> {
     let parser = blame_parser_of(alloc, file)?;
     for memo in MEMOS {
-        let outcome = parser
-            .blame(alloc, case.text, &options(None, memo, None))?
-            .outcome;
+        let outcome = parser.blame(alloc, case.text, &with_memo(memo))?.outcome;
         assert!(rt;
             case.fits(&outcome),
             "{outcome:?} is not {case:?} at {memo}"

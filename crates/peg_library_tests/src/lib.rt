@@ -6,8 +6,6 @@ mod blame;
 #[cfg(test)]
 mod calls;
 #[cfg(test)]
-mod coverage;
-#[cfg(test)]
 mod diagnostics;
 #[cfg(test)]
 mod messages;

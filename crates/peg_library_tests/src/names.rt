@@ -1,5 +1,4 @@
-//! Grammars without parsers for blame and coverage: the program refuses those that aren't well-formed before, and no
-//! file has rules with the names of copies and markers.
+//! Grammars without parsers for blame and coverage: no file has rules with the names of copies and markers.
 use peg_blame::{BlameFault, BlameParser};
 use peg_bytes::Span;
 use peg_coverage::{CoverageFault, CoverageParser};
@@ -9,17 +8,6 @@ use peg_notation::read;
 use std::alloc::Global;
 use std::process::Abort;
 use std::test::Fail;
-
-#[test]
-fn a_grammar_that_is_not_well_formed_has_no_parser(rt: HostRuntime) -> Result<(), Fail> {
-    let alloc = rt.alloc();
-    let grammar = Grammar::new(alloc, read(alloc, b"S <- S 'a' / 'b'")?)?;
-    let fault = BlameParser::new(alloc, &grammar).err();
-    assert_eq!(rt; fault, Some(BlameFault::NotWellFormed));
-    let made = CoverageParser::new(alloc, &grammar);
-    assert!(rt; matches!(&made, Err(CoverageFault::NotWellFormed)));
-    Ok(())
-}
 
 // The grammar of two alternatives with a second rule of this name, which is a dot.
 fn grammar_with(alloc: Global, name: &str) -> Result<Grammar, Fail> {

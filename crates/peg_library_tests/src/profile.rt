@@ -1,6 +1,6 @@
 //! The calls of rules in the order of a parse, and counts of any calls.
 use peg_machine::{ListWatch, Watch};
-use peg_parser::{ParseFault, ParseOptions, Parser};
+use peg_parser::{ParseOptions, Parser};
 use peg_profile::{CallCounts, RuleProfile};
 use peg_tree::Parsed;
 use std::process::Abort;
@@ -12,7 +12,7 @@ fn a_tracer_is_shown_each_call(rt: HostRuntime) -> Result<(), Fail> {
     let alloc = rt.alloc();
     let file = b"A <- '(' A ')' 'x' / '(' A ')' 'y' / 'a'\n";
     let parser = Parser::from_file(alloc, file)?;
-    let mut options = ParseOptions {
+    let options = ParseOptions {
         start: None,
         memo: 0,
         steps: None,
@@ -21,11 +21,6 @@ fn a_tracer_is_shown_each_call(rt: HostRuntime) -> Result<(), Fail> {
     let answer = parser.trace(alloc, b"(a)y", &options, &mut calls)?;
     assert!(rt; matches!(answer.outcome.result, Parsed::Matched { end: 4, .. }));
     assert_eq!(rt; calls.pairs(), [(0u32, 0u32), (0, 1), (0, 1)].as_slice());
-    options.start = Some("T");
-    let mut calls = ListWatch::new(alloc);
-    let untraced = parser.trace(alloc, b"(a)y", &options, &mut calls);
-    assert!(rt; matches!(untraced, Err(ParseFault::NoSuchStart)));
-    assert!(rt; calls.pairs().is_empty());
     Ok(())
 }
 
