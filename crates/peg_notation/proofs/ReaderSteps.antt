@@ -1,9 +1,10 @@
 -- Steps of the reader's functions: passing on a fault, and the next token.
 use Rattle.std.proofs.Common.{◌≡◌, ℕ, zero, suc, ◌-◌, ◌<◌, ◌≤◌, ◌≢◌, List, [], ◌∷◌, length, drop, take, get_or, true}
-use Rattle.std.proofs.Common.{Option, Result, Ok, Err, refl, sym, ap, ◌∙◌, subst, arith}
-use Rattle.peg_bytes.specs.Extent.{extent}
-use Rattle.peg_notation.specs.Reader.{ReadError, Unexpected, TooDeepAt, BadCountAt, FormRead, FormsRead, Reading, place_of, and_read, many_forms, begins_prefix, starts_with_slash, parenthesized, closed_form, primary, suffix, prefix, whole_sequence, sequence, alternative, whole_choice, expression, expression_in, RuleRead, rule_read, definition_after, definitions_after, grammar, starts_with_arrow}
-use Rattle.peg_notation.specs.ReaderCode.{lexemes, AreTexts, inner_reading, AgreesOnError}
+use Rattle.std.proofs.Common.{Option, None, Some, Result, Ok, Err, refl, sym, ap, ◌∙◌, subst, arith}
+use Rattle.peg_bytes.specs.Extent.{Extent, extent}
+use Rattle.peg_semantics.specs.Form.{Form}
+use Rattle.peg_notation.specs.Reader.{ReadError, Unexpected, TooDeepAt, BadCountAt, FormRead, FormsRead, Reading, place_of, and_read, many_forms, begins_prefix, starts_with_slash, parenthesized, closed_form, primary, suffix, prefix, prefix_of, prefix_sign, whole_sequence, sequence, alternative, whole_choice, expression, expression_in, RuleRead, rule_read, definition_after, definitions_after, grammar, starts_with_arrow}
+use Rattle.peg_notation.specs.ReaderCode.{lexemes, AreTexts, inner_reading, AgreesOnError, after_sign, after_sign_of, with_sign, with_sign_of}
 use Rattle.peg_notation.specs.Spans.{LiesIn}
 use Rattle.peg_lexer.specs.Tokens.{Lexeme, lexeme_of}
 use Rattle.peg_lexer.specs.declared.token.Token.{Token}
@@ -83,18 +84,54 @@ inner-reaches : (file : List ℕ) (left : ℕ) → InnerReaches file left 0 (inn
 inner-reaches file zero = refl
 inner-reaches file (suc n) = (omega arith, expression_in-reaches file (suc n) n 1 (omega arith))
 
--- the operator of a predicate is before the end of its part
-pub prefix_order : (file : List ℕ) (left : ℕ) (tokens : List Token) (sign : Token) → 1 ≤ length tokens
-    → sign ≡ get_or tokens 0 sign → AreTexts file 0 (lexemes tokens) → (part : FormRead)
-    → suffix file (inner_reading file left) (lexemes (take (length tokens - 1) (drop 1 tokens))) ≡ Ok part
-    → sign.span.start ≤ part.last
-prefix_order file left tokens sign long is texts part read =
-    let rest = lexemes (take (length tokens - 1) (drop 1 tokens)) in
-    let all = front_texts file 0 tokens sign long is texts in
-    let reached : Taken file left 0 rest part =
-    subst (λ (x : Result FormRead ReadError). Takes file left 0 rest x) read
-    (suffix-takes file left 0 sign.span.end (inner_reading file left) (inner-reaches file left) rest all.2) in
-    omega (arith, token-order file 0 (lexeme_of sign) rest all, texts-position file sign.span.end rest all.2, reached.order)
+-- a prefix is a suffix, as a predicate if its sign comes first
+and_read-same : (x : Result FormRead ReadError) → x ≡ and_read x (λ (part : FormRead). Ok part)
+and_read-same (Ok part) = refl
+and_read-same (Err halt) = refl
+
+pub prefix-is : (file : List ℕ) (inner : Option Reading) (lexemes : List Lexeme) → prefix file inner lexemes
+    ≡ and_read (suffix file inner (after_sign lexemes)) (λ (part : FormRead). Ok (with_sign lexemes part))
+unfolding prefix
+prefix-is file inner [] = and_read-same (suffix file inner [])
+prefix-is file inner (l ∷ rest) = by (prefix_sign l.kind)
+  where
+    by : (sign : Option (Form → Extent → Form)) → prefix_of file inner l rest sign
+        ≡ and_read (suffix file inner (after_sign_of l rest sign)) (λ (part : FormRead). Ok (with_sign_of l.text.start part sign))
+    by None = and_read-same (suffix file inner (l ∷ rest))
+    by (Some sign) = refl
+
+-- the lexemes after the sign are in the file
+pub sign_texts : (file : List ℕ) (lexemes : List Lexeme) → AreTexts file 0 lexemes → AreTexts file 0 (after_sign lexemes)
+sign_texts file [] texts = texts
+sign_texts file (l ∷ rest) texts = by (prefix_sign l.kind)
+  where
+    by : (sign : Option (Form → Extent → Form)) → AreTexts file 0 (after_sign_of l rest sign)
+    by None = texts
+    by (Some sign) = texts-from file l.text.end 0 rest (omega arith) texts.2
+
+-- a Suffix that is read ends no earlier than it starts
+suffix_taken : (file : List ℕ) (left from : ℕ) (lexemes : List Lexeme) → AreTexts file from lexemes → (part : FormRead)
+    → suffix file (inner_reading file left) lexemes ≡ Ok part → Taken file left 0 lexemes part
+suffix_taken file left from lexemes texts part read =
+    subst (λ (x : Result FormRead ReadError). Takes file left 0 lexemes x) read
+    (suffix-takes file left 0 from (inner_reading file left) (inner-reaches file left) lexemes texts)
+
+-- a prefix starts before its suffix ends
+pub sign_order : (file : List ℕ) (left : ℕ) (lexemes : List Lexeme) → AreTexts file 0 lexemes → (part : FormRead)
+    → suffix file (inner_reading file left) (after_sign lexemes) ≡ Ok part → place_of (length file) lexemes ≤ part.last
+sign_order file left [] texts part read = (suffix_taken file left 0 [] texts part read).order
+sign_order file left (l ∷ rest) texts part read = by (prefix_sign l.kind) read
+  where
+    by : (sign : Option (Form → Extent → Form)) → suffix file (inner_reading file left) (after_sign_of l rest sign) ≡ Ok part
+        → l.text.start ≤ part.last
+    by None read = (suffix_taken file left 0 (l ∷ rest) texts part read).order
+    by (Some sign) read =
+        omega (
+          arith,
+          token-order file 0 l rest texts,
+          texts-position file l.text.end rest texts.2,
+          (suffix_taken file left l.text.end rest texts.2 part read).order,
+        )
 
 -- a Primary that is read ends no earlier than it starts, and the tokens after it follow it
 pub primary_taken : (file : List ℕ) (left : ℕ) (lexemes : List Lexeme) → AreTexts file 0 lexemes → (part : FormRead)

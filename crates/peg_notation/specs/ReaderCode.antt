@@ -10,7 +10,7 @@ use Rattle.peg_lexer.specs.Lexical.{matcher_of}
 use Rattle.peg_lexer.specs.LexicalCode as lexical
 use Rattle.peg_lexer.specs.Matchers.{PrefixMatch}
 use Rattle.peg_notation.specs.Reader.{ReadError, Unexpected, TooDeepAt, BadCountAt, Reading, FormRead, FormsRead, RuleRead}
-use Rattle.peg_notation.specs.Reader.{RulesRead, expression_in, bounds_of_lexeme}
+use Rattle.peg_notation.specs.Reader.{RulesRead, expression_in, bounds_of_lexeme, prefix_sign, with_prefix}
 use Rattle.peg_lexer.specs.Tokens.{Lexeme, lexeme_of}
 use Rattle.peg_notation.specs.declared.fault.NotationFault.{NotationFault}
 use Rattle.peg_notation.specs.declared.fault.NotationFault.TheVariants.{FileTooLong, Syntax, TooNested, BadCount, Memory}
@@ -62,6 +62,24 @@ with_form read next =
       last = next.last;
       depth = max read.depth next.depth;
     }
+
+-- the lexemes after the sign of a predicate, or all of them if there is none
+abbrev pub after_sign_of : Lexeme → List Lexeme → Option (Form → Extent → Form) → List Lexeme
+after_sign_of lexeme rest None = lexeme ∷ rest
+after_sign_of lexeme rest (Some sign) = rest
+
+abbrev pub after_sign : List Lexeme → List Lexeme
+after_sign [] = []
+after_sign (lexeme ∷ rest) = after_sign_of lexeme rest (prefix_sign lexeme.kind)
+
+-- an expression as a predicate, if the first lexeme is its sign
+abbrev pub with_sign_of : (start : ℕ) → FormRead → Option (Form → Extent → Form) → FormRead
+with_sign_of start part None = part
+with_sign_of start part (Some sign) = with_prefix start sign part
+
+abbrev pub with_sign : List Lexeme → FormRead → FormRead
+with_sign [] part = part
+with_sign (lexeme ∷ rest) part = with_sign_of lexeme.text.start part (prefix_sign lexeme.kind)
 
 -- the model of a rule that was read
 abbrev pub rule_seen : ReadRule → RuleRead

@@ -1,10 +1,11 @@
 //! Expressions that were read, and how several become a sequence or a choice.
-ghost use Rattle.std.specs.Prelude.{◌≡◌, ◌≤◌, ◌+◌, ◌<◌, ◌^◌, max, length, IfOk, OnOk};
+ghost use Rattle.std.specs.Prelude.{◌≡◌, ◌≤◌, ◌+◌, ◌<◌, ◌^◌, max, length, Ok, OnOk};
 ghost use Rattle.peg_bytes.specs.Extent.{extent, between};
 ghost use Rattle.peg_grammar.specs.Written.{form_of};
 ghost use Rattle.peg_notation.specs.Reader.{whole_sequence, whole_choice, no_more};
-ghost use Rattle.peg_notation.specs.ReaderCode.{form_seen, forms_seen, with_form};
+ghost use Rattle.peg_notation.specs.ReaderCode.{form_seen, forms_seen, with_form, Agrees};
 
+use crate::fault::NotationFault;
 use peg_grammar::Expr;
 use peg_metagrammar::{choice_of, sequence_of};
 use std::alloc::{AllocError, Global};
@@ -19,7 +20,7 @@ pub(crate) struct ParsedExpr {
     /// The offset where the text of its last token ends. Without tokens, it is the end of the token before it.
     pub(crate) last: u32,
     /// The nesting depth of its parentheses.
-    pub(crate) depth: usize,
+    pub(crate) depth: u32,
 }
 
 /// Several expressions that were read one after the other.
@@ -28,7 +29,7 @@ pub(crate) struct ParsedExprs {
     pub(crate) expressions: Vec<Expr>,
     pub(crate) token_count: usize,
     pub(crate) last: u32,
-    pub(crate) depth: usize,
+    pub(crate) depth: u32,
 }
 
 impl ParsedExprs {
@@ -65,9 +66,9 @@ impl ParsedExprs {
         alloc: Global,
         before: u32,
         start: u32,
-    ) -> Result<ParsedExpr, AllocError>
+    ) -> Result<ParsedExpr, NotationFault>
         requires { 1 < length self.expressions.items → start ≤ self.last }
-        ensures { IfOk result (λ part. form_seen part ≡ whole_sequence before start (forms_seen self)) }
+        ensures { Agrees form_seen (Ok (whole_sequence before start (forms_seen self))) result }
     {
         let ParsedExprs {
             expressions,
@@ -92,10 +93,10 @@ impl ParsedExprs {
         alloc: Global,
         start: u32,
         first: ParsedExpr,
-    ) -> Result<ParsedExpr, AllocError>
+    ) -> Result<ParsedExpr, NotationFault>
         requires few { first.token_count + self.token_count < 2 ^ 64 }
         requires order { 0 < length self.expressions.items → start ≤ self.last }
-        ensures { IfOk result (λ part. form_seen part ≡ whole_choice start (form_seen first) (forms_seen self)) }
+        ensures { Agrees form_seen (Ok (whole_choice start (form_seen first) (forms_seen self))) result }
     {
         let ParsedExprs {
             expressions,

@@ -12,7 +12,7 @@ ghost use Rattle.peg_notation.specs.Reader.{one_token, closed_form, parenthesize
 ghost use Rattle.peg_notation.specs.Reader.{then_suffix, suffix, with_prefix, prefix, sequence, alternative};
 ghost use Rattle.peg_notation.specs.Reader.{expression};
 ghost use Rattle.peg_notation.specs.ReaderCode.{lexemes, IsText, AreTexts, form_seen, inner_reading, Agrees, IsCounted};
-ghost use Rattle.peg_notation.specs.ReaderCode.{IsBounded};
+ghost use Rattle.peg_notation.specs.ReaderCode.{IsBounded, after_sign, with_sign};
 ghost use Rattle.peg_notation.specs.Spans.{LiesIn};
 ghost use Rattle.peg_metagrammar.specs.Denotation.{bytes_in, ranges_in};
 ghost use Rattle.peg_lexer.specs.Tokens.{lexeme_of};
@@ -22,7 +22,7 @@ use crate::fault::NotationFault;
 use peg_bytes::{ByteSet, Span};
 use peg_grammar::Expr;
 use peg_lexer::{Bounds, Token, TokenKind, class_of_token, count_bounds, literal_bytes, name_text};
-use std::alloc::{AllocError, Global};
+use std::alloc::Global;
 
 /// A reader of a file. Each call gets the tokens that are left.
 #[derive(Clone, Copy, Debug)]
@@ -79,6 +79,18 @@ fn begins_prefix(tokens: &[Token]) -> bool
     }
 }
 
+// The tokens after the sign of a predicate, or all tokens if there is none.
+fn after_sign(tokens: &[Token]) -> &[Token]
+    ensures tokens { lexemes result.now ≡ after_sign (lexemes tokens.now) }
+    ensures len { length result.now ≤ length tokens.now }
+{
+    match tokens {
+        [sign, ..] if matches!(sign.kind, TokenKind::And) => &tokens[1..],
+        [sign, ..] if matches!(sign.kind, TokenKind::Not) => &tokens[1..],
+        _ => tokens,
+    }
+}
+
 impl<'a> Reader<'a> {
     ghost use Rattle.peg_notation.specs.ReaderFile.{file_of};
 
@@ -111,7 +123,7 @@ impl<'a> Reader<'a> {
         &self,
         before: u32,
         tokens: &[Token],
-        left: usize,
+        left: u32,
     ) -> Result<ParsedExpr, NotationFault>
         requires texts { AreTexts (file_of self.now) before (lexemes tokens.now) }
         ensures read { Agrees form_seen
@@ -126,13 +138,13 @@ impl<'a> Reader<'a> {
             let alternative = self.alternative(rest_after(rest, more.token_count), left)?;
             more.add(alternative)?;
         }
-        Ok(more.into_choice(self.alloc, self.place_of(tokens), first)?)
+        more.into_choice(self.alloc, self.place_of(tokens), first)
     }
 
     // A slash and the sequence after it.
     #[cycle(reader)]
     #[tactic(auto, using(crate::proofs::ReaderSteps::faults), unfolding(crate::specs::Reader::alternative))]
-    fn alternative(&self, tokens: &[Token], left: usize) -> Result<ParsedExpr, NotationFault>
+    fn alternative(&self, tokens: &[Token], left: u32) -> Result<ParsedExpr, NotationFault>
         requires texts { AreTexts (file_of self.now) 0 (lexemes tokens.now) }
         ensures read { (before : ℕ) → Agrees form_seen
             (alternative (file_of self.now) (inner_reading (file_of self.now) left) before
@@ -160,7 +172,7 @@ impl<'a> Reader<'a> {
         &self,
         before: u32,
         tokens: &[Token],
-        left: usize,
+        left: u32,
     ) -> Result<ParsedExpr, NotationFault>
         requires texts { AreTexts (file_of self.now) before (lexemes tokens.now) }
         ensures read { Agrees form_seen
@@ -173,13 +185,13 @@ impl<'a> Reader<'a> {
             let item = self.prefix(rest_after(tokens, items.token_count), left)?;
             items.add(item)?;
         }
-        Ok(items.into_sequence(self.alloc, before, self.place_of(tokens))?)
+        items.into_sequence(self.alloc, before, self.place_of(tokens))
     }
 
-    // Prefix: a suffix, or a predicate of one.
+    // Prefix: a suffix, or a predicate of one. Each function is called at one place, so that it needs no frame of its own.
     #[cycle(reader)]
-    #[tactic(auto, using(crate::proofs::ReaderSteps::faults), unfolding(crate::specs::Reader::prefix))]
-    fn prefix(&self, tokens: &[Token], left: usize) -> Result<ParsedExpr, NotationFault>
+    #[tactic(auto, using(crate::proofs::ReaderSteps::faults))]
+    fn prefix(&self, tokens: &[Token], left: u32) -> Result<ParsedExpr, NotationFault>
         requires texts { AreTexts (file_of self.now) 0 (lexemes tokens.now) }
         ensures read { Agrees form_seen
             (prefix (file_of self.now) (inner_reading (file_of self.now) left) (lexemes tokens.now)) result }
@@ -187,24 +199,35 @@ impl<'a> Reader<'a> {
         ensures some { IfOk result (λ part. 0 < part.token_count) }
         ensures shallow { IfOk result (λ part. part.depth ≤ left) }
     {
+        let part = self.suffix(after_sign(tokens), left)?;
+        self.with_sign(tokens, part)
+    }
+
+    // Makes a predicate of a suffix if its sign is the next token.
+    #[inline(never)]
+    fn with_sign(&self, tokens: &[Token], part: ParsedExpr) -> Result<ParsedExpr, NotationFault>
+        requires few { part.token_count < 2 ^ 63 }
+        requires fits { part.token_count ≤ length (after_sign (lexemes tokens.now)) }
+        requires order { place_of (length (file_of self.now)) (lexemes tokens.now) ≤ part.last }
+        ensures read { Agrees form_seen (Ok (with_sign (lexemes tokens.now) (form_seen part))) result }
+        ensures fits { IfOk result (λ whole. whole.token_count ≤ length tokens.now) }
+        ensures some { IfOk result (λ whole. part.token_count ≤ whole.token_count) }
+        ensures depth { IfOk result (λ whole. whole.depth ≡ part.depth) }
+    {
         match tokens {
-            [sign, ..] if matches!(sign.kind, TokenKind::And) => {
-                let part = self.suffix(&tokens[1..], left)?;
-                Ok(self.and(*sign, part)?)
-            }
-            [sign, ..] if matches!(sign.kind, TokenKind::Not) => {
-                let part = self.suffix(&tokens[1..], left)?;
-                Ok(self.not(*sign, part)?)
-            }
-            _ => self.suffix(tokens, left),
+            [sign, ..] if matches!(sign.kind, TokenKind::And) => self.and(*sign, part),
+            [sign, ..] if matches!(sign.kind, TokenKind::Not) => self.not(*sign, part),
+            _ => Ok(part),
         }
     }
 
     #[inline(never)]
-    fn and(&self, sign: Token, part: ParsedExpr) -> Result<ParsedExpr, AllocError>
+    fn and(&self, sign: Token, part: ParsedExpr) -> Result<ParsedExpr, NotationFault>
         requires few { part.token_count < 2 ^ 63 }
         requires order { sign.span.start ≤ part.last }
-        ensures { IfOk result (λ whole. form_seen whole ≡ with_prefix sign.span.start And (form_seen part)) }
+        ensures read { Agrees form_seen (Ok (with_prefix sign.span.start And (form_seen part))) result }
+        ensures count { IfOk result (λ whole. whole.token_count ≡ 1 + part.token_count) }
+        ensures depth { IfOk result (λ whole. whole.depth ≡ part.depth) }
     {
         let expression = Expr::And {
             part: part.expression,
@@ -219,10 +242,12 @@ impl<'a> Reader<'a> {
     }
 
     #[inline(never)]
-    fn not(&self, sign: Token, part: ParsedExpr) -> Result<ParsedExpr, AllocError>
+    fn not(&self, sign: Token, part: ParsedExpr) -> Result<ParsedExpr, NotationFault>
         requires few { part.token_count < 2 ^ 63 }
         requires order { sign.span.start ≤ part.last }
-        ensures { IfOk result (λ whole. form_seen whole ≡ with_prefix sign.span.start Not (form_seen part)) }
+        ensures read { Agrees form_seen (Ok (with_prefix sign.span.start Not (form_seen part))) result }
+        ensures count { IfOk result (λ whole. whole.token_count ≡ 1 + part.token_count) }
+        ensures depth { IfOk result (λ whole. whole.depth ≡ part.depth) }
     {
         let expression = Expr::Not {
             part: part.expression,
@@ -239,7 +264,7 @@ impl<'a> Reader<'a> {
     // Suffix: a primary with an optional operator or count.
     #[cycle(reader)]
     #[tactic(auto, using(crate::proofs::ReaderSteps::faults), unfolding(crate::specs::Reader::suffix))]
-    fn suffix(&self, tokens: &[Token], left: usize) -> Result<ParsedExpr, NotationFault>
+    fn suffix(&self, tokens: &[Token], left: u32) -> Result<ParsedExpr, NotationFault>
         requires texts { AreTexts (file_of self.now) 0 (lexemes tokens.now) }
         ensures read { Agrees form_seen
             (suffix (file_of self.now) (inner_reading (file_of self.now) left) (lexemes tokens.now)) result }
@@ -361,7 +386,7 @@ impl<'a> Reader<'a> {
     // Primary: a name, a literal, a class, a dot, or an expression in parentheses.
     #[cycle(reader)]
     #[tactic(auto, using(crate::proofs::ReaderSteps::faults), unfolding(crate::specs::Reader::primary))]
-    fn primary(&self, tokens: &[Token], left: usize) -> Result<ParsedExpr, NotationFault>
+    fn primary(&self, tokens: &[Token], left: u32) -> Result<ParsedExpr, NotationFault>
         requires texts { AreTexts (file_of self.now) 0 (lexemes tokens.now) }
         ensures read { Agrees form_seen
             (primary (file_of self.now) (inner_reading (file_of self.now) left) (lexemes tokens.now)) result }
@@ -374,7 +399,7 @@ impl<'a> Reader<'a> {
                 TokenKind::Ident => self.name(*token, &tokens[1..]),
                 TokenKind::Literal => self.literal(*token),
                 TokenKind::Class => self.class(*token),
-                TokenKind::Dot => one_token(self.alloc, any_of(token.span), *token),
+                TokenKind::Dot => self.any(*token),
                 TokenKind::Open => self.parenthesized(*token, &tokens[1..], left),
                 _ => Err(self.unexpected(tokens)),
             },
@@ -431,6 +456,14 @@ impl<'a> Reader<'a> {
         one_token(self.alloc, class_of(set, span), token)
     }
 
+    // Any one byte.
+    #[inline(never)]
+    fn any(&self, token: Token) -> Result<ParsedExpr, NotationFault>
+        ensures { Agrees form_seen (one_token (Any (extent token.span)) (lexeme_of token)) result }
+    {
+        one_token(self.alloc, any_of(token.span), token)
+    }
+
     // The expression after an open parenthesis, if one more may be open, and the parenthesis that closes it.
     #[cycle(reader)]
     #[tactic(auto, using(crate::proofs::ReaderSteps::faults))]
@@ -438,7 +471,7 @@ impl<'a> Reader<'a> {
         &self,
         opening: Token,
         rest: &[Token],
-        left: usize,
+        left: u32,
     ) -> Result<ParsedExpr, NotationFault>
         requires texts { AreTexts (file_of self.now) opening.span.end (lexemes rest.now) }
         ensures read { Agrees form_seen (parenthesized (inner_reading (file_of self.now) left) (length
@@ -462,7 +495,7 @@ impl<'a> Reader<'a> {
     #[inline(never)]
     fn closed(&self, rest: &[Token], inside: ParsedExpr) -> Result<ParsedExpr, NotationFault>
         requires few { inside.token_count < 2 ^ 63 }
-        requires shallow { inside.depth + 1 < 2 ^ 64 }
+        requires shallow { inside.depth + 1 < 2 ^ 32 }
         ensures read { Agrees form_seen
             (closed_form (length (file_of self.now)) (form_seen inside) (lexemes rest.now)) result }
         ensures fits { IfOk result (λ part. part.token_count ≤ inside.token_count + 1 + length rest.now) }

@@ -20,14 +20,14 @@ pub(crate) struct ReadRule {
     /// The number of its tokens.
     pub(crate) token_count: usize,
     /// The nesting depth of its parentheses.
-    pub(crate) depth: usize,
+    pub(crate) depth: u32,
 }
 
 /// The rules that were read.
 #[derive(Debug, Drop)]
 pub(crate) struct ReadRules {
     pub(crate) definitions: Vec<Definition>,
-    pub(crate) depth: usize,
+    pub(crate) depth: u32,
 }
 
 impl<'a> Reader<'a> {
@@ -44,7 +44,7 @@ impl<'a> Reader<'a> {
         }
         let mut definitions = Vec::new(self.alloc);
         let mut token_count = 0;
-        let mut depth: usize = 0;
+        let mut depth: u32 = 0;
         'rules: while token_count < tokens.len() {
             let rule = self.definition(rest_after(tokens, token_count))?;
             token_count += rule.token_count;
@@ -83,7 +83,7 @@ impl<'a> Reader<'a> {
     {
         match rest {
             [arrow, ..] if starts_with_arrow(rest) => {
-                let body = self.expression(arrow.span.end, &rest[1..], MAX_OPEN)?;
+                let body = self.expression(arrow.span.end, &rest[1..], MAX_OPEN as u32)?;
                 let span = name.span;
                 let text = &self.file[span.start as usize..span.end as usize];
                 let definition = Definition {

@@ -1,12 +1,12 @@
 use Rattle.std.proofs.Common.{rules, ◌≡◌, ◌+◌, ◌-◌, length, drop, Ok, Result, refl, sym, ap, ◌∙◌, subst, arith}
 use Rattle.std.proofs.lemmas.List.{length-map}
 use Rattle.peg_grammar.specs.Written.{form_of}
-use Rattle.peg_notation.specs.Reader.{FormRead, FormsRead, ReadError, and_read, begins_prefix, starts_with_slash, closed_form, parenthesized, many_forms, prefix, sequence, alternative, expression, whole_sequence, whole_choice}
-use Rattle.peg_notation.specs.ReaderCode.{lexemes, AreTexts, form_seen, forms_seen, inner_reading, Agrees, AgreesOnError}
+use Rattle.peg_notation.specs.Reader.{FormRead, FormsRead, ReadError, and_read, begins_prefix, starts_with_slash, closed_form, parenthesized, many_forms, prefix, suffix, sequence, alternative, expression, whole_sequence, whole_choice}
+use Rattle.peg_notation.specs.ReaderCode.{lexemes, AreTexts, form_seen, forms_seen, inner_reading, Agrees, AgreesOnError, after_sign, with_sign}
 use Rattle.peg_notation.specs.ReaderFile.{file_of}
 use Rattle.peg_lexer.specs.Tokens.{lexeme_of}
 use Rattle.peg_notation.proofs.ManyLoops.{SoFar, so_far-one, so_far-all}
-use Rattle.peg_notation.proofs.ReaderSteps.{fault_passes, parenthesized-is, texts-following, front_lies, prefix_order, primary_taken, items_order, choice_order, sequence_fault, expression_fault, sequence_read, expression_read}
+use Rattle.peg_notation.proofs.ReaderSteps.{fault_passes, parenthesized-is, texts-following, front_lies, prefix-is, sign_order, sign_texts, primary_taken, items_order, choice_order, sequence_fault, expression_fault, sequence_read, expression_read}
 use Rattle.peg_notation.proofs.reader.Reader.+reader.Goals as goal
 
 -- ---- Primary
@@ -58,15 +58,40 @@ suffix-then_suffix-requires-clause-texts t c =
     let e = primary_taken file c.args.left (lexemes c.args.tokens.now) c.requires.texts (form_seen c.in_ok-part.part) c.in_ok-part.ensures.read in
     subst (AreTexts file c.in_ok-part.part.last) (sym c.rest_after.ensures.tokens) e.rest_texts
 
-pub prefix-and-requires-clause-order : goal.prefix-and-requires-clause-order
-prefix-and-requires-clause-order t c =
-    prefix_order (file_of c.args.self.now) c.args.left c.args.tokens.now c.sign-item.result c.in-len1-up.len_at_least c.sign-item.is
-    c.requires.texts (form_seen c.in_ok-part-in-len1-up.part) c.in_ok-part-in-len1-up.ensures.read
+pub prefix-suffix-requires : goal.prefix-suffix-requires
+prefix-suffix-requires t c = (
+  omega arith,
+  subst (AreTexts (file_of c.args.self.now) 0) (sym c.after_sign.ensures.tokens)
+      (sign_texts (file_of c.args.self.now) (lexemes c.args.tokens.now) c.requires.texts),
+)
 
-pub prefix-not-requires-clause-order : goal.prefix-not-requires-clause-order
-prefix-not-requires-clause-order t c =
-    prefix_order (file_of c.args.self.now) c.args.left c.args.tokens.now c.sign-item-2.result c.in-len1-up.len_at_least c.sign-item-2.is
-    c.requires.texts (form_seen c.in_ok-part-in-len1-up-2.part) c.in_ok-part-in-len1-up-2.ensures.read
+pub prefix-with_sign-requires-clause-order : goal.prefix-with_sign-requires-clause-order
+prefix-with_sign-requires-clause-order t c =
+    let file = file_of c.args.self.now in
+    sign_order file c.args.left (lexemes c.args.tokens.now) c.requires.texts (form_seen c.in_ok-part.part)
+    (ap (suffix file (inner_reading file c.args.left)) (sym c.after_sign.ensures.tokens) ∙ c.in_ok-part.ensures.read)
+
+pub prefix-returns-in_err-part-clause-read : goal.prefix-returns-in_err-part-clause-read
+prefix-returns-in_err-part-clause-read t c =
+    let file = file_of c.args.self.now in
+    let inner = inner_reading file c.args.left in
+    let ls = lexemes c.args.tokens.now in
+    let fault = c.in_err-part.field-0.0 in
+    let stated : AgreesOnError (prefix file inner ls) fault =
+    subst (λ (x : Result FormRead ReadError). AgreesOnError x fault) (sym (prefix-is file inner ls))
+    (fault_passes (suffix file inner (after_sign ls)) (λ (part : FormRead). Ok (with_sign ls part)) fault
+    (subst (λ l. AgreesOnError (suffix file inner l) fault) c.after_sign.ensures.tokens c.in_err-part.ensures.read)) in
+    search (rules, stated)
+
+pub prefix-returns-clause-read : goal.prefix-returns-clause-read
+prefix-returns-clause-read t c =
+    let file = file_of c.args.self.now in
+    let inner = inner_reading file c.args.left in
+    let ls = lexemes c.args.tokens.now in
+    let read = ap (suffix file inner) (sym c.after_sign.ensures.tokens) ∙ c.in_ok-part.ensures.read in
+    subst (λ (x : Result FormRead ReadError). Agrees form_seen x c.with_sign.result)
+    (sym (prefix-is file inner ls ∙ ap (λ (x : Result FormRead ReadError). and_read x (λ (part : FormRead). Ok (with_sign ls part))) read))
+    c.with_sign.ensures.read
 
 -- ---- Sequence
 
@@ -123,9 +148,10 @@ sequence-returns-clause-read t c =
     let ls = lexemes c.args.tokens.now in
     let ended = ap begins_prefix (sym c.rest_after.ensures.tokens) ∙ (sym c.begins_prefix.ensures ∙ c.items-test.false) in
     let all = so_far-all begins_prefix (λ b. prefix file inner) c.args.before ls (forms_seen c.items.items) c.items.invariant.so_far ended in
-    sequence_read file inner c.args.before ls (forms_seen c.items.items) all
-    ∙ ap (λ (p : FormRead). Ok p) (ap (λ start. whole_sequence c.args.before start (forms_seen c.items.items)) (sym c.place_of.ensures)
-    ∙ sym c.in_ok-into_sequence.ensures)
+    subst (λ (x : Result FormRead ReadError). Agrees form_seen x c.into_sequence.result)
+    (sym (sequence_read file inner c.args.before ls (forms_seen c.items.items) all
+    ∙ ap (λ start. Ok (whole_sequence c.args.before start (forms_seen c.items.items))) (sym c.place_of.ensures)))
+    c.into_sequence.ensures
 
 -- ---- Expression
 
@@ -203,5 +229,7 @@ expression-returns-clause-read t c =
     let ended = ap starts_with_slash (sym c.rest_after.ensures.tokens) ∙ (sym c.starts_with_slash.ensures ∙ c.alternatives-test.false) in
     let all = ap (λ l. many_forms starts_with_slash (alternative file inner) first.last l) (sym rest)
     ∙ so_far-all starts_with_slash (alternative file inner) first.last (lexemes c.rest_after-rest.result.now) more c.alternatives.invariant.so_far ended in
-    expression_read file inner c.args.before ls first more c.in_ok-first.ensures.read all
-    ∙ ap (λ (p : FormRead). Ok p) (ap (λ start. whole_choice start first more) (sym c.place_of.ensures) ∙ sym c.in_ok-into_choice.ensures)
+    subst (λ (x : Result FormRead ReadError). Agrees form_seen x c.into_choice.result)
+    (sym (expression_read file inner c.args.before ls first more c.in_ok-first.ensures.read all
+    ∙ ap (λ start. Ok (whole_choice start first more)) (sym c.place_of.ensures)))
+    c.into_choice.ensures
