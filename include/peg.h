@@ -18,6 +18,7 @@
  *   no memory for a result in the memo, the memo evicts older results and tries again; the parse is out of memory only
  *   if none is left. If there is none for tables that save time, the parse goes on without them.
  *   The library prints nothing, doesn't end the process and has no global state.
+ *   A call takes at most 240 KiB of the caller's stack. This bound is measured, not proved.
  *
  * Pointers
  *   No pointer may be NULL, not even with a length of 0: pass any valid address, such as that of a string literal.

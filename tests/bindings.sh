@@ -36,6 +36,7 @@ compile lint examples/c/lint.c $archive
 compile misuse tests/c/misuse.c $archive
 compile memory tests/c/memory.c $archive $wrap
 compile threads tests/c/threads.c $archive -pthread
+compile stack tests/c/stack.c $archive -pthread
 # In C++ the outputs of calls are initialised by `= {}`.
 printf '#include "peg.h"
 int main() {
@@ -110,6 +111,7 @@ printf '%s' "$(printf '(%.0s' {1..22})a$(printf ')y%.0s' {1..22})" > "$work/nest
 "$work/memory" "$work/nested.peg" "$work/nested" || fault "memory of a nested text"
 
 "$work/threads" examples/json.peg "$json" || fault "threads"
+"$work/stack" || fault "stack"
 
 if command -v valgrind > /dev/null; then
   under() { # the program and its words: no error and no leak
