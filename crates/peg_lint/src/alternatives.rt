@@ -33,6 +33,7 @@ fn span_if_certain(expr: &Expr, can: Can) -> Option<Span>
 
 /// Adds a warning for each alternative of a choice after the first that never fails. The outcomes are those of the
 /// alternatives. Takes time linear in their number.
+#[inline(never)]
 pub(crate) fn add_never_tried(
     rule: u32,
     first: &Expr,

@@ -51,6 +51,7 @@ fn dot_at_end(expr: &Expr) -> Option<Span>
 
 /// Adds a warning if the expression of a rule ends in a dot after an item other than a predicate or a dot, and the rule
 /// isn't the last one.
+#[inline(never)]
 pub(crate) fn add_dot_at_end(
     grammar: &Grammar,
     rule: u32,

@@ -24,6 +24,7 @@ fn empty_span(expr: &Expr) -> Option<Span>
 }
 
 /// Adds a warning for each empty alternative of a choice but the last. Takes time linear in their number.
+#[inline(never)]
 pub(crate) fn add_empty_alternatives(
     rule: u32,
     first: &Expr,

@@ -36,6 +36,7 @@ pub(crate) fn span_of(expr: &Expr) -> Span
 }
 
 /// Returns the outcomes of a literal.
+#[inline(never)]
 pub(crate) fn literal_outcome(bytes: &[u8]) -> Can
     ensures { (rules : List Rule) (span : Extent) → IsAbstractOutcome rules (Literal bytes.now span) (can_of result) }
 {
@@ -47,6 +48,7 @@ pub(crate) fn literal_outcome(bytes: &[u8]) -> Can
 }
 
 /// Returns the outcomes of a name, from those of each rule.
+#[inline(never)]
 pub(crate) fn name_outcome(grammar: &Grammar, outcomes: &[Can], name: &str) -> Can
     requires { AreAbstractOutcomes (rules_in grammar.now) (map can_of outcomes.now) }
     ensures { (span : Extent) → IsAbstractOutcome (rules_in grammar.now) (Name name.now span) (can_of result) }
@@ -58,6 +60,7 @@ pub(crate) fn name_outcome(grammar: &Grammar, outcomes: &[Can], name: &str) -> C
 }
 
 /// Returns the outcomes of an operator, from those of its part; of other expressions, none.
+#[inline(never)]
 pub(crate) fn operator_outcome(expr: &Expr, part: Can) -> Can
     ensures { (rules : List Rule) (e : Form) → IsOperatorOn (form_of expr.now) e
         → IsAbstractOutcome rules e (can_of part) → IsAbstractOutcome rules (form_of expr.now) (can_of result) }

@@ -13,6 +13,7 @@ use peg_grammar::Expr;
 use std::alloc::AllocError;
 
 // Adds the warnings about the text of an expression, without those about its parts.
+#[inline(never)]
 fn add_of_text(
     file: &[u8],
     rule: u32,

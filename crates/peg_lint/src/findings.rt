@@ -24,6 +24,7 @@ fn is_exempt(expr: &Expr) -> bool {
 }
 
 /// Adds a warning if an expression with these outcomes never matches, except for a predicate or a class.
+#[inline(never)]
 pub(crate) fn add_never_matches(
     rule: u32,
     expr: &Expr,
@@ -69,6 +70,7 @@ fn operator_kind(expr: &Expr, part: Can) -> Option<WarningKind>
 }
 
 /// Adds a warning if an operator whose part has these outcomes always fails or has no effect.
+#[inline(never)]
 pub(crate) fn add_operator(
     rule: u32,
     expr: &Expr,

@@ -153,6 +153,7 @@ pub(crate) fn not(part: Can) -> Can
 }
 
 /// Returns the outcomes of a sequence of items with these outcomes. Takes time linear in their number.
+#[inline(never)]
 pub(crate) fn all_of(items: &[Can]) -> Can
     ensures { can_of result ≡ outcome_of_all (map can_of items.now) }
 {
@@ -167,6 +168,7 @@ pub(crate) fn all_of(items: &[Can]) -> Can
 
 /// Returns the outcomes of a choice of alternatives with these outcomes; of none, those of a failure. Takes time linear
 /// in their number.
+#[inline(never)]
 pub(crate) fn any_of(alternatives: &[Can]) -> Can
     ensures { can_of result ≡ outcome_of_any (map can_of alternatives.now) }
 {

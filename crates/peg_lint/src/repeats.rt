@@ -89,6 +89,7 @@ fn add_if_same(
 
 /// Adds a warning for each alternative of a choice that is the same as an earlier one but for its span. Compares each
 /// alternative with one other of the same digest, so this takes time linear in the choice, apart from sorting.
+#[inline(never)]
 pub(crate) fn add_same_alternatives(
     alloc: Global,
     rule: u32,

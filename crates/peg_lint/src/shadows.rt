@@ -39,6 +39,7 @@ fn shadowing(grammar: &Grammar, first: &Expr, rest: &[Expr], number: usize) -> O
 
 /// Adds a warning for each alternative of a choice that fails wherever one of the 32 before it fails, where that one is
 /// a literal, a class or a dot. One that is the same has another kind of warning. Takes time linear in the choice.
+#[inline(never)]
 pub(crate) fn add_shadowed(
     grammar: &Grammar,
     rule: u32,

@@ -38,6 +38,7 @@ fn is_stuck(grammar: &Grammar, repeat: &Expr, next: &Expr) -> bool
 
 /// Adds a warning for each item of a sequence that fails wherever the star or plus before it ends. Takes time linear in
 /// the sequence.
+#[inline(never)]
 pub(crate) fn add_never_stops(
     grammar: &Grammar,
     rule: u32,
