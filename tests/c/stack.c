@@ -33,6 +33,7 @@ static const struct shape SHAPES[] = {
     {"'c' / 'b' !(", "'a'", ")*", LEVELS},
     {"'c' / 'b' &(", "'a'", ")? 'd' / 'e'", LEVELS},
     {"'c' / 'd' / 'b' !(", "'a'", "){1} 'd' / 'e'", LEVELS},
+    {"'a' !('b' &(", "'a'", ")? 'x' / 'y')? / 'z'", LEVELS / 2},
     {"(", "'a'", ")* 'b' / 'c'", LEVELS},
     {"'c' / 'b' (", "'a'", ")?", LEVELS},
     {"'b' / (", "'a'", ")", LEVELS},
