@@ -53,7 +53,7 @@ use Rattle.peg_tool.specs.Task.{ToolTask, Checks}
 use Rattle.peg_tool.specs.declared.covering.CoverFault.{CoverFault}
 use Rattle.peg_tool.specs.declared.covering.CoverFault.TheVariants as cover
 use Rattle.peg_tool.specs.declared.covering.CoverageReply.{CoverageReply}
-use Rattle.peg_tool.specs.declared.explaining.Explanation.{Explanation}
+use Rattle.peg_tool.specs.declared.report.Findings.{Findings}
 use Rattle.peg_tool.specs.declared.fault.RequestFault.{RequestFault}
 use Rattle.peg_tool.specs.declared.fault.RequestFault.TheVariants as failed
 use Rattle.peg_tool.specs.declared.program.ProgramFault.{ProgramFault}
@@ -215,7 +215,7 @@ none-unreadable file_at texts unread all any =
 
 -- what is written of a reply is written for a request
 pub reply-written : (task : ToolTask) (names : List (List ℕ)) (held left old new : Option (List ℕ)) (reply : CoverageReply)
-    (result : Result Explanation ProgramFault) → IfSome held (λ bytes. left ≡ Some bytes)
+    (result : Result Findings ProgramFault) → IfSome held (λ bytes. left ≡ Some bytes)
     → WritesCoverageReply reply old new result
     → IfSome left (λ file. (text : List ℕ) → IsReplyOfKind (RepliesTo file text task) names file reply)
     → IfSome held (λ file. (text : List ℕ)
@@ -226,7 +226,7 @@ reply-written task names (Some file) left old new reply result opened writes rig
     → IsReplyOfKind (RepliesTo f t task) names f reply)) opened right in
     by result writes (known text)
   where
-    by : {text : List ℕ} (r : Result Explanation ProgramFault) → WritesCoverageReply reply old new r
+    by : {text : List ℕ} (r : Result Findings ProgramFault) → WritesCoverageReply reply old new r
         → IsReplyOfKind (RepliesTo file text task) names file reply
         → WritesCoverage (IsPrintedOf (RepliesTo file text task) names file) old new r
     by (Ok ended) written is = (

@@ -7,6 +7,7 @@ mod ListedNames
 mod ParsedLines
 mod ProfiledLines
 mod ProgramLemmas
+mod ReportLemmas
 mod RunLemmas
 mod SelectedAnswers
 mod WriteLemmas

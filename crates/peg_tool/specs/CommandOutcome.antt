@@ -1,4 +1,4 @@
--- The result of the program for a request.
+-- How a request ends, and the exit status of the program for it.
 use Rattle.std.specs.Prelude.{◌≡◌, ◌⊎◌, ℕ, List, Option}
 use Rattle.std.specs.Prelude.{Result, Ok, Err, IfSome}
 use Rattle.std.specs.Io.KnownBytes.{Appends, Keeps}
@@ -10,11 +10,13 @@ use Rattle.peg_tool.specs.Explanations.{ExplanationOutcome}
 use Rattle.peg_tool.specs.Replies.{IsPrinted, IsPrintedJoined}
 use Rattle.peg_tool.specs.Requests.{ToolRequest, InputRequest, HelpRequest, FileRequest, FilesRequest, CoverRequest, ExplainRequest}
 use Rattle.peg_tool.specs.Written.{PrintsInPart}
-use Rattle.peg_tool.specs.declared.explaining.Explanation.{Explanation}
+use Rattle.peg_tool.specs.declared.report.Findings.{Findings}
 use Rattle.peg_tool.specs.declared.write.CommandFault.{CommandFault}
 use Rattle.peg_tool.specs.declared.write.CommandFault.TheVariants as command
 use Rattle.peg_tool.specs.declared.program.ProgramFault.{ProgramFault}
 use Rattle.peg_tool.specs.declared.program.ProgramFault.TheVariants.{File, Memory}
+use Rattle.peg_tool.specs.declared.report.Report.{Report}
+use Rattle.peg_tool.specs.declared.report.Report.TheVariants as report
 
 -- What is written to the output: a correct line, whose exit status is returned. If an allocation failed nothing is
 -- written. If a device failed, nothing or a proper prefix of a correct line is written.
@@ -28,28 +30,51 @@ WritesOrFails IsRight old new (Err File) = Keeps old new ⊎ PrintsInPart IsRigh
 abbrev pub IsHelp : (text : List ℕ) → (line : List ℕ) → (status : ℕ) → Type 0
 IsHelp text line status = (line ≡ text) × (status ≡ 0)
 
--- the result of the program for that of an explanation or a coverage
-abbrev pub status_result : Result Explanation ProgramFault → Result ℕ ProgramFault
-status_result (Ok explanation) = Ok explanation.status
+-- what is reported of an exit status, and of an explanation or a coverage
+abbrev pub done_result : Result ℕ ProgramFault → Result Report ProgramFault
+done_result (Ok status) = Ok (report.Done status)
+done_result (Err fault) = Err fault
+
+abbrev pub found_result : Result Findings ProgramFault → Result Report ProgramFault
+found_result (Ok findings) = Ok (report.Found findings)
+found_result (Err fault) = Err fault
+
+-- How a request ends, over files by name and an input. It promises nothing if the bytes of a file or of the input
+-- aren't specified.
+abbrev pub RequestOutcome : ToolRequest → (file_at : List ℕ → NamedFile) → (input : Option (List ℕ))
+    → (old new : Option (List ℕ)) → Result Report ProgramFault → Type 0
+RequestOutcome InputRequest file_at input old new ended = (done : Result ℕ ProgramFault)
+    × IfSome input (λ bytes. WritesOrFails (IsPrintedJoined bytes) old new done) × (ended ≡ done_result done)
+RequestOutcome (HelpRequest text) file_at input old new ended =
+    (done : Result ℕ ProgramFault) × WritesOrFails (IsHelp text) old new done × (ended ≡ done_result done)
+RequestOutcome (FileRequest task g) file_at input old new ended = (done : Result ℕ ProgramFault)
+    × IfSome (bytes_of (file_at g)) (λ file. (text : List ℕ) → WritesOrFails (IsPrinted task file text) old new done)
+    × (ended ≡ done_result done)
+RequestOutcome (FilesRequest task g t) file_at input old new ended = (done : Result ℕ ProgramFault)
+    × IfSome (bytes_of (file_at g)) (λ file. IfSome (bytes_of (file_at t)) (λ text.
+    WritesOrFails (IsPrinted task file text) old new done))
+    × (ended ≡ done_result done)
+RequestOutcome (CoverRequest start memo steps g texts) file_at input old new ended =
+    (found : Result Findings ProgramFault) × CoverageOutcome start memo steps g texts file_at old new found
+    × (ended ≡ found_result found)
+RequestOutcome (ExplainRequest question printing) file_at input old new ended =
+    (found : Result Findings ProgramFault) × ExplanationOutcome question printing file_at input old new found
+    × (ended ≡ found_result found)
+
+-- the exit status of a report
+abbrev pub report_status : Report → ℕ
+report_status (report.Done status) = status
+report_status (report.Found findings) = findings.status
+
+abbrev pub status_result : Result Report ProgramFault → Result ℕ ProgramFault
+status_result (Ok it) = Ok (report_status it)
 status_result (Err fault) = Err fault
 
--- The result of the program for a request, over files by name and an input. It promises nothing if the bytes of a file
--- or of the input aren't specified.
+-- the exit status of the program for a request, or its fault
 abbrev pub CommandOutcome : ToolRequest → (file_at : List ℕ → NamedFile) → (input : Option (List ℕ))
     → (old new : Option (List ℕ)) → Result ℕ ProgramFault → Type 0
-CommandOutcome InputRequest file_at input old new result =
-    IfSome input (λ bytes. WritesOrFails (IsPrintedJoined bytes) old new result)
-CommandOutcome (HelpRequest text) file_at input old new result = WritesOrFails (IsHelp text) old new result
-CommandOutcome (FileRequest task g) file_at input old new result =
-    IfSome (bytes_of (file_at g)) (λ file. (text : List ℕ) → WritesOrFails (IsPrinted task file text) old new result)
-CommandOutcome (FilesRequest task g t) file_at input old new result =
-    IfSome (bytes_of (file_at g)) (λ file. IfSome (bytes_of (file_at t)) (λ text.
-    WritesOrFails (IsPrinted task file text) old new result))
-CommandOutcome (CoverRequest start memo steps g texts) file_at input old new result =
-    (ended : Result Explanation ProgramFault) × CoverageOutcome start memo steps g texts file_at old new ended
-    × (result ≡ status_result ended)
-CommandOutcome (ExplainRequest question printing) file_at input old new result =
-    (ended : Result Explanation ProgramFault) × ExplanationOutcome question printing file_at input old new ended
+CommandOutcome request file_at input old new result =
+    (ended : Result Report ProgramFault) × RequestOutcome request file_at input old new ended
     × (result ≡ status_result ended)
 
 -- ---- how results are converted

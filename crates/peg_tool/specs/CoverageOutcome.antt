@@ -9,7 +9,7 @@ use Rattle.peg_json.specs.Reply.{Reply, Covered}
 use Rattle.peg_tool.specs.Replies.{RepliesTo}
 use Rattle.peg_tool.specs.Task.{CoverTask}
 use Rattle.peg_tool.specs.Written.{PrintsInPart}
-use Rattle.peg_tool.specs.declared.explaining.Explanation.{Explanation}
+use Rattle.peg_tool.specs.declared.report.Findings.{Findings}
 use Rattle.peg_tool.specs.declared.program.ProgramFault.{ProgramFault}
 use Rattle.peg_tool.specs.declared.program.ProgramFault.TheVariants.{File, Memory}
 
@@ -35,7 +35,7 @@ IsPrintedOf Kind names file line status errors =
 -- What is written to the output: a correct line, whose exit status and lines for standard error are returned. If an
 -- allocation failed nothing is written. If a device failed, nothing or a proper prefix of a correct line is written.
 abbrev pub WritesCoverage : (IsRight : (line : List ℕ) → (status : ℕ) → (errors : List ℕ) → Type 0)
-    → (old new : Option (List ℕ)) → Result Explanation ProgramFault → Type 0
+    → (old new : Option (List ℕ)) → Result Findings ProgramFault → Type 0
 WritesCoverage IsRight old new (Ok ended) =
     (line : List ℕ) × IsRight line ended.status (string_bytes ended.faults) × Appends old new line
 WritesCoverage IsRight old new (Err Memory) = Keeps old new
@@ -46,7 +46,7 @@ WritesCoverage IsRight old new (Err File) = Keeps old new
 -- nothing if the bytes of the grammar file aren't specified.
 abbrev pub CoverageOutcome : (start : Option (List ℕ)) → (memo : ℕ) → (steps : Option ℕ) → (g : List ℕ)
     → (texts : List (List ℕ)) → (file_at : List ℕ → NamedFile) → (old new : Option (List ℕ))
-    → Result Explanation ProgramFault → Type 0
+    → Result Findings ProgramFault → Type 0
 CoverageOutcome start memo steps g texts file_at old new result =
     IfSome (bytes_of (file_at g)) (λ file. (text : List ℕ) → WritesCoverage
     (IsPrintedOf (RepliesTo file text (CoverTask (map file_at texts) start memo steps)) texts file) old new result)

@@ -12,7 +12,7 @@ use Rattle.peg_tool.specs.CoverageOutcome.{IsPrintedOf}
 use Rattle.peg_tool.specs.declared.covering.CoverFault.{CoverFault}
 use Rattle.peg_tool.specs.declared.covering.CoverFault.TheVariants as cover
 use Rattle.peg_tool.specs.declared.covering.CoverageReply.{CoverageReply}
-use Rattle.peg_tool.specs.declared.explaining.Explanation.{Explanation}
+use Rattle.peg_tool.specs.declared.report.Findings.{Findings}
 use Rattle.peg_tool.specs.declared.program.ProgramFault.{ProgramFault}
 use Rattle.peg_tool.specs.declared.program.ProgramFault.TheVariants.{File, Memory}
 
@@ -30,7 +30,7 @@ IsCoverFault failed file_at names (cover.Text unread kind) =
 IsCoverFault failed file_at names cover.Memory = Unit {0}
 
 -- What is written of a reply: its line. If a write fails, a proper prefix of it is written.
-abbrev pub WritesCoverageReply : CoverageReply → (old new : Option (List ℕ)) → Result Explanation ProgramFault → Type 0
+abbrev pub WritesCoverageReply : CoverageReply → (old new : Option (List ℕ)) → Result Findings ProgramFault → Type 0
 WritesCoverageReply reply old new (Ok ended) = Appends old new (line_bytes reply.line)
     × (ended.status ≡ status_code reply.line.status) × (string_bytes ended.faults ≡ string_bytes reply.faults)
 WritesCoverageReply reply old new (Err Memory) = ⊥

@@ -9,18 +9,17 @@ use Rattle.peg_io.specs.NamedFile.{NamedFile, Missing, is_readable}
 use Rattle.peg_messages.specs.FileNames.{shown_name}
 use Rattle.peg_cli.specs.declared.words.WordsFault.{WordsFault}
 use Rattle.peg_cli.specs.declared.words.WordsFault.TheVariants as words
-use Rattle.peg_tool.specs.CommandOutcome.{CommandOutcome}
-use Rattle.peg_tool.specs.CoverageOutcome.{CoverageOutcome}
-use Rattle.peg_tool.specs.Explanations.{ExplanationOutcome}
+use Rattle.peg_tool.specs.CommandOutcome.{RequestOutcome}
 use Rattle.peg_tool.specs.Faults.{IsKind, device_message, standard_input, stream_name}
 use Rattle.peg_tool.specs.Requests.{ToolRequest, InputRequest, HelpRequest, FileRequest, FilesRequest, CoverRequest, ExplainRequest}
 use Rattle.peg_tool.specs.declared.exit.Exit.{Exit}
 use Rattle.peg_tool.specs.declared.exit.Exit.TheVariants.{Done, Reported, Usage, Device, Fault}
-use Rattle.peg_tool.specs.declared.explaining.Explanation.{Explanation}
 use Rattle.peg_tool.specs.declared.fault.RequestFault.{RequestFault}
 use Rattle.peg_tool.specs.declared.fault.RequestFault.TheVariants as failed
 use Rattle.peg_tool.specs.declared.program.ProgramFault.{ProgramFault}
 use Rattle.peg_tool.specs.declared.program.ProgramFault.TheVariants.{File, Memory}
+use Rattle.peg_tool.specs.declared.report.Report.{Report}
+use Rattle.peg_tool.specs.declared.report.Report.TheVariants as report
 
 -- The exit for a device that failed, by its name in messages and the kind of its error, where that is known. Without
 -- memory for the second line it has one line.
@@ -42,30 +41,22 @@ IsFaultExit (Device text) = Unit {0}
 IsFaultExit (Fault fault) = Unit {0}
 IsFaultExit other = ⊥
 
--- the exit for an exit status, and that of an explanation or a coverage
-abbrev pub done_exit : ℕ → Exit
-done_exit status = Done status
+-- the exit for a report
+abbrev pub report_exit : Report → Exit
+report_exit (report.Done status) = Done status
+report_exit (report.Found findings) = Reported findings.status findings.faults
 
-abbrev pub reported_exit : Explanation → Exit
-reported_exit explanation = Reported explanation.status explanation.faults
-
--- the exit for a result, given the exit without a fault
-abbrev pub IsExitFor : {X : Type 0} → (done : X → Exit) → Result X ProgramFault → Exit → Type 0
-IsExitFor done (Ok x) exit = exit ≡ done x
-IsExitFor done (Err File) exit = IsFileExit exit
-IsExitFor done (Err Memory) exit = exit ≡ Fault Memory
+-- the exit for a report or a fault
+abbrev pub IsExitFor : Result Report ProgramFault → Exit → Type 0
+IsExitFor (Ok it) exit = exit ≡ report_exit it
+IsExitFor (Err File) exit = IsFileExit exit
+IsExitFor (Err Memory) exit = exit ≡ Fault Memory
 
 -- the exit for a request, over files by name and an input
 abbrev pub IsExitOf : ToolRequest → (file_at : List ℕ → NamedFile) → (input : Option (List ℕ))
     → (old new : Option (List ℕ)) → Exit → Type 0
-IsExitOf (ExplainRequest question printing) file_at input old new exit =
-    (ended : Result Explanation ProgramFault) × ExplanationOutcome question printing file_at input old new ended
-    × IsExitFor reported_exit ended exit
-IsExitOf (CoverRequest start memo steps g texts) file_at input old new exit =
-    (ended : Result Explanation ProgramFault) × CoverageOutcome start memo steps g texts file_at old new ended
-    × IsExitFor reported_exit ended exit
 IsExitOf request file_at input old new exit =
-    (ended : Result ℕ ProgramFault) × IsExitFor done_exit ended exit × CommandOutcome request file_at input old new ended
+    (ended : Result Report ProgramFault) × RequestOutcome request file_at input old new ended × IsExitFor ended exit
 
 -- a second line is that of the stream with this name
 abbrev pub IsExitNaming : (name : List ℕ) → Exit → Type 0
@@ -98,10 +89,10 @@ abbrev pub IsExitOfFault : RequestFault → Exit → Type 0
 IsExitOfFault (failed.Device at kind) exit = IsDeviceExit (stream_name at) (Some kind) exit
 IsExitOfFault failed.Memory exit = exit ≡ Fault Memory
 
--- the exit for a result of the code, given the exit without a fault
-abbrev pub IsExitOfResult : {X : Type 0} → (done : X → Exit) → Result X RequestFault → Exit → Type 0
-IsExitOfResult done (Ok x) exit = exit ≡ done x
-IsExitOfResult done (Err why) exit = IsExitOfFault why exit
+-- the exit for a report or a fault of the code
+abbrev pub IsExitOfResult : Result Report RequestFault → Exit → Type 0
+IsExitOfResult (Ok it) exit = exit ≡ report_exit it
+IsExitOfResult (Err why) exit = IsExitOfFault why exit
 
 -- the exit for arguments that are no command line
 abbrev pub words_exit : WordsFault → Exit

@@ -12,7 +12,7 @@ use Rattle.peg_io.specs.NamedFile.{NamedFile}
 use Rattle.peg_json.specs.Statuses.{status_code}
 use Rattle.peg_json.specs.declared.status.Status.{Status}
 use Rattle.peg_json.specs.declared.status.Status.TheVariants as status
-use Rattle.peg_tool.specs.declared.explaining.Explanation.{Explanation}
+use Rattle.peg_tool.specs.declared.report.Findings.{Findings}
 use Rattle.peg_tool.specs.declared.program.ProgramFault.{ProgramFault}
 use Rattle.peg_tool.specs.declared.program.ProgramFault.TheVariants.{File, Memory}
 
@@ -26,8 +26,8 @@ verdict_status verdict.NoSuchStart = status.Usage
 verdict_status verdict.Refused = status.Refused
 
 -- the exit status and the lines for standard error
-abbrev pub explanation_of : Ended → Explanation
-explanation_of ended = record { status = status_code (verdict_status ended.verdict); faults = ended.faults }
+abbrev pub findings_of : Ended → Findings
+findings_of ended = record { status = status_code (verdict_status ended.verdict); faults = ended.faults }
 
 -- the fault of the program
 abbrev pub program_fault : ExplainFault → ProgramFault
@@ -35,13 +35,13 @@ program_fault stopped.Write = File
 program_fault stopped.Memory = Memory
 
 -- the result of an explanation
-abbrev pub explanation_result : Result Ended ExplainFault → Result Explanation ProgramFault
-explanation_result (Ok ended) = Ok (explanation_of ended)
+abbrev pub explanation_result : Result Ended ExplainFault → Result Findings ProgramFault
+explanation_result (Ok ended) = Ok (findings_of ended)
 explanation_result (Err fault) = Err (program_fault fault)
 
 -- The result of an explanation over files by name and an input. If an allocation fails, the messages of the first texts
 -- are written; if a write fails, a part of one more.
 abbrev pub ExplanationOutcome : Question → Printing → (file_at : List ℕ → NamedFile) → (input : Option (List ℕ))
-    → (old new : Option (List ℕ)) → Result Explanation ProgramFault → Type 0
+    → (old new : Option (List ℕ)) → Result Findings ProgramFault → Type 0
 ExplanationOutcome question printing file_at input old new result = (ended : Result Ended ExplainFault)
     × IsExplained question printing file_at input old new ended × (result ≡ explanation_result ended)

@@ -17,8 +17,8 @@ ghost use Rattle.peg_tool.specs.CoverageWritten.{IsCoverFault, IsReplyOfKind, Wr
 ghost use Rattle.peg_tool.specs.Replies.{RepliesTo};
 ghost use Rattle.peg_tool.specs.Task.{CoverTask};
 
-use crate::explaining::Explanation;
 use crate::program::ProgramFault;
+use crate::report::Findings;
 use crate::write::write_reply;
 use peg_coverage::{Coverage, CoverageFault, CoverageParser};
 use peg_coverage_files::{CoveringFault, cover_files};
@@ -251,14 +251,14 @@ fn push_stopped_line(alloc: Global, name: &str, lines: &mut String) -> Result<()
 pub(crate) fn write_coverage<W: Sink>(
     output: &mut W,
     reply: CoverageReply,
-) -> Result<Explanation, ProgramFault>
+) -> Result<Findings, ProgramFault>
     requires { W.failed output.old ≡ false }
     ensures writes { WritesCoverageReply reply (W.written output.old) (W.written output.new) result }
     ensures fault { IsErrOf result ProgramFault.File ↔ (W.failed output.new ≡ true) }
 {
     let CoverageReply { line, faults } = reply;
     match write_reply(output, Ok(line)) {
-        Ok(status) => Ok(Explanation { status, faults }),
+        Ok(status) => Ok(Findings { status, faults }),
         Err(_) => Err(ProgramFault::File),
     }
 }

@@ -5,16 +5,15 @@ ghost use Rattle.std.specs.Io.KnownBytes.{Keeps};
 ghost use Rattle.std.specs.Vec.Iter.{into_iter_items};
 ghost use Rattle.peg_cli.specs.Words.{IsAsking};
 ghost use Rattle.peg_tool.specs.Exits.{IsArgsFault, IsDeviceExit, IsExitAmong, IsExitOf, IsExitOfFault, IsExitOfCause};
-ghost use Rattle.peg_tool.specs.Exits.{IsExitOfResult, IsFaultExit, IsFileExit, done_exit, exit_message, exit_status, reported_exit};
+ghost use Rattle.peg_tool.specs.Exits.{IsExitOfResult, IsFaultExit, IsFileExit, exit_message, exit_status, report_exit};
 ghost use Rattle.peg_tool.specs.Exits.{words_exit};
 ghost use Rattle.peg_tool.specs.Faults.{standard_input, standard_output, stream_name, stream_names};
 ghost use Rattle.peg_tool.specs.Requests.{HasReadableFiles, InputRequest, IsExplainRequest, LacksGrammar, LacksText, ReadsInput};
 ghost use Rattle.peg_tool.specs.Requests.{requested};
 
-use crate::explaining::{Explanation, explain};
 use crate::fault::{RequestFault, Stream, device_message};
-use crate::program::{ProgramFault, on_texts, run_on, to_request_explanation};
-use crate::request::Request;
+use crate::program::{ProgramFault, run_request};
+use crate::report::{Findings, Report};
 use peg_cli::{Words, WordsFault, read_words};
 use peg_io::{Opener, Sink, Source};
 use peg_json::Status;
@@ -81,26 +80,23 @@ impl Exit {
         }
     }
 
-    // The exit of a request with an exit status or a fault.
-    fn from_result(alloc: Global, ended: Result<u8, RequestFault<'_>>) -> Exit
-        ensures { IsExitOfResult done_exit ended.entry result }
+    // The exit of a request with a report or a fault.
+    fn from_result(alloc: Global, ended: Result<Report, RequestFault<'_>>) -> Exit
+        ensures { IsExitOfResult ended.entry result }
     {
         match ended {
-            Ok(status) => Exit::Done { status },
+            Ok(report) => Exit::from_report(report),
             Err(fault) => Exit::from_fault(alloc, fault),
         }
     }
 
-    // The exit of an explanation or a coverage.
-    fn from_explanation(alloc: Global, ended: Result<Explanation, RequestFault<'_>>) -> Exit
-        ensures { IsExitOfResult reported_exit ended.entry result }
+    // The exit for a report.
+    fn from_report(report: Report) -> Exit
+        ensures { result ≡ report_exit report }
     {
-        match ended {
-            Ok(explained) => Exit::Reported {
-                status: explained.status,
-                faults: explained.faults,
-            },
-            Err(fault) => Exit::from_fault(alloc, fault),
+        match report {
+            Report::Done(status) => Exit::Done { status },
+            Report::Found(Findings { status, faults }) => Exit::Reported { status, faults },
         }
     }
 
@@ -205,51 +201,10 @@ pub fn run_program<O: Opener, I: Source, W: Sink>(
     ensures named { IfOk words (λ asked. IsExitAmong (stream_names (requested asked)) result) }
 {
     match words {
-        Ok(words) => run_request(alloc, files, input, output, &words),
+        Ok(words) => { Exit::from_result(alloc, run_request(alloc, files, input, output, &words)) }
         Err(WordsFault::Usage { text }) => Exit::Usage { text },
         Err(WordsFault::Memory) => Exit::Fault {
             fault: ProgramFault::Memory,
         },
-    }
-}
-
-// Runs the program for its parsed arguments.
-fn run_request<O: Opener, I: Source, W: Sink>(
-    alloc: Global,
-    files: &O,
-    input: &mut I,
-    output: &mut W,
-    words: &Words,
-) -> Exit
-    requires input_works { I.failed input.old ≡ false }
-    requires output_works { W.failed output.old ≡ false }
-    ensures runs { IsExitOf (requested words.now) (O.file_at files.now) (I.left input.old) (W.written output.old)
-        (W.written output.new) result }
-    ensures unread { ¬ ReadsInput (requested words.now) → input.new ≡ input.old }
-    ensures no_grammar { LacksGrammar (requested words.now) (O.file_at files.now)
-        → IsFileExit result × (output.new ≡ output.old) }
-    ensures no_text { LacksText (requested words.now) (O.file_at files.now)
-        → IsFaultExit result × (output.new ≡ output.old) }
-    ensures device_fault { HasReadableFiles (requested words.now) (O.file_at files.now)
-        → (IsFileExit result ↔ ((I.failed input.new ≡ true) ⊎ (W.failed output.new ≡ true))) }
-    ensures explain_fault { IsExplainRequest (requested words.now) → (IsFileExit result ↔ (W.failed output.new ≡ true)) }
-    ensures memory { ¬ IsExplainRequest (requested words.now) → result ≡ Exit.Fault ProgramFault.Memory
-        → Keeps (W.written output.old) (W.written output.new) }
-    ensures output { W.failed output.new ≡ true → IsDeviceExit standard_output (W.fault_kind output.new) result }
-    ensures input { requested words.now ≡ InputRequest → I.failed input.new ≡ true
-        → IsDeviceExit standard_input (I.fault_kind input.new) result }
-    ensures cause { W.failed output.new ≡ false → IsExitOfCause (requested words.now) (O.file_at files.now) result }
-    ensures named { IsExitAmong (stream_names (requested words.now)) result }
-{
-    match Request::from_words(words) {
-        Request::Explain { query, printing } => {
-            let explained = explain(alloc, files, input, output, &query, printing);
-            let ended = to_request_explanation(explained, output.fault_kind());
-            Exit::from_explanation(alloc, ended)
-        }
-        Request::Cover { g, texts, options } => {
-            Exit::from_explanation(alloc, on_texts(alloc, files, output, g, texts, &options))
-        }
-        _ => Exit::from_result(alloc, run_on(alloc, files, input, output, words)),
     }
 }

@@ -13,6 +13,7 @@ mod nodes;
 mod parse;
 mod profiling;
 mod program;
+mod report;
 mod request;
 mod selection;
 mod tool;

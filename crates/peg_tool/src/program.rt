@@ -6,7 +6,7 @@ ghost use Rattle.peg_io.specs.NamedFile.{Missing, bytes_of, is_readable};
 ghost use Rattle.peg_messages.specs.FileNames.{shown_name};
 ghost use Rattle.peg_parser.specs.Parser.{start_named};
 ghost use Rattle.peg_tool.specs.Commands.{task_of};
-ghost use Rattle.peg_tool.specs.CommandOutcome.{CommandOutcome, WritesOrFails, IsHelp, program_result, status_result};
+ghost use Rattle.peg_tool.specs.CommandOutcome.{CommandOutcome, IsHelp, RequestOutcome, WritesOrFails, program_result};
 ghost use Rattle.peg_tool.specs.Faults.{IsFaultAmong, IsFaultAt, NamesCause, plain_result, standard_input};
 ghost use Rattle.peg_tool.specs.Faults.{standard_output, stream_name, stream_names};
 ghost use Rattle.peg_tool.specs.Replies.{IsPrinted, IsPrintedJoined};
@@ -17,9 +17,10 @@ ghost use Rattle.peg_tool.specs.Task.{HasText};
 
 use crate::command::Command;
 use crate::covering::{CoverFault, coverage_reply, write_coverage};
-use crate::explaining::{Explanation, explain};
+use crate::explaining::explain;
 use crate::fault::{RequestFault, Stream};
 use crate::joined::run_input;
+use crate::report::{Findings, Report};
 use crate::request::Request;
 use crate::tool::run_command;
 use crate::write::{CommandFault, write_reply};
@@ -116,23 +117,24 @@ pub fn run_words<O: Opener, I: Source, W: Sink>(
     ensures memory { ¬ IsExplainRequest (requested words.now)
         → IsErrOf result ProgramFault.Memory → Keeps (W.written output.old) (W.written output.new) }
 {
-    match run_on(alloc, files, input, output, words) {
-        Ok(status) => Ok(status),
+    match run_request(alloc, files, input, output, words) {
+        Ok(report) => Ok(report.status()),
         Err(fault) => Err(fault.plain()),
     }
 }
 
-/// Does the same as `run_words`. A fault of a device says which one it is, with the kind of its error.
-pub(crate) fn run_on<'a, O: Opener, I: Source, W: Sink>(
+/// Finds out what the arguments request, and does it. A fault of a device says which one it is, with the kind of its
+/// error.
+pub(crate) fn run_request<'a, O: Opener, I: Source, W: Sink>(
     alloc: Global,
     files: &O,
     input: &mut I,
     output: &mut W,
     words: &'a Words,
-) -> Result<u8, RequestFault<'a>>
+) -> Result<Report, RequestFault<'a>>
     requires input_works { I.failed input.old ≡ false }
     requires output_works { W.failed output.old ≡ false }
-    ensures leads { CommandOutcome (requested words.now) (O.file_at files.now) (I.left input.old) (W.written output.old)
+    ensures leads { RequestOutcome (requested words.now) (O.file_at files.now) (I.left input.old) (W.written output.old)
         (W.written output.new) (plain_result result) }
     ensures unread { ¬ ReadsInput (requested words.now) → input.new ≡ input.old }
     ensures no_grammar { LacksGrammar (requested words.now) (O.file_at files.now)
@@ -156,47 +158,20 @@ pub(crate) fn run_on<'a, O: Opener, I: Source, W: Sink>(
         → IfErr result (IsFaultAt standard_input (I.fault_kind input.new)) }
 {
     match Request::from_words(words) {
-        Request::Joined => on_input(alloc, input, output),
-        Request::Help { text } => help(output, text),
-        Request::OnFile { g, command } => on_file(alloc, files, output, g, &command),
-        Request::OnFiles { g, t, command } => on_files(alloc, files, output, g, t, &command),
+        Request::Joined => Ok(Report::Done(on_input(alloc, input, output)?)),
+        Request::Help { text } => Ok(Report::Done(help(output, text)?)),
+        Request::OnFile { g, command } => {
+            Ok(Report::Done(on_file(alloc, files, output, g, &command)?))
+        }
+        Request::OnFiles { g, t, command } => {
+            Ok(Report::Done(on_files(alloc, files, output, g, t, &command)?))
+        }
         Request::Cover { g, texts, options } => {
-            Ok(on_texts(alloc, files, output, g, texts, &options)?.status)
+            Ok(Report::Found(on_texts(alloc, files, output, g, texts, &options)?))
         }
         Request::Explain { query, printing } => {
-            let explained = explain(alloc, files, input, output, &query, printing);
-            to_status(explained, output.fault_kind())
+            Ok(Report::Found(explain(alloc, files, input, output, &query, printing)?))
         }
-    }
-}
-
-/// Converts the result of an explanation, whose only file fault is that of the output.
-pub(crate) fn to_request_explanation<'a>(
-    ended: Result<Explanation, ProgramFault>,
-    written: Option<ErrorKind>,
-) -> Result<Explanation, RequestFault<'a>>
-    ensures plain { plain_result result ≡ ended }
-    ensures named { IfErr result (IsFaultAt standard_output written) }
-{
-    match ended {
-        Ok(explanation) => Ok(explanation),
-        Err(ProgramFault::File) => Err(RequestFault::at(Stream::Output, written)),
-        Err(ProgramFault::Memory) => Err(RequestFault::Memory),
-    }
-}
-
-// The exit status of an explanation, whose only file fault is that of the output.
-fn to_status<'a>(
-    ended: Result<Explanation, ProgramFault>,
-    written: Option<ErrorKind>,
-) -> Result<u8, RequestFault<'a>>
-    ensures plain { plain_result result ≡ status_result ended }
-    ensures named { IfErr result (IsFaultAt standard_output written) }
-{
-    match ended {
-        Ok(explanation) => Ok(explanation.status),
-        Err(ProgramFault::File) => Err(RequestFault::at(Stream::Output, written)),
-        Err(ProgramFault::Memory) => Err(RequestFault::Memory),
     }
 }
 
@@ -327,16 +302,16 @@ fn on_files<'a, O: Opener, W: Sink>(
     }
 }
 
-/// Prints what the texts with these names use of the grammar file with a name, and returns the exit status and a line for
-/// each stopped text. The texts are opened after the grammar is read.
-pub(crate) fn on_texts<'a, O: Opener, W: Sink>(
+// Prints what the texts with these names use of the grammar file with a name, and returns the exit status and a line for
+// each stopped text. The texts are opened after the grammar is read.
+fn on_texts<'a, O: Opener, W: Sink>(
     alloc: Global,
     files: &O,
     output: &mut W,
     g: &'a str,
     texts: &'a [String],
     options: &ParseOptions<'_>,
-) -> Result<Explanation, RequestFault<'a>>
+) -> Result<Findings, RequestFault<'a>>
     requires { W.failed output.old ≡ false }
     ensures leads { CoverageOutcome (start_named options.now) options.now.memo options.now.steps g.now
         (map string_bytes texts.now) (O.file_at files.now) (W.written output.old) (W.written output.new)
@@ -361,7 +336,7 @@ pub(crate) fn on_texts<'a, O: Opener, W: Sink>(
     match coverage_reply(alloc, files, &mut grammar, texts, options) {
         Ok(reply) => {
             let ended = write_coverage(output, reply);
-            to_request_explanation(ended, output.fault_kind())
+            to_findings(ended, output.fault_kind())
         }
         Err(CoverFault::Grammar) => { Err(RequestFault::at(Stream::File(g), grammar.fault_kind())) }
         Err(CoverFault::Text { name, kind }) => Err(RequestFault::Device {
@@ -369,6 +344,21 @@ pub(crate) fn on_texts<'a, O: Opener, W: Sink>(
             kind,
         }),
         Err(CoverFault::Memory) => Err(RequestFault::Memory),
+    }
+}
+
+// Converts the result of a coverage whose line is written, where a file fault is that of the output.
+fn to_findings<'a>(
+    ended: Result<Findings, ProgramFault>,
+    written: Option<ErrorKind>,
+) -> Result<Findings, RequestFault<'a>>
+    ensures plain { plain_result result ≡ ended }
+    ensures named { IfErr result (IsFaultAt standard_output written) }
+{
+    match ended {
+        Ok(findings) => Ok(findings),
+        Err(ProgramFault::File) => Err(RequestFault::at(Stream::Output, written)),
+        Err(ProgramFault::Memory) => Err(RequestFault::Memory),
     }
 }
 

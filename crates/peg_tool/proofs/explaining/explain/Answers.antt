@@ -1,20 +1,24 @@
-use Rattle.std.proofs.Common.{◌≡◌, Err, IsErrAnd, Ok, Result, ap}
-use Rattle.peg_tool.specs.declared.explaining.Explanation.{Explanation}
-use Rattle.peg_tool.specs.declared.program.ProgramFault.{ProgramFault}
+use Rattle.std.proofs.Common.{Err, Ok, ap, sym, ◌∙◌}
+use Rattle.peg_tool.specs.Explanations.{explanation_result}
 use Rattle.peg_tool.proofs.explaining.explain.Goals as goal
 
--- the fault that is passed on
-error-is : (result : Result Explanation ProgramFault) (fault : ProgramFault) → IsErrAnd result (λ stated. stated ≡ fault)
-    → result ≡ Err fault
-error-is (Ok value) fault is = absurd is
-error-is (Err stated) fault is = ap Err is
-
-pub returns-in_err-ended-clause-leads : goal.returns-in_err-ended-clause-leads
-returns-in_err-ended-clause-leads g c = (
-  Err c.in_err-ended.field-0.0,
-  c.in_err-ended.ensures.explained,
-  error-is c.from_residual.result _ c.from_residual.ensures.1,
+pub returns-in-Ok-clause-leads : goal.returns-in-Ok-clause-leads
+returns-in-Ok-clause-leads g c = (
+  c.explain_files.result,
+  c.explain_files.ensures.explained,
+  ap Ok c.findings_of.ensures ∙ sym (ap explanation_result c.in-Ok.is),
 )
 
-pub returns-clause-leads : goal.returns-clause-leads
-returns-clause-leads g c = (Ok c.in_ok-ended.ended, c.in_ok-ended.ensures.explained, ap Ok c.from_ended.ensures)
+pub returns-in-Err-Write-clause-leads : goal.returns-in-Err-Write-clause-leads
+returns-in-Err-Write-clause-leads g c = (
+  c.explain_files.result,
+  c.explain_files.ensures.explained,
+  ap Err c.at.ensures.plain ∙ sym (ap explanation_result (c.in-Err-Write.is ∙ ap Err c.in-Err-Write.field-0-is)),
+)
+
+pub returns-in-Err-Memory-clause-leads : goal.returns-in-Err-Memory-clause-leads
+returns-in-Err-Memory-clause-leads g c = (
+  c.explain_files.result,
+  c.explain_files.ensures.explained,
+  sym (ap explanation_result (c.in-Err-Memory.is ∙ ap Err c.in-Err-Memory.field-0-is)),
+)

@@ -1,0 +1,91 @@
+use Rattle.std.proofs.Common.{Ok, subst}
+use Rattle.peg_tool.specs.CommandOutcome.{RequestOutcome}
+use Rattle.peg_tool.specs.Faults.{plain_result}
+use Rattle.peg_tool.specs.Requests.{ToolRequest}
+use Rattle.peg_tool.specs.declared.report.Report.TheVariants as report
+use Rattle.peg_tool.proofs.ReportLemmas.{done-fault, done-status, found-fault, found-findings}
+use Rattle.peg_tool.proofs.program.run_request.Goals as goal
+
+pub returns-in_err-on_input-in-Joined-clause-leads : goal.returns-in_err-on_input-in-Joined-clause-leads
+returns-in_err-on_input-in-Joined-clause-leads g c =
+    let passed = c.from_residual in
+    subst (λ (r : ToolRequest). RequestOutcome r (g.O.Opener.file_at c.args.files.now) (g.I.Source.left c.args.input.now)
+    (g.W.Sink.written c.args.output.now) (g.W.Sink.written c.on_input.new.output) (plain_result passed.result))
+    c.in-Joined.ensures (
+      plain_result c.on_input.result,
+      c.on_input.ensures.leads,
+      done-fault c.on_input.result _ passed.result c.in_err-on_input-in-Joined.was passed.ensures.1,
+    )
+
+pub returns-in_ok-on_input-in-Joined-clause-leads : goal.returns-in_ok-on_input-in-Joined-clause-leads
+returns-in_ok-on_input-in-Joined-clause-leads g c =
+    let it = report.Done c.in_ok-on_input-in-Joined.field-0 in
+    subst (λ (r : ToolRequest). RequestOutcome r (g.O.Opener.file_at c.args.files.now) (g.I.Source.left c.args.input.now)
+    (g.W.Sink.written c.args.output.now) (g.W.Sink.written c.on_input.new.output) (Ok it)) c.in-Joined.ensures (
+      plain_result c.on_input.result,
+      c.on_input.ensures.leads,
+      done-status c.on_input.result _ c.in_ok-on_input-in-Joined.was,
+    )
+
+pub returns-in_err-on_file-in-OnFile-clause-leads : goal.returns-in_err-on_file-in-OnFile-clause-leads
+returns-in_err-on_file-in-OnFile-clause-leads g c =
+    let passed = c.from_residual-in_err-on_file-in-OnFile in
+    subst (λ (r : ToolRequest). RequestOutcome r (g.O.Opener.file_at c.args.files.now) (g.I.Source.left c.args.input.now)
+    (g.W.Sink.written c.args.output.now) (g.W.Sink.written c.on_file.new.output) (plain_result passed.result))
+    c.in-OnFile.ensures (
+      plain_result c.on_file.result,
+      c.on_file.ensures.leads,
+      done-fault c.on_file.result _ passed.result c.in_err-on_file-in-OnFile.was passed.ensures.1,
+    )
+
+pub returns-in_ok-on_file-in-OnFile-clause-leads : goal.returns-in_ok-on_file-in-OnFile-clause-leads
+returns-in_ok-on_file-in-OnFile-clause-leads g c =
+    let it = report.Done c.in_ok-on_file-in-OnFile.field-0 in
+    subst (λ (r : ToolRequest). RequestOutcome r (g.O.Opener.file_at c.args.files.now) (g.I.Source.left c.args.input.now)
+    (g.W.Sink.written c.args.output.now) (g.W.Sink.written c.on_file.new.output) (Ok it)) c.in-OnFile.ensures (
+      plain_result c.on_file.result,
+      c.on_file.ensures.leads,
+      done-status c.on_file.result _ c.in_ok-on_file-in-OnFile.was,
+    )
+
+pub returns-in_err-on_files-in-OnFiles-clause-leads : goal.returns-in_err-on_files-in-OnFiles-clause-leads
+returns-in_err-on_files-in-OnFiles-clause-leads g c =
+    let passed = c.from_residual-in_err-on_files-in-OnFiles in
+    subst (λ (r : ToolRequest). RequestOutcome r (g.O.Opener.file_at c.args.files.now) (g.I.Source.left c.args.input.now)
+    (g.W.Sink.written c.args.output.now) (g.W.Sink.written c.on_files.new.output) (plain_result passed.result))
+    c.in-OnFiles.ensures (
+      plain_result c.on_files.result,
+      c.on_files.ensures.leads,
+      done-fault c.on_files.result _ passed.result c.in_err-on_files-in-OnFiles.was passed.ensures.1,
+    )
+
+pub returns-in_ok-on_files-in-OnFiles-clause-leads : goal.returns-in_ok-on_files-in-OnFiles-clause-leads
+returns-in_ok-on_files-in-OnFiles-clause-leads g c =
+    let it = report.Done c.in_ok-on_files-in-OnFiles.field-0 in
+    subst (λ (r : ToolRequest). RequestOutcome r (g.O.Opener.file_at c.args.files.now) (g.I.Source.left c.args.input.now)
+    (g.W.Sink.written c.args.output.now) (g.W.Sink.written c.on_files.new.output) (Ok it)) c.in-OnFiles.ensures (
+      plain_result c.on_files.result,
+      c.on_files.ensures.leads,
+      done-status c.on_files.result _ c.in_ok-on_files-in-OnFiles.was,
+    )
+
+pub returns-in_err-explain-in-Explain-clause-leads : goal.returns-in_err-explain-in-Explain-clause-leads
+returns-in_err-explain-in-Explain-clause-leads g c =
+    let passed = c.from_residual-in_err-explain-in-Explain in
+    subst (λ (r : ToolRequest). RequestOutcome r (g.O.Opener.file_at c.args.files.now) (g.I.Source.left c.args.input.now)
+    (g.W.Sink.written c.args.output.now) (g.W.Sink.written c.explain.new.output) (plain_result passed.result))
+    c.in-Explain.ensures (
+      plain_result c.explain.result,
+      c.explain.ensures.leads,
+      found-fault c.explain.result _ passed.result c.in_err-explain-in-Explain.was passed.ensures.1,
+    )
+
+pub returns-in_ok-explain-in-Explain-clause-leads : goal.returns-in_ok-explain-in-Explain-clause-leads
+returns-in_ok-explain-in-Explain-clause-leads g c =
+    let it = report.Found c.in_ok-explain-in-Explain.field-0 in
+    subst (λ (r : ToolRequest). RequestOutcome r (g.O.Opener.file_at c.args.files.now) (g.I.Source.left c.args.input.now)
+    (g.W.Sink.written c.args.output.now) (g.W.Sink.written c.explain.new.output) (Ok it)) c.in-Explain.ensures (
+      plain_result c.explain.result,
+      c.explain.ensures.leads,
+      found-findings c.explain.result _ c.in_ok-explain-in-Explain.was,
+    )
