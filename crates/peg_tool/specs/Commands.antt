@@ -2,6 +2,7 @@
 use Rattle.std.specs.Prelude.{map, option_map, string_bytes}
 use Rattle.peg_explain_files.specs.Questions.{question_of}
 use Rattle.peg_parser.specs.Parser.{start_named}
+use Rattle.peg_parser.specs.declared.options.ParseOptions.{ParseOptions}
 use Rattle.peg_json.specs.TreeForms.{form_from_options}
 use Rattle.peg_tool.specs.PrintedNodes.{PrintedNodes, AllNodes, NodesOf, NodesExcept, names_listed}
 use Rattle.peg_tool.specs.Task.{ToolTask, TableTask, CheckTask, CodeTask, LintTask, ProfileTask, ParseTask}
@@ -12,6 +13,7 @@ use Rattle.peg_tool.specs.declared.nodes.Nodes.{Nodes}
 use Rattle.peg_tool.specs.declared.nodes.Nodes.TheVariants.{All, Show, Hide}
 use Rattle.peg_tool.specs.declared.request.Request.{Request}
 use Rattle.peg_tool.specs.declared.request.Request.TheVariants as request
+use Rattle.peg_tool.specs.declared.tree_printing.TreePrinting.{TreePrinting}
 
 -- the nodes that are printed
 abbrev pub nodes_asked : Nodes → PrintedNodes
@@ -29,6 +31,11 @@ task_of (Profile options) = ProfileTask (start_named options) options.memo optio
 task_of (Parse options all rows no_tree nodes text) =
     ParseTask (start_named options) options.memo options.steps all (form_from_options rows no_tree) (nodes_asked nodes)
     text
+
+-- the task of a parse whose answer is printed so
+abbrev pub parse_task : ParseOptions → TreePrinting → ToolTask
+parse_task options printing = ParseTask (start_named options) options.memo options.steps printing.all printing.form
+    (nodes_asked printing.nodes) printing.with_bytes
 
 -- what a request asks for
 abbrev pub request_of : Request → ToolRequest

@@ -11,6 +11,7 @@ ghost use Rattle.peg_json.specs.Lines.{line_bytes};
 use crate::loading::{Loaded, load};
 use crate::nodes::Nodes;
 use crate::parse::parse_line;
+use crate::tree_printing::TreePrinting;
 use crate::write::{CommandFault, ToolFault, to_tool_result, write_reply};
 use peg_io::{ReadFault, Sink, Source, read_up_to, split};
 use peg_json::{Line, TreeForm};
@@ -88,17 +89,14 @@ fn line_for(alloc: Global, input: &[u8]) -> Result<Line, AllocError>
         memo: DEFAULT_MEMO,
         steps: None,
     };
+    let printing = TreePrinting {
+        all: false,
+        form: TreeForm::Nested,
+        nodes: Nodes::All,
+        with_bytes: false,
+    };
     match load(alloc, file)? {
-        Loaded::Accepted(parser) => parse_line(
-            alloc,
-            &parser,
-            text,
-            &options,
-            false,
-            TreeForm::Nested,
-            Nodes::All,
-            false,
-        ),
+        Loaded::Accepted(parser) => parse_line(alloc, &parser, text, &options, printing),
         Loaded::Refused(line) => Ok(line),
     }
 }

@@ -17,6 +17,7 @@ mod report;
 mod request;
 mod selection;
 mod tool;
+mod tree_printing;
 mod write;
 
 pub use command::Command;

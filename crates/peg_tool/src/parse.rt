@@ -13,6 +13,7 @@ ghost use Rattle.peg_tool.specs.PrintedNodes.{shown_by};
 
 use crate::nodes::{Nodes, listed_rules, other_rules};
 use crate::selection::select_nodes;
+use crate::tree_printing::TreePrinting;
 use peg_grammar::MAX_TEXT_BYTES;
 use peg_json::{
     Line, TreeForm, answer_line, answer_line_with_text, long_text_line, no_start_line,
@@ -29,18 +30,16 @@ pub(crate) fn parse_line(
     parser: &Parser,
     text: &[u8],
     options: &ParseOptions<'_>,
-    all: bool,
-    form: TreeForm,
-    nodes: Nodes<'_>,
-    with_bytes: bool,
+    printing: TreePrinting<'_>,
 ) -> Result<Line, AllocError>
     ensures { (file : List ℕ) → IfOk result (λ line. IsLineOf file
         (ParsesToAsked (parser_rules parser.now) text.now (start_named options.now) options.now.memo options.now.steps
-        all form (shown_by (parser_rules parser.now) (nodes_asked nodes.entry)) with_bytes)
+        printing.entry.all printing.entry.form (shown_by (parser_rules parser.now) (nodes_asked printing.entry.nodes))
+        printing.entry.with_bytes)
         (line_bytes line) (status_code line.status)) }
 {
     match parser.parse(alloc, text, options) {
-        Ok(answer) => nodes_line(alloc, parser, answer, text, all, form, nodes, with_bytes),
+        Ok(answer) => nodes_line(alloc, parser, answer, text, printing),
         // A grammar has a first rule, so a start that is missing was given by name.
         Err(ParseFault::NoSuchStart) => no_start(alloc, text, options.start.unwrap_or("")),
         Err(ParseFault::TextTooLong) => long_text_line(alloc),
@@ -68,28 +67,31 @@ fn nodes_line(
     parser: &Parser,
     answer: Answer,
     text: &[u8],
-    all: bool,
-    form: TreeForm,
-    nodes: Nodes<'_>,
-    with_bytes: bool,
+    printing: TreePrinting<'_>,
 ) -> Result<Line, AllocError>
     requires fits { Fits (parser_rules parser.now) answer.outcome }
     requires short { length text.now ≤ max_text_bytes }
     ensures { (file : List ℕ) → IfOk result (λ line. IsLineOf file (PrintsOutcomeAsked (parser_rules parser.now)
-        (selected_outcome (shown_by (parser_rules parser.now) (nodes_asked nodes.entry)) answer.outcome) text.now all
-        form with_bytes)
+        (selected_outcome (shown_by (parser_rules parser.now) (nodes_asked printing.entry.nodes)) answer.outcome)
+        text.now printing.entry.all printing.entry.form printing.entry.with_bytes)
         (line_bytes line) (status_code line.status)) }
 {
+    let TreePrinting {
+        all,
+        form,
+        nodes,
+        with_bytes,
+    } = printing;
     match form {
         // No tree is printed, so none is made.
         TreeForm::NoTree => answer_line(alloc, parser, answer, text.len() as u32, all, form),
         TreeForm::Rows if !with_bytes => {
-            rows_line(alloc, parser, answer, text.len() as u32, all, nodes)
+            rows_line(alloc, parser, answer, text.len() as u32, printing)
         }
         TreeForm::Nested | TreeForm::Rows => {
             a_selected_tree_has_no_other_rules();
             let printed = select_nodes(alloc, parser.grammar(), answer, nodes)?;
-            tree_line(alloc, parser, printed, text, all, form, with_bytes)
+            tree_line(alloc, parser, printed, text, printing)
         }
     }
 }
@@ -100,16 +102,16 @@ fn rows_line(
     parser: &Parser,
     answer: Answer,
     text_len: u32,
-    all: bool,
-    nodes: Nodes<'_>,
+    printing: TreePrinting<'_>,
 ) -> Result<Line, AllocError>
     requires { Fits (parser_rules parser.now) answer.outcome }
     ensures { (file : List ℕ) → IfOk result (λ line. IsLineOf file (PrintsOutcome (parser_rules parser.now)
-        (selected_outcome (shown_by (parser_rules parser.now) (nodes_asked nodes.entry)) answer.outcome) text_len all
-        TreeForm.Rows)
+        (selected_outcome (shown_by (parser_rules parser.now) (nodes_asked printing.entry.nodes)) answer.outcome)
+        text_len printing.entry.all TreeForm.Rows)
         (line_bytes line) (status_code line.status)) }
 {
-    match nodes {
+    let all = printing.all;
+    match printing.nodes {
         Nodes::All => {
             selecting_all_rules_changes_nothing();
             answer_line(alloc, parser, answer, text_len, all, TreeForm::Rows)
@@ -131,15 +133,20 @@ fn tree_line(
     parser: &Parser,
     answer: Answer,
     text: &[u8],
-    all: bool,
-    form: TreeForm,
-    with_bytes: bool,
+    printing: TreePrinting<'_>,
 ) -> Result<Line, AllocError>
     requires fits { Fits (parser_rules parser.now) answer.outcome }
     requires short { length text.now ≤ max_text_bytes }
     ensures { (file : List ℕ) → IfOk result (λ line. IsLineOf file (PrintsOutcomeAsked (parser_rules parser.now)
-        answer.outcome text.now all form with_bytes) (line_bytes line) (status_code line.status)) }
+        answer.outcome text.now printing.entry.all printing.entry.form printing.entry.with_bytes) (line_bytes line)
+        (status_code line.status)) }
 {
+    let TreePrinting {
+        all,
+        form,
+        with_bytes,
+        ..
+    } = printing;
     if with_bytes {
         answer_line_with_text(alloc, parser, &answer, text, all, form)
     } else {

@@ -1,9 +1,7 @@
 //! What the arguments of the program request.
-ghost use Rattle.std.specs.Prelude.{◌≡◌, option_map};
-ghost use Rattle.peg_json.specs.TreeForms.{form_from_options};
-ghost use Rattle.peg_tool.specs.Commands.{nodes_asked, request_of, task_of};
+ghost use Rattle.std.specs.Prelude.{◌≡◌};
+ghost use Rattle.peg_tool.specs.Commands.{request_of};
 ghost use Rattle.peg_tool.specs.Requests.{requested};
-ghost use Rattle.peg_tool.specs.Task.{ParseTask};
 
 use crate::command::Command;
 use crate::nodes::Nodes;
@@ -138,37 +136,22 @@ impl<'a> Request<'a> {
                 hide,
                 text,
             } => {
-                let (all, rows, no_tree, text) = (*all, *rows, *no_tree, *text);
-                let nodes = Nodes::from_options(show.as_deref(), hide.as_deref());
-                let from = start.as_deref();
-                let command = parse_command(from, *memo, *steps, all, rows, no_tree, nodes, text);
+                let (from, memo, steps) = (start.as_deref(), *memo, *steps);
+                let options = ParseOptions {
+                    start: from,
+                    memo,
+                    steps,
+                };
+                let command = Command::Parse {
+                    options,
+                    all: *all,
+                    rows: *rows,
+                    no_tree: *no_tree,
+                    nodes: Nodes::from_options(show.as_deref(), hide.as_deref()),
+                    text: *text,
+                };
                 Request::OnFiles { g, t, command }
             }
         }
-    }
-}
-
-// The command of a parse with these options.
-fn parse_command<'a>(
-    start: Option<&'a str>,
-    memo: u32,
-    steps: Option<u64>,
-    all: bool,
-    rows: bool,
-    no_tree: bool,
-    nodes: Nodes<'a>,
-    text: bool,
-) -> Command<'a>
-    ensures { task_of result ≡ ParseTask (option_map (λ name. name.now) start.entry) memo steps all
-        (form_from_options rows no_tree) (nodes_asked nodes.entry) text }
-{
-    let options = ParseOptions { start, memo, steps };
-    Command::Parse {
-        options,
-        all,
-        rows,
-        no_tree,
-        nodes,
-        text,
     }
 }

@@ -7,13 +7,13 @@ ghost use Rattle.peg_metagrammar.specs.Notation.{max_file_bytes};
 ghost use Rattle.peg_semantics.specs.Rules.{Rule};
 ghost use Rattle.peg_io.specs.Transfer.{ConsumesAtMost};
 ghost use Rattle.peg_parser.specs.Accepts.{Accepts};
-ghost use Rattle.peg_parser.specs.Parser.{parser_rules, start_named};
+ghost use Rattle.peg_parser.specs.Parser.{parser_rules};
 ghost use Rattle.peg_grammar.specs.Limits.{max_text_bytes};
 ghost use Rattle.peg_json.specs.Statuses.{status_code};
-ghost use Rattle.peg_tool.specs.Commands.{nodes_asked, task_of};
+ghost use Rattle.peg_tool.specs.Commands.{nodes_asked, parse_task, task_of};
 ghost use Rattle.peg_tool.specs.PrintedNodes.{first_unknown};
 ghost use Rattle.peg_tool.specs.Replies.{IsPrinted};
-ghost use Rattle.peg_tool.specs.Task.{HasText, IsTextOf, ParseTask};
+ghost use Rattle.peg_tool.specs.Task.{HasText, IsTextOf};
 ghost use Rattle.peg_tool.specs.Written.{Prints, PrintsInPart};
 ghost use Rattle.peg_tool.specs.WritesReply.{WritesLine};
 ghost use Rattle.peg_json.specs.Lines.{line_bytes};
@@ -21,9 +21,9 @@ ghost use Rattle.peg_json.specs.Lines.{line_bytes};
 use crate::command::Command;
 use crate::linting::lint_file;
 use crate::loading::{Loaded, check_file, code_file, load, table_file};
-use crate::nodes::Nodes;
 use crate::parse::parse_line;
 use crate::profiling::profile_reply;
+use crate::tree_printing::TreePrinting;
 use crate::write::{CommandFault, ToolFault, to_tool_result, write_reply};
 use peg_grammar::MAX_TEXT_BYTES;
 use peg_io::{ReadFault, Sink, Source, read_up_to};
@@ -137,7 +137,13 @@ fn line_of<G: Source, T: Source>(
             text: with_bytes,
         } => {
             let form = TreeForm::from_options(*rows, *no_tree);
-            parse_reply(alloc, &file, text, options, *all, form, *nodes, *with_bytes)
+            let printing = TreePrinting {
+                all: *all,
+                form,
+                nodes: *nodes,
+                with_bytes: *with_bytes,
+            };
+            parse_reply(alloc, &file, text, options, printing)
         }
     }
 }
@@ -148,27 +154,20 @@ fn parse_reply<T: Source>(
     file: &[u8],
     text: &mut T,
     options: &ParseOptions<'_>,
-    all: bool,
-    form: TreeForm,
-    nodes: Nodes<'_>,
-    with_bytes: bool,
+    printing: TreePrinting<'_>,
 ) -> Result<Line, ReadFault>
     requires short { length file.now ≤ max_offset }
     requires works { T.failed text.old ≡ false }
-    ensures answer { (bytes : List ℕ)
-        → IsTextOf (ParseTask (start_named options.now) options.now.memo options.now.steps all form
-        (nodes_asked nodes.entry) with_bytes) file.now (T.left text.old) bytes → IfOk result (λ line.
-        IsPrinted (ParseTask (start_named options.now) options.now.memo options.now.steps all form
-        (nodes_asked nodes.entry) with_bytes) file.now bytes (line_bytes line) (status_code line.status)) }
+    ensures answer { (bytes : List ℕ) → IsTextOf (parse_task options.now printing.entry) file.now (T.left text.old) bytes
+        → IfOk result (λ line. IsPrinted (parse_task options.now printing.entry) file.now bytes (line_bytes line)
+        (status_code line.status)) }
     ensures held { ConsumesAtMost (T.left text.old) (T.left text.new) (max_text_bytes + 1) }
     ensures refused { ((rules : List Rule) → ¬ Accepts file.now rules) → text.new ≡ text.old }
     ensures device { IsErrOf result ReadFault.Device ↔ (T.failed text.new ≡ true) }
     ensures never { T.never_fails text.old ≡ true → T.failed text.new ≡ false }
 {
     match load(alloc, file)? {
-        Loaded::Accepted(parser) => reply_by_parser(
-            alloc, &parser, text, options, all, form, nodes, with_bytes,
-        ),
+        Loaded::Accepted(parser) => reply_by_parser(alloc, &parser, text, options, printing),
         Loaded::Refused(line) => Ok(line),
     }
 }
@@ -179,23 +178,19 @@ fn reply_by_parser<T: Source>(
     parser: &Parser,
     text: &mut T,
     options: &ParseOptions<'_>,
-    all: bool,
-    form: TreeForm,
-    nodes: Nodes<'_>,
-    with_bytes: bool,
+    printing: TreePrinting<'_>,
 ) -> Result<Line, ReadFault>
     requires { T.failed text.old ≡ false }
     ensures answer { (file : List ℕ) → Accepts file (parser_rules parser.now) → IfOk result (λ line.
-        IfSome (T.left text.old) (λ bytes. IsPrinted (ParseTask (start_named options.now) options.now.memo
-        options.now.steps all form (nodes_asked nodes.entry) with_bytes) file bytes (line_bytes line)
+        IfSome (T.left text.old) (λ bytes. IsPrinted (parse_task options.now printing.entry) file bytes (line_bytes line)
         (status_code line.status))) }
     ensures held { ConsumesAtMost (T.left text.old) (T.left text.new) (max_text_bytes + 1) }
     ensures device { IsErrOf result ReadFault.Device ↔ (T.failed text.new ≡ true) }
     ensures never { T.never_fails text.old ≡ true → T.failed text.new ≡ false }
 {
-    match nodes.first_unknown(parser.grammar()) {
+    match printing.nodes.first_unknown(parser.grammar()) {
         Some(name) => Ok(no_rule_line(alloc, name)?),
-        None => read_and_parse(alloc, parser, text, options, all, form, nodes, with_bytes),
+        None => read_and_parse(alloc, parser, text, options, printing),
     }
 }
 
@@ -205,21 +200,17 @@ fn read_and_parse<T: Source>(
     parser: &Parser,
     text: &mut T,
     options: &ParseOptions<'_>,
-    all: bool,
-    form: TreeForm,
-    nodes: Nodes<'_>,
-    with_bytes: bool,
+    printing: TreePrinting<'_>,
 ) -> Result<Line, ReadFault>
     requires works { T.failed text.old ≡ false }
-    requires known { first_unknown (parser_rules parser.now) (nodes_asked nodes) ≡ None }
+    requires known { first_unknown (parser_rules parser.now) (nodes_asked printing.nodes) ≡ None }
     ensures answer { (file : List ℕ) → Accepts file (parser_rules parser.now) → IfOk result (λ line.
-        IfSome (T.left text.old) (λ bytes. IsPrinted (ParseTask (start_named options.now) options.now.memo
-        options.now.steps all form (nodes_asked nodes.entry) with_bytes) file bytes (line_bytes line)
+        IfSome (T.left text.old) (λ bytes. IsPrinted (parse_task options.now printing.entry) file bytes (line_bytes line)
         (status_code line.status))) }
     ensures held { ConsumesAtMost (T.left text.old) (T.left text.new) (max_text_bytes + 1) }
     ensures device { IsErrOf result ReadFault.Device ↔ (T.failed text.new ≡ true) }
     ensures never { T.never_fails text.old ≡ true → T.failed text.new ≡ false }
 {
     let bytes = read_up_to(alloc, text, MAX_TEXT_BYTES + 1)?;
-    Ok(parse_line(alloc, parser, &bytes, options, all, form, nodes, with_bytes)?)
+    Ok(parse_line(alloc, parser, &bytes, options, printing)?)
 }

@@ -14,43 +14,46 @@ use Rattle.peg_tool.proofs.parse.nodes_line.Goals as goal
 
 pub returns-in-NoTree : goal.returns-in-NoTree
 returns-in-NoTree c file =
+    let printing = c.args.printing in
     let rules = parser_rules c.args.parser.now in
-    let shown = shown_by rules (nodes_asked c.args.nodes) in
+    let shown = shown_by rules (nodes_asked printing.nodes) in
     let outcome = c.args.answer.outcome in
     let text = c.args.text.now in
     subst (λ (form : TreeForm). IfOk c.answer_line.result (λ line. IsLineOf file
-    (PrintsOutcomeAsked rules (selected_outcome shown outcome) text c.args.all form c.args.with_bytes) (line_bytes line)
+    (PrintsOutcomeAsked rules (selected_outcome shown outcome) text printing.all form printing.with_bytes) (line_bytes line)
     (status_code line.status))) (sym c.in-NoTree.is)
-    (kind-weaker c.answer_line.result file (PrintsOutcome rules (selected_outcome shown outcome) (length text) c.args.all NoTree)
-    (PrintsOutcomeAsked rules (selected_outcome shown outcome) text c.args.all NoTree c.args.with_bytes)
-    (unprinted-asked c.args.with_bytes text rules (selected_outcome shown outcome) c.args.all)
-    (unprinted-line c.answer_line.result file rules outcome (length text) c.args.all shown
+    (kind-weaker c.answer_line.result file (PrintsOutcome rules (selected_outcome shown outcome) (length text) printing.all NoTree)
+    (PrintsOutcomeAsked rules (selected_outcome shown outcome) text printing.all NoTree printing.with_bytes)
+    (unprinted-asked printing.with_bytes text rules (selected_outcome shown outcome) printing.all)
+    (unprinted-line c.answer_line.result file rules outcome (length text) printing.all shown
     (subst (λ (form : TreeForm). IfOk c.answer_line.result (λ line. IsLineOf file
-    (PrintsOutcome rules outcome (length text) c.args.all form) (line_bytes line) (status_code line.status)))
+    (PrintsOutcome rules outcome (length text) printing.all form) (line_bytes line) (status_code line.status)))
     c.in-NoTree.is (c.answer_line.ensures file))))
 
 pub returns-in-Rows : goal.returns-in-Rows
 returns-in-Rows c file =
+    let printing = c.args.printing in
     let rules = parser_rules c.args.parser.now in
-    let outcome = selected_outcome (shown_by rules (nodes_asked c.args.nodes)) c.args.answer.outcome in
+    let outcome = selected_outcome (shown_by rules (nodes_asked printing.nodes)) c.args.answer.outcome in
     let text = c.args.text.now in
     subst (λ (asked : Bool). IfOk c.rows_line.result (λ line. IsLineOf file
-    (PrintsOutcomeAsked rules outcome text c.args.all c.args.form asked) (line_bytes line) (status_code line.status)))
+    (PrintsOutcomeAsked rules outcome text printing.all printing.form asked) (line_bytes line) (status_code line.status)))
     (sym c.if-not-with_bytes.true)
     (subst (λ (form : TreeForm). IfOk c.rows_line.result (λ line. IsLineOf file
-    (PrintsOutcomeAsked rules outcome text c.args.all form false) (line_bytes line) (status_code line.status)))
+    (PrintsOutcomeAsked rules outcome text printing.all form false) (line_bytes line) (status_code line.status)))
     (sym c.in-Rows.is)
-    (kind-weaker c.rows_line.result file (PrintsOutcome rules outcome (length text) c.args.all Rows)
-    (PrintsOutcomeAsked rules outcome text c.args.all Rows false) (λ reply prints. (reply, prints, refl))
+    (kind-weaker c.rows_line.result file (PrintsOutcome rules outcome (length text) printing.all Rows)
+    (PrintsOutcomeAsked rules outcome text printing.all Rows false) (λ reply prints. (reply, prints, refl))
     (c.rows_line.ensures file)))
 
 pub returns-in_ok-printed-in-Nested : goal.returns-in_ok-printed-in-Nested
 returns-in_ok-printed-in-Nested c file =
+    let printing = c.args.printing in
     let rules = parser_rules c.args.parser.now in
     let same : c.in_ok-printed-in-Nested.printed.outcome
-    ≡ selected_outcome (shown_by rules (nodes_asked c.args.nodes)) c.args.answer.outcome =
+    ≡ selected_outcome (shown_by rules (nodes_asked printing.nodes)) c.args.answer.outcome =
     c.in_ok-printed-in-Nested.ensures
-    ∙ ap (λ (l : List Rule). selected_outcome (shown_by l (nodes_asked c.args.nodes)) c.args.answer.outcome) c.grammar.ensures in
+    ∙ ap (λ (l : List Rule). selected_outcome (shown_by l (nodes_asked printing.nodes)) c.args.answer.outcome) c.grammar.ensures in
     subst (λ (o : Outcome). IfOk c.tree_line.result (λ line. IsLineOf file
-    (PrintsOutcomeAsked rules o c.args.text.now c.args.all c.args.form c.args.with_bytes) (line_bytes line) (status_code line.status)))
+    (PrintsOutcomeAsked rules o c.args.text.now printing.all printing.form printing.with_bytes) (line_bytes line) (status_code line.status)))
     same (c.tree_line.ensures file)

@@ -16,25 +16,27 @@ use Rattle.peg_tool.proofs.parse.parse_line.Goals as goal
 
 pub returns-in-Ok : goal.returns-in-Ok
 returns-in-Ok c file =
+    let printing = c.args.printing in
     let rules = parser_rules c.args.parser.now in
-    let shown = shown_by rules (nodes_asked c.args.nodes) in
+    let shown = shown_by rules (nodes_asked printing.nodes) in
     let outcome = c.in-Ok.answer.outcome in
     let start = start_named c.args.options.now in
     let memo = c.args.options.now.memo in
     let steps = c.args.options.now.steps in
     let some : (start_name rules start ≡ None → ⊥) =
     λ none. let both : Ok c.in-Ok.answer ≡ Err NoStart = sym c.in-Ok.is ∙ c.parse.ensures.no_start.1 none in cc in
-    let parses = outcome-parses rules c.args.text.now start memo steps c.args.all c.args.form shown outcome
+    let parses = outcome-parses rules c.args.text.now start memo steps printing.all printing.form shown outcome
     c.in-Ok.ensures.short c.in-Ok.ensures.enough some c.in-Ok.ensures.outcome in
     kind-weaker c.nodes_line.result file
-    (PrintsOutcomeAsked rules (selected_outcome shown outcome) c.args.text.now c.args.all c.args.form c.args.with_bytes)
-    (ParsesToAsked rules c.args.text.now start memo steps c.args.all c.args.form shown c.args.with_bytes)
+    (PrintsOutcomeAsked rules (selected_outcome shown outcome) c.args.text.now printing.all printing.form printing.with_bytes)
+    (ParsesToAsked rules c.args.text.now start memo steps printing.all printing.form shown printing.with_bytes)
     (λ reply asked. (asked.0, parses asked.0 asked.1, asked.2)) (c.nodes_line.ensures file)
 
 pub returns-in-Err-NoSuchStart : goal.returns-in-Err-NoSuchStart
 returns-in-Err-NoSuchStart c file =
+    let printing = c.args.printing in
     let rules = parser_rules c.args.parser.now in
-    let shown = shown_by rules (nodes_asked c.args.nodes) in
+    let shown = shown_by rules (nodes_asked printing.nodes) in
     let start = start_named c.args.options.now in
     let memo = c.args.options.now.memo in
     let steps = c.args.options.now.steps in
@@ -42,8 +44,8 @@ returns-in-Err-NoSuchStart c file =
     let named = start-given rules start none in
     let same : c.unwrap_or.result.now ≡ named.0 =
     ap (λ name. name.now) c.unwrap_or.ensures ∙ given-name (λ name. name.now) c.args.options.now.start _ named.0 named.1 in
-    no_start-line c.no_start.result file rules c.args.text.now start memo steps c.args.all c.args.form shown
-    c.args.with_bytes named.0
+    no_start-line c.no_start.result file rules c.args.text.now start memo steps printing.all printing.form shown
+    printing.with_bytes named.0
     named.1 none
     (λ long. c.no_start.ensures.long long file) (λ short. subst (λ name. IfOk c.no_start.result (λ line.
     IsReply file (Refused (NoSuchStart name)) (line_bytes line) (status_code line.status))) same
@@ -51,34 +53,36 @@ returns-in-Err-NoSuchStart c file =
 
 pub returns-in-Err-TextTooLong : goal.returns-in-Err-TextTooLong
 returns-in-Err-TextTooLong c file =
+    let printing = c.args.printing in
     let rules = parser_rules c.args.parser.now in
-    let shown = shown_by rules (nodes_asked c.args.nodes) in
+    let shown = shown_by rules (nodes_asked printing.nodes) in
     let start = start_named c.args.options.now in
     let memo = c.args.options.now.memo in
     let steps = c.args.options.now.steps in
     let is = c.in-Err-TextTooLong.is ∙ ap Err c.in-Err-TextTooLong.field-0-is in
     reply-kind c.long_text_line.result file
-    (ParsesToAsked rules c.args.text.now start memo steps c.args.all c.args.form shown c.args.with_bytes)
+    (ParsesToAsked rules c.args.text.now start memo steps printing.all printing.form shown printing.with_bytes)
     (Refused TextTooLong) (c.long_text_line.ensures file) (
       Refused TextTooLong,
       text_too_long (long-text c.parse.result rules start (length c.args.text.now) is c.parse.ensures.no_start
           c.parse.ensures.long),
-      refused-with_text c.args.with_bytes c.args.text.now TextTooLong,
+      refused-with_text printing.with_bytes c.args.text.now TextTooLong,
     )
 
 pub returns-in-Err-StepLimit : goal.returns-in-Err-StepLimit
 returns-in-Err-StepLimit c file =
+    let printing = c.args.printing in
     let rules = parser_rules c.args.parser.now in
-    let shown = shown_by rules (nodes_asked c.args.nodes) in
+    let shown = shown_by rules (nodes_asked printing.nodes) in
     let start = start_named c.args.options.now in
     let memo = c.args.options.now.memo in
     let steps = c.args.options.now.steps in
     let is = c.in-Err-StepLimit.is ∙ ap Err c.in-Err-StepLimit.field-0-is in
     let more = c.parse.ensures.limited is in
     reply-kind c.step_limit_line.result file
-    (ParsesToAsked rules c.args.text.now start memo steps c.args.all c.args.form shown c.args.with_bytes)
+    (ParsesToAsked rules c.args.text.now start memo steps printing.all printing.form shown printing.with_bytes)
     (Refused StepLimit) (c.step_limit_line.ensures file) (
       Refused StepLimit,
       too_many_steps (short-text c.parse.result (length c.args.text.now) is (c.parse.ensures.long more.0 more.1)) more,
-      refused-with_text c.args.with_bytes c.args.text.now StepLimit,
+      refused-with_text printing.with_bytes c.args.text.now StepLimit,
     )

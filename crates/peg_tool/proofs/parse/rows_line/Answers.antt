@@ -20,7 +20,7 @@ returns-in-All c file =
     let same = outcome-all c.selecting_all_rules_changes_nothing.ensures outcome
     ∙ ap (λ (nodes : Nodes). selected_outcome (shown_by rules (nodes_asked nodes)) outcome) (sym c.in-All.is) in
     subst (λ (o : Outcome). IfOk c.answer_line.result (λ line. IsLineOf file
-    (PrintsOutcome rules o c.args.text_len c.args.all Rows) (line_bytes line) (status_code line.status))) same
+    (PrintsOutcome rules o c.args.text_len c.args.printing.all Rows) (line_bytes line) (status_code line.status))) same
     (c.answer_line.ensures file)
 
 pub returns-in_ok-shown-in-Show : goal.returns-in_ok-shown-in-Show
@@ -35,7 +35,7 @@ returns-in_ok-shown-in-Show c file =
     let same = outcome-same (has_rule set) (shown_by rules (NodesOf list)) (length rules) low outcome c.requires.tree
     ∙ ap (λ (nodes : Nodes). selected_outcome (shown_by rules (nodes_asked nodes)) outcome) (sym c.in-Show.is) in
     subst (λ (o : Outcome). IfOk c.shown_rows_line.result (λ line. IsLineOf file
-    (PrintsOutcome rules o c.args.text_len c.args.all Rows) (line_bytes line) (status_code line.status))) same
+    (PrintsOutcome rules o c.args.text_len c.args.printing.all Rows) (line_bytes line) (status_code line.status))) same
     (c.shown_rows_line.ensures file)
 
 pub returns-in_ok-shown-in-Hide : goal.returns-in_ok-shown-in-Hide
@@ -50,5 +50,5 @@ returns-in_ok-shown-in-Hide c file =
     let same = outcome-same (has_rule set) (shown_by rules (NodesExcept list)) (length rules) low outcome c.requires.tree
     ∙ ap (λ (nodes : Nodes). selected_outcome (shown_by rules (nodes_asked nodes)) outcome) (sym c.in-Hide.is) in
     subst (λ (o : Outcome). IfOk c.shown_rows_line-in-Hide.result (λ line. IsLineOf file
-    (PrintsOutcome rules o c.args.text_len c.args.all Rows) (line_bytes line) (status_code line.status))) same
+    (PrintsOutcome rules o c.args.text_len c.args.printing.all Rows) (line_bytes line) (status_code line.status))) same
     (c.shown_rows_line-in-Hide.ensures file)

@@ -8,17 +8,19 @@ use Rattle.peg_tool.proofs.parse.tree_line.Goals as goal
 
 pub returns-then-with_bytes : goal.returns-then-with_bytes
 returns-then-with_bytes c file =
+    let printing = c.args.printing in
     subst (λ (asked : Bool). IfOk c.answer_line_with_text.result (λ line. IsLineOf file
-    (PrintsOutcomeAsked (parser_rules c.args.parser.now) c.args.answer.outcome c.args.text.now c.args.all c.args.form asked)
+    (PrintsOutcomeAsked (parser_rules c.args.parser.now) c.args.answer.outcome c.args.text.now printing.all printing.form asked)
     (line_bytes line) (status_code line.status))) (sym c.if-with_bytes.true) (c.answer_line_with_text.ensures file)
 
 pub returns-else-with_bytes : goal.returns-else-with_bytes
 returns-else-with_bytes c file =
+    let printing = c.args.printing in
     let rules = parser_rules c.args.parser.now in
     let text = c.args.text.now in
     subst (λ (asked : Bool). IfOk c.answer_line.result (λ line. IsLineOf file
-    (PrintsOutcomeAsked rules c.args.answer.outcome text c.args.all c.args.form asked)
+    (PrintsOutcomeAsked rules c.args.answer.outcome text printing.all printing.form asked)
     (line_bytes line) (status_code line.status))) (sym c.if-with_bytes.false)
-    (kind-weaker c.answer_line.result file (PrintsOutcome rules c.args.answer.outcome (length text) c.args.all c.args.form)
-    (PrintsOutcomeAsked rules c.args.answer.outcome text c.args.all c.args.form false)
+    (kind-weaker c.answer_line.result file (PrintsOutcome rules c.args.answer.outcome (length text) printing.all printing.form)
+    (PrintsOutcomeAsked rules c.args.answer.outcome text printing.all printing.form false)
     (λ reply prints. (reply, prints, refl)) (c.answer_line.ensures file))

@@ -7,10 +7,11 @@ use Rattle.peg_tool.proofs.tool.parse_reply.Goals as goal
 
 pub returns-in-Accepted-clause-answer : goal.returns-in-Accepted-clause-answer
 returns-in-Accepted-clause-answer g c bytes is =
+    let printing = c.args.printing in
     let judged = subst (IsLoadedFrom c.args.file.now) c.in-Accepted.is c.in_ok-parser.ensures in
     parsed-reported c.reply_by_parser.result c.args.file.now (g.T.Source.left c.args.text.now) bytes
     (parser_rules c.in-Accepted.parser) (start_named c.args.options.now) c.args.options.now.memo
-    c.args.options.now.steps c.args.all c.args.form (nodes_asked c.args.nodes) c.args.with_bytes is judged
+    c.args.options.now.steps printing.all printing.form (nodes_asked printing.nodes) printing.with_bytes is judged
     (c.reply_by_parser.ensures.answer c.args.file.now judged)
 
 pub returns-in-Accepted-clause-refused : goal.returns-in-Accepted-clause-refused

@@ -12,18 +12,19 @@ use Rattle.peg_json.specs.Lines.{line_bytes}
 
 pub returns-clause-answer : goal.returns-clause-answer
 returns-clause-answer g c file accepts =
+    let printing = c.args.printing in
     let held = c.in_ok-bytes.bytes in
     let start = start_named c.args.options.now in
     let memo = c.args.options.now.memo in
     let steps = c.args.options.now.steps in
-    let nodes = nodes_asked c.args.nodes in
-    let task = ParseTask start memo steps c.args.all c.args.form nodes c.args.with_bytes in
+    let nodes = nodes_asked printing.nodes in
+    let task = ParseTask start memo steps printing.all printing.form nodes printing.with_bytes in
     let rules = parser_rules c.args.parser.now in
     let line = line_bytes c.in_ok-parse_line.field-0 in
     let status = status_code c.in_ok-parse_line.field-0.status in
     let IsRight = λ (text l : List ℕ) (s : ℕ). IsPrinted task file text l s in
     let for_held = subst (λ (text : List ℕ). IsRight text line status) c.deref.ensures.value
-    (parsed-printed file c.deref.result.now rules start memo steps c.args.all c.args.form nodes c.args.with_bytes line
+    (parsed-printed file c.deref.result.now rules start memo steps printing.all printing.form nodes printing.with_bytes line
     status accepts c.requires.known (c.in_ok-parse_line.ensures file)) in
     let within : length held.items ≤ max_text_bytes + 1 = omega (arith, held.ok.0, c.in_ok-bytes.ensures.limit) in
     let at_end : length held.items < max_text_bytes + 1 → IsAtEnd (g.T.Source.left c.read_up_to.new.input) =

@@ -8,10 +8,11 @@ use Rattle.peg_tool.proofs.tool.reply_by_parser.Goals as goal
 
 pub returns-in_ok-no_rule_line-in-Some-clause-answer : goal.returns-in_ok-no_rule_line-in-Some-clause-answer
 returns-in_ok-no_rule_line-in-Some-clause-answer g c file accepts =
-    let nodes = nodes_asked c.args.nodes in
+    let printing = c.args.printing in
+    let nodes = nodes_asked printing.nodes in
     let first : first_unknown (parser_rules c.args.parser.now) nodes ≡ Some c.in-Some.name.now =
     sym (ap (λ (l : List Rule). first_unknown l nodes) c.grammar.ensures) ∙ sym c.first_unknown.ensures
     ∙ ap (option_map (λ name. name.now)) c.in-Some.is in
     unknown-reported c.in_ok-no_rule_line-in-Some.field-0 file (g.T.Source.left c.args.text.now)
     (parser_rules c.args.parser.now) (start_named c.args.options.now) c.args.options.now.memo c.args.options.now.steps
-    c.args.all c.args.form nodes c.args.with_bytes c.in-Some.name.now accepts first (c.in_ok-no_rule_line-in-Some.ensures file)
+    printing.all printing.form nodes printing.with_bytes c.in-Some.name.now accepts first (c.in_ok-no_rule_line-in-Some.ensures file)
