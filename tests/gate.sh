@@ -32,8 +32,8 @@ growths=("tests/oom/each_growth.py $program" "tests/oom/each_test.py" "tests/fuz
 # has proved.
 bindings=("tests/bindings.sh $program --proved" "tests/python.sh $program" "tests/lint.py $program 2004 2000")
 cases=("tests/cases.py $program" "tests/examples.py $program" "tests/explain.py $program" "tests/deep.py $program")
-others=("tests/scripts.sh" "tools/moved_tests.py" "tools/crates.py --check" "tools/recipes.py" "tools/contracts.py --check"
-  "tools/definitions.py --check" "tools/documents.py" "tests/fuzz.py $program --examples")
+others=("tests/scripts.sh" "tools/moved_tests.py" "tools/crates.py --check" "tools/recipes.py" "tools/frames.py"
+  "tools/contracts.py --check" "tools/definitions.py --check" "tools/documents.py" "tests/fuzz.py $program --examples")
 run_lane() { # the scripts, in order; a line PASSED or FAILED ends what each prints
   local script start
   for script in "$@"; do
