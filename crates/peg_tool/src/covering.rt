@@ -14,9 +14,11 @@ ghost use Rattle.peg_parser.specs.Parser.{start_named};
 ghost use Rattle.peg_tool.specs.CoverageOutcome.{stopped_line, stopped_lines};
 ghost use Rattle.peg_tool.specs.CoverageReplies.{CoversTo};
 ghost use Rattle.peg_tool.specs.CoverageWritten.{IsCoverFault, IsReplyOfKind, WritesCoverageReply};
+ghost use Rattle.peg_tool.specs.Faults.{IsFaultAt, plain_result, standard_output};
 ghost use Rattle.peg_tool.specs.Replies.{RepliesTo};
 ghost use Rattle.peg_tool.specs.Task.{CoverTask};
 
+use crate::fault::{RequestFault, Stream};
 use crate::program::ProgramFault;
 use crate::report::Findings;
 use crate::write::write_reply;
@@ -248,17 +250,18 @@ fn push_stopped_line(alloc: Global, name: &str, lines: &mut String) -> Result<()
 }
 
 /// Writes the line of what texts use, and returns its exit status and the lines for standard error.
-pub(crate) fn write_coverage<W: Sink>(
+pub(crate) fn write_coverage<'a, W: Sink>(
     output: &mut W,
     reply: CoverageReply,
-) -> Result<Findings, ProgramFault>
+) -> Result<Findings, RequestFault<'a>>
     requires { W.failed output.old ≡ false }
-    ensures writes { WritesCoverageReply reply (W.written output.old) (W.written output.new) result }
-    ensures fault { IsErrOf result ProgramFault.File ↔ (W.failed output.new ≡ true) }
+    ensures writes { WritesCoverageReply reply (W.written output.old) (W.written output.new) (plain_result result) }
+    ensures fault { IsErrOf (plain_result result) ProgramFault.File ↔ (W.failed output.new ≡ true) }
+    ensures named { IfErr result (IsFaultAt standard_output (W.fault_kind output.new)) }
 {
     let CoverageReply { line, faults } = reply;
     match write_reply(output, Ok(line)) {
         Ok(status) => Ok(Findings { status, faults }),
-        Err(_) => Err(ProgramFault::File),
+        Err(_) => Err(RequestFault::at(Stream::Output, output.fault_kind())),
     }
 }

@@ -334,31 +334,13 @@ fn on_texts<'a, O: Opener, W: Sink>(
         Err(fault) => return Err(RequestFault::of_file(g, fault)),
     };
     match coverage_reply(alloc, files, &mut grammar, texts, options) {
-        Ok(reply) => {
-            let ended = write_coverage(output, reply);
-            to_findings(ended, output.fault_kind())
-        }
+        Ok(reply) => write_coverage(output, reply),
         Err(CoverFault::Grammar) => { Err(RequestFault::at(Stream::File(g), grammar.fault_kind())) }
         Err(CoverFault::Text { name, kind }) => Err(RequestFault::Device {
             stream: Stream::File(name),
             kind,
         }),
         Err(CoverFault::Memory) => Err(RequestFault::Memory),
-    }
-}
-
-// Converts the result of a coverage whose line is written, where a file fault is that of the output.
-fn to_findings<'a>(
-    ended: Result<Findings, ProgramFault>,
-    written: Option<ErrorKind>,
-) -> Result<Findings, RequestFault<'a>>
-    ensures plain { plain_result result ≡ ended }
-    ensures named { IfErr result (IsFaultAt standard_output written) }
-{
-    match ended {
-        Ok(findings) => Ok(findings),
-        Err(ProgramFault::File) => Err(RequestFault::at(Stream::Output, written)),
-        Err(ProgramFault::Memory) => Err(RequestFault::Memory),
     }
 }
 

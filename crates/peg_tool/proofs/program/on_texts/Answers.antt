@@ -1,13 +1,10 @@
-use Rattle.std.proofs.Common.{false, map, string_bytes, subst, sym, ◌≡◌, ◌∷◌, ◌++◌, [], Result}
+use Rattle.std.proofs.Common.{false, map, string_bytes, subst, ◌≡◌, ◌∷◌, ◌++◌, []}
 use Rattle.peg_io.specs.NamedFile.{bytes_of, is_readable}
 use Rattle.peg_messages.specs.FileNames.{shown_name}
 use Rattle.peg_parser.specs.Parser.{start_named}
-use Rattle.peg_tool.specs.CoverageOutcome.{CoverageOutcome}
 use Rattle.peg_tool.specs.CoverageWritten.{IsCoverFault}
-use Rattle.peg_tool.specs.Faults.{standard_output}
+use Rattle.peg_tool.specs.Faults.{plain_result, standard_output}
 use Rattle.peg_tool.specs.Task.{CoverTask}
-use Rattle.peg_tool.specs.declared.report.Findings.{Findings}
-use Rattle.peg_tool.specs.declared.program.ProgramFault.{ProgramFault}
 use Rattle.peg_tool.proofs.CoverageLemmas.{ended-among, last-among, reply-written, text-among}
 use Rattle.peg_tool.proofs.program.on_texts.Goals as goal
 
@@ -17,21 +14,18 @@ returns-in-Ok-coverage_reply-clause-leads g c =
     let options = c.args.options.now in
     let names = map string_bytes c.args.texts.now in
     let old = g.W.Sink.written c.args.output.now in
-    let new = g.W.Sink.written c.write_coverage-ended.new.output in
-    subst (λ (r : Result Findings ProgramFault).
-    CoverageOutcome (start_named options) options.memo options.steps c.args.g.now names file_at old new r)
-    (sym c.to_findings.ensures.plain)
-    (reply-written (CoverTask (map file_at names) (start_named options) options.memo options.steps) names
+    let new = g.W.Sink.written c.write_coverage.new.output in
+    reply-written (CoverTask (map file_at names) (start_named options) options.memo options.steps) names
     (bytes_of (file_at c.args.g.now)) (g.O.File.Source.left c.in-Ok.file) old new c.in-Ok-coverage_reply.reply
-    c.write_coverage-ended.result c.in-Ok.ensures.bytes c.write_coverage-ended.ensures.writes
-    c.in-Ok-coverage_reply.ensures.answer)
+    (plain_result c.write_coverage.result) c.in-Ok.ensures.bytes c.write_coverage.ensures.writes
+    c.in-Ok-coverage_reply.ensures.answer
 
 pub returns-in-Ok-coverage_reply-clause-named : goal.returns-in-Ok-coverage_reply-clause-named
 returns-in-Ok-coverage_reply-clause-named g c =
     let names = map shown_name (map string_bytes c.args.texts.now) in
     let first = shown_name c.args.g.now in
-    ended-among c.to_findings.result (first ∷ names ++ standard_output ∷ []) _
-    c.to_findings.ensures.named (last-among first standard_output names)
+    ended-among c.write_coverage.result (first ∷ names ++ standard_output ∷ []) _
+    c.write_coverage.ensures.named (last-among first standard_output names)
 
 pub returns-in-Err-Text-clause-named : goal.returns-in-Err-Text-clause-named
 returns-in-Err-Text-clause-named g c =
