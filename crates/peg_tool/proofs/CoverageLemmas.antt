@@ -47,15 +47,14 @@ use Rattle.peg_messages.specs.FileNames.{shown_name}
 use Rattle.peg_tool.specs.CoverageOutcome.{IsPrintedOf, WritesCoverage, error_lines, stopped_line, stopped_lines}
 use Rattle.peg_tool.specs.Faults.{IsFaultAmong, IsFaultAt, standard_output}
 use Rattle.peg_tool.specs.CoverageReplies.{CoversTo, has_coverage, marked_over_limit}
-use Rattle.peg_tool.specs.CoverageWritten.{IsCoverFault, IsReplyOfKind, WritesCoverageReply}
+use Rattle.peg_tool.specs.CoverageWritten.{IsReplyOfKind, IsTextFault, WritesCoverageReply}
 use Rattle.peg_tool.specs.Replies.{RepliesTo, refused_grammar}
 use Rattle.peg_tool.specs.Task.{ToolTask, Checks}
-use Rattle.peg_tool.specs.declared.covering.CoverFault.{CoverFault}
-use Rattle.peg_tool.specs.declared.covering.CoverFault.TheVariants as cover
 use Rattle.peg_tool.specs.declared.covering.CoverageReply.{CoverageReply}
 use Rattle.peg_tool.specs.declared.report.Findings.{Findings}
 use Rattle.peg_tool.specs.declared.fault.RequestFault.{RequestFault}
 use Rattle.peg_tool.specs.declared.fault.RequestFault.TheVariants as failed
+use Rattle.peg_tool.specs.declared.fault.Stream.TheVariants as streams
 use Rattle.peg_tool.specs.declared.program.ProgramFault.{ProgramFault}
 use Rattle.peg_tool.specs.declared.program.ProgramFault.TheVariants.{File, Memory}
 use Rattle.peg_tool.proofs.JudgeLemmas.{refuses-replies}
@@ -99,7 +98,7 @@ refused-alone file text size task why printed line names checks (of_cause cause 
     (refuses-replies file text task checks cause holds)
 
 -- the reply for a grammar without a parser of coverage
-pub no-coverage-replies : (result : Result CoverageReply CoverFault) (why : CoverageFault) (rules : List Rule)
+pub no-coverage-replies : (result : Result CoverageReply RequestFault) (why : CoverageFault) (rules : List Rule)
     (files : List NamedFile) (start : Option (List ℕ)) (memo : ℕ) (steps : Option ℕ) (names : List (List ℕ)) (file : List ℕ)
     → IsCoverageRefusal rules why
     → IfOk result (λ reply. (why ≢ coverage.Memory) × (string_bytes reply.faults ≡ [])
@@ -179,7 +178,7 @@ front-printed task names text front rest line status errors long is =
     )
 
 -- what is printed for the bytes read of a grammar file is printed for the file
-pub reply-held : (result : Result CoverageReply CoverFault) (task : ToolTask) (names : List (List ℕ))
+pub reply-held : (result : Result CoverageReply RequestFault) (task : ToolTask) (names : List (List ℕ))
     (left new : Option (List ℕ)) (held : List ℕ) → Consumes left new held → length held ≤ max_file_bytes + 1
     → (length held < max_file_bytes + 1 → IsAtEnd new)
     → ((text : List ℕ) → IfOk result (IsReplyOfKind (RepliesTo held text task) names held))
@@ -191,15 +190,6 @@ reply-held (Ok reply) task names left new held consumed within end right =
     long (is text)) left new held (line_bytes reply.line) (status_code reply.line.status) consumed within end right
 reply-held (Err why) task names None new held consumed within end right = tt
 reply-held (Err why) task names (Some file) new held consumed within end right = λ text. tt
-
--- a fault is true whether or not the grammar file has been read
-pub fault-weaker : {X : Type 0} (result : Result X CoverFault) (failed : Bool) (file_at : List ℕ → NamedFile)
-    (names : List (List ℕ)) → IfErr result (IsCoverFault false file_at names)
-    → IfErr result (IsCoverFault failed file_at names)
-fault-weaker (Ok x) failed file_at names is = tt
-fault-weaker (Err cover.Grammar) failed file_at names is = absurd (let bad : false ≡ true = is in cc)
-fault-weaker (Err (cover.Text name kind)) failed file_at names is = is
-fault-weaker (Err cover.Memory) failed file_at names is = tt
 
 -- ---- requests
 
@@ -268,6 +258,23 @@ first-among first rest = (0, omega arith, refl)
 pub last-among : (first last : List ℕ) (shown : List (List ℕ)) → Contains (first ∷ shown ++ last ∷ []) last
 last-among first last shown =
     (suc (length shown), omega (arith, length-append shown (last ∷ [])), get_or-append_seam shown last [] last)
+
+-- a fault of a text is among the faults of a request
+pub text-faults-among : {X : Type 0} (first last : List ℕ) (names : List (List ℕ)) (file_at : List ℕ → NamedFile)
+    (result : Result X RequestFault) → IfErr result (IsTextFault file_at names)
+    → IfErr result (IsFaultAmong (first ∷ map shown_name names ++ last ∷ []))
+text-faults-among first last names file_at (Ok x) is = tt
+text-faults-among first last names file_at (Err (failed.Device (streams.File unread) kind)) is =
+    text-among first last unread.now names (λ name. is_readable (file_at name) ≡ false) is
+text-faults-among first last names file_at (Err (failed.Device streams.Input kind)) is = absurd is
+text-faults-among first last names file_at (Err (failed.Device streams.Output kind)) is = absurd is
+text-faults-among first last names file_at (Err failed.Memory) is = tt
+
+-- so is the fault of a stream with one of the names
+pub at-among : (fault : RequestFault) (names : List (List ℕ)) (name : List ℕ) (known : Option ErrorKind)
+    → IsFaultAt name known fault → Contains names name → IsFaultAmong names fault
+at-among (failed.Device at kind) names name known is has = subst (Contains names) (sym is.0) has
+at-among failed.Memory names name known is has = tt
 
 -- a fault of the output is among the faults of a request
 pub ended-among : {X : Type 0} (result : Result X RequestFault) (names : List (List ℕ)) (written : Option ErrorKind)

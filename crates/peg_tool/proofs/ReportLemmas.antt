@@ -1,7 +1,7 @@
 -- What is reported of the results of requests.
-use Rattle.std.proofs.Common.{◌≡◌, ◌∙◌, ℕ, Err, IsErrAnd, Ok, Result, ap, sym}
+use Rattle.std.proofs.Common.{◌≡◌, ◌∙◌, ℕ, Err, IfErr, IsErrAnd, List, Ok, Result, ap, subst, sym}
 use Rattle.peg_tool.specs.CommandOutcome.{done_result, found_result}
-use Rattle.peg_tool.specs.Faults.{plain_fault, plain_result}
+use Rattle.peg_tool.specs.Faults.{IsFaultAmong, plain_fault, plain_result}
 use Rattle.peg_tool.specs.declared.fault.RequestFault.{RequestFault}
 use Rattle.peg_tool.specs.declared.report.Findings.{Findings}
 use Rattle.peg_tool.specs.declared.report.Report.{Report}
@@ -30,3 +30,9 @@ pub found-fault : (ended : Result Findings RequestFault) (fault : RequestFault) 
 found-fault ended fault (Ok it) was is = absurd is
 found-fault ended fault (Err stated) was is =
     ap (λ f. Err (plain_fault f)) is ∙ sym (ap (λ r. found_result (plain_result r)) was)
+
+-- a fault that is passed on is among the same names
+pub passed-among : (names : List (List ℕ)) (fault : RequestFault) (result : Result Report RequestFault)
+    → IsFaultAmong names fault → IsErrAnd result (λ stated. stated ≡ fault) → IfErr result (IsFaultAmong names)
+passed-among names fault (Ok it) among is = absurd is
+passed-among names fault (Err stated) among is = subst (IsFaultAmong names) (sym is) among

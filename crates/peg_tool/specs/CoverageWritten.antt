@@ -1,18 +1,17 @@
 -- Describes code: what is printed of what texts use, and why there is nothing.
-use Rattle.std.specs.Prelude.{◌≡◌, ℕ, Any, Bool, true, false, List, Option, Result, Ok, Err, string_bytes}
+use Rattle.std.specs.Prelude.{◌≡◌, ℕ, Any, false, List, Option, Result, Ok, Err, string_bytes}
 use Rattle.std.specs.Io.KnownBytes.{Appends}
 use Rattle.peg_io.specs.NamedFile.{NamedFile, is_readable}
 use Rattle.peg_io.specs.Transfer.{AppendsProperPrefix}
-use Rattle.peg_io.specs.declared.transfer.ReadFault.{ReadFault}
-use Rattle.peg_io.specs.declared.transfer.ReadFault.TheVariants as read
 use Rattle.peg_json.specs.Lines.{line_bytes}
 use Rattle.peg_json.specs.Reply.{Reply}
 use Rattle.peg_json.specs.Statuses.{status_code}
 use Rattle.peg_tool.specs.CoverageOutcome.{IsPrintedOf}
-use Rattle.peg_tool.specs.declared.covering.CoverFault.{CoverFault}
-use Rattle.peg_tool.specs.declared.covering.CoverFault.TheVariants as cover
 use Rattle.peg_tool.specs.declared.covering.CoverageReply.{CoverageReply}
 use Rattle.peg_tool.specs.declared.report.Findings.{Findings}
+use Rattle.peg_tool.specs.declared.fault.RequestFault.{RequestFault}
+use Rattle.peg_tool.specs.declared.fault.RequestFault.TheVariants as fault
+use Rattle.peg_tool.specs.declared.fault.Stream.TheVariants as streams
 use Rattle.peg_tool.specs.declared.program.ProgramFault.{ProgramFault}
 use Rattle.peg_tool.specs.declared.program.ProgramFault.TheVariants.{File, Memory}
 
@@ -21,13 +20,13 @@ abbrev pub IsReplyOfKind : (Kind : Reply → Type 0) → (names : List (List ℕ
 IsReplyOfKind Kind names file reply =
     IsPrintedOf Kind names file (line_bytes reply.line) (status_code reply.line.status) (string_bytes reply.faults)
 
--- Whether a fault is true: a read of the grammar file failed, or the file of a text with this name isn't specified to be
--- readable. A failed allocation is always possible.
-abbrev pub IsCoverFault : (failed : Bool) → (file_at : List ℕ → NamedFile) → (names : List (List ℕ)) → CoverFault → Type 0
-IsCoverFault failed file_at names cover.Grammar = failed ≡ true
-IsCoverFault failed file_at names (cover.Text unread kind) =
+-- Whether a fault is true: the file of a text with this name isn't specified to be readable. A failed allocation is
+-- always possible.
+abbrev pub IsTextFault : (file_at : List ℕ → NamedFile) → (names : List (List ℕ)) → RequestFault → Type 0
+IsTextFault file_at names (fault.Device (streams.File unread) kind) =
     Any (λ (name : List ℕ). (unread.now ≡ name) × (is_readable (file_at name) ≡ false)) names
-IsCoverFault failed file_at names cover.Memory = Unit {0}
+IsTextFault file_at names (fault.Device at kind) = ⊥
+IsTextFault file_at names fault.Memory = Unit {0}
 
 -- What is written of a reply: its line. If a write fails, a proper prefix of it is written.
 abbrev pub WritesCoverageReply : CoverageReply → (old new : Option (List ℕ)) → Result Findings ProgramFault → Type 0
@@ -35,8 +34,3 @@ WritesCoverageReply reply old new (Ok ended) = Appends old new (line_bytes reply
     × (ended.status ≡ status_code reply.line.status) × (string_bytes ended.faults ≡ string_bytes reply.faults)
 WritesCoverageReply reply old new (Err Memory) = ⊥
 WritesCoverageReply reply old new (Err File) = AppendsProperPrefix old new (line_bytes reply.line)
-
--- the fault of a grammar file that can't be read
-abbrev pub of_read : ReadFault → CoverFault
-of_read read.Device = cover.Grammar
-of_read read.Memory = cover.Memory

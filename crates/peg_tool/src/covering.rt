@@ -1,5 +1,5 @@
 //! What texts use of a grammar: the line, and the lines for standard error.
-ghost use Rattle.std.specs.Prelude.{◌≡◌, ◌≢◌, ◌↔◌, ◌<◌, ◌≤◌, ◌++◌, ℕ, All, List, [], IfErr, IfOk, IfSome, IsErrOf, false, length};
+ghost use Rattle.std.specs.Prelude.{◌≡◌, ◌≢◌, ◌↔◌, ◌<◌, ◌≤◌, ◌++◌, ◌∷◌, ℕ, All, List, [], IfErr, IfOk, IfSome, IsErrOf, false, length};
 ghost use Rattle.std.specs.Prelude.{OnOk, codes, map, string_bytes, true};
 ghost use Rattle.peg_bytes.specs.Extent.{extent};
 ghost use Rattle.peg_bytes.specs.Place.{max_offset};
@@ -10,11 +10,12 @@ ghost use Rattle.peg_json.specs.CoverageText.{reference_at};
 ghost use Rattle.peg_json.specs.Lines.{IsReply, line_bytes};
 ghost use Rattle.peg_json.specs.Reply.{Covered, NoCoverage};
 ghost use Rattle.peg_json.specs.Statuses.{status_code};
+ghost use Rattle.peg_messages.specs.FileNames.{shown_name};
 ghost use Rattle.peg_parser.specs.Parser.{start_named};
 ghost use Rattle.peg_tool.specs.CoverageOutcome.{stopped_line, stopped_lines};
 ghost use Rattle.peg_tool.specs.CoverageReplies.{CoversTo};
-ghost use Rattle.peg_tool.specs.CoverageWritten.{IsCoverFault, IsReplyOfKind, WritesCoverageReply};
-ghost use Rattle.peg_tool.specs.Faults.{IsFaultAt, plain_result, standard_output};
+ghost use Rattle.peg_tool.specs.CoverageWritten.{IsReplyOfKind, IsTextFault, WritesCoverageReply};
+ghost use Rattle.peg_tool.specs.Faults.{IsFaultAmong, IsFaultAt, plain_result, standard_output};
 ghost use Rattle.peg_tool.specs.Replies.{RepliesTo};
 ghost use Rattle.peg_tool.specs.Task.{CoverTask};
 
@@ -33,7 +34,6 @@ use peg_messages::shown_name;
 use peg_notation::MAX_FILE_BYTES;
 use peg_parser::{ParseOptions, Parser, Refusal};
 use std::alloc::{AllocError, Global};
-use std::io::ErrorKind;
 
 /// What is printed of what texts use.
 #[derive(Drop)]
@@ -44,60 +44,31 @@ pub(crate) struct CoverageReply {
     pub(crate) faults: String,
 }
 
-/// Why it isn't known what texts use.
-#[derive(Clone, Copy)]
-pub(crate) enum CoverFault<'a> {
-    /// The grammar file can't be read.
-    Grammar,
-    /// The text with this name can't be opened or read. `kind` is the kind of the system's error.
-    Text { name: &'a str, kind: ErrorKind },
-    /// An allocation failed.
-    Memory,
-}
-
-impl<'a> From<AllocError> for CoverFault<'a> {
-    ghost use Rattle.std.specs.Prelude.{◌≡◌};
-    ghost use Rattle.peg_tool.specs.declared.covering.CoverFault.TheVariants.{Memory};
-
-    ghost from_gives = { λ _ fault. fault ≡ Memory };
-
-    fn from(_error: AllocError) -> CoverFault<'a> {
-        CoverFault::Memory
-    }
-}
-
-impl<'a> From<ReadFault> for CoverFault<'a> {
-    ghost use Rattle.std.specs.Prelude.{◌≡◌};
-    ghost use Rattle.peg_tool.specs.CoverageWritten.{of_read};
-
-    ghost from_gives = { λ why fault. fault ≡ of_read why };
-
-    fn from(why: ReadFault) -> CoverFault<'a> {
-        match why {
-            ReadFault::Device => CoverFault::Grammar,
-            ReadFault::Memory => CoverFault::Memory,
-        }
-    }
-}
-
-/// Reads a grammar file and returns what is printed of what the texts with these names use of it, or the line that
-/// reports why there is nothing. The texts are opened one after the other, if the file is accepted.
+/// Reads the grammar file with name `g` and returns what is printed of what the texts with these names use of it, or the
+/// line that reports why there is nothing. The texts are opened one after the other, if the file is accepted.
 pub(crate) fn coverage_reply<'a, O: Opener, G: Source>(
     alloc: Global,
     files: &O,
     grammar: &mut G,
+    g: &'a str,
     names: &'a [String],
     options: &ParseOptions<'_>,
-) -> Result<CoverageReply, CoverFault<'a>>
+) -> Result<CoverageReply, RequestFault<'a>>
     requires { G.failed grammar.old ≡ false }
     ensures answer { IfSome (G.left grammar.old) (λ file. (text : List ℕ) → IfOk result (IsReplyOfKind
         (RepliesTo file text (CoverTask (files_named (O.file_at files.now) names.now) (start_named options.now)
         options.now.memo options.now.steps)) (map string_bytes names.now) file)) }
-    ensures fault { IfErr result (IsCoverFault (G.failed grammar.new) (O.file_at files.now) (map string_bytes names.now)) }
+    ensures fault { G.failed grammar.new ≡ false
+        → IfErr result (IsTextFault (O.file_at files.now) (map string_bytes names.now)) }
+    ensures named { IfErr result
+        (IsFaultAmong (shown_name g.now ∷ map shown_name (map string_bytes names.now) ++ standard_output ∷ [])) }
     ensures never { G.never_fails grammar.old ≡ true → G.failed grammar.new ≡ false }
 {
-    let file = read_up_to(alloc, grammar, MAX_FILE_BYTES + 1)?;
-    cover_by_file(alloc, files, &file, names, options)
+    match read_up_to(alloc, grammar, MAX_FILE_BYTES + 1) {
+        Ok(file) => cover_by_file(alloc, files, &file, names, options),
+        Err(ReadFault::Device) => Err(RequestFault::at(Stream::File(g), grammar.fault_kind())),
+        Err(ReadFault::Memory) => Err(RequestFault::Memory),
+    }
 }
 
 // What is printed of what texts use of a grammar file, or the line that reports why there is nothing.
@@ -107,16 +78,16 @@ fn cover_by_file<'a, O: Opener>(
     file: &[u8],
     names: &'a [String],
     options: &ParseOptions<'_>,
-) -> Result<CoverageReply, CoverFault<'a>>
+) -> Result<CoverageReply, RequestFault<'a>>
     requires { length file.now ≤ max_offset }
     ensures answer { (text : List ℕ) → IfOk result (IsReplyOfKind
         (RepliesTo file.now text (CoverTask (files_named (O.file_at files.now) names.now) (start_named options.now)
         options.now.memo options.now.steps)) (map string_bytes names.now) file.now) }
-    ensures fault { IfErr result (IsCoverFault false (O.file_at files.now) (map string_bytes names.now)) }
+    ensures fault { IfErr result (IsTextFault (O.file_at files.now) (map string_bytes names.now)) }
 {
     match Parser::from_file(alloc, file) {
         Ok(parser) => cover_by_grammar(alloc, files, file, parser.grammar(), names, options),
-        Err(Refusal::Memory) => Err(CoverFault::Memory),
+        Err(Refusal::Memory) => Err(RequestFault::Memory),
         Err(refusal) => {
             let line = refused_line(alloc, file, &refusal)?;
             Ok(line_alone(alloc, line))
@@ -143,11 +114,11 @@ fn cover_by_grammar<'a, O: Opener>(
     grammar: &Grammar,
     names: &'a [String],
     options: &ParseOptions<'_>,
-) -> Result<CoverageReply, CoverFault<'a>>
+) -> Result<CoverageReply, RequestFault<'a>>
     ensures answer { IfOk result (IsReplyOfKind
         (CoversTo (rules_in grammar.now) (files_named (O.file_at files.now) names.now) (start_named options.now)
         options.now.memo options.now.steps) (map string_bytes names.now) file.now) }
-    ensures fault { IfErr result (IsCoverFault false (O.file_at files.now) (map string_bytes names.now)) }
+    ensures fault { IfErr result (IsTextFault (O.file_at files.now) (map string_bytes names.now)) }
 {
     match CoverageParser::new(alloc, grammar) {
         Ok(parser) => cover_by_parser(alloc, files, file, grammar, &parser, names, options),
@@ -156,13 +127,13 @@ fn cover_by_grammar<'a, O: Opener>(
 }
 
 // The line that reports that there is no parser of coverage, unless an allocation failed.
-fn no_coverage<'a>(alloc: Global, why: CoverageFault) -> Result<CoverageReply, CoverFault<'a>>
+fn no_coverage<'a>(alloc: Global, why: CoverageFault) -> Result<CoverageReply, RequestFault<'a>>
     ensures line { IfOk result (λ reply. (why ≢ CoverageFault.Memory) × (string_bytes reply.faults ≡ [])
         × ((file : List ℕ) → IsReply file NoCoverage (line_bytes reply.line) (status_code reply.line.status))) }
-    ensures fault { IfErr result (λ fault. fault ≡ CoverFault.Memory) }
+    ensures fault { IfErr result (λ fault. fault ≡ RequestFault.Memory) }
 {
     match why {
-        CoverageFault::Memory => Err(CoverFault::Memory),
+        CoverageFault::Memory => Err(RequestFault::Memory),
         _ => {
             let line = no_coverage_line(alloc)?;
             Ok(line_alone(alloc, line))
@@ -179,12 +150,12 @@ fn cover_by_parser<'a, O: Opener>(
     parser: &CoverageParser,
     names: &'a [String],
     options: &ParseOptions<'_>,
-) -> Result<CoverageReply, CoverFault<'a>>
+) -> Result<CoverageReply, RequestFault<'a>>
     requires { IsCoverageParserOf (rules_in grammar.now) parser.now }
     ensures answer { IfOk result (IsReplyOfKind
         (CoversTo (rules_in grammar.now) (files_named (O.file_at files.now) names.now) (start_named options.now)
         options.now.memo options.now.steps) (map string_bytes names.now) file.now) }
-    ensures fault { IfErr result (IsCoverFault false (O.file_at files.now) (map string_bytes names.now)) }
+    ensures fault { IfErr result (IsTextFault (O.file_at files.now) (map string_bytes names.now)) }
 {
     match cover_files(alloc, files, parser, names, options) {
         Ok(coverage) => Ok(covered_reply(alloc, file, grammar, names, &coverage)?),
@@ -197,8 +168,11 @@ fn cover_by_parser<'a, O: Opener>(
             let line = long_text_line(alloc)?;
             Ok(line_alone(alloc, line))
         }
-        Err(CoveringFault::File { name, kind }) => Err(CoverFault::Text { name, kind }),
-        Err(CoveringFault::Memory) => Err(CoverFault::Memory),
+        Err(CoveringFault::File { name, kind }) => Err(RequestFault::Device {
+            stream: Stream::File(name),
+            kind,
+        }),
+        Err(CoveringFault::Memory) => Err(RequestFault::Memory),
     }
 }
 

@@ -80,6 +80,17 @@ impl<'a> RequestFault<'a> {
     }
 }
 
+impl<'a> From<AllocError> for RequestFault<'a> {
+    ghost use Rattle.std.specs.Prelude.{◌≡◌};
+    ghost use Rattle.peg_tool.specs.declared.fault.RequestFault.TheVariants.{Memory};
+
+    ghost from_gives = { λ _ fault. fault ≡ Memory };
+
+    fn from(_error: AllocError) -> RequestFault<'a> {
+        RequestFault::Memory
+    }
+}
+
 /// Returns two lines for standard error: that of every fault of a device, and one that names the stream and the reason.
 pub(crate) fn device_message(
     alloc: Global,

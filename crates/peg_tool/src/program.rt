@@ -16,7 +16,7 @@ ghost use Rattle.peg_tool.specs.CoverageOutcome.{CoverageOutcome};
 ghost use Rattle.peg_tool.specs.Task.{HasText};
 
 use crate::command::Command;
-use crate::covering::{CoverFault, coverage_reply, write_coverage};
+use crate::covering::{coverage_reply, write_coverage};
 use crate::explaining::explain;
 use crate::fault::{RequestFault, Stream};
 use crate::joined::run_input;
@@ -333,14 +333,9 @@ fn on_texts<'a, O: Opener, W: Sink>(
         Ok(file) => file,
         Err(fault) => return Err(RequestFault::of_file(g, fault)),
     };
-    match coverage_reply(alloc, files, &mut grammar, texts, options) {
+    match coverage_reply(alloc, files, &mut grammar, g, texts, options) {
         Ok(reply) => write_coverage(output, reply),
-        Err(CoverFault::Grammar) => { Err(RequestFault::at(Stream::File(g), grammar.fault_kind())) }
-        Err(CoverFault::Text { name, kind }) => Err(RequestFault::Device {
-            stream: Stream::File(name),
-            kind,
-        }),
-        Err(CoverFault::Memory) => Err(RequestFault::Memory),
+        Err(fault) => Err(fault),
     }
 }
 

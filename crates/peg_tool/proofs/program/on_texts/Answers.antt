@@ -1,11 +1,10 @@
-use Rattle.std.proofs.Common.{false, map, string_bytes, subst, ◌≡◌, ◌∷◌, ◌++◌, []}
-use Rattle.peg_io.specs.NamedFile.{bytes_of, is_readable}
+use Rattle.std.proofs.Common.{map, string_bytes, ◌∷◌, ◌++◌, []}
+use Rattle.peg_io.specs.NamedFile.{bytes_of}
 use Rattle.peg_messages.specs.FileNames.{shown_name}
 use Rattle.peg_parser.specs.Parser.{start_named}
-use Rattle.peg_tool.specs.CoverageWritten.{IsCoverFault}
 use Rattle.peg_tool.specs.Faults.{plain_result, standard_output}
 use Rattle.peg_tool.specs.Task.{CoverTask}
-use Rattle.peg_tool.proofs.CoverageLemmas.{ended-among, last-among, reply-written, text-among}
+use Rattle.peg_tool.proofs.CoverageLemmas.{ended-among, last-among, reply-written}
 use Rattle.peg_tool.proofs.program.on_texts.Goals as goal
 
 pub returns-in-Ok-coverage_reply-clause-leads : goal.returns-in-Ok-coverage_reply-clause-leads
@@ -26,12 +25,3 @@ returns-in-Ok-coverage_reply-clause-named g c =
     let first = shown_name c.args.g.now in
     ended-among c.write_coverage.result (first ∷ names ++ standard_output ∷ []) _
     c.write_coverage.ensures.named (last-among first standard_output names)
-
-pub returns-in-Err-Text-clause-named : goal.returns-in-Err-Text-clause-named
-returns-in-Err-Text-clause-named g c =
-    let file_at = g.O.Opener.file_at c.args.files.now in
-    let names = map string_bytes c.args.texts.now in
-    let unread = subst (IsCoverFault (g.O.File.Source.failed c.coverage_reply.new.grammar) file_at names)
-    c.in-Err-Text.field-0-is c.in-Err-Text.ensures.fault in
-    text-among (shown_name c.args.g.now) standard_output c.in-Err-Text.name.now names
-    (λ name. is_readable (file_at name) ≡ false) unread

@@ -1,9 +1,10 @@
-use Rattle.std.proofs.Common.{Ok, subst}
+use Rattle.std.proofs.Common.{IfErr, Ok, subst, ◌∷◌, []}
 use Rattle.peg_tool.specs.CommandOutcome.{RequestOutcome}
-use Rattle.peg_tool.specs.Faults.{plain_result}
+use Rattle.peg_tool.specs.Faults.{IsFaultAmong, plain_result, standard_output, stream_names}
 use Rattle.peg_tool.specs.Requests.{ToolRequest}
 use Rattle.peg_tool.specs.declared.report.Report.TheVariants as report
-use Rattle.peg_tool.proofs.ReportLemmas.{done-fault, done-status, found-fault, found-findings}
+use Rattle.peg_tool.proofs.CoverageLemmas.{at-among, first-among}
+use Rattle.peg_tool.proofs.ReportLemmas.{done-fault, done-status, found-fault, found-findings, passed-among}
 use Rattle.peg_tool.proofs.program.run_request.Goals as goal
 
 pub returns-in_err-on_input-in-Joined-clause-leads : goal.returns-in_err-on_input-in-Joined-clause-leads
@@ -89,3 +90,11 @@ returns-in_ok-explain-in-Explain-clause-leads g c =
       c.explain.ensures.leads,
       found-findings c.explain.result _ c.in_ok-explain-in-Explain.was,
     )
+
+pub returns-in_err-explain-in-Explain-clause-named : goal.returns-in_err-explain-in-Explain-clause-named
+returns-in_err-explain-in-Explain-clause-named g c =
+    let passed = c.from_residual-in_err-explain-in-Explain in
+    subst (λ (r : ToolRequest). IfErr passed.result (IsFaultAmong (stream_names r))) c.in-Explain.ensures
+    (passed-among (standard_output ∷ []) _ passed.result
+    (at-among _ (standard_output ∷ []) standard_output _ c.in_err-explain-in-Explain.ensures.named
+    (first-among standard_output [])) passed.ensures.1)
