@@ -45,12 +45,15 @@ definition_on line = Seq (forms (Name (codes "Identifier") (line_span line 14 24
 unfoldable pub definition_body : Form
 definition_body = definition_on (line_start definition_rule)
 
+-- (SLASH Sequence)*
+abbrev pub expression_rest : (line : ℕ) → Form
+expression_rest line = Star (Seq (forms (Name (codes "SLASH") (line_span line 24 29) ∷
+    Name (codes "Sequence") (line_span line 30 38) ∷ [])) (line_span line 24 38)) (line_span line 23 40)
+
 -- Expression <- Sequence (SLASH Sequence)*
 abbrev pub expression_on : (line : ℕ) → Form
-expression_on line = Seq (forms (Name (codes "Sequence") (line_span line 14 22) ∷
-    Star (Seq (forms (Name (codes "SLASH") (line_span line 24 29) ∷ Name (codes "Sequence")
-    (line_span line 30 38) ∷
-    [])) (line_span line 24 38)) (line_span line 23 40) ∷ [])) (line_span line 14 40)
+expression_on line = Seq (forms (Name (codes "Sequence") (line_span line 14 22) ∷ expression_rest line ∷ []))
+    (line_span line 14 40)
 
 unfoldable pub expression_body : Form
 expression_body = expression_on (line_start expression_rule)
@@ -62,24 +65,30 @@ sequence_on line = Star (Name (codes "Prefix") (line_span line 12 18)) (line_spa
 unfoldable pub sequence_body : Form
 sequence_body = sequence_on (line_start sequence_rule)
 
+-- (AND / NOT)?
+abbrev pub prefix_sign : (line : ℕ) → Form
+prefix_sign line = Optional (Choice (Name (codes "AND") (line_span line 11 14))
+    (forms (Name (codes "NOT") (line_span line 17 20) ∷ [])) (line_span line 11 20))
+    (line_span line 10 22)
+
 -- Prefix <- (AND / NOT)? Suffix
 abbrev pub prefix_on : (line : ℕ) → Form
-prefix_on line = Seq (forms (Optional (Choice (Name (codes "AND") (line_span line 11 14))
-    (forms (Name (codes "NOT") (line_span line 17 20) ∷ [])) (line_span line 11 20))
-    (line_span line 10 22) ∷
-    Name (codes "Suffix") (line_span line 23 29) ∷ [])) (line_span line 10 29)
+prefix_on line = Seq (forms (prefix_sign line ∷ Name (codes "Suffix") (line_span line 23 29) ∷ []))
+    (line_span line 10 29)
 
 unfoldable pub prefix_body : Form
 prefix_body = prefix_on (line_start prefix_rule)
 
+-- (QUESTION / STAR / PLUS / COUNT)?
+abbrev pub suffix_sign : (line : ℕ) → Form
+suffix_sign line = Optional (Choice (Name (codes "QUESTION") (line_span line 19 27))
+    (forms (Name (codes "STAR") (line_span line 30 34) ∷ Name (codes "PLUS") (line_span line 37 41) ∷
+    Name (codes "COUNT") (line_span line 44 49) ∷ [])) (line_span line 19 49)) (line_span line 18 51)
+
 -- Suffix <- Primary (QUESTION / STAR / PLUS / COUNT)?
 abbrev pub suffix_on : (line : ℕ) → Form
-suffix_on line = Seq (forms (Name (codes "Primary") (line_span line 10 17) ∷ Optional
-    (Choice (Name (codes "QUESTION") (line_span line 19 27)) (forms (Name (codes "STAR")
-    (line_span line 30 34) ∷
-    Name (codes "PLUS") (line_span line 37 41) ∷ Name (codes "COUNT") (line_span line 44 49) ∷
-    [])) (line_span line 19 49))
-    (line_span line 18 51) ∷ [])) (line_span line 10 51)
+suffix_on line = Seq (forms (Name (codes "Primary") (line_span line 10 17) ∷ suffix_sign line ∷ []))
+    (line_span line 10 51)
 
 unfoldable pub suffix_body : Form
 suffix_body = suffix_on (line_start suffix_rule)
@@ -130,25 +139,29 @@ ident_cont_on line = Choice (Name (codes "IdentStart") (line_span line 13 23))
 unfoldable pub ident_cont_body : Form
 ident_cont_body = ident_cont_on (line_start ident_cont_rule)
 
+-- (!['] Char)*
+abbrev pub single_chars : (line : ℕ) → Form
+single_chars line = Star (Seq (forms (Not (Class (class_of (range 39 39 ∷ [])) (line_span line 17 20))
+    (line_span line 16 20) ∷ Name (codes "Char") (line_span line 21 25) ∷ [])) (line_span line 16 25))
+    (line_span line 15 27)
+
 -- ['] (!['] Char)* ['] Spacing
 abbrev pub literal_single : (line : ℕ) → Form
-literal_single line = Seq (forms (Class (class_of (range 39 39 ∷ [])) (line_span line 11 14) ∷
-    Star (Seq (forms (Not (Class (class_of (range 39 39 ∷ [])) (line_span line 17 20))
-    (line_span line 16 20) ∷
-    Name (codes "Char") (line_span line 21 25) ∷ [])) (line_span line 16 25)) (line_span line 15 27) ∷
-    Class (class_of (range 39 39 ∷ [])) (line_span line 28 31) ∷ Name (codes "Spacing")
-    (line_span line 32 39) ∷
-    [])) (line_span line 11 39)
+literal_single line = Seq (forms (Class (class_of (range 39 39 ∷ [])) (line_span line 11 14) ∷ single_chars line ∷
+    Class (class_of (range 39 39 ∷ [])) (line_span line 28 31) ∷ Name (codes "Spacing") (line_span line 32 39) ∷ []))
+    (line_span line 11 39)
+
+-- (!["] Char)*
+abbrev pub double_chars : (line : ℕ) → Form
+double_chars line = Star (Seq (forms (Not (Class (class_of (range 34 34 ∷ [])) (line_span line 48 51))
+    (line_span line 47 51) ∷ Name (codes "Char") (line_span line 52 56) ∷ [])) (line_span line 47 56))
+    (line_span line 46 58)
 
 -- ["] (!["] Char)* ["] Spacing
 abbrev pub literal_double : (line : ℕ) → Form
-literal_double line = Seq (forms (Class (class_of (range 34 34 ∷ [])) (line_span line 42 45) ∷
-    Star (Seq (forms (Not (Class (class_of (range 34 34 ∷ [])) (line_span line 48 51))
-    (line_span line 47 51) ∷
-    Name (codes "Char") (line_span line 52 56) ∷ [])) (line_span line 47 56)) (line_span line 46 58) ∷
-    Class (class_of (range 34 34 ∷ [])) (line_span line 59 62) ∷ Name (codes "Spacing")
-    (line_span line 63 70) ∷
-    [])) (line_span line 42 70)
+literal_double line = Seq (forms (Class (class_of (range 34 34 ∷ [])) (line_span line 42 45) ∷ double_chars line ∷
+    Class (class_of (range 34 34 ∷ [])) (line_span line 59 62) ∷ Name (codes "Spacing") (line_span line 63 70) ∷ []))
+    (line_span line 42 70)
 
 -- Literal <- ['] (!['] Char)* ['] Spacing / ["] (!["] Char)* ["] Spacing
 abbrev pub literal_on : (line : ℕ) → Form
@@ -157,22 +170,28 @@ literal_on line = Choice (literal_single line) (forms (literal_double line ∷ [
 unfoldable pub literal_body : Form
 literal_body = literal_on (line_start literal_rule)
 
+-- (!']' Range)*
+abbrev pub class_ranges : (line : ℕ) → Form
+class_ranges line = Star (Seq (forms (Not (Literal (codes "]") (line_span line 15 18)) (line_span line 14 18) ∷
+    Name (codes "Range") (line_span line 19 24) ∷ [])) (line_span line 14 24)) (line_span line 13 26)
+
 -- Class <- '[' (!']' Range)* ']' Spacing
 abbrev pub class_on : (line : ℕ) → Form
-class_on line = Seq (forms (Literal (codes "[") (line_span line 9 12) ∷ Star
-    (Seq (forms (Not (Literal (codes "]") (line_span line 15 18)) (line_span line 14 18) ∷
-    Name (codes "Range") (line_span line 19 24) ∷
-    [])) (line_span line 14 24)) (line_span line 13 26) ∷ Literal (codes "]") (line_span line 27 30) ∷
+class_on line = Seq (forms (Literal (codes "[") (line_span line 9 12) ∷ class_ranges line ∷
+    Literal (codes "]") (line_span line 27 30) ∷
     Name (codes "Spacing") (line_span line 31 38) ∷ [])) (line_span line 9 38)
 
 unfoldable pub class_body : Form
 class_body = class_on (line_start class_rule)
 
+-- Char '-' Char
+abbrev pub range_ends : (line : ℕ) → Form
+range_ends line = Seq (forms (Name (codes "Char") (line_span line 9 13) ∷ Literal (codes "-") (line_span line 14 17) ∷
+    Name (codes "Char") (line_span line 18 22) ∷ [])) (line_span line 9 22)
+
 -- Range <- Char '-' Char / Char
 abbrev pub range_on : (line : ℕ) → Form
-range_on line = Choice (Seq (forms (Name (codes "Char") (line_span line 9 13) ∷ Literal (codes "-")
-    (line_span line 14 17) ∷
-    Name (codes "Char") (line_span line 18 22) ∷ [])) (line_span line 9 22))
+range_on line = Choice (range_ends line)
     (forms (Name (codes "Char") (line_span line 25 29) ∷
     [])) (line_span line 9 29)
 
@@ -257,13 +276,15 @@ star_body = sign_on (line_start star_rule) (codes "*") 8 11
 abbrev pub plus_body : Form
 plus_body = sign_on (line_start plus_rule) (codes "+") 8 11
 
+-- (',' Number)?
+abbrev pub count_maximum : (line : ℕ) → Form
+count_maximum line = Optional (Seq (forms (Literal (codes ",") (line_span line 21 24) ∷
+    Name (codes "Number") (line_span line 25 31) ∷ [])) (line_span line 21 31)) (line_span line 20 33)
+
 -- COUNT <- '{' Number (',' Number)? '}' Spacing
 abbrev pub count_on : (line : ℕ) → Form
 count_on line = Seq (forms (Literal (codes "{") (line_span line 9 12) ∷ Name (codes "Number")
-    (line_span line 13 19) ∷
-    Optional (Seq (forms (Literal (codes ",") (line_span line 21 24) ∷ Name (codes "Number")
-    (line_span line 25 31) ∷ []))
-    (line_span line 21 31)) (line_span line 20 33) ∷ Literal (codes "}") (line_span line 34 37) ∷
+    (line_span line 13 19) ∷ count_maximum line ∷ Literal (codes "}") (line_span line 34 37) ∷
     Name (codes "Spacing") (line_span line 38 45) ∷ [])) (line_span line 9 45)
 
 unfoldable pub count_body : Form
@@ -297,12 +318,14 @@ spacing_on line = Star (Choice (Name (codes "Space") (line_span line 12 17))
 unfoldable pub spacing_body : Form
 spacing_body = spacing_on (line_start spacing_rule)
 
+-- (!EndOfLine .)*
+abbrev pub comment_bytes : (line : ℕ) → Form
+comment_bytes line = Star (Seq (forms (Not (Name (codes "EndOfLine") (line_span line 17 26)) (line_span line 16 26) ∷
+    Any (line_span line 27 28) ∷ [])) (line_span line 16 28)) (line_span line 15 30)
+
 -- Comment <- '#' (!EndOfLine .)* EndOfLine
 abbrev pub comment_on : (line : ℕ) → Form
-comment_on line = Seq (forms (Literal (codes "#") (line_span line 11 14) ∷ Star
-    (Seq (forms (Not (Name (codes "EndOfLine") (line_span line 17 26)) (line_span line 16 26) ∷
-    Any (line_span line 27 28) ∷
-    [])) (line_span line 16 28)) (line_span line 15 30) ∷ Name (codes "EndOfLine")
+comment_on line = Seq (forms (Literal (codes "#") (line_span line 11 14) ∷ comment_bytes line ∷ Name (codes "EndOfLine")
     (line_span line 31 40) ∷ [])) (line_span line 11 40)
 
 unfoldable pub comment_body : Form

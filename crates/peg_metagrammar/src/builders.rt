@@ -1,10 +1,10 @@
 //! Constructors of expressions with spans, to build grammars in code.
-ghost use Rattle.std.specs.Prelude.{◌≡◌, ℕ, ◌≤◌, ◌<◌, ◌+◌, List, [], ◌∷◌, map, length, IfOk, string_bytes};
+ghost use Rattle.std.specs.Prelude.{◌≡◌, ℕ, ◌≤◌, ◌<◌, ◌+◌, List, [], ◌∷◌, ◌++◌, map, length, IfOk, string_bytes};
 ghost use Rattle.peg_bytes.specs.ByteSet.{bytes_of};
 ghost use Rattle.peg_bytes.specs.Extent.{extent};
 ghost use Rattle.peg_semantics.specs.Form.{Form, Literal, Class, Any, Name, Seq, Choice, Optional, Star, Plus, Not, forms};
-ghost use Rattle.peg_grammar.specs.Written.{form_of, rule_of};
-ghost use Rattle.peg_metagrammar.specs.Figure.{named_rule, sign_on};
+ghost use Rattle.peg_grammar.specs.Written.{form_of, rule_of, rules_of};
+ghost use Rattle.peg_metagrammar.specs.Figure.{line_span, named_rule, sign_on};
 ghost use Rattle.peg_metagrammar.specs.FigureText.{line_start};
 ghost use Rattle.peg_metagrammar.specs.Ranges.{class_of};
 ghost use Rattle.peg_metagrammar.specs.RangesCode.{range_of};
@@ -16,12 +16,7 @@ use peg_grammar::{Definition, Expr};
 use std::alloc::{AllocError, Global};
 
 /// Builds the definition of a rule, whose name starts its line.
-pub(crate) fn definition(
-    alloc: Global,
-    rule: u32,
-    name: &str,
-    body: Expr,
-) -> Result<Definition, AllocError>
+fn definition(alloc: Global, rule: u32, name: &str, body: Expr) -> Result<Definition, AllocError>
     requires line { rule ≤ 31 }
     requires short { length name.now < 256 }
     ensures { IfOk result (λ definition. rule_of definition ≡ named_rule rule name.now (form_of body)) }
@@ -32,6 +27,23 @@ pub(crate) fn definition(
         span: line.span(0, name.len() as u8),
         body,
     })
+}
+
+/// Adds the definition of a rule, whose name starts its line.
+pub(crate) fn add_definition(
+    alloc: Global,
+    rules: &mut Vec<Definition>,
+    rule: u32,
+    name: &str,
+    body: Expr,
+) -> Result<(), AllocError>
+    requires line { rule ≤ 31 }
+    requires short { length name.now < 256 }
+    ensures { IfOk result (λ done. rules_of rules.new.items
+        ≡ rules_of rules.old.items ++ (named_rule rule name.now (form_of body) ∷ [])) }
+{
+    rules.push(definition(alloc, rule, name, body)?)?;
+    Ok(())
 }
 
 /// Builds a call of a rule.
@@ -76,6 +88,48 @@ pub(crate) fn any(span: Span) -> Expr
     ensures { form_of result ≡ Any (extent span) }
 {
     Expr::Any { span }
+}
+
+/// Adds an expression to a list.
+pub(crate) fn add(items: &mut Vec<Expr>, item: Expr) -> Result<(), AllocError>
+    ensures { IfOk result (λ done. map form_of items.new.items ≡ map form_of items.old.items ++ (form_of item ∷ [])) }
+{
+    items.push(item)?;
+    Ok(())
+}
+
+/// Adds a call of a rule to a list, with its span on a line.
+pub(crate) fn add_name(
+    alloc: Global,
+    items: &mut Vec<Expr>,
+    text: &str,
+    line: Line,
+    start: u8,
+    end: u8,
+) -> Result<(), AllocError>
+    requires { start ≤ end }
+    ensures { IfOk result (λ done. map form_of items.new.items
+        ≡ map form_of items.old.items ++ (Name text.now (line_span line.start start end) ∷ [])) }
+{
+    let call = name(alloc, text, line.span(start, end))?;
+    add(items, call)
+}
+
+/// Adds a literal to a list, with its span on a line.
+pub(crate) fn add_literal(
+    alloc: Global,
+    items: &mut Vec<Expr>,
+    bytes: &[u8],
+    line: Line,
+    start: u8,
+    end: u8,
+) -> Result<(), AllocError>
+    requires { start ≤ end }
+    ensures { IfOk result (λ done. map form_of items.new.items
+        ≡ map form_of items.old.items ++ (Literal bytes.now (line_span line.start start end) ∷ [])) }
+{
+    let text = literal(alloc, bytes, line.span(start, end))?;
+    add(items, text)
 }
 
 /// Builds a sequence.
@@ -142,34 +196,35 @@ pub(crate) fn not(alloc: Global, part: Expr, span: Span) -> Result<Expr, AllocEr
     })
 }
 
-/// Builds the definition of an operator token, which is followed, after one byte, by a call of Spacing.
-pub(crate) fn operator(
+/// Adds the definition of an operator token, which is followed, after one byte, by a call of Spacing.
+pub(crate) fn add_operator(
     alloc: Global,
+    rules: &mut Vec<Definition>,
     rule: u32,
     name: &str,
     text: &[u8],
     start: u8,
     end: u8,
-) -> Result<Definition, AllocError>
+) -> Result<(), AllocError>
     requires line { rule ≤ 31 }
     requires short { length name.now < 256 }
     requires order { start ≤ end }
     requires fits { end + 8 < 256 }
-    ensures { IfOk result (λ definition. rule_of definition
-        ≡ named_rule rule name.now (sign_on (line_start rule) text.now start end)) }
+    ensures { IfOk result (λ done. rules_of rules.new.items ≡ rules_of rules.old.items
+        ++ (named_rule rule name.now (sign_on (line_start rule) text.now start end) ∷ [])) }
 {
-    definition(alloc, rule, name, sign(alloc, rule, text, start, end)?)
+    let body = sign(alloc, Line::of_rule(rule), text, start, end)?;
+    add_definition(alloc, rules, rule, name, body)
 }
 
-// An operator token on a rule's line, followed, after one byte, by a call of Spacing.
-fn sign(alloc: Global, rule: u32, text: &[u8], start: u8, end: u8) -> Result<Expr, AllocError>
-    requires line { rule ≤ 31 }
+// An operator token on a line, followed, after one byte, by a call of Spacing.
+fn sign(alloc: Global, line: Line, text: &[u8], start: u8, end: u8) -> Result<Expr, AllocError>
     requires order { start ≤ end }
     requires fits { end + 8 < 256 }
-    ensures { IfOk result (λ e. form_of e ≡ sign_on (line_start rule) text.now start end) }
+    ensures { IfOk result (λ e. form_of e ≡ sign_on line.start text.now start end) }
 {
-    let line = Line::of_rule(rule);
-    let sign = literal(alloc, text, line.span(start, end))?;
-    let spacing = name(alloc, "Spacing", line.span(end + 1, end + 8))?;
-    Ok(seq(vec![in alloc; sign, spacing]?, line.span(start, end + 8)))
+    let mut items = Vec::with_capacity(alloc, 2)?;
+    add_literal(alloc, &mut items, text, line, start, end)?;
+    add_name(alloc, &mut items, "Spacing", line, end + 1, end + 8)?;
+    Ok(seq(items, line.span(start, end + 8)))
 }

@@ -7,10 +7,13 @@ ghost use Rattle.peg_metagrammar.specs.Figure.{char_alone, hexadecimal_class, gr
 ghost use Rattle.peg_metagrammar.specs.Figure.{expression_on, sequence_on, prefix_on, suffix_on, primary_on};
 ghost use Rattle.peg_metagrammar.specs.Figure.{identifier_on, ident_start_on, ident_cont_on, literal_on, class_on};
 ghost use Rattle.peg_metagrammar.specs.Figure.{range_on, char_on, count_on, number_on, spacing_on, comment_on};
-ghost use Rattle.peg_metagrammar.specs.Figure.{space_on, end_of_line_on, end_of_file_on};
+ghost use Rattle.peg_metagrammar.specs.Figure.{space_on, end_of_line_on, end_of_file_on, expression_rest, prefix_sign};
+ghost use Rattle.peg_metagrammar.specs.Figure.{suffix_sign, single_chars, double_chars, class_ranges, range_ends};
+ghost use Rattle.peg_metagrammar.specs.Figure.{count_maximum, comment_bytes};
 
 use crate::builders::{
-    any, choice, class, class_from_set, literal, name, not, optional, plus, seq, star,
+    add, add_literal, add_name, any, choice, class, class_from_set, literal, name, not, optional,
+    plus, seq, star,
 };
 use crate::escapes::escaped_bytes;
 use crate::line::Line;
@@ -22,50 +25,47 @@ use std::alloc::{AllocError, Global};
 pub(crate) fn grammar_on(alloc: Global, line: Line) -> Result<Expr, AllocError>
     ensures { IfOk result (λ body. form_of body ≡ grammar_on line.start) }
 {
-    Ok(seq(
-        vec![in alloc;
-            name(alloc, "Spacing", line.span(11, 18))?,
-            plus(
-                alloc,
-                name(alloc, "Definition", line.span(19, 29))?,
-                line.span(19, 30)
-            )?,
-            name(alloc, "EndOfFile", line.span(31, 40))?,
-        ]?,
-        line.span(11, 40),
-    ))
+    let definitions = plus(
+        alloc,
+        name(alloc, "Definition", line.span(19, 29))?,
+        line.span(19, 30),
+    )?;
+    let mut items = Vec::with_capacity(alloc, 3)?;
+    add_name(alloc, &mut items, "Spacing", line, 11, 18)?;
+    add(&mut items, definitions)?;
+    add_name(alloc, &mut items, "EndOfFile", line, 31, 40)?;
+    Ok(seq(items, line.span(11, 40)))
 }
 
 // Definition <- Identifier LEFTARROW Expression
 pub(crate) fn definition_on(alloc: Global, line: Line) -> Result<Expr, AllocError>
     ensures { IfOk result (λ body. form_of body ≡ definition_on line.start) }
 {
-    Ok(seq(
-        vec![in alloc;
-            name(alloc, "Identifier", line.span(14, 24))?,
-            name(alloc, "LEFTARROW", line.span(25, 34))?,
-            name(alloc, "Expression", line.span(35, 45))?,
-        ]?,
-        line.span(14, 45),
-    ))
+    let mut items = Vec::with_capacity(alloc, 3)?;
+    add_name(alloc, &mut items, "Identifier", line, 14, 24)?;
+    add_name(alloc, &mut items, "LEFTARROW", line, 25, 34)?;
+    add_name(alloc, &mut items, "Expression", line, 35, 45)?;
+    Ok(seq(items, line.span(14, 45)))
 }
 
 // Expression <- Sequence (SLASH Sequence)*
 pub(crate) fn expression_on(alloc: Global, line: Line) -> Result<Expr, AllocError>
     ensures { IfOk result (λ body. form_of body ≡ expression_on line.start) }
 {
-    let slash_sequence = seq(
-        vec![in alloc;
-            name(alloc, "SLASH", line.span(24, 29))?,
-            name(alloc, "Sequence", line.span(30, 38))?,
-        ]?,
-        line.span(24, 38),
-    );
-    let more = star(alloc, slash_sequence, line.span(23, 40))?;
-    Ok(seq(
-        vec![in alloc; name(alloc, "Sequence", line.span(14, 22))?, more]?,
-        line.span(14, 40),
-    ))
+    let mut items = Vec::with_capacity(alloc, 2)?;
+    add_name(alloc, &mut items, "Sequence", line, 14, 22)?;
+    add(&mut items, expression_rest(alloc, line)?)?;
+    Ok(seq(items, line.span(14, 40)))
+}
+
+// (SLASH Sequence)*
+fn expression_rest(alloc: Global, line: Line) -> Result<Expr, AllocError>
+    ensures { IfOk result (λ part. form_of part ≡ expression_rest line.start) }
+{
+    let mut items = Vec::with_capacity(alloc, 2)?;
+    add_name(alloc, &mut items, "SLASH", line, 24, 29)?;
+    add_name(alloc, &mut items, "Sequence", line, 30, 38)?;
+    star(alloc, seq(items, line.span(24, 38)), line.span(23, 40))
 }
 
 // Sequence <- Prefix*
@@ -83,104 +83,99 @@ pub(crate) fn sequence_on(alloc: Global, line: Line) -> Result<Expr, AllocError>
 pub(crate) fn prefix_on(alloc: Global, line: Line) -> Result<Expr, AllocError>
     ensures { IfOk result (λ body. form_of body ≡ prefix_on line.start) }
 {
-    let sign = choice(
-        alloc,
-        name(alloc, "AND", line.span(11, 14))?,
-        vec![in alloc; name(alloc, "NOT", line.span(17, 20))?]?,
-        line.span(11, 20),
-    )?;
-    let maybe_sign = optional(alloc, sign, line.span(10, 22))?;
-    Ok(seq(
-        vec![in alloc; maybe_sign, name(alloc, "Suffix", line.span(23, 29))?]?,
-        line.span(10, 29),
-    ))
+    let mut items = Vec::with_capacity(alloc, 2)?;
+    add(&mut items, prefix_sign(alloc, line)?)?;
+    add_name(alloc, &mut items, "Suffix", line, 23, 29)?;
+    Ok(seq(items, line.span(10, 29)))
+}
+
+// (AND / NOT)?
+fn prefix_sign(alloc: Global, line: Line) -> Result<Expr, AllocError>
+    ensures { IfOk result (λ part. form_of part ≡ prefix_sign line.start) }
+{
+    let mut rest = Vec::with_capacity(alloc, 1)?;
+    add_name(alloc, &mut rest, "NOT", line, 17, 20)?;
+    let first = name(alloc, "AND", line.span(11, 14))?;
+    let sign = choice(alloc, first, rest, line.span(11, 20))?;
+    optional(alloc, sign, line.span(10, 22))
 }
 
 // Suffix <- Primary (QUESTION / STAR / PLUS / COUNT)?
 pub(crate) fn suffix_on(alloc: Global, line: Line) -> Result<Expr, AllocError>
     ensures { IfOk result (λ body. form_of body ≡ suffix_on line.start) }
 {
-    let sign = choice(
-        alloc,
-        name(alloc, "QUESTION", line.span(19, 27))?,
-        vec![in alloc;
-            name(alloc, "STAR", line.span(30, 34))?,
-            name(alloc, "PLUS", line.span(37, 41))?,
-            name(alloc, "COUNT", line.span(44, 49))?,
-        ]?,
-        line.span(19, 49),
-    )?;
-    let maybe_sign = optional(alloc, sign, line.span(18, 51))?;
-    Ok(seq(
-        vec![in alloc; name(alloc, "Primary", line.span(10, 17))?, maybe_sign]?,
-        line.span(10, 51),
-    ))
+    let mut items = Vec::with_capacity(alloc, 2)?;
+    add_name(alloc, &mut items, "Primary", line, 10, 17)?;
+    add(&mut items, suffix_sign(alloc, line)?)?;
+    Ok(seq(items, line.span(10, 51)))
+}
+
+// (QUESTION / STAR / PLUS / COUNT)?
+fn suffix_sign(alloc: Global, line: Line) -> Result<Expr, AllocError>
+    ensures { IfOk result (λ part. form_of part ≡ suffix_sign line.start) }
+{
+    let mut rest = Vec::with_capacity(alloc, 3)?;
+    add_name(alloc, &mut rest, "STAR", line, 30, 34)?;
+    add_name(alloc, &mut rest, "PLUS", line, 37, 41)?;
+    add_name(alloc, &mut rest, "COUNT", line, 44, 49)?;
+    let first = name(alloc, "QUESTION", line.span(19, 27))?;
+    let sign = choice(alloc, first, rest, line.span(19, 49))?;
+    optional(alloc, sign, line.span(18, 51))
 }
 
 // Primary <- Identifier !LEFTARROW / OPEN Expression CLOSE / Literal / Class / DOT
 pub(crate) fn primary_on(alloc: Global, line: Line) -> Result<Expr, AllocError>
     ensures { IfOk result (λ body. form_of body ≡ primary_on line.start) }
 {
-    choice(
-        alloc,
-        primary_name(alloc, line)?,
-        vec![in alloc;
-            primary_parentheses(alloc, line)?,
-            name(alloc, "Literal", line.span(59, 66))?,
-            name(alloc, "Class", line.span(69, 74))?,
-            name(alloc, "DOT", line.span(77, 80))?,
-        ]?,
-        line.span(11, 80),
-    )
+    let mut rest = Vec::with_capacity(alloc, 4)?;
+    add(&mut rest, primary_parentheses(alloc, line)?)?;
+    add_name(alloc, &mut rest, "Literal", line, 59, 66)?;
+    add_name(alloc, &mut rest, "Class", line, 69, 74)?;
+    add_name(alloc, &mut rest, "DOT", line, 77, 80)?;
+    let first = primary_name(alloc, line)?;
+    choice(alloc, first, rest, line.span(11, 80))
 }
 
 // Identifier !LEFTARROW
 fn primary_name(alloc: Global, line: Line) -> Result<Expr, AllocError>
     ensures { IfOk result (λ part. form_of part ≡ primary_name line.start) }
 {
-    Ok(seq(
-        vec![in alloc;
-            name(alloc, "Identifier", line.span(11, 21))?,
-            not(
-                alloc,
-                name(alloc, "LEFTARROW", line.span(23, 32))?,
-                line.span(22, 32)
-            )?,
-        ]?,
-        line.span(11, 32),
-    ))
+    let no_arrow = not(
+        alloc,
+        name(alloc, "LEFTARROW", line.span(23, 32))?,
+        line.span(22, 32),
+    )?;
+    let mut items = Vec::with_capacity(alloc, 2)?;
+    add_name(alloc, &mut items, "Identifier", line, 11, 21)?;
+    add(&mut items, no_arrow)?;
+    Ok(seq(items, line.span(11, 32)))
 }
 
 // OPEN Expression CLOSE
 fn primary_parentheses(alloc: Global, line: Line) -> Result<Expr, AllocError>
     ensures { IfOk result (λ part. form_of part ≡ primary_parentheses line.start) }
 {
-    Ok(seq(
-        vec![in alloc;
-            name(alloc, "OPEN", line.span(35, 39))?,
-            name(alloc, "Expression", line.span(40, 50))?,
-            name(alloc, "CLOSE", line.span(51, 56))?,
-        ]?,
-        line.span(35, 56),
-    ))
+    let mut items = Vec::with_capacity(alloc, 3)?;
+    add_name(alloc, &mut items, "OPEN", line, 35, 39)?;
+    add_name(alloc, &mut items, "Expression", line, 40, 50)?;
+    add_name(alloc, &mut items, "CLOSE", line, 51, 56)?;
+    Ok(seq(items, line.span(35, 56)))
 }
 
 // Identifier <- IdentStart IdentCont* Spacing
 pub(crate) fn identifier_on(alloc: Global, line: Line) -> Result<Expr, AllocError>
     ensures { IfOk result (λ body. form_of body ≡ identifier_on line.start) }
 {
-    Ok(seq(
-        vec![in alloc;
-            name(alloc, "IdentStart", line.span(14, 24))?,
-            star(
-                alloc,
-                name(alloc, "IdentCont", line.span(25, 34))?,
-                line.span(25, 35)
-            )?,
-            name(alloc, "Spacing", line.span(36, 43))?,
-        ]?,
-        line.span(14, 43),
-    ))
+    let more = star(
+        alloc,
+        name(alloc, "IdentCont", line.span(25, 34))?,
+        line.span(25, 35),
+    )?;
+    let mut items = Vec::with_capacity(alloc, 3)?;
+    add_name(alloc, &mut items, "IdentStart", line, 14, 24)?;
+    add(&mut items, more)?;
+    add_name(alloc, &mut items, "Spacing", line, 36, 43)?;
+    Ok(seq(items, line.span(14, 43)))
 }
 
 // IdentStart <- [a-zA-Z_]
@@ -197,156 +192,146 @@ pub(crate) fn ident_start_on(alloc: Global, line: Line) -> Result<Expr, AllocErr
 pub(crate) fn ident_cont_on(alloc: Global, line: Line) -> Result<Expr, AllocError>
     ensures { IfOk result (λ body. form_of body ≡ ident_cont_on line.start) }
 {
-    choice(
-        alloc,
-        name(alloc, "IdentStart", line.span(13, 23))?,
-        vec![in alloc; class(&[range(b'0', b'9')], line.span(26, 31))]?,
-        line.span(13, 31),
-    )
+    let mut rest = Vec::with_capacity(alloc, 1)?;
+    add(&mut rest, class(&[range(b'0', b'9')], line.span(26, 31)))?;
+    let first = name(alloc, "IdentStart", line.span(13, 23))?;
+    choice(alloc, first, rest, line.span(13, 31))
 }
 
 // Literal <- ['] (!['] Char)* ['] Spacing / ["] (!["] Char)* ["] Spacing
 pub(crate) fn literal_on(alloc: Global, line: Line) -> Result<Expr, AllocError>
     ensures { IfOk result (λ body. form_of body ≡ literal_on line.start) }
 {
-    choice(
-        alloc,
-        literal_single(alloc, line)?,
-        vec![in alloc; literal_double(alloc, line)?]?,
-        line.span(11, 70),
-    )
+    let mut rest = Vec::with_capacity(alloc, 1)?;
+    add(&mut rest, literal_double(alloc, line)?)?;
+    let first = literal_single(alloc, line)?;
+    choice(alloc, first, rest, line.span(11, 70))
 }
 
 // ['] (!['] Char)* ['] Spacing
 fn literal_single(alloc: Global, line: Line) -> Result<Expr, AllocError>
     ensures { IfOk result (λ part. form_of part ≡ literal_single line.start) }
 {
-    let one_char = seq(
-        vec![in alloc;
-            not(
-                alloc,
-                class(&[range(b'\'', b'\'')], line.span(17, 20)),
-                line.span(16, 20)
-            )?,
-            name(alloc, "Char", line.span(21, 25))?,
-        ]?,
-        line.span(16, 25),
-    );
-    let chars = star(alloc, one_char, line.span(15, 27))?;
-    Ok(seq(
-        vec![in alloc;
-            class(&[range(b'\'', b'\'')], line.span(11, 14)),
-            chars,
-            class(&[range(b'\'', b'\'')], line.span(28, 31)),
-            name(alloc, "Spacing", line.span(32, 39))?,
-        ]?,
-        line.span(11, 39),
-    ))
+    let mut items = Vec::with_capacity(alloc, 4)?;
+    add(&mut items, class(&[range(b'\'', b'\'')], line.span(11, 14)))?;
+    add(&mut items, single_chars(alloc, line)?)?;
+    add(&mut items, class(&[range(b'\'', b'\'')], line.span(28, 31)))?;
+    add_name(alloc, &mut items, "Spacing", line, 32, 39)?;
+    Ok(seq(items, line.span(11, 39)))
+}
+
+// (!['] Char)*
+fn single_chars(alloc: Global, line: Line) -> Result<Expr, AllocError>
+    ensures { IfOk result (λ part. form_of part ≡ single_chars line.start) }
+{
+    let no_quote = not(
+        alloc,
+        class(&[range(b'\'', b'\'')], line.span(17, 20)),
+        line.span(16, 20),
+    )?;
+    let mut items = Vec::with_capacity(alloc, 2)?;
+    add(&mut items, no_quote)?;
+    add_name(alloc, &mut items, "Char", line, 21, 25)?;
+    star(alloc, seq(items, line.span(16, 25)), line.span(15, 27))
 }
 
 // ["] (!["] Char)* ["] Spacing
 fn literal_double(alloc: Global, line: Line) -> Result<Expr, AllocError>
     ensures { IfOk result (λ part. form_of part ≡ literal_double line.start) }
 {
-    let one_char = seq(
-        vec![in alloc;
-            not(
-                alloc,
-                class(&[range(b'"', b'"')], line.span(48, 51)),
-                line.span(47, 51)
-            )?,
-            name(alloc, "Char", line.span(52, 56))?,
-        ]?,
-        line.span(47, 56),
-    );
-    let chars = star(alloc, one_char, line.span(46, 58))?;
-    Ok(seq(
-        vec![in alloc;
-            class(&[range(b'"', b'"')], line.span(42, 45)),
-            chars,
-            class(&[range(b'"', b'"')], line.span(59, 62)),
-            name(alloc, "Spacing", line.span(63, 70))?,
-        ]?,
-        line.span(42, 70),
-    ))
+    let mut items = Vec::with_capacity(alloc, 4)?;
+    add(&mut items, class(&[range(b'"', b'"')], line.span(42, 45)))?;
+    add(&mut items, double_chars(alloc, line)?)?;
+    add(&mut items, class(&[range(b'"', b'"')], line.span(59, 62)))?;
+    add_name(alloc, &mut items, "Spacing", line, 63, 70)?;
+    Ok(seq(items, line.span(42, 70)))
+}
+
+// (!["] Char)*
+fn double_chars(alloc: Global, line: Line) -> Result<Expr, AllocError>
+    ensures { IfOk result (λ part. form_of part ≡ double_chars line.start) }
+{
+    let no_quote = not(
+        alloc,
+        class(&[range(b'"', b'"')], line.span(48, 51)),
+        line.span(47, 51),
+    )?;
+    let mut items = Vec::with_capacity(alloc, 2)?;
+    add(&mut items, no_quote)?;
+    add_name(alloc, &mut items, "Char", line, 52, 56)?;
+    star(alloc, seq(items, line.span(47, 56)), line.span(46, 58))
 }
 
 // Class <- '[' (!']' Range)* ']' Spacing
 pub(crate) fn class_on(alloc: Global, line: Line) -> Result<Expr, AllocError>
     ensures { IfOk result (λ body. form_of body ≡ class_on line.start) }
 {
-    let one_range = seq(
-        vec![in alloc;
-            not(
-                alloc,
-                literal(alloc, b"]", line.span(15, 18))?,
-                line.span(14, 18)
-            )?,
-            name(alloc, "Range", line.span(19, 24))?,
-        ]?,
-        line.span(14, 24),
-    );
-    let ranges = star(alloc, one_range, line.span(13, 26))?;
-    Ok(seq(
-        vec![in alloc;
-            literal(alloc, b"[", line.span(9, 12))?,
-            ranges,
-            literal(alloc, b"]", line.span(27, 30))?,
-            name(alloc, "Spacing", line.span(31, 38))?,
-        ]?,
-        line.span(9, 38),
-    ))
+    let mut items = Vec::with_capacity(alloc, 4)?;
+    add_literal(alloc, &mut items, b"[", line, 9, 12)?;
+    add(&mut items, class_ranges(alloc, line)?)?;
+    add_literal(alloc, &mut items, b"]", line, 27, 30)?;
+    add_name(alloc, &mut items, "Spacing", line, 31, 38)?;
+    Ok(seq(items, line.span(9, 38)))
+}
+
+// (!']' Range)*
+fn class_ranges(alloc: Global, line: Line) -> Result<Expr, AllocError>
+    ensures { IfOk result (λ part. form_of part ≡ class_ranges line.start) }
+{
+    let no_end = not(
+        alloc,
+        literal(alloc, b"]", line.span(15, 18))?,
+        line.span(14, 18),
+    )?;
+    let mut items = Vec::with_capacity(alloc, 2)?;
+    add(&mut items, no_end)?;
+    add_name(alloc, &mut items, "Range", line, 19, 24)?;
+    star(alloc, seq(items, line.span(14, 24)), line.span(13, 26))
 }
 
 // Range <- Char '-' Char / Char
 pub(crate) fn range_on(alloc: Global, line: Line) -> Result<Expr, AllocError>
     ensures { IfOk result (λ body. form_of body ≡ range_on line.start) }
 {
-    let from_to = seq(
-        vec![in alloc;
-            name(alloc, "Char", line.span(9, 13))?,
-            literal(alloc, b"-", line.span(14, 17))?,
-            name(alloc, "Char", line.span(18, 22))?,
-        ]?,
-        line.span(9, 22),
-    );
-    choice(
-        alloc,
-        from_to,
-        vec![in alloc; name(alloc, "Char", line.span(25, 29))?]?,
-        line.span(9, 29),
-    )
+    let mut rest = Vec::with_capacity(alloc, 1)?;
+    add_name(alloc, &mut rest, "Char", line, 25, 29)?;
+    let first = range_ends(alloc, line)?;
+    choice(alloc, first, rest, line.span(9, 29))
+}
+
+// Char '-' Char
+fn range_ends(alloc: Global, line: Line) -> Result<Expr, AllocError>
+    ensures { IfOk result (λ part. form_of part ≡ range_ends line.start) }
+{
+    let mut items = Vec::with_capacity(alloc, 3)?;
+    add_name(alloc, &mut items, "Char", line, 9, 13)?;
+    add_literal(alloc, &mut items, b"-", line, 14, 17)?;
+    add_name(alloc, &mut items, "Char", line, 18, 22)?;
+    Ok(seq(items, line.span(9, 22)))
 }
 
 // Char <- '\\x' [0-9a-fA-F][0-9a-fA-F] / '\\' [nrt'"\[\]\\] / '\\' [0-2][0-7][0-7] / '\\' [0-7][0-7]? / !'\\' .
 pub(crate) fn char_on(alloc: Global, line: Line) -> Result<Expr, AllocError>
     ensures { IfOk result (λ body. form_of body ≡ char_on line.start) }
 {
-    choice(
-        alloc,
-        char_hexadecimal(alloc, line)?,
-        vec![in alloc;
-            char_sign(alloc, line)?,
-            char_three_digits(alloc, line)?,
-            char_two_digits(alloc, line)?,
-            char_alone(alloc, line)?,
-        ]?,
-        line.span(8, 109),
-    )
+    let mut rest = Vec::with_capacity(alloc, 4)?;
+    add(&mut rest, char_sign(alloc, line)?)?;
+    add(&mut rest, char_three_digits(alloc, line)?)?;
+    add(&mut rest, char_two_digits(alloc, line)?)?;
+    add(&mut rest, char_alone(alloc, line)?)?;
+    let first = char_hexadecimal(alloc, line)?;
+    choice(alloc, first, rest, line.span(8, 109))
 }
 
 // '\\x' [0-9a-fA-F][0-9a-fA-F]
 fn char_hexadecimal(alloc: Global, line: Line) -> Result<Expr, AllocError>
     ensures { IfOk result (λ part. form_of part ≡ char_hexadecimal line.start) }
 {
-    Ok(seq(
-        vec![in alloc;
-            literal(alloc, b"\\x", line.span(8, 13))?,
-            hexadecimal_class(line, 14, 25),
-            hexadecimal_class(line, 25, 36),
-        ]?,
-        line.span(8, 36),
-    ))
+    let mut items = Vec::with_capacity(alloc, 3)?;
+    add_literal(alloc, &mut items, b"\\x", line, 8, 13)?;
+    add(&mut items, hexadecimal_class(line, 14, 25))?;
+    add(&mut items, hexadecimal_class(line, 25, 36))?;
+    Ok(seq(items, line.span(8, 36)))
 }
 
 // [0-9a-fA-F]
@@ -364,85 +349,79 @@ fn hexadecimal_class(line: Line, start: u8, end: u8) -> Expr
 fn char_sign(alloc: Global, line: Line) -> Result<Expr, AllocError>
     ensures { IfOk result (λ part. form_of part ≡ char_sign line.start) }
 {
-    let signs = class_from_set(escaped_bytes(), line.span(44, 57));
-    Ok(seq(
-        vec![in alloc; literal(alloc, b"\\", line.span(39, 43))?, signs]?,
-        line.span(39, 57),
-    ))
+    let mut items = Vec::with_capacity(alloc, 2)?;
+    add_literal(alloc, &mut items, b"\\", line, 39, 43)?;
+    add(
+        &mut items,
+        class_from_set(escaped_bytes(), line.span(44, 57)),
+    )?;
+    Ok(seq(items, line.span(39, 57)))
 }
 
 // '\\' [0-2][0-7][0-7]
 fn char_three_digits(alloc: Global, line: Line) -> Result<Expr, AllocError>
     ensures { IfOk result (λ part. form_of part ≡ char_three_digits line.start) }
 {
-    Ok(seq(
-        vec![in alloc;
-            literal(alloc, b"\\", line.span(60, 64))?,
-            class(&[range(b'0', b'2')], line.span(65, 70)),
-            class(&[range(b'0', b'7')], line.span(70, 75)),
-            class(&[range(b'0', b'7')], line.span(75, 80)),
-        ]?,
-        line.span(60, 80),
-    ))
+    let mut items = Vec::with_capacity(alloc, 4)?;
+    add_literal(alloc, &mut items, b"\\", line, 60, 64)?;
+    add(&mut items, class(&[range(b'0', b'2')], line.span(65, 70)))?;
+    add(&mut items, class(&[range(b'0', b'7')], line.span(70, 75)))?;
+    add(&mut items, class(&[range(b'0', b'7')], line.span(75, 80)))?;
+    Ok(seq(items, line.span(60, 80)))
 }
 
 // '\\' [0-7][0-7]?
 fn char_two_digits(alloc: Global, line: Line) -> Result<Expr, AllocError>
     ensures { IfOk result (λ part. form_of part ≡ char_two_digits line.start) }
 {
-    Ok(seq(
-        vec![in alloc;
-            literal(alloc, b"\\", line.span(83, 87))?,
-            class(&[range(b'0', b'7')], line.span(88, 93)),
-            optional(
-                alloc,
-                class(&[range(b'0', b'7')], line.span(93, 98)),
-                line.span(93, 99)
-            )?,
-        ]?,
-        line.span(83, 99),
-    ))
+    let second = optional(
+        alloc,
+        class(&[range(b'0', b'7')], line.span(93, 98)),
+        line.span(93, 99),
+    )?;
+    let mut items = Vec::with_capacity(alloc, 3)?;
+    add_literal(alloc, &mut items, b"\\", line, 83, 87)?;
+    add(&mut items, class(&[range(b'0', b'7')], line.span(88, 93)))?;
+    add(&mut items, second)?;
+    Ok(seq(items, line.span(83, 99)))
 }
 
 // !'\\' .
 fn char_alone(alloc: Global, line: Line) -> Result<Expr, AllocError>
     ensures { IfOk result (λ part. form_of part ≡ char_alone line.start) }
 {
-    Ok(seq(
-        vec![in alloc;
-            not(
-                alloc,
-                literal(alloc, b"\\", line.span(103, 107))?,
-                line.span(102, 107)
-            )?,
-            any(line.span(108, 109)),
-        ]?,
-        line.span(102, 109),
-    ))
+    let no_escape = not(
+        alloc,
+        literal(alloc, b"\\", line.span(103, 107))?,
+        line.span(102, 107),
+    )?;
+    let mut items = Vec::with_capacity(alloc, 2)?;
+    add(&mut items, no_escape)?;
+    add(&mut items, any(line.span(108, 109)))?;
+    Ok(seq(items, line.span(102, 109)))
 }
 
 // COUNT <- '{' Number (',' Number)? '}' Spacing
 pub(crate) fn count_on(alloc: Global, line: Line) -> Result<Expr, AllocError>
     ensures { IfOk result (λ body. form_of body ≡ count_on line.start) }
 {
-    let comma_number = seq(
-        vec![in alloc;
-            literal(alloc, b",", line.span(21, 24))?,
-            name(alloc, "Number", line.span(25, 31))?,
-        ]?,
-        line.span(21, 31),
-    );
-    let second = optional(alloc, comma_number, line.span(20, 33))?;
-    Ok(seq(
-        vec![in alloc;
-            literal(alloc, b"{", line.span(9, 12))?,
-            name(alloc, "Number", line.span(13, 19))?,
-            second,
-            literal(alloc, b"}", line.span(34, 37))?,
-            name(alloc, "Spacing", line.span(38, 45))?,
-        ]?,
-        line.span(9, 45),
-    ))
+    let mut items = Vec::with_capacity(alloc, 5)?;
+    add_literal(alloc, &mut items, b"{", line, 9, 12)?;
+    add_name(alloc, &mut items, "Number", line, 13, 19)?;
+    add(&mut items, count_maximum(alloc, line)?)?;
+    add_literal(alloc, &mut items, b"}", line, 34, 37)?;
+    add_name(alloc, &mut items, "Spacing", line, 38, 45)?;
+    Ok(seq(items, line.span(9, 45)))
+}
+
+// (',' Number)?
+fn count_maximum(alloc: Global, line: Line) -> Result<Expr, AllocError>
+    ensures { IfOk result (λ part. form_of part ≡ count_maximum line.start) }
+{
+    let mut items = Vec::with_capacity(alloc, 2)?;
+    add_literal(alloc, &mut items, b",", line, 21, 24)?;
+    add_name(alloc, &mut items, "Number", line, 25, 31)?;
+    optional(alloc, seq(items, line.span(21, 31)), line.span(20, 33))
 }
 
 // Number <- [0-9]+
@@ -460,12 +439,10 @@ pub(crate) fn number_on(alloc: Global, line: Line) -> Result<Expr, AllocError>
 pub(crate) fn spacing_on(alloc: Global, line: Line) -> Result<Expr, AllocError>
     ensures { IfOk result (λ body. form_of body ≡ spacing_on line.start) }
 {
-    let blank = choice(
-        alloc,
-        name(alloc, "Space", line.span(12, 17))?,
-        vec![in alloc; name(alloc, "Comment", line.span(20, 27))?]?,
-        line.span(12, 27),
-    )?;
+    let mut rest = Vec::with_capacity(alloc, 1)?;
+    add_name(alloc, &mut rest, "Comment", line, 20, 27)?;
+    let first = name(alloc, "Space", line.span(12, 17))?;
+    let blank = choice(alloc, first, rest, line.span(12, 27))?;
     star(alloc, blank, line.span(11, 29))
 }
 
@@ -473,56 +450,48 @@ pub(crate) fn spacing_on(alloc: Global, line: Line) -> Result<Expr, AllocError>
 pub(crate) fn comment_on(alloc: Global, line: Line) -> Result<Expr, AllocError>
     ensures { IfOk result (λ body. form_of body ≡ comment_on line.start) }
 {
-    let text_byte = seq(
-        vec![in alloc;
-            not(
-                alloc,
-                name(alloc, "EndOfLine", line.span(17, 26))?,
-                line.span(16, 26)
-            )?,
-            any(line.span(27, 28)),
-        ]?,
-        line.span(16, 28),
-    );
-    let text = star(alloc, text_byte, line.span(15, 30))?;
-    Ok(seq(
-        vec![in alloc;
-            literal(alloc, b"#", line.span(11, 14))?,
-            text,
-            name(alloc, "EndOfLine", line.span(31, 40))?,
-        ]?,
-        line.span(11, 40),
-    ))
+    let mut items = Vec::with_capacity(alloc, 3)?;
+    add_literal(alloc, &mut items, b"#", line, 11, 14)?;
+    add(&mut items, comment_bytes(alloc, line)?)?;
+    add_name(alloc, &mut items, "EndOfLine", line, 31, 40)?;
+    Ok(seq(items, line.span(11, 40)))
+}
+
+// (!EndOfLine .)*
+fn comment_bytes(alloc: Global, line: Line) -> Result<Expr, AllocError>
+    ensures { IfOk result (λ part. form_of part ≡ comment_bytes line.start) }
+{
+    let no_end = not(
+        alloc,
+        name(alloc, "EndOfLine", line.span(17, 26))?,
+        line.span(16, 26),
+    )?;
+    let mut items = Vec::with_capacity(alloc, 2)?;
+    add(&mut items, no_end)?;
+    add(&mut items, any(line.span(27, 28)))?;
+    star(alloc, seq(items, line.span(16, 28)), line.span(15, 30))
 }
 
 // Space <- ' ' / '\t' / EndOfLine
 pub(crate) fn space_on(alloc: Global, line: Line) -> Result<Expr, AllocError>
     ensures { IfOk result (λ body. form_of body ≡ space_on line.start) }
 {
-    choice(
-        alloc,
-        literal(alloc, b" ", line.span(9, 12))?,
-        vec![in alloc;
-            literal(alloc, b"\t", line.span(15, 19))?,
-            name(alloc, "EndOfLine", line.span(22, 31))?,
-        ]?,
-        line.span(9, 31),
-    )
+    let mut rest = Vec::with_capacity(alloc, 2)?;
+    add_literal(alloc, &mut rest, b"\t", line, 15, 19)?;
+    add_name(alloc, &mut rest, "EndOfLine", line, 22, 31)?;
+    let first = literal(alloc, b" ", line.span(9, 12))?;
+    choice(alloc, first, rest, line.span(9, 31))
 }
 
 // EndOfLine <- '\r\n' / '\n' / '\r'
 pub(crate) fn end_of_line_on(alloc: Global, line: Line) -> Result<Expr, AllocError>
     ensures { IfOk result (λ body. form_of body ≡ end_of_line_on line.start) }
 {
-    choice(
-        alloc,
-        literal(alloc, b"\r\n", line.span(13, 19))?,
-        vec![in alloc;
-            literal(alloc, b"\n", line.span(22, 26))?,
-            literal(alloc, b"\r", line.span(29, 33))?,
-        ]?,
-        line.span(13, 33),
-    )
+    let mut rest = Vec::with_capacity(alloc, 2)?;
+    add_literal(alloc, &mut rest, b"\n", line, 22, 26)?;
+    add_literal(alloc, &mut rest, b"\r", line, 29, 33)?;
+    let first = literal(alloc, b"\r\n", line.span(13, 19))?;
+    choice(alloc, first, rest, line.span(13, 33))
 }
 
 // EndOfFile <- !.

@@ -9,7 +9,7 @@ ghost use Rattle.peg_metagrammar.specs.Figure.{comment_body, space_body, end_of_
 ghost use Rattle.peg_metagrammar.specs.FigureParts.{grammar_to_identifier, ident_start_to_slash, and_to_star};
 ghost use Rattle.peg_metagrammar.specs.FigureParts.{plus_to_open, close_and_dot, spacing_to_end_of_file};
 
-use crate::builders::{definition, operator};
+use crate::builders::{add_definition, add_operator};
 use crate::line::Line;
 use crate::rule_lines::{
     char_on, class_on, comment_on, count_on, definition_on, end_of_file_on, end_of_line_on,
@@ -44,16 +44,40 @@ pub fn figure(alloc: Global) -> Result<Vec<Definition>, AllocError>
 fn grammar_to_identifier(alloc: Global) -> Result<Vec<Definition>, AllocError>
     ensures { IfOk result (λ definitions. rules_of definitions.items ≡ grammar_to_identifier) }
 {
-    Ok(vec![in alloc;
-        definition(alloc, GRAMMAR, "Grammar", grammar_body(alloc)?)?,
-        definition(alloc, DEFINITION, "Definition", definition_body(alloc)?)?,
-        definition(alloc, EXPRESSION, "Expression", expression_body(alloc)?)?,
-        definition(alloc, SEQUENCE, "Sequence", sequence_body(alloc)?)?,
-        definition(alloc, PREFIX, "Prefix", prefix_body(alloc)?)?,
-        definition(alloc, SUFFIX, "Suffix", suffix_body(alloc)?)?,
-        definition(alloc, PRIMARY, "Primary", primary_body(alloc)?)?,
-        definition(alloc, IDENTIFIER, "Identifier", identifier_body(alloc)?)?,
-    ]?)
+    let mut rules = Vec::with_capacity(alloc, 8)?;
+    add_definition(alloc, &mut rules, GRAMMAR, "Grammar", grammar_body(alloc)?)?;
+    add_definition(
+        alloc,
+        &mut rules,
+        DEFINITION,
+        "Definition",
+        definition_body(alloc)?,
+    )?;
+    add_definition(
+        alloc,
+        &mut rules,
+        EXPRESSION,
+        "Expression",
+        expression_body(alloc)?,
+    )?;
+    add_definition(
+        alloc,
+        &mut rules,
+        SEQUENCE,
+        "Sequence",
+        sequence_body(alloc)?,
+    )?;
+    add_definition(alloc, &mut rules, PREFIX, "Prefix", prefix_body(alloc)?)?;
+    add_definition(alloc, &mut rules, SUFFIX, "Suffix", suffix_body(alloc)?)?;
+    add_definition(alloc, &mut rules, PRIMARY, "Primary", primary_body(alloc)?)?;
+    add_definition(
+        alloc,
+        &mut rules,
+        IDENTIFIER,
+        "Identifier",
+        identifier_body(alloc)?,
+    )?;
+    Ok(rules)
 }
 
 // The eight rules from IdentStart to SLASH.
@@ -61,16 +85,28 @@ fn grammar_to_identifier(alloc: Global) -> Result<Vec<Definition>, AllocError>
 fn ident_start_to_slash(alloc: Global) -> Result<Vec<Definition>, AllocError>
     ensures { IfOk result (λ definitions. rules_of definitions.items ≡ ident_start_to_slash) }
 {
-    Ok(vec![in alloc;
-        definition(alloc, IDENT_START, "IdentStart", ident_start_body(alloc)?)?,
-        definition(alloc, IDENT_CONT, "IdentCont", ident_cont_body(alloc)?)?,
-        definition(alloc, LITERAL, "Literal", literal_body(alloc)?)?,
-        definition(alloc, CLASS, "Class", class_body(alloc)?)?,
-        definition(alloc, RANGE, "Range", range_body(alloc)?)?,
-        definition(alloc, CHAR, "Char", char_body(alloc)?)?,
-        operator(alloc, LEFTARROW, "LEFTARROW", b"<-", 13, 17)?,
-        operator(alloc, SLASH, "SLASH", b"/", 9, 12)?,
-    ]?)
+    let mut rules = Vec::with_capacity(alloc, 8)?;
+    add_definition(
+        alloc,
+        &mut rules,
+        IDENT_START,
+        "IdentStart",
+        ident_start_body(alloc)?,
+    )?;
+    add_definition(
+        alloc,
+        &mut rules,
+        IDENT_CONT,
+        "IdentCont",
+        ident_cont_body(alloc)?,
+    )?;
+    add_definition(alloc, &mut rules, LITERAL, "Literal", literal_body(alloc)?)?;
+    add_definition(alloc, &mut rules, CLASS, "Class", class_body(alloc)?)?;
+    add_definition(alloc, &mut rules, RANGE, "Range", range_body(alloc)?)?;
+    add_definition(alloc, &mut rules, CHAR, "Char", char_body(alloc)?)?;
+    add_operator(alloc, &mut rules, LEFTARROW, "LEFTARROW", b"<-", 13, 17)?;
+    add_operator(alloc, &mut rules, SLASH, "SLASH", b"/", 9, 12)?;
+    Ok(rules)
 }
 
 // The four rules from AND to STAR.
@@ -78,12 +114,12 @@ fn ident_start_to_slash(alloc: Global) -> Result<Vec<Definition>, AllocError>
 fn and_to_star(alloc: Global) -> Result<Vec<Definition>, AllocError>
     ensures { IfOk result (λ definitions. rules_of definitions.items ≡ and_to_star) }
 {
-    Ok(vec![in alloc;
-        operator(alloc, AND, "AND", b"&", 7, 10)?,
-        operator(alloc, NOT, "NOT", b"!", 7, 10)?,
-        operator(alloc, QUESTION, "QUESTION", b"?", 12, 15)?,
-        operator(alloc, STAR, "STAR", b"*", 8, 11)?,
-    ]?)
+    let mut rules = Vec::with_capacity(alloc, 4)?;
+    add_operator(alloc, &mut rules, AND, "AND", b"&", 7, 10)?;
+    add_operator(alloc, &mut rules, NOT, "NOT", b"!", 7, 10)?;
+    add_operator(alloc, &mut rules, QUESTION, "QUESTION", b"?", 12, 15)?;
+    add_operator(alloc, &mut rules, STAR, "STAR", b"*", 8, 11)?;
+    Ok(rules)
 }
 
 // The four rules from PLUS to OPEN.
@@ -91,12 +127,12 @@ fn and_to_star(alloc: Global) -> Result<Vec<Definition>, AllocError>
 fn plus_to_open(alloc: Global) -> Result<Vec<Definition>, AllocError>
     ensures { IfOk result (λ definitions. rules_of definitions.items ≡ plus_to_open) }
 {
-    Ok(vec![in alloc;
-        operator(alloc, PLUS, "PLUS", b"+", 8, 11)?,
-        definition(alloc, COUNT, "COUNT", count_body(alloc)?)?,
-        definition(alloc, NUMBER, "Number", number_body(alloc)?)?,
-        operator(alloc, OPEN, "OPEN", b"(", 8, 11)?,
-    ]?)
+    let mut rules = Vec::with_capacity(alloc, 4)?;
+    add_operator(alloc, &mut rules, PLUS, "PLUS", b"+", 8, 11)?;
+    add_definition(alloc, &mut rules, COUNT, "COUNT", count_body(alloc)?)?;
+    add_definition(alloc, &mut rules, NUMBER, "Number", number_body(alloc)?)?;
+    add_operator(alloc, &mut rules, OPEN, "OPEN", b"(", 8, 11)?;
+    Ok(rules)
 }
 
 // CLOSE and DOT.
@@ -104,10 +140,10 @@ fn plus_to_open(alloc: Global) -> Result<Vec<Definition>, AllocError>
 fn close_and_dot(alloc: Global) -> Result<Vec<Definition>, AllocError>
     ensures { IfOk result (λ definitions. rules_of definitions.items ≡ close_and_dot) }
 {
-    Ok(vec![in alloc;
-        operator(alloc, CLOSE, "CLOSE", b")", 9, 12)?,
-        operator(alloc, DOT, "DOT", b".", 7, 10)?,
-    ]?)
+    let mut rules = Vec::with_capacity(alloc, 2)?;
+    add_operator(alloc, &mut rules, CLOSE, "CLOSE", b")", 9, 12)?;
+    add_operator(alloc, &mut rules, DOT, "DOT", b".", 7, 10)?;
+    Ok(rules)
 }
 
 // The five rules from Spacing to EndOfFile.
@@ -115,13 +151,25 @@ fn close_and_dot(alloc: Global) -> Result<Vec<Definition>, AllocError>
 fn spacing_to_end_of_file(alloc: Global) -> Result<Vec<Definition>, AllocError>
     ensures { IfOk result (λ definitions. rules_of definitions.items ≡ spacing_to_end_of_file) }
 {
-    Ok(vec![in alloc;
-        definition(alloc, SPACING, "Spacing", spacing_body(alloc)?)?,
-        definition(alloc, COMMENT, "Comment", comment_body(alloc)?)?,
-        definition(alloc, SPACE, "Space", space_body(alloc)?)?,
-        definition(alloc, END_OF_LINE, "EndOfLine", end_of_line_body(alloc)?)?,
-        definition(alloc, END_OF_FILE, "EndOfFile", end_of_file_body(alloc)?)?,
-    ]?)
+    let mut rules = Vec::with_capacity(alloc, 5)?;
+    add_definition(alloc, &mut rules, SPACING, "Spacing", spacing_body(alloc)?)?;
+    add_definition(alloc, &mut rules, COMMENT, "Comment", comment_body(alloc)?)?;
+    add_definition(alloc, &mut rules, SPACE, "Space", space_body(alloc)?)?;
+    add_definition(
+        alloc,
+        &mut rules,
+        END_OF_LINE,
+        "EndOfLine",
+        end_of_line_body(alloc)?,
+    )?;
+    add_definition(
+        alloc,
+        &mut rules,
+        END_OF_FILE,
+        "EndOfFile",
+        end_of_file_body(alloc)?,
+    )?;
+    Ok(rules)
 }
 
 // Grammar <- Spacing Definition+ EndOfFile
