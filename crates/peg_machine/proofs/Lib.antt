@@ -26,6 +26,7 @@ mod PartialRunLemmas
 mod RecordRuns
 mod RoundLemmas
 mod RowClosing
+mod RunEnds
 mod RunLemmas
 mod RunRules
 mod ShortcutLemmas

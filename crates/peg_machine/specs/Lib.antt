@@ -13,6 +13,7 @@ pub mod OpenRows
 pub mod Packrat
 pub mod PackratRun
 pub mod PartialRuns
+pub mod RunContract
 pub mod RunInvariant
 pub mod Running
 pub mod Runs

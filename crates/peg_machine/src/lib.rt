@@ -13,6 +13,7 @@
 //! - `Entries`, `FailurePositions` and `MachineStates`: the stack and the failed tests in memory, and the invariant on them.
 //! - `CoreOutcome`, `Traced` and `PackratRun`: what a run has to answer and to trace.
 //! - `SelectedTests`: the failed tests that count, all or those of listed terminals.
+//! - `RunContract`: all that a run promises.
 //! - `Machine` and `Watched`: the views of the types of the code.
 #![tactic(auto)]
 
@@ -40,5 +41,5 @@ mod watch;
 pub use answer::Answer;
 pub use fault::RunFault;
 pub use packrat::run_packrat;
-pub use running::{run, run_among, run_with_shortcuts};
+pub use running::{run, run_among, run_selecting, run_with_shortcuts};
 pub use watch::{ListWatch, NoWatch, Watch};

@@ -13,7 +13,7 @@ run-requires-clause-empty c =
 
 pub returns-clause-packrat : goal.returns-clause-packrat
 returns-clause-packrat c =
-    let traced = c.run.ensures.traced in (
+    let traced = c.run.ensures.run.traced in (
       traced.0,
       traced.1 refl c.args.watch.now refl,
       RanOnce-from_traces (bodies_of c.args.program.now.core) c.args.text.now c.args.start c.args.memo.now.capacity
