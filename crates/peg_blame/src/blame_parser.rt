@@ -1,5 +1,5 @@
 //! Parsers that blame items: the furthest failure of a text outside predicates.
-ghost use Rattle.std.specs.Prelude.{◌≡◌, ◌<◌, ◌≤◌, ◌↔◌, ℕ, List, All, IfErr, IfOk, IfSome, IsErrOf, None, OnOk, Some};
+ghost use Rattle.std.specs.Prelude.{◌≡◌, ◌<◌, ◌≤◌, List, All, IfErr, IfOk, IfSome, None, OnOk, Some};
 ghost use Rattle.std.specs.Prelude.{is_some, length, map};
 ghost use Rattle.std.specs.List.Sorted.{IsStrictlyIncreasing};
 ghost use Rattle.peg_blame.specs.BlameOutcome.{IsBlameOutcome};
@@ -10,9 +10,8 @@ ghost use Rattle.peg_blame.specs.BlameCalls.{HasCalledRules};
 ghost use Rattle.peg_diagnostics.specs.Items.{extents_of_items, rules_of_items};
 ghost use Rattle.peg_grammar.specs.GrammarRules.{rules_in};
 ghost use Rattle.peg_grammar.specs.Limits.{max_text_bytes};
-ghost use Rattle.peg_machine.specs.CoreOutcome.{saturated};
+ghost use Rattle.peg_parser.specs.ParseContract.{HasParseFaults, HasParseSteps, HasStepLimit};
 ghost use Rattle.peg_parser.specs.Parser.{parser_rules, start_named};
-ghost use Rattle.peg_parser.specs.StepLimits.{TakesMoreSteps, TakesPlainSteps};
 ghost use Rattle.peg_semantics.specs.Rules.{Rule};
 ghost use Rattle.peg_semantics.specs.Starts.{start_name};
 ghost use Rattle.peg_semantics.specs.WellFormed.{IsWellFormedGrammar};
@@ -105,11 +104,8 @@ impl BlameParser {
         text: &[u8],
         options: &ParseOptions<'_>,
     ) -> Result<Answer, ParseFault>
-        ensures no_start { (rules : List Rule) → IsBlameParserOf rules self.now
-            → (IsErrOf result ParseFault.NoSuchStart ↔ (start_name rules (start_named options.now) ≡ None)) }
-        ensures long { (rules : List Rule) (start : List ℕ) → IsBlameParserOf rules self.now
-            → start_name rules (start_named options.now) ≡ Some start
-            → (IsErrOf result ParseFault.TextTooLong ↔ (max_text_bytes < length text.now)) }
+        ensures faults { (rules : List Rule) → IsBlameParserOf rules self.now
+            → HasParseFaults rules text.now (start_named options.now) result }
         ensures short { OnOk result (length text.now ≤ max_text_bytes) }
         ensures outcome { (rules : List Rule) → IsBlameParserOf rules self.now → IfOk result (λ answer.
             IfSome (start_name rules (start_named options.now))
@@ -118,18 +114,12 @@ impl BlameParser {
             All (λ item. item < length (extents_of_items rules)) answer.outcome.expected.items) }
 
         // The step limit and the steps, in plain steps of the diagnostic grammar.
-        ensures allowed { IfOk result (λ answer. (limit : ℕ) → options.now.steps ≡ Some limit → answer.steps ≤ limit) }
-        ensures limited { (rules : List Rule) → IsBlameParserOf rules self.now → IsErrOf result ParseFault.StepLimit
-            → TakesMoreSteps (diagnostic_rules rules) text.now (start_named options.now) options.now.steps }
-        ensures enough { (rules : List Rule) → IsBlameParserOf rules self.now → options.now.memo ≡ 0 → OnOk result
-            (¬ TakesMoreSteps (diagnostic_rules rules) text.now (start_named options.now) options.now.steps) }
-        ensures steps { (rules : List Rule) → IsBlameParserOf rules self.now → IfOk result (λ answer. (count : ℕ)
-            × TakesPlainSteps (diagnostic_rules rules) text.now (start_named options.now) count
-            × (answer.steps ≤ count)) }
-        ensures exact { (rules : List Rule) → IsBlameParserOf rules self.now → options.now.memo ≡ 0
-            → IfOk result (λ answer. (count : ℕ)
-            × TakesPlainSteps (diagnostic_rules rules) text.now (start_named options.now) count
-            × (answer.steps ≡ saturated count)) }
+        ensures limit { (rules : List Rule) → IsBlameParserOf rules self.now
+            → HasStepLimit (diagnostic_rules rules) text.now (start_named options.now) (options.now.memo ≡ 0)
+            options.now.steps result }
+        ensures steps { (rules : List Rule) → IsBlameParserOf rules self.now
+            → HasParseSteps (diagnostic_rules rules) text.now (start_named options.now) (options.now.memo ≡ 0)
+            options.now.steps result }
     {
         if !self.has_start(options) {
             return Err(ParseFault::NoSuchStart);
@@ -158,18 +148,14 @@ impl BlameParser {
         options: &ParseOptions<'_>,
         at: u32,
     ) -> Result<RuleSet, ParseFault>
-        ensures no_start { (rules : List Rule) → IsBlameParserOf rules self.now
-            → (IsErrOf result ParseFault.NoSuchStart ↔ (start_name rules (start_named options.now) ≡ None)) }
-        ensures long { (rules : List Rule) (start : List ℕ) → IsBlameParserOf rules self.now
-            → start_name rules (start_named options.now) ≡ Some start
-            → (IsErrOf result ParseFault.TextTooLong ↔ (max_text_bytes < length text.now)) }
+        ensures faults { (rules : List Rule) → IsBlameParserOf rules self.now
+            → HasParseFaults rules text.now (start_named options.now) result }
         ensures called { (rules : List Rule) → IsBlameParserOf rules self.now → IfOk result (λ set.
             IfSome (start_name rules (start_named options.now))
             (λ start. HasCalledRules rules text.now start at set)) }
-        ensures limited { (rules : List Rule) → IsBlameParserOf rules self.now → IsErrOf result ParseFault.StepLimit
-            → TakesMoreSteps (diagnostic_rules rules) text.now (start_named options.now) options.now.steps }
-        ensures enough { (rules : List Rule) → IsBlameParserOf rules self.now → options.now.memo ≡ 0 → OnOk result
-            (¬ TakesMoreSteps (diagnostic_rules rules) text.now (start_named options.now) options.now.steps) }
+        ensures limit { (rules : List Rule) → IsBlameParserOf rules self.now
+            → HasStepLimit (diagnostic_rules rules) text.now (start_named options.now) (options.now.memo ≡ 0)
+            options.now.steps result }
     {
         if !self.has_start(options) {
             return Err(ParseFault::NoSuchStart);

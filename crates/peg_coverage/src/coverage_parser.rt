@@ -1,18 +1,17 @@
 //! Parsers that note which rules and alternatives a text uses.
-ghost use Rattle.std.specs.Prelude.{◌≡◌, ◌↔◌, ◌<◌, ◌+◌, ℕ, List, IfErr, IfOk, IfSome, IsErrOf, None, OnErr, OnOk};
+ghost use Rattle.std.specs.Prelude.{◌≡◌, ◌<◌, ◌+◌, ℕ, List, IfErr, IfOk, IfSome, None, OnErr};
 ghost use Rattle.std.specs.Prelude.{Some, is_some, length, map, ◌||◌};
 ghost use Rattle.peg_bytes.specs.Extent.{extent};
 ghost use Rattle.peg_coverage.specs.Covered.{HasCovered, has_node, match_of};
 ghost use Rattle.peg_coverage.specs.CoverageFaults.{IsCoverageRefusal, IsParserRefusal};
 ghost use Rattle.peg_diagnostics.specs.Marked.{extents_of_alternatives, marked_rules};
 ghost use Rattle.peg_grammar.specs.GrammarRules.{rules_in};
-ghost use Rattle.peg_grammar.specs.Limits.{max_text_bytes};
 ghost use Rattle.peg_grammar.specs.Outcomes.{parsed_of};
 ghost use Rattle.peg_parser.specs.Fits.{ResultFits};
 ghost use Rattle.peg_semantics.specs.Record.{Recognition};
 ghost use Rattle.peg_tree.specs.Selected.{has_rule};
+ghost use Rattle.peg_parser.specs.ParseContract.{HasParseFaults, HasStepLimit};
 ghost use Rattle.peg_parser.specs.Parser.{parser_rules, start_named};
-ghost use Rattle.peg_parser.specs.StepLimits.{TakesMoreSteps};
 ghost use Rattle.peg_semantics.specs.Rules.{Rule};
 ghost use Rattle.peg_semantics.specs.Starts.{start_name};
 
@@ -128,20 +127,16 @@ impl CoverageParser {
         used: &mut RuleSet,
     ) -> Result<TextMatch, ParseFault>
         requires { length used.old ≡ rule_count self.now }
-        ensures no_start { (rules : List Rule) → IsCoverageParserOf rules self.now
-            → (IsErrOf result ParseFault.NoSuchStart ↔ (start_name rules (start_named options.now) ≡ None)) }
-        ensures long { (rules : List Rule) (start : List ℕ) → IsCoverageParserOf rules self.now
-            → start_name rules (start_named options.now) ≡ Some start
-            → (IsErrOf result ParseFault.TextTooLong ↔ (max_text_bytes < length text.now)) }
+        ensures faults { (rules : List Rule) → IsCoverageParserOf rules self.now
+            → HasParseFaults rules text.now (start_named options.now) result }
         ensures covered { (rules : List Rule) → IsCoverageParserOf rules self.now → IfOk result (λ found.
             IfSome (start_name rules (start_named options.now))
             (λ start. HasCovered (marked_rules rules) text.now start used.old used.new found)) }
         ensures count { length used.new ≡ length used.old }
         ensures unchanged { OnErr result (used.new ≡ used.old) }
-        ensures limited { (rules : List Rule) → IsCoverageParserOf rules self.now → IsErrOf result ParseFault.StepLimit
-            → TakesMoreSteps (marked_rules rules) text.now (start_named options.now) options.now.steps }
-        ensures enough { (rules : List Rule) → IsCoverageParserOf rules self.now → options.now.memo ≡ 0 → OnOk result
-            (¬ TakesMoreSteps (marked_rules rules) text.now (start_named options.now) options.now.steps) }
+        ensures limit { (rules : List Rule) → IsCoverageParserOf rules self.now
+            → HasStepLimit (marked_rules rules) text.now (start_named options.now) (options.now.memo ≡ 0)
+            options.now.steps result }
     {
         if !self.has_start(options) {
             return Err(ParseFault::NoSuchStart);

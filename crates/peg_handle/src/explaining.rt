@@ -1,5 +1,5 @@
 //! Explanations of texts.
-ghost use Rattle.std.specs.Prelude.{◌≡◌, ◌≤◌, ◌<◌, ◌^◌, ◌↔◌, ◌⊎◌, ℕ, List, IfErr, IfOk, IsErrOf, None, Some, length};
+ghost use Rattle.std.specs.Prelude.{◌≡◌, ◌≤◌, ◌<◌, ◌^◌, ◌⊎◌, ℕ, List, IfErr, IfOk, IsErrOf, None, Some, length};
 ghost use Rattle.std.specs.Prelude.{map, OnOk};
 ghost use Rattle.peg_bytes.specs.Extent.{extent};
 ghost use Rattle.peg_explain.specs.Explainers.{IsExplainerOf};
@@ -8,6 +8,7 @@ ghost use Rattle.peg_grammar.specs.Limits.{max_text_bytes};
 ghost use Rattle.peg_handle.specs.Answers.{file_span};
 ghost use Rattle.peg_handle.specs.Explanations.{IsExplanationOf, ShowsMismatch, named_style};
 ghost use Rattle.peg_handle.specs.Starts.{start_of_bytes, step_limit};
+ghost use Rattle.peg_parser.specs.ParseContract.{HasParseFaults};
 ghost use Rattle.peg_parser.specs.Parser.{parser_rules, start_named};
 ghost use Rattle.peg_semantics.specs.Rules.{Rule};
 ghost use Rattle.peg_semantics.specs.Starts.{start_name};
@@ -32,10 +33,7 @@ pub fn explain(
     steps: u64,
 ) -> Result<Option<Explanation>, ParseFault>
     ensures explained { IfOk result (IsExplanationOf grammar.now name.now text.now (start_of_bytes start.now)) }
-    ensures no_start { IsErrOf result ParseFault.NoSuchStart
-        ↔ (start_name (parser_rules grammar.now.parser) (start_of_bytes start.now) ≡ None) }
-    ensures long { (from : List ℕ) → start_name (parser_rules grammar.now.parser) (start_of_bytes start.now) ≡ Some from
-        → (IsErrOf result ParseFault.TextTooLong ↔ (max_text_bytes < length text.now)) }
+    ensures faults { HasParseFaults (parser_rules grammar.now.parser) text.now (start_of_bytes start.now) result }
     ensures limited { IsErrOf result ParseFault.StepLimit → ExplainingTakesMoreSteps (parser_rules grammar.now.parser)
         text.now (start_of_bytes start.now) (step_limit steps) }
     ensures enough { memo ≡ 0 → OnOk result (ExplainingStaysWithin (parser_rules grammar.now.parser) text.now

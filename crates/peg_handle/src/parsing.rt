@@ -1,13 +1,11 @@
 //! Parses of texts.
-ghost use Rattle.std.specs.Prelude.{◌≡◌, ◌≤◌, ◌<◌, ◌↔◌, ℕ, List, All, IfOk, IsErrOf, OnOk, length, map, None, Some};
-ghost use Rattle.peg_grammar.specs.Limits.{max_text_bytes};
+ghost use Rattle.std.specs.Prelude.{◌≡◌, ◌≤◌, ◌<◌, ℕ, All, IfOk, length, map, Some};
 ghost use Rattle.peg_handle.specs.Answers.{IsAnswerTo, file_span};
 ghost use Rattle.peg_handle.specs.Starts.{start_of_bytes, step_limit};
 ghost use Rattle.peg_json.specs.Parses.{extents_at};
 ghost use Rattle.peg_parser.specs.Fits.{Fits};
+ghost use Rattle.peg_parser.specs.ParseContract.{HasParseFaults, HasStepLimit};
 ghost use Rattle.peg_parser.specs.Parser.{parser_rules};
-ghost use Rattle.peg_parser.specs.StepLimits.{TakesMoreSteps};
-ghost use Rattle.peg_semantics.specs.Starts.{start_name};
 ghost use Rattle.peg_semantics.specs.Terminals.{extents_of_terminals};
 ghost use Rattle.peg_handle.specs.Levels.{parsed_levels};
 
@@ -29,17 +27,12 @@ pub fn parse(
     steps: u64,
 ) -> Result<Match, ParseFault>
     ensures answer { IfOk result (IsAnswerTo (parser_rules parser.now) text.now start.now memo) }
-    ensures no_start { IsErrOf result ParseFault.NoSuchStart
-        ↔ (start_name (parser_rules parser.now) (start_of_bytes start.now) ≡ None) }
-    ensures long { (name : List ℕ) → start_name (parser_rules parser.now) (start_of_bytes start.now) ≡ Some name
-        → (IsErrOf result ParseFault.TextTooLong ↔ (max_text_bytes < length text.now)) }
+    ensures faults { HasParseFaults (parser_rules parser.now) text.now (start_of_bytes start.now) result }
 
     // The step limit: an answer stays within it. Without a memo there is no answer if more steps are needed.
     ensures allowed { IfOk result (λ found. (limit : ℕ) → step_limit steps ≡ Some limit → found.answer.steps ≤ limit) }
-    ensures limited { IsErrOf result ParseFault.StepLimit
-        → TakesMoreSteps (parser_rules parser.now) text.now (start_of_bytes start.now) (step_limit steps) }
-    ensures enough { memo ≡ 0 → OnOk result
-        (¬ TakesMoreSteps (parser_rules parser.now) text.now (start_of_bytes start.now) (step_limit steps)) }
+    ensures limit { HasStepLimit (parser_rules parser.now) text.now (start_of_bytes start.now) (memo ≡ 0)
+        (step_limit steps) result }
 {
     let start = start_from(parser.grammar(), start)?;
     let options = ParseOptions {

@@ -8,6 +8,7 @@ mod FigureGrammar
 mod FigureReading
 mod GrammarRefusalLemmas
 mod NameLemmas
+mod ParseLemmas
 pub mod OutcomeFits
 pub mod RuleNames
 mod StartLemmas

@@ -1,8 +1,10 @@
 -- The calls of rules in Ford's record of a text (Ford 2004, section 3.3; Ford 2002, section 3).
-use Rattle.std.specs.Prelude.{◌≡◌, ◌↔◌, ℕ, List, ◌++◌, Contains, Option, Some}
+use Rattle.std.specs.Prelude.{◌≡◌, ◌↔◌, ◌+◌, ℕ, List, ◌++◌, Contains, Option, Some}
 use Rattle.peg_core.specs.CoreForm.{core_bodies, number_of}
 use Rattle.peg_machine.specs.Accounts.{OwnSteps}
-use Rattle.peg_machine.specs.Traced.{OwnStepsExceed}
+use Rattle.peg_machine.specs.CoreOutcome.{saturated}
+use Rattle.peg_machine.specs.Traced.{OwnStepsExceed, end_of_run}
+use Rattle.peg_machine.specs.declared.answer.Answer.{Answer}
 use Rattle.peg_semantics.specs.Record.{Record, RuleCall}
 use Rattle.peg_semantics.specs.Rules.{Rule}
 use Rattle.peg_semantics.specs.Starts.{Recognizes}
@@ -53,3 +55,12 @@ abbrev pub TracesCallsSoFar : List Rule → List ℕ → (start : List ℕ) → 
 TracesCallsSoFar rules text start memo max_steps gets =
     (calls : List RuleCall) × gets calls × AreCallsSoFar rules text start max_steps calls
     × (memo ≡ 0 → AreFirstCalls rules text start calls)
+
+-- The steps of an answer are those of the bodies of some calls, and one more for the end of a match. The calls are, as a
+-- set, those of Ford's record of a text from the start rule with this name.
+pub record IsSumOfSteps (rules : List Rule) (text start : List ℕ) (answer : Answer) : Type 0 where
+  pub calls : List RuleCall
+  pub of_record : AreCallsOf rules text start calls
+  pub own : ℕ
+  pub own_steps : OwnSteps (core_bodies rules) text calls own
+  pub steps : answer.steps ≡ saturated (own + end_of_run answer.outcome.result)

@@ -30,6 +30,7 @@ pub mod Cause
 pub mod Faults
 pub mod Fits
 pub mod GrammarRefusals
+pub mod ParseContract
 pub mod Parser
 pub mod ProgramOf
 pub mod ReadsByFigure

@@ -9,7 +9,6 @@ mod options;
 mod parse_among;
 mod parser;
 mod refusal;
-mod selecting;
 
 pub use grammar_file::grammar_of;
 pub use meta_reader::{FigureFault, read_by_figure};

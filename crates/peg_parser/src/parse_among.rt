@@ -1,13 +1,8 @@
 //! Parses whose furthest failure is that of listed terminals.
-ghost use Rattle.std.specs.Prelude.{◌≡◌, ◌<◌, ◌≤◌, ◌↔◌, ℕ, List, None, Some, IfOk, IfSome, IsErrOf, OnOk, length};
+ghost use Rattle.std.specs.Prelude.{◌≡◌, Some};
 ghost use Rattle.std.specs.List.Sorted.{IsStrictlyIncreasing};
-ghost use Rattle.peg_grammar.specs.Limits.{max_text_bytes};
-ghost use Rattle.peg_grammar.specs.Outcomes.{IsParseOutcomeAmong};
-ghost use Rattle.peg_machine.specs.CoreOutcome.{saturated};
-ghost use Rattle.peg_parser.specs.Fits.{FitsAmong};
+ghost use Rattle.peg_parser.specs.ParseContract.{IsParse};
 ghost use Rattle.peg_parser.specs.Parser.{parser_rules, start_named};
-ghost use Rattle.peg_parser.specs.StepLimits.{TakesMoreSteps, TakesPlainSteps};
-ghost use Rattle.peg_semantics.specs.Starts.{start_name};
 
 use crate::options::ParseOptions;
 use crate::parser::{ParseFault, Parser};
@@ -37,28 +32,8 @@ impl Parser {
         terminals: &[u32],
     ) -> Result<Answer, ParseFault>
         requires { IsStrictlyIncreasing terminals.now }
-        ensures no_start { IsErrOf result ParseFault.NoSuchStart
-            ↔ (start_name (parser_rules self.now) (start_named options.now) ≡ None) }
-        ensures long { (start : List ℕ) → start_name (parser_rules self.now) (start_named options.now) ≡ Some start
-            → (IsErrOf result ParseFault.TextTooLong ↔ (max_text_bytes < length text.now)) }
-        ensures short { OnOk result (length text.now ≤ max_text_bytes) }
-        ensures outcome { IfOk result (λ answer. IfSome (start_name (parser_rules self.now) (start_named options.now))
-            (λ start. IsParseOutcomeAmong (parser_rules self.now) text.now start terminals.now answer.outcome)) }
-        ensures fits { IfOk result (λ answer. FitsAmong (parser_rules self.now) terminals.now answer.outcome) }
-
-        // The step limit: an answer stays within it. Without a memo there is no answer if more steps are needed.
-        ensures allowed { IfOk result (λ answer. (limit : ℕ) → options.now.steps ≡ Some limit → answer.steps ≤ limit) }
-        ensures limited { IsErrOf result ParseFault.StepLimit
-            → TakesMoreSteps (parser_rules self.now) text.now (start_named options.now) options.now.steps }
-        ensures enough { options.now.memo ≡ 0 → OnOk result
-            (¬ TakesMoreSteps (parser_rules self.now) text.now (start_named options.now) options.now.steps) }
-
-        // The steps of an answer are at most the plain steps, and without a memo exactly these.
-        ensures steps { IfOk result (λ answer. (count : ℕ) × TakesPlainSteps (parser_rules self.now) text.now
-            (start_named options.now) count × (answer.steps ≤ count)) }
-        ensures exact { options.now.memo ≡ 0 → IfOk result (λ answer. (count : ℕ)
-            × TakesPlainSteps (parser_rules self.now) text.now (start_named options.now) count
-            × (answer.steps ≡ saturated count)) }
+        ensures parse { IsParse (Some terminals.now) (parser_rules self.now) text.now (start_named options.now)
+            (options.now.memo ≡ 0) options.now.steps result }
     {
         self.parse_selecting(alloc, text, options, Some(terminals))
     }

@@ -1,5 +1,5 @@
 //! Parsers: accepted grammar files, and parsing texts by them.
-ghost use Rattle.std.specs.Prelude.{◌≡◌, ◌<◌, ◌≤◌, ◌↔◌, ℕ, List, All, None};
+ghost use Rattle.std.specs.Prelude.{◌≡◌, ◌<◌, ◌≤◌, ◌↔◌, ℕ, List, None, Option};
 ghost use Rattle.std.specs.Prelude.{length, slice_get, Some, IfOk, IfErr, IfSome, IsErrOf, OnOk};
 ghost use Rattle.std.specs.FinMap as map;
 ghost use Rattle.std.specs.List.Sorted.{IsStrictlyIncreasing};
@@ -11,10 +11,9 @@ ghost use Rattle.peg_code.specs.Code.{entries_of, program_code};
 ghost use Rattle.peg_code.specs.Compiled.{max_instructions};
 ghost use Rattle.peg_grammar.specs.GrammarRules.{rules_in};
 ghost use Rattle.peg_grammar.specs.Limits.{max_text_bytes};
-ghost use Rattle.peg_grammar.specs.Outcomes.{IsParseOutcome};
 ghost use Rattle.peg_semantics.specs.Terminals.{extents_of_terminals};
 ghost use Rattle.peg_semantics.specs.WellFormed.{IsWellFormedGrammar};
-ghost use Rattle.peg_machine.specs.CoreOutcome.{ExceedsStepLimit, saturated, TakesSteps};
+ghost use Rattle.peg_machine.specs.RunContract.{NeverStores};
 ghost use Rattle.peg_machine.specs.SelectedTests.{listed};
 ghost use Rattle.peg_machine.specs.Traced.{GetsCalls};
 ghost use Rattle.peg_semantics.specs.Record.{RuleCall};
@@ -22,13 +21,12 @@ ghost use Rattle.peg_semantics.specs.Record.{RuleCall};
 use crate::large_code::refusal_of_large_code;
 use crate::options::ParseOptions;
 use crate::refusal::Refusal;
-use crate::selecting::run_selecting;
 use peg_bytes::Span;
 use peg_check::check;
 use peg_code::{MAX_INSTRUCTIONS, Program, code_size, compile};
 use peg_core::desugar;
 use peg_grammar::{Grammar, MAX_TEXT_BYTES};
-use peg_machine::{Answer, NoWatch, RunFault, Watch};
+use peg_machine::{Answer, NoWatch, RunFault, Watch, run_selecting};
 use peg_memo::{Keep, NoMemo};
 use peg_memo_policy::{RerunCosts, SelectiveMemo};
 use peg_notation::read;
@@ -96,18 +94,15 @@ fn plain_steps(bytes: usize, max_steps: Option<u64>) -> u64
 
 impl Parser {
     ghost use Rattle.peg_semantics.specs.Rules.{name_of};
-    ghost use Rattle.peg_notation.specs.Spans.{RuleLiesIn};
-    ghost use Rattle.peg_parser.specs.Accepts.{Accepts, IsRead, IsAcceptedGrammar, code_size};
+    ghost use Rattle.peg_parser.specs.Accepts.{Accepts, code_size};
     ghost use Rattle.peg_parser.specs.Calls.{AreCallsSoFar, AreFirstCalls, TracesCallsInOrder, TracesCallsOf};
     ghost use Rattle.peg_parser.specs.Calls.{TracesCallsSoFar};
     ghost use Rattle.peg_parser.specs.Faults.{RefusalMeaning, HasCause, HasDefinitionsOf};
-    ghost use Rattle.peg_parser.specs.Fits.{Fits};
     ghost use Rattle.peg_parser.specs.GrammarRefusals.{IsRefusalOfGrammar};
+    ghost use Rattle.peg_parser.specs.ParseContract.{IsParse};
     ghost use Rattle.peg_parser.specs.Parser.{parser_rules, start_named};
     ghost use Rattle.peg_parser.specs.ProgramOf.{IsProgramOf};
     ghost use Rattle.peg_parser.specs.Refusals.{IsRefusalOf};
-    ghost use Rattle.peg_parser.specs.SelectedOutcomes.{FitsBy, IsParseOutcomeBy};
-    ghost use Rattle.peg_parser.specs.StepLimits.{TakesMoreSteps, TakesPlainSteps};
     ghost use Rattle.peg_semantics.specs.Starts.{start_name};
 
     /// Returns the parser of a grammar file, or why the file is rejected. The tests come in this order: the notation,
@@ -197,6 +192,7 @@ impl Parser {
     pub fn program(&self) -> &Program
         ensures code { result.now.code ≡ program_code (core_bodies (parser_rules self.now)) }
         ensures entries { result.now.entries ≡ entries_of (core_bodies (parser_rules self.now)) }
+        ensures core { ∥ bodies_of result.now.core ≡ core_bodies (parser_rules self.now) ∥₁ }
     {
         &self.program
     }
@@ -236,28 +232,8 @@ impl Parser {
         text: &[u8],
         options: &ParseOptions<'_>,
     ) -> Result<Answer, ParseFault>
-        ensures no_start { IsErrOf result ParseFault.NoSuchStart
-            ↔ (start_name (parser_rules self.now) (start_named options.now) ≡ None) }
-        ensures long { (start : List ℕ) → start_name (parser_rules self.now) (start_named options.now) ≡ Some start
-            → (IsErrOf result ParseFault.TextTooLong ↔ (max_text_bytes < length text.now)) }
-        ensures short { OnOk result (length text.now ≤ max_text_bytes) }
-        ensures outcome { IfOk result (λ answer. IfSome (start_name (parser_rules self.now) (start_named options.now))
-            (λ start. IsParseOutcome (parser_rules self.now) text.now start answer.outcome)) }
-        ensures fits { IfOk result (λ answer. Fits (parser_rules self.now) answer.outcome) }
-
-        // The step limit: an answer stays within it. Without a memo there is no answer if more steps are needed.
-        ensures allowed { IfOk result (λ answer. (limit : ℕ) → options.now.steps ≡ Some limit → answer.steps ≤ limit) }
-        ensures limited { IsErrOf result ParseFault.StepLimit
-            → TakesMoreSteps (parser_rules self.now) text.now (start_named options.now) options.now.steps }
-        ensures enough { options.now.memo ≡ 0 → OnOk result
-            (¬ TakesMoreSteps (parser_rules self.now) text.now (start_named options.now) options.now.steps) }
-
-        // The steps of an answer are at most the plain steps, and without a memo exactly these.
-        ensures steps { IfOk result (λ answer. (count : ℕ) × TakesPlainSteps (parser_rules self.now) text.now
-            (start_named options.now) count × (answer.steps ≤ count)) }
-        ensures exact { options.now.memo ≡ 0 → IfOk result (λ answer. (count : ℕ)
-            × TakesPlainSteps (parser_rules self.now) text.now (start_named options.now) count
-            × (answer.steps ≡ saturated count)) }
+        ensures parse { IsParse None (parser_rules self.now) text.now (start_named options.now)
+            (options.now.memo ≡ 0) options.now.steps result }
     {
         self.parse_selecting(alloc, text, options, None)
     }
@@ -271,26 +247,8 @@ impl Parser {
         among: Option<&[u32]>,
     ) -> Result<Answer, ParseFault>
         requires { ForSome among (λ terminals. IsStrictlyIncreasing terminals.now) }
-        ensures no_start { IsErrOf result ParseFault.NoSuchStart
-            ↔ (start_name (parser_rules self.now) (start_named options.now) ≡ None) }
-        ensures long { (start : List ℕ) → start_name (parser_rules self.now) (start_named options.now) ≡ Some start
-            → (IsErrOf result ParseFault.TextTooLong ↔ (max_text_bytes < length text.now)) }
-        ensures short { OnOk result (length text.now ≤ max_text_bytes) }
-        ensures outcome { IfOk result (λ answer. IfSome (start_name (parser_rules self.now) (start_named options.now))
-            (λ start. IsParseOutcomeBy (listed among.entry) (parser_rules self.now) text.now start
-            answer.outcome)) }
-        ensures fits { IfOk result (λ answer. FitsBy (listed among.entry) (parser_rules self.now)
-            answer.outcome) }
-        ensures allowed { IfOk result (λ answer. (limit : ℕ) → options.now.steps ≡ Some limit → answer.steps ≤ limit) }
-        ensures limited { IsErrOf result ParseFault.StepLimit
-            → TakesMoreSteps (parser_rules self.now) text.now (start_named options.now) options.now.steps }
-        ensures enough { options.now.memo ≡ 0 → OnOk result
-            (¬ TakesMoreSteps (parser_rules self.now) text.now (start_named options.now) options.now.steps) }
-        ensures steps { IfOk result (λ answer. (count : ℕ) × TakesPlainSteps (parser_rules self.now) text.now
-            (start_named options.now) count × (answer.steps ≤ count)) }
-        ensures exact { options.now.memo ≡ 0 → IfOk result (λ answer. (count : ℕ)
-            × TakesPlainSteps (parser_rules self.now) text.now (start_named options.now) count
-            × (answer.steps ≡ saturated count)) }
+        ensures parse { IsParse (listed among.entry) (parser_rules self.now) text.now (start_named options.now)
+            (options.now.memo ≡ 0) options.now.steps result }
     {
         let Some(start) = self.start(options) else {
             return Err(ParseFault::NoSuchStart);
@@ -354,14 +312,8 @@ impl Parser {
         options: &ParseOptions<'_>,
         watch: &mut W,
     ) -> Result<Answer, ParseFault>
-        ensures no_start { IsErrOf result ParseFault.NoSuchStart
-            ↔ (start_name (parser_rules self.now) (start_named options.now) ≡ None) }
-        ensures long { (start : List ℕ) → start_name (parser_rules self.now) (start_named options.now) ≡ Some start
-            → (IsErrOf result ParseFault.TextTooLong ↔ (max_text_bytes < length text.now)) }
-        ensures short { OnOk result (length text.now ≤ max_text_bytes) }
-        ensures outcome { IfOk result (λ answer. IfSome (start_name (parser_rules self.now) (start_named options.now))
-            (λ start. IsParseOutcome (parser_rules self.now) text.now start answer.outcome)) }
-        ensures fits { IfOk result (λ answer. Fits (parser_rules self.now) answer.outcome) }
+        ensures parse { IsParse None (parser_rules self.now) text.now (start_named options.now)
+            (options.now.memo ≡ 0) options.now.steps result }
         ensures traced { OnOk result (IfSome (start_name (parser_rules self.now) (start_named options.now))
             (λ start. TracesCallsOf (parser_rules self.now) text.now start
             (GetsCalls W.records W.traced watch.old watch.new))) }
@@ -373,16 +325,6 @@ impl Parser {
             → IfSome (start_name (parser_rules self.now) (start_named options.now))
             (λ start. TracesCallsSoFar (parser_rules self.now) text.now start options.now.memo options.now.steps
             (GetsCalls W.records W.traced watch.old watch.new)) }
-        ensures allowed { IfOk result (λ answer. (limit : ℕ) → options.now.steps ≡ Some limit → answer.steps ≤ limit) }
-        ensures limited { IsErrOf result ParseFault.StepLimit
-            → TakesMoreSteps (parser_rules self.now) text.now (start_named options.now) options.now.steps }
-        ensures enough { options.now.memo ≡ 0 → OnOk result
-            (¬ TakesMoreSteps (parser_rules self.now) text.now (start_named options.now) options.now.steps) }
-        ensures steps { IfOk result (λ answer. (count : ℕ) × TakesPlainSteps (parser_rules self.now) text.now
-            (start_named options.now) count × (answer.steps ≤ count)) }
-        ensures exact { options.now.memo ≡ 0 → IfOk result (λ answer. (count : ℕ)
-            × TakesPlainSteps (parser_rules self.now) text.now (start_named options.now) count
-            × (answer.steps ≡ saturated count)) }
         ensures untraced { IsErrOf result ParseFault.NoSuchStart → watch.new ≡ watch.old }
         ensures untraced_long { IsErrOf result ParseFault.TextTooLong → watch.new ≡ watch.old }
     {
@@ -412,22 +354,16 @@ impl Parser {
     ) -> Result<Answer, ParseFault>
         requires start { start < length (parser_rules self.now) }
         requires ascending { ForSome among (λ terminals. IsStrictlyIncreasing terminals.now) }
+        requires short { length text.now ≤ max_text_bytes }
         requires capacity { 1 ≤ capacity }
-        ensures started { ¬ IsErrOf result ParseFault.NoSuchStart }
-        ensures long { IsErrOf result ParseFault.TextTooLong → max_text_bytes < length text.now }
-        ensures short { OnOk result (length text.now ≤ max_text_bytes) }
-        ensures outcome { IfOk result (λ answer. IsParseOutcomeBy (listed among.entry)
-            (parser_rules self.now) text.now (name_of (parser_rules self.now) start) answer.outcome) }
+        ensures parse { (named : Option (List ℕ))
+            → start_name (parser_rules self.now) named ≡ Some (name_of (parser_rules self.now) start)
+            → IsParse (listed among.entry) (parser_rules self.now) text.now named ⊥ max_steps result }
         ensures traced { OnOk result (TracesCallsOf (parser_rules self.now) text.now
             (name_of (parser_rules self.now) start) (GetsCalls W.records W.traced watch.old watch.new)) }
         ensures stopped { IsErrOf result ParseFault.StepLimit → (calls : List RuleCall)
             × GetsCalls W.records W.traced watch.old watch.new calls
             × AreCallsSoFar (parser_rules self.now) text.now (name_of (parser_rules self.now) start) max_steps calls }
-        ensures allowed { IfOk result (λ answer. (limit : ℕ) → max_steps ≡ Some limit → answer.steps ≤ limit) }
-        ensures limited { IsErrOf result ParseFault.StepLimit
-            → ExceedsStepLimit (core_bodies (parser_rules self.now)) text.now start max_steps }
-        ensures steps { IfOk result (λ answer. (count : ℕ)
-            × TakesSteps (core_bodies (parser_rules self.now)) text.now start count × (answer.steps ≤ count)) }
     {
         let mut memo = SelectiveMemo::new(alloc, capacity, &self.costs, text)?;
         self.answer(alloc, text, start, among, &mut memo, watch, max_steps)
@@ -447,32 +383,21 @@ impl Parser {
         requires start { start < length (parser_rules self.now) }
         requires ascending { ForSome among (λ terminals. IsStrictlyIncreasing terminals.now) }
         requires empty { map.len (K.entries memo.old) ≡ 0 }
-        ensures started { ¬ IsErrOf result ParseFault.NoSuchStart }
-        ensures long { IsErrOf result ParseFault.TextTooLong ↔ (max_text_bytes < length text.now) }
-        ensures outcome { IfOk result (λ answer. IsParseOutcomeBy (listed among.entry)
-            (parser_rules self.now) text.now (name_of (parser_rules self.now) start) answer.outcome) }
+        ensures parse { (named : Option (List ℕ))
+            → start_name (parser_rules self.now) named ≡ Some (name_of (parser_rules self.now) start)
+            → IsParse (listed among.entry) (parser_rules self.now) text.now named (NeverStores K.entries) max_steps result }
         ensures traced { OnOk result (TracesCallsOf (parser_rules self.now) text.now
             (name_of (parser_rules self.now) start) (GetsCalls W.records W.traced watch.old watch.new)) }
         ensures stopped { IsErrOf result ParseFault.StepLimit → (calls : List RuleCall)
             × GetsCalls W.records W.traced watch.old watch.new calls
             × AreCallsSoFar (parser_rules self.now) text.now (name_of (parser_rules self.now) start) max_steps calls }
-        ensures in_order { ((any : K) → map.len (K.entries any) ≡ 0) → OnOk result (TracesCallsInOrder
+        ensures in_order { NeverStores K.entries → OnOk result (TracesCallsInOrder
             (parser_rules self.now) text.now (name_of (parser_rules self.now) start)
             (GetsCalls W.records W.traced watch.old watch.new)) }
-        ensures stopped_in_order { ((any : K) → map.len (K.entries any) ≡ 0) → IsErrOf result ParseFault.StepLimit
+        ensures stopped_in_order { NeverStores K.entries → IsErrOf result ParseFault.StepLimit
             → (calls : List RuleCall) × GetsCalls W.records W.traced watch.old watch.new calls
             × AreCallsSoFar (parser_rules self.now) text.now (name_of (parser_rules self.now) start) max_steps calls
             × AreFirstCalls (parser_rules self.now) text.now (name_of (parser_rules self.now) start) calls }
-        ensures allowed { IfOk result (λ answer. (limit : ℕ) → max_steps ≡ Some limit → answer.steps ≤ limit) }
-        ensures limited { IsErrOf result ParseFault.StepLimit
-            → ExceedsStepLimit (core_bodies (parser_rules self.now)) text.now start max_steps }
-        ensures enough { ((any : K) → map.len (K.entries any) ≡ 0)
-            → OnOk result (¬ ExceedsStepLimit (core_bodies (parser_rules self.now)) text.now start max_steps) }
-        ensures steps { IfOk result (λ answer. (count : ℕ)
-            × TakesSteps (core_bodies (parser_rules self.now)) text.now start count × (answer.steps ≤ count)) }
-        ensures exact { ((any : K) → map.len (K.entries any) ≡ 0) → IfOk result (λ answer. (count : ℕ)
-            × TakesSteps (core_bodies (parser_rules self.now)) text.now start count
-            × (answer.steps ≡ saturated count)) }
     {
         match run_selecting(
             alloc,

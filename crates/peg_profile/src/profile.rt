@@ -1,8 +1,9 @@
 //! The profile of a parse.
-ghost use Rattle.std.specs.Prelude.{◌≡◌, ◌↔◌, ◌<◌, ◌≤◌, ℕ, List, IfNone, IfOk, IfSome, IsErrOf, IsSome, None, OnOk, Some, length};
+ghost use Rattle.std.specs.Prelude.{◌≡◌, ◌<◌, ◌≤◌, ℕ, IfNone, IfOk, IfSome, IsErrOf, None, OnOk, Some, length};
 ghost use Rattle.peg_grammar.specs.Limits.{max_text_bytes};
 ghost use Rattle.peg_grammar.specs.Outcomes.{IsParseOutcome};
 ghost use Rattle.peg_semantics.specs.Starts.{start_name};
+ghost use Rattle.peg_parser.specs.ParseContract.{HasParseFaults};
 ghost use Rattle.peg_parser.specs.Parser.{parser_rules, start_named};
 ghost use Rattle.peg_parser.specs.StepLimits.{TakesMoreSteps, TakesPlainSteps};
 ghost use Rattle.peg_machine.specs.CoreOutcome.{saturated};
@@ -50,10 +51,7 @@ impl Profile {
         text: &[u8],
         options: &ParseOptions<'_>,
     ) -> Result<Profile, ParseFault>
-        ensures no_start { IsErrOf result ParseFault.NoSuchStart
-            ↔ (start_name (parser_rules parser.now) (start_named options.now) ≡ None) }
-        ensures long { (start : List ℕ) → start_name (parser_rules parser.now) (start_named options.now) ≡ Some start
-            → (IsErrOf result ParseFault.TextTooLong ↔ (max_text_bytes < length text.now)) }
+        ensures faults { HasParseFaults (parser_rules parser.now) text.now (start_named options.now) result }
         ensures short { OnOk result (length text.now ≤ max_text_bytes) }
         ensures unlimited { ¬ IsErrOf result ParseFault.StepLimit }
         ensures count { IfOk result (λ profile. length profile.rules.items ≡ length (parser_rules parser.now)) }

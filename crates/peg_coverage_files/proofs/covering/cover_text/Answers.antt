@@ -22,5 +22,5 @@ returns-clause-covered g c rules start is at =
     HasCovered marked text name before after match))) at (c.cover.ensures.covered rules is) in
     subst (λ (r : Result TextEnd CoveringFault). IfOk r (HasCoveredText marked start settings known before after))
     (sym c.to_end.ensures)
-    (text-covered marked start settings known text before after c.cover.result read (c.cover.ensures.long rules start is at)
-    covered c.cover.ensures.unchanged (c.cover.ensures.limited rules is) (c.cover.ensures.enough rules is))
+    (text-covered marked start settings known text before after c.cover.result read ((c.cover.ensures.faults rules is).long start at)
+    covered c.cover.ensures.unchanged (c.cover.ensures.limit rules is).limited (c.cover.ensures.limit rules is).enough)

@@ -1,4 +1,4 @@
-use Rattle.std.proofs.Common.{ℕ, List, Option, option_map, subst, sym}
+use Rattle.std.proofs.Common.{rules as by_rules, ℕ, List, Option, option_map, subst, sym}
 use Rattle.peg_handle.specs.Starts.{start_of_bytes}
 use Rattle.peg_parser.specs.Parser.{parser_rules}
 use Rattle.peg_parser.specs.StepLimits.{TakesMoreSteps}
@@ -10,26 +10,32 @@ returns-clause-answer c =
     is_answer (parser_rules c.args.parser.now) c.args.text.now c.args.start.now c.args.memo
     (option_map (λ name. name.now) c.in_ok-start.start) c.in_ok-answer.answer c.in_ok-found.found
     c.in_ok-start.ensures.named c.in_ok-found.ensures.answer c.in_ok-found.ensures.expected
-    c.in_ok-answer.ensures.outcome c.in_ok-answer.ensures.fits c.in_ok-answer.ensures.steps
-    c.in_ok-answer.ensures.exact
+    c.in_ok-answer.ensures.parse.outcome c.in_ok-answer.ensures.parse.fits c.in_ok-answer.ensures.parse.steps.plain
+    c.in_ok-answer.ensures.parse.steps.exact
 
-pub returns-clause-enough : goal.returns-clause-enough
-returns-clause-enough c no_memo takes =
+pub returns-clause-limit : goal.returns-clause-limit
+returns-clause-limit c =
     let rules = parser_rules c.args.parser.now in
-    let text = c.args.text.now in
-    let by_start =
-    subst (λ (limit : Option ℕ). TakesMoreSteps rules text (start_of_bytes c.args.start.now) limit)
-    (sym c.limit_from.ensures) takes in
-    c.in_ok-answer.ensures.enough no_memo
-    (subst (λ (start : Option (List ℕ)). TakesMoreSteps rules text start c.limit_from.result)
-    (sym c.in_ok-start.ensures.named) by_start)
+    let text = c.args.text.now in record {
+      limited = search by_rules;
+      enough = λ no_memo takes.
+          let by_start =
+          subst (λ (limit : Option ℕ). TakesMoreSteps rules text (start_of_bytes c.args.start.now) limit)
+          (sym c.limit_from.ensures) takes in
+          c.in_ok-answer.ensures.parse.limit.enough no_memo
+          (subst (λ (start : Option (List ℕ)). TakesMoreSteps rules text start c.limit_from.result)
+          (sym c.in_ok-start.ensures.named) by_start);
+    }
 
-pub returns-in_err-answer-clause-limited : goal.returns-in_err-answer-clause-limited
-returns-in_err-answer-clause-limited c is =
+pub returns-in_err-answer-clause-limit : goal.returns-in_err-answer-clause-limit
+returns-in_err-answer-clause-limit c =
     let rules = parser_rules c.args.parser.now in
-    let text = c.args.text.now in
-    subst (λ (limit : Option ℕ). TakesMoreSteps rules text (start_of_bytes c.args.start.now) limit)
-    c.limit_from.ensures
-    (subst (λ (start : Option (List ℕ)). TakesMoreSteps rules text start c.limit_from.result)
-    c.in_ok-start.ensures.named (c.in_err-answer.ensures.limited
-    (err_of _ _ _ c.from_residual-in_err-answer.ensures.1 is)))
+    let text = c.args.text.now in record {
+      limited = λ is.
+          subst (λ (limit : Option ℕ). TakesMoreSteps rules text (start_of_bytes c.args.start.now) limit)
+          c.limit_from.ensures
+          (subst (λ (start : Option (List ℕ)). TakesMoreSteps rules text start c.limit_from.result)
+          c.in_ok-start.ensures.named (c.in_err-answer.ensures.parse.limit.limited
+          (err_of _ _ _ c.from_residual-in_err-answer.ensures.1 is)));
+      enough = search by_rules;
+    }

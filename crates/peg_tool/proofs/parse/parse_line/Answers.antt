@@ -24,9 +24,9 @@ returns-in-Ok c file =
     let memo = c.args.options.now.memo in
     let steps = c.args.options.now.steps in
     let some : (start_name rules start ≡ None → ⊥) =
-    λ none. let both : Ok c.in-Ok.answer ≡ Err NoStart = sym c.in-Ok.is ∙ c.parse.ensures.no_start.1 none in cc in
+    λ none. let both : Ok c.in-Ok.answer ≡ Err NoStart = sym c.in-Ok.is ∙ c.parse.ensures.parse.faults.no_start.1 none in cc in
     let parses = outcome-parses rules c.args.text.now start memo steps printing.all printing.form shown outcome
-    c.in-Ok.ensures.short c.in-Ok.ensures.enough some c.in-Ok.ensures.outcome in
+    c.in-Ok.ensures.parse.short c.in-Ok.ensures.parse.limit.enough some c.in-Ok.ensures.parse.outcome in
     kind-weaker c.nodes_line.result file
     (PrintsOutcomeAsked rules (selected_outcome shown outcome) c.args.text.now printing.all printing.form printing.with_bytes)
     (ParsesToAsked rules c.args.text.now start memo steps printing.all printing.form shown printing.with_bytes)
@@ -40,7 +40,7 @@ returns-in-Err-NoSuchStart c file =
     let start = start_named c.args.options.now in
     let memo = c.args.options.now.memo in
     let steps = c.args.options.now.steps in
-    let none = c.parse.ensures.no_start.0 (c.in-Err-NoSuchStart.is ∙ ap Err c.in-Err-NoSuchStart.field-0-is) in
+    let none = c.parse.ensures.parse.faults.no_start.0 (c.in-Err-NoSuchStart.is ∙ ap Err c.in-Err-NoSuchStart.field-0-is) in
     let named = start-given rules start none in
     let same : c.unwrap_or.result.now ≡ named.0 =
     ap (λ name. name.now) c.unwrap_or.ensures ∙ given-name (λ name. name.now) c.args.options.now.start _ named.0 named.1 in
@@ -64,8 +64,8 @@ returns-in-Err-TextTooLong c file =
     (ParsesToAsked rules c.args.text.now start memo steps printing.all printing.form shown printing.with_bytes)
     (Refused TextTooLong) (c.long_text_line.ensures file) (
       Refused TextTooLong,
-      text_too_long (long-text c.parse.result rules start (length c.args.text.now) is c.parse.ensures.no_start
-          c.parse.ensures.long),
+      text_too_long (long-text c.parse.result rules start (length c.args.text.now) is c.parse.ensures.parse.faults.no_start
+          c.parse.ensures.parse.faults.long),
       refused-with_text printing.with_bytes c.args.text.now TextTooLong,
     )
 
@@ -78,11 +78,11 @@ returns-in-Err-StepLimit c file =
     let memo = c.args.options.now.memo in
     let steps = c.args.options.now.steps in
     let is = c.in-Err-StepLimit.is ∙ ap Err c.in-Err-StepLimit.field-0-is in
-    let more = c.parse.ensures.limited is in
+    let more = c.parse.ensures.parse.limit.limited is in
     reply-kind c.step_limit_line.result file
     (ParsesToAsked rules c.args.text.now start memo steps printing.all printing.form shown printing.with_bytes)
     (Refused StepLimit) (c.step_limit_line.ensures file) (
       Refused StepLimit,
-      too_many_steps (short-text c.parse.result (length c.args.text.now) is (c.parse.ensures.long more.0 more.1)) more,
+      too_many_steps (short-text c.parse.result (length c.args.text.now) is (c.parse.ensures.parse.faults.long more.0 more.1)) more,
       refused-with_text printing.with_bytes c.args.text.now StepLimit,
     )

@@ -23,7 +23,7 @@ returns-in-Ok c file =
     let memo = c.args.options.now.memo in
     let steps = c.args.options.now.steps in
     let some : (start_name rules start ≡ None → ⊥) =
-    λ none. let both : Ok profile ≡ Err NoStart = sym c.in-Ok.is ∙ c.of_text.ensures.no_start.1 none in cc in
+    λ none. let both : Ok profile ≡ Err NoStart = sym c.in-Ok.is ∙ c.of_text.ensures.faults.no_start.1 none in cc in
     let reply_of = λ (l : List Rule). Profiled (end_of profile.answer) profile.steps (names l) profile.rules.items in
     reply-kind c.profile_line.result file (ProfilesTo rules c.args.text.now start memo steps) (reply_of rules)
     (subst (λ (l : List Rule). IfOk c.profile_line.result (λ line.
@@ -38,7 +38,7 @@ returns-in-Err-NoSuchStart c file =
     let start = start_named c.args.options.now in
     let memo = c.args.options.now.memo in
     let steps = c.args.options.now.steps in
-    let none = c.of_text.ensures.no_start.0 (c.in-Err-NoSuchStart.is ∙ ap Err c.in-Err-NoSuchStart.field-0-is) in
+    let none = c.of_text.ensures.faults.no_start.0 (c.in-Err-NoSuchStart.is ∙ ap Err c.in-Err-NoSuchStart.field-0-is) in
     let named = start-given rules start none in
     let same : c.unwrap_or.result.now ≡ named.0 =
     ap (λ name. name.now) c.unwrap_or.ensures ∙ given-name (λ name. name.now) c.args.options.now.start _ named.0 named.1 in
@@ -55,5 +55,5 @@ returns-in-Err-TextTooLong c file =
     reply-kind c.long_text_line.result file
     (ProfilesTo rules c.args.text.now start c.args.options.now.memo c.args.options.now.steps) (Refused TextTooLong)
     (c.long_text_line.ensures file)
-    (text_over_limit (long-profile c.of_text.result rules start (length c.args.text.now) is c.of_text.ensures.no_start
-    c.of_text.ensures.long))
+    (text_over_limit (long-profile c.of_text.result rules start (length c.args.text.now) is c.of_text.ensures.faults.no_start
+    c.of_text.ensures.faults.long))

@@ -1,11 +1,10 @@
-use Rattle.std.proofs.Common.{rules as by_rules, ◌≡◌, ◌≤◌, ◌∙◌, ◌<◌, All, IfOk, IfSome, List, None, OnOk, Some, length, ℕ, subst, sym, true}
+use Rattle.std.proofs.Common.{rules as by_rules, ◌≡◌, ◌∙◌, ◌<◌, All, IfSome, List, None, Some, length, ℕ, subst, sym, true}
 use Rattle.std.proofs.lemmas.Result.{IfOk-weaker}
 use Rattle.peg_diagnostics.specs.Items.{extents_of_items}
 use Rattle.peg_grammar.specs.Outcomes.{IsParseOutcomeAmong}
-use Rattle.peg_machine.specs.CoreOutcome.{saturated}
 use Rattle.peg_parser.specs.Fits.{FitsAmong}
+use Rattle.peg_parser.specs.ParseContract.{HasParseSteps, HasStepLimit}
 use Rattle.peg_parser.specs.Parser.{parser_rules, start_named}
-use Rattle.peg_parser.specs.StepLimits.{TakesMoreSteps, TakesPlainSteps}
 use Rattle.peg_semantics.specs.Rules.{Rule}
 use Rattle.peg_semantics.specs.Starts.{start_name}
 use Rattle.peg_blame.specs.BlameOutcome.{IsBlameOutcome}
@@ -29,17 +28,18 @@ shown c rules is start at =
     shown-start rules (parser_rules c.args.self.now.parser) (start_named c.args.options.now) is.diagnostic
     (nonempty rules is.grammar) start at
 
-pub returns-clause-no_start : goal.returns-clause-no_start
-returns-clause-no_start c rules is =
-    let name = found (goal.at.returns-clause-no_start c).After-parse_among rules is in
-    let there = shown (goal.at.returns-clause-no_start c).After-parse_among rules is name.0 name.1 in (
-      λ none. let both : None ≡ Some name.0 = sym (c.parse_among.ensures.no_start.0 none) ∙ there in cc,
-      λ none. let both : None ≡ Some name.0 = sym none ∙ name.1 in cc,
-    )
-
-pub returns-clause-long : goal.returns-clause-long
-returns-clause-long c rules start is at =
-    c.parse_among.ensures.long start (shown (goal.at.returns-clause-long c).After-parse_among rules is start at)
+pub returns-clause-faults : goal.returns-clause-faults
+returns-clause-faults c rules is =
+    let after = (goal.at.returns-clause-faults c).After-parse_among in
+    let name = found after rules is in
+    let there = shown after rules is name.0 name.1 in
+    let stated = c.parse_among.ensures.parse.faults in record {
+      no_start = (
+        λ none. let both : None ≡ Some name.0 = sym (stated.no_start.0 none) ∙ there in cc,
+        λ none. let both : None ≡ Some name.0 = sym none ∙ name.1 in cc,
+      );
+      long = λ start at. stated.long start (shown after rules is start at);
+    }
 
 pub returns-clause-outcome : goal.returns-clause-outcome
 returns-clause-outcome c rules is =
@@ -51,7 +51,7 @@ returns-clause-outcome c rules is =
     (λ answer. IfSome (start_name all named) (λ start. IsParseOutcomeAmong all text start terminals answer.outcome))
     (λ answer. IfSome (start_name rules named) (λ start. IsBlameOutcome rules text start answer.outcome))
     (λ answer. start-outcome rules all named is.diagnostic (nonempty rules is.grammar) text terminals answer.outcome
-    (c.deref.ensures.value ∙ is.terminals) is.distinct is.well_formed) c.parse_among.ensures.outcome
+    (c.deref.ensures.value ∙ is.terminals) is.distinct is.well_formed) c.parse_among.ensures.parse.outcome
 
 pub returns-clause-fits : goal.returns-clause-fits
 returns-clause-fits c rules is =
@@ -60,27 +60,18 @@ returns-clause-fits c rules is =
     IfOk-weaker c.parse_among.result (λ answer. FitsAmong all terminals answer.outcome)
     (λ answer. All (λ item. item < length (extents_of_items rules)) answer.outcome.expected.items)
     (λ answer fits. items-fit rules terminals answer.outcome.expected.items (c.deref.ensures.value ∙ is.terminals)
-    fits.indices) c.parse_among.ensures.fits
+    fits.indices) c.parse_among.ensures.parse.fits
 
 -- ---- the steps are those of the diagnostic grammar
 
-pub returns-clause-limited : goal.returns-clause-limited
-returns-clause-limited c rules is more =
-    subst (λ (all : List Rule). TakesMoreSteps all c.args.text.now (start_named c.args.options.now)
-    c.args.options.now.steps) is.diagnostic (c.parse_among.ensures.limited more)
-
-pub returns-clause-enough : goal.returns-clause-enough
-returns-clause-enough c rules is none =
-    subst (λ (all : List Rule). OnOk c.parse_among.result (¬ TakesMoreSteps all c.args.text.now
-    (start_named c.args.options.now) c.args.options.now.steps)) is.diagnostic (c.parse_among.ensures.enough none)
+pub returns-clause-limit : goal.returns-clause-limit
+returns-clause-limit c rules is =
+    subst (λ (all : List Rule). HasStepLimit all c.args.text.now (start_named c.args.options.now)
+    (c.args.options.now.memo ≡ 0) c.args.options.now.steps c.parse_among.result) is.diagnostic
+    c.parse_among.ensures.parse.limit
 
 pub returns-clause-steps : goal.returns-clause-steps
 returns-clause-steps c rules is =
-    subst (λ (all : List Rule). IfOk c.parse_among.result (λ answer. (count : ℕ) × TakesPlainSteps all c.args.text.now
-    (start_named c.args.options.now) count × (answer.steps ≤ count))) is.diagnostic c.parse_among.ensures.steps
-
-pub returns-clause-exact : goal.returns-clause-exact
-returns-clause-exact c rules is none =
-    subst (λ (all : List Rule). IfOk c.parse_among.result (λ answer. (count : ℕ) × TakesPlainSteps all c.args.text.now
-    (start_named c.args.options.now) count × (answer.steps ≡ saturated count))) is.diagnostic
-    (c.parse_among.ensures.exact none)
+    subst (λ (all : List Rule). HasParseSteps all c.args.text.now (start_named c.args.options.now)
+    (c.args.options.now.memo ≡ 0) c.args.options.now.steps c.parse_among.result) is.diagnostic
+    c.parse_among.ensures.parse.steps

@@ -28,29 +28,32 @@ shown c rules is start at =
     shown-start rules (parser_rules c.args.self.now.parser) (start_named c.args.options.now) is.diagnostic
     (nonempty rules is.grammar) start at
 
-pub returns-in_err-_answer-clause-no_start : goal.returns-in_err-_answer-clause-no_start
-returns-in_err-_answer-clause-no_start c rules is =
-    let trace = (goal.at.returns-in_err-_answer-clause-no_start c).After-trace in
-    let name = found trace rules is in
-    let there = shown trace rules is name.0 name.1 in (
-      λ none. let both : None ≡ Some name.0 = sym (c.in_err-_answer.ensures.no_start.0 (passed-error _ _ _
-          c.from_residual.ensures.1 none)) ∙ there in cc,
-      λ none. let both : None ≡ Some name.0 = sym none ∙ name.1 in cc,
-    )
+pub returns-in_err-_answer-clause-faults : goal.returns-in_err-_answer-clause-faults
+returns-in_err-_answer-clause-faults c rules is =
+    let after = (goal.at.returns-in_err-_answer-clause-faults c).After-trace in
+    let name = found after rules is in
+    let there = shown after rules is name.0 name.1 in
+    let stated = c.in_err-_answer.ensures.parse.faults in record {
+      no_start = (
+        λ none. let both : None ≡ Some name.0 = sym (stated.no_start.0 (passed-error _ _ _
+            c.from_residual.ensures.1 none)) ∙ there in cc,
+        λ none. let both : None ≡ Some name.0 = sym none ∙ name.1 in cc,
+      );
+      long = λ start at.
+          let long = stated.long start (shown after rules is start at) in (
+            λ passed. long.0 (passed-error _ _ _ c.from_residual.ensures.1 passed),
+            λ over. error-passed _ _ _ c.from_residual.ensures.1 (long.1 over),
+          );
+    }
 
-pub returns-in_err-_answer-clause-long : goal.returns-in_err-_answer-clause-long
-returns-in_err-_answer-clause-long c rules start is at =
-    let there = shown (goal.at.returns-in_err-_answer-clause-long c).After-trace rules is start at in
-    let long = c.in_err-_answer.ensures.long start there in (
-      λ passed. long.0 (passed-error _ _ _ c.from_residual.ensures.1 passed),
-      λ over. error-passed _ _ _ c.from_residual.ensures.1 (long.1 over),
-    )
-
-pub returns-in_err-_answer-clause-limited : goal.returns-in_err-_answer-clause-limited
-returns-in_err-_answer-clause-limited c rules is more =
-    subst (λ (all : List Rule). TakesMoreSteps all c.args.text.now (start_named c.args.options.now)
-    c.args.options.now.steps) is.diagnostic (c.in_err-_answer.ensures.limited (passed-error _ _ _
-    c.from_residual.ensures.1 more))
+pub returns-in_err-_answer-clause-limit : goal.returns-in_err-_answer-clause-limit
+returns-in_err-_answer-clause-limit c rules is = record {
+  limited = λ more.
+      subst (λ (all : List Rule). TakesMoreSteps all c.args.text.now (start_named c.args.options.now)
+      c.args.options.now.steps) is.diagnostic (c.in_err-_answer.ensures.parse.limit.limited (passed-error _ _ _
+      c.from_residual.ensures.1 more));
+  enough = search by_rules;
+}
 
 pub returns-clause-called : goal.returns-clause-called
 returns-clause-called c rules is =
@@ -65,8 +68,11 @@ returns-clause-called c rules is =
     ∙ ap (λ (n : ℕ). is_called (calls_of_first n (map call_of c.pairs.result.now)) rule c.args.at) is.count
     ∙ ap (λ (l : List RuleCall). is_called (calls_of_first (length rules) l) rule c.args.at) c.pairs.ensures)
 
-pub returns-clause-enough : goal.returns-clause-enough
-returns-clause-enough c rules is none more =
-    c.in_ok-_answer.ensures.enough none
-    (subst (λ (all : List Rule). TakesMoreSteps all c.args.text.now (start_named c.args.options.now)
-    c.args.options.now.steps) (sym is.diagnostic) more)
+pub returns-clause-limit : goal.returns-clause-limit
+returns-clause-limit c rules is = record {
+  limited = search by_rules;
+  enough = λ none more.
+      c.in_ok-_answer.ensures.parse.limit.enough none
+      (subst (λ (all : List Rule). TakesMoreSteps all c.args.text.now (start_named c.args.options.now)
+      c.args.options.now.steps) (sym is.diagnostic) more);
+}

@@ -20,39 +20,45 @@ returns-in-Ok-clause-covered c rules is =
     some_covered (marked_rules rules) text (start_name rules named) (start_name (marked_rules rules) named) from.0 outcome
     c.args.used.now c.note_match.new.used c.note_match.result from.1 (start-marked rules named from.0 from.1)
     (subst (λ (all : List Rule). IfSome (start_name all named) (λ start. IsParseOutcome all text start outcome))
-    is.marked c.in-Ok.ensures.outcome) c.note_match.ensures.noted
+    is.marked c.in-Ok.ensures.parse.outcome) c.note_match.ensures.noted
 
-pub returns-in-Ok-clause-enough : goal.returns-in-Ok-clause-enough
-returns-in-Ok-clause-enough c rules is none more =
-    c.in-Ok.ensures.enough none
-    (subst (λ (all : List Rule). TakesMoreSteps all c.args.text.now (start_named c.args.options.now)
-    c.args.options.now.steps) (sym is.marked) more)
+pub returns-in-Ok-clause-limit : goal.returns-in-Ok-clause-limit
+returns-in-Ok-clause-limit c rules is = record {
+  limited = search by_rules;
+  enough = λ none more.
+      c.in-Ok.ensures.parse.limit.enough none
+      (subst (λ (all : List Rule). TakesMoreSteps all c.args.text.now (start_named c.args.options.now)
+      c.args.options.now.steps) (sym is.marked) more);
+}
 
-pub returns-in-Err-clause-no_start : goal.returns-in-Err-clause-no_start
-returns-in-Err-clause-no_start c rules is =
+pub returns-in-Err-clause-faults : goal.returns-in-Err-clause-faults
+returns-in-Err-clause-faults c rules is =
     let named = start_named c.args.options.now in
     let held : c.has_start.result ≡ true = search by_rules in
     let from = start-some (start_name rules named) (sym (c.has_start.ensures rules is) ∙ held) in
     let there : start_name (parser_rules c.args.self.now.parser) named ≡ Some from.0 =
-    ap (λ (all : List Rule). start_name all named) is.marked ∙ start-marked rules named from.0 from.1 in (
-      λ bad.
-          let same : c.in-Err.fault ≡ NoSuchStart = cc in
-          let both : None ≡ Some from.0 = sym (c.in-Err.ensures.no_start.0 (ap Err same)) ∙ there in
-          cc,
-      λ none. let both : None ≡ Some from.0 = sym none ∙ from.1 in cc,
-    )
+    ap (λ (all : List Rule). start_name all named) is.marked ∙ start-marked rules named from.0 from.1 in
+    let stated = c.in-Err.ensures.parse.faults in record {
+      no_start = (
+        λ bad.
+            let same : c.in-Err.fault ≡ NoSuchStart = cc in
+            let both : None ≡ Some from.0 = sym (stated.no_start.0 (ap Err same)) ∙ there in
+            cc,
+        λ none. let both : None ≡ Some from.0 = sym none ∙ from.1 in cc,
+      );
+      long = λ start at.
+          let long = stated.long start
+          (ap (λ (all : List Rule). start_name all named) is.marked ∙ start-marked rules named start at) in (
+            λ bad. let same : c.in-Err.fault ≡ TextTooLong = cc in long.0 (ap Err same),
+            λ over. let same : c.in-Err.fault ≡ TextTooLong = let both = long.1 over in cc in ap Err same,
+          );
+    }
 
-pub returns-in-Err-clause-long : goal.returns-in-Err-clause-long
-returns-in-Err-clause-long c rules start is at =
-    let named = start_named c.args.options.now in
-    let long = c.in-Err.ensures.long start
-    (ap (λ (all : List Rule). start_name all named) is.marked ∙ start-marked rules named start at) in (
-      λ bad. let same : c.in-Err.fault ≡ TextTooLong = cc in long.0 (ap Err same),
-      λ over. let same : c.in-Err.fault ≡ TextTooLong = let both = long.1 over in cc in ap Err same,
-    )
-
-pub returns-in-Err-clause-limited : goal.returns-in-Err-clause-limited
-returns-in-Err-clause-limited c rules is limit =
-    let same : c.in-Err.fault ≡ StepLimit = cc in
-    subst (λ (all : List Rule). TakesMoreSteps all c.args.text.now (start_named c.args.options.now)
-    c.args.options.now.steps) is.marked (c.in-Err.ensures.limited (ap Err same))
+pub returns-in-Err-clause-limit : goal.returns-in-Err-clause-limit
+returns-in-Err-clause-limit c rules is = record {
+  limited = λ limit.
+      let same : c.in-Err.fault ≡ StepLimit = cc in
+      subst (λ (all : List Rule). TakesMoreSteps all c.args.text.now (start_named c.args.options.now)
+      c.args.options.now.steps) is.marked (c.in-Err.ensures.parse.limit.limited (ap Err same));
+  enough = search by_rules;
+}

@@ -52,7 +52,7 @@ returns-in_ok-expected-in-None-clause-mismatch c file rules of_explainer =
     ∙ sym (map-map unnamed_fact extent c.in_ok-spans-in-None.spans.items)
     ∙ unnamed-items file outcome rules (map extent c.in_ok-spans-in-None.spans.items) spans in
     let parsed = subst (λ (l : List Rule). IfSome (start_name l start) (λ from. IsParseOutcome l text from outcome)) same
-    c.in_ok-answer-in-None.ensures.outcome in
+    c.in_ok-answer-in-None.ensures.parse.outcome in
     tests-explain file rules style text (start_name rules start) outcome
     (λ facts parsed. HasMismatch file facts text parsed c.mismatch_in-in-None.result) lacks parsed
     (c.mismatch_in-in-None.ensures.mismatch file (facts_by_tests rules) (λ differs. items))
@@ -60,7 +60,7 @@ returns-in_ok-expected-in-None-clause-mismatch c file rules of_explainer =
 pub returns-in_err-answer-in-None-clause-limited : goal.returns-in_err-answer-in-None-clause-limited
 returns-in_err-answer-in-None-clause-limited c file rules of_explainer is_limit =
     let lacks : HasNoBlameParser rules = subst (IsBlameOf rules) c.in-None.is of_explainer.blames in
-    let more = c.in_err-answer-in-None.ensures.limited in
+    let more = c.in_err-answer-in-None.ensures.parse.limit.limited in
     inr (
       lacks,
       subst (λ (l : List Rule). TakesMoreSteps l c.args.text.now (start_named c.args.options.now)
@@ -72,7 +72,7 @@ returns-in_ok-expected-in-None-clause-enough c file rules of_explainer no_memo =
     let lacks : HasNoBlameParser rules = subst (IsBlameOf rules) c.in-None.is of_explainer.blames in
     inr (
       lacks,
-      λ more. c.in_ok-answer-in-None.ensures.enough no_memo
+      λ more. c.in_ok-answer-in-None.ensures.parse.limit.enough no_memo
           (subst (λ (l : List Rule). TakesMoreSteps l c.args.text.now (start_named c.args.options.now)
           c.args.options.now.steps) (sym of_explainer.has_parser) more),
     )

@@ -17,6 +17,6 @@ returns-in_err-answer-clause-memory c rules blames same within =
     passed-on (λ (why : ParseFault). why ≡ fault.Memory) c.from_residual.result c.in_err-answer.field-0.0
     c.from_residual.ensures.1
     (memory-alone rules from c.args.self.now.rest.now (Some name) c.in_err-answer.field-0.0 start within
-    (λ is. (c.in_err-answer.ensures.no_start rules blames).0 is)
-    (λ is. (c.in_err-answer.ensures.long rules from blames start).0 is)
-    (λ is. c.in_err-answer.ensures.limited rules blames is))
+    (λ is. (c.in_err-answer.ensures.faults rules blames).no_start.0 is)
+    (λ is. ((c.in_err-answer.ensures.faults rules blames).long from start).0 is)
+    (λ is. (c.in_err-answer.ensures.limit rules blames).limited is))

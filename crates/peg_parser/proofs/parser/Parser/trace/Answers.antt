@@ -1,47 +1,37 @@
-use Rattle.std.proofs.Common.{◌≡◌, ◌≤◌, ℕ, IfSome, List, None, Option, arith, subst, sym}
+use Rattle.std.proofs.Common.{◌≡◌, ℕ, IfSome, List, None, Option, arith, refl, subst, sym}
 use Rattle.std.proofs.lemmas.Result.{on_ok_weaker}
 use Rattle.std.specs.FinMap.{len-empty}
-use Rattle.peg_machine.specs.CoreOutcome.{saturated}
 use Rattle.peg_machine.specs.Traced.{GetsCalls}
 use Rattle.peg_memo.specs.StoredResult.{StoredResult}
 use Rattle.peg_memo.specs.MemoKey.{key_cmp}
 use Rattle.peg_parser.specs.Calls.{TracesCallsInOrder, TracesCallsSoFar}
 use Rattle.peg_parser.specs.Parser.{parser_rules, start_named}
-use Rattle.peg_parser.proofs.StepLemmas.{of-start, plain-steps, to-start}
-use Rattle.peg_parser.proofs.TraceLemmas.{answer-fits}
+use Rattle.peg_semantics.specs.Rules.{name_of}
+use Rattle.peg_parser.proofs.ParseLemmas.{parse_if_plain, parse_of_long_text, parse_without_start}
 use Rattle.peg_parser.proofs.parser.Parser.trace.Goals as goal
 
 pub answer-requires-clause-empty : goal.answer-requires-clause-empty
 answer-requires-clause-empty g c = len-empty key_cmp StoredResult
 
+-- ---- before a run
+
+pub returns-in-None-clause-parse : goal.returns-in-None-clause-parse
+returns-in-None-clause-parse g c =
+    parse_without_start None (parser_rules c.args.self.now) c.args.text.now (start_named c.args.options.now)
+    (c.args.options.now.memo ≡ 0) c.args.options.now.steps (c.in-None.ensures.none.0 refl)
+
+pub returns-in-Some-clause-parse : goal.returns-in-Some-clause-parse
+returns-in-Some-clause-parse g c =
+    parse_of_long_text None (parser_rules c.args.self.now) c.args.text.now (start_named c.args.options.now)
+    (c.args.options.now.memo ≡ 0) c.args.options.now.steps (name_of (parser_rules c.args.self.now) c.in-Some.field-0)
+    c.in-Some.ensures.named (omega arith)
+
 -- ---- without a memo there is never an entry
 
-pub returns-in-Some-2-clause-fits : goal.returns-in-Some-2-clause-fits
-returns-in-Some-2-clause-fits g c =
-    answer-fits None c.args.self.now c.args.text.now c.in-Some.field-0 c.answer.result c.answer.ensures.outcome
-
-pub returns-in-Some-2-clause-limited : goal.returns-in-Some-2-clause-limited
-returns-in-Some-2-clause-limited g c is =
-    of-start c.args.self.now c.args.text.now (start_named c.args.options.now) c.in-Some.field-0 c.args.options.now.steps
-    c.in-Some.ensures.some c.in-Some.ensures.named (c.answer.ensures.limited is)
-
-pub returns-in-Some-2-clause-enough : goal.returns-in-Some-2-clause-enough
-returns-in-Some-2-clause-enough g c none =
-    on_ok_weaker c.answer.result (λ not more. not (to-start c.args.self.now c.args.text.now
-    (start_named c.args.options.now) c.in-Some.field-0 c.args.options.now.steps c.in-Some.ensures.some
-    c.in-Some.ensures.named more)) (c.answer.ensures.enough (λ any. len-empty key_cmp StoredResult))
-
-pub returns-in-Some-2-clause-steps : goal.returns-in-Some-2-clause-steps
-returns-in-Some-2-clause-steps g c =
-    plain-steps c.args.self.now c.args.text.now (start_named c.args.options.now) c.in-Some.field-0
-    (λ answer count. answer.steps ≤ count) c.in-Some.ensures.some c.in-Some.ensures.named c.answer.result
-    c.answer.ensures.steps
-
-pub returns-in-Some-2-clause-exact : goal.returns-in-Some-2-clause-exact
-returns-in-Some-2-clause-exact g c none =
-    plain-steps c.args.self.now c.args.text.now (start_named c.args.options.now) c.in-Some.field-0
-    (λ answer count. answer.steps ≡ saturated count) c.in-Some.ensures.some c.in-Some.ensures.named c.answer.result
-    (c.answer.ensures.exact (λ any. len-empty key_cmp StoredResult))
+pub returns-in-Some-2-clause-parse : goal.returns-in-Some-2-clause-parse
+returns-in-Some-2-clause-parse g c =
+    parse_if_plain None (parser_rules c.args.self.now) c.args.text.now (start_named c.args.options.now) c.args.options.now.steps c.answer.result (λ _ any. len-empty key_cmp StoredResult)
+    (c.answer.ensures.parse (start_named c.args.options.now) c.in-Some.ensures.named)
 
 pub returns-in-Some-2-clause-in_order : goal.returns-in-Some-2-clause-in_order
 returns-in-Some-2-clause-in_order g c none =
@@ -63,6 +53,12 @@ returns-in-Some-2-clause-stopped g c is =
 
 -- ---- with a memo
 
+pub returns-in-Some-3-clause-parse : goal.returns-in-Some-3-clause-parse
+returns-in-Some-3-clause-parse g c =
+    parse_if_plain None (parser_rules c.args.self.now) c.args.text.now (start_named c.args.options.now) c.args.options.now.steps c.answer_with_memo.result
+    (λ none. absurd (omega (arith, none)))
+    (c.answer_with_memo.ensures.parse (start_named c.args.options.now) c.in-Some.ensures.named)
+
 pub returns-in-Some-3-clause-stopped : goal.returns-in-Some-3-clause-stopped
 returns-in-Some-3-clause-stopped g c is =
     let all = c.answer_with_memo.ensures.stopped is in
@@ -71,18 +67,3 @@ returns-in-Some-3-clause-stopped g c is =
     c.args.options.now.memo c.args.options.now.steps
     (GetsCalls g.W.Watch.records g.W.Watch.traced c.args.watch.now c.answer_with_memo.new.watch)))
     (sym c.in-Some.ensures.named) (all.0, all.1, all.2, λ none. absurd (omega (arith, none)))
-
-pub returns-in-Some-3-clause-fits : goal.returns-in-Some-3-clause-fits
-returns-in-Some-3-clause-fits g c =
-    answer-fits None c.args.self.now c.args.text.now c.in-Some.field-0 c.answer_with_memo.result c.answer_with_memo.ensures.outcome
-
-pub returns-in-Some-3-clause-limited : goal.returns-in-Some-3-clause-limited
-returns-in-Some-3-clause-limited g c is =
-    of-start c.args.self.now c.args.text.now (start_named c.args.options.now) c.in-Some.field-0 c.args.options.now.steps
-    c.in-Some.ensures.some c.in-Some.ensures.named (c.answer_with_memo.ensures.limited is)
-
-pub returns-in-Some-3-clause-steps : goal.returns-in-Some-3-clause-steps
-returns-in-Some-3-clause-steps g c =
-    plain-steps c.args.self.now c.args.text.now (start_named c.args.options.now) c.in-Some.field-0
-    (λ answer count. answer.steps ≤ count) c.in-Some.ensures.some c.in-Some.ensures.named c.answer_with_memo.result
-    c.answer_with_memo.ensures.steps

@@ -17,7 +17,7 @@ returns-in-Ok-clause-rules c =
 
 pub returns-in-Err-StepLimit-clause-steps : goal.returns-in-Err-StepLimit-clause-steps
 returns-in-Err-StepLimit-clause-steps c =
-    let more = c.trace.ensures.limited (c.in-Err-StepLimit.is ∙ ap Err c.in-Err-StepLimit.field-0-is) in
+    let more = c.trace.ensures.parse.limit.limited (c.in-Err-StepLimit.is ∙ ap Err c.in-Err-StepLimit.field-0-is) in
     let over = more.2 in
     let taken : c.unwrap_or.result ≡ over.0 = c.unwrap_or.ensures ∙ ap (λ (o : Option ℕ). unwrap_or o 0) over.2 in
     let less = over.4 in
