@@ -6,6 +6,7 @@ mod calls;
 mod content;
 mod explaining;
 mod explanation_calls;
+pub mod laws;
 mod levels;
 mod nodes;
 mod parsing;
